@@ -1,0 +1,4 @@
+pub mod Codes
+pub mod Folding
+pub mod Guids
+pub mod Types

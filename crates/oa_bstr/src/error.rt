@@ -1,0 +1,25 @@
+//! Why a BSTR could not be made.
+ghost use Rattle.std.specs.Prelude.{◌≡◌};
+ghost use Rattle.oa_bstr.specs.declared.error.BstrError.TheVariants.{Memory};
+
+use std::alloc::AllocError;
+use thiserror::Error;
+
+/// Why a BSTR could not be made.
+#[derive(Clone, Copy, Debug, PartialEq, Eq, Error)]
+pub enum BstrError {
+    /// The allocator had no block for it.
+    #[error("out of memory")]
+    Memory,
+    /// The text has more than 262,144 bytes.
+    #[error("a text of more than 262144 bytes")]
+    TooLong,
+}
+
+impl From<AllocError> for BstrError {
+    ghost from_gives = { λ _ e. e ≡ Memory };
+
+    fn from(_: AllocError) -> BstrError {
+        BstrError::Memory
+    }
+}

@@ -1,0 +1,4 @@
+pub mod Fills
+pub mod Ownership
+pub mod Places
+pub mod Windows

@@ -1,0 +1,22 @@
+-- A row of places whose values stand side by side.
+use Rattle.std.specs.Prelude.{◌≡◌, ℕ, List, [], ◌∷◌, ◌++◌, map, replicate, Option, Some, None}
+
+-- empty places, then values, then empty places
+pub record Window (X : Type 0) : Type 0 where
+  pub before : ℕ
+  pub items : List X
+  pub after : ℕ
+
+module _ {X : Type 0} where
+  abbrev pub IsWindow : Window X → ℕ → List X → ℕ → Type 0
+  IsWindow window before items after = (window.before ≡ before) × (window.items ≡ items) × (window.after ≡ after)
+
+  -- the values of a row, in order
+  abbrev pub values : List (Option X) → List X
+  values [] = []
+  values (None ∷ slots) = values slots
+  values (Some x ∷ slots) = x ∷ values slots
+
+  -- the row of a window
+  unfoldable pub laid : ℕ → List X → ℕ → List (Option X)
+  laid before items after = replicate before None ++ (map Some items ++ replicate after None)

@@ -1,0 +1,126 @@
+//! The raw core: the only functions of this crate that touch a pointer. Each has a proof by hand.
+//!
+//! A block is held by three parts, none of which can be lost or used twice: where it begins, its places,
+//! and the right to free it. All of what they know stands in ghost fields; together they take one word.
+ghost use Rattle.std.specs.Prelude.{◌≡◌, ℕ, ◌<◌, List, Option, Some, None, map, length, take, replicate, get_or, slice_set, IfOk, ⊤};
+ghost use Rattle.std.specs.Vec.Ownership.{FitsInBlock};
+ghost use base.Fml.{ftrue};
+ghost use denote.RawPtr.{Ptr};
+ghost use Rattle.oa_cells.specs.Places.{HasValue, BeginsFilled};
+ghost use Rattle.oa_cells.specs.Ownership.{places_owned, places_lent, freeing};
+
+use std::alloc::{AllocError, Allocator};
+use std::marker::{Model, PhantomData};
+use std::mem::{align_of, size_of};
+use std::slice;
+
+/// Where a block begins. It owns nothing, so it may be copied.
+pub struct Start<T> {
+    ptr: *mut T,
+}
+
+impl<T> Clone for Start<T> {
+    ghost is_clone = { λ x y. y ≡ x };
+
+    ghost is_infallible = { λ _. ⊤ };
+
+    fn clone(&self) -> Result<Start<T>, AllocError> {
+        Ok(*self)
+    }
+}
+
+impl<T> Copy for Start<T> {}
+
+/// The places of a block and the values in them: `slots` says of each place whether it is empty, and else its value.
+pub struct Places<T> {
+    mark: PhantomData<*const T>,
+    ghost at: { Ptr },
+    ghost slots: { List (Option T) },
+}
+
+impl<T> Model for Places<T> {
+    ghost also_owns = { λ p. places_owned T.row p.at p.slots };
+
+    ghost also_shares = { λ p _ κ. places_lent T.row p.at p.slots κ };
+}
+
+/// The right to hand the block of `len` places at `at` back to the allocator `alloc`, which gave it.
+pub struct FreeRight<T, A: Allocator> {
+    mark: PhantomData<*const (T, A)>,
+    ghost at: { Ptr },
+    ghost len: { ℕ },
+    ghost alloc: { A },
+}
+
+impl<T, A: Allocator> Model for FreeRight<T, A> {
+    ghost also_owns = { λ f. freeing T.row (A.dealloc_token f.alloc) f.at f.len };
+
+    ghost also_shares = { λ _ _ _. ftrue };
+}
+
+/// A block of `len` empty places, by one call of the allocator.
+pub(crate) fn allocate<T, A: Allocator>(
+    alloc: &A,
+    len: usize,
+) -> Result<(Start<T>, Places<T>, FreeRight<T, A>), AllocError>
+    requires { FitsInBlock T.row len }
+    ensures { IfOk result (λ r. (r.1.at ≡ r.0.ptr) × (r.1.slots ≡ replicate len None) × (r.2.at ≡ r.0.ptr) × (r.2.len ≡ len) × (r.2.alloc ≡ alloc.now)) }
+{
+    match alloc.allocate(len * size_of::<T>(), align_of::<T>()) {
+        Ok(block) => {
+            let start = Start {
+                ptr: block as *mut T,
+            };
+            Ok((
+                start,
+                Places { mark: PhantomData },
+                FreeRight { mark: PhantomData },
+            ))
+        }
+        Err(error) => Err(error),
+    }
+}
+
+/// Hands the block back in one step. Values that still stand in it are forgotten, not dropped:
+/// the two callers ask that there are none, or that values of their type have nothing to drop.
+pub(crate) fn release<T, A: Allocator>(
+    alloc: &A,
+    start: Start<T>,
+    len: usize,
+    places: Places<T>,
+    right: FreeRight<T, A>,
+)
+    requires { (places.at ≡ start.ptr) × (length places.slots ≡ len) × (right.at ≡ start.ptr) × (right.len ≡ len) × (right.alloc ≡ alloc.now) }
+{
+    let Places { mark: _ } = places;
+    let FreeRight { mark: _ } = right;
+    unsafe {
+        alloc.deallocate(start.ptr as *mut u8, len * size_of::<T>(), align_of::<T>());
+    }
+}
+
+impl<T> Places<T> {
+    /// Puts a value into an empty place.
+    pub(crate) fn write(&mut self, start: Start<T>, index: usize, item: T)
+        requires { (start.ptr ≡ self.old.at) × (index < length self.old.slots) × (get_or self.old.slots index None ≡ None) }
+        ensures { (self.new.at ≡ self.old.at) × (self.new.slots ≡ slice_set self.old.slots index (Some item)) }
+    {
+        unsafe { start.ptr.add(index).write(item) }
+    }
+
+    /// Moves a value out of its place, which is empty then.
+    pub(crate) fn read(&mut self, start: Start<T>, index: usize) -> T
+        requires { (start.ptr ≡ self.old.at) × HasValue self.old.slots index }
+        ensures { (get_or self.old.slots index None ≡ Some result) × (self.new.at ≡ self.old.at) × (self.new.slots ≡ slice_set self.old.slots index None) }
+    {
+        unsafe { start.ptr.add(index).read() }
+    }
+
+    /// The values of the first `len` places, which are all filled.
+    pub(crate) fn first(&self, start: Start<T>, len: usize) -> &[T]
+        requires { (start.ptr ≡ self.now.at) × BeginsFilled self.now.slots len }
+        ensures { take len self.now.slots ≡ map Some result.now }
+    {
+        unsafe { slice::from_raw_parts(start.ptr, len) }
+    }
+}

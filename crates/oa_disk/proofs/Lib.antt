@@ -1,0 +1,7 @@
+mod Calls
+mod Filled
+mod Noted
+mod Overwritten
+mod Recorded
+mod Steps
+mod Tearing

@@ -1,0 +1,31 @@
+use Rattle.std.proofs.Common.{[], length, refl, sym, ◌∙◌, ap, subst}
+use Rattle.oa_disk.specs.declared.call.Call.TheVariants.{Read}
+use Rattle.oa_disk.specs.Replay.{State, IsImage, synced}
+use Rattle.oa_disk.proofs.Calls.{inside_by}
+use Rattle.oa_disk.proofs.Recorded.{elapses_by, last_by, count_by}
+use Rattle.oa_disk.proofs.memory.MemoryDiskDisk.read_at.Goals as goal
+
+pub invariant_of-self-clause-replayed : goal.invariant_of-self-clause-replayed
+invariant_of-self-clause-replayed c =
+    let self = c.args.self.now in
+    self.replayed ∙ sym (ap (λ (s : State). s.contents) (last_by (synced self.first.items) self.calls.items self.written.items Read [] self.recorded refl _ _ c.in-Ok.ensures.calls c.in-Ok.ensures.written))
+
+pub invariant_of-self-clause-recorded : goal.invariant_of-self-clause-recorded
+invariant_of-self-clause-recorded c =
+    let self = c.args.self.now in
+    count_by (synced self.first.items) self.calls.items self.written.items Read [] self.recorded refl _ _ c.in-Ok.ensures.calls c.in-Ok.ensures.written
+
+pub returns-clause-images : goal.returns-clause-images
+returns-clause-images c h image is =
+    let self = c.args.self.now in
+    subst (λ (s : State). IsImage s image) (last_by (synced self.first.items) self.calls.items self.written.items Read [] self.recorded refl _ _ c.in-Ok.ensures.calls c.in-Ok.ensures.written) is
+
+pub returns-clause-time : goal.returns-clause-time
+returns-clause-time c h =
+    let self = c.args.self.now in
+    elapses_by (synced self.first.items) self.calls.items self.written.items Read [] self.recorded refl _ _ c.in-Ok.ensures.calls c.in-Ok.ensures.written
+
+pub invariant_of-self-clause-inside : goal.invariant_of-self-clause-inside
+invariant_of-self-clause-inside c =
+    let self = c.args.self.now in
+    inside_by (length self.bytes.items) _ self.calls.items _ Read refl self.inside tt c.in-Ok.ensures.calls

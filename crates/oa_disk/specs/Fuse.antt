@@ -1,0 +1,19 @@
+-- What a FuseDisk shows.
+use Rattle.std.specs.Prelude.{◌≡◌, ℕ, ◌-◌, ◌<◌, Result, IsErr}
+use Rattle.oa_disk.specs.declared.fuse.FuseDisk.{FuseDisk}
+
+-- the disk that it passes calls on to
+abbrev pub inner_of : {D : Type 0} → FuseDisk D → D
+inner_of f = f.disk
+
+-- how many calls it still passes on
+abbrev pub calls_left_of : {D : Type 0} → FuseDisk D → ℕ
+calls_left_of f = f.calls_left
+
+-- A call takes one of those that are left, and is passed on: the fuse itself refuses none. With none left it fails, and
+-- is not passed on.
+pub record Spends {D E : Type 0} (old new : FuseDisk D) (result : Result (Unit {0}) E) : Type 0 where
+  pub left : new.calls_left ≡ old.calls_left - 1
+  pub passed : 0 < old.calls_left → new.refused ≡ old.refused
+  pub blown : old.calls_left ≡ 0 → IsErr result
+  pub kept : old.calls_left ≡ 0 → new.disk ≡ old.disk

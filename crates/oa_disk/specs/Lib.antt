@@ -1,0 +1,11 @@
+pub mod Disk
+pub mod File
+pub mod Fuse
+pub mod Gate
+pub mod Memory
+pub mod Moments
+pub mod Ranges
+pub mod Record
+pub mod Replay
+pub mod Replaying
+pub mod Tear

@@ -1,0 +1,104 @@
+//! A disk as a store sees it: what a read gives, and what a crash may leave.
+ghost use Rattle.std.specs.Prelude.{◌≡◌, ◌+◌, ◌≤◌, List, ℕ, Bool, IsTrue, length, OnOk, OnErr, IfErr};
+ghost use Rattle.oa_disk.specs.Disk.{Holds, Torn, Follows, Only, Elapses, HasCause, CountsOnce};
+
+use thiserror::Error;
+
+/// Which kind of call a device has failed.
+#[derive(Clone, Copy, Debug, PartialEq, Eq, Error)]
+pub enum DeviceFault {
+    /// A read.
+    #[error("a read failed")]
+    Read,
+    /// A write or a sync.
+    #[error("a write failed")]
+    Write,
+}
+
+/// A row of bytes that outlives a crash, with a clock. Places are counted in bytes from 0.
+///
+/// Between two syncs each range that was written may hold any bytes after a crash, and the bytes outside stay.
+/// All that is said of contents and images is said of an honest disk.
+pub trait Disk {
+    /// How many bytes it has. It never changes.
+    ghost size_of: { Self → ℕ };
+
+    /// How often a call has failed, up to the greatest u64.
+    ghost failures_of: { Self → ℕ };
+
+    /// It keeps the rules below. No call changes that, in either direction, but for a read that succeeds: such a
+    /// read may give bytes that show that the disk has not kept them.
+    ghost is_honest: { Self → Bool };
+
+    /// The bytes that a read gives.
+    ghost contents: { Self → List ℕ };
+
+    /// What a crash at this moment may leave.
+    ghost image: { Self → List ℕ → Type 0 };
+
+    /// The time, which doesn't fall.
+    ghost moment: { Self → ℕ };
+
+    /// What a crash at some moment from that one on might have left, within a call or between two.
+    ghost image_since: { Self → ℕ → List ℕ → Type 0 };
+
+    /// The number of bytes.
+    fn size(&self) -> u64
+        ensures { result ≡ size_of self.now };
+
+    /// How often a call has failed. At the greatest u64 the count stands still.
+    fn failures(&self) -> u64
+        ensures { result ≡ failures_of self.now };
+
+    /// Fills the buffer with the bytes from that place on. After an `Err` the buffer may hold anything.
+    fn read_at(&mut self, at: u64, bytes: &mut [u8]) -> Result<(), DeviceFault>
+        requires { at + length bytes.old ≤ size_of self.old }
+        ensures read { OnOk result (IsTrue (is_honest self.new) → Holds (contents self.old) at bytes.new) }
+        ensures contents { IsTrue (is_honest self.old) → contents self.new ≡ contents self.old }
+        ensures images { IsTrue (is_honest self.old) → (c : List ℕ) → image self.new c → image self.old c }
+        ensures time { IsTrue (is_honest self.old) → Elapses (moment self.old) (moment self.new) (image_since self.old) (image_since self.new) (image self.new) }
+        ensures size { size_of self.new ≡ size_of self.old }
+        ensures honest { IsTrue (is_honest self.new) → IsTrue (is_honest self.old) }
+        ensures honest_err { OnErr result (is_honest self.new ≡ is_honest self.old) }
+        ensures cause { HasCause (failures_of self.old) (failures_of self.new) result }
+        ensures once { CountsOnce (failures_of self.old) (failures_of self.new) result }
+        ensures fault { IfErr result (λ e. e ≡ DeviceFault.Read) };
+
+    /// Writes the bytes from that place on. Until a sync that succeeds, a crash may leave any bytes in that range,
+    /// whatever is answered.
+    fn write_at(&mut self, at: u64, bytes: &[u8]) -> Result<(), DeviceFault>
+        requires { at + length bytes.now ≤ size_of self.old }
+        ensures written { OnOk result (IsTrue (is_honest self.old) → Holds (contents self.new) at bytes.now) }
+        ensures others { IsTrue (is_honest self.old) → Torn at (length bytes.now) (contents self.old) (contents self.new) }
+        ensures images { IsTrue (is_honest self.old) → Follows (Torn at (length bytes.now)) (image self.old) (image self.new) }
+        ensures time { IsTrue (is_honest self.old) → Elapses (moment self.old) (moment self.new) (image_since self.old) (image_since self.new) (image self.new) }
+        ensures size { size_of self.new ≡ size_of self.old }
+        ensures honest { is_honest self.new ≡ is_honest self.old }
+        ensures cause { HasCause (failures_of self.old) (failures_of self.new) result }
+        ensures once { CountsOnce (failures_of self.old) (failures_of self.new) result }
+        ensures fault { IfErr result (λ e. e ≡ DeviceFault.Write) };
+
+    /// Brings all that was written to the device. At `Ok` a crash leaves what a read gives.
+    fn sync(&mut self) -> Result<(), DeviceFault>
+        ensures durable { OnOk result (IsTrue (is_honest self.old) → Only (contents self.old) (image self.new)) }
+        ensures contents { IsTrue (is_honest self.old) → contents self.new ≡ contents self.old }
+        ensures images { IsTrue (is_honest self.old) → (c : List ℕ) → image self.new c → image self.old c }
+        ensures time { IsTrue (is_honest self.old) → Elapses (moment self.old) (moment self.new) (image_since self.old) (image_since self.new) (image self.new) }
+        ensures size { size_of self.new ≡ size_of self.old }
+        ensures honest { is_honest self.new ≡ is_honest self.old }
+        ensures cause { HasCause (failures_of self.old) (failures_of self.new) result }
+        ensures once { CountsOnce (failures_of self.old) (failures_of self.new) result }
+        ensures fault { IfErr result (λ e. e ≡ DeviceFault.Write) };
+
+    /// What a read gives is one of the images.
+    ghost contents_is_image: { (disk : Self) → IsTrue (is_honest disk) → image disk (contents disk) };
+
+    /// Each image has the disk's size.
+    ghost images_have_size: { (disk : Self) (c : List ℕ) → IsTrue (is_honest disk) → image disk c → length c ≡ size_of disk };
+
+    /// This moment is one of those since an earlier one.
+    ghost counts_now: { (disk : Self) (t : ℕ) (c : List ℕ) → IsTrue (is_honest disk) → t ≤ moment disk → image disk c → image_since disk t c };
+
+    /// Since this moment there is no other.
+    ghost only_now: { (disk : Self) (c : List ℕ) → IsTrue (is_honest disk) → image_since disk (moment disk) c → image disk c };
+}

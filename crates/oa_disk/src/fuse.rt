@@ -1,0 +1,145 @@
+//! A disk that fails from some call on.
+ghost use Rattle.std.specs.Prelude.{◌≡◌, ◌+◌, ◌-◌, ◌^◌, ◌<◌, ◌≤◌, ◌↔◌, List, ℕ, length, min, IsTrue, OnOk, OnErr, IfErr, IsErr};
+ghost use Rattle.oa_disk.specs.Disk.{Holds, Torn, Follows, Only, Elapses, HasCause, CountsOnce};
+
+use crate::{DeviceFault, Disk};
+
+/// A disk that passes so many calls on to another, and then fails every call without passing it on.
+#[derive(Drop)]
+pub struct FuseDisk<D: Disk> {
+    disk: D,
+    calls_left: u64,
+    refused: u64,
+}
+
+fn spend(calls_left: &mut u64, refused: &mut u64, fault: DeviceFault) -> Result<(), DeviceFault>
+    ensures blown { IsErr result ↔ (calls_left.old ≡ 0) }
+    ensures spent { calls_left.new ≡ calls_left.old - 1 }
+    ensures kind { IfErr result (λ e. e ≡ fault) }
+    ensures same { OnOk result (refused.new ≡ refused.old) }
+    ensures cause { HasCause refused.old refused.new result }
+    ensures once { CountsOnce refused.old refused.new result }
+{
+    if *calls_left == 0 {
+        *refused = refused.saturating_add(1);
+        return Err(fault);
+    }
+    *calls_left -= 1;
+    Ok(())
+}
+
+impl<D: Disk> FuseDisk<D> {
+    ghost use Rattle.oa_disk.specs.Fuse.{inner_of, calls_left_of};
+
+    /// Passes the calls before call number `first_failing` on, and fails each one from there on. Reads, writes and syncs
+    /// are its calls, numbered from 1.
+    pub fn new(disk: D, first_failing: u64) -> FuseDisk<D>
+        ensures disk { inner_of result ≡ disk }
+        ensures calls { calls_left_of result ≡ first_failing - 1 }
+    {
+        FuseDisk {
+            disk,
+            calls_left: first_failing.saturating_sub(1),
+            refused: 0,
+        }
+    }
+
+    /// The disk that the calls were passed on to.
+    pub fn into_inner(self) -> D
+        ensures { result ≡ inner_of self }
+    {
+        let FuseDisk {
+            disk,
+            calls_left: _,
+            refused: _,
+        } = self;
+        disk
+    }
+}
+
+/// Each call has the clauses of the trait, and two more: after the last call that is left the disk within stays as it is
+/// and the call fails, and each call takes one of those that are left.
+impl<D: Disk> Disk for FuseDisk<D> {
+    ghost use Rattle.oa_disk.specs.Fuse.{Spends};
+
+    ghost size_of = { λ f. D.size_of f.disk };
+
+    ghost failures_of = { λ f. min (D.failures_of f.disk + f.refused) (2 ^ 64 - 1) };
+
+    ghost is_honest = { λ f. D.is_honest f.disk };
+
+    ghost contents = { λ f. D.contents f.disk };
+
+    ghost image = { λ f. D.image f.disk };
+
+    ghost moment = { λ f. D.moment f.disk };
+
+    ghost image_since = { λ f. D.image_since f.disk };
+
+    ghost contents_is_image = { λ f. D.contents_is_image f.disk };
+
+    ghost images_have_size = { λ f. D.images_have_size f.disk };
+
+    ghost counts_now = { λ f. D.counts_now f.disk };
+
+    ghost only_now = { λ f. D.only_now f.disk };
+
+    fn size(&self) -> u64 {
+        self.disk.size()
+    }
+
+    fn failures(&self) -> u64 {
+        self.disk.failures().saturating_add(self.refused)
+    }
+
+    fn read_at(&mut self, at: u64, bytes: &mut [u8]) -> Result<(), DeviceFault>
+        requires { at + length bytes.old ≤ D.size_of self.old.disk }
+        ensures spends { Spends self.old self.new result }
+        ensures read { OnOk result (IsTrue (D.is_honest self.new.disk) → Holds (D.contents self.old.disk) at bytes.new) }
+        ensures contents { IsTrue (D.is_honest self.old.disk) → D.contents self.new.disk ≡ D.contents self.old.disk }
+        ensures images { IsTrue (D.is_honest self.old.disk) → (c : List ℕ) → D.image self.new.disk c → D.image self.old.disk c }
+        ensures time { IsTrue (D.is_honest self.old.disk) → Elapses (D.moment self.old.disk) (D.moment self.new.disk) (D.image_since self.old.disk) (D.image_since self.new.disk) (D.image self.new.disk) }
+        ensures size { D.size_of self.new.disk ≡ D.size_of self.old.disk }
+        ensures honest { IsTrue (D.is_honest self.new.disk) → IsTrue (D.is_honest self.old.disk) }
+        ensures honest_err { OnErr result (D.is_honest self.new.disk ≡ D.is_honest self.old.disk) }
+        ensures cause { HasCause (min (D.failures_of self.old.disk + self.old.refused) (2 ^ 64 - 1)) (min (D.failures_of self.new.disk + self.new.refused) (2 ^ 64 - 1)) result }
+        ensures once { CountsOnce (min (D.failures_of self.old.disk + self.old.refused) (2 ^ 64 - 1)) (min (D.failures_of self.new.disk + self.new.refused) (2 ^ 64 - 1)) result }
+        ensures fault { IfErr result (λ e. e ≡ DeviceFault.Read) }
+    {
+        spend(&mut self.calls_left, &mut self.refused, DeviceFault::Read)?;
+        self.disk.read_at(at, bytes)
+    }
+
+    fn write_at(&mut self, at: u64, bytes: &[u8]) -> Result<(), DeviceFault>
+        requires { at + length bytes.now ≤ D.size_of self.old.disk }
+        ensures spends { Spends self.old self.new result }
+        ensures written { OnOk result (IsTrue (D.is_honest self.old.disk) → Holds (D.contents self.new.disk) at bytes.now) }
+        ensures others { IsTrue (D.is_honest self.old.disk) → Torn at (length bytes.now) (D.contents self.old.disk) (D.contents self.new.disk) }
+        ensures images { IsTrue (D.is_honest self.old.disk) → Follows (Torn at (length bytes.now)) (D.image self.old.disk) (D.image self.new.disk) }
+        ensures time { IsTrue (D.is_honest self.old.disk) → Elapses (D.moment self.old.disk) (D.moment self.new.disk) (D.image_since self.old.disk) (D.image_since self.new.disk) (D.image self.new.disk) }
+        ensures size { D.size_of self.new.disk ≡ D.size_of self.old.disk }
+        ensures honest { D.is_honest self.new.disk ≡ D.is_honest self.old.disk }
+        ensures cause { HasCause (min (D.failures_of self.old.disk + self.old.refused) (2 ^ 64 - 1)) (min (D.failures_of self.new.disk + self.new.refused) (2 ^ 64 - 1)) result }
+        ensures once { CountsOnce (min (D.failures_of self.old.disk + self.old.refused) (2 ^ 64 - 1)) (min (D.failures_of self.new.disk + self.new.refused) (2 ^ 64 - 1)) result }
+        ensures fault { IfErr result (λ e. e ≡ DeviceFault.Write) }
+    {
+        spend(&mut self.calls_left, &mut self.refused, DeviceFault::Write)?;
+        self.disk.write_at(at, bytes)
+    }
+
+    fn sync(&mut self) -> Result<(), DeviceFault>
+        ensures spends { Spends self.old self.new result }
+        ensures durable { OnOk result (IsTrue (D.is_honest self.old.disk) → Only (D.contents self.old.disk) (D.image self.new.disk)) }
+        ensures contents { IsTrue (D.is_honest self.old.disk) → D.contents self.new.disk ≡ D.contents self.old.disk }
+        ensures images { IsTrue (D.is_honest self.old.disk) → (c : List ℕ) → D.image self.new.disk c → D.image self.old.disk c }
+        ensures time { IsTrue (D.is_honest self.old.disk) → Elapses (D.moment self.old.disk) (D.moment self.new.disk) (D.image_since self.old.disk) (D.image_since self.new.disk) (D.image self.new.disk) }
+        ensures size { D.size_of self.new.disk ≡ D.size_of self.old.disk }
+        ensures honest { D.is_honest self.new.disk ≡ D.is_honest self.old.disk }
+        ensures cause { HasCause (min (D.failures_of self.old.disk + self.old.refused) (2 ^ 64 - 1)) (min (D.failures_of self.new.disk + self.new.refused) (2 ^ 64 - 1)) result }
+        ensures once { CountsOnce (min (D.failures_of self.old.disk + self.old.refused) (2 ^ 64 - 1)) (min (D.failures_of self.new.disk + self.new.refused) (2 ^ 64 - 1)) result }
+        ensures fault { IfErr result (λ e. e ≡ DeviceFault.Write) }
+    {
+        spend(&mut self.calls_left, &mut self.refused, DeviceFault::Write)?;
+        self.disk.sync()
+    }
+}

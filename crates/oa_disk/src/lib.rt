@@ -1,0 +1,23 @@
+//! A disk of a fixed size: what a read gives, and what a crash at each moment may leave.
+#![tactic(auto)]
+
+mod call;
+mod crash;
+mod disk;
+mod file;
+mod fuse;
+mod memory;
+mod no_disk;
+mod record;
+mod switching;
+#[cfg(test)]
+mod tests;
+
+pub use call::Call;
+pub use crash::Tear;
+pub use disk::{DeviceFault, Disk};
+pub use file::FileDisk;
+pub use fuse::FuseDisk;
+pub use memory::MemoryDisk;
+pub use no_disk::NoDisk;
+pub use switching::{flip, write_behind_gate};

@@ -1,0 +1,46 @@
+//! One byte decides: what was written before is on the device first.
+ghost use Rattle.std.specs.Prelude.{◌≡◌, ◌⊎◌, ◌+◌, ◌<◌, ◌≤◌, List, ℕ, IsTrue, OnOk, IfErr, length, slice_index};
+ghost use Rattle.oa_disk.specs.Disk.{LeavesOnly, HasCause, Torn};
+ghost use Rattle.oa_disk.specs.Gate.{IsBefore, IsAfter, IsBeforeOrAfter};
+
+use crate::{DeviceFault, Disk};
+
+/// Brings all that was written to the device, and then sets one byte, there too: a sync, a write and a sync. A failure
+/// is that of a write.
+pub fn flip<D: Disk>(disk: &mut D, at: u64, value: u8) -> Result<(), DeviceFault>
+    requires { at < D.size_of disk.old }
+
+    // Until then a crash leaves what it might have left, and from then on the contents with any byte there.
+    ensures any_moment { IsTrue (D.is_honest disk.old)
+        → LeavesOnly D.moment D.image_since disk.old disk.new (λ c. D.image disk.old c ⊎ Torn at 1 (D.contents disk.old) c) }
+    ensures done { OnOk result (IsTrue (D.is_honest disk.old)
+        → (c : List ℕ) → D.image disk.new c → Torn at 1 (D.contents disk.old) c × (slice_index c at ≡ value)) }
+
+    ensures size { D.size_of disk.new ≡ D.size_of disk.old }
+    ensures honest { D.is_honest disk.new ≡ D.is_honest disk.old }
+    ensures cause { HasCause (D.failures_of disk.old) (D.failures_of disk.new) result }
+    ensures fault { IfErr result (λ e. e ≡ DeviceFault.Write) }
+{
+    disk.sync()?;
+    disk.write_at(at, &[value])?;
+    disk.sync()
+}
+
+/// Writes the bytes behind a gate, the byte before them, and then opens it by a 1: a write, a sync, a write and a sync.
+/// A crash at any moment leaves the gate closed, or open with the bytes behind it, never open before they are whole.
+pub fn write_behind_gate<D: Disk>(disk: &mut D, at: u64, bytes: &[u8]) -> Result<(), DeviceFault>
+    requires gate { 0 < at }
+    requires inside { at + length bytes.now ≤ D.size_of disk.old }
+
+    ensures any_moment { IsTrue (D.is_honest disk.old) → ((c : List ℕ) → D.image disk.old c → IsBefore at c)
+        → LeavesOnly D.moment D.image_since disk.old disk.new (IsBeforeOrAfter at bytes.now) }
+    ensures done { OnOk result (IsTrue (D.is_honest disk.old) → (c : List ℕ) → D.image disk.new c → IsAfter at bytes.now c) }
+
+    ensures size { D.size_of disk.new ≡ D.size_of disk.old }
+    ensures honest { D.is_honest disk.new ≡ D.is_honest disk.old }
+    ensures cause { HasCause (D.failures_of disk.old) (D.failures_of disk.new) result }
+    ensures fault { IfErr result (λ e. e ≡ DeviceFault.Write) }
+{
+    disk.write_at(at, bytes)?;
+    flip(disk, at - 1, 1)
+}

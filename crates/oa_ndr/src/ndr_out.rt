@@ -1,0 +1,182 @@
+//! The writer.
+
+ghost use Rattle.std.specs.Prelude.{◌≡◌, ◌<◌, ◌≤◌, ◌++◌, OnOk, OnErr, length, replicate};
+ghost use Rattle.oa_ndr.specs.Writing.{
+  field_after,
+  within,
+  put_align,
+  put_unit,
+  put_bytes,
+  put_referent,
+  put_slot,
+};
+
+use crate::ndr::padding;
+use std::alloc::AllocError;
+use std::marker::Model;
+
+const ZEROS: [u8; 8] = [0; 8];
+
+// What a unique pointer that is set is written as.
+const REFERENT: u32 = 0x0002_0000;
+
+/// A writer of one field at the end of a vector.
+///
+/// Each call writes at the next multiple of its own size, counted from the field's first byte,
+/// with zeros as padding before it. Where memory is refused, nothing is written.
+#[derive(Drop)]
+pub struct NdrOut {
+    out: Vec<u8>,
+    start: usize,
+}
+
+impl Model for NdrOut {
+    ghost use Rattle.std.specs.Prelude.{◌≤◌, length, take, drop};
+    ghost use Rattle.oa_ndr.specs.Writing.{Output};
+
+    ghost Value = { Output };
+
+    ghost view = { λ w. record { before = take w.start w.out.items; field = drop w.start w.out.items } };
+
+    ghost invariant = { λ w. w.start ≤ length w.out.items };
+}
+
+fn append_zeros(out: &mut Vec<u8>, n: usize) -> Result<(), AllocError>
+    requires { n ≤ 8 }
+    ensures ok { OnOk result (out.new.items ≡ out.old.items ++ replicate n 0) }
+    ensures err { OnErr result (out.new.items ≡ out.old.items) }
+{
+    out.extend_from_slice(&ZEROS[..n])
+}
+
+// Adds zeros and then these bytes, or nothing.
+fn append_behind_zeros(out: &mut Vec<u8>, zeros: usize, text: &[u8]) -> Result<(), AllocError>
+    requires { zeros ≤ 8 }
+    ensures ok { OnOk result (out.new.items ≡ out.old.items ++ (replicate zeros 0 ++ text.now)) }
+    ensures err { OnErr result (out.new.items ≡ out.old.items) }
+{
+    let before = out.len();
+    append_zeros(out, zeros)?;
+    if let Err(e) = out.extend_from_slice(text) {
+        out.truncate(before);
+        return Err(e);
+    }
+    Ok(())
+}
+
+impl NdrOut {
+    /// A writer of a field that begins at the end of `out`.
+    pub fn new(out: Vec<u8>) -> NdrOut
+        ensures { result ≡ field_after out.items }
+    {
+        let start = out.len();
+        NdrOut { out, start }
+    }
+
+    /// How many bytes the field has so far.
+    pub fn position(&self) -> usize
+        ensures { result ≡ length self.now.field }
+    {
+        self.out.len() - self.start
+    }
+
+    /// The bytes of the field so far.
+    pub fn written(&self) -> &[u8]
+        ensures { result.now ≡ self.now.field }
+    {
+        &self.out[self.start..]
+    }
+
+    /// The vector, with the field at its end.
+    pub fn into_vec(self) -> Vec<u8>
+        ensures { result.items ≡ self.before ++ self.field }
+    {
+        self.out
+    }
+
+    /// Takes back what was written, and the field begins anew.
+    pub fn clear(&mut self)
+        ensures { self.new ≡ field_after self.old.before }
+    {
+        self.out.truncate(self.start);
+    }
+
+    /// Zeros up to the next multiple of `n`.
+    pub fn align(&mut self, n: usize) -> Result<(), AllocError>
+        requires above { 0 < n }
+        requires small { n ≤ 8 }
+        ensures ok { OnOk result (self.new ≡ within (put_align n) self.old) }
+        ensures err { OnErr result (self.new ≡ self.old) }
+    {
+        let gap = padding(n, self.position());
+        self.bytes(&ZEROS[..gap])
+    }
+
+    /// These bytes, at no multiple of anything.
+    pub fn bytes(&mut self, text: &[u8]) -> Result<(), AllocError>
+        ensures ok { OnOk result (self.new ≡ within (put_bytes text.now) self.old) }
+        ensures err { OnErr result (self.new ≡ self.old) }
+    {
+        self.out.extend_from_slice(text)
+    }
+
+    /// Up to eight zeros, at no multiple of anything.
+    pub fn zeros(&mut self, n: usize) -> Result<(), AllocError>
+        requires { n ≤ 8 }
+        ensures ok { OnOk result (self.new ≡ within (put_bytes (replicate n 0)) self.old) }
+        ensures err { OnErr result (self.new ≡ self.old) }
+    {
+        self.bytes(&ZEROS[..n])
+    }
+
+    // These bytes at the next multiple of n.
+    fn slot(&mut self, n: usize, number: &[u8]) -> Result<(), AllocError>
+        requires above { 0 < n }
+        requires small { n ≤ 8 }
+        ensures ok { OnOk result (self.new ≡ within (put_slot n number.now) self.old) }
+        ensures err { OnErr result (self.new ≡ self.old) }
+    {
+        let gap = padding(n, self.position());
+        append_behind_zeros(&mut self.out, gap, number)
+    }
+
+    /// A byte.
+    pub fn u8(&mut self, x: u8) -> Result<(), AllocError>
+        ensures ok { OnOk result (self.new ≡ within (put_unit 1 x) self.old) }
+        ensures err { OnErr result (self.new ≡ self.old) }
+    {
+        self.slot(1, &x.to_le_bytes())
+    }
+
+    /// A number of 2 bytes at the next multiple of 2.
+    pub fn u16(&mut self, x: u16) -> Result<(), AllocError>
+        ensures ok { OnOk result (self.new ≡ within (put_unit 2 x) self.old) }
+        ensures err { OnErr result (self.new ≡ self.old) }
+    {
+        self.slot(2, &x.to_le_bytes())
+    }
+
+    /// A number of 4 bytes at the next multiple of 4.
+    pub fn u32(&mut self, x: u32) -> Result<(), AllocError>
+        ensures ok { OnOk result (self.new ≡ within (put_unit 4 x) self.old) }
+        ensures err { OnErr result (self.new ≡ self.old) }
+    {
+        self.slot(4, &x.to_le_bytes())
+    }
+
+    /// A number of 8 bytes at the next multiple of 8.
+    pub fn u64(&mut self, x: u64) -> Result<(), AllocError>
+        ensures ok { OnOk result (self.new ≡ within (put_unit 8 x) self.old) }
+        ensures err { OnErr result (self.new ≡ self.old) }
+    {
+        self.slot(8, &x.to_le_bytes())
+    }
+
+    /// A unique pointer: 0x00020000 where it is set, and 0 where it is null.
+    pub fn referent(&mut self, is_set: bool) -> Result<(), AllocError>
+        ensures ok { OnOk result (self.new ≡ within (put_referent is_set) self.old) }
+        ensures err { OnErr result (self.new ≡ self.old) }
+    {
+        self.u32(if is_set { REFERENT } else { 0 })
+    }
+}

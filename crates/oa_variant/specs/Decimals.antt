@@ -1,0 +1,23 @@
+-- DECIMAL (MS-OAUT section 2.2.26), and its order in keys (this project's choice).
+use Rattle.std.specs.Prelude.{ℕ, Bool, false}
+use Rattle.std.specs.Ordering.{nat_cmp, bool_cmp, on, then_cmp}
+use Rattle.std.specs.Cmp.{IsTotalOrder, bool_cmp_total}
+use Rattle.std.specs.declared.cmp.Ordering.{Ordering}
+use Rattle.std.proofs.lemmas.Cmp.{then_total, on_total, nat_cmp_total}
+
+-- sign × magnitude / 10^scale; a Decimal has scale at most 28 and magnitude below 2^96
+pub record DecimalValue : Type 0 where
+  pub negative : Bool
+  pub scale : ℕ
+  pub magnitude : ℕ
+
+-- the positive zero of scale 0
+abbrev pub zero_decimal : DecimalValue
+zero_decimal = record { negative = false; scale = 0; magnitude = 0 }
+
+-- plus before minus, then by scale, then by magnitude
+abbrev pub decimal_cmp : DecimalValue → DecimalValue → Ordering
+decimal_cmp = then_cmp (on (λ d. d.negative) bool_cmp) (then_cmp (on (λ d. d.scale) nat_cmp) (on (λ d. d.magnitude) nat_cmp))
+
+pub decimals_total : IsTotalOrder decimal_cmp
+decimals_total = then_total (on_total (λ d. d.negative) bool_cmp_total) (then_total (on_total (λ d. d.scale) nat_cmp_total) (on_total (λ d. d.magnitude) nat_cmp_total))

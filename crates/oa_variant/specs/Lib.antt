@@ -1,0 +1,4 @@
+pub mod Decimals
+pub mod Keys
+pub mod Scalars
+pub mod Variants

@@ -1,0 +1,94 @@
+-- Scalars: their types, their zeros and what each may be.
+use Rattle.std.specs.Prelude.{◌≡◌, ◌⊎◌, ◌≤◌, ◌<◌, ◌^◌, ℕ, List, Option, None, false, length, pos, FitsSigned}
+use Rattle.std.specs.Int.{w8, w16, w32, w64}
+use Rattle.oa_model.specs.declared.var_type.VarType.{VarType}
+use Rattle.oa_model.specs.declared.var_type.VarType.TheVariants as types
+use Rattle.oa_bstr.specs.Text.{bytes_of, max_text_bytes}
+use Rattle.oa_variant.specs.Decimals.{zero_decimal}
+use Rattle.oa_variant.specs.declared.scalar.Scalar.{Scalar}
+use Rattle.oa_variant.specs.declared.scalar.Scalar.TheVariants as scalars
+
+-- the type of a scalar
+abbrev pub type_of : Scalar → VarType
+type_of scalars.Empty = types.Empty
+type_of scalars.Null = types.Null
+type_of (scalars.I1 z) = types.I1
+type_of (scalars.I2 z) = types.I2
+type_of (scalars.I4 z) = types.I4
+type_of (scalars.I8 z) = types.I8
+type_of (scalars.Int z) = types.Int
+type_of (scalars.Ui1 n) = types.Ui1
+type_of (scalars.Ui2 n) = types.Ui2
+type_of (scalars.Ui4 n) = types.Ui4
+type_of (scalars.Ui8 n) = types.Ui8
+type_of (scalars.Uint n) = types.Uint
+type_of (scalars.Cy z) = types.Cy
+type_of (scalars.Bool b) = types.Bool
+type_of (scalars.Error n) = types.Error
+type_of (scalars.Bstr t) = types.Bstr
+type_of (scalars.Decimal d) = types.Decimal
+
+-- the text inside; nothing in a scalar of another type, and in the null BSTR
+abbrev pub text_of : Scalar → Option (List ℕ)
+text_of scalars.Empty = None
+text_of scalars.Null = None
+text_of (scalars.I1 z) = None
+text_of (scalars.I2 z) = None
+text_of (scalars.I4 z) = None
+text_of (scalars.I8 z) = None
+text_of (scalars.Int z) = None
+text_of (scalars.Ui1 n) = None
+text_of (scalars.Ui2 n) = None
+text_of (scalars.Ui4 n) = None
+text_of (scalars.Ui8 n) = None
+text_of (scalars.Uint n) = None
+text_of (scalars.Cy z) = None
+text_of (scalars.Bool b) = None
+text_of (scalars.Error n) = None
+text_of (scalars.Bstr t) = t
+text_of (scalars.Decimal d) = None
+
+-- a cell of a type holds values of that type; one of VARIANT holds any scalar
+abbrev pub FitsType : Scalar → VarType → Type 0
+FitsType s t = (t ≡ types.Variant) ⊎ (type_of s ≡ t)
+
+-- the value of a cell that was never put (this project's choice)
+abbrev pub zero_of : VarType → Scalar
+zero_of types.Empty = scalars.Empty
+zero_of types.Null = scalars.Null
+zero_of types.I1 = scalars.I1 (pos 0)
+zero_of types.I2 = scalars.I2 (pos 0)
+zero_of types.I4 = scalars.I4 (pos 0)
+zero_of types.I8 = scalars.I8 (pos 0)
+zero_of types.Int = scalars.Int (pos 0)
+zero_of types.Ui1 = scalars.Ui1 0
+zero_of types.Ui2 = scalars.Ui2 0
+zero_of types.Ui4 = scalars.Ui4 0
+zero_of types.Ui8 = scalars.Ui8 0
+zero_of types.Uint = scalars.Uint 0
+zero_of types.Cy = scalars.Cy (pos 0)
+zero_of types.Bool = scalars.Bool false
+zero_of types.Error = scalars.Error 0
+zero_of types.Bstr = scalars.Bstr None
+zero_of types.Decimal = scalars.Decimal zero_decimal
+zero_of types.Variant = scalars.Empty
+
+-- what a scalar may be (MS-OAUT sections 2.2.7, 2.2.24 and 2.2.26; the length of texts is this project's choice)
+abbrev pub IsScalar : Scalar → Type 0
+IsScalar scalars.Empty = Unit {0}
+IsScalar scalars.Null = Unit {0}
+IsScalar (scalars.I1 z) = FitsSigned w8 z
+IsScalar (scalars.I2 z) = FitsSigned w16 z
+IsScalar (scalars.I4 z) = FitsSigned w32 z
+IsScalar (scalars.I8 z) = FitsSigned w64 z
+IsScalar (scalars.Int z) = FitsSigned w32 z
+IsScalar (scalars.Ui1 n) = n < 2 ^ 8
+IsScalar (scalars.Ui2 n) = n < 2 ^ 16
+IsScalar (scalars.Ui4 n) = n < 2 ^ 32
+IsScalar (scalars.Ui8 n) = n < 2 ^ 64
+IsScalar (scalars.Uint n) = n < 2 ^ 32
+IsScalar (scalars.Cy z) = FitsSigned w64 z
+IsScalar (scalars.Bool b) = Unit {0}
+IsScalar (scalars.Error n) = n < 2 ^ 32
+IsScalar (scalars.Bstr t) = length (bytes_of t) ≤ max_text_bytes
+IsScalar (scalars.Decimal d) = (d.scale ≤ 28) × (d.magnitude < 2 ^ 96)

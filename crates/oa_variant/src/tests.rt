@@ -1,0 +1,131 @@
+// Types, zeros, copies and the order of keys, as tables.
+use crate::{Decimal, Scalar, Variant, laws};
+use oa_bstr::Bstr;
+use oa_model::{ValueType, VarType};
+use std::cmp::Ordering;
+use std::rt::HostRuntime;
+use std::test::Fail;
+
+const MOST: u128 = 79_228_162_514_264_337_593_543_950_335;
+
+#[test]
+fn decimals_keep_sign_and_scale(rt: HostRuntime) -> Result<(), Fail> {
+    let zero = Decimal::new(true, 28, 0);
+    assert_eq!(rt; zero.is_negative(), true);
+    assert_eq!(rt; zero.scale(), 28);
+    assert_eq!(rt; zero.magnitude(), 0);
+    // by sign, then by scale, then by magnitude
+    let rising = [
+        Decimal::new(false, 0, 0),
+        Decimal::new(false, 0, 1),
+        Decimal::new(false, 0, MOST),
+        Decimal::new(false, 1, 10),
+        Decimal::new(false, 28, MOST),
+        Decimal::new(true, 0, 0),
+        Decimal::new(true, 0, 1),
+    ];
+    for (i, one) in rising.iter().enumerate() {
+        for (j, other) in rising.iter().enumerate() {
+            assert_eq!(rt; one.cmp(other), i.cmp(&j));
+            assert_eq!(rt; one.partial_cmp(other), Some(i.cmp(&j)));
+            assert_eq!(rt; one == other, i == j);
+        }
+    }
+    Ok(())
+}
+
+#[test]
+fn zeros_have_their_types(rt: HostRuntime) -> Result<(), Fail> {
+    let types = [
+        VarType::Empty,
+        VarType::Null,
+        VarType::I2,
+        VarType::I4,
+        VarType::Cy,
+        VarType::Bstr,
+        VarType::Error,
+        VarType::Bool,
+        VarType::Decimal,
+        VarType::I1,
+        VarType::Ui1,
+        VarType::Ui2,
+        VarType::Ui4,
+        VarType::I8,
+        VarType::Ui8,
+        VarType::Int,
+        VarType::Uint,
+    ];
+    for one in types {
+        let zero = Scalar::zero(one);
+        assert_eq!(rt; zero.var_type(), one);
+        for other in types {
+            assert_eq!(rt; zero.fits(other), one == other);
+        }
+        assert_eq!(rt; zero.fits(VarType::Variant), true);
+        assert_eq!(rt; zero.copy(rt.alloc())? == zero, true);
+        let value = Variant::zero(rt.alloc(), ValueType::One(one))?;
+        assert_eq!(rt; value.value_type(), ValueType::One(one));
+        assert_eq!(rt; value.copy(rt.alloc())? == value, true);
+        assert_eq!(rt; value == Variant::One(zero), true);
+        assert_eq!(rt; value == Variant::One(Scalar::I4(7)), false);
+    }
+    assert_eq!(rt; Scalar::zero(VarType::Variant) == Scalar::Empty, true);
+    assert_eq!(rt;
+        Scalar::zero(VarType::Bstr) == Scalar::Bstr(Bstr::null()),
+        true
+    );
+    let plus = Scalar::Decimal(Decimal::new(false, 0, 0));
+    assert_eq!(rt; Scalar::zero(VarType::Decimal) == plus, true);
+    laws::is_scalar(&plus);
+    laws::equal_is_same();
+    laws::zero_fits();
+    Ok(())
+}
+
+#[test]
+fn keys_stand_in_order(rt: HostRuntime) -> Result<(), Fail> {
+    let empty = Bstr::from_bytes(rt.alloc(), &[])?;
+    let long = Bstr::from_bytes(rt.alloc(), &[0x41, 0x42])?;
+    let short = Bstr::from_bytes(rt.alloc(), &[0x42])?;
+    let rising = [
+        Scalar::Empty,
+        Scalar::Null,
+        Scalar::I2(-32_768),
+        Scalar::I2(7),
+        Scalar::I4(-1),
+        Scalar::I4(0),
+        Scalar::I4(7),
+        Scalar::Cy(-25_000),
+        Scalar::Cy(25_000),
+        Scalar::Bstr(Bstr::null()),
+        Scalar::Bstr(empty),
+        Scalar::Bstr(long),
+        Scalar::Bstr(short),
+        Scalar::Error(0x8002_0004),
+        Scalar::Bool(false),
+        Scalar::Bool(true),
+        Scalar::Decimal(Decimal::new(false, 0, 1)),
+        Scalar::Decimal(Decimal::new(false, 1, 10)),
+        Scalar::Decimal(Decimal::new(true, 0, 0)),
+        Scalar::I1(-128),
+        Scalar::Ui1(255),
+        Scalar::Ui2(65_535),
+        Scalar::Ui4(0),
+        Scalar::I8(-1),
+        Scalar::Ui8(18_446_744_073_709_551_615),
+        Scalar::Int(0),
+        Scalar::Uint(4_294_967_295),
+    ];
+    for i in 0..27usize {
+        for j in 0..27usize {
+            assert_eq!(rt; rising[i].cmp(&rising[j]), i.cmp(&j));
+            assert_eq!(rt; rising[i].partial_cmp(&rising[j]), Some(i.cmp(&j)));
+            assert_eq!(rt; rising[i] == rising[j], i == j);
+        }
+        assert_eq!(rt;
+            rising[i].copy(rt.alloc())?.cmp(&rising[i]),
+            Ordering::Equal
+        );
+    }
+    Ok(())
+}

@@ -1,0 +1,129 @@
+-- The limits of a tree, and the limits step by step.
+use Rattle.std.proofs.Common.{◌≡◌, ℕ, suc, ◌+◌, ◌<◌, ◌≤◌, Bool, true, false, List, [], ◌∷◌, length, Option, Some, None, ◌⊎◌, refl, sym, ap, subst, ◌∙◌, arith, ltb-true, ltb-false, leb-true, leb-false}
+use Rattle.std.specs.Prelude.{nat_lt, nat_le, if◌then◌else◌}
+use Rattle.std.specs.List.{AllByRecursion}
+use Rattle.std.proofs.Math.Logic.{⊎_elim, inl, inr}
+use Rattle.oa_idl.specs.declared.stop.TreeLimit.{TreeLimit}
+use Rattle.oa_idl.specs.declared.stop.TreeLimit.TheVariants as limits
+use Rattle.oa_idl.specs.declared.parts.Property.{Property}
+use Rattle.oa_idl.specs.declared.parts.Entry.{Entry}
+use Rattle.oa_idl.specs.declared.items.Item.{Item}
+use Rattle.oa_idl.specs.declared.items.Item.TheVariants as items
+use Rattle.oa_idl.specs.declared.seen.EntriesSeen.{EntriesSeen}
+use Rattle.oa_idl.specs.declared.seen.ItemsSeen.{ItemsSeen}
+use Rattle.oa_idl.specs.Values.{InterfaceValue, CoclassValue}
+use Rattle.oa_idl.specs.Trees.{TreeValue}
+use Rattle.oa_idl.specs.Words.{over, too_long}
+use Rattle.oa_idl.specs.Grammar.{one_more, no_entry, entry_grow, no_items, items_grow}
+use Rattle.oa_idl.specs.Limits.{IsShort, HasShortNames, one_interface, one_coclass, how_many, HasFewMembers, Keeps}
+use Rattle.oa_idl.proofs.Lists.{KeepsFrom}
+use Rattle.oa_idl.proofs.Whole.{MemberKeeps, MemberKept, Nothing, MembersKeep, MembersKept, EntriesKeep, EntriesKept, ItemKeeps, ItemKept, TreeKeeps, TreeKept}
+
+abbrev some : TreeLimit → Option TreeLimit
+some m = Some m
+
+some_limit : (m l : TreeLimit) → some m ≡ Some l → m ≡ l
+some_limit m l e = cc
+
+-- which limits `over` names
+over_is : (m l : TreeLimit) (b c : ℕ) (name : List ℕ) → over m b c name ≡ Some l → ((64 < length name) × (limits.Name ≡ l)) ⊎ ((b ≤ c) × (m ≡ l))
+over_is m l b c name e = by_length (nat_lt 64 (length name)) refl e
+  where
+    by_count : (v : Bool) → nat_le b c ≡ v → (if v then Some m else None) ≡ Some l → ((64 < length name) × (limits.Name ≡ l)) ⊎ ((b ≤ c) × (m ≡ l))
+    by_count true is e = inr (leb-true b c is, some_limit m l e)
+    by_count false is e = absurd cc
+
+    by_length : (v : Bool) → nat_lt 64 (length name) ≡ v → (if v then Some limits.Name else (if nat_le b c then Some m else None)) ≡ Some l → ((64 < length name) × (limits.Name ≡ l)) ⊎ ((b ≤ c) × (m ≡ l))
+    by_length true is e = inl (ltb-true 64 (length name) is, some_limit limits.Name l e)
+    by_length false is e = by_count (nat_le b c) refl e
+
+over_none : (m : TreeLimit) (b c : ℕ) (name : List ℕ) → over m b c name ≡ None → (length name ≤ 64) × (c < b)
+over_none m b c name e = by_length (nat_lt 64 (length name)) refl e
+  where
+    by_count : length name ≤ 64 → (v : Bool) → nat_le b c ≡ v → (if v then Some m else None) ≡ None → (length name ≤ 64) × (c < b)
+    by_count short true is e = absurd cc
+    by_count short false is e = (short, leb-false b c is)
+
+    by_length : (v : Bool) → nat_lt 64 (length name) ≡ v → (if v then Some limits.Name else (if nat_le b c then Some m else None)) ≡ None → (length name ≤ 64) × (c < b)
+    by_length true is e = absurd cc
+    by_length false is e = by_count (ltb-false 64 (length name) is) (nat_le b c) refl e
+
+-- ---- what is kept is kept step by step
+
+not_over : (m l : TreeLimit) (b c : ℕ) (name : List ℕ) → (l ≡ limits.Name → length name ≤ 64) → (l ≡ m → c < b) → over m b c name ≡ Some l → ⊥
+not_over m l b c name short few e = ⊎_elim
+    (λ (k : (64 < length name) × (limits.Name ≡ l)). omega (arith, k.0, short (sym k.1)))
+    (λ (k : (b ≤ c) × (m ≡ l)). omega (arith, k.0, few (sym k.1)))
+    (over_is m l b c name e)
+
+members_keep : (l : TreeLimit) (n : ℕ) (ps : List Property) → (l ≡ limits.Name → AllByRecursion (λ (p : Property). IsShort p.name) ps) → (l ≡ limits.Members → n + length ps ≤ 512)
+    → KeepsFrom {B = Unit {0}} one_more (λ n p. MemberKeeps n l p) Nothing n ps tt
+members_keep l n [] short few = tt
+members_keep l n (p ∷ ps) short few = (not_over limits.Members l 512 n p.name (λ e. (short e).0) (λ e. omega (arith, few e)), members_keep l (n + 1) ps (λ e. (short e).1) (λ e. omega (arith, few e)))
+
+short_entry : (l : TreeLimit) (name : List ℕ) → (l ≡ limits.Name → length name ≤ 64) → too_long name ≡ Some l → ⊥
+short_entry l name short e = not_over limits.Name l 1 0 name short (λ _. omega arith) e
+
+entries_keep : (l : TreeLimit) (s : EntriesSeen) (es : List Entry) → (l ≡ limits.Name → AllByRecursion (λ (e : Entry). IsShort e.interface) es) → KeepsFrom {B = Unit {0}} entry_grow (λ s e. too_long e.interface ≡ Some l → ⊥) Nothing s es tt
+entries_keep l s [] short = tt
+entries_keep l s (e ∷ es) short = (short_entry l e.interface (λ k. (short k).0), entries_keep l (entry_grow s e) es (λ k. (short k).1))
+
+items_keep : (l : TreeLimit) (s : ItemsSeen) (xs : List Item) → (l ≡ limits.Name → AllByRecursion HasShortNames xs) → (l ≡ limits.Interfaces → s.interfaces + how_many one_interface xs ≤ 256)
+    → (l ≡ limits.Coclasses → s.coclasses + how_many one_coclass xs ≤ 256) → (l ≡ limits.Members → AllByRecursion HasFewMembers xs) → KeepsFrom {B = Unit {0}} items_grow (λ s x. ItemKeeps s l x) Nothing s xs tt
+items_keep l s [] short few1 few2 few3 = tt
+items_keep l s (items.Interface d ∷ xs) short few1 few2 few3 = (
+  (not_over limits.Interfaces l 256 s.interfaces d.name (λ e. (short e).0.0) (λ e. omega (arith, few1 e)), members_keep l 0 d.properties (λ e. (short e).0.1) (λ e. omega (arith, (few3 e).0))),
+  items_keep l (items_grow s (items.Interface d)) xs (λ e. (short e).1) (λ e. omega (arith, few1 e)) (λ e. omega (arith, few2 e)) (λ e. (few3 e).1),
+)
+items_keep l s (items.Coclass c ∷ xs) short few1 few2 few3 = (
+  (not_over limits.Coclasses l 256 s.coclasses c.name (λ e. (short e).0.0) (λ e. omega (arith, few2 e)), entries_keep l no_entry c.entries (λ e. (short e).0.1)),
+  items_keep l (items_grow s (items.Coclass c)) xs (λ e. (short e).1) (λ e. omega (arith, few1 e)) (λ e. omega (arith, few2 e)) (λ e. (few3 e).1),
+)
+
+pub tree_keeps : (l : TreeLimit) (t : TreeValue) → Keeps l t → TreeKeeps l t
+tree_keeps limits.Name t k = (short_entry limits.Name t.name (λ _. k.0), items_keep limits.Name no_items t.items (λ _. k.1) (λ e. absurd cc) (λ e. absurd cc) (λ e. absurd cc))
+tree_keeps limits.Interfaces t k = (short_entry limits.Interfaces t.name (λ e. absurd cc), items_keep limits.Interfaces no_items t.items (λ e. absurd cc) (λ _. omega (arith, k)) (λ e. absurd cc) (λ e. absurd cc))
+tree_keeps limits.Coclasses t k = (short_entry limits.Coclasses t.name (λ e. absurd cc), items_keep limits.Coclasses no_items t.items (λ e. absurd cc) (λ e. absurd cc) (λ _. omega (arith, k)) (λ e. absurd cc))
+tree_keeps limits.Members t k = (short_entry limits.Members t.name (λ e. absurd cc), items_keep limits.Members no_items t.items (λ e. absurd cc) (λ e. absurd cc) (λ e. absurd cc) (λ _. k))
+tree_keeps limits.Params t k = (short_entry limits.Params t.name (λ e. absurd cc), items_keep limits.Params no_items t.items (λ e. absurd cc) (λ e. absurd cc) (λ e. absurd cc) (λ e. absurd cc))
+
+-- ---- what was kept step by step is kept
+
+members_kept : (n : ℕ) (ps : List Property) → n ≤ 512 → KeepsFrom {B = Unit {0}} one_more MemberKept Nothing n ps tt → AllByRecursion (λ (p : Property). IsShort p.name) ps × (n + length ps ≤ 512)
+members_kept n [] le k = (tt, omega (arith, le))
+members_kept n (p ∷ ps) le k =
+    let one = over_none limits.Members 512 n p.name k.0 in
+    let others = members_kept (n + 1) ps (omega (arith, one.1)) k.1 in
+    ((one.0, others.0), omega (arith, others.1))
+
+entries_kept : (s : EntriesSeen) (es : List Entry) → KeepsFrom {B = Unit {0}} entry_grow (λ s e. too_long e.interface ≡ None) Nothing s es tt → AllByRecursion (λ (e : Entry). IsShort e.interface) es
+entries_kept s [] k = tt
+entries_kept s (e ∷ es) k = ((over_none limits.Name 1 0 e.interface k.0).0, entries_kept (entry_grow s e) es k.1)
+
+pub record ItemsKept (s : ItemsSeen) (xs : List Item) : Type 0 where
+  pub names : AllByRecursion HasShortNames xs
+  pub interfaces : s.interfaces + how_many one_interface xs ≤ 256
+  pub coclasses : s.coclasses + how_many one_coclass xs ≤ 256
+  pub members : AllByRecursion HasFewMembers xs
+
+items_kept : (s : ItemsSeen) (xs : List Item) → s.interfaces ≤ 256 → s.coclasses ≤ 256 → KeepsFrom {B = Unit {0}} items_grow ItemKept Nothing s xs tt → ItemsKept s xs
+items_kept s [] le1 le2 k = record { names = tt; interfaces = omega (arith, le1); coclasses = omega (arith, le2); members = tt }
+items_kept s (items.Interface d ∷ xs) le1 le2 k =
+    let one = over_none limits.Interfaces 256 s.interfaces d.name k.0.0 in
+    let inside = members_kept 0 d.properties (omega arith) k.0.1 in
+    let others = items_kept (items_grow s (items.Interface d)) xs (omega (arith, one.1)) le2 k.1 in
+    record { names = ((one.0, inside.0), others.names); interfaces = omega (arith, others.interfaces); coclasses = omega (arith, others.coclasses); members = (omega (arith, inside.1), others.members) }
+items_kept s (items.Coclass c ∷ xs) le1 le2 k =
+    let one = over_none limits.Coclasses 256 s.coclasses c.name k.0.0 in
+    let others = items_kept (items_grow s (items.Coclass c)) xs le1 (omega (arith, one.1)) k.1 in
+    record { names = ((one.0, entries_kept no_entry c.entries k.0.1), others.names); interfaces = omega (arith, others.interfaces); coclasses = omega (arith, others.coclasses); members = (tt, others.members) }
+
+pub tree_kept : (t : TreeValue) → TreeKept t → (l : TreeLimit) → Keeps l t
+tree_kept t k l = by_limit l (items_kept no_items t.items (omega arith) (omega arith) k.1)
+  where
+    by_limit : (l : TreeLimit) → ItemsKept no_items t.items → Keeps l t
+    by_limit limits.Name h = ((over_none limits.Name 1 0 t.name k.0).0, h.names)
+    by_limit limits.Interfaces h = omega (arith, h.interfaces)
+    by_limit limits.Coclasses h = omega (arith, h.coclasses)
+    by_limit limits.Members h = h.members
+    by_limit limits.Params h = tt

@@ -1,0 +1,16 @@
+mod Answered
+mod AttributeLists
+mod Bounds
+mod Digits
+mod Ended
+mod Guids
+mod Heads
+mod Lists
+mod Loop
+mod Maps
+mod OneList
+mod Parses
+mod Scans
+mod Steps
+mod Texts
+mod Whole

@@ -1,0 +1,204 @@
+-- The grammar of a library text, over its words.
+use Rattle.std.specs.Prelude.{◌≡◌, ℕ, ◌+◌, ◌||◌, ◌&&◌, Bool, true, false, not, List, [], ◌∷◌, length, Option, Some, None, ℤ, is_some, if◌then◌else◌}
+use Rattle.uuid.specs.Parts.{zero_bytes}
+use Rattle.oa_model.specs.declared.var_type.VarType.{VarType}
+use Rattle.oa_model.specs.declared.var_type.ValueType.{ValueType}
+use Rattle.oa_model.specs.declared.var_type.ValueType.TheVariants as values
+use Rattle.oa_idl.specs.declared.sign.Sign.{Sign}
+use Rattle.oa_idl.specs.declared.sign.Sign.TheVariants as signs
+use Rattle.oa_idl.specs.declared.parts.Version.{Version}
+use Rattle.oa_idl.specs.declared.parts.Property.{Property}
+use Rattle.oa_idl.specs.declared.parts.Entry.{Entry}
+use Rattle.oa_idl.specs.declared.items.Item.{Item}
+use Rattle.oa_idl.specs.declared.items.Item.TheVariants as items
+use Rattle.oa_idl.specs.declared.seen.HeadSeen.{HeadSeen}
+use Rattle.oa_idl.specs.declared.seen.Head.{Head}
+use Rattle.oa_idl.specs.declared.seen.PropertySeen.{PropertySeen}
+use Rattle.oa_idl.specs.declared.seen.PropertyHead.{PropertyHead}
+use Rattle.oa_idl.specs.declared.seen.EntriesSeen.{EntriesSeen}
+use Rattle.oa_idl.specs.declared.seen.ItemsSeen.{ItemsSeen}
+use Rattle.oa_idl.specs.Values.{InterfaceValue, CoclassValue}
+use Rattle.oa_idl.specs.Trees.{TreeValue}
+use Rattle.oa_idl.specs.Forms.{Word, Form, ◌▸◌, nothing, given, this, one, optional, either_of, where_is, with, listed, gathered, nowhere, never}
+use Rattle.oa_idl.specs.Words.{passes, is_text, name_of, guid_of, part_of, id_of, type_of}
+
+abbrev pub sign : Sign → Form
+sign s = this (passes s)
+
+-- ---- lists of attributes: "[" att {"," att} "]"
+
+-- the next attribute may come only where it did not come before
+abbrev pub next_attribute : {S A : Type 0} → (A → Form) → (S → A → Bool) → S → A → Form
+next_attribute attribute may_come s x = where_is (may_come s x ≡ true) (sign signs.Comma ▸ attribute x)
+
+-- the list ends only where what is required was there; b is what the list says
+abbrev pub last_attribute : {S B : Type 0} → (S → Option B) → S → B → Form
+last_attribute finish s b = where_is (finish s ≡ Some b) (sign signs.Close)
+
+abbrev pub attributes : {S A B : Type 0} → (A → Form) → (S → A → Bool) → (S → A → S) → (S → Option B) → S → B → Form
+attributes attribute may_come grow finish s b = sign signs.Open ▸ with (λ x. where_is (may_come s x ≡ true) (attribute x)) (λ x. gathered (next_attribute attribute may_come) grow nowhere (last_attribute finish) (grow s x) b)
+
+-- help = "helpstring" "(" string ")"
+abbrev pub help : Form
+help = sign signs.Helpstring ▸ sign signs.Left ▸ this is_text ▸ sign signs.Right
+
+-- ---- attrs = "[" att {"," att} "]"    att = "uuid" "(" guid ")" | "version" "(" num ["." num] ")" | help
+
+pub data HeadAttribute : Type 0 where
+  Guid : List ℕ → HeadAttribute
+  Numbered : Version → HeadAttribute
+  HeadHelp : HeadAttribute
+
+abbrev pub head_attribute : Bool → HeadAttribute → Form
+head_attribute counts (Guid g) = sign signs.Uuid ▸ sign signs.Left ▸ one guid_of g ▸ sign signs.Right
+head_attribute counts (Numbered v) = sign signs.Version ▸ sign signs.Left ▸ one (part_of counts) v.major ▸
+    either_of (sign signs.Dot ▸ one (part_of counts) v.minor ▸ sign signs.Right) (where_is (v.minor ≡ 0) (sign signs.Right))
+head_attribute counts HeadHelp = help
+
+-- version 0.0 where none is given
+abbrev pub no_head : HeadSeen
+no_head = record { uuid = false; version = false; help = false; head = record { guid = zero_bytes; version = record { major = 0; minor = 0 } } }
+
+abbrev pub head_may : HeadSeen → HeadAttribute → Bool
+head_may s (Guid g) = not s.uuid
+head_may s (Numbered v) = not s.version
+head_may s HeadHelp = not s.help
+
+abbrev pub head_grow : HeadSeen → HeadAttribute → HeadSeen
+head_grow s (Guid g) = record { uuid = true; version = s.version; help = s.help; head = record { guid = g; version = s.head.version } }
+head_grow s (Numbered v) = record { uuid = s.uuid; version = true; help = s.help; head = record { guid = s.head.guid; version = v } }
+head_grow s HeadHelp = record { uuid = s.uuid; version = s.version; help = true; head = s.head }
+
+-- there has to be a uuid
+abbrev pub head_finish : HeadSeen → Option Head
+head_finish s = if s.uuid then Some s.head else None
+
+-- the attributes of a library, whose version counts, or of an item, whose version is ignored
+unfoldable pub head : Bool → Head → Form
+head counts h = attributes (head_attribute counts) head_may head_grow head_finish no_head h
+
+-- ---- type = a type word | "SAFEARRAY" "(" type word of an element ")"
+
+abbrev pub type_word : Bool → VarType → Form
+type_word in_array t = either_of (sign signs.Unsigned ▸ one (type_of in_array true) t) (one (type_of in_array false) t)
+
+unfoldable pub value_type : ValueType → Form
+value_type (values.One t) = type_word false t
+value_type (values.Array t) = sign signs.SafeArray ▸ sign signs.Left ▸ type_word true t ▸ sign signs.Right
+
+-- ---- prop = "[" att {"," att} "]" type name ";"    att = "id" "(" ["-"] num ")" | "readonly" | help
+
+pub data PropertyAttribute : Type 0 where
+  Id : ℤ → PropertyAttribute
+  Readonly : PropertyAttribute
+  PropertyHelp : PropertyAttribute
+
+abbrev pub id_form : ℤ → Form
+id_form i = either_of (sign signs.Minus ▸ one (id_of true) i) (one (id_of false) i)
+
+abbrev pub property_attribute : PropertyAttribute → Form
+property_attribute (Id i) = sign signs.Id ▸ sign signs.Left ▸ id_form i ▸ sign signs.Right
+property_attribute Readonly = sign signs.Readonly
+property_attribute PropertyHelp = help
+
+abbrev pub no_property : PropertySeen
+no_property = record { id = None; readonly = false; help = false }
+
+abbrev pub property_may : PropertySeen → PropertyAttribute → Bool
+property_may s (Id i) = not (is_some s.id)
+property_may s Readonly = not s.readonly
+property_may s PropertyHelp = not s.help
+
+abbrev pub property_grow : PropertySeen → PropertyAttribute → PropertySeen
+property_grow s (Id i) = record { id = Some i; readonly = s.readonly; help = s.help }
+property_grow s Readonly = record { id = s.id; readonly = true; help = s.help }
+property_grow s PropertyHelp = record { id = s.id; readonly = s.readonly; help = true }
+
+-- there has to be an id
+abbrev pub property_head_of : Option ℤ → Bool → Option PropertyHead
+property_head_of None readonly = None
+property_head_of (Some i) readonly = Some (record { id = i; readonly = readonly })
+
+abbrev pub property_finish : PropertySeen → Option PropertyHead
+property_finish s = property_head_of s.id s.readonly
+
+unfoldable pub property_head : PropertyHead → Form
+property_head h = attributes property_attribute property_may property_grow property_finish no_property h
+
+abbrev pub property : Property → Form
+property p = property_head (record { id = p.id; readonly = p.readonly }) ▸ value_type p.value_type ▸ one name_of p.name ▸ sign signs.Semicolon ▸ nothing
+
+-- ---- disp = attrs "dispinterface" name "{" ["properties" ":" {prop}] "}"
+
+-- how many members came before
+abbrev pub one_more : {A : Type 0} → ℕ → A → ℕ
+one_more n x = n + 1
+
+abbrev pub closing : {S : Type 0} → S → Unit {0} → Form
+closing s x = sign signs.Finish
+
+abbrev pub members : List Property → Form
+members ps = either_of (sign signs.Properties ▸ sign signs.Colon ▸ listed (λ n. property) one_more nowhere closing 0 ps tt) (where_is (ps ≡ []) (sign signs.Finish))
+
+abbrev pub interface : List ℕ → List Property → Form
+interface name ps = sign signs.Dispinterface ▸ one name_of name ▸ sign signs.Begin ▸ members ps ▸ nothing
+
+-- ---- class = attrs "coclass" name "{" entry {entry} "}"    entry = ["[" "default" "]"] ("dispinterface" | "interface") name ";"
+
+abbrev pub entry_word : Word → Bool
+entry_word w = passes signs.Dispinterface w || passes signs.Interface w
+
+abbrev pub named : Entry → Form
+named e = this entry_word ▸ one name_of e.interface ▸ sign signs.Semicolon ▸ nothing
+
+abbrev pub entry_by : Bool → Entry → Form
+entry_by true e = sign signs.Open ▸ sign signs.Default ▸ sign signs.Close ▸ named e
+entry_by false e = named e
+
+abbrev pub no_entry : EntriesSeen
+no_entry = record { some = false; default = false }
+
+-- at most one default
+abbrev pub entry_may : EntriesSeen → Entry → Bool
+entry_may s e = not (e.is_default && s.default)
+
+abbrev pub entry_grow : EntriesSeen → Entry → EntriesSeen
+entry_grow s e = record { some = true; default = s.default || e.is_default }
+
+abbrev pub entry : EntriesSeen → Entry → Form
+entry s e = where_is (entry_may s e ≡ true) (entry_by e.is_default e)
+
+-- at least one entry
+abbrev pub last_entry : EntriesSeen → Unit {0} → Form
+last_entry s x = where_is (s.some ≡ true) (sign signs.Finish)
+
+abbrev pub coclass : List ℕ → List Entry → Form
+coclass name es = sign signs.Coclass ▸ one name_of name ▸ sign signs.Begin ▸ listed entry entry_grow nowhere last_entry no_entry es tt ▸ nothing
+
+-- ---- text = attrs "library" name "{" {(disp | class) [";"]} "}" [";"]
+
+abbrev pub guid_of_item : Item → List ℕ
+guid_of_item (items.Interface d) = d.guid
+guid_of_item (items.Coclass c) = c.guid
+
+abbrev pub body : Item → Form
+body (items.Interface d) = interface d.name d.properties
+body (items.Coclass c) = coclass c.name c.entries
+
+abbrev pub item : Item → Form
+item x = with (head false) (λ h. where_is (h.guid ≡ guid_of_item x) (body x))
+
+-- how many interfaces and coclasses came before
+abbrev pub no_items : ItemsSeen
+no_items = record { interfaces = 0; coclasses = 0 }
+
+abbrev pub items_grow : ItemsSeen → Item → ItemsSeen
+items_grow s (items.Interface d) = record { interfaces = s.interfaces + 1; coclasses = s.coclasses }
+items_grow s (items.Coclass c) = record { interfaces = s.interfaces; coclasses = s.coclasses + 1 }
+
+abbrev pub semicolon_after : Item → Word → Bool
+semicolon_after x = passes signs.Semicolon
+
+abbrev pub library : TreeValue → Form
+library t = head true (record { guid = t.guid; version = t.version }) ▸ sign signs.Library ▸ one name_of t.name ▸ sign signs.Begin ▸
+    listed (λ s. item) items_grow semicolon_after closing no_items t.items tt ▸ optional (sign signs.Semicolon) ▸ sign signs.End ▸ nothing

@@ -1,0 +1,69 @@
+-- What parsing answers.
+use Rattle.std.specs.Prelude.{◌≡◌, ℕ, ◌<◌, ◌≤◌, slice_get, Option, Some, None, List, [], ◌∷◌, ◌++◌, length, Result, Ok, Err}
+use Rattle.oa_idl.specs.declared.lexer.Token.{Token}
+use Rattle.oa_idl.specs.declared.stop.TreeLimit.{TreeLimit}
+use Rattle.oa_idl.specs.declared.stop.TreeLimit.TheVariants as limits
+use Rattle.oa_idl.specs.declared.stop.Limit.TheVariants as texts
+use Rattle.oa_idl.specs.declared.stop.ParseError.{ParseError}
+use Rattle.oa_idl.specs.declared.stop.ParseError.TheVariants as errors
+use Rattle.oa_idl.specs.Trees.{TreeValue}
+use Rattle.oa_idl.specs.Tokens.{AreTokens}
+use Rattle.oa_idl.specs.Forms.{Word, Begins}
+use Rattle.oa_idl.specs.Words.{words_of}
+use Rattle.oa_idl.specs.Grammar.{library}
+use Rattle.oa_idl.specs.Limits.{Keeps}
+
+-- a text has at most 262,144 bytes
+abbrev pub MayBeText : List ℕ → Type 0
+MayBeText text = length text ≤ 262144
+
+-- the tree that a text stands for: its tokens are in the grammar with that tree, and all limits are kept
+pub record IsTree (text : List ℕ) (t : TreeValue) : Type 0 where
+  pub short : MayBeText text
+  pub tokens : List Token
+  pub are : AreTokens 0 text tokens
+  pub form : library t (words_of text tokens)
+  pub kept : (l : TreeLimit) → Keeps l t
+
+abbrev pub place_of : ℕ → Option Token → ℕ
+place_of end None = end
+place_of end (Some t) = t.start
+
+-- the place of the token after n others, or of the end
+abbrev pub place_after : ℕ → List Token → ℕ → ℕ
+place_after end tokens n = place_of end (slice_get tokens n)
+
+-- no text of the grammar whose tree is in P begins with the tokens up to and with the one at this place
+pub record Refused (P : TreeValue → Type 0) (text : List ℕ) (place : ℕ) : Type 0 where
+  pub tokens : List Token
+  pub are : AreTokens 0 text tokens
+  pub front : List Word
+  pub left : List Word
+  pub parts : words_of text tokens ≡ front ++ left
+  pub at : place ≡ place_after (length text) tokens (length front)
+  pub never : (t : TreeValue) (other : List Word) → P t → library t other → Begins front left other → ⊥
+
+abbrev pub AnyTree : TreeValue → Type 0
+AnyTree t = Unit {0}
+
+-- a limit is broken at some place
+abbrev pub IsOver : TreeLimit → List ℕ → Type 0
+IsOver l text = MayBeText text × ((place : ℕ) × Refused (Keeps l) text place)
+
+abbrev pub IsAnswer : List ℕ → Result TreeValue ParseError → Type 0
+IsAnswer text (Ok t) = IsTree text t
+IsAnswer text (Err (errors.Syntax place)) = MayBeText text × Refused AnyTree text place
+IsAnswer text (Err (errors.Limit texts.Text)) = 262144 < length text
+IsAnswer text (Err (errors.Limit texts.Name)) = IsOver limits.Name text
+IsAnswer text (Err (errors.Limit texts.Interfaces)) = IsOver limits.Interfaces text
+IsAnswer text (Err (errors.Limit texts.Coclasses)) = IsOver limits.Coclasses text
+IsAnswer text (Err (errors.Limit texts.Members)) = IsOver limits.Members text
+IsAnswer text (Err (errors.Limit texts.Params)) = IsOver limits.Params text
+IsAnswer text (Err errors.Memory) = MayBeText text
+
+-- a text that has a tree is answered by it, or by want of memory
+abbrev pub IsFound : TreeValue → Result TreeValue ParseError → Type 0
+IsFound t (Ok u) = u ≡ t
+IsFound t (Err (errors.Syntax place)) = ⊥
+IsFound t (Err (errors.Limit l)) = ⊥
+IsFound t (Err errors.Memory) = Unit {0}

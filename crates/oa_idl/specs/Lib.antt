@@ -1,0 +1,13 @@
+pub mod Bytes
+pub mod Forms
+pub mod Grammar
+pub mod GrammarReading
+pub mod IsTree
+pub mod Limits
+pub mod Parsed
+pub mod Reading
+pub mod TextLimits
+pub mod Tokens
+pub mod Trees
+pub mod Values
+pub mod Words

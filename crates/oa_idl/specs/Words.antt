@@ -1,0 +1,251 @@
+-- Words: what stands for itself, names, types, numbers and GUIDs.
+use Rattle.std.specs.Prelude.{◌≡◌, ℕ, ◌+◌, ◌-◌, ◌*◌, ◌^◌, ◌==◌, ◌&&◌, ◌||◌, not, Bool, true, false, nat_lt, nat_le, if◌then◌else◌, List, [], ◌∷◌, ◌++◌, length, take, drop, get_or, map, codes, Option, Some, None, ℤ, pos, negsuc, neg_ℤ, is_some}
+use Rattle.std.specs.Int.{cast_signed, w32}
+use Rattle.std.specs.Str.{bytes_eq}
+use Rattle.uuid.specs.Text.{parsed_hyphenated}
+use Rattle.oa_model.specs.declared.var_type.VarType.{VarType}
+use Rattle.oa_model.specs.declared.var_type.VarType.TheVariants as types
+use Rattle.oa_model.specs.Types.{sf_type_of}
+use Rattle.oa_idl.specs.declared.lexer.Kind.{Kind}
+use Rattle.oa_idl.specs.declared.lexer.Kind.TheVariants as kinds
+use Rattle.oa_idl.specs.declared.lexer.Token.{Token}
+use Rattle.oa_idl.specs.declared.sign.Sign.{Sign}
+use Rattle.oa_idl.specs.declared.sign.Sign.TheVariants as signs
+use Rattle.oa_idl.specs.declared.stop.TreeLimit.{TreeLimit}
+use Rattle.oa_idl.specs.declared.stop.TreeLimit.TheVariants as limits
+use Rattle.oa_idl.specs.Forms.{Word}
+
+abbrev pub kind_of : Sign → Kind
+kind_of signs.Open = kinds.Mark
+kind_of signs.Close = kinds.Mark
+kind_of signs.Begin = kinds.Mark
+kind_of signs.Finish = kinds.Mark
+kind_of signs.Left = kinds.Mark
+kind_of signs.Right = kinds.Mark
+kind_of signs.Comma = kinds.Mark
+kind_of signs.Semicolon = kinds.Mark
+kind_of signs.Colon = kinds.Mark
+kind_of signs.Dot = kinds.Mark
+kind_of signs.Minus = kinds.Mark
+kind_of signs.End = kinds.End
+kind_of signs.Library = kinds.Name
+kind_of signs.Importlib = kinds.Name
+kind_of signs.Dispinterface = kinds.Name
+kind_of signs.Interface = kinds.Name
+kind_of signs.Coclass = kinds.Name
+kind_of signs.Properties = kinds.Name
+kind_of signs.Methods = kinds.Name
+kind_of signs.Void = kinds.Name
+kind_of signs.Unsigned = kinds.Name
+kind_of signs.SafeArray = kinds.Name
+kind_of signs.Char = kinds.Name
+kind_of signs.Short = kinds.Name
+kind_of signs.Long = kinds.Name
+kind_of signs.Int = kinds.Name
+kind_of signs.Hyper = kinds.Name
+kind_of signs.Currency = kinds.Name
+kind_of signs.VariantBool = kinds.Name
+kind_of signs.Scode = kinds.Name
+kind_of signs.Decimal = kinds.Name
+kind_of signs.Bstr = kinds.Name
+kind_of signs.Variant = kinds.Name
+kind_of signs.Uuid = kinds.Name
+kind_of signs.Version = kinds.Name
+kind_of signs.Helpstring = kinds.Name
+kind_of signs.Id = kinds.Name
+kind_of signs.Readonly = kinds.Name
+kind_of signs.Default = kinds.Name
+
+abbrev pub spelling : Sign → List ℕ
+spelling signs.Open = codes "["
+spelling signs.Close = codes "]"
+spelling signs.Begin = codes "{"
+spelling signs.Finish = codes "}"
+spelling signs.Left = codes "("
+spelling signs.Right = codes ")"
+spelling signs.Comma = codes ","
+spelling signs.Semicolon = codes ";"
+spelling signs.Colon = codes ":"
+spelling signs.Dot = codes "."
+spelling signs.Minus = codes "-"
+spelling signs.End = []
+spelling signs.Library = codes "library"
+spelling signs.Importlib = codes "importlib"
+spelling signs.Dispinterface = codes "dispinterface"
+spelling signs.Interface = codes "interface"
+spelling signs.Coclass = codes "coclass"
+spelling signs.Properties = codes "properties"
+spelling signs.Methods = codes "methods"
+spelling signs.Void = codes "void"
+spelling signs.Unsigned = codes "unsigned"
+spelling signs.SafeArray = codes "SAFEARRAY"
+spelling signs.Char = codes "char"
+spelling signs.Short = codes "short"
+spelling signs.Long = codes "long"
+spelling signs.Int = codes "int"
+spelling signs.Hyper = codes "hyper"
+spelling signs.Currency = codes "CURRENCY"
+spelling signs.VariantBool = codes "VARIANT_BOOL"
+spelling signs.Scode = codes "SCODE"
+spelling signs.Decimal = codes "DECIMAL"
+spelling signs.Bstr = codes "BSTR"
+spelling signs.Variant = codes "VARIANT"
+spelling signs.Uuid = codes "uuid"
+spelling signs.Version = codes "version"
+spelling signs.Helpstring = codes "helpstring"
+spelling signs.Id = codes "id"
+spelling signs.Readonly = codes "readonly"
+spelling signs.Default = codes "default"
+
+abbrev pub same_kind : Kind → Kind → Bool
+same_kind kinds.Guid kinds.Guid = true
+same_kind kinds.Name kinds.Name = true
+same_kind kinds.Number kinds.Number = true
+same_kind kinds.Text kinds.Text = true
+same_kind kinds.Mark kinds.Mark = true
+same_kind kinds.Junk kinds.Junk = true
+same_kind kinds.End kinds.End = true
+same_kind k l = false
+
+-- whether a word is this sign
+unfoldable pub passes : Sign → Word → Bool
+passes sign w = same_kind w.kind (kind_of sign) && bytes_eq w.text (spelling sign)
+
+-- a string in double quotes
+unfoldable pub is_text : Word → Bool
+is_text w = same_kind w.kind kinds.Text
+
+-- ---- types
+
+-- the type that one word stands for (MS-OAUT section 2.2.7, under their IDL names)
+unfoldable pub plain_type : List ℕ → Option VarType
+plain_type text =
+    if bytes_eq text (spelling signs.Char) then Some types.I1
+    else if bytes_eq text (spelling signs.Short) then Some types.I2
+    else if bytes_eq text (spelling signs.Long) then Some types.I4
+    else if bytes_eq text (spelling signs.Int) then Some types.Int
+    else if bytes_eq text (spelling signs.Hyper) then Some types.I8
+    else if bytes_eq text (spelling signs.Currency) then Some types.Cy
+    else if bytes_eq text (spelling signs.VariantBool) then Some types.Bool
+    else if bytes_eq text (spelling signs.Scode) then Some types.Error
+    else if bytes_eq text (spelling signs.Decimal) then Some types.Decimal
+    else if bytes_eq text (spelling signs.Bstr) then Some types.Bstr
+    else if bytes_eq text (spelling signs.Variant) then Some types.Variant
+    else None
+
+-- and the one that it stands for after `unsigned`
+unfoldable pub unsigned_type : List ℕ → Option VarType
+unsigned_type text =
+    if bytes_eq text (spelling signs.Char) then Some types.Ui1
+    else if bytes_eq text (spelling signs.Short) then Some types.Ui2
+    else if bytes_eq text (spelling signs.Long) then Some types.Ui4
+    else if bytes_eq text (spelling signs.Int) then Some types.Uint
+    else if bytes_eq text (spelling signs.Hyper) then Some types.Ui8
+    else None
+
+abbrev pub type_named : Bool → List ℕ → Option VarType
+type_named true text = unsigned_type text
+type_named false text = plain_type text
+
+-- cells of an array have a type that has an sfType
+abbrev pub if_cell : Bool → Option VarType → Option VarType
+if_cell in_array None = None
+if_cell true (Some t) = if is_some (sf_type_of t) then Some t else None
+if_cell false (Some t) = Some t
+
+unfoldable pub type_of : Bool → Bool → Word → Option VarType
+type_of in_array unsigned w = if same_kind w.kind kinds.Name then if_cell in_array (type_named unsigned w.text) else None
+
+-- ---- names
+
+abbrev pub is_structure : List ℕ → Bool
+is_structure text = bytes_eq text (spelling signs.Library) || (bytes_eq text (spelling signs.Importlib) || (bytes_eq text (spelling signs.Dispinterface) || (bytes_eq text (spelling signs.Interface) || (bytes_eq text (spelling signs.Coclass) || bytes_eq text (spelling signs.Properties)))))
+
+abbrev pub is_type_mark : List ℕ → Bool
+is_type_mark text = bytes_eq text (spelling signs.Methods) || (bytes_eq text (spelling signs.Void) || (bytes_eq text (spelling signs.Unsigned) || bytes_eq text (spelling signs.SafeArray)))
+
+-- the words of the language, compared as they are written
+unfoldable pub is_reserved : List ℕ → Bool
+is_reserved text = is_structure text || (is_type_mark text || is_some (plain_type text))
+
+-- a name that is no word of the language
+unfoldable pub name_of : Word → Option (List ℕ)
+name_of w = if same_kind w.kind kinds.Name && not (is_reserved w.text) then Some w.text else None
+
+-- the limit that a name breaks: it is too long, or it is that of one item too many
+abbrev pub over : TreeLimit → ℕ → ℕ → List ℕ → Option TreeLimit
+over l bound count name = if nat_lt 64 (length name) then Some limits.Name else if nat_le bound count then Some l else None
+
+abbrev pub too_long : List ℕ → Option TreeLimit
+too_long name = over limits.Name 1 0 name
+
+abbrev pub never_over : {A : Type 0} → A → Option TreeLimit
+never_over x = None
+
+-- ---- GUIDs and numbers
+
+unfoldable pub guid_of : Word → Option (List ℕ)
+guid_of w = if same_kind w.kind kinds.Guid then parsed_hyphenated w.text else None
+
+-- the value of a digit
+abbrev pub digit_of : ℕ → ℕ
+digit_of b = if nat_le b 57 then b - 48 else if nat_le 97 b then b - 87 else b - 55
+
+-- the number that digits stand for, after those that stand for n
+unfoldable pub number_from : ℕ → ℕ → List ℕ → ℕ
+number_from base n [] = n
+number_from base n (d ∷ ds) = number_from base (base * n + digit_of d) ds
+
+abbrev pub is_hexadecimal : List ℕ → Bool
+is_hexadecimal text = get_or text 0 0 == 48 && get_or text 1 0 == 120
+
+abbrev pub value_of : List ℕ → ℕ
+value_of text = if is_hexadecimal text then number_from 16 0 (drop 2 text) else number_from 10 0 text
+
+abbrev pub below : ℕ → ℕ → Option ℕ
+below bound n = if nat_lt n bound then Some n else None
+
+-- the value of a number; no place takes one from 2^96 on
+unfoldable pub number_of : List ℕ → Option ℕ
+number_of text = below (2 ^ 96) (value_of text)
+
+-- a part of a version: from 0 to 65,535 where it counts, else any number, taken as 0
+abbrev pub part_from : Bool → Option ℕ → Option ℕ
+part_from true None = None
+part_from true (Some n) = below 65536 n
+part_from false n = Some 0
+
+unfoldable pub part_of : Bool → Word → Option ℕ
+part_of counts w = if same_kind w.kind kinds.Number then part_from counts (number_of w.text) else None
+
+-- An id: a number with its sign, in 32 bits. A hexadecimal one without sign is taken as two's complement.
+abbrev pub id_number : Bool → Bool → ℕ → Option ℤ
+id_number true hexadecimal n = if nat_le n 2147483648 then Some (neg_ℤ (pos n)) else None
+id_number false true n = if nat_lt n 4294967296 then Some (cast_signed w32 n) else None
+id_number false false n = if nat_lt n 2147483648 then Some (pos n) else None
+
+-- -1 and -3 are no ids: DISPID_UNKNOWN and DISPID_PROPERTYPUT (MS-OAUT section 2.2.32)
+abbrev pub usable : Option ℤ → Option ℤ
+usable None = None
+usable (Some (pos n)) = Some (pos n)
+usable (Some (negsuc n)) = if n == 0 || n == 2 then None else Some (negsuc n)
+
+abbrev pub id_from : Bool → Bool → Option ℕ → Option ℤ
+id_from negative hexadecimal None = None
+id_from negative hexadecimal (Some n) = usable (id_number negative hexadecimal n)
+
+unfoldable pub id_of : Bool → Word → Option ℤ
+id_of negative w = if same_kind w.kind kinds.Number then id_from negative (is_hexadecimal w.text) (number_of w.text) else None
+
+-- ---- the words of a text
+
+-- a token with the bytes of its text
+abbrev pub word_of : List ℕ → Token → Word
+word_of text t = record { kind = t.kind; text = take (t.end - t.start) (drop t.start text) }
+
+-- the end of a text is read as a word
+abbrev pub end_word : Word
+end_word = record { kind = kinds.End; text = [] }
+
+abbrev pub words_of : List ℕ → List Token → List Word
+words_of text tokens = map (word_of text) tokens ++ end_word ∷ []

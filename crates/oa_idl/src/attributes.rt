@@ -1,0 +1,258 @@
+// Lists of attributes.
+ghost use Rattle.std.specs.Prelude.{◌≡◌, ℤ};
+ghost use Rattle.oa_idl.specs.declared.sign.Sign.TheVariants as signs;
+ghost use Rattle.oa_idl.specs.declared.seen.HeadSeen.{HeadSeen};
+ghost use Rattle.oa_idl.specs.declared.seen.PropertySeen.{PropertySeen};
+ghost use Rattle.oa_idl.specs.Words.{passes};
+ghost use Rattle.oa_idl.specs.Reading.{Answers, done, gather};
+ghost use Rattle.oa_idl.specs.Grammar.{head_grow, head_finish, property_grow, property_finish};
+ghost use Rattle.oa_idl.specs.GrammarReading.{grown_at, next_grown_at, last_at, help_at, minor_at, head_attribute_at, head_full, head_at, signed_at, property_attribute_at, property_full, property_head_at};
+
+use crate::parts::Version;
+use crate::reader::Reader;
+use crate::seen::{Head, HeadSeen, PropertyHead, PropertySeen};
+use crate::sign::Sign;
+use crate::stop::Stop;
+use uuid::Uuid;
+
+#[tactic(auto, unfolding(crate::specs::Reading::bind, crate::specs::GrammarReading::help_at))]
+fn help(r: &mut Reader<'_>) -> Result<(), Stop>
+    ensures { Answers (λ _. done) result r.new (help_at r.old) }
+{
+    r.take(Sign::Helpstring)?;
+    r.take(Sign::Left)?;
+    r.text()?;
+    r.take(Sign::Right)
+}
+
+// ---- of a library or an item
+
+/// The second part of a version, 0 where there is none, and the bracket that closes it.
+#[tactic(auto, unfolding(crate::specs::Reading::bind, crate::specs::Reading::give, crate::specs::Reading::choose, crate::specs::GrammarReading::minor_at))]
+fn minor(r: &mut Reader<'_>, counts: bool) -> Result<u16, Stop>
+    ensures { Answers (λ n. n) result r.new (minor_at counts r.old) }
+{
+    if r.is(Sign::Dot) {
+        r.take(Sign::Dot)?;
+        let minor = r.part(counts)?;
+        r.take(Sign::Right)?;
+        return Ok(minor);
+    }
+    r.take(Sign::Right)?;
+    Ok(0)
+}
+
+#[tactic(auto, unfolding(crate::specs::Reading::bind, crate::specs::Reading::give, crate::specs::Reading::choose, crate::specs::Reading::require, crate::specs::GrammarReading::uuid_at, crate::specs::GrammarReading::version_at, crate::specs::GrammarReading::head_attribute_at))]
+fn head_attribute(r: &mut Reader<'_>, counts: bool, seen: HeadSeen) -> Result<HeadSeen, Stop>
+    ensures { Answers (λ s. s) result r.new (grown_at (head_attribute_at counts) head_grow seen r.old) }
+{
+    if r.is(Sign::Uuid) {
+        if seen.uuid {
+            return Err(Stop::Syntax);
+        }
+        r.take(Sign::Uuid)?;
+        r.take(Sign::Left)?;
+        let guid = r.guid()?;
+        r.take(Sign::Right)?;
+        return Ok(HeadSeen {
+            uuid: true,
+            head: Head { guid, ..seen.head },
+            ..seen
+        });
+    }
+    if r.is(Sign::Version) {
+        if seen.version {
+            return Err(Stop::Syntax);
+        }
+        r.take(Sign::Version)?;
+        r.take(Sign::Left)?;
+        let major = r.part(counts)?;
+        let minor = minor(r, counts)?;
+        return Ok(HeadSeen {
+            version: true,
+            head: Head {
+                version: Version { major, minor },
+                ..seen.head
+            },
+            ..seen
+        });
+    }
+    if seen.help {
+        return Err(Stop::Syntax);
+    }
+    help(r)?;
+    Ok(HeadSeen { help: true, ..seen })
+}
+
+#[tactic(auto, unfolding(crate::specs::Reading::bind, crate::specs::Reading::give, crate::specs::Reading::require))]
+fn next_head_attribute(r: &mut Reader<'_>, counts: bool, seen: HeadSeen) -> Result<HeadSeen, Stop>
+    ensures { Answers (λ s. s) result r.new (next_grown_at (head_attribute_at counts) head_grow head_full seen r.old) }
+{
+    if seen.uuid && seen.version && seen.help {
+        return Err(Stop::Syntax);
+    }
+    r.take(Sign::Comma)?;
+    head_attribute(r, counts, seen)
+}
+
+#[tactic(auto, unfolding(crate::specs::Reading::bind, crate::specs::Reading::give, crate::specs::Reading::demand))]
+fn last_head_attribute(r: &mut Reader<'_>, seen: HeadSeen) -> Result<Head, Stop>
+    ensures { Answers (λ h. h) result r.new (last_at head_finish seen r.old) }
+{
+    if !seen.uuid {
+        return Err(Stop::Syntax);
+    }
+    r.take(Sign::Close)?;
+    Ok(seen.head)
+}
+
+#[tactic(auto, unfolding(crate::specs::Reading::gather, crate::specs::Reading::fail), using(crate::proofs::Loop::gather_goes_on, crate::proofs::Loop::gather_ends, crate::proofs::Loop::gather_err))]
+fn more_head_attributes(
+    r: &mut Reader<'_>,
+    counts: bool,
+    seen: HeadSeen,
+    room: usize,
+) -> Result<Head, Stop>
+    ensures { Answers (λ h. h) result r.new (gather (passes signs.Close) (next_grown_at (head_attribute_at counts) head_grow head_full) (last_at head_finish) room seen r.old) }
+{
+    if room == 0 {
+        return Err(Stop::Syntax);
+    }
+    if r.is(Sign::Close) {
+        return last_head_attribute(r, seen);
+    }
+    let next = next_head_attribute(r, counts, seen)?;
+    more_head_attributes(r, counts, next, room - 1)
+}
+
+/// The attributes of a library, whose version counts, or of an item.
+#[tactic(auto, unfolding(crate::specs::Reading::bind, crate::specs::Reading::gather_at, crate::specs::GrammarReading::head_at))]
+pub(crate) fn head(r: &mut Reader<'_>, counts: bool) -> Result<Head, Stop>
+    ensures { Answers (λ h. h) result r.new (head_at counts r.old) }
+{
+    r.take(Sign::Open)?;
+    let first = head_attribute(
+        r,
+        counts,
+        HeadSeen {
+            uuid: false,
+            version: false,
+            help: false,
+            head: Head {
+                guid: Uuid::nil(),
+                version: Version { major: 0, minor: 0 },
+            },
+        },
+    )?;
+    let room = r.left();
+    more_head_attributes(r, counts, first, room)
+}
+
+// ---- of a property
+
+/// A number of an id with its sign.
+#[tactic(auto, unfolding(crate::specs::Reading::bind, crate::specs::Reading::choose, crate::specs::GrammarReading::signed_at))]
+fn signed(r: &mut Reader<'_>) -> Result<i32, Stop>
+    ensures { Answers (λ i. i) result r.new (signed_at r.old) }
+{
+    if r.is(Sign::Minus) {
+        r.take(Sign::Minus)?;
+        return r.id(true);
+    }
+    r.id(false)
+}
+
+#[tactic(auto, unfolding(crate::specs::Reading::bind, crate::specs::Reading::give, crate::specs::Reading::choose, crate::specs::Reading::require, crate::specs::GrammarReading::id_at, crate::specs::GrammarReading::property_attribute_at))]
+fn property_attribute(r: &mut Reader<'_>, seen: PropertySeen) -> Result<PropertySeen, Stop>
+    ensures { Answers (λ s. s) result r.new (grown_at property_attribute_at property_grow seen r.old) }
+{
+    if r.is(Sign::Id) {
+        if seen.id.is_some() {
+            return Err(Stop::Syntax);
+        }
+        r.take(Sign::Id)?;
+        r.take(Sign::Left)?;
+        let id = signed(r)?;
+        r.take(Sign::Right)?;
+        return Ok(PropertySeen {
+            id: Some(id),
+            ..seen
+        });
+    }
+    if r.is(Sign::Readonly) {
+        if seen.readonly {
+            return Err(Stop::Syntax);
+        }
+        r.take(Sign::Readonly)?;
+        return Ok(PropertySeen {
+            readonly: true,
+            ..seen
+        });
+    }
+    if seen.help {
+        return Err(Stop::Syntax);
+    }
+    help(r)?;
+    Ok(PropertySeen { help: true, ..seen })
+}
+
+#[tactic(auto, unfolding(crate::specs::Reading::bind, crate::specs::Reading::give, crate::specs::Reading::require))]
+fn next_property_attribute(r: &mut Reader<'_>, seen: PropertySeen) -> Result<PropertySeen, Stop>
+    ensures { Answers (λ s. s) result r.new (next_grown_at property_attribute_at property_grow property_full seen r.old) }
+{
+    if seen.id.is_some() && seen.readonly && seen.help {
+        return Err(Stop::Syntax);
+    }
+    r.take(Sign::Comma)?;
+    property_attribute(r, seen)
+}
+
+#[tactic(auto, unfolding(crate::specs::Reading::bind, crate::specs::Reading::give, crate::specs::Reading::demand))]
+fn last_property_attribute(r: &mut Reader<'_>, seen: PropertySeen) -> Result<PropertyHead, Stop>
+    ensures { Answers (λ h. h) result r.new (last_at property_finish seen r.old) }
+{
+    let Some(id) = seen.id else {
+        return Err(Stop::Syntax);
+    };
+    r.take(Sign::Close)?;
+    Ok(PropertyHead {
+        id,
+        readonly: seen.readonly,
+    })
+}
+
+#[tactic(auto, unfolding(crate::specs::Reading::gather, crate::specs::Reading::fail), using(crate::proofs::Loop::gather_goes_on, crate::proofs::Loop::gather_ends, crate::proofs::Loop::gather_err))]
+fn more_property_attributes(
+    r: &mut Reader<'_>,
+    seen: PropertySeen,
+    room: usize,
+) -> Result<PropertyHead, Stop>
+    ensures { Answers (λ h. h) result r.new (gather (passes signs.Close) (next_grown_at property_attribute_at property_grow property_full) (last_at property_finish) room seen r.old) }
+{
+    if room == 0 {
+        return Err(Stop::Syntax);
+    }
+    if r.is(Sign::Close) {
+        return last_property_attribute(r, seen);
+    }
+    let next = next_property_attribute(r, seen)?;
+    more_property_attributes(r, next, room - 1)
+}
+
+/// The attributes of a property.
+#[tactic(auto, unfolding(crate::specs::Reading::bind, crate::specs::Reading::gather_at, crate::specs::GrammarReading::property_head_at))]
+pub(crate) fn property_head(r: &mut Reader<'_>) -> Result<PropertyHead, Stop>
+    ensures { Answers (λ h. h) result r.new (property_head_at r.old) }
+{
+    r.take(Sign::Open)?;
+    let first = property_attribute(
+        r,
+        PropertySeen {
+            id: None,
+            readonly: false,
+            help: false,
+        },
+    )?;
+    let room = r.left();
+    more_property_attributes(r, first, room)
+}

@@ -1,0 +1,46 @@
+// The items of a library.
+use crate::name::Name;
+use crate::parts::{Entry, Property};
+use std::marker::Model;
+use uuid::Uuid;
+
+/// A dispinterface.
+#[derive(Drop)]
+pub struct Interface {
+    pub guid: Uuid,
+    pub name: Name,
+    /// The section `properties:`, in the text's order.
+    pub properties: Vec<Property>,
+}
+
+impl Model for Interface {
+    ghost use Rattle.oa_idl.specs.Values.{InterfaceValue};
+
+    ghost Value = { InterfaceValue };
+
+    ghost view = { λ d. record { guid = d.guid; name = d.name; properties = d.properties.items } };
+}
+
+/// A coclass.
+#[derive(Drop)]
+pub struct Coclass {
+    pub guid: Uuid,
+    pub name: Name,
+    /// Its interfaces in the text's order, of which at most one is marked as the default.
+    pub entries: Vec<Entry>,
+}
+
+impl Model for Coclass {
+    ghost use Rattle.oa_idl.specs.Values.{CoclassValue};
+
+    ghost Value = { CoclassValue };
+
+    ghost view = { λ c. record { guid = c.guid; name = c.name; entries = c.entries.items } };
+}
+
+/// An item of a library.
+#[derive(Drop)]
+pub enum Item {
+    Interface(Interface),
+    Coclass(Coclass),
+}

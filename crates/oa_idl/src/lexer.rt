@@ -1,0 +1,110 @@
+ghost use Rattle.std.specs.Prelude.{◌≡◌, ◌<◌, length, IfOk};
+ghost use Rattle.oa_idl.specs.Tokens.{front, IsPiece, AreTokens};
+
+use crate::scan::{Class, Close, after, end_of, is_guid, is_in, run};
+use std::alloc::{AllocError, Global};
+
+/// What a token is.
+#[derive(Clone, Copy, Debug, PartialEq, Eq)]
+pub enum Kind {
+    Guid,
+    Name,
+    Number,
+    Text,
+    Mark,
+    /// Bytes that form no token, to the text's end.
+    Junk,
+    /// The end of the text, which a parser reads as a token.
+    End,
+}
+
+/// A token, and where it stands in its text.
+#[derive(Clone, Copy, Debug, PartialEq, Eq)]
+pub struct Token {
+    pub kind: Kind,
+    pub start: usize,
+    pub end: usize,
+}
+
+/// What stands at the front of bytes.
+pub(crate) enum Piece {
+    Word(Kind, usize),
+    Gap(usize),
+    Broken,
+}
+
+#[tactic(auto, unfolding(crate::specs::Tokens::front))]
+fn front(bytes: &[u8]) -> Piece
+    requires { 0 < length bytes.now }
+    ensures value { result ≡ front bytes.now }
+    ensures size { IsPiece result (length bytes.now) }
+{
+    let first = bytes[0];
+    let next = if 1 < bytes.len() { bytes[1] } else { 0 };
+    if is_guid(bytes) {
+        return Piece::Word(Kind::Guid, 36);
+    }
+    if is_in(Class::Letter, first) {
+        return Piece::Word(Kind::Name, 1 + run(Class::Named, after(bytes, 1)));
+    }
+    if first == b'0' && next == b'x' {
+        let digits = run(Class::Hexadecimal, after(bytes, 2));
+        return Piece::Word(Kind::Number, if digits == 0 { 1 } else { 2 + digits });
+    }
+    if is_in(Class::Digit, first) {
+        return Piece::Word(Kind::Number, 1 + run(Class::Digit, after(bytes, 1)));
+    }
+    if first == b'"' {
+        return match end_of(Close::Quote, after(bytes, 1)) {
+            Some(n) => Piece::Word(Kind::Text, 1 + n),
+            None => Piece::Broken,
+        };
+    }
+    if is_in(Class::Mark, first) {
+        return Piece::Word(Kind::Mark, 1);
+    }
+    if is_in(Class::Blank, first) {
+        return Piece::Gap(1);
+    }
+    if first == b'/' && next == b'/' {
+        return Piece::Gap(2 + run(Class::Line, after(bytes, 2)));
+    }
+    if first == b'/' && next == b'*' {
+        return match end_of(Close::Comment, after(bytes, 2)) {
+            Some(n) => Piece::Gap(2 + n),
+            None => Piece::Broken,
+        };
+    }
+    Piece::Broken
+}
+
+/// The tokens of a text, in order. Bytes that form no token make one last token, to the text's end.
+pub fn tokens(alloc: Global, text: &str) -> Result<Vec<Token>, AllocError>
+    ensures { IfOk result (λ found. AreTokens 0 text.now found.items) }
+{
+    let bytes = text.as_bytes();
+    let mut out = Vec::new(alloc);
+    let mut at = 0;
+    'pieces: while at < bytes.len() {
+        match front(&bytes[at..]) {
+            Piece::Gap(n) => at += n,
+            Piece::Word(kind, n) => {
+                out.push(Token {
+                    kind,
+                    start: at,
+                    end: at + n,
+                })?;
+                at += n;
+            }
+            Piece::Broken => {
+                out.push(Token {
+                    kind: Kind::Junk,
+                    start: at,
+                    end: bytes.len(),
+                })?;
+                return Ok(out);
+            }
+        }
+    }
+    Ok(out)
+}

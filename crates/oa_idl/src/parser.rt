@@ -1,0 +1,322 @@
+// The grammar of a library text.
+ghost use Rattle.std.specs.Prelude.{◌≡◌, ◌-◌, ◌+◌, ◌<◌, ◌^◌, length, map};
+ghost use Rattle.oa_idl.specs.declared.sign.Sign.TheVariants as signs;
+ghost use Rattle.oa_idl.specs.Forms.{nowhere};
+ghost use Rattle.oa_idl.specs.Words.{word_of, passes};
+ghost use Rattle.oa_idl.specs.Reading.{Answers, done, until};
+ghost use Rattle.oa_idl.specs.IsTree.{IsTree, IsAnswer, IsFound, place_after};
+ghost use Rattle.oa_idl.specs.Grammar.{one_more, entry_grow, no_entry, semicolon_after, items_grow, no_items};
+ghost use Rattle.oa_idl.specs.GrammarReading.{type_word_at, value_type_at, property_at, closing_at, members_at, interface_at, named_at, entry_at, last_entry_at, coclass_at, item_at, library_at};
+ghost use Rattle.oa_idl.specs.Trees.{TreeValue};
+ghost use Rattle.oa_idl.specs.Parsed.{IsParsed};
+
+use crate::attributes::{head, property_head};
+use crate::items::{Coclass, Interface, Item};
+use crate::lexer::{Kind, Token, tokens};
+use crate::parts::{Entry, Property};
+use crate::reader::Reader;
+use crate::seen::{EntriesSeen, ItemsSeen};
+use crate::sign::Sign;
+use crate::stop::{Limit, ParseError, Stop, TreeLimit};
+use crate::tree::Tree;
+use oa_model::{MAX_COCLASSES, MAX_INTERFACES, MAX_LIBRARY_BYTES, MAX_MEMBERS, ValueType, VarType};
+use std::alloc::Global;
+use uuid::Uuid;
+
+#[tactic(auto, unfolding(crate::specs::Reading::bind, crate::specs::Reading::choose, crate::specs::GrammarReading::type_word_at))]
+fn type_word(r: &mut Reader<'_>, in_array: bool) -> Result<VarType, Stop>
+    ensures { Answers (λ t. t) result r.new (type_word_at in_array r.old) }
+{
+    if r.is(Sign::Unsigned) {
+        r.take(Sign::Unsigned)?;
+        return r.type_word(in_array, true);
+    }
+    r.type_word(in_array, false)
+}
+
+#[tactic(auto, unfolding(crate::specs::Reading::bind, crate::specs::Reading::give, crate::specs::Reading::choose, crate::specs::GrammarReading::value_type_at))]
+fn value_type(r: &mut Reader<'_>) -> Result<ValueType, Stop>
+    ensures { Answers (λ t. t) result r.new (value_type_at r.old) }
+{
+    if r.is(Sign::SafeArray) {
+        r.take(Sign::SafeArray)?;
+        r.take(Sign::Left)?;
+        let cell = type_word(r, true)?;
+        r.take(Sign::Right)?;
+        return Ok(ValueType::Array(cell));
+    }
+    let one = type_word(r, false)?;
+    Ok(ValueType::One(one))
+}
+
+/// A property after `count` members of its interface.
+#[tactic(auto, unfolding(crate::specs::Reading::bind, crate::specs::Reading::give, crate::specs::GrammarReading::property_at))]
+fn property(alloc: Global, r: &mut Reader<'_>, count: usize) -> Result<Property, Stop>
+    ensures { Answers (λ p. p) result r.new (property_at count r.old) }
+{
+    let head = property_head(r)?;
+    let value_type = value_type(r)?;
+    let name = r.name(alloc, TreeLimit::Members, MAX_MEMBERS, count)?;
+    r.take(Sign::Semicolon)?;
+    Ok(Property {
+        id: head.id,
+        readonly: head.readonly,
+        value_type,
+        name,
+    })
+}
+
+/// At most so many properties, and the brace that closes them.
+#[tactic(auto, using(crate::proofs::Loop::until_err, crate::proofs::Loop::until_out))]
+fn properties(alloc: Global, r: &mut Reader<'_>, room: usize) -> Result<Vec<Property>, Stop>
+    ensures { Answers (λ v. (v.items, done)) result r.new (until (passes signs.Finish) nowhere property_at one_more closing_at room 0 r.old) }
+{
+    let mut all = Vec::new(alloc);
+    for _ in 0..room {
+        if r.is(Sign::Finish) {
+            r.skip();
+            return Ok(all);
+        }
+        let next = property(alloc, r, all.len())?;
+        all.push(next)?;
+    }
+    Err(Stop::Syntax)
+}
+
+#[tactic(auto, unfolding(crate::specs::Reading::bind, crate::specs::Reading::give, crate::specs::Reading::choose, crate::specs::Reading::list_at, crate::specs::GrammarReading::properties_at, crate::specs::GrammarReading::members_at))]
+fn members(alloc: Global, r: &mut Reader<'_>) -> Result<Vec<Property>, Stop>
+    ensures { Answers (λ v. v.items) result r.new (members_at r.old) }
+{
+    if r.is(Sign::Properties) {
+        r.take(Sign::Properties)?;
+        r.take(Sign::Colon)?;
+        let room = r.left();
+        return properties(alloc, r, room);
+    }
+    r.take(Sign::Finish)?;
+    Ok(Vec::new(alloc))
+}
+
+#[tactic(auto, unfolding(crate::specs::Reading::bind, crate::specs::Reading::give, crate::specs::GrammarReading::interface_at))]
+fn interface(alloc: Global, r: &mut Reader<'_>, seen: ItemsSeen, guid: Uuid) -> Result<Item, Stop>
+    ensures { Answers (λ x. x) result r.new (interface_at seen guid r.old) }
+{
+    r.take(Sign::Dispinterface)?;
+    let name = r.name(
+        alloc,
+        TreeLimit::Interfaces,
+        MAX_INTERFACES,
+        seen.interfaces,
+    )?;
+    r.take(Sign::Begin)?;
+    let properties = members(alloc, r)?;
+    Ok(Item::Interface(Interface {
+        guid,
+        name,
+        properties,
+    }))
+}
+
+#[tactic(auto, unfolding(crate::specs::Reading::bind, crate::specs::Reading::give, crate::specs::GrammarReading::named_at))]
+fn named(alloc: Global, r: &mut Reader<'_>, is_default: bool) -> Result<Entry, Stop>
+    ensures { Answers (λ e. e) result r.new (named_at is_default r.old) }
+{
+    r.entry_word()?;
+    let interface = r.name(alloc, TreeLimit::Name, 1, 0)?;
+    r.take(Sign::Semicolon)?;
+    Ok(Entry {
+        is_default,
+        interface,
+    })
+}
+
+#[tactic(auto, unfolding(crate::specs::Reading::bind, crate::specs::Reading::give, crate::specs::Reading::choose, crate::specs::Reading::require, crate::specs::GrammarReading::entry_at))]
+fn entry(alloc: Global, r: &mut Reader<'_>, seen: EntriesSeen) -> Result<Entry, Stop>
+    ensures { Answers (λ e. e) result r.new (entry_at seen r.old) }
+{
+    if r.is(Sign::Open) {
+        if seen.default {
+            return Err(Stop::Syntax);
+        }
+        r.take(Sign::Open)?;
+        r.take(Sign::Default)?;
+        r.take(Sign::Close)?;
+        return named(alloc, r, true);
+    }
+    named(alloc, r, false)
+}
+
+/// The entries that were seen with one more.
+fn with_entry(seen: EntriesSeen, entry: &Entry) -> EntriesSeen
+    ensures { result ≡ entry_grow seen entry.now }
+{
+    EntriesSeen {
+        some: true,
+        default: seen.default || entry.is_default,
+    }
+}
+
+/// At most so many entries, and the brace that closes them.
+#[tactic(auto, using(crate::proofs::Loop::until_err, crate::proofs::Loop::until_out))]
+fn entries(alloc: Global, r: &mut Reader<'_>, room: usize) -> Result<Vec<Entry>, Stop>
+    ensures { Answers (λ v. (v.items, done)) result r.new (until (passes signs.Finish) nowhere entry_at entry_grow last_entry_at room no_entry r.old) }
+{
+    let mut all = Vec::new(alloc);
+    let mut seen = EntriesSeen {
+        some: false,
+        default: false,
+    };
+    for _ in 0..room {
+        if r.is(Sign::Finish) {
+            if !seen.some {
+                return Err(Stop::Syntax);
+            }
+            r.skip();
+            return Ok(all);
+        }
+        let next = entry(alloc, r, seen)?;
+        seen = with_entry(seen, &next);
+        all.push(next)?;
+    }
+    Err(Stop::Syntax)
+}
+
+#[tactic(auto, unfolding(crate::specs::Reading::bind, crate::specs::Reading::give, crate::specs::Reading::list_at, crate::specs::GrammarReading::entries_at, crate::specs::GrammarReading::coclass_at))]
+fn coclass(alloc: Global, r: &mut Reader<'_>, seen: ItemsSeen, guid: Uuid) -> Result<Item, Stop>
+    ensures { Answers (λ x. x) result r.new (coclass_at seen guid r.old) }
+{
+    r.take(Sign::Coclass)?;
+    let name = r.name(alloc, TreeLimit::Coclasses, MAX_COCLASSES, seen.coclasses)?;
+    r.take(Sign::Begin)?;
+    let room = r.left();
+    let entries = entries(alloc, r, room)?;
+    Ok(Item::Coclass(Coclass {
+        guid,
+        name,
+        entries,
+    }))
+}
+
+#[tactic(auto, unfolding(crate::specs::Reading::bind, crate::specs::Reading::choose, crate::specs::GrammarReading::item_at))]
+fn item(alloc: Global, r: &mut Reader<'_>, seen: ItemsSeen) -> Result<Item, Stop>
+    ensures { Answers (λ x. x) result r.new (item_at seen r.old) }
+{
+    let head = head(r, false)?;
+    if r.is(Sign::Dispinterface) {
+        return interface(alloc, r, seen, head.guid);
+    }
+    coclass(alloc, r, seen, head.guid)
+}
+
+/// How many items there are with one more.
+fn counted(seen: ItemsSeen, item: &Item) -> ItemsSeen
+    requires { (seen.interfaces + 1 < 2 ^ 64) × (seen.coclasses + 1 < 2 ^ 64) }
+    ensures { result ≡ items_grow seen item.now }
+{
+    match item {
+        Item::Interface(_) => ItemsSeen {
+            interfaces: seen.interfaces + 1,
+            ..seen
+        },
+        Item::Coclass(_) => ItemsSeen {
+            coclasses: seen.coclasses + 1,
+            ..seen
+        },
+    }
+}
+
+/// At most so many items, and the brace that closes them.
+#[tactic(auto, using(crate::proofs::Loop::until_err, crate::proofs::Loop::until_out))]
+fn items(alloc: Global, r: &mut Reader<'_>, room: usize) -> Result<Vec<Item>, Stop>
+    ensures { Answers (λ v. (v.items, done)) result r.new (until (passes signs.Finish) semicolon_after item_at items_grow closing_at room no_items r.old) }
+{
+    let mut all = Vec::new(alloc);
+    let mut seen = ItemsSeen {
+        interfaces: 0,
+        coclasses: 0,
+    };
+    for _ in 0..room {
+        if r.is(Sign::Finish) {
+            r.skip();
+            return Ok(all);
+        }
+        let next = item(alloc, r, seen)?;
+        r.perhaps(Sign::Semicolon);
+        seen = counted(seen, &next);
+        all.push(next)?;
+    }
+    Err(Stop::Syntax)
+}
+
+#[tactic(auto, unfolding(crate::specs::Reading::bind, crate::specs::Reading::give, crate::specs::Reading::perhaps_at, crate::specs::Reading::list_at, crate::specs::GrammarReading::items_at, crate::specs::GrammarReading::library_at))]
+fn library(alloc: Global, r: &mut Reader<'_>) -> Result<Tree, Stop>
+    ensures { Answers (λ t. t) result r.new (library_at r.old) }
+{
+    let head = head(r, true)?;
+    r.take(Sign::Library)?;
+    let name = r.name(alloc, TreeLimit::Name, 1, 0)?;
+    r.take(Sign::Begin)?;
+    let room = r.left();
+    let items = items(alloc, r, room)?;
+    r.perhaps(Sign::Semicolon);
+    r.take(Sign::End)?;
+    Ok(Tree {
+        guid: head.guid,
+        version: head.version,
+        name,
+        items,
+    })
+}
+
+/// Where the first of the last `left` tokens begins, or the text ends.
+fn place_of_rest(end: usize, tokens: &[Token], left: usize) -> usize
+    ensures { result ≡ place_after end tokens.now (length tokens.now - left) }
+{
+    let read = if left <= tokens.len() {
+        tokens.len() - left
+    } else {
+        0
+    };
+    match tokens.get(read) {
+        Some(token) => token.start,
+        None => end,
+    }
+}
+
+/// Reads the words of the tokens, of which the last is the end.
+fn parse_words(alloc: Global, text: &[u8], words: &[Token]) -> Result<Tree, ParseError>
+    ensures { IsParsed (length text.now) words.now (map (word_of text.now) words.now) result }
+{
+    let mut r = Reader::new(text, words);
+    match library(alloc, &mut r) {
+        Ok(tree) => Ok(tree),
+        Err(Stop::Syntax) => {
+            let left = r.left();
+            Err(ParseError::Syntax(place_of_rest(text.len(), words, left)))
+        }
+        Err(Stop::Limit(limit)) => Err(ParseError::Limit(limit.limit())),
+        Err(Stop::Memory) => Err(ParseError::Memory),
+    }
+}
+
+/// The tree that a library text stands for.
+///
+/// `Ok` exactly where the text is in the grammar (docs/idl.md), with its one tree. `Limit(Text)` exactly where the text has more than
+/// 262,144 bytes. `Syntax(place)` where the token that begins at this byte, or the end, cannot stand there: no text of the grammar
+/// begins with the tokens up to and with that one. Another `Limit` where a name is too long, or an item is one too many: no text of
+/// the grammar that keeps this limit begins with the tokens up to and with that one. `Memory` where none was found.
+pub fn parse(alloc: Global, text: &str) -> Result<Tree, ParseError>
+    ensures exact { IsAnswer text.now result }
+    ensures found { (t : TreeValue) → IsTree text.now t → IsFound t result }
+{
+    if text.len() > MAX_LIBRARY_BYTES {
+        return Err(ParseError::Limit(Limit::Text));
+    }
+    let mut words = tokens(alloc, text)?;
+    words.push(Token {
+        kind: Kind::End,
+        start: text.len(),
+        end: text.len(),
+    })?;
+    parse_words(alloc, text.as_bytes(), words.as_slice())
+}

@@ -1,0 +1,359 @@
+// Reading the words of a text from the front.
+ghost use Rattle.std.specs.Prelude.{◌≡◌, ◌-◌, ◌+◌, ◌*◌, ◌<◌, ◌^◌, ◌&&◌, Bool, if◌then◌else◌, length, take, drop, map, IfSome, OnOk, OnErr};
+ghost use Rattle.oa_idl.specs.Words.{word_of, passes, is_text, name_of, over, guid_of, digit_of, number_from, number_of, value_of, is_hexadecimal, below, part_from, part_of, id_number, usable, id_from, id_of, type_of, same_kind, never_over};
+ghost use Rattle.oa_idl.specs.Grammar.{entry_word};
+ghost use Rattle.oa_idl.specs.Reading.{Answers, heads, rest_of, this_at, one_at, perhaps_at, done, seen_first, first_of};
+ghost use Rattle.uuid.specs.Text.{parsed_hyphenated};
+
+use crate::lexer::{Kind, Token};
+use crate::name::Name;
+use crate::scan::after;
+use crate::sign::{Sign, is_reserved, kind_of, spelling, type_named};
+use crate::stop::{Stop, TreeLimit};
+use oa_model::VarType;
+use std::alloc::Global;
+use std::marker::Model;
+use uuid::Uuid;
+
+/// The words of a text that were not read yet.
+#[derive(Drop)]
+pub(crate) struct Reader<'a> {
+    text: &'a [u8],
+    rest: &'a [Token],
+}
+
+impl<'a> Model for Reader<'a> {
+    ghost use Rattle.std.specs.Prelude.{List, map};
+    ghost use Rattle.oa_idl.specs.Forms.{Word};
+    ghost use Rattle.oa_idl.specs.Words.{word_of};
+
+    ghost Value = { List Word };
+
+    ghost view = { λ r. map (word_of r.text.now) r.rest.now };
+}
+
+fn same_kind(a: Kind, b: Kind) -> bool
+    ensures { result ≡ same_kind a b }
+{
+    match (a, b) {
+        (Kind::Guid, Kind::Guid) => true,
+        (Kind::Name, Kind::Name) => true,
+        (Kind::Number, Kind::Number) => true,
+        (Kind::Text, Kind::Text) => true,
+        (Kind::Mark, Kind::Mark) => true,
+        (Kind::Junk, Kind::Junk) => true,
+        (Kind::End, Kind::End) => true,
+        _ => false,
+    }
+}
+
+/// The bytes from one place to another.
+fn between(text: &[u8], start: usize, end: usize) -> &[u8]
+    ensures { result.now ≡ take (end - start) (drop start text.now) }
+{
+    let from = if start <= text.len() {
+        &text[start..]
+    } else {
+        &text[text.len()..]
+    };
+    let count = if start <= end { end - start } else { 0 };
+    if count <= from.len() {
+        &from[..count]
+    } else {
+        from
+    }
+}
+
+fn digit_of(byte: u8) -> u8
+    ensures { result ≡ digit_of byte }
+{
+    if byte <= 57 {
+        return byte.saturating_sub(48);
+    }
+    if 97 <= byte { byte - 87 } else { byte - 55 }
+}
+
+/// The number that digits stand for, if it is below 2^96.
+#[tactic(auto, unfolding(crate::specs::Words::number_from), using(crate::proofs::Digits::digits_go_on, crate::proofs::Digits::digits_stop, crate::proofs::Digits::digits_end))]
+fn digits(hexadecimal: bool, text: &[u8]) -> Option<u128>
+    ensures { result ≡ below (2 ^ 96) (number_from (if hexadecimal then 16 else 10) 0 text.now) }
+{
+    let base = if hexadecimal { 16u128 } else { 10u128 };
+    let mut value = 0u128;
+    let mut n = 0;
+    while n < text.len() {
+        let next = base * value + u128::from(digit_of(text[n]));
+        if next >= 0x1_0000_0000_0000_0000_0000_0000 {
+            return None;
+        }
+        value = next;
+        n += 1;
+    }
+    Some(value)
+}
+
+fn is_hexadecimal(text: &[u8]) -> bool
+    ensures { result ≡ is_hexadecimal text.now }
+{
+    1 < text.len() && text[0] == b'0' && text[1] == b'x'
+}
+
+#[tactic(auto, unfolding(crate::specs::Words::number_of))]
+fn number_of(text: &[u8]) -> Option<u128>
+    ensures { result ≡ number_of text.now }
+{
+    if is_hexadecimal(text) {
+        return digits(true, after(text, 2));
+    }
+    digits(false, text)
+}
+
+fn part_from(counts: bool, number: Option<u128>) -> Option<u16>
+    ensures { result ≡ part_from counts number }
+{
+    if !counts {
+        return Some(0);
+    }
+    u16::try_from(number?).ok()
+}
+
+fn id_number(negative: bool, hexadecimal: bool, value: u128) -> Option<i32>
+    ensures { result ≡ id_number negative hexadecimal value }
+{
+    let Ok(value) = u32::try_from(value) else {
+        return None;
+    };
+    if negative {
+        return i32::try_from(-i64::from(value)).ok();
+    }
+    if hexadecimal {
+        return Some(value.cast_signed());
+    }
+    i32::try_from(value).ok()
+}
+
+fn id_from(negative: bool, hexadecimal: bool, number: Option<u128>) -> Option<i32>
+    ensures { result ≡ id_from negative hexadecimal number }
+{
+    let id = id_number(negative, hexadecimal, number?)?;
+    if id == -1 || id == -3 { None } else { Some(id) }
+}
+
+/// The GUID of a text of the form 8-4-4-4-12.
+fn guid_of(text: &[u8]) -> Option<Uuid>
+    ensures { result ≡ parsed_hyphenated text.now }
+{
+    if text.len() != 36 {
+        return None;
+    }
+    Uuid::try_parse_ascii(text).ok()
+}
+
+impl<'a> Reader<'a> {
+    pub(crate) fn new(text: &'a [u8], tokens: &'a [Token]) -> Reader<'a>
+        ensures { result ≡ map (word_of text.entry.now) tokens.entry.now }
+    {
+        Reader { text, rest: tokens }
+    }
+
+    /// How many words are left.
+    pub(crate) fn left(&self) -> usize
+        ensures { result ≡ length self.now }
+    {
+        self.rest.len()
+    }
+
+    /// What the next word is, and its bytes.
+    fn first(&self) -> Option<(Kind, &'a [u8])>
+        ensures { seen_first result ≡ first_of self.now }
+    {
+        if self.rest.is_empty() {
+            return None;
+        }
+        let token = self.rest[0];
+        Some((token.kind, between(self.text, token.start, token.end)))
+    }
+
+    /// Goes past the next word.
+    #[tactic(auto, using(crate::proofs::Maps::map_rest))]
+    pub(crate) fn skip(&mut self)
+        ensures { self.new ≡ rest_of self.old }
+    {
+        if !self.rest.is_empty() {
+            self.rest = &self.rest[1..];
+        }
+    }
+
+    /// Whether the next word is this sign.
+    #[tactic(auto, unfolding(crate::specs::Words::passes))]
+    pub(crate) fn is(&self, sign: Sign) -> bool
+        ensures { result ≡ heads (passes sign) self.now }
+    {
+        match self.first() {
+            Some((kind, text)) => same_kind(kind, kind_of(sign)) && text == spelling(sign),
+            None => false,
+        }
+    }
+
+    /// Takes this sign.
+    #[tactic(auto, unfolding(crate::specs::Reading::this_at))]
+    pub(crate) fn take(&mut self, sign: Sign) -> Result<(), Stop>
+        ensures { Answers (λ _. done) result self.new (this_at (passes sign) self.old) }
+    {
+        if !self.is(sign) {
+            return Err(Stop::Syntax);
+        }
+        self.skip();
+        Ok(())
+    }
+
+    /// Takes `dispinterface` or `interface`.
+    #[tactic(auto, unfolding(crate::specs::Reading::this_at, crate::specs::Words::passes))]
+    pub(crate) fn entry_word(&mut self) -> Result<(), Stop>
+        ensures { Answers (λ _. done) result self.new (this_at entry_word self.old) }
+    {
+        let Some((kind, text)) = self.first() else {
+            return Err(Stop::Syntax);
+        };
+        if same_kind(kind, Kind::Name)
+            && (text == spelling(Sign::Dispinterface) || text == spelling(Sign::Interface))
+        {
+            self.skip();
+            return Ok(());
+        }
+        Err(Stop::Syntax)
+    }
+
+    /// Takes a string.
+    #[tactic(auto, unfolding(crate::specs::Reading::this_at, crate::specs::Words::is_text))]
+    pub(crate) fn text(&mut self) -> Result<(), Stop>
+        ensures { Answers (λ _. done) result self.new (this_at is_text self.old) }
+    {
+        let Some((kind, _text)) = self.first() else {
+            return Err(Stop::Syntax);
+        };
+        if !same_kind(kind, Kind::Text) {
+            return Err(Stop::Syntax);
+        }
+        self.skip();
+        Ok(())
+    }
+
+    /// Takes this sign where it stands.
+    #[tactic(auto, unfolding(crate::specs::Reading::perhaps_at))]
+    pub(crate) fn perhaps(&mut self, sign: Sign)
+        ensures { self.new ≡ (if heads (passes sign) self.old then rest_of self.old else self.old) }
+    {
+        if self.is(sign) {
+            self.skip();
+        }
+    }
+
+    /// Takes a name, which is that of an item after `count` others where `bound` are allowed.
+    #[tactic(auto, unfolding(crate::specs::Reading::one_at, crate::specs::Words::name_of))]
+    pub(crate) fn name(
+        &mut self,
+        alloc: Global,
+        limit: TreeLimit,
+        bound: usize,
+        count: usize,
+    ) -> Result<Name, Stop>
+        ensures { Answers (λ n. n) result self.new (one_at name_of (over limit bound count) self.old) }
+    {
+        let Some((kind, text)) = self.first() else {
+            return Err(Stop::Syntax);
+        };
+        if !same_kind(kind, Kind::Name) || is_reserved(text) {
+            return Err(Stop::Syntax);
+        }
+        if text.len() > 64 {
+            return Err(Stop::Limit(TreeLimit::Name));
+        }
+        if bound <= count {
+            return Err(Stop::Limit(limit));
+        }
+        let bytes = Vec::from_slice(alloc, text)?;
+        self.skip();
+        Ok(Name::from_bytes(bytes))
+    }
+
+    /// Takes a GUID.
+    #[tactic(auto, unfolding(crate::specs::Reading::one_at, crate::specs::Words::guid_of))]
+    pub(crate) fn guid(&mut self) -> Result<Uuid, Stop>
+        ensures { Answers (λ g. g) result self.new (one_at guid_of never_over self.old) }
+    {
+        let Some((kind, text)) = self.first() else {
+            return Err(Stop::Syntax);
+        };
+        if !same_kind(kind, Kind::Guid) {
+            return Err(Stop::Syntax);
+        }
+        match guid_of(text) {
+            Some(guid) => {
+                self.skip();
+                Ok(guid)
+            }
+            None => Err(Stop::Syntax),
+        }
+    }
+
+    /// Takes a part of a version, which counts or is taken as 0.
+    #[tactic(auto, unfolding(crate::specs::Reading::one_at, crate::specs::Words::part_of))]
+    pub(crate) fn part(&mut self, counts: bool) -> Result<u16, Stop>
+        ensures { Answers (λ n. n) result self.new (one_at (part_of counts) never_over self.old) }
+    {
+        let Some((kind, text)) = self.first() else {
+            return Err(Stop::Syntax);
+        };
+        if !same_kind(kind, Kind::Number) {
+            return Err(Stop::Syntax);
+        }
+        match part_from(counts, number_of(text)) {
+            Some(value) => {
+                self.skip();
+                Ok(value)
+            }
+            None => Err(Stop::Syntax),
+        }
+    }
+
+    /// Takes the number of an id, after a minus or not.
+    #[tactic(auto, unfolding(crate::specs::Reading::one_at, crate::specs::Words::id_of))]
+    pub(crate) fn id(&mut self, negative: bool) -> Result<i32, Stop>
+        ensures { Answers (λ n. n) result self.new (one_at (id_of negative) never_over self.old) }
+    {
+        let Some((kind, text)) = self.first() else {
+            return Err(Stop::Syntax);
+        };
+        if !same_kind(kind, Kind::Number) {
+            return Err(Stop::Syntax);
+        }
+        match id_from(negative, is_hexadecimal(text), number_of(text)) {
+            Some(value) => {
+                self.skip();
+                Ok(value)
+            }
+            None => Err(Stop::Syntax),
+        }
+    }
+
+    /// Takes a word that stands for a type, after `unsigned` or not, in an array or not.
+    #[tactic(auto, unfolding(crate::specs::Reading::one_at, crate::specs::Words::type_of))]
+    pub(crate) fn type_word(&mut self, in_array: bool, unsigned: bool) -> Result<VarType, Stop>
+        ensures { Answers (λ t. t) result self.new (one_at (type_of in_array unsigned) never_over self.old) }
+    {
+        let Some((kind, text)) = self.first() else {
+            return Err(Stop::Syntax);
+        };
+        if !same_kind(kind, Kind::Name) {
+            return Err(Stop::Syntax);
+        }
+        match type_named(in_array, unsigned, text) {
+            Some(found) => {
+                self.skip();
+                Ok(found)
+            }
+            None => Err(Stop::Syntax),
+        }
+    }
+}

@@ -1,0 +1,7 @@
+pub mod Breaches
+pub mod Indexes
+pub mod Keys
+pub mod Libraries
+pub mod MemberValues
+pub mod Members
+pub mod Repeats

@@ -1,0 +1,41 @@
+// Lists whose keys have to differ.
+ghost use Rattle.std.specs.Prelude.{◌≡◌, [], IfOk};
+ghost use Rattle.oa_typelib.specs.Keys.{Tells, repeat_of};
+
+use indexmap::IndexSet;
+use std::alloc::{AllocError, Global};
+use std::hash::Hash;
+
+/// The keys of a list by their places, or the first place whose key stands at an earlier one too.
+#[derive(Drop)]
+pub(crate) enum Distinct<K: Eq + Hash + Drop> {
+    All(IndexSet<K>),
+    Repeat(usize),
+}
+
+impl<K: Eq + Hash + Drop> Distinct<K> {
+    pub(crate) fn repeat(self) -> Option<usize>
+        ensures { result ≡ repeat_of self }
+    {
+        match self {
+            Distinct::All(_) => None,
+            Distinct::Repeat(place) => Some(place),
+        }
+    }
+}
+
+pub(crate) fn told_apart<K: Eq + Hash + Drop>(
+    alloc: Global,
+    keys: Vec<K>,
+) -> Result<Distinct<K>, AllocError>
+    ensures { IfOk result (Tells K.eq keys.items) }
+{
+    let mut seen = IndexSet::new(alloc);
+    for key in keys {
+        let place = seen.len();
+        if !seen.insert(key)? {
+            return Ok(Distinct::Repeat(place));
+        }
+    }
+    Ok(Distinct::All(seen))
+}

@@ -1,0 +1,112 @@
+// Names, DISPIDs and GUIDs by their places in a list.
+ghost use Rattle.std.specs.Prelude.{◌≡◌, ◌++◌, ◌∷◌, [], not, OnOk, IfOk, position};
+ghost use Rattle.std.specs.List.{list_any};
+ghost use Rattle.std.specs.Ordering.{int_eq};
+ghost use Rattle.indexmap.specs.IndexSet.{insert_key};
+ghost use Rattle.oa_typelib.specs.Libraries.{same};
+
+use indexmap::IndexSet;
+use std::alloc::{AllocError, Global};
+use std::marker::Model;
+use uuid::Uuid;
+
+/// Names, each once.
+#[derive(Drop)]
+pub(crate) struct Names {
+    keys: IndexSet<Vec<u8>>,
+}
+
+impl Model for Names {
+    ghost use Rattle.std.specs.Prelude.{List, ℕ, map};
+
+    ghost Value = { List (List ℕ) };
+
+    ghost view = { λ n. map (λ k. k.items) n.keys.keys };
+}
+
+impl Names {
+    pub(crate) fn new(alloc: Global) -> Names
+        ensures { result ≡ [] }
+    {
+        Names {
+            keys: IndexSet::new(alloc),
+        }
+    }
+
+    pub(crate) fn insert(&mut self, name: Vec<u8>) -> Result<bool, AllocError>
+        ensures added { IfOk result (λ b. b ≡ not (list_any (same name.items) self.old)) }
+        ensures keys { OnOk result (self.new ≡ insert_key same self.old name.items) }
+    {
+        Ok(self.keys.insert(name)?)
+    }
+
+    pub(crate) fn place(&self, name: &[u8]) -> Option<usize>
+        ensures { result ≡ position (same name.now) self.now }
+    {
+        self.keys.get_index_of(name)
+    }
+}
+
+/// The DISPIDs of an interface's members, in their order.
+#[derive(Drop)]
+pub(crate) struct Ids {
+    keys: IndexSet<i32>,
+}
+
+impl Model for Ids {
+    ghost use Rattle.std.specs.Prelude.{List, ℤ};
+
+    ghost Value = { List ℤ };
+
+    ghost view = { λ n. n.keys.keys };
+}
+
+impl Ids {
+    pub(crate) fn none(alloc: Global) -> Ids
+        ensures { result ≡ [] }
+    {
+        Ids {
+            keys: IndexSet::new(alloc),
+        }
+    }
+
+    pub(crate) fn from_set(keys: IndexSet<i32>) -> Ids
+        ensures { result ≡ keys.keys }
+    {
+        Ids { keys }
+    }
+
+    pub(crate) fn place(&self, id: i32) -> Option<usize>
+        ensures { result ≡ position (int_eq id) self.now }
+    {
+        self.keys.get_index_of(&id)
+    }
+}
+
+/// The GUIDs of a library's items, in their order.
+#[derive(Drop)]
+pub(crate) struct Guids {
+    keys: IndexSet<Uuid>,
+}
+
+impl Model for Guids {
+    ghost use Rattle.std.specs.Prelude.{List, ℕ};
+
+    ghost Value = { List (List ℕ) };
+
+    ghost view = { λ n. n.keys.keys };
+}
+
+impl Guids {
+    pub(crate) fn from_set(keys: IndexSet<Uuid>) -> Guids
+        ensures { result ≡ keys.keys }
+    {
+        Guids { keys }
+    }
+
+    pub(crate) fn place(&self, guid: &Uuid) -> Option<usize>
+        ensures { result ≡ position (same guid.now) self.now }
+    {
+        self.keys.get_index_of(guid)
+    }
+}

@@ -1,0 +1,28 @@
+-- What a call at a reader answers, from the law of what it reads.
+use Rattle.std.proofs.Common.{◌≡◌, true, false, ◌++◌, List, ℕ, None, Result, Ok, Err, refl, sym, ap, ◌∙◌}
+use Rattle.std.specs.Result.{is_ok}
+use Rattle.oa_ndr.specs.Reading.{Cursor, at, Reading}
+use Rattle.oa_ndr.proofs.Laws.{Reads, Always}
+use Rattle.oa_wire_variant.specs.declared.fault.ReadFault.{ReadFault}
+use Rattle.oa_wire_variant.specs.declared.fault.ReadFault.TheVariants.{BadStub, Memory}
+use Rattle.oa_wire_variant.specs.Reading.{Answers, Stretch, IsFront}
+
+-- where reading takes nothing, no stretch is of the form
+no_front : {A : Type 0} {F : A → ℕ → List ℕ → Type 0} {read : Reading A} → Reads Always F read → (old : Cursor) → read old ≡ None → (x : A) (end : Cursor) → Stretch (F x) old end → ⊥
+no_front {A} {F} {read} r old none x end stretch =
+    let again = r.again old.position stretch.text end.rest x tt stretch.form in
+    let same : read old ≡ read (at old.position (stretch.text ++ end.rest)) = ap (λ (y : List ℕ). read (at old.position y)) stretch.parts in
+    absurd cc
+
+pub front_ok : {A : Type 0} {F : A → ℕ → List ℕ → Type 0} {read : Reading A} → Reads Always F read
+    → (result : Result A ReadFault) (old ahead new : Cursor) → ahead ≡ old → Answers result new (read ahead) → is_ok result ≡ true → IsFront F result old new
+front_ok {A} {F} {read} r (Ok x) old ahead new same h e =
+    let one = (r.takes old.position old.rest x new (ap read (sym same) ∙ h)).1 in
+    record { text = one.text; parts = one.parts; place = one.place; form = one.form }
+front_ok r (Err f) old ahead new same h e = absurd cc
+
+pub front_err : {A : Type 0} {F : A → ℕ → List ℕ → Type 0} {read : Reading A} → Reads Always F read
+    → (result : Result A ReadFault) (old ahead new : Cursor) → ahead ≡ old → Answers result new (read ahead) → is_ok result ≡ false → IsFront F result old old
+front_err r (Ok x) old ahead new same h e = absurd cc
+front_err {A} {F} {read} r (Err BadStub) old ahead new same h e = (no_front r old (ap read (sym same) ∙ h), refl)
+front_err r (Err Memory) old ahead new same h e = refl

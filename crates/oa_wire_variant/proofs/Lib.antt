@@ -1,0 +1,4 @@
+mod TextLaws
+mod ScalarLaws
+mod Fronts
+mod Written

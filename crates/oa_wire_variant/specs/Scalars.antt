@@ -1,0 +1,63 @@
+-- How a scalar lies in bytes: wireVARIANT (MS-OAUT 2.2.29) with the arm of its type. Alignment is NDR's (C706 14.2.2); that CURRENCY, DECIMAL and wireVARIANT
+-- begin at a multiple of 8 is this project's choice.
+use Rattle.std.specs.Prelude.{◌≡◌, ℕ, ℤ, ◌+◌, ◌*◌, ◌^◌, ◌≤◌, ◌==◌, Bool, true, false, not}
+use Rattle.std.specs.Int.{Width, w8, w16, w32, w64, cast_signed}
+use Rattle.oa_ndr.specs.Forms.{Form, ◌▸◌, nothing, align, ignored, unit, with, given}
+use Rattle.oa_model.specs.Types.{vt_of}
+use Rattle.oa_variant.specs.Decimals.{DecimalValue}
+use Rattle.oa_variant.specs.Scalars.{type_of}
+use Rattle.oa_variant.specs.declared.scalar.Scalar.{Scalar}
+use Rattle.oa_variant.specs.declared.scalar.Scalar.TheVariants as scalars
+use Rattle.oa_wire_variant.specs.Texts.{bstr}
+
+-- a signed number of the width w, in n bytes
+abbrev pub signed : ℕ → Width → ℤ → Form
+signed n w z = with (unit n) (λ x. given (z ≡ cast_signed w x))
+
+-- VARIANT_BOOL (MS-OAUT 2.2.27): any number but 0 is true (this project's choice)
+abbrev pub truth : Bool → Form
+truth b = with (unit 2) (λ x. given (b ≡ not (x == 0)))
+
+-- 0x80 for minus
+abbrev pub sign_of : Bool → ℕ
+sign_of false = 0
+sign_of true = 128
+
+abbrev pub sign : Bool → Form
+sign negative = with (unit 1) (λ x. given (x ≡ sign_of negative))
+
+-- DECIMAL (MS-OAUT 2.2.26): a reserved number, scale, sign, Hi32, Lo64
+abbrev pub decimal : DecimalValue → Form
+decimal d =
+    align 8 ▸ ignored 2 ▸ unit 1 d.scale ▸ sign d.negative
+    ▸ with (unit 4) (λ high. with (unit 8) (λ low. given ((d.scale ≤ 28) × (d.magnitude ≡ high * 2 ^ 64 + low))))
+
+-- the arm of the type
+abbrev pub arm : Scalar → Form
+arm scalars.Empty = nothing
+arm scalars.Null = nothing
+arm (scalars.I1 z) = signed 1 w8 z
+arm (scalars.I2 z) = signed 2 w16 z
+arm (scalars.I4 z) = signed 4 w32 z
+arm (scalars.I8 z) = signed 8 w64 z
+arm (scalars.Int z) = signed 4 w32 z
+arm (scalars.Ui1 n) = unit 1 n
+arm (scalars.Ui2 n) = unit 2 n
+arm (scalars.Ui4 n) = unit 4 n
+arm (scalars.Ui8 n) = unit 8 n
+arm (scalars.Uint n) = unit 4 n
+arm (scalars.Cy z) = signed 8 w64 z
+arm (scalars.Bool b) = truth b
+arm (scalars.Error n) = unit 4 n
+arm (scalars.Bstr t) = bstr t
+arm (scalars.Decimal d) = decimal d
+
+-- the number of a scalar's type
+abbrev pub scalar_vt : Scalar → ℕ
+scalar_vt v = vt_of (type_of v)
+
+-- clSize, rpcReserved, vt, three reserved numbers, the discriminant (equal to vt), the arm
+abbrev pub scalar : Scalar → Form
+scalar v =
+    align 8 ▸ ignored 4 ▸ ignored 4 ▸ unit 2 (scalar_vt v) ▸ ignored 2 ▸ ignored 2 ▸ ignored 2
+    ▸ unit 4 (scalar_vt v) ▸ arm v

@@ -1,0 +1,40 @@
+-- How a text lies in bytes, as the pointee of a referent: FLAGGED_WORD_BLOB (MS-OAUT 2.2.23).
+use Rattle.std.specs.Prelude.{◌≡◌, ℕ, ◌+◌, ◌/◌, ◌%◌, ◌≤◌, Bool, true, false, List, length, Option, Some, None}
+use Rattle.oa_ndr.specs.Forms.{Form, ◌▸◌, nothing, unit, exactly, any, with, given, referent}
+use Rattle.oa_bstr.specs.Text.{max_text_bytes}
+
+-- how many 16-bit units n bytes take, an odd last byte taking one of its own
+abbrev pub units : ℕ → ℕ
+units n = (n + 1) / 2
+
+-- cBytes: null is 0xFFFFFFFF
+abbrev pub text_len : Option (List ℕ) → ℕ
+text_len None = 4294967295
+text_len (Some text) = length text
+
+-- the maximum count and clSize
+abbrev pub text_units : Option (List ℕ) → ℕ
+text_units None = 0
+text_units (Some text) = units (length text)
+
+-- an odd last byte is followed by one more; a text has at most 262,144 bytes (this project's choice)
+abbrev pub body : List ℕ → Form
+body text = exactly text ▸ any (length text % 2) ▸ given (length text ≤ max_text_bytes)
+
+-- the bytes behind the three numbers
+abbrev pub text_bytes : Option (List ℕ) → Form
+text_bytes None = nothing
+text_bytes (Some text) = body text
+
+-- the maximum count, cBytes, clSize, the bytes
+abbrev pub blob : Option (List ℕ) → Form
+blob t = unit 4 (text_units t) ▸ unit 4 (text_len t) ▸ unit 4 (text_units t) ▸ text_bytes t
+
+-- what lies behind a referent: a null referent is the null text
+abbrev pub pointee : Bool → Option (List ℕ) → Form
+pointee true t = blob t
+pointee false t = given (t ≡ None)
+
+-- a referent and its pointee
+abbrev pub bstr : Option (List ℕ) → Form
+bstr t = with referent (λ is_set. pointee is_set t)

@@ -1,0 +1,21 @@
+//! Laws of the definitions, each the contract of a function with an empty body.
+
+ghost use Rattle.std.specs.Prelude.{◌≡◌, ℕ, List, [], ◌++◌};
+ghost use Rattle.oa_variant.specs.declared.variant.Variant.{Variant};
+ghost use Rattle.oa_wire_variant.specs.Variants.{Spells, IsValue};
+ghost use Rattle.oa_wire_variant.specs.Canon.{canon};
+
+/// No bytes spell two values.
+pub fn one_value()
+    ensures { (bytes : List ℕ) (v w : Variant) → Spells bytes v → Spells bytes w → v ≡ w }
+{}
+
+/// What is written is a spelling.
+pub fn canon_spells()
+    ensures { (v : Variant) → IsValue v → Spells (canon v) v }
+{}
+
+/// No spelling is a proper prefix of another.
+pub fn no_proper_prefix()
+    ensures { (bytes rest : List ℕ) (v w : Variant) → Spells bytes v → Spells (bytes ++ rest) w → rest ≡ [] }
+{}

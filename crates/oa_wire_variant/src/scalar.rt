@@ -1,0 +1,234 @@
+//! Scalars.
+
+ghost use Rattle.std.specs.Prelude.{◌≡◌, ◌≤◌, ◌<◌, OnOk, OnErr};
+ghost use Rattle.oa_model.specs.Types.{vt_of};
+ghost use Rattle.oa_ndr.specs.Writing.{within};
+ghost use Rattle.oa_wire_variant.specs.Scalars.{scalar};
+ghost use Rattle.oa_wire_variant.specs.Reading.{
+  Answers,
+  IsFront,
+  truth_at,
+  sign_at,
+  decimal_at,
+  arm_at,
+  typed_at,
+  scalar_at,
+};
+ghost use Rattle.oa_wire_variant.specs.Canon.{
+  put_truth,
+  put_decimal,
+  put_arm,
+  put_sized,
+  put_scalar,
+  scalar_len,
+};
+
+use crate::fault::ReadFault;
+use crate::text::{bstr, write_bstr};
+use oa_model::VarType;
+use oa_ndr::{Ndr, NdrOut};
+use oa_variant::{Decimal, Scalar};
+use std::alloc::{AllocError, Global};
+
+#[tactic(auto, unfolding(oa_ndr::specs::Reading::bind, oa_ndr::specs::Reading::give, crate::specs::Reading::truth_at))]
+fn truth(r: &mut Ndr<'_>) -> Result<bool, ReadFault>
+    ensures { Answers result r.new (truth_at r.old) }
+{
+    Ok(r.u16()? != 0)
+}
+
+#[tactic(auto, unfolding(oa_ndr::specs::Reading::bind, oa_ndr::specs::Reading::give, oa_ndr::specs::Reading::choose, oa_ndr::specs::Reading::fail, crate::specs::Reading::sign_at))]
+fn sign(r: &mut Ndr<'_>) -> Result<bool, ReadFault>
+    ensures { Answers result r.new (sign_at r.old) }
+{
+    match r.u8()? {
+        0 => Ok(false),
+        0x80 => Ok(true),
+        _ => Err(ReadFault::BadStub),
+    }
+}
+
+#[tactic(auto, unfolding(oa_ndr::specs::Reading::bind, oa_ndr::specs::Reading::give, oa_ndr::specs::Reading::choose, oa_ndr::specs::Reading::fail, crate::specs::Reading::decimal_at))]
+fn decimal(r: &mut Ndr<'_>) -> Result<Decimal, ReadFault>
+    ensures { Answers result r.new (decimal_at r.old) }
+{
+    r.align(8)?;
+    r.u16()?;
+    let scale = r.u8()?;
+    let negative = sign(r)?;
+    let high = r.u32()?;
+    let low = r.u64()?;
+    if scale > 28 {
+        return Err(ReadFault::BadStub);
+    }
+    let magnitude = high as u128 * 0x1_0000_0000_0000_0000 + low as u128;
+    Ok(Decimal::new(negative, scale, magnitude))
+}
+
+// The arm of a type.
+#[tactic(auto, unfolding(oa_ndr::specs::Reading::bind, oa_ndr::specs::Reading::give, oa_ndr::specs::Reading::fail, crate::specs::Reading::arm_at, crate::specs::Reading::signed_at))]
+fn arm(alloc: Global, var_type: VarType, r: &mut Ndr<'_>) -> Result<Scalar, ReadFault>
+    ensures { Answers result r.new (arm_at var_type r.old) }
+{
+    Ok(match var_type {
+        VarType::Empty => Scalar::Empty,
+        VarType::Null => Scalar::Null,
+        VarType::I1 => Scalar::I1(r.u8()?.cast_signed()),
+        VarType::I2 => Scalar::I2(r.u16()?.cast_signed()),
+        VarType::I4 => Scalar::I4(r.u32()?.cast_signed()),
+        VarType::I8 => Scalar::I8(r.u64()?.cast_signed()),
+        VarType::Int => Scalar::Int(r.u32()?.cast_signed()),
+        VarType::Ui1 => Scalar::Ui1(r.u8()?),
+        VarType::Ui2 => Scalar::Ui2(r.u16()?),
+        VarType::Ui4 => Scalar::Ui4(r.u32()?),
+        VarType::Ui8 => Scalar::Ui8(r.u64()?),
+        VarType::Uint => Scalar::Uint(r.u32()?),
+        VarType::Cy => Scalar::Cy(r.u64()?.cast_signed()),
+        VarType::Bool => Scalar::Bool(truth(r)?),
+        VarType::Error => Scalar::Error(r.u32()?),
+        VarType::Bstr => Scalar::Bstr(bstr(alloc, r)?),
+        VarType::Decimal => Scalar::Decimal(decimal(r)?),
+        VarType::Variant => return Err(ReadFault::BadStub),
+    })
+}
+
+// What stands behind the number of the type.
+#[tactic(auto, unfolding(oa_ndr::specs::Reading::bind, oa_ndr::specs::Reading::choose, oa_ndr::specs::Reading::fail, crate::specs::Reading::arm_of, crate::specs::Reading::typed_at))]
+fn typed(alloc: Global, vt: u16, r: &mut Ndr<'_>) -> Result<Scalar, ReadFault>
+    ensures { Answers result r.new (typed_at vt r.old) }
+{
+    r.u16()?;
+    r.u16()?;
+    r.u16()?;
+    let discriminant = r.u32()?;
+    if discriminant != vt as u32 {
+        return Err(ReadFault::BadStub);
+    }
+    match VarType::from_vt(vt) {
+        Some(var_type) => arm(alloc, var_type, r),
+        None => Err(ReadFault::BadStub),
+    }
+}
+
+#[tactic(auto, unfolding(oa_ndr::specs::Reading::bind, crate::specs::Reading::scalar_at))]
+pub(crate) fn scalar(alloc: Global, r: &mut Ndr<'_>) -> Result<Scalar, ReadFault>
+    ensures { Answers result r.new (scalar_at r.old) }
+{
+    r.align(8)?;
+    r.u32()?;
+    r.u32()?;
+    let vt = r.u16()?;
+    typed(alloc, vt, r)
+}
+
+/// Reads a wireVARIANT without VT_ARRAY at the next multiple of 8, with its pointee
+/// (MS-OAUT 2.2.29): clSize at its first byte, vt at 8, the discriminant at 16, the arm from 20
+/// on. clSize and reserved numbers are not looked at.
+///
+/// `BadStub` where no bytes from the reader on spell a scalar. At an error the reader is as it was.
+pub fn read_scalar(alloc: Global, r: &mut Ndr<'_>) -> Result<Scalar, ReadFault>
+    ensures exact { IsFront scalar result r.old r.new }
+{
+    let mut ahead = r.fork();
+    let answer = scalar(alloc, &mut ahead);
+    if answer.is_ok() {
+        *r = ahead;
+    }
+    answer
+}
+
+fn write_truth(out: &mut NdrOut, truth: bool) -> Result<(), AllocError>
+    ensures ok { OnOk result (out.new ≡ within (put_truth truth) out.old) }
+    ensures before { out.new.before ≡ out.old.before }
+{
+    out.u16(if truth { 0xFFFF } else { 0 })
+}
+
+fn write_decimal(out: &mut NdrOut, decimal: &Decimal) -> Result<(), AllocError>
+    ensures ok { OnOk result (out.new ≡ within (put_decimal decimal.now) out.old) }
+    ensures before { out.new.before ≡ out.old.before }
+{
+    let magnitude = decimal.magnitude();
+    out.align(8)?;
+    out.u16(0)?;
+    out.u8(decimal.scale())?;
+    out.u8(if decimal.is_negative() { 0x80 } else { 0 })?;
+    out.u32((magnitude / 0x1_0000_0000_0000_0000) as u32)?;
+    out.u64((magnitude % 0x1_0000_0000_0000_0000) as u64)
+}
+
+fn write_arm(out: &mut NdrOut, value: &Scalar) -> Result<(), AllocError>
+    ensures ok { OnOk result (out.new ≡ within (put_arm value.now) out.old) }
+    ensures before { out.new.before ≡ out.old.before }
+{
+    match value {
+        Scalar::Empty => Ok(()),
+        Scalar::Null => Ok(()),
+        Scalar::I1(z) => out.u8(z.cast_unsigned()),
+        Scalar::I2(z) => out.u16(z.cast_unsigned()),
+        Scalar::I4(z) => out.u32(z.cast_unsigned()),
+        Scalar::I8(z) => out.u64(z.cast_unsigned()),
+        Scalar::Int(z) => out.u32(z.cast_unsigned()),
+        Scalar::Ui1(n) => out.u8(*n),
+        Scalar::Ui2(n) => out.u16(*n),
+        Scalar::Ui4(n) => out.u32(*n),
+        Scalar::Ui8(n) => out.u64(*n),
+        Scalar::Uint(n) => out.u32(*n),
+        Scalar::Cy(z) => out.u64(z.cast_unsigned()),
+        Scalar::Bool(b) => write_truth(out, *b),
+        Scalar::Error(code) => out.u32(*code),
+        Scalar::Bstr(text) => write_bstr(out, text),
+        Scalar::Decimal(decimal) => write_decimal(out, decimal),
+    }
+}
+
+fn write_sized(out: &mut NdrOut, size: u32, value: &Scalar) -> Result<(), AllocError>
+    ensures ok { OnOk result (out.new ≡ within (put_sized size value.now) out.old) }
+    ensures before { out.new.before ≡ out.old.before }
+{
+    let vt = value.var_type().vt();
+    out.align(8)?;
+    out.u32(size)?;
+    out.u32(0)?;
+    out.u16(vt)?;
+    out.u16(0)?;
+    out.u16(0)?;
+    out.u16(0)?;
+    out.u32(vt as u32)?;
+    write_arm(out, value)
+}
+
+/// How many bytes a scalar takes, from its first byte to the last of its pointee.
+#[tactic(auto, unfolding(crate::specs::Canon::scalar_len))]
+pub(crate) fn scalar_len(value: &Scalar) -> usize
+    ensures value { result ≡ scalar_len value.now }
+    ensures small { result ≤ 262180 }
+{
+    match value {
+        Scalar::Empty | Scalar::Null => 20,
+        Scalar::I1(_) | Scalar::Ui1(_) => 21,
+        Scalar::I2(_) | Scalar::Ui2(_) | Scalar::Bool(_) => 22,
+        Scalar::I4(_) | Scalar::Ui4(_) | Scalar::Int(_) | Scalar::Uint(_) | Scalar::Error(_) => 24,
+        Scalar::I8(_) | Scalar::Ui8(_) | Scalar::Cy(_) => 32,
+        Scalar::Decimal(_) => 40,
+        Scalar::Bstr(text) => {
+            if text.is_null() {
+                return 24;
+            }
+            let len = text.as_bytes().len();
+            36 + len + len % 2
+        }
+    }
+}
+
+/// Writes a wireVARIANT without VT_ARRAY at the next multiple of 8, with its pointee (see
+/// `read_scalar`). clSize is the number of its bytes, in units of 8, rounded up.
+///
+/// Where memory is refused, what stood before the field is as it was, and the field is unfinished.
+pub fn write_scalar(out: &mut NdrOut, value: &Scalar) -> Result<(), AllocError>
+    ensures ok { OnOk result (out.new ≡ within (put_scalar value.now) out.old) }
+    ensures before { out.new.before ≡ out.old.before }
+{
+    let size = (scalar_len(value) + 7) / 8 % 0x1_0000_0000;
+    write_sized(out, size as u32, value)
+}

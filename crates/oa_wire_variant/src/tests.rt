@@ -1,0 +1,345 @@
+use super::*;
+use oa_bstr::Bstr;
+use oa_ndr::{Ndr, NdrOut};
+use oa_variant::{Decimal, Scalar, Variant};
+use std::alloc::Global;
+use std::process::Abort;
+use std::test::*;
+
+// The first 20 bytes of a field: clSize, the reserved number, vt and three reserved numbers, the discriminant.
+const EMPTY: [u8; 20] = [3, 0, 0, 0, 0, 0, 0, 0, 0, 0, 0, 0, 0, 0, 0, 0, 0, 0, 0, 0];
+
+const NULL: [u8; 20] = [3, 0, 0, 0, 0, 0, 0, 0, 1, 0, 0, 0, 0, 0, 0, 0, 1, 0, 0, 0];
+
+const MINUS_TWO_I1: [u8; 21] = [
+    3, 0, 0, 0, 0, 0, 0, 0, 16, 0, 0, 0, 0, 0, 0, 0, 16, 0, 0, 0, 0xFE,
+];
+
+const BYTE_254: [u8; 21] = [
+    3, 0, 0, 0, 0, 0, 0, 0, 17, 0, 0, 0, 0, 0, 0, 0, 17, 0, 0, 0, 0xFE,
+];
+
+const SEVEN_I2: [u8; 22] = [
+    3, 0, 0, 0, 0, 0, 0, 0, 2, 0, 0, 0, 0, 0, 0, 0, 2, 0, 0, 0, 7, 0,
+];
+
+const MINUS_TWO_I2: [u8; 22] = [
+    3, 0, 0, 0, 0, 0, 0, 0, 2, 0, 0, 0, 0, 0, 0, 0, 2, 0, 0, 0, 0xFE, 0xFF,
+];
+
+const UI2_65534: [u8; 22] = [
+    3, 0, 0, 0, 0, 0, 0, 0, 18, 0, 0, 0, 0, 0, 0, 0, 18, 0, 0, 0, 0xFE, 0xFF,
+];
+
+const SEVEN: [u8; 24] = [
+    3, 0, 0, 0, 0, 0, 0, 0, 3, 0, 0, 0, 0, 0, 0, 0, 3, 0, 0, 0, 7, 0, 0, 0,
+];
+
+const MINUS_TWO_I4: [u8; 24] = [
+    3, 0, 0, 0, 0, 0, 0, 0, 3, 0, 0, 0, 0, 0, 0, 0, 3, 0, 0, 0, 0xFE, 0xFF, 0xFF, 0xFF,
+];
+
+const UI4_MINUS_TWO: [u8; 24] = [
+    3, 0, 0, 0, 0, 0, 0, 0, 19, 0, 0, 0, 0, 0, 0, 0, 19, 0, 0, 0, 0xFE, 0xFF, 0xFF, 0xFF,
+];
+
+const MINUS_TWO_INT: [u8; 24] = [
+    3, 0, 0, 0, 0, 0, 0, 0, 22, 0, 0, 0, 0, 0, 0, 0, 22, 0, 0, 0, 0xFE, 0xFF, 0xFF, 0xFF,
+];
+
+const UINT_MINUS_TWO: [u8; 24] = [
+    3, 0, 0, 0, 0, 0, 0, 0, 23, 0, 0, 0, 0, 0, 0, 0, 23, 0, 0, 0, 0xFE, 0xFF, 0xFF, 0xFF,
+];
+
+const ERROR_MISSING: [u8; 24] = [
+    3, 0, 0, 0, 0, 0, 0, 0, 10, 0, 0, 0, 0, 0, 0, 0, 10, 0, 0, 0, 4, 0, 2, 0x80,
+];
+
+const MINUS_TWO_I8: [u8; 32] = [
+    4, 0, 0, 0, 0, 0, 0, 0, 20, 0, 0, 0, 0, 0, 0, 0, 20, 0, 0, 0, 0, 0, 0, 0, 0xFE, 0xFF, 0xFF,
+    0xFF, 0xFF, 0xFF, 0xFF, 0xFF,
+];
+
+const UI8_MINUS_TWO: [u8; 32] = [
+    4, 0, 0, 0, 0, 0, 0, 0, 21, 0, 0, 0, 0, 0, 0, 0, 21, 0, 0, 0, 0, 0, 0, 0, 0xFE, 0xFF, 0xFF,
+    0xFF, 0xFF, 0xFF, 0xFF, 0xFF,
+];
+
+const CY_25000: [u8; 32] = [
+    4, 0, 0, 0, 0, 0, 0, 0, 6, 0, 0, 0, 0, 0, 0, 0, 6, 0, 0, 0, 0, 0, 0, 0, 0xA8, 0x61, 0, 0, 0, 0,
+    0, 0,
+];
+
+const TRUE: [u8; 22] = [
+    3, 0, 0, 0, 0, 0, 0, 0, 11, 0, 0, 0, 0, 0, 0, 0, 11, 0, 0, 0, 0xFF, 0xFF,
+];
+
+const FALSE: [u8; 22] = [
+    3, 0, 0, 0, 0, 0, 0, 0, 11, 0, 0, 0, 0, 0, 0, 0, 11, 0, 0, 0, 0, 0,
+];
+
+// The magnitude 2^96 - 1 at the scale 28.
+const DECIMAL: [u8; 40] = [
+    5, 0, 0, 0, 0, 0, 0, 0, 14, 0, 0, 0, 0, 0, 0, 0, 14, 0, 0, 0, 0, 0, 0, 0, 0, 0, 28, 0, 0xFF,
+    0xFF, 0xFF, 0xFF, 0xFF, 0xFF, 0xFF, 0xFF, 0xFF, 0xFF, 0xFF, 0xFF,
+];
+
+const NULL_TEXT: [u8; 24] = [
+    3, 0, 0, 0, 0, 0, 0, 0, 8, 0, 0, 0, 0, 0, 0, 0, 8, 0, 0, 0, 0, 0, 0, 0,
+];
+
+const EMPTY_TEXT: [u8; 36] = [
+    5, 0, 0, 0, 0, 0, 0, 0, 8, 0, 0, 0, 0, 0, 0, 0, 8, 0, 0, 0, 0, 0, 2, 0, 0, 0, 0, 0, 0, 0, 0, 0,
+    0, 0, 0, 0,
+];
+
+const HI: [u8; 40] = [
+    5, 0, 0, 0, 0, 0, 0, 0, 8, 0, 0, 0, 0, 0, 0, 0, 8, 0, 0, 0, 0, 0, 2, 0, 2, 0, 0, 0, 4, 0, 0, 0,
+    2, 0, 0, 0, 0x48, 0, 0x69, 0,
+];
+
+const THREE_BYTES: [u8; 40] = [
+    5, 0, 0, 0, 0, 0, 0, 0, 8, 0, 0, 0, 0, 0, 0, 0, 8, 0, 0, 0, 0, 0, 2, 0, 2, 0, 0, 0, 3, 0, 0, 0,
+    2, 0, 0, 0, 0x41, 0, 0x42, 0,
+];
+
+// Writes a value behind three bytes, compares the field, and reads it back.
+fn there_and_back(rt: &impl Abort, alloc: Global, value: Scalar, field: &[u8]) -> Result<(), Fail> {
+    let value = Variant::One(value);
+    assert_eq!(rt; wire_len(&value), field.len());
+    let mut out = Vec::new(alloc);
+    out.extend_from_slice(&[7, 7, 7])?;
+    write_variant(&value, &mut out)?;
+    assert_eq!(rt; &out[3..], field);
+    assert_eq!(rt; read_variant(alloc, field).ok(), Some(value));
+    Ok(())
+}
+
+#[test]
+fn fields_of_numbers(rt: HostRuntime) -> Result<(), Fail> {
+    there_and_back(&rt, rt.alloc(), Scalar::Empty, &EMPTY)?;
+    there_and_back(&rt, rt.alloc(), Scalar::Null, &NULL)?;
+    there_and_back(&rt, rt.alloc(), Scalar::I1(-2), &MINUS_TWO_I1)?;
+    there_and_back(&rt, rt.alloc(), Scalar::Ui1(254), &BYTE_254)?;
+    there_and_back(&rt, rt.alloc(), Scalar::I2(7), &SEVEN_I2)?;
+    there_and_back(&rt, rt.alloc(), Scalar::I2(-2), &MINUS_TWO_I2)?;
+    there_and_back(&rt, rt.alloc(), Scalar::Ui2(65_534), &UI2_65534)?;
+    there_and_back(&rt, rt.alloc(), Scalar::I4(7), &SEVEN)?;
+    there_and_back(&rt, rt.alloc(), Scalar::I4(-2), &MINUS_TWO_I4)?;
+    there_and_back(&rt, rt.alloc(), Scalar::Ui4(4_294_967_294), &UI4_MINUS_TWO)?;
+    there_and_back(&rt, rt.alloc(), Scalar::Int(-2), &MINUS_TWO_INT)?;
+    there_and_back(
+        &rt,
+        rt.alloc(),
+        Scalar::Uint(4_294_967_294),
+        &UINT_MINUS_TWO,
+    )?;
+    there_and_back(&rt, rt.alloc(), Scalar::Error(0x8002_0004), &ERROR_MISSING)?;
+    there_and_back(&rt, rt.alloc(), Scalar::I8(-2), &MINUS_TWO_I8)
+}
+
+#[test]
+fn fields_of_other_scalars(rt: HostRuntime) -> Result<(), Fail> {
+    there_and_back(
+        &rt,
+        rt.alloc(),
+        Scalar::Ui8(0xFFFF_FFFF_FFFF_FFFE),
+        &UI8_MINUS_TWO,
+    )?;
+    there_and_back(&rt, rt.alloc(), Scalar::Cy(25_000), &CY_25000)?;
+    there_and_back(&rt, rt.alloc(), Scalar::Bool(true), &TRUE)?;
+    there_and_back(&rt, rt.alloc(), Scalar::Bool(false), &FALSE)?;
+    let greatest = Decimal::new(false, 28, 0xFFFF_FFFF_FFFF_FFFF_FFFF_FFFF);
+    there_and_back(&rt, rt.alloc(), Scalar::Decimal(greatest), &DECIMAL)?;
+    let mut negative = DECIMAL;
+    negative[27] = 0x80;
+    let lowest = Decimal::new(true, 28, 0xFFFF_FFFF_FFFF_FFFF_FFFF_FFFF);
+    there_and_back(&rt, rt.alloc(), Scalar::Decimal(lowest), &negative)?;
+    there_and_back(&rt, rt.alloc(), Scalar::Bstr(Bstr::null()), &NULL_TEXT)?;
+    let empty = Bstr::from_bytes(rt.alloc(), &[])?;
+    there_and_back(&rt, rt.alloc(), Scalar::Bstr(empty), &EMPTY_TEXT)?;
+    let hi = Bstr::from_bytes(rt.alloc(), b"H\0i\0")?;
+    there_and_back(&rt, rt.alloc(), Scalar::Bstr(hi), &HI)?;
+    let three = Bstr::from_bytes(rt.alloc(), b"A\0B")?;
+    there_and_back(&rt, rt.alloc(), Scalar::Bstr(three), &THREE_BYTES)
+}
+
+#[test]
+fn longest_text(rt: HostRuntime) -> Result<(), Fail> {
+    let bytes = vec![in rt.alloc(); 0x61u8; 262_144]?;
+    let value = Variant::One(Scalar::Bstr(Bstr::from_bytes(rt.alloc(), &bytes)?));
+    assert_eq!(rt; wire_len(&value), 262_180);
+    let mut field = Vec::new(rt.alloc());
+    write_variant(&value, &mut field)?;
+    assert_eq!(rt; field.len(), 262_180);
+    assert_eq!(rt; &field[..4], [0x05, 0x80, 0, 0].as_slice());
+    assert_eq!(rt;
+        &field[24..36],
+        [0, 0, 2, 0, 0, 0, 4, 0, 0, 0, 2, 0].as_slice()
+    );
+    assert_eq!(rt; read_variant(rt.alloc(), &field).ok(), Some(value));
+    // one byte more
+    field[24] = 1;
+    field[28] = 1;
+    field[32] = 1;
+    field.extend_from_slice(&[0x61, 0])?;
+    assert_eq!(rt;
+        read_variant(rt.alloc(), &field).err(),
+        Some(WireFault::BadStub)
+    );
+    Ok(())
+}
+
+// What reading a field with some bytes changed answers.
+fn changed(
+    alloc: Global,
+    field: &[u8],
+    changes: &[(usize, u8)],
+) -> Result<Result<Variant, WireFault>, Fail> {
+    let mut bytes = Vec::from_slice(alloc, field)?;
+    for (at, byte) in changes {
+        if *at < bytes.len() {
+            bytes[*at] = *byte;
+        }
+    }
+    Ok(read_variant(alloc, &bytes))
+}
+
+#[test]
+fn ignored_parts_and_choices(rt: HostRuntime) -> Result<(), Fail> {
+    let header = [(0, 0xFF), (3, 0xFF), (4, 9), (10, 1), (12, 2), (15, 3)];
+    let seven = Variant::One(Scalar::I4(7));
+    assert_eq!(rt; changed(rt.alloc(), &SEVEN, &header)?.ok(), Some(seven));
+    // the padding before the number, and the reserved number of a DECIMAL
+    let cy = Variant::One(Scalar::Cy(25_000));
+    assert_eq!(rt;
+        changed(rt.alloc(), &CY_25000, &[(20, 1), (23, 1)])?.ok(),
+        Some(cy)
+    );
+    let greatest = Decimal::new(false, 28, 0xFFFF_FFFF_FFFF_FFFF_FFFF_FFFF);
+    let decimal = Variant::One(Scalar::Decimal(greatest));
+    assert_eq!(rt;
+        changed(rt.alloc(), &DECIMAL, &[(21, 1), (24, 1), (25, 1)])?.ok(),
+        Some(decimal)
+    );
+    // any number but 0 is true
+    let truth = Variant::One(Scalar::Bool(true));
+    assert_eq!(rt; changed(rt.alloc(), &FALSE, &[(20, 1)])?.ok(), Some(truth));
+    // another referent, and another byte behind an odd text
+    let three = Variant::One(Scalar::Bstr(Bstr::from_bytes(rt.alloc(), b"A\0B")?));
+    assert_eq!(rt;
+        changed(rt.alloc(), &THREE_BYTES, &[(20, 1), (39, 9)])?.ok(),
+        Some(three)
+    );
+    // the null text with a referent
+    let null = Variant::One(Scalar::Bstr(Bstr::null()));
+    let ones = [(28, 0xFF), (29, 0xFF), (30, 0xFF), (31, 0xFF)];
+    assert_eq!(rt; changed(rt.alloc(), &EMPTY_TEXT, &ones)?.ok(), Some(null));
+    Ok(())
+}
+
+#[test]
+fn faults_of_fields(rt: HostRuntime) -> Result<(), Fail> {
+    let stub: [(&[u8], &[(usize, u8)]); 9] = [
+        // clSize 3 of a text of 4 bytes, and a maximum count of 3
+        (&HI, &[(32, 3)]),
+        (&HI, &[(24, 3)]),
+        (&HI, &[(28, 5)]),
+        // the null text with a count of units
+        (
+            &EMPTY_TEXT,
+            &[(24, 1), (28, 0xFF), (29, 0xFF), (30, 0xFF), (31, 0xFF)],
+        ),
+        (&DECIMAL, &[(26, 29)]),
+        (&DECIMAL, &[(27, 1)]),
+        // a discriminant that is not vt
+        (&SEVEN, &[(16, 22)]),
+        (&SEVEN, &[(18, 1)]),
+        // a null referent with bytes left over
+        (&HI, &[(22, 0)]),
+    ];
+    for (field, changes) in &stub {
+        assert_eq!(rt;
+            changed(rt.alloc(), *field, *changes)?.err(),
+            Some(WireFault::BadStub)
+        );
+    }
+    // vt 5, 12, 0x2003, 0x2000 and 0x4003
+    let no_type: [&[(usize, u8)]; 5] = [
+        &[(8, 5), (16, 5)],
+        &[(8, 12), (16, 12)],
+        &[(9, 0x20)],
+        &[(8, 0), (9, 0x20)],
+        &[(9, 0x40)],
+    ];
+    for changes in &no_type {
+        assert_eq!(rt;
+            changed(rt.alloc(), &SEVEN, *changes)?.err(),
+            Some(WireFault::BadVarType)
+        );
+        assert_eq!(rt;
+            changed(rt.alloc(), &SEVEN[..20], *changes)?.err(),
+            Some(WireFault::BadVarType)
+        );
+        assert_eq!(rt;
+            changed(rt.alloc(), &SEVEN[..19], *changes)?.err(),
+            Some(WireFault::BadStub)
+        );
+    }
+    for len in 0..40 {
+        assert_eq!(rt;
+            changed(rt.alloc(), &HI[..len], &[])?.err(),
+            Some(WireFault::BadStub)
+        );
+        assert_eq!(rt;
+            changed(rt.alloc(), &DECIMAL[..len], &[])?.err(),
+            Some(WireFault::BadStub)
+        );
+    }
+    // bytes left over, and a third unit with clSize 3 and a maximum count of 3
+    let mut longer = Vec::from_slice(rt.alloc(), &HI)?;
+    longer.extend_from_slice(&[0, 0])?;
+    assert_eq!(rt;
+        changed(rt.alloc(), &longer, &[])?.err(),
+        Some(WireFault::BadStub)
+    );
+    assert_eq!(rt;
+        changed(rt.alloc(), &longer, &[(24, 3), (32, 3)])?.err(),
+        Some(WireFault::BadStub)
+    );
+    Ok(())
+}
+
+// A byte, the I2 7 at the next multiple of 8, the text "Hi" without its referent, the null text.
+const PARTS: [u8; 60] = [
+    1, 0, 0, 0, 0, 0, 0, 0, 3, 0, 0, 0, 0, 0, 0, 0, 2, 0, 0, 0, 0, 0, 0, 0, 2, 0, 0, 0, 7, 0, 0, 0,
+    2, 0, 0, 0, 4, 0, 0, 0, 2, 0, 0, 0, 0x48, 0, 0x69, 0, 0, 0, 0, 0, 0xFF, 0xFF, 0xFF, 0xFF, 0, 0,
+    0, 0,
+];
+
+#[test]
+fn parts_are_written(rt: HostRuntime) -> Result<(), Fail> {
+    let mut out = NdrOut::new(Vec::new(rt.alloc()));
+    out.u8(1)?;
+    write_scalar(&mut out, &Scalar::I2(7))?;
+    write_text(&mut out, &Bstr::from_bytes(rt.alloc(), b"H\0i\0")?)?;
+    write_text(&mut out, &Bstr::null())?;
+    assert_eq!(rt; out.written(), PARTS.as_slice());
+    Ok(())
+}
+
+#[test]
+fn parts_are_read(rt: HostRuntime) -> Result<(), Fail> {
+    let mut reader = Ndr::new(&PARTS);
+    assert!(rt; read_text(rt.alloc(), &mut reader).is_err());
+    assert_eq!(rt; reader.u8().ok(), Some(1));
+    let seven = read_scalar(rt.alloc(), &mut reader)?;
+    assert_eq!(rt; seven, Scalar::I2(7));
+    assert!(rt; read_scalar(rt.alloc(), &mut reader).is_err());
+    assert_eq!(rt; reader.position(), 30);
+    let hi = read_text(rt.alloc(), &mut reader)?;
+    assert_eq!(rt; hi.as_bytes(), b"H\0i\0".as_slice());
+    assert!(rt; read_text(rt.alloc(), &mut reader)?.is_null());
+    assert_eq!(rt; reader.rest().len(), 0);
+    Ok(())
+}

@@ -1,0 +1,118 @@
+//! Texts as pointees.
+
+ghost use Rattle.std.specs.Prelude.{◌≡◌, ◌≤◌, ◌<◌, ◌++◌, OnOk, OnErr};
+ghost use Rattle.oa_bstr.specs.Text.{max_text_bytes};
+ghost use Rattle.oa_ndr.specs.Writing.{within};
+ghost use Rattle.oa_wire_variant.specs.Texts.{units, blob};
+ghost use Rattle.oa_wire_variant.specs.Reading.{Answers, IsFront, text_at, blob_at, bstr_at};
+ghost use Rattle.oa_wire_variant.specs.Canon.{put_blob, put_bstr};
+
+use crate::fault::ReadFault;
+use oa_bstr::Bstr;
+use oa_model::MAX_TEXT_BYTES;
+use oa_ndr::{Ndr, NdrOut};
+use std::alloc::{AllocError, Global};
+
+// What cBytes holds for the null text.
+const NULL_TEXT: u32 = 0xFFFF_FFFF;
+
+// How many 16-bit units n bytes take.
+fn units(n: u32) -> u32
+    ensures { result ≡ units n }
+{
+    n / 2 + n % 2
+}
+
+// The bytes behind the three numbers.
+#[tactic(auto, unfolding(oa_ndr::specs::Reading::bind, oa_ndr::specs::Reading::give, crate::specs::Reading::body_at, crate::specs::Reading::text_at))]
+fn text(alloc: Global, len: u32, r: &mut Ndr<'_>) -> Result<Bstr, ReadFault>
+    ensures { Answers result r.new (text_at len r.old) }
+{
+    let bytes = r.bytes(len as usize)?;
+    r.bytes(len as usize % 2)?;
+    match Bstr::from_bytes(alloc, bytes) {
+        Ok(text) => Ok(text),
+        Err(_) => Err(ReadFault::Memory),
+    }
+}
+
+// The maximum count, cBytes, clSize and the bytes.
+#[tactic(auto, unfolding(oa_ndr::specs::Reading::bind, oa_ndr::specs::Reading::give, oa_ndr::specs::Reading::choose, oa_ndr::specs::Reading::fail, crate::specs::Reading::blob_at))]
+fn blob(alloc: Global, r: &mut Ndr<'_>) -> Result<Bstr, ReadFault>
+    ensures { Answers result r.new (blob_at r.old) }
+{
+    let maximum = r.u32()?;
+    let len = r.u32()?;
+    let size = r.u32()?;
+    if len == NULL_TEXT {
+        if maximum == 0 && size == 0 {
+            return Ok(Bstr::null());
+        }
+        return Err(ReadFault::BadStub);
+    }
+    if maximum == units(len) && size == units(len) && len <= MAX_TEXT_BYTES {
+        return text(alloc, len, r);
+    }
+    Err(ReadFault::BadStub)
+}
+
+// A referent and its pointee.
+#[tactic(auto, unfolding(oa_ndr::specs::Reading::bind, oa_ndr::specs::Reading::give, oa_ndr::specs::Reading::choose, crate::specs::Reading::bstr_at))]
+pub(crate) fn bstr(alloc: Global, r: &mut Ndr<'_>) -> Result<Bstr, ReadFault>
+    ensures { Answers result r.new (bstr_at r.old) }
+{
+    if r.referent()? {
+        return blob(alloc, r);
+    }
+    Ok(Bstr::null())
+}
+
+/// Reads a text at the reader's place, as it stands behind its referent: FLAGGED_WORD_BLOB
+/// (MS-OAUT 2.2.23), from the maximum count on.
+///
+/// `BadStub` where the bytes end too early, where the maximum count or clSize is not cBytes / 2
+/// rounded up, or where the text has more than 262,144 bytes. At an error the reader is as it was.
+pub fn read_text(alloc: Global, r: &mut Ndr<'_>) -> Result<Bstr, ReadFault>
+    ensures exact { IsFront blob result r.old r.new }
+{
+    let mut ahead = r.fork();
+    let answer = blob(alloc, &mut ahead);
+    if answer.is_ok() {
+        *r = ahead;
+    }
+    answer
+}
+
+/// Writes a text as it stands behind its referent (see `read_text`): the null text as the count
+/// 0xFFFFFFFF, an odd last byte with a 0 behind it.
+///
+/// Where memory is refused, what stood before the field is as it was, and the field is unfinished.
+pub fn write_text(out: &mut NdrOut, text: &Bstr) -> Result<(), AllocError>
+    ensures ok { OnOk result (out.new ≡ within (put_blob text.now) out.old) }
+    ensures before { out.new.before ≡ out.old.before }
+{
+    if text.is_null() {
+        out.u32(0)?;
+        out.u32(NULL_TEXT)?;
+        return out.u32(0);
+    }
+    let bytes = text.as_bytes();
+    let len = text.byte_len();
+    out.u32(units(len))?;
+    out.u32(len)?;
+    out.u32(units(len))?;
+    out.bytes(bytes)?;
+    out.zeros(len as usize % 2)
+}
+
+// A referent and its pointee; the null text is a null referent.
+pub(crate) fn write_bstr(out: &mut NdrOut, text: &Bstr) -> Result<(), AllocError>
+    ensures ok { OnOk result (out.new ≡ within (put_bstr text.now) out.old) }
+    ensures before { out.new.before ≡ out.old.before }
+{
+    if text.is_null() {
+        return out.referent(false);
+    }
+    out.referent(true)?;
+    write_text(out, text)
+}

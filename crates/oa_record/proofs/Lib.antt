@@ -1,0 +1,5 @@
+mod Header
+mod Judged
+pub mod LayoutLaws
+mod Parts
+mod Requests

@@ -1,0 +1,12 @@
+use Rattle.std.proofs.Common.{rules, ℕ, List, Bor, map}
+use Rattle.std.proofs.lemmas.List.{map_push}
+use Rattle.oa_ndr.specs.Reading.{many}
+use Rattle.oa_ndr.proofs.Loop.{many_goes_on}
+use Rattle.oa_record.specs.Reading.{field_at}
+use Rattle.oa_record.proofs.layout.fields.Goals as goal
+
+pub fields-preserved : goal.fields-preserved
+fields-preserved c = record {
+  read = rw (c.in_ok-push.ensures.items, map_push) (many_goes_on field_at (map (λ (x : Bor (List ℕ)). x.now) c.fields.all.items) c.args.count c.fields.counter c.fields.r c.field.new.r c.in_ok-next.next.now (many field_at c.args.count c.args.r.now) c.fields-test.true c.in_ok-next.ensures c.fields.invariant.read);
+  count = search rules;
+}

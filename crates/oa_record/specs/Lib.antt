@@ -1,0 +1,7 @@
+pub mod Heads
+pub mod Layouts
+pub mod Asks
+pub mod Reading
+pub mod Shown
+pub mod Judging
+pub mod Replies

@@ -1,0 +1,57 @@
+-- The bytes of a reply (this project's choice): its length, not counted in itself; tag, code, index and a reserved number; the fields of its body.
+use Rattle.std.specs.Prelude.{◌≡◌, ℕ, ◌+◌, List, ◌++◌, length, replicate, Option, Some, None, Result, Ok, Err}
+use Rattle.std.specs.Int.{to_le_bytes, w32}
+use Rattle.std.specs.Io.KnownBytes.{Appends}
+use Rattle.oa_ndr.specs.Forms.{padding}
+use Rattle.oa_model.specs.declared.hresult.HResult.{HResult}
+use Rattle.oa_variant.specs.declared.variant.Variant.{Variant}
+use Rattle.oa_wire_variant.specs.Canon.{canon}
+
+pub record ReplyValue : Type 0 where
+  pub tag : ℕ
+  pub code : HResult
+  pub index : Option ℕ
+  pub body : List ℕ
+
+-- a number of 4 bytes
+unfoldable pub word : ℕ → List ℕ
+word n = to_le_bytes w32 n
+
+-- 0xFFFFFFFF stands for no index
+abbrev pub index_word : Option ℕ → ℕ
+index_word None = 4294967295
+index_word (Some i) = i
+
+-- tag, code, index, reserved
+abbrev pub reply_head : ReplyValue → List ℕ
+reply_head r = word r.tag ++ (word r.code.0 ++ (word (index_word r.index) ++ word 0))
+
+-- a reply without its length
+abbrev pub reply_record : ReplyValue → List ℕ
+reply_record r = reply_head r ++ r.body
+
+-- a reply with its length
+abbrev pub reply_bytes : ReplyValue → List ℕ
+reply_bytes r = word (16 + length r.body) ++ reply_record r
+
+-- no more than a first part of the bytes was written
+pub record Breaks (old new : Option (List ℕ)) (bytes : List ℕ) : Type 0 where
+  pub part : List ℕ
+  pub rest : List ℕ
+  pub whole : bytes ≡ part ++ rest
+  pub written : Appends old new part
+
+-- all bytes were written, or the writer failed on the way
+abbrev pub Puts : {E : Type 0} → Result (Unit {0}) E → Option (List ℕ) → Option (List ℕ) → List ℕ → Type 0
+Puts (Ok u) old new bytes = Appends old new bytes
+Puts (Err e) old new bytes = Breaks old new bytes
+
+-- ---- fields of replies
+
+-- a number and a reserved number
+abbrev pub number_field : ℕ → List ℕ
+number_field n = word n ++ word 0
+
+-- how many bytes, a reserved number, the value as it is written, padding up to a multiple of 8
+abbrev pub variant_field : Variant → List ℕ
+variant_field v = word (length (canon v)) ++ (word 0 ++ (canon v ++ replicate (padding 8 (length (canon v))) 0))

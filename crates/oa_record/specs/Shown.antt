@@ -1,0 +1,8 @@
+-- The parts of a body as the code has them.
+use Rattle.oa_record.specs.Layouts.{Layout}
+use Rattle.oa_record.specs.declared.layout.Parts.{Parts}
+use Rattle.oa_record.specs.declared.layout.Parts.TheVariants.{Create, Invoke}
+
+abbrev pub shown : Parts → Layout
+shown (Create class) = Layout.CreateBody class
+shown (Invoke head) = Layout.InvokeBody head

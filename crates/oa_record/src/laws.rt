@@ -1,0 +1,22 @@
+//! Laws of the definitions, each the contract of a function with no work to do.
+ghost use Rattle.std.specs.Prelude.{◌≡◌, ◌≤◌, ℕ, List, length, None};
+ghost use Rattle.oa_record.specs.declared.request.Request.{Request as ARequest};
+ghost use Rattle.oa_record.specs.Asks.{Asks, IsStub, IsBadVarType, opcode_at, request_opcode};
+
+/// No body asks two requests.
+pub fn one_request()
+    ensures { (body : List ℕ) (p q : ARequest) → Asks body p → Asks body q → p ≡ q }
+{
+    oa_wire_variant::laws::one_value();
+}
+
+/// A body that is refused asks nothing.
+pub fn refused_asks_nothing()
+    ensures stub { (body : List ℕ) (q : ARequest) → IsStub body → Asks body q → ⊥ }
+    ensures bad_type { (body : List ℕ) (index : ℕ) (q : ARequest) → IsBadVarType body index → Asks body q → ⊥ }
+{}
+
+/// The opcode of what a body asks stands in it, so that a body of under 8 bytes asks nothing.
+pub fn opcode_stands()
+    ensures { (body : List ℕ) (q : ARequest) → Asks body q → (8 ≤ length body) × (opcode_at body ≡ request_opcode q) }
+{}

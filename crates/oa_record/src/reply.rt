@@ -1,0 +1,165 @@
+//! Replies.
+ghost use Rattle.std.specs.Prelude.{◌≡◌, ◌≤◌, ◌<◌, ◌+◌, ◌++◌, [], length, replicate, Some, None, IfOk, OnOk, OnErr};
+ghost use Rattle.std.specs.Int.{to_le_bytes, w32};
+ghost use Rattle.oa_model.specs.Codes.{s_ok};
+ghost use Rattle.oa_ndr.specs.Forms.{padding};
+ghost use Rattle.oa_record.specs.Replies.{ReplyValue, word, index_word, reply_head, reply_record, reply_bytes, number_field, variant_field, Puts};
+
+use crate::writing::put;
+use oa_model::HResult;
+use oa_variant::Variant;
+use oa_wire_variant::{wire_len, write_variant};
+use std::alloc::{AllocError, Global};
+use std::io::{self, Write};
+use std::marker::Model;
+
+/// A reply: the tag of its request, a code, the index in rgvarg of the argument that the code is about, and its fields, which are at most
+/// 4,294,967,279 bytes.
+#[derive(Debug, Drop)]
+pub struct Reply {
+    tag: u32,
+    code: HResult,
+    index: Option<u32>,
+    body: Vec<u8>,
+}
+
+impl Model for Reply {
+    ghost use Rattle.std.specs.Prelude.{◌≤◌, length};
+    ghost use Rattle.oa_ndr.specs.Forms.{padding};
+    ghost use Rattle.oa_record.specs.Replies.{ReplyValue};
+
+    ghost Value = { ReplyValue };
+
+    ghost view = { λ r. record { tag = r.tag; code = r.code; index = r.index; body = r.body.items } };
+
+    ghost invariant = { λ r. length r.body.items ≤ 4294967279 };
+}
+
+impl Reply {
+    /// A reply with these fields.
+    pub fn new(tag: u32, code: HResult, index: Option<u32>, body: Vec<u8>) -> Reply
+        requires { length body.items ≤ 4294967279 }
+        ensures { result ≡ record { tag = tag; code = code; index = index; body = body.items } }
+    {
+        Reply {
+            tag,
+            code,
+            index,
+            body,
+        }
+    }
+
+    /// A reply without fields, as a refusal is. Takes no memory.
+    pub fn bare(alloc: Global, tag: u32, code: HResult, index: Option<u32>) -> Reply
+        ensures { result ≡ record { tag = tag; code = code; index = index; body = [] } }
+    {
+        Reply::new(tag, code, index, Vec::new(alloc))
+    }
+
+    /// The tag of its request.
+    pub fn tag(&self) -> u32
+        ensures { result ≡ self.now.tag }
+    {
+        self.tag
+    }
+
+    /// Its code.
+    pub fn code(&self) -> HResult
+        ensures { result ≡ self.now.code }
+    {
+        self.code
+    }
+
+    /// The index in rgvarg of the argument that the code is about.
+    pub fn index(&self) -> Option<u32>
+        ensures { result ≡ self.now.index }
+    {
+        self.index
+    }
+
+    /// Its fields, at most 4,294,967,279 bytes.
+    pub fn body(&self) -> &[u8]
+        ensures value { result.now ≡ self.now.body }
+        ensures small { length result.now ≤ 4294967279 }
+    {
+        self.body.as_slice()
+    }
+
+    /// The 16 bytes before its fields: tag, code, index (0xFFFFFFFF for none), reserved, each a u32.
+    #[tactic(auto, unfolding(crate::specs::Replies::word))]
+    pub fn head(&self) -> [u8; 16]
+        ensures { result ≡ reply_head self.now }
+    {
+        let [a, b, c, d] = self.tag.to_le_bytes();
+        let [e, f, g, h] = self.code.0.to_le_bytes();
+        let [i, j, k, l] = self.index.unwrap_or(0xFFFF_FFFF).to_le_bytes();
+        [a, b, c, d, e, f, g, h, i, j, k, l, 0, 0, 0, 0]
+    }
+
+    /// Writes it with its length before it: u32 length, tag, code, index, reserved, fields. Where the writer fails, a first part of the bytes
+    /// was written, and the writer's error is answered. Takes no memory.
+    pub fn write<W: Write>(&self, writer: &mut W) -> io::Result<()>
+        ensures { Puts result (W.contents writer.old) (W.contents writer.new) (reply_bytes self.now) }
+    {
+        put(writer, &self.length())?;
+        put(writer, &self.head())?;
+        put(writer, self.body())
+    }
+
+    // How many bytes follow the length, as a u32.
+    #[tactic(auto, unfolding(crate::specs::Replies::word))]
+    fn length(&self) -> [u8; 4]
+        ensures { result ≡ word (16 + length self.now.body) }
+    {
+        (16 + self.body.len() as u32).to_le_bytes()
+    }
+}
+
+// A number and a reserved number.
+#[tactic(auto, unfolding(crate::specs::Replies::word))]
+fn two_words(number: u32) -> [u8; 8]
+    ensures { result ≡ word number ++ word 0 }
+{
+    let [a, b, c, d] = number.to_le_bytes();
+    [a, b, c, d, 0, 0, 0, 0]
+}
+
+/// The fields of a reply that are a number: u32 number, u32 reserved.
+pub fn number_field(alloc: Global, number: u32) -> Result<Vec<u8>, AllocError>
+    ensures value { IfOk result (λ v. v.items ≡ number_field number) }
+    ensures len { IfOk result (λ v. length v.items ≡ 8) }
+{
+    Vec::from_slice(alloc, &two_words(number))
+}
+
+// Room for padding, which is at most 7 bytes.
+const ZEROS: [u8; 8] = [0; 8];
+
+// How many bytes lie between a place and the next multiple of 8.
+fn padding(place: usize) -> usize
+    ensures value { result ≡ padding 8 place }
+    ensures small { result < 8 }
+{
+    let over = place % 8;
+    if over == 0 { 0 } else { 8 - over }
+}
+
+// Adds zeros up to the next multiple of 8.
+fn add_padding(out: &mut Vec<u8>, place: usize) -> Result<(), AllocError>
+    ensures { OnOk result (out.new.items ≡ out.old.items ++ replicate (padding 8 place) 0) }
+{
+    out.extend_from_slice(&ZEROS[..padding(place)])
+}
+
+/// The fields of a reply that are a value: u32 count of the value's bytes, u32 reserved, these bytes, zeros up to a multiple of 8.
+pub fn variant_field(alloc: Global, value: &Variant) -> Result<Vec<u8>, AllocError>
+    ensures value { IfOk result (λ v. v.items ≡ variant_field value.now) }
+    ensures len { IfOk result (λ v. length v.items ≤ 262200) }
+{
+    let len = wire_len(value);
+    let mut field = Vec::with_capacity(alloc, 16 + len)?;
+    field.extend_from_slice(&two_words(len as u32))?;
+    write_variant(value, &mut field)?;
+    add_padding(&mut field, len)?;
+    Ok(field)
+}

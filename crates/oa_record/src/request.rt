@@ -1,0 +1,33 @@
+//! Requests.
+use crate::{Arguments, Dispids};
+use uuid::Uuid;
+
+/// What a body asks for (this project's choice).
+#[derive(Debug, Drop)]
+pub enum Request {
+    /// A new object of a coclass.
+    Create { class: Uuid },
+    /// A call of a member of an object.
+    Invoke(Invoke),
+}
+
+/// A call of a member (IDispatch::Invoke, MS-OAUT section 3.1.4.4).
+#[derive(Debug, Drop)]
+pub struct Invoke {
+    /// The number of the object.
+    pub object: u32,
+    /// The member.
+    pub dispid: i32,
+    /// The interface; the zero GUID stands for the default interface.
+    pub interface: Uuid,
+    /// The reserved riid.
+    pub riid: Uuid,
+    /// The locale, which may be any.
+    pub lcid: u32,
+    /// How the member is called: 1 as a method, 2 as a property that is read, 4 as one that is put.
+    pub flags: u16,
+    /// The DISPIDs of the named arguments, which stand first in `arguments`; there may be more of them than of these.
+    pub named: Dispids,
+    /// The arguments.
+    pub arguments: Arguments,
+}

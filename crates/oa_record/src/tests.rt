@@ -1,0 +1,211 @@
+// Bodies and replies byte for byte.
+use crate::{
+    Arguments, Dispids, RecordFault, Reply, Request, laws, number_field, read_request, tag_of,
+    variant_field,
+};
+use oa_model::HResult;
+use oa_variant::{Scalar, Variant};
+use std::alloc::Global;
+use std::io::{self, ErrorKind, Write};
+use std::rt::HostRuntime;
+use std::test::Fail;
+
+// CREATE of 11223344-5566-7788-99aa-bbccddeeff03, tag 1
+const CREATE: [u8; 24] = [
+    1, 0, 0, 0, 1, 0, 0, 0, 0x44, 0x33, 0x22, 0x11, 0x66, 0x55, 0x88, 0x77, 0x99, 0xaa, 0xbb, 0xcc,
+    0xdd, 0xee, 0xff, 3,
+];
+
+// INVOKE of object 1, DISPID 1, as a get without arguments, tag 2
+const GET: [u8; 64] = [
+    2, 0, 0, 0, 4, 0, 0, 0, 1, 0, 0, 0, 1, 0, 0, 0, 0, 0, 0, 0, 0, 0, 0, 0, 0, 0, 0, 0, 0, 0, 0, 0,
+    0, 0, 0, 0, 0, 0, 0, 0, 0, 0, 0, 0, 0, 0, 0, 0, 0, 0, 0, 0, 2, 0, 0, 0, 0, 0, 0, 0, 0, 0, 0, 0,
+];
+
+// INVOKE of object 1, DISPID 1, as a put of I4 7, named -3, tag 3
+const PUT: [u8; 104] = [
+    3, 0, 0, 0, 4, 0, 0, 0, 1, 0, 0, 0, 1, 0, 0, 0, 0, 0, 0, 0, 0, 0, 0, 0, 0, 0, 0, 0, 0, 0, 0, 0,
+    0, 0, 0, 0, 0, 0, 0, 0, 0, 0, 0, 0, 0, 0, 0, 0, 0, 0, 0, 0, 4, 0, 0, 0, 1, 0, 0, 0, 1, 0, 0, 0,
+    0xfd, 0xff, 0xff, 0xff, 0, 0, 0, 0, 24, 0, 0, 0, 0, 0, 0, 0, 3, 0, 0, 0, 0, 0, 0, 0, 3, 0, 0,
+    0, 0, 0, 0, 0, 3, 0, 0, 0, 7, 0, 0, 0,
+];
+
+// The field of I4 7 in a body.
+const FIELD: [u8; 32] = [
+    24, 0, 0, 0, 0, 0, 0, 0, 3, 0, 0, 0, 0, 0, 0, 0, 3, 0, 0, 0, 0, 0, 0, 0, 3, 0, 0, 0, 7, 0, 0, 0,
+];
+
+// What was refused; None for a request.
+fn refusal(alloc: Global, body: &[u8]) -> Option<RecordFault> {
+    match read_request(alloc, body) {
+        Ok(_) => None,
+        Err(fault) => Some(fault),
+    }
+}
+
+// The coclass of a CREATE.
+fn class_of(request: &Request) -> Option<[u8; 16]> {
+    match request {
+        Request::Create { class } => Some(class.into_bytes()),
+        Request::Invoke(_) => None,
+    }
+}
+
+#[test]
+fn a_create_names_its_coclass(rt: HostRuntime) -> Result<(), Fail> {
+    let class = [
+        0x11, 0x22, 0x33, 0x44, 0x55, 0x66, 0x77, 0x88, 0x99, 0xaa, 0xbb, 0xcc, 0xdd, 0xee, 0xff, 3,
+    ];
+    assert_eq!(rt; tag_of(&CREATE), 1);
+    let request = read_request(rt.alloc(), &CREATE).ok().ok_or("no request")?;
+    assert_eq!(rt; class_of(&request), Some(class));
+    laws::one_request();
+    laws::refused_asks_nothing();
+    laws::opcode_stands();
+    Ok(())
+}
+
+#[test]
+fn an_invoke_has_its_head_and_its_arguments(rt: HostRuntime) -> Result<(), Fail> {
+    assert_eq!(rt; tag_of(&PUT), 3);
+    match read_request(rt.alloc(), &PUT) {
+        Ok(Request::Invoke(call)) => {
+            assert_eq!(rt; call.object, 1);
+            assert_eq!(rt; call.dispid, 1);
+            assert!(rt; call.interface.is_nil());
+            assert!(rt; call.riid.is_nil());
+            assert_eq!(rt; call.lcid, 0);
+            assert_eq!(rt; call.flags, 4);
+            assert_eq!(rt; call.named.as_slice(), [-3].as_slice());
+            let seven = Variant::One(Scalar::I4(7));
+            assert_eq!(rt; call.arguments.as_slice().len(), 1);
+            assert_eq!(rt; call.arguments.as_slice()[0] == seven, true);
+            let values = call.arguments.into_vec();
+            assert_eq!(rt; values.len(), 1);
+        }
+        _ => return Err("no INVOKE".into()),
+    }
+    match read_request(rt.alloc(), &GET) {
+        Ok(Request::Invoke(call)) => {
+            assert_eq!(rt; call.flags, 2);
+            assert_eq!(rt; call.named.as_slice().len(), 0);
+            assert_eq!(rt; call.arguments.as_slice().len(), 0);
+        }
+        _ => return Err("no INVOKE".into()),
+    }
+    let none = Arguments::new(Vec::new(rt.alloc()));
+    assert_eq!(rt; none.as_slice().len(), 0);
+    assert_eq!(rt; Dispids::new(Vec::new(rt.alloc())).as_slice().len(), 0);
+    Ok(())
+}
+
+#[test]
+fn what_is_cut_or_goes_on_is_stub(rt: HostRuntime) -> Result<(), Fail> {
+    for body in [CREATE.as_slice(), GET.as_slice(), PUT.as_slice()] {
+        for end in 0..body.len() {
+            assert_eq!(rt; refusal(rt.alloc(), &body[..end]), Some(RecordFault::Stub));
+        }
+        let mut longer = Vec::from_slice(rt.alloc(), body)?;
+        longer.push(0)?;
+        assert_eq!(rt; refusal(rt.alloc(), &longer), Some(RecordFault::Stub));
+    }
+    assert_eq!(rt; tag_of(&CREATE[..7]), 0);
+    assert_eq!(rt; tag_of(&CREATE[..8]), 1);
+    Ok(())
+}
+
+#[test]
+fn the_lowest_bad_type_is_named_where_no_field_is_broken(rt: HostRuntime) -> Result<(), Fail> {
+    // the fields' vt and discriminant, and what is answered
+    let rows = [
+        ([3u8, 3, 3], [3u8, 3, 3], None),
+        ([3, 5, 7], [3, 5, 7], Some(RecordFault::BadVarType(Some(1)))),
+        ([5, 3, 3], [3, 3, 3], Some(RecordFault::BadVarType(Some(0)))),
+        (
+            [3, 3, 12],
+            [3, 3, 12],
+            Some(RecordFault::BadVarType(Some(2))),
+        ),
+        ([5, 3, 3], [5, 3, 2], Some(RecordFault::Stub)),
+        ([2, 5, 3], [3, 5, 3], Some(RecordFault::Stub)),
+    ];
+    for (types, discriminants, want) in rows {
+        let mut body = Vec::from_slice(rt.alloc(), &GET)?;
+        body[56] = 3;
+        for i in 0..3 {
+            let at = body.len();
+            body.extend_from_slice(&FIELD)?;
+            body[at + 16] = types[i];
+            body[at + 24] = discriminants[i];
+        }
+        assert_eq!(rt; refusal(rt.alloc(), &body), want);
+    }
+    // an opcode that is none, and counts above the limit
+    for (at, byte) in [(4usize, 99u8), (5, 1), (56, 33), (60, 33), (59, 1), (63, 1)] {
+        let mut body = Vec::from_slice(rt.alloc(), &GET)?;
+        body[at] = byte;
+        assert_eq!(rt; refusal(rt.alloc(), &body), Some(RecordFault::Stub));
+    }
+    Ok(())
+}
+
+// A writer with room for some bytes, which takes three a call.
+#[derive(Drop)]
+struct Narrow {
+    taken: Vec<u8>,
+    room: usize,
+}
+
+impl Write for Narrow {
+    fn write(&mut self, bytes: &[u8]) -> io::Result<usize> {
+        let n = bytes.len().min(3).min(self.room);
+        if n == 0 {
+            return Err(io::Error::from(ErrorKind::StorageFull));
+        }
+        self.taken.extend_from_slice(&bytes[..n])?;
+        self.room -= n;
+        Ok(n)
+    }
+
+    fn flush(&mut self) -> io::Result<()> {
+        Ok(())
+    }
+}
+
+#[test]
+fn replies_are_written_as_laid_out(rt: HostRuntime) -> Result<(), Fail> {
+    let created = Reply::new(1, HResult::S_OK, None, number_field(rt.alloc(), 1)?);
+    let mut out = Vec::new(rt.alloc());
+    created.write(&mut out)?;
+    let want = [
+        24u8, 0, 0, 0, 1, 0, 0, 0, 0, 0, 0, 0, 0xff, 0xff, 0xff, 0xff, 0, 0, 0, 0, 1, 0, 0, 0, 0,
+        0, 0, 0,
+    ];
+    assert_eq!(rt; out.as_slice(), want.as_slice());
+    let got = variant_field(rt.alloc(), &Variant::One(Scalar::I4(7)))?;
+    assert_eq!(rt; got.as_slice(), FIELD.as_slice());
+    let short = variant_field(rt.alloc(), &Variant::One(Scalar::Bool(true)))?;
+    assert_eq!(rt; short.len(), 32);
+    let refused = Reply::bare(rt.alloc(), 7, HResult::DISP_E_TYPEMISMATCH, Some(2));
+    assert_eq!(rt; refused.tag(), 7);
+    assert_eq!(rt; refused.code(), HResult::DISP_E_TYPEMISMATCH);
+    assert_eq!(rt; refused.index(), Some(2));
+    assert_eq!(rt; refused.body().len(), 0);
+    let head = [7u8, 0, 0, 0, 5, 0, 2, 0x80, 2, 0, 0, 0, 0, 0, 0, 0];
+    assert_eq!(rt; refused.head(), head);
+    for room in 0..28 {
+        let mut narrow = Narrow {
+            taken: Vec::new(rt.alloc()),
+            room,
+        };
+        assert!(rt; created.write(&mut narrow).is_err());
+        assert_eq!(rt; narrow.taken.as_slice(), &want[..room]);
+    }
+    let mut wide = Narrow {
+        taken: Vec::new(rt.alloc()),
+        room: 28,
+    };
+    created.write(&mut wide)?;
+    assert_eq!(rt; wide.taken.as_slice(), want.as_slice());
+    Ok(())
+}

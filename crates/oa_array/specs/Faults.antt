@@ -1,0 +1,38 @@
+-- Refusals: when each comes, and its code (MS-ERREF section 2.1). Their order is this project's choice.
+use Rattle.std.specs.Prelude.{◌≡◌, ◌<◌, ◌≤◌, List, ℤ}
+use Rattle.oa_model.specs.declared.bound.Bound.{Bound}
+use Rattle.oa_model.specs.declared.hresult.HResult.{HResult}
+use Rattle.oa_model.specs.declared.var_type.VarType.{VarType}
+use Rattle.oa_model.specs.Codes.{disp_e_badindex, disp_e_typemismatch, disp_e_arrayislocked, e_invalidarg, e_unexpected, e_outofmemory}
+use Rattle.oa_array.specs.Arrays.{ArrayValue, IsShape, with_first}
+use Rattle.oa_array.specs.Boxes.{InBounds, box_size}
+use Rattle.oa_array.specs.declared.fault.ArrayFault.{ArrayFault}
+use Rattle.oa_array.specs.declared.fault.ArrayFault.TheVariants.{BadIndex, TypeMismatch, IsLocked, InvalidArgument, Unexpected, Memory}
+
+abbrev pub code_of : ArrayFault → HResult
+code_of BadIndex = disp_e_badindex
+code_of TypeMismatch = disp_e_typemismatch
+code_of IsLocked = disp_e_arrayislocked
+code_of InvalidArgument = e_invalidarg
+code_of Unexpected = e_unexpected
+code_of Memory = e_outofmemory
+
+-- no such array, or no memory for it
+abbrev pub RefusesCreate : VarType → List Bound → ArrayFault → Type 0
+RefusesCreate elem bounds InvalidArgument = IsShape elem bounds → ⊥
+RefusesCreate elem bounds Memory = IsShape elem bounds
+RefusesCreate elem bounds _ = ⊥
+
+module _ {X : Type 0} where
+  -- first the index list, then the value
+  abbrev pub RefusesPut : (X → VarType → Type 0) → ArrayValue X → List ℤ → X → ArrayFault → Type 0
+  RefusesPut fits a index value BadIndex = InBounds a.bounds index → ⊥
+  RefusesPut fits a index value TypeMismatch = InBounds a.bounds index × (fits value a.elem → ⊥)
+  RefusesPut fits a index value _ = ⊥
+
+  -- first the locks, then the size, then the memory
+  abbrev pub RefusesRedim : ArrayValue X → Bound → ArrayFault → Type 0
+  RefusesRedim a bound IsLocked = 0 < a.locks
+  RefusesRedim a bound InvalidArgument = (a.locks ≡ 0) × (65536 < box_size (with_first bound a.bounds))
+  RefusesRedim a bound Memory = (a.locks ≡ 0) × (box_size (with_first bound a.bounds) ≤ 65536)
+  RefusesRedim a bound _ = ⊥

@@ -1,0 +1,3 @@
+pub mod Arrays
+pub mod Boxes
+pub mod Faults

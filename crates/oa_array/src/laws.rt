@@ -1,0 +1,44 @@
+//! Laws of the definitions, each the contract of a function with an empty body.
+ghost use Rattle.std.specs.Prelude.{◌≡◌, ℕ, ◌+◌, ◌*◌, ◌<◌, ◌≤◌, ◌↔◌, ℤ, pos, ◌+ℤ◌, List, [], ◌∷◌, length, slice_get, Some};
+ghost use Rattle.oa_model.specs.declared.bound.Bound.{Bound};
+ghost use Rattle.oa_array.specs.Boxes.{InBounds, members, box_size, position_of};
+ghost use Rattle.oa_array.specs.Arrays.{ArrayValue, cell_at, with_cell, with_first, redimensioned};
+
+/// In the list of all members of a box there stands, at each place, the index list that lies in the bounds and has that place as its
+/// position: each of them once, the smaller ones before it.
+pub fn members_stand_at_their_positions()
+    ensures { (bounds : List Bound) (index : List ℤ) (place : ℕ) →
+        (slice_get (members bounds) place ≡ Some index) ↔ (InBounds bounds index × (position_of bounds index ≡ place)) }
+{}
+
+/// How many members a box has is the product of the counts.
+pub fn size_is_a_product()
+    ensures none { box_size [] ≡ 1 }
+    ensures more { (bound : Bound) (others : List Bound) → box_size (bound ∷ others) ≡ bound.count * box_size others }
+{}
+
+/// A position is a sum of products: the last listed index varies fastest.
+pub fn position_is_a_sum_of_products()
+    ensures none { position_of [] [] ≡ 0 }
+    ensures more { (bound : Bound) (others : List Bound) (above : ℕ) (rest : List ℤ) → above < bound.count →
+        position_of (bound ∷ others) ((bound.lower +ℤ pos above) ∷ rest) ≡ above * box_size others + position_of others rest }
+{}
+
+/// After a put the cell of that index list is the new one, and every other index list has the cell that it had.
+pub fn put_changes_one_cell<T>()
+    ensures { (a : ArrayValue T) (index other : List ℤ) (cell : T) → length a.cells ≡ box_size a.bounds →
+        InBounds a.bounds index → InBounds a.bounds other →
+        (cell_at (with_cell a index cell) index ≡ Some cell)
+        × ((other ≡ index → ⊥) → cell_at (with_cell a index cell) other ≡ cell_at a other) }
+{}
+
+/// After a redimension an index list of the new box has the cell of the old one at its position, or the zero where there was none.
+pub fn redimension_keeps_cells_by_position<T>()
+    ensures kept { (a : ArrayValue T) (zero : T) (bound : Bound) (index old : List ℤ) → length a.cells ≡ box_size a.bounds →
+        InBounds (with_first bound a.bounds) index → InBounds a.bounds old →
+        position_of (with_first bound a.bounds) index ≡ position_of a.bounds old →
+        cell_at (redimensioned zero bound a) index ≡ cell_at a old }
+    ensures fresh { (a : ArrayValue T) (zero : T) (bound : Bound) (index : List ℤ) → length a.cells ≡ box_size a.bounds →
+        InBounds (with_first bound a.bounds) index → box_size a.bounds ≤ position_of (with_first bound a.bounds) index →
+        cell_at (redimensioned zero bound a) index ≡ Some zero }
+{}

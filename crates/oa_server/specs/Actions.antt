@@ -1,0 +1,73 @@
+-- What a request that is not refused does, and the first refusal of one that is. The order of the refusals is this project's choice.
+use Rattle.std.specs.Prelude.{ℕ, ◌||◌, ◌==◌, nat_lt, not, Bool, List, [], length, Option, Some, None, Result, Ok, Err}
+use Rattle.uuid.specs.Parts.{is_nil_bytes}
+use Rattle.oa_model.specs.declared.var_type.ValueType.{ValueType}
+use Rattle.oa_model.specs.declared.var_type.ValueType.TheVariants as kinds
+use Rattle.oa_model.specs.Codes.{disp_e_unknowninterface, disp_e_membernotfound, e_nointerface, e_notimpl, e_unexpected, regdb_e_classnotreg, rpc_e_disconnected}
+use Rattle.oa_variant.specs.declared.variant.Variant.{Variant}
+use Rattle.oa_variant.specs.declared.variant.Variant.TheVariants.{One}
+use Rattle.oa_variant.specs.declared.scalar.Scalar.TheVariants.{Empty}
+use Rattle.oa_variant.specs.Scalars.{zero_of}
+use Rattle.oa_record.specs.declared.request.Invoke.{Invoke}
+use Rattle.oa_record.specs.Replies.{variant_field}
+use Rattle.oa_typelib.specs.declared.access.Kind.{Kind}
+use Rattle.oa_typelib.specs.declared.access.Kind.TheVariants as forms
+use Rattle.oa_typelib.specs.declared.access.Access.TheVariants.{Flags}
+use Rattle.oa_typelib.specs.declared.access.MemberFault.{MemberFault}
+use Rattle.oa_typelib.specs.declared.access.MemberFault.TheVariants.{MemberNotFound, NotImplemented}
+use Rattle.oa_typelib.specs.MemberValues.{MemberValue}
+use Rattle.oa_typelib.specs.Libraries.{class_of, selected_in}
+use Rattle.oa_typelib.specs.Members.{member_at}
+use Rattle.oa_server.specs.declared.call.Action.{Action}
+use Rattle.oa_server.specs.declared.call.Action.TheVariants.{Get, Put}
+use Rattle.oa_server.specs.declared.refusal.Refusal.{Refusal}
+use Rattle.oa_server.specs.Calls.{checked, new_value}
+use Rattle.oa_server.specs.Places.{PlaceValue}
+use Rattle.oa_server.specs.Refusals.{◌>>=◌, refused, known, unless}
+use Rattle.oa_server.specs.States.{State}
+use Rattle.oa_server.specs.Table.{TableValue, cell_in, class_in, object_at}
+
+-- whether no further object can be made: 65,536 are live, or the numbers are used up
+abbrev pub is_full : TableValue → Bool
+is_full table = not (nat_lt (length table.objects) 65536) || (table.next == 4294967295)
+
+-- CREATE
+abbrev pub class_found : State → List ℕ → Result (Unit {0}) Refusal
+class_found state class = known regdb_e_classnotreg (class_of state.library class) >>= λ _. unless e_unexpected (is_full state.table)
+
+-- a member, or why a call reaches none
+abbrev pub member_found : Result (MemberValue × Kind) MemberFault → Result (MemberValue × Kind) Refusal
+member_found (Ok found) = Ok found
+member_found (Err MemberNotFound) = refused disp_e_membernotfound
+member_found (Err NotImplemented) = refused e_notimpl
+
+-- the cell of a property without parameters
+abbrev pub place_of : List ℕ → Invoke → PlaceValue
+place_of interface call = record { interface = interface; dispid = call.dispid; key = [] }
+
+abbrev pub acting : Kind → PlaceValue → ValueType → Invoke → Result Action Refusal
+acting forms.Get place declared call = Ok (Get place declared)
+acting forms.Put place declared call = new_value declared call.arguments >>= λ value. Ok (Put place value)
+
+-- INVOKE: the object, its interface, riid, the member, the arguments
+unfoldable pub action_of : State → Invoke → Result Action Refusal
+action_of state call = do
+  class ← known rpc_e_disconnected (class_in (object_at call.object state.table))
+  interface ← known e_nointerface (selected_in state.library class call.interface)
+  zero ← unless disp_e_unknowninterface (not (is_nil_bytes call.riid))
+  found ← member_found (member_at state.library interface.guid call.dispid (Flags call.flags))
+  good ← checked found.1 call.named (length call.arguments)
+  acting found.1 (place_of interface.guid call) found.0.value_type call
+
+-- the value of a cell that was never put
+abbrev pub zero_in : ValueType → Variant
+zero_in (kinds.One t) = One (zero_of t)
+zero_in (kinds.Array t) = One Empty
+
+abbrev pub or_zero : ValueType → Option Variant → Variant
+or_zero declared None = zero_in declared
+or_zero declared (Some value) = value
+
+-- the fields of a get's reply
+abbrev pub value_of : State → ℕ → PlaceValue → ValueType → List ℕ
+value_of state object place declared = variant_field (or_zero declared (cell_in place (object_at object state.table)))

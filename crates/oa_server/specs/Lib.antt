@@ -1,0 +1,15 @@
+pub mod Known
+pub mod Source
+pub mod Sink
+pub mod Lines
+pub mod Bodies
+pub mod Places
+pub mod Table
+pub mod States
+pub mod Refusals
+pub mod Calls
+pub mod Actions
+pub mod Steps
+pub mod Turns
+pub mod Sessions
+pub mod Traces

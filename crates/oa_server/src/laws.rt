@@ -1,0 +1,19 @@
+//! Laws of the definitions that sessions are stated by.
+ghost use Rattle.std.specs.Prelude.{◌≡◌, ℕ, List};
+ghost use Rattle.oa_record.specs.Replies.{ReplyValue};
+ghost use Rattle.oa_server.specs.Lines.{FirstLine};
+ghost use Rattle.oa_server.specs.States.{State};
+ghost use Rattle.oa_server.specs.Traces.{done_bodies, done_replies};
+ghost use Rattle.oa_server.specs.Turns.{Run, Turn};
+
+/// Bytes have one first line, and one rest after it.
+pub fn one_line()
+    ensures { (bytes line line' rest rest' : List ℕ) → FirstLine bytes line rest → FirstLine bytes line' rest' → (line ≡ line') × (rest ≡ rest') }
+{}
+
+/// A request that is answered with another code than S_OK leaves no trace: its turn leaves the state as it was, so that the other turns of a run
+/// alone are a run, with the same replies.
+pub fn no_trace()
+    ensures turn { (old new : State) (body : List ℕ) (reply : ReplyValue) → Turn old body reply new → (reply.code.0 ≡ 0 → ⊥) → new ≡ old }
+    ensures others { (old new : State) (bodies : List (List ℕ)) (replies : List ReplyValue) → Run old bodies replies new → Run old (done_bodies bodies replies) (done_replies replies) new }
+{}

@@ -1,10 +1,11 @@
 #!/usr/bin/env python3
-"""Times the built program on 200,000 request lines, beside `wc -l` on the same file.
+"""Times the built program on 200,000 request lines, beside `wc -l` on the same file, and on texts, beside `cat`.
 
     python3 bench/requests.py [PROGRAM [LINES]]      PROGRAM is crates/oaut/out/oaut where none is given
 
 The first thousand lines are creates, the others puts and gets of a long property in turn. Prints requests a second, the peak resident
-memory of the program, and the same for a file four times as long, which needs no more memory.
+memory of the program, and the same for a file four times as long, which needs no more memory. Then puts and gets of texts of 1 KiB and
+of 256 KiB in turn: megabytes of hexadecimal digits read and written a second, beside `cat` from and to files of the same length.
 """
 import os
 import subprocess
@@ -41,6 +42,20 @@ def put(tag, object, value):
 
 def get(tag, object):
     return head(tag, object, "0200", 0, 0)
+
+
+def put_text(tag, object, length):
+    """A put of a text of a length that is a multiple of 8, all of one letter."""
+    units, size = u32(length // 2), 36 + length
+    field = u32((size + 7) // 8) + "00000000080000000000000008000000" + "00000200" + units + u32(length) + units + "6100" * (length // 2)
+    return head(tag, object, "0400", 1, 1) + "fdffffff00000000" + u32(size) + u32(0) + field + "00" * (-size % 8)
+
+
+def write_texts(path, length, pairs):
+    with open(path, "w", encoding="ascii") as file:
+        file.write(create(0) + "\n")
+        for tag in range(1, pairs + 1):
+            file.write(put_text(tag, 1, length) + "\n" + get(tag, 1) + "\n")
 
 
 def write_requests(path, count):
@@ -88,3 +103,17 @@ with tempfile.TemporaryDirectory() as room:
         if (status, replies) != (0, count):
             sys.exit(f"{replies} replies to {count} requests, status {status}")
         print(f"{count} requests in {seconds:.3f} s: {count / seconds:,.0f} a second, peak {peak:,} KiB; wc -l {beside:.3f} s")
+    with open(f"{room}/lib.idl", encoding="ascii") as file:
+        texts = file.read().replace("long Count", "BSTR Name")
+    with open(f"{room}/lib.idl", "w", encoding="ascii") as file:
+        file.write(texts)
+    os.mkdir(f"{room}/beside")
+    for length in (1 << 10, 1 << 18):
+        pairs = (1 << 26) // length
+        write_texts(f"{room}/in", length, pairs)
+        seconds, peak, replies, status = timed([PROGRAM, "play", "lib.idl", "--hex"], f"{room}/in", room)
+        if (status, replies) != (0, 2 * pairs + 1):
+            sys.exit(f"{replies} replies to {2 * pairs + 1} requests of texts, status {status}")
+        moved = (os.path.getsize(f"{room}/in") + os.path.getsize(f"{room}/out")) / 1e6
+        both = sum(timed(["cat"], f"{room}/{name}", f"{room}/beside")[0] for name in ("in", "out"))
+        print(f"texts of {length} bytes: {moved:,.0f} MB in {seconds:.3f} s: {moved / seconds:,.0f} MB/s, peak {peak:,} KiB; cat {moved / both:,.0f} MB/s")

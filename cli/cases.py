@@ -7,9 +7,13 @@ Each case runs the program in a new empty folder with a library, command-line wo
 output, standard error and the status. The last line counts the cases.
 """
 import os
+import resource
+import struct
 import subprocess
 import sys
 import tempfile
+
+import wire
 
 ROOT = os.path.dirname(os.path.dirname(os.path.abspath(__file__)))
 PROGRAM = os.path.abspath(sys.argv[1]) if len(sys.argv) > 1 else f"{ROOT}/crates/oaut/out/oaut"
@@ -108,6 +112,16 @@ with open("/dev/full", "wb") as full:
 with tempfile.TemporaryDirectory() as room:
     with open(f"{room}/lib.idl", "wb") as file:
         file.write(SMALL)
+    for kib in range(32_768, 0, -256):  # less and less memory, until the buffers of a session are refused
+        limit = lambda: resource.setrlimit(resource.RLIMIT_AS, (1_024 * kib, 1_024 * kib))
+        done = subprocess.run([PROGRAM, "play", "lib.idl", "--hex"], cwd=room, input=REQUESTS, capture_output=True, preexec_fn=limit, timeout=120)
+        if done.returncode != 0:
+            break
+    tell("memory refused", (done.returncode, done.stdout, done.stderr) == (5, b"", b"oaut: out of memory\n"), done)
+
+with tempfile.TemporaryDirectory() as room:
+    with open(f"{room}/lib.idl", "wb") as file:
+        file.write(SMALL)
     pipe = subprocess.Popen([PROGRAM, "play", "lib.idl", "--hex"], cwd=room, stdin=subprocess.PIPE, stdout=subprocess.PIPE)
     replies = []
     for line in REQUESTS.splitlines(keepends=True):
@@ -117,6 +131,110 @@ with tempfile.TemporaryDirectory() as room:
     pipe.stdin.close()
     tell("each reply comes before the next request is sent", (pipe.wait(10), b"".join(replies)) == (0, REPLIES), replies)
     pipe.stdout.close()
+
+# --- values of every scalar type
+
+NO_INDEX = 0xFFFF_FFFF
+E_UNEXPECTED, E_INVALIDARG, MEMBER_NOT_FOUND, BAD_PARAM_COUNT = 0x8000_FFFF, 0x8007_0057, 0x8002_0003, 0x8002_000E
+TYPE_MISMATCH, BAD_VAR_TYPE, STUB_CODE = 0x8002_0005, 0x8002_0008, 0x8007_06F7
+DOUBLE, DATE = 5, 7
+HI = bytes.fromhex("0500000000000000080000000000000008000000000002000200000004000000" "0200000048006900")
+LARGEST_DECIMAL = bytes.fromhex("05000000000000000e000000000000000e0000000000000000001c00ffffffffffffffffffffffff")
+LONGEST = bytes(range(256)) * 1_024
+
+
+def talk(name, library, turns):
+    """A session with one object: each turn is a request without its tag, and the reply without its tag."""
+    asked = [line(tag) for tag, (line, _) in enumerate(turns, 2)]
+    answered = [answer(tag) for tag, (_, answer) in enumerate(turns, 2)]
+    play(name, CREATE + b"\n" + b"".join(asked), 0, CREATED + b"\n" + b"".join(answered), b"", library=library)
+
+
+def calls(dispid, flags, named, values, code=0, index=NO_INDEX):
+    return (lambda tag: wire.invoke(tag, 1, dispid, flags, named, values), lambda tag: wire.reply(tag, code, index))
+
+
+def puts(dispid, value, code=0, index=NO_INDEX):
+    return calls(dispid, 4, [-3], [value], code, index)
+
+
+def gets(dispid, value):
+    return (lambda tag: wire.get(tag, 1, dispid), lambda tag: wire.reply(tag, fields=wire.field(value)))
+
+
+# Of each type: its word, the zero that a property of it reads first, and values that are put and read back. A pair is read back as its second.
+ROWS = [
+    ("char", wire.scalar(wire.I1, 0), [wire.scalar(wire.I1, -128), wire.scalar(wire.I1, 127)]),
+    ("unsigned char", wire.scalar(wire.UI1, 0), [wire.scalar(wire.UI1, 255)]),
+    ("short", wire.scalar(wire.I2, 0), [wire.scalar(wire.I2, -32_768), wire.scalar(wire.I2, 32_767)]),
+    ("unsigned short", wire.scalar(wire.UI2, 0), [wire.scalar(wire.UI2, 65_535)]),
+    ("long", wire.scalar(wire.I4, 0), [wire.scalar(wire.I4, -(2**31)), wire.scalar(wire.I4, 2**31 - 1)]),
+    ("unsigned long", wire.scalar(wire.UI4, 0), [wire.scalar(wire.UI4, 2**32 - 1)]),
+    ("int", wire.scalar(wire.INT, 0), [wire.scalar(wire.INT, -1)]),
+    ("unsigned int", wire.scalar(wire.UINT, 0), [wire.scalar(wire.UINT, 2**31)]),
+    ("hyper", wire.scalar(wire.I8, 0), [wire.scalar(wire.I8, -(2**63)), wire.scalar(wire.I8, 2**63 - 1)]),
+    ("unsigned hyper", wire.scalar(wire.UI8, 0), [wire.scalar(wire.UI8, 2**64 - 1)]),
+    ("CURRENCY", wire.scalar(wire.CY, 0), [bytes.fromhex("0400000000000000060000000000000006000000" "00000000" "a861000000000000")]),
+    (
+        "VARIANT_BOOL",
+        wire.scalar(wire.BOOL, 0),
+        [bytes.fromhex("03000000000000000b000000000000000b000000ffff"), (wire.scalar(wire.BOOL, 1), wire.scalar(wire.BOOL, 0xFFFF)), wire.scalar(wire.BOOL, 0)],
+    ),
+    ("SCODE", wire.scalar(wire.ERROR, 0), [wire.scalar(wire.ERROR, 0x8000_4005)]),
+    ("DECIMAL", wire.scalar(wire.DECIMAL, (0, 0, 0)), [LARGEST_DECIMAL, wire.scalar(wire.DECIMAL, (2, 0x80, 2**64 + 5))]),
+    (
+        "BSTR",
+        wire.scalar(wire.BSTR),
+        [HI, wire.scalar(wire.BSTR, b""), wire.scalar(wire.BSTR, b"abc"), wire.scalar(wire.BSTR, LONGEST), wire.scalar(wire.BSTR)],
+    ),
+    ("VARIANT", wire.scalar(wire.EMPTY), [wire.scalar(wire.NULL), wire.scalar(wire.EMPTY), wire.scalar(wire.UINT, 1), HI, LARGEST_DECIMAL]),
+]
+VALUES = library_with(
+    interface(b"2", body=b" ".join(b"[id(%d)] %s P%d;" % (id, row[0].encode(), id) for id, row in enumerate(ROWS, 1)) + b" [id(17), readonly] long Version;")
+    + coclass(b"3", body=b"[default] dispinterface DItem;")
+)
+for id, (word, zero, values) in enumerate(ROWS, 1):
+    pairs = [value if isinstance(value, tuple) else (value, value) for value in values]
+    talk(f"values of {word}", VALUES, [gets(id, zero)] + [turn for given, kept in pairs for turn in (puts(id, given), gets(id, kept))])
+
+LONG, TEXT = (1 + [row[0] for row in ROWS].index(word) for word in ("long", "BSTR"))
+VERSION, NO_MEMBER = 17, 18
+FOUR = wire.scalar(wire.I4, 4)
+HALF = struct.pack("<IIHHHHIId", 4, 0, DOUBLE, 0, 0, 0, DOUBLE, 0, 0.5)
+talk(
+    "requests that are refused",
+    VALUES,
+    [
+        puts(LONG, FOUR),
+        puts(LONG, wire.scalar(wire.INT, 4), TYPE_MISMATCH, 0),
+        puts(LONG, wire.scalar(wire.EMPTY), TYPE_MISMATCH, 0),
+        puts(TEXT, FOUR, TYPE_MISMATCH, 0),
+        puts(LONG, HALF, BAD_VAR_TYPE, 0),
+        calls(LONG, 2, [], [FOUR, HALF, HALF], BAD_VAR_TYPE, 1),
+        calls(LONG, 2, [], [HALF, FOUR[:-1]], STUB_CODE),
+        puts(LONG, wire.scalar(wire.DECIMAL, (29, 0, 0)), STUB_CODE),
+        puts(LONG, wire.scalar(wire.DECIMAL, (0, 1, 0)), STUB_CODE),
+        puts(LONG, FOUR + b"\0", STUB_CODE),
+        puts(LONG, FOUR[:16] + wire.scalar(wire.INT, 4)[16:], STUB_CODE),
+        puts(TEXT, HI[:24] + b"\3" + HI[25:], STUB_CODE),
+        puts(TEXT, HI[:32] + b"\1" + HI[33:], STUB_CODE),
+        puts(TEXT, wire.scalar(wire.BSTR, LONGEST + b"a"), STUB_CODE),
+        calls(NO_MEMBER, 4, [-3], [], MEMBER_NOT_FOUND),
+        puts(VERSION, FOUR, MEMBER_NOT_FOUND),
+        calls(LONG, 4, [-3, 7], [FOUR], E_INVALIDARG),
+        calls(LONG, 4, [-3, -3], [FOUR, FOUR], E_INVALIDARG),
+        calls(LONG, 4, [], [FOUR], E_INVALIDARG),
+        calls(LONG, 2, [-3], [FOUR], E_INVALIDARG),
+        calls(LONG, 2, [], [FOUR], BAD_PARAM_COUNT),
+        calls(LONG, 4, [-3], [FOUR, FOUR], BAD_PARAM_COUNT),
+        gets(LONG, FOUR),
+        gets(TEXT, wire.scalar(wire.BSTR)),
+    ],
+)
+OBJECTS = 65_536
+made = run(["play", "lib.idl", "--hex"], (CREATE + b"\n") * (OBJECTS + 1), files={"lib.idl": SMALL})[1].splitlines()
+wanted = [(b"00000000ffffffff00000000%08x00000000" % int.from_bytes(number.to_bytes(4, "little"), "big")) for number in range(1, OBJECTS + 1)]
+tell("an object too many", [it[8:] for it in made] == wanted + [wire.reply(1, E_UNEXPECTED)[8:-1]], made[-1:])
 
 # --- libraries
 
@@ -130,6 +248,9 @@ refused("no text", b"", "syntax at byte 0")
 refused("no attributes", b"library", "syntax at byte 0")
 refused("a semicolon for a brace", SMALL.replace(b"library Demo {", b"library Demo ;"), f"syntax at byte {SMALL.index(b'library Demo {') + 13}")
 refused("a name of 65 letters", SMALL.replace(b"library Demo", b"library " + b"D" * 65), "limit name")
+refused("an interface too many", library_with(b"".join(interface(b"2", name=b"D%d" % it) for it in range(257))), "limit interfaces")
+refused("a coclass too many", library_with(interface(b"2") + b"".join(coclass(b"3", name=b"C%d" % it) for it in range(257))), "limit coclasses")
+refused("a member too many", library_with(interface(b"2", body=b"".join(b"[id(%d)] long P%d;" % (it, it) for it in range(1, 514)))), "limit members")
 refused("a name twice", library_with(interface(b"2", body=b"[id(1)] long Count; [id(2)] long COUNT;") + coclass(b"3")), "duplicate name COUNT")
 refused("an id twice", library_with(interface(b"2", body=b"[id(1)] long Count; [id(1)] long Other;") + coclass(b"3")), "duplicate id Other")
 refused("a GUID twice", library_with(interface(b"2") + coclass(b"1")), "duplicate guid 11223344-5566-7788-99aa-bbccddeeff01")

@@ -8,7 +8,7 @@ use std::marker::Model;
 
 /// A block that is being filled or emptied: empty places, then values, then empty places.
 ///
-/// It is not `Drop`: it ends in `full`, `free` or `clear`.
+/// It is not `Drop`: it ends in `full`, and inside this crate also in `free` or `clear`.
 pub struct Partial<T> {
     row: Row<T>,
     from: usize,
@@ -40,7 +40,7 @@ impl<T> Partial<T> {
     }
 
     /// A full block of `len` values, to be emptied.
-    pub fn of_full(row: Row<T>, len: usize) -> Partial<T>
+    pub(crate) fn of_full(row: Row<T>, len: usize) -> Partial<T>
         requires { (row ≡ map Some (values row)) × (len ≡ length row) }
         ensures { IsWindow result 0 (values row) 0 }
     {
@@ -53,21 +53,21 @@ impl<T> Partial<T> {
     }
 
     /// How many values there are.
-    pub fn count(&self) -> usize
+    pub(crate) fn count(&self) -> usize
         ensures { result ≡ length self.now.items }
     {
         self.to - self.from
     }
 
     /// How many places before the values are empty.
-    pub fn before(&self) -> usize
+    pub(crate) fn before(&self) -> usize
         ensures { result ≡ self.now.before }
     {
         self.from
     }
 
     /// Puts a value behind the others.
-    pub fn push_back(&mut self, item: T)
+    pub(crate) fn push_back(&mut self, item: T)
         requires { 0 < self.old.after }
         ensures { IsWindow self.new self.old.before (self.old.items ++ item ∷ []) (self.old.after - 1) }
     {
@@ -76,7 +76,7 @@ impl<T> Partial<T> {
     }
 
     /// Puts a value before the others.
-    pub fn push_front(&mut self, item: T)
+    pub(crate) fn push_front(&mut self, item: T)
         requires { 0 < self.old.before }
         ensures { IsWindow self.new (self.old.before - 1) (item ∷ self.old.items) self.old.after }
     {
@@ -85,7 +85,7 @@ impl<T> Partial<T> {
     }
 
     /// Moves the last value out.
-    pub fn pop_back(&mut self) -> T
+    pub(crate) fn pop_back(&mut self) -> T
         requires { 0 < length self.old.items }
         ensures { (self.old.items ≡ self.new.items ++ result ∷ []) × (self.new.before ≡ self.old.before) × (self.new.after ≡ self.old.after + 1) }
     {
@@ -108,7 +108,7 @@ impl<T> Partial<T> {
     }
 
     /// Frees the block, once it is empty.
-    pub fn free(self)
+    pub(crate) fn free(self)
         requires { self.items ≡ [] }
     {
         let Partial {
@@ -137,7 +137,7 @@ impl<T: Copy> Partial<T> {
 
 impl<T: Drop> Partial<T> {
     /// Drops the values beyond the first `keep`, the last one first.
-    pub fn shorten(&mut self, keep: usize)
+    pub(crate) fn shorten(&mut self, keep: usize)
         requires { keep ≤ length self.old.items }
         ensures { IsWindow self.new self.old.before (take keep self.old.items) (self.old.after + (length self.old.items - keep)) }
     {
@@ -146,8 +146,8 @@ impl<T: Drop> Partial<T> {
         }
     }
 
-    /// Drops the values and frees the block.
-    pub fn clear(mut self) {
+    /// Drops the values and frees the block. It has no clause, since nothing is left to speak of.
+    pub(crate) fn clear(mut self) {
         self.shorten(0);
         self.free();
     }

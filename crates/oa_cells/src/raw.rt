@@ -82,7 +82,7 @@ pub(crate) fn allocate<T, A: Allocator>(
 }
 
 /// Hands the block back in one step. Values that still stand in it are forgotten, not dropped:
-/// the two callers ask that there are none, or that values of their type have nothing to drop.
+/// the callers of `Row::freed` ask that there are none, or that values of their type have nothing to drop.
 pub(crate) fn release<T, A: Allocator>(
     alloc: &A,
     start: Start<T>,

@@ -9,8 +9,8 @@ use std_alloc::room::may_hold;
 
 /// A block of memory: a row of places, each empty or holding a value. It takes one word.
 ///
-/// A row is not `Drop`: whoever holds one has to free it, by `free` once each place is empty,
-/// or by `free_plain` where its values have nothing to drop.
+/// A row is not `Drop`: whoever holds one has to free it, by `free_plain` where its values have nothing to drop,
+/// and else inside this crate by `free`, once each place is empty.
 pub struct Row<T> {
     start: Start<T>,
     places: Places<T>,
@@ -27,9 +27,9 @@ impl<T> Model for Row<T> {
 }
 
 impl<T> Row<T> {
-    /// A new block of `len` empty places. `Err` where the allocator has none, or where so many
-    /// values of this type would take 2 ^ 63 bytes or more.
-    pub fn vacant(alloc: Global, len: usize) -> Result<Row<T>, AllocError>
+    /// A new block of `len` empty places. `Err` where the allocator has none, or where there would be
+    /// 2 ^ 63 places or bytes, or more; the allocator is not asked then.
+    pub(crate) fn vacant(alloc: Global, len: usize) -> Result<Row<T>, AllocError>
         ensures { IfOk result (λ r. r ≡ replicate len None) }
     {
         if !may_hold::<T>(len) {
@@ -50,7 +50,7 @@ impl<T> Row<T> {
     }
 
     /// Puts a value into an empty place.
-    pub fn put(&mut self, index: usize, item: T)
+    pub(crate) fn put(&mut self, index: usize, item: T)
         requires { (index < length self.old) × (get_or self.old index None ≡ None) }
         ensures { self.new ≡ slice_set self.old index (Some item) }
     {
@@ -58,7 +58,7 @@ impl<T> Row<T> {
     }
 
     /// Moves a value out of its place, which is empty then.
-    pub fn take(&mut self, index: usize) -> T
+    pub(crate) fn take(&mut self, index: usize) -> T
         requires { HasValue self.old index }
         ensures value { get_or self.old index None ≡ Some result }
         ensures emptied { self.new ≡ slice_set self.old index None }
@@ -75,8 +75,15 @@ impl<T> Row<T> {
     }
 
     /// Frees the block of `len` places, all of which are empty.
-    pub fn free(self, len: usize)
+    pub(crate) fn free(self, len: usize)
         requires { self ≡ replicate len None }
+    {
+        self.freed(len);
+    }
+
+    /// Hands the block back in one step, whatever stands in it.
+    fn freed(self, len: usize)
+        requires { length self ≡ len }
     {
         let Row {
             start,
@@ -93,12 +100,6 @@ impl<T: Copy> Row<T> {
     pub fn free_plain(self, len: usize)
         requires { length self ≡ len }
     {
-        let Row {
-            start,
-            places,
-            right,
-            alloc,
-        } = self;
-        release(&alloc, start, len, places, right);
+        self.freed(len);
     }
 }

@@ -1,8 +1,9 @@
 use crate::{
     DeviceFault, Disk, FileDisk, FuseDisk, MemoryDisk, NoDisk, Tear, flip, write_behind_gate,
 };
-use std::fs::{self, File, OpenOptions, Permissions};
-use std::io::ErrorKind;
+use std::alloc::{AllocError, Global};
+use std::fs::{self, OpenOptions, Permissions};
+use std::io::{self, ErrorKind};
 use std::os::unix::fs::PermissionsExt;
 use std::test::Fail;
 
@@ -10,26 +11,29 @@ const SIZE: usize = 16;
 
 #[derive(Clone, Copy, PartialEq, Eq)]
 enum Kind {
+    /// One byte.
     Read,
+    /// The whole disk.
+    ReadAll,
     Write,
     Sync,
 }
 
-use Kind::{Read, Sync, Write};
+use Kind::{Read, ReadAll, Sync, Write};
 
 /// A call, its place, and the bytes that it writes or gives.
-type Step = (Kind, usize, &'static [u8]);
+type Step = (Kind, u64, &'static [u8]);
 
 /// Writes that overlap between syncs, writes that lie apart, and writes that no sync follows.
 const SCRIPT: [Step; 12] = [
     (Write, 0, &[1, 2, 3, 4]),
-    (Read, 2, &[3, 4, 0, 0]),
+    (Read, 2, &[3]),
     (Sync, 0, &[]),
     (Write, 2, &[5, 6, 7, 8]),
     (Write, 4, &[9, 10, 11, 12]),
     (Sync, 0, &[]),
     (
-        Read,
+        ReadAll,
         0,
         &[1, 2, 5, 6, 9, 10, 11, 12, 0, 0, 0, 0, 0, 0, 0, 0],
     ),
@@ -38,6 +42,37 @@ const SCRIPT: [Step; 12] = [
     (Sync, 0, &[]),
     (Write, 15, &[40]),
     (Write, 14, &[41, 42]),
+];
+
+/// What the disk holds after the script.
+const LAST: [u8; SIZE] = [30, 2, 5, 6, 9, 10, 11, 12, 21, 22, 23, 24, 25, 26, 41, 42];
+
+/// The bytes that the script writes, one by one: the number of the call, from 1, the place, and the byte.
+const WRITTEN: [(u64, usize, u8); 24] = [
+    (1, 0, 1),
+    (1, 1, 2),
+    (1, 2, 3),
+    (1, 3, 4),
+    (4, 2, 5),
+    (4, 3, 6),
+    (4, 4, 7),
+    (4, 5, 8),
+    (5, 4, 9),
+    (5, 5, 10),
+    (5, 6, 11),
+    (5, 7, 12),
+    (8, 8, 21),
+    (8, 9, 22),
+    (8, 10, 23),
+    (8, 11, 24),
+    (8, 12, 25),
+    (8, 13, 26),
+    (8, 14, 27),
+    (8, 15, 28),
+    (9, 0, 30),
+    (11, 15, 40),
+    (12, 14, 41),
+    (12, 15, 42),
 ];
 
 const TEARS: [Tear; 9] = [
@@ -52,169 +87,221 @@ const TEARS: [Tear; 9] = [
     Tear::Cut(100),
 ];
 
-/// Makes one call, where it lies inside the disk. A read that gives other bytes than those is answered as a failed one.
-fn make<D: Disk>(disk: &mut D, step: Step) -> Result<(), DeviceFault> {
-    let (kind, at, bytes) = step;
-    let (size, at, len) = (disk.size(), at as u64, bytes.len());
-    if at > size || len as u64 > size - at || len > SIZE {
+/// A read that gives other bytes than wanted is answered as a failed one.
+fn told(same: bool) -> Result<(), DeviceFault> {
+    if same { Ok(()) } else { Err(DeviceFault::Read) }
+}
+
+fn gives_byte<D: Disk>(disk: &mut D, at: u64, wanted: &[u8]) -> Result<(), DeviceFault> {
+    if at >= disk.size() {
         return Ok(());
     }
+    let mut byte = [0; 1];
+    disk.read_at(at, &mut byte)?;
+    told(byte.as_slice() == wanted)
+}
+
+fn gives_all<D: Disk>(disk: &mut D, wanted: &[u8]) -> Result<(), DeviceFault> {
+    if disk.size() != 16 {
+        return Ok(());
+    }
+    let mut all = [0; SIZE];
+    disk.read_at(0, &mut all)?;
+    told(all.as_slice() == wanted)
+}
+
+fn puts<D: Disk>(disk: &mut D, at: u64, bytes: &[u8]) -> Result<(), DeviceFault> {
+    let size = disk.size();
+    if at > size || bytes.len() as u64 > size - at {
+        return Ok(());
+    }
+    disk.write_at(at, bytes)
+}
+
+/// Makes one call, where it lies inside the disk.
+fn make<D: Disk>(disk: &mut D, step: Step) -> Result<(), DeviceFault> {
+    let (kind, at, bytes) = step;
     match kind {
+        Read => gives_byte(disk, at, bytes),
+        ReadAll => gives_all(disk, bytes),
+        Write => puts(disk, at, bytes),
         Sync => disk.sync(),
-        Write => disk.write_at(at, bytes),
-        Read => {
-            let mut buffer = [0; SIZE];
-            disk.read_at(at, &mut buffer[..len])?;
-            if &buffer[..len] == bytes {
-                Ok(())
-            } else {
-                Err(DeviceFault::Read)
-            }
-        }
     }
 }
 
-/// The byte at that place after a crash, found place by place: the last write before the last sync that covers it, and
-/// then what the tear makes of the later ones.
-fn byte_left(moment: usize, tear: Tear, place: usize) -> u8 {
-    let (ended, begun) = (moment / 2, moment.div_ceil(2));
-    let mut synced = 0;
-    for (i, (kind, _, _)) in SCRIPT.iter().enumerate() {
-        if i < ended && *kind == Sync {
-            synced = i + 1;
+/// Makes the calls in order, up to the first that fails, and says how many succeeded.
+fn play<D: Disk>(disk: &mut D, steps: &[Step]) -> u64 {
+    let mut made = 0u64;
+    for step in steps {
+        if make(disk, *step).is_err() {
+            return made;
+        }
+        made = made.saturating_add(1);
+    }
+    made
+}
+
+/// A call, its answer, and the count of failures after it.
+type Row = (Step, Result<(), DeviceFault>, u64);
+
+/// Whether each call has its answer and its count.
+fn answers<D: Disk>(disk: &mut D, rows: &[Row]) -> bool {
+    for (step, wanted, failures) in rows {
+        if make(disk, *step) != *wanted || disk.failures() != *failures {
+            return false;
         }
     }
-    let mut byte = 0;
-    let mut before = 0u64;
-    for (i, (kind, at, bytes)) in SCRIPT.iter().enumerate() {
-        if *kind == Write {
-            // Past the end of the bytes where the write begins behind the place.
-            let offset = place.wrapping_sub(*at);
-            if let Some(written) = bytes.get(offset) {
-                if i < synced {
-                    byte = *written;
-                } else if i < begun {
-                    match tear {
-                        Tear::Lost => {}
-                        Tear::Kept => byte = *written,
-                        Tear::Filled(fill) => byte = fill,
-                        Tear::Cut(count) => {
-                            if before.saturating_add(offset as u64) < count {
-                                byte = *written;
-                            }
-                        }
-                    }
-                }
-            }
-            if i >= synced {
-                before = before.saturating_add(bytes.len() as u64);
+    true
+}
+
+/// What the tear makes of a byte, the number of whose write among the pending bytes is that.
+fn torn_byte(before: u8, written: u8, tear: Tear, number: u64) -> u8 {
+    match tear {
+        Tear::Lost => before,
+        Tear::Kept => written,
+        Tear::Filled(byte) => byte,
+        Tear::Cut(count) => { if number < count { written } else { before } }
+    }
+}
+
+/// The disk after a crash, made byte by byte: what was written up to the last sync that had ended, which is one of the
+/// calls 3, 6 and 10, and then what the tear makes of the bytes of the calls that had begun.
+fn image_left(moment: u64, tear: Tear) -> [u8; SIZE] {
+    let synced = match moment {
+        0..6 => 0,
+        6..12 => 3,
+        12..20 => 6,
+        _ => 10,
+    };
+    let begun = moment.div_ceil(2);
+    let mut image = [0; SIZE];
+    let mut number = 0u64;
+    for (call, place, written) in WRITTEN {
+        if let Some(byte) = image.get_mut(place) {
+            if call <= synced {
+                *byte = written;
+            } else if call <= begun {
+                *byte = torn_byte(*byte, written, tear, number);
+                number = number.saturating_add(1);
             }
         }
     }
-    byte
+    image
+}
+
+/// Whether the disk, crashed at that moment, holds those bytes.
+fn leaves(disk: &MemoryDisk, moment: u64, tear: Tear, wanted: &[u8]) -> Result<bool, AllocError> {
+    if moment > disk.moments() {
+        return Ok(false);
+    }
+    let left = disk.crash(moment, tear)?;
+    Ok(left.bytes() == wanted)
 }
 
 #[test]
 fn each_tear_at_each_moment(rt: HostRuntime) -> Result<(), Fail> {
-    let mut disk = MemoryDisk::new(rt.alloc(), SIZE, SCRIPT.len(), 64)?;
-    for step in SCRIPT {
-        assert!(rt; make(&mut disk, step).is_ok());
-    }
+    let mut disk = MemoryDisk::new(rt.alloc(), SIZE, SCRIPT.len(), WRITTEN.len())?;
+    assert_eq!(rt; play(&mut disk, &SCRIPT), 12);
     assert_eq!(rt; disk.moments(), 24);
     for moment in 0..25 {
         for tear in TEARS {
-            if moment <= disk.moments() {
-                let mut left = disk.crash(moment, tear)?;
-                assert_eq!(rt; left.bytes().len(), SIZE);
-                for (place, byte) in left.bytes().iter().enumerate() {
-                    let wanted = byte_left(moment as usize, tear, place);
-                    assert_eq!(rt; *byte, wanted, "place {place} at moment {moment}");
-                }
-                assert_eq!(rt; left.moments(), 0);
-                for step in SCRIPT {
-                    let _ = make(&mut left, step);
-                }
-                assert_eq!(rt; left.failures(), 0);
-            }
-        }
-    }
-    // Some of these images, by hand.
-    let rows: [(u64, Tear, [u8; SIZE]); 5] = [
-        (4, Tear::Lost, [0; SIZE]),
-        (
-            9,
-            Tear::Kept,
-            [1, 2, 5, 6, 9, 10, 11, 12, 0, 0, 0, 0, 0, 0, 0, 0],
-        ),
-        (
-            9,
-            Tear::Cut(5),
-            [1, 2, 5, 6, 9, 8, 0, 0, 0, 0, 0, 0, 0, 0, 0, 0],
-        ),
-        (
-            19,
-            Tear::Filled(7),
-            [7, 2, 5, 6, 9, 10, 11, 12, 7, 7, 7, 7, 7, 7, 7, 7],
-        ),
-        (
-            24,
-            Tear::Kept,
-            [30, 2, 5, 6, 9, 10, 11, 12, 21, 22, 23, 24, 25, 26, 41, 42],
-        ),
-    ];
-    for (moment, tear, wanted) in rows {
-        if moment <= disk.moments() {
-            assert_eq!(rt; disk.crash(moment, tear)?.bytes(), wanted.as_slice());
+            let wanted = image_left(moment, tear);
+            assert!(rt;
+                leaves(&disk, moment, tear, &wanted)?,
+                "moment {moment}, {tear:?}"
+            );
         }
     }
     Ok(())
 }
 
+/// Some of these images, by hand.
+const BY_HAND: [(u64, Tear, [u8; SIZE]); 5] = [
+    (4, Tear::Lost, [0; SIZE]),
+    (
+        9,
+        Tear::Kept,
+        [1, 2, 5, 6, 9, 10, 11, 12, 0, 0, 0, 0, 0, 0, 0, 0],
+    ),
+    (
+        9,
+        Tear::Cut(5),
+        [1, 2, 5, 6, 9, 8, 0, 0, 0, 0, 0, 0, 0, 0, 0, 0],
+    ),
+    (
+        19,
+        Tear::Filled(7),
+        [7, 2, 5, 6, 9, 10, 11, 12, 7, 7, 7, 7, 7, 7, 7, 7],
+    ),
+    (24, Tear::Kept, LAST),
+];
+
+#[test]
+fn some_images_by_hand(rt: HostRuntime) -> Result<(), Fail> {
+    for (moment, tear, wanted) in BY_HAND {
+        assert_eq!(rt; image_left(moment, tear), wanted);
+    }
+    Ok(())
+}
+
+/// Whether a crashed disk has no call behind it, and room for the same calls.
+fn starts_again(alloc: Global) -> Result<bool, AllocError> {
+    let mut disk = MemoryDisk::new(alloc, SIZE, SCRIPT.len(), WRITTEN.len())?;
+    let before = disk.moments();
+    play(&mut disk, &SCRIPT);
+    let mut left = disk.crash(before, Tear::Kept)?;
+    let fresh = left.moments() == 0 && left.failures() == 0;
+    Ok(fresh && play(&mut left, &SCRIPT) == 12 && left.bytes() == LAST.as_slice())
+}
+
+const PAST_THE_ROOM: [Row; 7] = [
+    ((Write, 0, &[1, 2, 3]), Ok(()), 0),
+    ((Write, 4, &[4, 5, 6]), Err(DeviceFault::Write), 1),
+    ((Write, 4, &[4, 5]), Ok(()), 1),
+    ((Write, 6, &[6]), Err(DeviceFault::Write), 2),
+    ((Read, 1, &[2]), Ok(()), 2),
+    ((Read, 1, &[2]), Err(DeviceFault::Read), 3),
+    ((Sync, 0, &[]), Err(DeviceFault::Write), 4),
+];
+
 #[test]
 fn a_call_past_the_room_is_a_counted_failure(rt: HostRuntime) -> Result<(), Fail> {
-    let mut disk = MemoryDisk::new(rt.alloc(), SIZE, 3, 5)?;
-    let rows: [(Step, Result<(), DeviceFault>, u64); 7] = [
-        ((Write, 0, &[1, 2, 3]), Ok(()), 0),
-        ((Write, 4, &[4, 5, 6]), Err(DeviceFault::Write), 1),
-        ((Write, 4, &[4, 5]), Ok(()), 1),
-        ((Write, 6, &[6]), Err(DeviceFault::Write), 2),
-        ((Read, 0, &[1, 2, 3, 0]), Ok(()), 2),
-        ((Read, 0, &[1, 2, 3, 0]), Err(DeviceFault::Read), 3),
-        ((Sync, 0, &[]), Err(DeviceFault::Write), 4),
-    ];
-    for (step, wanted, failures) in rows {
-        assert_eq!(rt; make(&mut disk, step), wanted);
-        assert_eq!(rt; disk.failures(), failures);
-    }
-    assert_eq!(rt;
-        disk.bytes(),
-        [1, 2, 3, 0, 4, 5, 0, 0, 0, 0, 0, 0, 0, 0, 0, 0].as_slice()
-    );
+    assert!(rt; starts_again(rt.alloc())?);
+    let mut disk = MemoryDisk::new(rt.alloc(), 8, 3, 5)?;
+    assert!(rt; answers(&mut disk, &PAST_THE_ROOM));
+    assert_eq!(rt; disk.bytes(), [1, 2, 3, 0, 4, 5, 0, 0].as_slice());
     assert_eq!(rt; disk.moments(), 6);
     Ok(())
 }
 
+/// Whether so many of the first calls pass, each of the others fails as its kind does, and the disk within has met the
+/// first alone.
+fn blows_at(alloc: Global, first_failing: u64) -> Result<bool, AllocError> {
+    let inner = MemoryDisk::new(alloc, SIZE, SCRIPT.len(), WRITTEN.len())?;
+    let mut disk = FuseDisk::new(inner, first_failing);
+    let passed = first_failing.saturating_sub(1).min(12);
+    let mut good = true;
+    let mut number = 0u64;
+    for step in SCRIPT {
+        let wanted = match step.0 {
+            _ if number < passed => Ok(()),
+            Read | ReadAll => Err(DeviceFault::Read),
+            _ => Err(DeviceFault::Write),
+        };
+        good = make(&mut disk, step) == wanted && good;
+        number = number.saturating_add(1);
+    }
+    good = disk.failures() == number - passed.min(number) && good;
+    Ok(good && disk.into_inner().moments() == passed.saturating_mul(2))
+}
+
 #[test]
 fn a_fuse_passes_the_calls_before_it_on(rt: HostRuntime) -> Result<(), Fail> {
-    for first_failing in 0..15u64 {
-        let inner = MemoryDisk::new(rt.alloc(), SIZE, SCRIPT.len(), 64)?;
-        let mut disk = FuseDisk::new(inner, first_failing);
-        let mut failed = 0u64;
-        for (i, step) in SCRIPT.iter().enumerate() {
-            let answer = make(&mut disk, *step);
-            let wanted = if i as u64 + 1 < first_failing {
-                Ok(())
-            } else if step.0 == Read {
-                Err(DeviceFault::Read)
-            } else {
-                Err(DeviceFault::Write)
-            };
-            assert_eq!(rt; answer, wanted, "call {i} of {first_failing}");
-            failed = failed.saturating_add(u64::from(answer.is_err()));
-        }
-        assert_eq!(rt; disk.failures(), failed);
-        let passed = first_failing.saturating_sub(1).min(12);
-        assert_eq!(rt; disk.into_inner().moments(), passed.saturating_mul(2));
+    for first_failing in 0..15 {
+        assert!(rt;
+            blows_at(rt.alloc(), first_failing)?,
+            "from call {first_failing} on"
+        );
     }
     Ok(())
 }
@@ -222,126 +309,133 @@ fn a_fuse_passes_the_calls_before_it_on(rt: HostRuntime) -> Result<(), Fail> {
 #[test]
 fn a_disk_of_no_bytes(rt: HostRuntime) -> Result<(), Fail> {
     let mut disk = NoDisk;
-    assert_eq!(rt; disk.size(), 0);
     assert_eq!(rt; disk.read_at(0, &mut []), Ok(()));
     assert_eq!(rt; disk.write_at(0, &[]), Ok(()));
     assert_eq!(rt; disk.sync(), Ok(()));
-    assert_eq!(rt; disk.failures(), 0);
+    assert_eq!(rt; (disk.size(), disk.failures()), (0, 0));
     Ok(())
+}
+
+/// Whether a crash at that moment leaves the gate closed, or open with the bytes behind it; at the end it is open.
+fn is_before_or_after(disk: &MemoryDisk, moment: u64, tear: Tear) -> Result<bool, AllocError> {
+    if moment > disk.moments() {
+        return Ok(false);
+    }
+    let left = disk.crash(moment, tear)?;
+    let is_open = left.bytes().get(4) == Some(&1);
+    let is_whole = left.bytes().get(5..8) == Some([7, 8, 9].as_slice());
+    Ok(is_open && is_whole || !is_open && moment < 8)
 }
 
 #[test]
 fn a_gate_is_open_once_the_bytes_are_whole(rt: HostRuntime) -> Result<(), Fail> {
-    let mut disk = MemoryDisk::new(rt.alloc(), SIZE, 8, 16)?;
-    if disk.size() == 16 {
-        assert_eq!(rt; write_behind_gate(&mut disk, 5, &[7, 8, 9]), Ok(()));
-    }
+    let mut disk = MemoryDisk::new(rt.alloc(), SIZE, 7, 16)?;
+    assert_eq!(rt; write_behind_gate(&mut disk, 5, &[7, 8, 9]), Ok(()));
     assert_eq!(rt; disk.moments(), 8);
     for moment in 0..9 {
         for tear in TEARS {
-            if moment <= disk.moments() {
-                let left = disk.crash(moment, tear)?;
-                let is_open = left.bytes().get(4) == Some(&1);
-                assert!(rt; !is_open || left.bytes().get(5..8) == Some([7, 8, 9].as_slice()));
-                assert!(rt; is_open || moment < 8);
-            }
+            assert!(rt;
+                is_before_or_after(&disk, moment, tear)?,
+                "moment {moment}, {tear:?}"
+            );
         }
     }
-    if disk.size() == 16 {
-        assert_eq!(rt; flip(&mut disk, 4, 0), Ok(()));
-        assert_eq!(rt; disk.bytes().get(4), Some(&0));
-        // The room of the record is used up.
-        assert_eq!(rt; flip(&mut disk, 4, 1), Err(DeviceFault::Write));
-    }
+    assert_eq!(rt; flip(&mut disk, 4, 0), Ok(()));
+    // The room of the record is used up.
+    assert_eq!(rt; flip(&mut disk, 4, 1), Err(DeviceFault::Write));
+    assert_eq!(rt; disk.bytes().get(4), Some(&0));
     Ok(())
 }
 
-const FOLDER: &str = "oa_disk_test";
+const PATH: &str = "./oa_disk_made";
 
-const PATH: &str = "oa_disk_test/disk";
+/// Whether the script and a sync pass, and no failure is counted.
+fn is_written(disk: io::Result<FileDisk>) -> bool {
+    match disk {
+        Ok(mut disk) => {
+            play(&mut disk, &SCRIPT) == 12 && disk.sync() == Ok(()) && disk.failures() == 0
+        }
+        Err(_) => false,
+    }
+}
+
+/// Whether a disk of that size was opened, and each call has its answer and its count.
+fn meets(disk: io::Result<FileDisk>, size: u64, rows: &[Row]) -> bool {
+    match disk {
+        Ok(mut disk) => disk.size() == size && answers(&mut disk, rows),
+        Err(_) => false,
+    }
+}
+
+const WHOLE: [Row; 2] = [
+    ((ReadAll, 0, &LAST), Ok(()), 0),
+    ((Sync, 0, &[]), Ok(()), 0),
+];
+
+/// What lies past the end is a counted failure.
+const CUT_AT_8: [Row; 4] = [
+    ((Read, 7, &[12]), Ok(()), 0),
+    ((ReadAll, 0, &LAST), Err(DeviceFault::Read), 1),
+    ((Sync, 0, &[]), Ok(()), 1),
+    ((Read, 8, &[21]), Err(DeviceFault::Read), 2),
+];
 
 #[test]
 fn a_file_keeps_what_was_synced(rt: HostRuntime) -> Result<(), Fail> {
-    let _ = fs::remove_dir_all(&rt, FOLDER);
-    fs::create_dir(&rt, FOLDER)?;
-    let mut disk = FileDisk::create(&rt, PATH, 16)?;
-    assert_eq!(rt; disk.size(), 16);
-    for step in SCRIPT {
-        assert!(rt; make(&mut disk, step).is_ok());
-    }
-    assert!(rt; make(&mut disk, (Sync, 0, &[])).is_ok());
-    assert_eq!(rt; disk.failures(), 0);
-    drop(disk);
-    let mut disk = FileDisk::open(&rt, PATH)?;
-    assert_eq!(rt; disk.size(), 16);
-    let mut back = [0; SIZE];
-    if disk.size() == 16 {
-        assert_eq!(rt; disk.read_at(0, &mut back), Ok(()));
-    }
-    assert_eq!(rt;
-        back,
-        [30, 2, 5, 6, 9, 10, 11, 12, 21, 22, 23, 24, 25, 26, 41, 42]
-    );
-    assert_eq!(rt; disk.failures(), 0);
-
-    // A file that is made shorter by another: what lies past its end is a counted failure.
+    let _ = fs::remove_file(&rt, PATH);
+    assert!(rt; is_written(FileDisk::create(&rt, PATH, 16)));
+    assert!(rt; meets(FileDisk::open(&rt, PATH), 16, &WHOLE));
+    // A file that is made shorter by another.
+    let disk = FileDisk::open(&rt, PATH);
     OpenOptions::new().write(true).open(&rt, PATH)?.set_len(8)?;
-    let rows: [(Step, Result<(), DeviceFault>, u64); 4] = [
-        ((Read, 0, &[30, 2, 5, 6, 9, 10, 11, 12]), Ok(()), 0),
-        ((Read, 6, &[11, 12, 0, 0]), Err(DeviceFault::Read), 1),
-        ((Sync, 0, &[]), Ok(()), 1),
-        ((Read, 15, &[0]), Err(DeviceFault::Read), 2),
-    ];
-    for (step, wanted, failures) in rows {
-        assert_eq!(rt; make(&mut disk, step), wanted);
-        assert_eq!(rt; disk.failures(), failures);
-    }
-    fs::remove_dir_all(&rt, FOLDER)?;
+    assert!(rt; meets(disk, 16, &CUT_AT_8));
+    fs::remove_file(&rt, PATH)?;
     Ok(())
 }
 
+/// The fault of an opening.
+fn refusal(disk: io::Result<FileDisk>) -> Option<ErrorKind> {
+    disk.err().map(|error| error.kind())
+}
+
+const THERE: &str = "oa_disk_there";
+
+const NO_DISKS: [(&str, ErrorKind); 5] = [
+    ("oa_disk_missing", ErrorKind::NotFound),
+    ("oa_disk_there/below", ErrorKind::NotADirectory),
+    (".", ErrorKind::IsADirectory),
+    ("/dev/null", ErrorKind::Unsupported),
+    ("a\0b", ErrorKind::InvalidInput),
+];
+
+const NOT_MADE: [(&str, u64, ErrorKind); 4] = [
+    (THERE, 4, ErrorKind::AlreadyExists),
+    ("oa_disk_missing/below", 4, ErrorKind::NotFound),
+    ("a\0b", 4, ErrorKind::InvalidInput),
+    ("oa_disk_large", 1 << 63, ErrorKind::InvalidInput),
+];
+
 #[test]
 fn a_path_that_is_no_disk(rt: HostRuntime) -> Result<(), Fail> {
-    let folder = "oa_disk_paths";
-    let there = "oa_disk_paths/there";
-    let _ = fs::remove_dir_all(&rt, folder);
-    fs::create_dir(&rt, folder)?;
-    fs::write(&rt, there, b"abc".as_slice())?;
-    let rows = [
-        ("oa_disk_paths/missing", ErrorKind::NotFound),
-        ("oa_disk_paths/there/below", ErrorKind::NotADirectory),
-        ("oa_disk_paths", ErrorKind::IsADirectory),
-        ("/dev/null", ErrorKind::Unsupported),
-        ("a\0b", ErrorKind::InvalidInput),
-    ];
-    for (path, wanted) in rows {
+    let _ = fs::remove_file(&rt, THERE);
+    fs::write(&rt, THERE, b"abc".as_slice())?;
+    for (path, wanted) in NO_DISKS {
         assert!(rt;
-            FileDisk::open(&rt, path).is_err_and(|error| error.kind() == wanted),
+            refusal(FileDisk::open(&rt, path)) == Some(wanted),
             "{path}"
         );
     }
-    let rows = [
-        (there, ErrorKind::AlreadyExists),
-        ("oa_disk_paths/missing/below", ErrorKind::NotFound),
-        ("a\0b", ErrorKind::InvalidInput),
-    ];
-    for (path, wanted) in rows {
+    for (path, size, wanted) in NOT_MADE {
         assert!(rt;
-            FileDisk::create(&rt, path, 4).is_err_and(|error| error.kind() == wanted),
+            refusal(FileDisk::create(&rt, path, size)) == Some(wanted),
             "{path}"
         );
     }
-    assert!(rt; FileDisk::create(&rt, "oa_disk_paths/large", 1 << 63).is_err());
-    // A user who may do anything opens it all the same.
-    fs::set_permissions(&rt, there, Permissions::from_mode(0o444))?;
-    match FileDisk::open(&rt, there) {
-        Ok(disk) => assert_eq!(rt; disk.size(), 3),
-        Err(error) => assert_eq!(rt; error.kind(), ErrorKind::PermissionDenied),
-    }
-    fs::remove_dir_all(&rt, folder)?;
-    // A name with no folder before it.
-    let _ = fs::remove_file(&rt, "oa_disk_here");
-    assert_eq!(rt; FileDisk::create(&rt, "oa_disk_here", 3)?.size(), 3);
-    fs::remove_file(&rt, "oa_disk_here")?;
+    let _ = fs::remove_file(&rt, "oa_disk_large");
+    // A user who may do anything opens a file that is only to be read all the same.
+    fs::set_permissions(&rt, THERE, Permissions::from_mode(0o444))?;
+    let found = refusal(FileDisk::open(&rt, THERE));
+    assert!(rt; found.is_none() || found == Some(ErrorKind::PermissionDenied));
+    fs::remove_file(&rt, THERE)?;
     Ok(())
 }

@@ -1,8 +1,8 @@
 -- A record with one call more.
-use Rattle.std.proofs.Common.{◌≡◌, ◌⊎◌, ℕ, ◌+◌, ◌*◌, ◌≤◌, ◌&&◌, Bool, true, false, IsTrue, Result, Ok, Err, OnOk, OnErr, MatchResult, inl, inr, List, [], length, take, drop, get_or, refl, sym, ◌∙◌, ap, subst}
+use Rattle.std.proofs.Common.{◌≡◌, ◌⊎◌, ℕ, ◌+◌, ◌*◌, ◌≤◌, ◌&&◌, Bool, true, false, true≢false, IsTrue, Result, Ok, Err, OnOk, OnErr, MatchResult, inl, inr, List, [], length, take, drop, get_or, refl, sym, ◌∙◌, ap, subst, arith, length-drop}
 use Rattle.std.proofs.lemmas.Bool.{and_parts}
 use Rattle.std.proofs.lemmas.Slice.Eq.{bytes_eq-Decides}
-use Rattle.std.proofs.lemmas.List.{get_or-take, get_or-drop}
+use Rattle.std.proofs.lemmas.List.{get_or-take, get_or-drop, length-take-le, ext_get_or}
 use Rattle.oa_disk.specs.Disk.{Holds, Elapses}
 use Rattle.oa_disk.specs.declared.call.Call.{Call}
 use Rattle.oa_disk.specs.declared.call.Call.TheVariants.{Read, Write, Sync}
@@ -75,3 +75,16 @@ agrees_holds disk at bytes b inside is = let same = agrees_same disk at bytes (a
   within = inside;
   each = λ i lt. sym (get_or-take (length bytes) (drop at disk) i 0 lt ∙ get_or-drop at disk i 0) ∙ ap (λ (l : List ℕ). get_or l i 0) same;
 }
+
+-- a disk that has the bytes agrees with them
+pub holds_agrees : (disk : List ℕ) (at : ℕ) (bytes : List ℕ) (b : Bool) → IsTrue b → Holds disk at bytes → IsTrue (b && agrees disk at bytes)
+unfolding agrees
+holds_agrees disk at bytes true is holds = (bytes_eq-Decides (take (length bytes) (drop at disk)) bytes).1 same
+  where
+    count : length (take (length bytes) (drop at disk)) ≡ length bytes
+    count = length-take-le (length bytes) (drop at disk) (omega (arith, length-drop at disk, holds.within))
+
+    same : take (length bytes) (drop at disk) ≡ bytes
+    same = ext_get_or 0 (take (length bytes) (drop at disk)) bytes count
+        (λ i lt. get_or-take (length bytes) (drop at disk) i 0 (omega (arith, count)) ∙ get_or-drop at disk i 0 ∙ holds.each i (omega (arith, count)))
+holds_agrees disk at bytes false is holds = absurd (true≢false (sym is))

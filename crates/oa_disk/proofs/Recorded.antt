@@ -2,10 +2,11 @@
 use Rattle.std.proofs.Common.{◌≡◌, ◌⊎◌, inl, inr, ⊎_elim, ℕ, ◌+◌, ◌*◌, ◌-◌, ◌<◌, ◌≤◌, List, [], ◌∷◌, ◌++◌, length, take, drop, get_or, sym, ◌∙◌, ap, subst, arith, length-append, length-drop}
 use Rattle.std.proofs.lemmas.List.{take_all, take-append-le, drop-append-le, length-take-le, get_or-take, get_or-drop, ext_get_or}
 use Rattle.std.proofs.lemmas.Bool.{cases_lt}
-use Rattle.oa_disk.specs.Disk.{Torn, Follows, Elapses}
+use Rattle.oa_disk.specs.Disk.{Torn, Follows, Reaches, Elapses}
 use Rattle.oa_disk.specs.declared.call.Call.{Call}
 use Rattle.oa_disk.specs.declared.call.Call.TheVariants.{Read, Write, Sync}
 use Rattle.oa_disk.specs.Replay.{State, IsImage, IsImageOfSome, IsOutside, states, last_state, within, after, count_of, count_all, overwritten}
+use Rattle.oa_disk.specs.Ranges.{Torn_refl}
 use Rattle.oa_disk.specs.Replaying.{length-states, counts_last}
 use Rattle.oa_disk.proofs.Overwritten.{length-overwritten, overwritten_below, overwritten_in, overwritten_above, torn_from}
 
@@ -156,6 +157,21 @@ write_follows state at count more same inside c is = (older, older_is, subst (λ
       size = length-overwritten c (take (length more) (drop at state.contents)) at fits_c ∙ size_is;
       outside = λ i out. at_each i out (cases_lt i at) (cases_lt i (at + count));
     }
+
+-- any bytes in the range of a write are left by an image after it
+pub write_reaches : (state : State) (at count : ℕ) (more : List ℕ) → count ≡ length more → at + length more ≤ length state.contents
+    → Reaches (Torn at (length more)) (IsImage state) (IsImage (after state (Write at count) more))
+write_reaches state at count more same inside d c was torn = record {
+  size = torn.size ∙ was.size ∙ sym (length-overwritten state.contents more at inside);
+  outside = λ i out. ⊎_elim
+      (λ lt. torn.below i lt ∙ was.outside i out.1 ∙ sym (overwritten_below state.contents more at inside i lt))
+      (λ le. torn.above i (omega arith) ∙ was.outside i out.1 ∙ sym (overwritten_above state.contents more at inside i (omega arith)))
+      out.0;
+}
+
+-- an image before a write is one after it
+pub write_stays : (state : State) (at count : ℕ) (more c : List ℕ) → count ≡ length more → at + length more ≤ length state.contents → IsImage state c → IsImage (after state (Write at count) more) c
+write_stays state at count more c same inside was = write_reaches state at count more same inside c c was (Torn_refl at (length more) c)
 
 -- a sync drops what is pending
 pub synced_image : (state : State) (c : List ℕ) → IsImage (after state Sync []) c → IsImage state c

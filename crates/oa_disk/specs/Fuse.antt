@@ -10,6 +10,10 @@ inner_of f = f.disk
 abbrev pub calls_left_of : {D : Type 0} → FuseDisk D → ℕ
 calls_left_of f = f.calls_left
 
+-- how many calls it has refused
+abbrev pub refused_of : {D : Type 0} → FuseDisk D → ℕ
+refused_of f = f.refused
+
 -- A call takes one of those that are left, and is passed on: the fuse itself refuses none. With none left it fails, and
 -- is not passed on.
 pub record Spends {D E : Type 0} (old new : FuseDisk D) (result : Result (Unit {0}) E) : Type 0 where

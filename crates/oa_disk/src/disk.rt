@@ -1,6 +1,6 @@
 //! A disk as a store sees it: what a read gives, and what a crash may leave.
 ghost use Rattle.std.specs.Prelude.{◌≡◌, ◌+◌, ◌≤◌, List, ℕ, Bool, IsTrue, length, OnOk, OnErr, IfErr};
-ghost use Rattle.oa_disk.specs.Disk.{Holds, Torn, Follows, Only, Elapses, HasCause, CountsOnce};
+ghost use Rattle.oa_disk.specs.Disk.{Holds, Torn, Follows, Reaches, Only, Elapses, HasCause, CountsOnce};
 
 use thiserror::Error;
 
@@ -56,9 +56,11 @@ pub trait Disk {
         ensures read { OnOk result (IsTrue (is_honest self.new) → Holds (contents self.old) at bytes.new) }
         ensures contents { IsTrue (is_honest self.old) → contents self.new ≡ contents self.old }
         ensures images { IsTrue (is_honest self.old) → (c : List ℕ) → image self.new c → image self.old c }
+        ensures stay { IsTrue (is_honest self.old) → (c : List ℕ) → image self.old c → image self.new c }
         ensures time { IsTrue (is_honest self.old) → Elapses (moment self.old) (moment self.new) (image_since self.old) (image_since self.new) (image self.new) }
         ensures size { size_of self.new ≡ size_of self.old }
         ensures honest { IsTrue (is_honest self.new) → IsTrue (is_honest self.old) }
+        ensures kept { OnOk result (IsTrue (is_honest self.old) → Holds (contents self.old) at bytes.new → IsTrue (is_honest self.new)) }
         ensures honest_err { OnErr result (is_honest self.new ≡ is_honest self.old) }
         ensures cause { HasCause (failures_of self.old) (failures_of self.new) result }
         ensures once { CountsOnce (failures_of self.old) (failures_of self.new) result }
@@ -71,6 +73,8 @@ pub trait Disk {
         ensures written { OnOk result (IsTrue (is_honest self.old) → Holds (contents self.new) at bytes.now) }
         ensures others { IsTrue (is_honest self.old) → Torn at (length bytes.now) (contents self.old) (contents self.new) }
         ensures images { IsTrue (is_honest self.old) → Follows (Torn at (length bytes.now)) (image self.old) (image self.new) }
+        ensures any_bytes { OnOk result (IsTrue (is_honest self.old) → Reaches (Torn at (length bytes.now)) (image self.old) (image self.new)) }
+        ensures stay { IsTrue (is_honest self.old) → (c : List ℕ) → image self.old c → image self.new c }
         ensures time { IsTrue (is_honest self.old) → Elapses (moment self.old) (moment self.new) (image_since self.old) (image_since self.new) (image self.new) }
         ensures size { size_of self.new ≡ size_of self.old }
         ensures honest { is_honest self.new ≡ is_honest self.old }
@@ -83,6 +87,7 @@ pub trait Disk {
         ensures durable { OnOk result (IsTrue (is_honest self.old) → Only (contents self.old) (image self.new)) }
         ensures contents { IsTrue (is_honest self.old) → contents self.new ≡ contents self.old }
         ensures images { IsTrue (is_honest self.old) → (c : List ℕ) → image self.new c → image self.old c }
+        ensures stay { OnErr result (IsTrue (is_honest self.old) → (c : List ℕ) → image self.old c → image self.new c) }
         ensures time { IsTrue (is_honest self.old) → Elapses (moment self.old) (moment self.new) (image_since self.old) (image_since self.new) (image self.new) }
         ensures size { size_of self.new ≡ size_of self.old }
         ensures honest { is_honest self.new ≡ is_honest self.old }

@@ -1,6 +1,6 @@
 //! A disk that fails from some call on.
 ghost use Rattle.std.specs.Prelude.{◌≡◌, ◌+◌, ◌-◌, ◌^◌, ◌<◌, ◌≤◌, ◌↔◌, List, ℕ, length, min, IsTrue, OnOk, OnErr, IfErr, IsErr};
-ghost use Rattle.oa_disk.specs.Disk.{Holds, Torn, Follows, Only, Elapses, HasCause, CountsOnce};
+ghost use Rattle.oa_disk.specs.Disk.{Holds, Torn, Follows, Reaches, Only, Elapses, HasCause, CountsOnce};
 
 use crate::{DeviceFault, Disk};
 
@@ -29,13 +29,14 @@ fn spend(calls_left: &mut u64, refused: &mut u64, fault: DeviceFault) -> Result<
 }
 
 impl<D: Disk> FuseDisk<D> {
-    ghost use Rattle.oa_disk.specs.Fuse.{inner_of, calls_left_of};
+    ghost use Rattle.oa_disk.specs.Fuse.{inner_of, calls_left_of, refused_of};
 
     /// Passes the calls before call number `first_failing` on, and fails each one from there on. Reads, writes and syncs
     /// are its calls, numbered from 1.
     pub fn new(disk: D, first_failing: u64) -> FuseDisk<D>
         ensures disk { inner_of result ≡ disk }
         ensures calls { calls_left_of result ≡ first_failing - 1 }
+        ensures refused { refused_of result ≡ 0 }
     {
         FuseDisk {
             disk,
@@ -98,9 +99,11 @@ impl<D: Disk> Disk for FuseDisk<D> {
         ensures read { OnOk result (IsTrue (D.is_honest self.new.disk) → Holds (D.contents self.old.disk) at bytes.new) }
         ensures contents { IsTrue (D.is_honest self.old.disk) → D.contents self.new.disk ≡ D.contents self.old.disk }
         ensures images { IsTrue (D.is_honest self.old.disk) → (c : List ℕ) → D.image self.new.disk c → D.image self.old.disk c }
+        ensures stay { IsTrue (D.is_honest self.old.disk) → (c : List ℕ) → D.image self.old.disk c → D.image self.new.disk c }
         ensures time { IsTrue (D.is_honest self.old.disk) → Elapses (D.moment self.old.disk) (D.moment self.new.disk) (D.image_since self.old.disk) (D.image_since self.new.disk) (D.image self.new.disk) }
         ensures size { D.size_of self.new.disk ≡ D.size_of self.old.disk }
         ensures honest { IsTrue (D.is_honest self.new.disk) → IsTrue (D.is_honest self.old.disk) }
+        ensures kept { OnOk result (IsTrue (D.is_honest self.old.disk) → Holds (D.contents self.old.disk) at bytes.new → IsTrue (D.is_honest self.new.disk)) }
         ensures honest_err { OnErr result (D.is_honest self.new.disk ≡ D.is_honest self.old.disk) }
         ensures cause { HasCause (min (D.failures_of self.old.disk + self.old.refused) (2 ^ 64 - 1)) (min (D.failures_of self.new.disk + self.new.refused) (2 ^ 64 - 1)) result }
         ensures once { CountsOnce (min (D.failures_of self.old.disk + self.old.refused) (2 ^ 64 - 1)) (min (D.failures_of self.new.disk + self.new.refused) (2 ^ 64 - 1)) result }
@@ -116,6 +119,8 @@ impl<D: Disk> Disk for FuseDisk<D> {
         ensures written { OnOk result (IsTrue (D.is_honest self.old.disk) → Holds (D.contents self.new.disk) at bytes.now) }
         ensures others { IsTrue (D.is_honest self.old.disk) → Torn at (length bytes.now) (D.contents self.old.disk) (D.contents self.new.disk) }
         ensures images { IsTrue (D.is_honest self.old.disk) → Follows (Torn at (length bytes.now)) (D.image self.old.disk) (D.image self.new.disk) }
+        ensures any_bytes { OnOk result (IsTrue (D.is_honest self.old.disk) → Reaches (Torn at (length bytes.now)) (D.image self.old.disk) (D.image self.new.disk)) }
+        ensures stay { IsTrue (D.is_honest self.old.disk) → (c : List ℕ) → D.image self.old.disk c → D.image self.new.disk c }
         ensures time { IsTrue (D.is_honest self.old.disk) → Elapses (D.moment self.old.disk) (D.moment self.new.disk) (D.image_since self.old.disk) (D.image_since self.new.disk) (D.image self.new.disk) }
         ensures size { D.size_of self.new.disk ≡ D.size_of self.old.disk }
         ensures honest { D.is_honest self.new.disk ≡ D.is_honest self.old.disk }
@@ -132,6 +137,7 @@ impl<D: Disk> Disk for FuseDisk<D> {
         ensures durable { OnOk result (IsTrue (D.is_honest self.old.disk) → Only (D.contents self.old.disk) (D.image self.new.disk)) }
         ensures contents { IsTrue (D.is_honest self.old.disk) → D.contents self.new.disk ≡ D.contents self.old.disk }
         ensures images { IsTrue (D.is_honest self.old.disk) → (c : List ℕ) → D.image self.new.disk c → D.image self.old.disk c }
+        ensures stay { OnErr result (IsTrue (D.is_honest self.old.disk) → (c : List ℕ) → D.image self.old.disk c → D.image self.new.disk c) }
         ensures time { IsTrue (D.is_honest self.old.disk) → Elapses (D.moment self.old.disk) (D.moment self.new.disk) (D.image_since self.old.disk) (D.image_since self.new.disk) (D.image self.new.disk) }
         ensures size { D.size_of self.new.disk ≡ D.size_of self.old.disk }
         ensures honest { D.is_honest self.new.disk ≡ D.is_honest self.old.disk }

@@ -1,7 +1,7 @@
 //! A disk in memory that can be made to crash at any moment.
-ghost use Rattle.std.specs.Prelude.{◌≡◌, ◌+◌, ◌*◌, ◌-◌, ◌<◌, ◌≤◌, ◌∷◌, ◌++◌, [], length, drop, true, refl, ◌↔◌, OnOk, OnErr, IsOk, IfOk, vec_len, vec_capacity, replicate, Some};
+ghost use Rattle.std.specs.Prelude.{◌≡◌, ◌+◌, ◌*◌, ◌-◌, ◌<◌, ◌≤◌, ◌∷◌, ◌++◌, [], length, drop, true, refl, ◌↔◌, List, ℕ, OnOk, OnErr, IsOk, IfOk, IfErr, vec_len, vec_capacity, replicate, Some};
 ghost use Rattle.oa_disk.specs.Replay.{State, IsImage, IsImageOfSome, states, last_state, synced, contents_after, overwritten, count_all, count_of, AllInside};
-ghost use Rattle.oa_disk.specs.Disk.{Holds, Torn, Follows, Only, Elapses, HasCause};
+ghost use Rattle.oa_disk.specs.Disk.{Holds, Torn, Follows, Reaches, Only, Elapses, HasCause, CountsOnce};
 ghost use Rattle.oa_disk.specs.Replaying.{contents_is_image, image_size, counts_last, only_last};
 
 use crate::crash::{leave_at, overwrite};
@@ -130,7 +130,12 @@ fn record_call(
     written.extend_from_slice(bytes)
 }
 
+/// Each call has the clauses of the trait, and one more: it is served exactly where the record has room for it, and then it
+/// is recorded; else the count of failures alone changes.
 impl Disk for MemoryDisk {
+    ghost use Rattle.oa_disk.specs.declared.call.Call.TheVariants.{Read, Write, Sync};
+    ghost use Rattle.oa_disk.specs.Memory.{contents_of, moments_of, image_of, image_since_of, IsRecorded};
+
     ghost size_of = { λ m. length m.bytes.items };
 
     ghost failures_of = { λ m. m.failures };
@@ -139,11 +144,11 @@ impl Disk for MemoryDisk {
 
     ghost contents = { λ m. m.bytes.items };
 
-    ghost image = { λ m. IsImage (last_state (synced m.first.items) m.calls.items m.written.items) };
+    ghost image = { image_of };
 
-    ghost moment = { λ m. 2 * length m.calls.items };
+    ghost moment = { moments_of };
 
-    ghost image_since = { λ m t. IsImageOfSome (drop t (synced m.first.items ∷ states (synced m.first.items) m.calls.items m.written.items)) };
+    ghost image_since = { image_since_of };
 
     ghost contents_is_image = { λ m _. contents_is_image (last_state (synced m.first.items) m.calls.items m.written.items) m.bytes.items m.replayed };
 
@@ -161,7 +166,19 @@ impl Disk for MemoryDisk {
         self.failures
     }
 
-    fn read_at(&mut self, at: u64, bytes: &mut [u8]) -> Result<(), DeviceFault> {
+    fn read_at(&mut self, at: u64, bytes: &mut [u8]) -> Result<(), DeviceFault>
+        requires { at + length bytes.old ≤ length (contents_of self.old) }
+        ensures recorded { IsRecorded Read [] self.old self.new result }
+        ensures read { OnOk result (Holds (contents_of self.old) at bytes.new) }
+        ensures contents { contents_of self.new ≡ contents_of self.old }
+        ensures images { (c : List ℕ) → image_of self.new c → image_of self.old c }
+        ensures stay { (c : List ℕ) → image_of self.old c → image_of self.new c }
+        ensures time { Elapses (moments_of self.old) (moments_of self.new) (image_since_of self.old) (image_since_of self.new) (image_of self.new) }
+        ensures size { length (contents_of self.new) ≡ length (contents_of self.old) }
+        ensures cause { HasCause self.old.failures self.new.failures result }
+        ensures once { CountsOnce self.old.failures self.new.failures result }
+        ensures fault { IfErr result (λ e. e ≡ DeviceFault.Read) }
+    {
         let Ok(()) = record_call(
             &mut self.calls,
             &mut self.written,
@@ -178,7 +195,20 @@ impl Disk for MemoryDisk {
         Ok(())
     }
 
-    fn write_at(&mut self, at: u64, bytes: &[u8]) -> Result<(), DeviceFault> {
+    fn write_at(&mut self, at: u64, bytes: &[u8]) -> Result<(), DeviceFault>
+        requires { at + length bytes.now ≤ length (contents_of self.old) }
+        ensures recorded { IsRecorded (Write at (length bytes.now)) bytes.now self.old self.new result }
+        ensures written { OnOk result (Holds (contents_of self.new) at bytes.now) }
+        ensures others { Torn at (length bytes.now) (contents_of self.old) (contents_of self.new) }
+        ensures images { Follows (Torn at (length bytes.now)) (image_of self.old) (image_of self.new) }
+        ensures any_bytes { OnOk result (Reaches (Torn at (length bytes.now)) (image_of self.old) (image_of self.new)) }
+        ensures stay { (c : List ℕ) → image_of self.old c → image_of self.new c }
+        ensures time { Elapses (moments_of self.old) (moments_of self.new) (image_since_of self.old) (image_since_of self.new) (image_of self.new) }
+        ensures size { length (contents_of self.new) ≡ length (contents_of self.old) }
+        ensures cause { HasCause self.old.failures self.new.failures result }
+        ensures once { CountsOnce self.old.failures self.new.failures result }
+        ensures fault { IfErr result (λ e. e ≡ DeviceFault.Write) }
+    {
         let from = at as usize;
         let Ok(()) = record_call(
             &mut self.calls,
@@ -195,7 +225,18 @@ impl Disk for MemoryDisk {
         Ok(())
     }
 
-    fn sync(&mut self) -> Result<(), DeviceFault> {
+    fn sync(&mut self) -> Result<(), DeviceFault>
+        ensures recorded { IsRecorded Sync [] self.old self.new result }
+        ensures durable { OnOk result (Only (contents_of self.old) (image_of self.new)) }
+        ensures contents { contents_of self.new ≡ contents_of self.old }
+        ensures images { (c : List ℕ) → image_of self.new c → image_of self.old c }
+        ensures stay { OnErr result ((c : List ℕ) → image_of self.old c → image_of self.new c) }
+        ensures time { Elapses (moments_of self.old) (moments_of self.new) (image_since_of self.old) (image_since_of self.new) (image_of self.new) }
+        ensures size { length (contents_of self.new) ≡ length (contents_of self.old) }
+        ensures cause { HasCause self.old.failures self.new.failures result }
+        ensures once { CountsOnce self.old.failures self.new.failures result }
+        ensures fault { IfErr result (λ e. e ≡ DeviceFault.Write) }
+    {
         let Ok(()) = record_call(
             &mut self.calls,
             &mut self.written,

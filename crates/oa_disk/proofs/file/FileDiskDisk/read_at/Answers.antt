@@ -1,9 +1,9 @@
-use Rattle.std.proofs.Common.{◌+◌, ◌≤◌, Bool, IsTrue, [], length, refl, ◌∙◌, ap, subst, arith}
+use Rattle.std.proofs.Common.{◌+◌, ◌≤◌, Bool, IsTrue, [], length, refl, sym, ◌∙◌, ap, subst, arith}
 use Rattle.std.proofs.lemmas.Result.{on_ok_weaker}
 use Rattle.oa_disk.specs.declared.call.Call.TheVariants.{Read}
 use Rattle.oa_disk.specs.declared.record.Record.{Record}
 use Rattle.oa_disk.specs.Replay.{State, IsImage, contents_after}
-use Rattle.oa_disk.proofs.Noted.{state_is, time_is, at_ok, at_err, some_read, agrees_none, agrees_holds}
+use Rattle.oa_disk.proofs.Noted.{state_is, time_is, at_ok, at_err, some_read, agrees_none, agrees_holds, holds_agrees}
 use Rattle.oa_disk.proofs.file.FileDiskDisk.read_at.Goals as goal
 
 pub returns-clause-read : goal.returns-clause-read
@@ -25,6 +25,17 @@ returns-clause-images c h image is =
     let self = c.args.self.now in
     let some = some_read _ c.get.result self.history _ _ _ c.get.ensures.noted in
     subst (λ (s : State). IsImage s image) (state_is self.history Read [] c.args.at some.0 self.recorded refl _ some.1) is
+
+pub returns-clause-stay : goal.returns-clause-stay
+returns-clause-stay c h image was =
+    let self = c.args.self.now in
+    let some = some_read _ c.get.result self.history _ _ _ c.get.ensures.noted in
+    subst (λ (s : State). IsImage s image) (sym (state_is self.history Read [] c.args.at some.0 self.recorded refl _ some.1)) was
+
+pub returns-clause-kept : goal.returns-clause-kept
+returns-clause-kept c =
+    let old = c.args.self.now.history in
+    on_ok_weaker c.get.result (λ is h holds. subst (λ (b : Bool). IsTrue b) (sym (ap (λ (r : Record). r.honest) is)) (holds_agrees (contents_after old.first old.calls old.written) c.args.at c.get.new.bytes old.honest h holds)) (at_ok _ _ c.get.result c.get.ensures.noted)
 
 pub returns-clause-time : goal.returns-clause-time
 returns-clause-time c h =

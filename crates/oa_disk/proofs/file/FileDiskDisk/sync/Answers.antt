@@ -1,10 +1,10 @@
-use Rattle.std.proofs.Common.{inl, inr, [], refl, ◌∙◌, ap, subst}
+use Rattle.std.proofs.Common.{inl, inr, [], refl, sym, ◌∙◌, ap, subst}
 use Rattle.std.proofs.lemmas.Result.{on_ok_weaker}
 use Rattle.oa_disk.specs.declared.call.Call.TheVariants.{Read, Sync}
 use Rattle.oa_disk.specs.declared.record.Record.{Record}
 use Rattle.oa_disk.specs.Replay.{State, IsImage, last_state, synced, contents_after}
 use Rattle.oa_disk.proofs.Recorded.{synced_image, synced_only}
-use Rattle.oa_disk.proofs.Noted.{state_is, time_is, at_ok, at_either, agrees_none}
+use Rattle.oa_disk.proofs.Noted.{state_is, time_is, at_ok, at_err, at_either, agrees_none}
 use Rattle.oa_disk.proofs.file.FileDiskDisk.sync.Goals as goal
 
 pub returns-clause-durable : goal.returns-clause-durable
@@ -30,6 +30,11 @@ returns-clause-images c h image left =
       | inl is ↦ synced_image (last_state (synced old.first) old.calls old.written) image (subst (λ (s : State). IsImage s image) (state_is old Sync [] 0 [] self.recorded refl _ is) left)
       | inr e ↦ subst (λ (s : State). IsImage s image) (state_is old Read [] 0 [] self.recorded refl _ e.1.0) left
     ]
+
+pub returns-clause-stay : goal.returns-clause-stay
+returns-clause-stay c =
+    let self = c.args.self.now in
+    at_err _ _ _ c.flush.result (λ e is h image was. subst (λ (s : State). IsImage s image) (sym (state_is self.history Read [] 0 [] self.recorded refl _ is.0)) was) c.flush.ensures.noted
 
 pub returns-clause-time : goal.returns-clause-time
 returns-clause-time c h =

@@ -16,12 +16,17 @@ invariant_of-self-clause-recorded c =
     count_by (synced self.first.items) self.calls.items self.written.items Read [] self.recorded refl _ _ c.in-Ok.ensures.calls c.in-Ok.ensures.written
 
 pub returns-clause-images : goal.returns-clause-images
-returns-clause-images c h image is =
+returns-clause-images c image is =
     let self = c.args.self.now in
     subst (λ (s : State). IsImage s image) (last_by (synced self.first.items) self.calls.items self.written.items Read [] self.recorded refl _ _ c.in-Ok.ensures.calls c.in-Ok.ensures.written) is
 
+pub returns-clause-stay : goal.returns-clause-stay
+returns-clause-stay c image was =
+    let self = c.args.self.now in
+    subst (λ (s : State). IsImage s image) (sym (last_by (synced self.first.items) self.calls.items self.written.items Read [] self.recorded refl _ _ c.in-Ok.ensures.calls c.in-Ok.ensures.written)) was
+
 pub returns-clause-time : goal.returns-clause-time
-returns-clause-time c h =
+returns-clause-time c =
     let self = c.args.self.now in
     elapses_by (synced self.first.items) self.calls.items self.written.items Read [] self.recorded refl _ _ c.in-Ok.ensures.calls c.in-Ok.ensures.written
 

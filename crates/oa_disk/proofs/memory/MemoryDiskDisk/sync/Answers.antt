@@ -16,19 +16,19 @@ invariant_of-self-clause-recorded c =
     count_by (synced self.first.items) self.calls.items self.written.items Sync [] self.recorded refl _ _ c.in-Ok.ensures.calls c.in-Ok.ensures.written
 
 pub returns-clause-durable : goal.returns-clause-durable
-returns-clause-durable c h image is =
+returns-clause-durable c image is =
     let self = c.args.self.now in
     synced_only (last_state (synced self.first.items) self.calls.items self.written.items) self.bytes.items image self.replayed
     (subst (λ (s : State). IsImage s image) (last_by (synced self.first.items) self.calls.items self.written.items Sync [] self.recorded refl _ _ c.in-Ok.ensures.calls c.in-Ok.ensures.written) is)
 
 pub returns-clause-images : goal.returns-clause-images
-returns-clause-images c h image is =
+returns-clause-images c image is =
     let self = c.args.self.now in
     synced_image (last_state (synced self.first.items) self.calls.items self.written.items) image
     (subst (λ (s : State). IsImage s image) (last_by (synced self.first.items) self.calls.items self.written.items Sync [] self.recorded refl _ _ c.in-Ok.ensures.calls c.in-Ok.ensures.written) is)
 
 pub returns-clause-time : goal.returns-clause-time
-returns-clause-time c h =
+returns-clause-time c =
     let self = c.args.self.now in
     elapses_by (synced self.first.items) self.calls.items self.written.items Sync [] self.recorded refl _ _ c.in-Ok.ensures.calls c.in-Ok.ensures.written
 

@@ -6,7 +6,7 @@ use Rattle.oa_ndr.specs.Forms.{padding, unit}
 use Rattle.oa_ndr.specs.Reading.{Cursor, at, unit_at}
 use Rattle.oa_ndr.proofs.Laws.{unit_reads}
 use Rattle.oa_record.specs.Layouts.{Layout, opcode_of, layout}
-use Rattle.oa_record.specs.Asks.{opcode_at, takes_memory}
+use Rattle.oa_record.specs.Asks.{opcode_at, opcode_takes_memory}
 use Rattle.oa_record.specs.Reading.{IsStarved, IsStarvedBody}
 use Rattle.oa_record.specs.declared.fault.RecordFault.{RecordFault}
 use Rattle.oa_record.specs.declared.fault.RecordFault.TheVariants.{Stub, BadVarType, Memory}
@@ -58,4 +58,4 @@ opcode_read body x n y s t u e f g =
 pub starves : (e : RecordFault) (body : List ℕ) (n : ℕ) → (8 ≤ length body) × (opcode_at body ≡ n) → IsStarved e n → IsStarvedBody e body
 starves Stub body n at s = tt
 starves (BadVarType i) body n at s = tt
-starves Memory body n at s = (at.0, ap takes_memory at.1 ∙ s)
+starves Memory body n at s = (at.0, ap opcode_takes_memory at.1 ∙ s)

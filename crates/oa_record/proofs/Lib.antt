@@ -2,4 +2,5 @@ mod Header
 mod Judged
 pub mod LayoutLaws
 mod Parts
+mod Refusals
 mod Requests

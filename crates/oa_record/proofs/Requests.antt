@@ -12,7 +12,7 @@ use Rattle.oa_record.specs.Judging.{Refuses}
 use Rattle.oa_record.specs.declared.fault.RecordFault.{RecordFault}
 use Rattle.oa_record.specs.declared.fault.RecordFault.TheVariants.{Stub, BadVarType, Memory}
 use Rattle.oa_record.specs.declared.request.Request.TheVariants as requests
-use Rattle.oa_record.specs.Asks.{Lies, AllSpell, request_of, request_opcode, Asks, Spoils, HasBroken, HasBadType, HasNoLayout, IsStub, IsBadVarType, IsRequest, opcode_at, takes_memory, max_body}
+use Rattle.oa_record.specs.Asks.{Lies, AllSpell, request_of, request_opcode, Asks, Spoils, HasBroken, HasBadType, HasNoLayout, IsStub, IsBadVarType, IsRequest, opcode_at, opcode_takes_memory, max_body}
 use Rattle.oa_record.specs.declared.request.Request.{Request}
 use Rattle.oa_record.specs.declared.request.Invoke.{Invoke}
 use Rattle.oa_record.proofs.LayoutLaws.{layout_reads}
@@ -33,7 +33,7 @@ same_spelled one [] [] (w ∷ ws) a b = absurd b
 same_spelled one (f ∷ fs) [] ws a b = absurd a
 same_spelled one (f ∷ fs) (v ∷ vs) [] a b = absurd b
 
-one_layout : (body : List ℕ) (p q : Layout) → Lies p body → Lies q body → p ≡ q
+pub one_layout : (body : List ℕ) (p q : Layout) → Lies p body → Lies q body → p ≡ q
 one_layout body p q a b = one_value layout_reads body p q tt a.form tt b.form
 
 pub one_request : OneValue → (body : List ℕ) (p q : Request) → Asks body p → Asks body q → p ≡ q
@@ -93,7 +93,7 @@ no_values body head fields (BadVarType index) short read same h = (h.0, h.1, rec
 no_values body head fields Memory short read same h =
     let lies = lies_so body (Layout.InvokeBody head) short read in
     let at = opcode_lies (Layout.InvokeBody head) body lies.form in
-    record { long = at.0; short = short; opcode = ap takes_memory at.1 }
+    record { long = at.0; short = short; opcode = ap opcode_takes_memory at.1 }
 
 pub asks_create : (body class : List ℕ) → length body ≤ max_body → whole layout_at body ≡ Some (Layout.CreateBody class) → Asks body (requests.Create class)
 asks_create body class short read = record { parts = Layout.CreateBody class; lies = lies_so body (Layout.CreateBody class) short read; values = []; spelled = tt; is = refl }

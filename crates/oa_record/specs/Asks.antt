@@ -114,14 +114,14 @@ abbrev pub opcode_at : List ℕ → ℕ
 opcode_at body = little_number 2 (drop 4 body)
 
 -- the opcodes whose bodies take memory to be read
-abbrev pub takes_memory : ℕ → Bool
-takes_memory opcode = opcode == 4
+abbrev pub opcode_takes_memory : ℕ → Bool
+opcode_takes_memory opcode = opcode == 4
 
 -- The body is of such an opcode. No other body is answered with want of memory: not one below 8 bytes, nor one with an opcode that is none, nor a CREATE.
 pub record MayStarve (body : List ℕ) : Type 0 where
   pub long : 8 ≤ length body
   pub short : length body ≤ max_body
-  pub opcode : takes_memory (opcode_at body) ≡ true
+  pub opcode : opcode_takes_memory (opcode_at body) ≡ true
 
 -- what reading a body answers
 abbrev pub IsRequest : List ℕ → Result Request RecordFault → Type 0

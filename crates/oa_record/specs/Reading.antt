@@ -5,7 +5,7 @@ use Rattle.oa_ndr.specs.Reading.{Cursor, Reading, ◌>>=◌, give, fail, choose,
 use Rattle.oa_model.specs.Guids.{wire_order}
 use Rattle.oa_record.specs.Heads.{HeadValue}
 use Rattle.oa_record.specs.Layouts.{Layout, max_arguments}
-use Rattle.oa_record.specs.Asks.{takes_memory, opcode_at}
+use Rattle.oa_record.specs.Asks.{opcode_takes_memory, opcode_at}
 use Rattle.oa_record.specs.declared.fault.RecordFault.{RecordFault}
 use Rattle.oa_record.specs.declared.fault.RecordFault.TheVariants.{Stub, BadVarType, Memory}
 
@@ -34,7 +34,7 @@ AnswersAll view (Err e) read = Fails e read
 abbrev pub IsStarved : RecordFault → ℕ → Type 0
 IsStarved Stub opcode = Unit {0}
 IsStarved (BadVarType i) opcode = Unit {0}
-IsStarved Memory opcode = takes_memory opcode ≡ true
+IsStarved Memory opcode = opcode_takes_memory opcode ≡ true
 
 abbrev pub StarvesAt : {X : Type 0} → Result X RecordFault → ℕ → Type 0
 StarvesAt (Ok x) opcode = Unit {0}
@@ -44,7 +44,7 @@ StarvesAt (Err e) opcode = IsStarved e opcode
 abbrev pub IsStarvedBody : RecordFault → List ℕ → Type 0
 IsStarvedBody Stub body = Unit {0}
 IsStarvedBody (BadVarType i) body = Unit {0}
-IsStarvedBody Memory body = (8 ≤ length body) × (takes_memory (opcode_at body) ≡ true)
+IsStarvedBody Memory body = (8 ≤ length body) × (opcode_takes_memory (opcode_at body) ≡ true)
 
 abbrev pub Starves : {X : Type 0} → Result X RecordFault → List ℕ → Type 0
 Starves (Ok x) body = Unit {0}

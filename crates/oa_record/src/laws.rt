@@ -16,6 +16,12 @@ pub fn refused_asks_nothing()
     ensures bad_type { (body : List ℕ) (index : ℕ) (q : ARequest) → IsBadVarType body index → Asks body q → ⊥ }
 {}
 
+/// A body has one refusal: bad stub data, or one index of a bad type.
+pub fn one_refusal()
+    ensures code { (body : List ℕ) (index : ℕ) → IsStub body → IsBadVarType body index → ⊥ }
+    ensures index { (body : List ℕ) (i j : ℕ) → IsBadVarType body i → IsBadVarType body j → i ≡ j }
+{}
+
 /// The opcode of what a body asks stands in it, so that a body of under 8 bytes asks nothing.
 pub fn opcode_stands()
     ensures { (body : List ℕ) (q : ARequest) → Asks body q → (8 ≤ length body) × (opcode_at body ≡ request_opcode q) }

@@ -15,6 +15,7 @@ pub use fault::RecordFault;
 pub use reading::{read_request, tag_of};
 pub use reply::{Reply, number_field, variant_field};
 pub use request::{Invoke, Request};
+pub use writing::put_all;
 
 #[cfg(test)]
 mod tests;

@@ -69,8 +69,8 @@ fn values(alloc: Global, fields: &[&[u8]]) -> Result<Vec<Variant>, RecordFault>
 /// project's choice).
 ///
 /// `Stub` where the body is laid out as no request, has more than 1,048,576 bytes, or has more than 32 arguments or named ones, and where the
-/// field of a value is broken; else `BadVarType` with the lowest index of a value with a type outside the profile. `Memory` only for a body
-/// with values: never under 8 bytes, nor with an opcode that is none.
+/// field of a value is broken; else `BadVarType` with the lowest index of a value with a type outside the profile. `Memory` only for an
+/// INVOKE's opcode in a body of 8 to 1,048,576 bytes.
 pub fn read_request(alloc: Global, body: &[u8]) -> Result<Request, RecordFault>
     ensures { IsRequest body.now result }
 {

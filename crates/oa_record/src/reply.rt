@@ -5,7 +5,7 @@ ghost use Rattle.oa_model.specs.Codes.{s_ok};
 ghost use Rattle.oa_ndr.specs.Forms.{padding};
 ghost use Rattle.oa_record.specs.Replies.{ReplyValue, word, index_word, reply_head, reply_record, reply_bytes, number_field, variant_field, Puts};
 
-use crate::writing::put;
+use crate::put_all;
 use oa_model::HResult;
 use oa_variant::Variant;
 use oa_wire_variant::{wire_len, write_variant};
@@ -101,9 +101,9 @@ impl Reply {
     pub fn write<W: Write>(&self, writer: &mut W) -> io::Result<()>
         ensures { Puts result (W.contents writer.old) (W.contents writer.new) (reply_bytes self.now) }
     {
-        put(writer, &self.length())?;
-        put(writer, &self.head())?;
-        put(writer, self.body())
+        put_all(writer, &self.length())?;
+        put_all(writer, &self.head())?;
+        put_all(writer, self.body())
     }
 
     // How many bytes follow the length, as a u32.
@@ -132,23 +132,11 @@ pub fn number_field(alloc: Global, number: u32) -> Result<Vec<u8>, AllocError>
     Vec::from_slice(alloc, &two_words(number))
 }
 
-// Room for padding, which is at most 7 bytes.
-const ZEROS: [u8; 8] = [0; 8];
-
-// How many bytes lie between a place and the next multiple of 8.
-fn padding(place: usize) -> usize
-    ensures value { result ≡ padding 8 place }
-    ensures small { result < 8 }
-{
-    let over = place % 8;
-    if over == 0 { 0 } else { 8 - over }
-}
-
 // Adds zeros up to the next multiple of 8.
-fn add_padding(out: &mut Vec<u8>, place: usize) -> Result<(), AllocError>
-    ensures { OnOk result (out.new.items ≡ out.old.items ++ replicate (padding 8 place) 0) }
+fn pad(out: &mut Vec<u8>) -> Result<(), AllocError>
+    ensures { OnOk result (out.new.items ≡ out.old.items ++ replicate (padding 8 (length out.old.items)) 0) }
 {
-    out.extend_from_slice(&ZEROS[..padding(place)])
+    out.resize(out.len().next_multiple_of(8), 0)
 }
 
 /// The fields of a reply that are a value: u32 count of the value's bytes, u32 reserved, these bytes, zeros up to a multiple of 8.
@@ -160,6 +148,6 @@ pub fn variant_field(alloc: Global, value: &Variant) -> Result<Vec<u8>, AllocErr
     let mut field = Vec::with_capacity(alloc, 16 + len)?;
     field.extend_from_slice(&two_words(len as u32))?;
     write_variant(value, &mut field)?;
-    add_padding(&mut field, len)?;
+    pad(&mut field)?;
     Ok(field)
 }

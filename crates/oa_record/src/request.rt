@@ -24,7 +24,7 @@ pub struct Invoke {
     pub riid: Uuid,
     /// The locale, which may be any.
     pub lcid: u32,
-    /// How the member is called: 1 as a method, 2 as a property that is read, 4 as one that is put.
+    /// How the member is called: 1 as a method, 2 as a property that is read, 4 as one that is put, 8 as one that is put by reference.
     pub flags: u16,
     /// The DISPIDs of the named arguments, which stand first in `arguments`; there may be more of them than of these.
     pub named: Dispids,

@@ -1,7 +1,7 @@
 // Bodies and replies byte for byte.
 use crate::{
-    Arguments, Dispids, RecordFault, Reply, Request, laws, number_field, read_request, tag_of,
-    variant_field,
+    Arguments, Dispids, RecordFault, Reply, Request, laws, number_field, put_all, read_request,
+    tag_of, variant_field,
 };
 use oa_model::HResult;
 use oa_variant::{Scalar, Variant};
@@ -61,6 +61,7 @@ fn a_create_names_its_coclass(rt: HostRuntime) -> Result<(), Fail> {
     assert_eq!(rt; class_of(&request), Some(class));
     laws::one_request();
     laws::refused_asks_nothing();
+    laws::one_refusal();
     laws::opcode_stands();
     Ok(())
 }
@@ -182,6 +183,9 @@ fn replies_are_written_as_laid_out(rt: HostRuntime) -> Result<(), Fail> {
         0, 0, 0,
     ];
     assert_eq!(rt; out.as_slice(), want.as_slice());
+    put_all(&mut out, &[9])?;
+    assert_eq!(rt; out.len(), 29);
+    assert_eq!(rt; out[28], 9);
     let got = variant_field(rt.alloc(), &Variant::One(Scalar::I4(7)))?;
     assert_eq!(rt; got.as_slice(), FIELD.as_slice());
     let short = variant_field(rt.alloc(), &Variant::One(Scalar::Bool(true)))?;

@@ -3,8 +3,9 @@ ghost use Rattle.oa_record.specs.Replies.{Puts};
 
 use std::io::{self, ErrorKind, Write};
 
-/// Calls `write` until all bytes are taken. Where the writer fails, a first part of them was taken.
-pub(crate) fn put<W: Write>(writer: &mut W, bytes: &[u8]) -> io::Result<()>
+/// Calls `write` until all bytes are taken; an interrupted call is made again. Where the writer fails, a first part of them was taken, and
+/// its error is answered: `WriteZero` where it takes none, `Interrupted` after 18,446,744,073,709,551,615 calls. Takes no memory.
+pub fn put_all<W: Write>(writer: &mut W, bytes: &[u8]) -> io::Result<()>
     ensures { Puts result (W.contents writer.old) (W.contents writer.new) bytes.now }
 {
     let mut at = 0;

@@ -1,8 +1,8 @@
 use Rattle.std.proofs.Common.{rules}
 use Rattle.std.proofs.KnownBytes.{Keeps-refl}
 use Rattle.oa_record.proofs.Parts.{stays_broken, appends_nothing, appends_more, appends_kept}
-use Rattle.oa_record.proofs.writing.put.Goals.{in-Ok, in-Err+else-ne}
-use Rattle.oa_record.proofs.writing.put.Goals as goal
+use Rattle.oa_record.proofs.writing.put_all.Goals.{in-Ok, in-Err+else-ne}
+use Rattle.oa_record.proofs.writing.put_all.Goals as goal
 
 pub returns-in-Ok-eq0 : goal.returns-in-Ok-eq0
 returns-in-Ok-eq0 g c = stays_broken _ _ _ c.args.bytes.now c.calls.at c.calls.invariant.written (appends_nothing _ _ (rw c.in-Ok-eq0.field-0-test at c.in-Ok-eq0.ensures.bytes))

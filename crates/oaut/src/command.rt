@@ -1,11 +1,23 @@
 // The command line.
+use crate::fault::Fault;
 use clap::{Arg, ArgAction, Command};
 use std::alloc::{AllocError, Global};
+use std::env;
+use std::io::ErrorKind;
+
+/// The words of the command line, with the program's name.
+pub(crate) fn words(rt: &HostRuntime, alloc: Global) -> Result<Vec<String>, Fault> {
+    match env::args(rt) {
+        Ok(words) => Ok(words.collect(alloc)?),
+        Err(error) if error.kind() == ErrorKind::OutOfMemory => Err(Fault::Memory),
+        Err(_) => Err(Fault::Words),
+    }
+}
 
 /// What the program takes.
 pub(crate) fn command<'a>(alloc: Global) -> Result<Command<'a>, AllocError> {
     let library = Arg::new(alloc, "LIB").required(true).help(
-        "A type library: text in the subset of automation IDL that docs/idl.md describes",
+        "The file of a type library: automation IDL in UTF-8, one library statement with its dispinterfaces and coclasses",
     );
     let hex = Arg::new(alloc, "hex")
         .long("hex")

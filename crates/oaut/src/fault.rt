@@ -7,6 +7,8 @@ use thiserror::Error;
 /// Why the program ends with a status other than 0.
 #[derive(Debug, Drop, Error)]
 pub(crate) enum Fault {
+    #[error("command line is not UTF-8")]
+    Words,
     #[error("cannot read {0}")]
     CannotRead(String),
     #[error("library is not UTF-8")]
@@ -30,13 +32,13 @@ pub(crate) enum Fault {
 }
 
 impl Fault {
-    /// 1 for a file, a reader or a writer, 2 for a library, 4 for a record, 5 for want of memory.
+    /// 1 for a file, a reader or a writer, 2 for a command line or a library, 4 for a record, 5 for want of memory.
     pub(crate) fn status(&self) -> u8 {
         match self {
             Fault::CannotRead(_) | Fault::Read | Fault::Write => 1,
             Fault::Parse(ParseError::Memory) | Fault::Check(CheckError::Memory) | Fault::Memory =>
                 5,
-            Fault::NotUtf8 | Fault::Parse(_) | Fault::Check(_) => 2,
+            Fault::Words | Fault::NotUtf8 | Fault::Parse(_) | Fault::Check(_) => 2,
             Fault::Cut | Fault::TooLong | Fault::BadHex(_) => 4,
         }
     }

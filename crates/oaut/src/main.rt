@@ -5,26 +5,37 @@ mod command;
 mod fault;
 mod play;
 
+use crate::fault::Fault;
+use clap::error::ErrorKind;
 use std::process::ExitCode;
 
-fn main(rt: HostRuntime) -> anyhow::Result<ExitCode> {
+fn main(rt: HostRuntime) -> ExitCode {
+    match run(&rt) {
+        Ok(code) => code,
+        Err(fault) => {
+            // The status tells of the fault also where standard error takes no text.
+            let _ = eprintln!(rt; "oaut: {fault}");
+            ExitCode::from(fault.status())
+        }
+    }
+}
+
+/// Does what the command line asks.
+fn run(rt: &HostRuntime) -> Result<ExitCode, Fault> {
     let alloc = rt.alloc();
-    let words: Vec<String> = std::env::args(&rt)?.collect(alloc)?;
+    let words = command::words(rt, alloc)?;
     let command = command::command(alloc)?;
     let matches = match command.try_get_matches_from(words.as_slice()) {
         Ok(matches) => matches,
+        Err(error) if error.kind() == ErrorKind::OutOfMemory => return Err(Fault::Memory),
         Err(error) => {
-            error.print(&rt)?;
+            let _ = error.print(rt);
             return Ok(ExitCode::from(error.exit_code() as u8));
         }
     };
     let Some(("play", arguments)) = matches.subcommand() else {
         return Ok(ExitCode::from(2));
     };
-    let library = arguments.get_str("LIB").unwrap_or("");
-    if let Err(fault) = play::play(&rt, library) {
-        eprintln!(rt; "oaut: {fault}")?;
-        return Ok(ExitCode::from(fault.status()));
-    }
+    play::play(rt, arguments.get_str("LIB").unwrap_or(""))?;
     Ok(ExitCode::SUCCESS)
 }

@@ -4,7 +4,7 @@ use oa_idl::parse;
 use oa_server::{End, Server};
 use oa_typelib::{Library, check};
 use std::alloc::Global;
-use std::io::{BufReader, BufWriter};
+use std::io::{BufReader, BufWriter, ErrorKind};
 use std::{fs, io};
 
 /// Answers the lines of standard input by lines on standard output, until the input ends or is refused.
@@ -30,8 +30,10 @@ pub(crate) fn play(rt: &HostRuntime, path: &str) -> Result<(), Fault> {
 
 /// The library of a file, which is read whole before its text is judged.
 fn read_library(rt: &HostRuntime, alloc: Global, path: &str) -> Result<Library, Fault> {
-    let Ok(bytes) = fs::read(rt, path) else {
-        return Err(Fault::CannotRead(String::from_str(alloc, path)?));
+    let bytes = match fs::read(rt, path) {
+        Ok(bytes) => bytes,
+        Err(error) if error.kind() == ErrorKind::OutOfMemory => return Err(Fault::Memory),
+        Err(_) => return Err(Fault::CannotRead(String::from_str(alloc, path)?)),
     };
     let Ok(text) = str::from_utf8(&bytes) else {
         return Err(Fault::NotUtf8);

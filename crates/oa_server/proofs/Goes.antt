@@ -1,5 +1,5 @@
 -- A session, body by body and group by group.
-use Rattle.std.proofs.Common.{◌≡◌, ℕ, ◌+◌, ◌≤◌, List, [], ◌∷◌, ◌++◌, Option, Some, None, length, refl, sym, ap, ◌∙◌, subst, append_assoc, inl, inr, ◌⊎◌, arith}
+use Rattle.std.proofs.Common.{◌≡◌, ℕ, ◌+◌, ◌<◌, ◌≤◌, List, [], ◌∷◌, ◌++◌, Option, Some, None, length, refl, sym, ap, ◌∙◌, subst, append_assoc, inl, inr, ◌⊎◌, arith}
 use Rattle.std.proofs.lemmas.List.{append-nil, length-append}
 use Rattle.std.specs.Io.KnownBytes.{Appends}
 use Rattle.std.proofs.KnownBytes.{Appends-trans}
@@ -7,11 +7,11 @@ use Rattle.oa_record.specs.Replies.{ReplyValue}
 use Rattle.oa_server.specs.declared.ends.End.{End}
 use Rattle.oa_server.specs.declared.ends.End.TheVariants.{ReadFault, WriteFault}
 use Rattle.oa_server.specs.Known.{Known}
-use Rattle.oa_server.specs.Bodies.{Bodies, NextBody, Stop, IsSoundEnd}
+use Rattle.oa_server.specs.Bodies.{Bodies, CanEnd, NextBody, Stop, IsSoundEnd}
 use Rattle.oa_server.specs.Sink.{Writes, Breaks}
 use Rattle.oa_server.specs.States.{State}
 use Rattle.oa_server.specs.Turns.{Turn, Run}
-use Rattle.oa_server.specs.Sessions.{reply_lines, last_reply, last_replies, ReadTo, Told, Fails, Session, Going, Closes}
+use Rattle.oa_server.specs.Sessions.{reply_lines, last_reply, last_replies, ReadTo, AreDue, Told, Fails, Session, Going, Closes}
 use Rattle.oa_server.proofs.Parts.{writes_nothing, writes_then, breaks_after}
 use Rattle.oa_server.proofs.Runs.{run_more}
 use Rattle.oa_server.proofs.ReplyLines.{lines_append}
@@ -26,7 +26,7 @@ known_more (Some x) None c bodies body h n = absurd h
 known_more (Some x) (Some y) None bodies body h n = absurd n
 known_more (Some x) (Some y) (Some z) bodies body h n = bodies_more x y z bodies body h n
 
-known_stops : (a b c : Option (List ℕ)) (bodies : List (List ℕ)) (why : End) → Known (λ bytes rest. Bodies bytes bodies rest) a b → Known (Stop why (length bodies + 1)) b c → Known (ReadTo (Some why) bodies) a c
+known_stops : (a b c : Option (List ℕ)) (bodies : List (List ℕ)) (why : End) → Known (λ bytes rest. Bodies bytes bodies rest) a b → Known (Stop why) b c → Known (ReadTo (Some why) bodies) a c
 known_stops None b c bodies why h s = tt
 known_stops (Some x) None c bodies why h s = absurd h
 known_stops (Some x) (Some y) None bodies why h s = absurd s
@@ -37,9 +37,9 @@ known_start None = tt
 known_start (Some x) = refl
 
 -- the records are used up: nothing of a further line is read
-pub known_over : (a : Option (List ℕ)) (number : ℕ) → Known (Stop ReadFault number) a a
-known_over None number = tt
-known_over (Some x) number = record { part = []; whole = refl; free = λ i _ below. absurd (omega (arith, below)) }
+pub known_over : (a : Option (List ℕ)) → Known (Stop ReadFault) a a
+known_over None = tt
+known_over (Some x) = record { part = []; whole = refl; free = λ i _ below. absurd (omega (arith, below)) }
 
 pub going_start : (i o : Option (List ℕ)) (room : ℕ) (state : State) → Going i i o o room room state state 0 []
 unfolding reply_lines
@@ -72,15 +72,15 @@ going_written i i' o o' o'' r s t old now requests pending h p = record {
 all_lines : (front pending more : List ReplyValue) → reply_lines front ++ reply_lines (pending ++ more) ≡ reply_lines ((front ++ pending) ++ more)
 all_lines front pending more = sym (lines_append front (pending ++ more)) ∙ ap reply_lines (sym (append_assoc front pending more))
 
--- the writer failed in the lines of the last group
-failing : (o o' o'' : Option (List ℕ)) (group r s : ℕ) (front pending : List ReplyValue) (stop : Option End) → length pending ≤ group
+-- the writer failed in the lines that were due
+failing : (o o' o'' : Option (List ℕ)) (group r s : ℕ) (front pending : List ReplyValue) (stop : Option End) → AreDue stop group (length pending)
     → Writes o o' r s (reply_lines front) → Breaks o' o'' s (reply_lines (pending ++ last_replies stop)) → Fails WriteFault stop group r (front ++ pending) o o''
-failing o o' o'' group r s front pending stop few p q = record {
+failing o o' o'' group r s front pending stop due p q = record {
   ended = refl;
   front = front;
   pending = pending;
   whole = refl;
-  group_is = few;
+  due = due;
   part = q.part;
   lost = q.rest;
   torn = q.whole;
@@ -88,21 +88,23 @@ failing o o' o'' group r s front pending stop few p q = record {
   full = let all = breaks_after o o' o'' r s (reply_lines front) (reply_lines (pending ++ last_replies stop)) p q in subst (λ (l : List ℕ). r ≤ length l) (all_lines front pending (last_replies stop)) all.full;
 }
 
-pub going_fails : (i i' o o' o'' : Option (List ℕ)) (group r s : ℕ) (old now : State) (requests : ℕ) (pending : List ReplyValue)
-    → Going i i' o o' r s old now requests pending → length pending ≤ group → Breaks o' o'' s (reply_lines pending)
-    → Session i i' o o'' r group old now (record { requests = requests; why = WriteFault })
-going_fails i i' o o' o'' group r s old now requests pending h few q = record {
+pub going_fails : (steady : Type 0) (i i' o o' o'' : Option (List ℕ)) (group r s : ℕ) (old now : State) (requests : ℕ) (pending : List ReplyValue)
+    → Going i i' o o' r s old now requests pending → length pending ≡ group → Breaks o' o'' s (reply_lines pending)
+    → Session steady i i' o o'' r group old now (record { requests = requests; why = WriteFault })
+going_fails steady i i' o o' o'' group r s old now requests pending h full q = record {
   bodies = h.bodies;
   replies = h.front ++ pending;
   stop = None;
   run = h.run;
   count = h.count;
   read = h.read;
-  written = inr (failing o o' o'' group r s h.front pending None few h.lines (subst (λ (l : List ReplyValue). Breaks o' o'' s (reply_lines l)) (sym (append-nil pending)) q));
+  can = tt;
+  sound = λ _. tt;
+  written = inr (failing o o' o'' group r s h.front pending None full h.lines (subst (λ (l : List ReplyValue). Breaks o' o'' s (reply_lines l)) (sym (append-nil pending)) q));
 }
 
 -- what was written at the end
-closing : (o o' o'' : Option (List ℕ)) (group r s t : ℕ) (front pending : List ReplyValue) (why end : End) → length pending ≤ group
+closing : (o o' o'' : Option (List ℕ)) (group r s t : ℕ) (front pending : List ReplyValue) (why end : End) → length pending < group
     → Writes o o' r s (reply_lines front) → Closes why end pending o' o'' s t
     → Told why (Some end) (front ++ pending) o o'' ⊎ Fails why (Some end) group r (front ++ pending) o o''
 closing o o' o'' group r s t front pending why end few p (inl h) =
@@ -112,20 +114,21 @@ closing o o' o'' group r s t front pending why end few p (inl h) =
 closing o o' o'' group r s t front pending why end few p (inr h) =
     inr (subst (λ (w : End). Fails w (Some end) group r (front ++ pending) o o'') (sym h.0) (failing o o' o'' group r s front pending (Some end) few p h.1))
 
-pub going_closes : (i i' i'' o o' o'' : Option (List ℕ)) (group r s t : ℕ) (old now : State) (requests : ℕ) (pending : List ReplyValue) (why end : End)
-    → Going i i' o o' r s old now requests pending → length pending ≤ group → Known (Stop end (requests + 1)) i' i'' → Closes why end pending o' o'' s t
-    → Session i i'' o o'' r group old now (record { requests = requests; why = why })
-going_closes i i' i'' o o' o'' group r s t old now requests pending why end h few k w = record {
+pub going_closes : (steady : Type 0) (i i' i'' o o' o'' : Option (List ℕ)) (group r s t : ℕ) (old now : State) (requests : ℕ) (pending : List ReplyValue) (why end : End)
+    → Going i i' o o' r s old now requests pending → length pending < group → CanEnd (requests + 1) end → Known (Stop end) i' i'' → (steady → end ≡ ReadFault → requests ≡ 18446744073709551615)
+    → Closes why end pending o' o'' s t → Session steady i i'' o o'' r group old now (record { requests = requests; why = why })
+going_closes steady i i' i'' o o' o'' group r s t old now requests pending why end h few can k sound w = record {
   bodies = h.bodies;
   replies = h.front ++ pending;
   stop = Some end;
   run = h.run;
   count = h.count;
-  read = known_stops i i' i'' h.bodies end h.read (subst (λ n. Known (Stop end (n + 1)) i' i'') h.count k);
+  read = known_stops i i' i'' h.bodies end h.read k;
+  can = can;
+  sound = sound;
   written = closing o o' o'' group r s t h.front pending why end few h.lines w;
 }
 
--- a reader that does not fail brings no fault of the reader
-pub sound_close : (why end : End) (pending : List ReplyValue) (o o' : Option (List ℕ)) (r s requests : ℕ) → IsSoundEnd end → Closes why end pending o o' r s → why ≡ ReadFault → requests ≡ 18446744073709551615
-sound_close why end pending o o' r s requests sound (inl h) is = absurd (subst IsSoundEnd (sym h.0 ∙ is) sound)
-sound_close why end pending o o' r s requests sound (inr h) is = absurd (subst IsSoundEnd (sym h.0 ∙ is) tt)
+-- an end that is no fault of the reader
+pub sound_end : (end : End) (requests : ℕ) → IsSoundEnd end → end ≡ ReadFault → requests ≡ 18446744073709551615
+sound_end end requests sound is = absurd (subst IsSoundEnd is sound)

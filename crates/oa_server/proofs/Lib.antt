@@ -1,4 +1,5 @@
 pub mod OneSplit
+pub mod OneEnd
 pub mod Splits
 pub mod Parts
 pub mod Runs

@@ -4,7 +4,7 @@ use Rattle.std.specs.List.{AllByRecursion}
 use Rattle.std.proofs.lemmas.List.Elements.{recursion_from_All}
 use Rattle.oa_server.specs.Lines.{IsFree, without_return, FirstLine}
 
-abbrev IsFreeTo : List ℕ → Type 0
+abbrev pub IsFreeTo : List ℕ → Type 0
 IsFreeTo bytes = AllByRecursion (λ b. b ≢ 10) bytes
 
 first_same : (x y : ℕ) (xs ys : List ℕ) → x ∷ xs ≡ y ∷ ys → x ≡ y
@@ -23,7 +23,7 @@ same_end (x ∷ xs) (y ∷ ys) r s f g e =
     (rw (first_same x y (xs ++ 10 ∷ r) (ys ++ 10 ∷ s) e, more.0) refl, more.1)
 
 -- a free list has no line feed
-no_end : (xs ys r : List ℕ) → IsFreeTo ys → xs ++ 10 ∷ r ≡ ys → ⊥
+pub no_end : (xs ys r : List ℕ) → IsFreeTo ys → xs ++ 10 ∷ r ≡ ys → ⊥
 no_end [] [] r g e = let n = ap (λ (l : List ℕ). length l) e in omega (arith, n)
 no_end [] (y ∷ ys) r g e = g.0 (sym (first_same 10 y r ys e))
 no_end (x ∷ xs) [] r g e = let n = ap (λ (l : List ℕ). length l) e in omega (arith, n)

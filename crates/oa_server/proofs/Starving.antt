@@ -1,5 +1,5 @@
 -- Where want of memory may be answered.
-use Rattle.std.proofs.Common.{◌≡◌, ◌≤◌, ℕ, List, None, length, true, refl, sym, ap, ◌∙◌, inl, inr, arith}
+use Rattle.std.proofs.Common.{◌≡◌, ◌≤◌, ℕ, List, None, length, true, refl, ap, ◌∙◌, inl, inr, arith}
 use Rattle.std.proofs.lemmas.Bool.{eqb-true}
 use Rattle.oa_model.specs.Codes.{e_outofmemory}
 use Rattle.oa_record.specs.declared.request.Request.{Request}

@@ -28,19 +28,28 @@ abbrev pub Bodies : List ℕ → List (List ℕ) → List ℕ → Type 0
 Bodies bytes [] rest = bytes ≡ rest
 Bodies bytes (body ∷ bodies) rest = (mid : List ℕ) × NextBody bytes body mid × Bodies mid bodies rest
 
--- what ends the bodies, at the line of this number: the bytes that are left there, and those that are left after it was read
-abbrev pub Stop : End → ℕ → List ℕ → List ℕ → Type 0
-Stop Closed number bytes rest = ((bytes ≡ []) × (rest ≡ [])) ⊎ Ended bytes [] rest
-Stop Cut number bytes rest = ⊥
-Stop TooLong number bytes rest = IsLong bytes rest
-Stop (BadHex line) number bytes rest = (line ≡ number) × IsBad bytes rest
-Stop ReadFault number bytes rest = IsPart bytes rest
-Stop WriteFault number bytes rest = ⊥
+-- what ends the bodies: the bytes that are left there, and those that are left after it was read
+abbrev pub Stop : End → List ℕ → List ℕ → Type 0
+Stop Closed bytes rest = ((bytes ≡ []) × (rest ≡ [])) ⊎ Ended bytes [] rest
+Stop Cut bytes rest = ⊥
+Stop TooLong bytes rest = IsLong bytes rest
+Stop (BadHex line) bytes rest = IsBad bytes rest
+Stop ReadFault bytes rest = IsPart bytes rest
+Stop WriteFault bytes rest = ⊥
+
+-- what can end the bodies at the line of this number, whatever the reader gives
+abbrev pub CanEnd : ℕ → End → Type 0
+CanEnd number Closed = ⊤
+CanEnd number Cut = ⊥
+CanEnd number TooLong = ⊤
+CanEnd number (BadHex line) = line ≡ number
+CanEnd number ReadFault = ⊤
+CanEnd number WriteFault = ⊥
 
 -- what was read at the line of this number
 abbrev pub Inputs : Input → ℕ → List ℕ → Option (List ℕ) → Option (List ℕ) → Type 0
 Inputs (Body n) number buffer old new = Known (λ bytes rest. NextBody bytes (take n buffer) rest) old new
-Inputs (Ends why) number buffer old new = Known (Stop why number) old new
+Inputs (Ends why) number buffer old new = CanEnd number why × Known (Stop why) old new
 
 -- a body has at most 1,048,576 bytes
 abbrev pub IsWithin : Input → Type 0

@@ -1,6 +1,6 @@
 //! Sessions over a reader and a writer.
 ghost use Rattle.std.specs.Prelude.{◌≡◌, ◌≤◌, ◌++◌, IfOk, OnErr, length, option_to_list, vec_capacity, []};
-ghost use Rattle.oa_server.specs.Sessions.{Closes, IsSound, Session, last_reply, reply_line, reply_lines};
+ghost use Rattle.oa_server.specs.Sessions.{Closes, Session, last_reply, reply_line, reply_lines};
 ghost use Rattle.oa_server.specs.Sink.{Puts};
 
 use crate::bodies::{Input, read_body};
@@ -31,9 +31,8 @@ impl Server {
     ) -> Result<Served, AllocError>
         requires positive { 1 ≤ group }
         requires small { group ≤ 1024 }
-        ensures session { IfOk result (λ served. Session (R.remaining reader.old) (R.remaining reader.new)
+        ensures session { IfOk result (λ served. Session (R.steady reader.old) (R.remaining reader.old) (R.remaining reader.new)
             (W.contents writer.old) (W.contents writer.new) (W.room writer.old) group self.old self.new served) }
-        ensures sound { IfOk result (λ served. R.steady reader.old → IsSound served) }
         ensures input { OnErr result (R.remaining reader.new ≡ R.remaining reader.old) }
         ensures output { OnErr result (W.contents writer.new ≡ W.contents writer.old) }
         ensures state { OnErr result (self.new ≡ self.old) }
@@ -60,9 +59,8 @@ impl Server {
         requires buffer { length buffer.now ≡ 1048576 }
         requires pending { pending.now.items ≡ [] }
         requires places { group ≤ vec_capacity pending.now }
-        ensures session { Session (R.remaining reader.old) (R.remaining reader.new)
+        ensures { Session (R.steady reader.old) (R.remaining reader.old) (R.remaining reader.new)
             (W.contents writer.old) (W.contents writer.new) (W.room writer.old) group self.old self.new result }
-        ensures sound { R.steady reader.old → IsSound result }
     {
         let alloc = self.allocator();
         let mut requests = 0u64;

@@ -1,4 +1,4 @@
-use Rattle.std.proofs.Common.{rules, ◌≡◌, inl, inr, refl, sym, ◌∙◌}
+use Rattle.std.proofs.Common.{rules, inr}
 use Rattle.oa_server.proofs.Starving.{unread, unperformed}
 use Rattle.oa_server.proofs.server.Server.answer.Goals as goal
 

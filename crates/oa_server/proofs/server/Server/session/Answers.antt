@@ -1,5 +1,5 @@
-use Rattle.std.proofs.Common.{rules, arith, ◌≤◌, ◌+◌, length, refl}
-use Rattle.oa_server.proofs.Goes.{going_start, going_answered, going_written, going_fails, going_closes, sound_close, known_over}
+use Rattle.std.proofs.Common.{rules, ◌≡◌, length, refl}
+use Rattle.oa_server.proofs.Goes.{going_start, going_answered, going_written, going_fails, going_closes, sound_end, known_over}
 use Rattle.oa_server.proofs.server.Server.session.Goals.{then-len-group+in-Ok, else-len-group}
 use Rattle.oa_server.proofs.server.Server.session.Goals as goal
 
@@ -14,18 +14,16 @@ turns-init g c = record {
   going = rw c.requires.pending (going_start _ _ _ _);
 }
 
-pub returns-in-Ends-clause-session : goal.returns-in-Ends-clause-session
-returns-in-Ends-clause-session g c =
-    let few = c.turns.invariant.few in
-    let fits : length c.turns.pending.items ≤ c.args.group = omega (arith, few) in
-    going_closes _ _ _ _ _ _ c.args.group _ _ _ _ _ c.turns.requests c.turns.pending.items c.close-why.result c.in-Ends.end c.turns.invariant.going fits c.in-Ends.ensures.input (rw c.deref.ensures.value at c.close-why.ensures)
+pub returns-in-Ends : goal.returns-in-Ends
+returns-in-Ends g c =
+    going_closes _ _ _ _ _ _ _ c.args.group _ _ _ _ _ c.turns.requests c.turns.pending.items c.close-why.result c.in-Ends.end c.turns.invariant.going c.turns.invariant.few c.in-Ends.ensures.input.0 c.in-Ends.ensures.input.1 (λ s. sound_end c.in-Ends.end c.turns.requests (c.in-Ends.ensures.sound (c.turns.invariant.steady s))) (rw c.deref.ensures.value at c.close-why.ensures)
 
-pub returns-in-Err-clause-session : goal.returns-in-Err-clause-session
-returns-in-Err-clause-session g c =
+pub returns-in-Err : goal.returns-in-Err
+returns-in-Err g c =
     let more = going_answered _ _ _ _ _ _ _ _ _ _ c.turns.requests c.turns.pending.items _ c.answer-reply.result c.turns.invariant.going c.in-Body.ensures.input c.answer-reply.ensures in
     let is = c.push_reserved.ensures.items in
-    let fits : length c.push_reserved.new.self.items ≤ c.args.group = search rules in
-    going_fails _ _ _ _ _ c.args.group _ _ _ _ _ c.push_reserved.new.self.items (rw is more) fits (rw c.deref-then-len-group.ensures.value at c.in-Err.ensures)
+    let full : length c.push_reserved.new.self.items ≡ c.args.group = search rules in
+    going_fails _ _ _ _ _ _ c.args.group _ _ _ _ _ c.push_reserved.new.self.items (rw is more) full (rw c.deref-then-len-group.ensures.value at c.in-Err.ensures)
 
 pub turns-preserved : goal.turns-preserved
 turns-preserved g c =
@@ -52,11 +50,7 @@ turns-preserved g c =
       }
     ]
 
-pub returns-clause-session : goal.returns-clause-session
-returns-clause-session g c =
-    let few = c.turns.invariant.few in
-    let fits : length c.turns.pending.items ≤ c.args.group = omega (arith, few) in
-    going_closes _ _ _ _ _ _ c.args.group _ _ _ _ _ c.turns.requests c.turns.pending.items c.close-why-2.result _ c.turns.invariant.going fits (known_over _ (c.turns.requests + 1)) (rw c.deref-2.ensures.value at c.close-why-2.ensures)
-
-pub returns-in-Ends-clause-sound : goal.returns-in-Ends-clause-sound
-returns-in-Ends-clause-sound g c = λ s. sound_close _ _ _ _ _ _ _ _ (c.in-Ends.ensures.sound (c.turns.invariant.steady s)) c.close-why.ensures
+pub returns : goal.returns
+returns g c =
+    let used_up : c.turns.requests ≡ 18446744073709551615 = search rules in
+    going_closes _ _ _ _ _ _ _ c.args.group _ _ _ _ _ c.turns.requests c.turns.pending.items c.close-why-2.result _ c.turns.invariant.going c.turns.invariant.few tt (known_over _) (λ _ _. used_up) (rw c.deref-2.ensures.value at c.close-why-2.ensures)

@@ -6,4 +6,3 @@ pub mod Runs
 pub mod ReplyLines
 pub mod Goes
 pub mod Quiet
-pub mod Starving

@@ -1,23 +1,9 @@
 -- A run goes on by one turn.
-use Rattle.std.proofs.Common.{◌≡◌, ℕ, ◌+◌, ◌<◌, List, [], ◌∷◌, ◌++◌, map, take, length, get_or, refl, subst, true, ◌≤◌, inl, inr, arith}
+use Rattle.std.proofs.Common.{◌≡◌, ℕ, ◌+◌, ◌<◌, List, [], ◌∷◌, ◌++◌, map, take, length, get_or, refl, subst}
 use Rattle.std.proofs.lemmas.List.{take_more, map_push}
-use Rattle.oa_record.specs.declared.request.Request.{Request}
-use Rattle.oa_record.specs.declared.request.Request.TheVariants as requests
-use Rattle.oa_record.specs.Asks.{opcode_at, request_opcode}
 use Rattle.oa_record.specs.Replies.{ReplyValue}
 use Rattle.oa_server.specs.States.{State}
-use Rattle.oa_server.specs.Steps.{takes_memory}
-use Rattle.oa_server.specs.Turns.{IsListed, Turn, Run}
-
--- a body whose opcode stands in the record is listed
-pub asked_is_listed : (body : List ℕ) (request : Request) → (8 ≤ length body) × (opcode_at body ≡ request_opcode request) → IsListed body
-asked_is_listed body (requests.Create class) h = record { long = h.0; opcode = inl h.1 }
-asked_is_listed body (requests.Invoke call) h = record { long = h.0; opcode = inr h.1 }
-
--- memory is taken to read no CREATE
-pub invoke_may : (state : State) (body : List ℕ) (request : Request) → opcode_at body ≡ 4 → opcode_at body ≡ request_opcode request → takes_memory state request ≡ true
-invoke_may state body (requests.Create class) four one = absurd (omega (arith, four, one))
-invoke_may state body (requests.Invoke call) four one = refl
+use Rattle.oa_server.specs.Turns.{Turn, Run}
 
 pub run_more : (old mid new : State) (bodies : List (List ℕ)) (replies : List ReplyValue) (body : List ℕ) (reply : ReplyValue)
     → Run old bodies replies mid → Turn mid body reply new → Run old (bodies ++ body ∷ []) (replies ++ reply ∷ []) new

@@ -13,7 +13,7 @@ use crate::table::Table;
 use crate::table::place::Place;
 use oa_model::{HResult, MAX_LIVE_OBJECTS, ValueType};
 use oa_record::{
-    Invoke, RecordFault, Reply, Request, laws, number_field, read_request, tag_of, variant_field,
+    Invoke, RecordFault, Reply, Request, number_field, read_request, tag_of, variant_field,
 };
 use oa_typelib::{Access, Kind, Library, MemberFault};
 use oa_variant::{Scalar, Variant};
@@ -53,8 +53,6 @@ impl Server {
     pub fn answer(&mut self, body: &[u8]) -> Reply
         ensures { Turn self.old body.now result self.new }
     {
-        laws::one_request();
-        laws::opcode_stands();
         let tag = tag_of(body);
         let request = match read_request(self.alloc, body) {
             Ok(request) => request,
@@ -74,8 +72,8 @@ impl Server {
         reply
     }
 
-    /// Answers bodies in turn. A group has from 1 to 1,024 of them, which makes no difference in memory. Err only where memory is refused
-    /// before anything was done.
+    /// Answers bodies in turn. `group` is from 1 to 1,024 and makes no difference here: without a disk every request is a group of its own.
+    /// Err only where memory is refused before anything was done.
     pub fn run(&mut self, bodies: &[Vec<u8>], group: usize) -> Result<Vec<Reply>, AllocError>
         requires positive { 1 ≤ group }
         requires small { group ≤ 1024 }
@@ -221,7 +219,7 @@ impl Server {
     }
 }
 
-/// The value of a cell that was never put. (No library has properties of array type before arrays are values.)
+/// The value of a cell that was never put. (A property of array type reads EMPTY until arrays are values.)
 fn zero(declared: ValueType) -> Variant
     ensures { result ≡ zero_in declared }
 {

@@ -21,8 +21,9 @@ pub struct Served {
 }
 
 impl Server {
-    /// Answers the bodies of a reader, a line of hexadecimal digits each, by lines on a writer. Each group of so many replies, from 1 to
-    /// 1,024, is written when it is full, and before any end. Err only where memory is refused before anything was read.
+    /// Answers the bodies of a reader, a line of hexadecimal digits each, by lines on a writer. `group` is from 1 to 1,024; until requests
+    /// share a commit every request is a group of its own: its reply is written before the next line is read. Err only where memory is
+    /// refused before anything was read.
     pub fn serve_hex<R: Source, W: Sink>(
         &mut self,
         reader: &mut R,
@@ -32,7 +33,7 @@ impl Server {
         requires positive { 1 ≤ group }
         requires small { group ≤ 1024 }
         ensures session { IfOk result (λ served. Session (R.steady reader.old) (R.remaining reader.old) (R.remaining reader.new)
-            (W.contents writer.old) (W.contents writer.new) (W.room writer.old) group self.old self.new served) }
+            (W.contents writer.old) (W.contents writer.new) (W.room writer.old) 1 self.old self.new served) }
         ensures input { OnErr result (R.remaining reader.new ≡ R.remaining reader.old) }
         ensures output { OnErr result (W.contents writer.new ≡ W.contents writer.old) }
         ensures state { OnErr result (self.new ≡ self.old) }
@@ -40,11 +41,11 @@ impl Server {
         let alloc = self.allocator();
         let mut line = Vec::with_capacity(alloc, LINE_LIMIT + 1)?;
         let mut buffer = zeros(alloc, LINE_LIMIT / 2)?;
-        let mut pending = Vec::with_capacity(alloc, group)?;
-        Ok(self.session(reader, writer, &mut line, &mut buffer, &mut pending, group))
+        let mut pending = Vec::with_capacity(alloc, 1)?;
+        Ok(self.session(reader, writer, &mut line, &mut buffer, &mut pending, 1))
     }
 
-    /// The session itself, over what was reserved for it.
+    /// The session itself, over what was reserved for it. Each group of so many replies is written when it is full, and before any end.
     fn session<R: Source, W: Sink>(
         &mut self,
         reader: &mut R,

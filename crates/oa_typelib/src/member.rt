@@ -12,6 +12,7 @@ use std::marker::Model;
 pub struct Member<'a> {
     /// Its DISPID.
     pub id: i32,
+    /// Its name as it is written.
     pub name: &'a Name,
     /// Its declared type.
     pub value_type: ValueType,
@@ -40,27 +41,6 @@ impl<'a> Member<'a> {
             has_get: true,
             has_put: !property.readonly,
         }
-    }
-
-    /// Its DISPID.
-    pub fn id(&self) -> i32
-        ensures { result ≡ self.now.id }
-    {
-        self.id
-    }
-
-    /// Its name as it is written.
-    pub fn name(&self) -> &[u8]
-        ensures { result.now ≡ self.now.name }
-    {
-        self.name.as_bytes()
-    }
-
-    /// Its declared type.
-    pub fn value_type(&self) -> ValueType
-        ensures { result ≡ self.now.value_type }
-    {
-        self.value_type
     }
 
     /// Whether it has the form.

@@ -1,1 +1,3 @@
+mod Equal
 mod Exact
+mod Zeros

@@ -1,5 +1,6 @@
 -- Scalars: their types, their zeros and what each may be.
 use Rattle.std.specs.Prelude.{◌≡◌, ◌⊎◌, ◌≤◌, ◌<◌, ◌^◌, ℕ, List, Option, None, false, length, pos, FitsSigned}
+use Rattle.std.proofs.Common.{inl, inr, refl}
 use Rattle.std.specs.Int.{w8, w16, w32, w64}
 use Rattle.oa_model.specs.declared.var_type.VarType.{VarType}
 use Rattle.oa_model.specs.declared.var_type.VarType.TheVariants as types
@@ -72,6 +73,27 @@ zero_of types.Error = scalars.Error 0
 zero_of types.Bstr = scalars.Bstr None
 zero_of types.Decimal = scalars.Decimal zero_decimal
 zero_of types.Variant = scalars.Empty
+
+-- the zero of a type fits a cell of that type
+pub zero_fits : (t : VarType) → FitsType (zero_of t) t
+zero_fits types.Empty = inr refl
+zero_fits types.Null = inr refl
+zero_fits types.I1 = inr refl
+zero_fits types.I2 = inr refl
+zero_fits types.I4 = inr refl
+zero_fits types.I8 = inr refl
+zero_fits types.Int = inr refl
+zero_fits types.Ui1 = inr refl
+zero_fits types.Ui2 = inr refl
+zero_fits types.Ui4 = inr refl
+zero_fits types.Ui8 = inr refl
+zero_fits types.Uint = inr refl
+zero_fits types.Cy = inr refl
+zero_fits types.Bool = inr refl
+zero_fits types.Error = inr refl
+zero_fits types.Bstr = inr refl
+zero_fits types.Decimal = inr refl
+zero_fits types.Variant = inl refl
 
 -- what a scalar may be (MS-OAUT sections 2.2.7, 2.2.24 and 2.2.26; the length of texts is this project's choice)
 abbrev pub IsScalar : Scalar → Type 0

@@ -1,37 +1,40 @@
--- Variants (MS-OAUT section 2.2.29). Arrays join as a further case.
-use Rattle.std.specs.Prelude.{Bool}
-use Rattle.std.specs.Ordering.{on, eq_by_cmp}
-use Rattle.std.specs.Cmp.{IsEquivalence}
-use Rattle.std.proofs.lemmas.Cmp.{on_total, eq_by_cmp_equiv}
+-- Variants (MS-OAUT section 2.2.29).
+use Rattle.std.specs.Prelude.{◌≡◌, List, [], ◌∷◌, pos, All, IsSome}
+use Rattle.oa_model.specs.Types.{sf_type_of}
+use Rattle.oa_model.specs.declared.bound.Bound.{Bound}
 use Rattle.oa_model.specs.declared.var_type.ValueType.{ValueType}
 use Rattle.oa_model.specs.declared.var_type.ValueType.TheVariants as kinds
+use Rattle.oa_array.specs.Arrays.{ArrayValue, IsArray, with_locks}
 use Rattle.oa_variant.specs.declared.scalar.Scalar.{Scalar}
-use Rattle.oa_variant.specs.declared.scalar.Scalar.TheVariants.{Empty}
 use Rattle.oa_variant.specs.declared.variant.Variant.{Variant}
-use Rattle.oa_variant.specs.declared.variant.Variant.TheVariants.{One}
-use Rattle.oa_variant.specs.Scalars.{type_of, zero_of}
-use Rattle.oa_variant.specs.Keys.{scalar_cmp, scalars_total}
+use Rattle.oa_variant.specs.declared.variant.Variant.TheVariants.{One, Array}
+use Rattle.oa_variant.specs.Scalars.{type_of, zero_of, FitsType, IsScalar}
 
 abbrev pub value_type_of : Variant → ValueType
 value_type_of (One s) = kinds.One (type_of s)
+value_type_of (Array a) = kinds.Array a.elem
 
--- the scalar that a variant is
-abbrev pub scalar_of : Variant → Scalar
-scalar_of (One s) = s
+-- what a value may be
+abbrev pub IsVariant : Variant → Type 0
+IsVariant (One s) = IsScalar s
+IsVariant (Array a) = IsArray FitsType a × All IsScalar a.cells
+
+-- the value itself: locks are no part of it
+abbrev pub unlocked : Variant → Variant
+unlocked (One s) = One s
+unlocked (Array a) = Array (with_locks a 0)
 
 -- the declared types that have a zero
 abbrev pub HasZero : ValueType → Type 0
 HasZero (kinds.One t) = Unit {0}
-HasZero (kinds.Array t) = ⊥
+HasZero (kinds.Array t) = IsSome (sf_type_of t)
 
--- the value of a cell of a declared type that was never put (this project's choice); of no meaning where the type has no zero
+-- the bound of a dimension without indices
+abbrev pub no_indices : Bound
+no_indices = record { count = 0; lower = pos 0 }
+
+-- the value of a cell of a declared type that was never put (this project's choice): of an array type one dimension without indices,
+-- so without cells
 abbrev pub zero_value : ValueType → Variant
 zero_value (kinds.One t) = One (zero_of t)
-zero_value (kinds.Array t) = One Empty
-
--- two values are equal where type and content are
-abbrev pub same_value : Variant → Variant → Bool
-same_value = eq_by_cmp (on scalar_of scalar_cmp)
-
-pub same_value_equiv : IsEquivalence same_value
-same_value_equiv = eq_by_cmp_equiv (on_total scalar_of scalars_total)
+zero_value (kinds.Array t) = Array (record { elem = t; bounds = no_indices ∷ []; cells = []; locks = 0 })

@@ -1,12 +1,13 @@
 //! Laws of the definitions, each the contract of a function with an empty body.
-ghost use Rattle.std.specs.Prelude.{◌≡◌};
+ghost use Rattle.std.specs.Prelude.{◌≡◌, ◌↔◌, true, All};
 ghost use Rattle.std.specs.declared.cmp.Ordering.TheVariants.{Equal};
-ghost use Rattle.oa_model.specs.declared.var_type.VarType.{VarType};
 ghost use Rattle.oa_variant.specs.declared.scalar.Scalar.{Scalar as AScalar};
-ghost use Rattle.oa_variant.specs.Scalars.{zero_of, FitsType, IsScalar};
+ghost use Rattle.oa_variant.specs.Scalars.{IsScalar};
+ghost use Rattle.oa_variant.specs.Variants.{IsVariant, unlocked};
+ghost use Rattle.oa_variant.specs.declared.variant.Variant.{Variant as AVariant};
 ghost use Rattle.oa_variant.specs.Keys.{scalar_cmp};
 
-use crate::Scalar;
+use crate::{Scalar, Variant};
 
 /// What is true of each scalar: its number is in the range of its type, its text and its DECIMAL are within their limits.
 pub fn is_scalar(scalar: &Scalar)
@@ -65,7 +66,26 @@ pub fn equal_is_same()
     ensures { (a b : AScalar) → scalar_cmp a b ≡ Equal → a ≡ b }
 {}
 
-/// The zero of a type fits a cell of that type.
-pub fn zero_fits()
-    ensures { (t : VarType) → FitsType (zero_of t) t }
+/// What is true of each value: its scalars are as `is_scalar` says, and an array has a cell of its type for each index list.
+pub fn is_variant(value: &Variant)
+    ensures { IsVariant value.now }
+{
+    match value {
+        Variant::One(scalar) => is_scalar(scalar),
+        Variant::Array(array) => are_scalars(array.cells()),
+    }
+}
+
+// What is true of each cell of an array.
+fn are_scalars(cells: &[Scalar])
+    ensures { All IsScalar cells.now }
+{
+    'cells: for cell in cells {
+        is_scalar(cell);
+    }
+}
+
+/// Equal values are the same but for the locks of an array, and values that are the same are equal.
+pub fn equal_is_same_but_for_locks()
+    ensures { (a b : AVariant) → (⟦<Variant as PartialEq>⟧.eq a b ≡ true) ↔ (unlocked a ≡ unlocked b) }
 {}

@@ -4,11 +4,12 @@ ghost use Rattle.std.specs.Cmp.{partial_order_from_total, partial_equiv_from_equ
 ghost use Rattle.std.specs.Cmp.Rules.{comparing};
 ghost use Rattle.std.specs.Ordering.{as_partial_cmp, eq_by_cmp};
 ghost use Rattle.std.proofs.Common.{rules};
-ghost use Rattle.oa_variant.specs.Scalars.{type_of, text_of, zero_of, FitsType};
+ghost use Rattle.oa_variant.specs.Scalars.{type_of, text_of, zero_of, FitsType, zero_fits};
 ghost use Rattle.std.specs.Option.{option_map};
 ghost use Rattle.oa_variant.specs.Keys.{number_of, decimal_of, scalar_cmp, scalars_total};
 
 use crate::Decimal;
+use oa_array::Cell;
 use oa_bstr::Bstr;
 use oa_model::VarType;
 use std::alloc::{AllocError, Global};
@@ -80,65 +81,6 @@ impl Scalar {
         }
     }
 
-    /// Whether a cell of the type can hold it: it is of that type, or the type is VARIANT.
-    pub fn fits(&self, cell: VarType) -> bool
-        ensures { IsTrue result ↔ FitsType self.now cell }
-    {
-        cell == VarType::Variant || self.var_type() == cell
-    }
-
-    /// The value of a cell that was never put: 0, false, a positive DECIMAL 0 with scale 0, the null BSTR, EMPTY for EMPTY and for
-    /// VARIANT, NULL for NULL (this project's choice). Takes no memory.
-    pub fn zero(cell: VarType) -> Scalar
-        ensures { result ≡ zero_of cell }
-    {
-        match cell {
-            VarType::Empty | VarType::Variant => Scalar::Empty,
-            VarType::Null => Scalar::Null,
-            VarType::I1 => Scalar::I1(0),
-            VarType::I2 => Scalar::I2(0),
-            VarType::I4 => Scalar::I4(0),
-            VarType::I8 => Scalar::I8(0),
-            VarType::Int => Scalar::Int(0),
-            VarType::Ui1 => Scalar::Ui1(0),
-            VarType::Ui2 => Scalar::Ui2(0),
-            VarType::Ui4 => Scalar::Ui4(0),
-            VarType::Ui8 => Scalar::Ui8(0),
-            VarType::Uint => Scalar::Uint(0),
-            VarType::Cy => Scalar::Cy(0),
-            VarType::Bool => Scalar::Bool(false),
-            VarType::Error => Scalar::Error(0),
-            VarType::Bstr => Scalar::Bstr(Bstr::null()),
-            VarType::Decimal => Scalar::Decimal(Decimal::new(false, 0, 0)),
-        }
-    }
-
-    /// The same value, with a block of its own for a text. Err only where that block is refused: a scalar without one is always copied.
-    pub fn copy(&self, alloc: Global) -> Result<Scalar, AllocError>
-        ensures value { IfOk result (λ s. s ≡ self.now) }
-        ensures no_text { text_of self.now ≡ None → IsOk result }
-    {
-        Ok(match self {
-            Scalar::Empty => Scalar::Empty,
-            Scalar::Null => Scalar::Null,
-            Scalar::I1(n) => Scalar::I1(*n),
-            Scalar::I2(n) => Scalar::I2(*n),
-            Scalar::I4(n) => Scalar::I4(*n),
-            Scalar::I8(n) => Scalar::I8(*n),
-            Scalar::Int(n) => Scalar::Int(*n),
-            Scalar::Ui1(n) => Scalar::Ui1(*n),
-            Scalar::Ui2(n) => Scalar::Ui2(*n),
-            Scalar::Ui4(n) => Scalar::Ui4(*n),
-            Scalar::Ui8(n) => Scalar::Ui8(*n),
-            Scalar::Uint(n) => Scalar::Uint(*n),
-            Scalar::Cy(n) => Scalar::Cy(*n),
-            Scalar::Bool(b) => Scalar::Bool(*b),
-            Scalar::Error(code) => Scalar::Error(*code),
-            Scalar::Bstr(text) => Scalar::Bstr(text.copy(alloc)?),
-            Scalar::Decimal(d) => Scalar::Decimal(*d),
-        })
-    }
-
     // The number inside, 0 for false and 1 for true; 0 where there is none.
     fn number(&self) -> i128
         ensures { result ≡ number_of self.now }
@@ -186,6 +128,70 @@ impl Scalar {
             Scalar::Decimal(d) => *d,
             _ => Decimal::new(false, 0, 0),
         }
+    }
+}
+
+/// A scalar can stand in an array with cells of its own type, and in one with cells of the type VARIANT.
+impl Cell for Scalar {
+    ghost Fits = { FitsType };
+
+    ghost zero_of = { zero_of };
+
+    ghost zero_fits = { λ elem _. zero_fits elem };
+
+    /// Whether a cell of the type can hold it: it is of that type, or the type is VARIANT.
+    fn fits(&self, elem: VarType) -> bool {
+        elem == VarType::Variant || self.var_type() == elem
+    }
+
+    /// The value of a cell that was never put: 0, false, a positive DECIMAL 0 with scale 0, the null BSTR, EMPTY for EMPTY and for
+    /// VARIANT, NULL for NULL (this project's choice). Takes no memory.
+    fn zero(elem: VarType) -> Scalar {
+        match elem {
+            VarType::Empty | VarType::Variant => Scalar::Empty,
+            VarType::Null => Scalar::Null,
+            VarType::I1 => Scalar::I1(0),
+            VarType::I2 => Scalar::I2(0),
+            VarType::I4 => Scalar::I4(0),
+            VarType::I8 => Scalar::I8(0),
+            VarType::Int => Scalar::Int(0),
+            VarType::Ui1 => Scalar::Ui1(0),
+            VarType::Ui2 => Scalar::Ui2(0),
+            VarType::Ui4 => Scalar::Ui4(0),
+            VarType::Ui8 => Scalar::Ui8(0),
+            VarType::Uint => Scalar::Uint(0),
+            VarType::Cy => Scalar::Cy(0),
+            VarType::Bool => Scalar::Bool(false),
+            VarType::Error => Scalar::Error(0),
+            VarType::Bstr => Scalar::Bstr(Bstr::null()),
+            VarType::Decimal => Scalar::Decimal(Decimal::new(false, 0, 0)),
+        }
+    }
+
+    /// The same value, with a block of its own for a text. Err only where that block is refused: a scalar without one is always copied.
+    fn copy(&self, alloc: Global) -> Result<Scalar, AllocError>
+        ensures value { IfOk result (λ s. s ≡ self.now) }
+        ensures no_text { text_of self.now ≡ None → IsOk result }
+    {
+        Ok(match self {
+            Scalar::Empty => Scalar::Empty,
+            Scalar::Null => Scalar::Null,
+            Scalar::I1(n) => Scalar::I1(*n),
+            Scalar::I2(n) => Scalar::I2(*n),
+            Scalar::I4(n) => Scalar::I4(*n),
+            Scalar::I8(n) => Scalar::I8(*n),
+            Scalar::Int(n) => Scalar::Int(*n),
+            Scalar::Ui1(n) => Scalar::Ui1(*n),
+            Scalar::Ui2(n) => Scalar::Ui2(*n),
+            Scalar::Ui4(n) => Scalar::Ui4(*n),
+            Scalar::Ui8(n) => Scalar::Ui8(*n),
+            Scalar::Uint(n) => Scalar::Uint(*n),
+            Scalar::Cy(n) => Scalar::Cy(*n),
+            Scalar::Bool(b) => Scalar::Bool(*b),
+            Scalar::Error(code) => Scalar::Error(*code),
+            Scalar::Bstr(text) => Scalar::Bstr(text.copy(alloc)?),
+            Scalar::Decimal(d) => Scalar::Decimal(*d),
+        })
     }
 }
 

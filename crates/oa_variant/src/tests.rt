@@ -1,7 +1,9 @@
 // Types, zeros, copies and the order of keys, as tables.
 use crate::{Decimal, Scalar, Variant, laws};
+use oa_array::{Cell, SafeArray};
 use oa_bstr::Bstr;
-use oa_model::{ValueType, VarType};
+use oa_model::{Bound, ValueType, VarType};
+use std::alloc::{AllocError, Global};
 use std::cmp::Ordering;
 use std::rt::HostRuntime;
 use std::test::Fail;
@@ -63,6 +65,7 @@ fn zeros_have_their_types(rt: HostRuntime) -> Result<(), Fail> {
         }
         assert_eq!(rt; zero.fits(VarType::Variant), true);
         assert_eq!(rt; zero.copy(rt.alloc())? == zero, true);
+        assert_eq!(rt; is_array_zero_empty(rt.alloc(), one)?, true);
         let value = Variant::zero(rt.alloc(), ValueType::One(one))?;
         assert_eq!(rt; value.value_type(), ValueType::One(one));
         assert_eq!(rt; value.copy(rt.alloc())? == value, true);
@@ -78,7 +81,6 @@ fn zeros_have_their_types(rt: HostRuntime) -> Result<(), Fail> {
     assert_eq!(rt; Scalar::zero(VarType::Decimal) == plus, true);
     laws::is_scalar(&plus);
     laws::equal_is_same();
-    laws::zero_fits();
     Ok(())
 }
 
@@ -126,6 +128,51 @@ fn keys_stand_in_order(rt: HostRuntime) -> Result<(), Fail> {
             rising[i].copy(rt.alloc())?.cmp(&rising[i]),
             Ordering::Equal
         );
+    }
+    Ok(())
+}
+
+// Whether the zero of an array type, where there is such a type, is one dimension without indices.
+fn is_array_zero_empty(alloc: Global, elem: VarType) -> Result<bool, AllocError> {
+    if elem.sf_type().is_none() {
+        return Ok(true);
+    }
+    let none = [Bound { count: 0, lower: 0 }];
+    match Variant::zero(alloc, ValueType::Array(elem))? {
+        Variant::One(_) => Ok(false),
+        Variant::Array(array) => Ok(
+            array.elem() == elem && array.bounds() == none.as_slice() && array.cells().is_empty(),
+        ),
+    }
+}
+
+#[test]
+fn arrays_are_values(rt: HostRuntime) -> Result<(), Fail> {
+    let alloc = rt.alloc();
+    let bound = Bound {
+        count: 2,
+        lower: -1,
+    };
+    let mut array = SafeArray::create(alloc, VarType::Variant, &[bound])?;
+    let text = Scalar::Bstr(Bstr::from_bytes(alloc, &[0x41])?);
+    assert_eq!(rt; array.put_element(&[0], text).is_ok(), true);
+    let _ = array.lock();
+    let value = Variant::Array(array);
+    laws::is_variant(&value);
+    laws::equal_is_same_but_for_locks();
+    assert_eq!(rt; value.value_type(), ValueType::Array(VarType::Variant));
+
+    let copy = value.copy(alloc)?;
+    assert_eq!(rt; copy == value, true);
+    assert_eq!(rt; copy == Variant::One(Scalar::Empty), false);
+    let mut others = SafeArray::create(alloc, VarType::Variant, &[bound])?;
+    if let Variant::Array(array) = &copy {
+        assert_eq!(rt; array.locks(), 0);
+        let text = Scalar::Bstr(Bstr::from_bytes(alloc, &[0x41])?);
+        assert_eq!(rt; array.element(&[0])? == &text, true);
+        assert_eq!(rt; *array == others, false);
+        assert_eq!(rt; others.put_element(&[0], text).is_ok(), true);
+        assert_eq!(rt; *array == others, true);
     }
     Ok(())
 }

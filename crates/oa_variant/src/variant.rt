@@ -1,20 +1,24 @@
 //! Variants.
 ghost use Rattle.std.specs.Prelude.{◌≡◌, IsOk, IfOk, None};
-ghost use Rattle.std.specs.Cmp.{partial_equiv_from_equiv};
 ghost use Rattle.oa_model.specs.declared.var_type.VarType.{VarType as AType};
 ghost use Rattle.oa_model.specs.declared.var_type.ValueType.TheVariants as kinds;
 ghost use Rattle.oa_variant.specs.Scalars.{text_of};
-ghost use Rattle.oa_variant.specs.Variants.{value_type_of, zero_value, HasZero, same_value, same_value_equiv};
+ghost use Rattle.oa_variant.specs.Variants.{value_type_of, unlocked, zero_value, HasZero};
 ghost use Rattle.oa_variant.specs.declared.variant.Variant.TheVariants.{One};
 
 use crate::Scalar;
-use oa_model::ValueType;
+use oa_array::{Cell, SafeArray};
+use oa_model::{Bound, ValueType};
 use std::alloc::{AllocError, Global};
 
-/// A value with its type (VARIANT, MS-OAUT section 2.2.29): a scalar; arrays are to come.
-#[derive(Debug, Drop)]
+/// A value with its type (VARIANT, MS-OAUT section 2.2.29): a scalar, or an array of scalars. Two are equal where their types and
+/// their content are; the locks of an array are no part of it.
+#[derive(Debug, PartialEq, Eq, Drop)]
 pub enum Variant {
+    /// A value that is no array.
     One(Scalar),
+    /// An array, whose cells are of its type, or any scalars where its type is VARIANT.
+    Array(SafeArray<Scalar>),
 }
 
 impl Variant {
@@ -24,20 +28,24 @@ impl Variant {
     {
         match self {
             Variant::One(scalar) => ValueType::One(scalar.var_type()),
+            Variant::Array(array) => ValueType::Array(array.elem()),
         }
     }
 
-    /// The same value, with memory of its own. Err only where that is refused: a scalar without text is always copied.
+    /// The same value, with memory of its own; a copied array has no locks. Err only where memory is refused: a scalar without text is
+    /// always copied.
     pub fn copy(&self, alloc: Global) -> Result<Variant, AllocError>
-        ensures value { IfOk result (λ v. v ≡ self.now) }
+        ensures value { IfOk result (λ v. v ≡ unlocked self.now) }
         ensures no_text { (s : _) → self.now ≡ One s → text_of s ≡ None → IsOk result }
     {
         match self {
             Variant::One(scalar) => Ok(Variant::One(scalar.copy(alloc)?)),
+            Variant::Array(array) => Ok(Variant::Array(array.copy(alloc)?)),
         }
     }
 
-    /// The value of a cell of a declared type that was never put (this project's choice). The zero of a scalar type takes no memory.
+    /// The value of a cell of a declared type that was never put: the zero of a scalar type, and of an array type the array of one
+    /// dimension without indices (this project's choice). Err only where memory is refused: the zero of a scalar type takes none.
     pub fn zero(alloc: Global, declared: ValueType) -> Result<Variant, AllocError>
         requires { HasZero declared }
         ensures value { IfOk result (λ v. v ≡ zero_value declared) }
@@ -45,23 +53,13 @@ impl Variant {
     {
         match declared {
             ValueType::One(one) => Ok(Variant::One(Scalar::zero(one))),
-            ValueType::Array(cell) => Ok(Variant::One(Scalar::zero(cell))),
+            ValueType::Array(elem) => {
+                let none = Bound { count: 0, lower: 0 };
+                match SafeArray::create(alloc, elem, &[none]) {
+                    Ok(array) => Ok(Variant::Array(array)),
+                    Err(_) => Err(AllocError),
+                }
+            }
         }
     }
-}
-
-impl PartialEq for Variant {
-    ghost eq = { same_value };
-
-    ghost laws = { partial_equiv_from_equiv same_value_equiv };
-
-    fn eq(&self, other: &Variant) -> bool {
-        match (self, other) {
-            (Variant::One(a), Variant::One(b)) => a == b,
-        }
-    }
-}
-
-impl Eq for Variant {
-    ghost laws = { same_value_equiv };
 }

@@ -1,7 +1,9 @@
 -- Scalars: their types, their zeros and what each may be.
-use Rattle.std.specs.Prelude.{◌≡◌, ◌⊎◌, ◌≤◌, ◌<◌, ◌^◌, ℕ, List, Option, None, false, length, pos, FitsSigned}
+use Rattle.std.specs.Prelude.{◌≡◌, ◌⊎◌, ◌||◌, ◌≤◌, ◌<◌, ◌^◌, ℕ, Bool, List, Option, None, false, length, pos, FitsSigned}
 use Rattle.std.proofs.Common.{inl, inr, refl}
 use Rattle.std.specs.Int.{w8, w16, w32, w64}
+use denote.Enum.Bare.{sameb}
+use Rattle.oa_model.specs.contracts.var_type.VarType.{the_type}
 use Rattle.oa_model.specs.declared.var_type.VarType.{VarType}
 use Rattle.oa_model.specs.declared.var_type.VarType.TheVariants as types
 use Rattle.oa_bstr.specs.Text.{bytes_of, max_text_bytes}
@@ -52,6 +54,13 @@ text_of (scalars.Decimal d) = None
 -- a cell of a type holds values of that type; one of VARIANT holds any scalar
 abbrev pub FitsType : Scalar → VarType → Type 0
 FitsType s t = (t ≡ types.Variant) ⊎ (type_of s ≡ t)
+
+-- the same as a test
+abbrev pub same_type : VarType → VarType → Bool
+same_type = sameb the_type
+
+abbrev pub fits_type : Scalar → VarType → Bool
+fits_type s t = same_type t types.Variant || same_type (type_of s) t
 
 -- the value of a cell that was never put (this project's choice)
 abbrev pub zero_of : VarType → Scalar

@@ -1,18 +1,26 @@
 -- Variants (MS-OAUT section 2.2.29).
-use Rattle.std.specs.Prelude.{◌≡◌, List, [], ◌∷◌, pos, All, IsSome}
+use Rattle.std.specs.Prelude.{Bool, false, [], ◌∷◌, pos, All, IsSome}
 use Rattle.oa_model.specs.Types.{sf_type_of}
 use Rattle.oa_model.specs.declared.bound.Bound.{Bound}
+use Rattle.oa_model.specs.declared.var_type.VarType.TheVariants as types
 use Rattle.oa_model.specs.declared.var_type.ValueType.{ValueType}
 use Rattle.oa_model.specs.declared.var_type.ValueType.TheVariants as kinds
 use Rattle.oa_array.specs.Arrays.{ArrayValue, IsArray, with_locks}
 use Rattle.oa_variant.specs.declared.scalar.Scalar.{Scalar}
 use Rattle.oa_variant.specs.declared.variant.Variant.{Variant}
 use Rattle.oa_variant.specs.declared.variant.Variant.TheVariants.{One, Array}
-use Rattle.oa_variant.specs.Scalars.{type_of, zero_of, FitsType, IsScalar}
+use Rattle.oa_variant.specs.Scalars.{type_of, zero_of, same_type, fits_type, FitsType, IsScalar}
 
 abbrev pub value_type_of : Variant → ValueType
 value_type_of (One s) = kinds.One (type_of s)
 value_type_of (Array a) = kinds.Array a.elem
+
+-- whether a property of a declared type can hold the value: it is of that type, or the type is VARIANT
+abbrev pub fits_declared : Variant → ValueType → Bool
+fits_declared (One s) (kinds.One t) = fits_type s t
+fits_declared (One s) (kinds.Array t) = false
+fits_declared (Array a) (kinds.One t) = same_type t types.Variant
+fits_declared (Array a) (kinds.Array t) = same_type a.elem t
 
 -- what a value may be
 abbrev pub IsVariant : Variant → Type 0

@@ -4,7 +4,7 @@ ghost use Rattle.std.specs.Cmp.{partial_order_from_total, partial_equiv_from_equ
 ghost use Rattle.std.specs.Cmp.Rules.{comparing};
 ghost use Rattle.std.specs.Ordering.{as_partial_cmp, eq_by_cmp};
 ghost use Rattle.std.proofs.Common.{rules};
-ghost use Rattle.oa_variant.specs.Scalars.{type_of, text_of, zero_of, FitsType, zero_fits};
+ghost use Rattle.oa_variant.specs.Scalars.{type_of, text_of, zero_of, FitsType, fits_type, zero_fits};
 ghost use Rattle.std.specs.Option.{option_map};
 ghost use Rattle.oa_variant.specs.Keys.{number_of, decimal_of, scalar_cmp, scalars_total};
 
@@ -140,7 +140,10 @@ impl Cell for Scalar {
     ghost zero_fits = { λ elem _. zero_fits elem };
 
     /// Whether a cell of the type can hold it: it is of that type, or the type is VARIANT.
-    fn fits(&self, elem: VarType) -> bool {
+    fn fits(&self, elem: VarType) -> bool
+        ensures fits { IsTrue result ↔ FitsType self.now elem }
+        ensures test { result ≡ fits_type self.now elem }
+    {
         elem == VarType::Variant || self.var_type() == elem
     }
 

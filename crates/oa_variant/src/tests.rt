@@ -161,6 +161,19 @@ fn arrays_are_values(rt: HostRuntime) -> Result<(), Fail> {
     laws::is_variant(&value);
     laws::equal_is_same_but_for_locks();
     assert_eq!(rt; value.value_type(), ValueType::Array(VarType::Variant));
+    for (declared, fits) in [
+        (ValueType::Array(VarType::Variant), true),
+        (ValueType::Array(VarType::I2), false),
+        (ValueType::One(VarType::Variant), true),
+        (ValueType::One(VarType::I2), false),
+    ] {
+        assert_eq!(rt; value.fits(declared), fits);
+    }
+    let two = Variant::One(Scalar::I2(2));
+    assert_eq!(rt; two.fits(ValueType::One(VarType::Variant)), true);
+    assert_eq!(rt; two.fits(ValueType::One(VarType::I2)), true);
+    assert_eq!(rt; two.fits(ValueType::One(VarType::I4)), false);
+    assert_eq!(rt; two.fits(ValueType::Array(VarType::I2)), false);
 
     let copy = value.copy(alloc)?;
     assert_eq!(rt; copy == value, true);

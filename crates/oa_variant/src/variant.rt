@@ -3,12 +3,12 @@ ghost use Rattle.std.specs.Prelude.{◌≡◌, IsOk, IfOk, None};
 ghost use Rattle.oa_model.specs.declared.var_type.VarType.{VarType as AType};
 ghost use Rattle.oa_model.specs.declared.var_type.ValueType.TheVariants as kinds;
 ghost use Rattle.oa_variant.specs.Scalars.{text_of};
-ghost use Rattle.oa_variant.specs.Variants.{value_type_of, unlocked, zero_value, HasZero};
+ghost use Rattle.oa_variant.specs.Variants.{value_type_of, fits_declared, unlocked, zero_value, HasZero};
 ghost use Rattle.oa_variant.specs.declared.variant.Variant.TheVariants.{One};
 
 use crate::Scalar;
 use oa_array::{Cell, SafeArray};
-use oa_model::{Bound, ValueType};
+use oa_model::{Bound, ValueType, VarType};
 use std::alloc::{AllocError, Global};
 
 /// A value with its type (VARIANT, MS-OAUT section 2.2.29): a scalar, or an array of scalars. Two are equal where their types and
@@ -29,6 +29,18 @@ impl Variant {
         match self {
             Variant::One(scalar) => ValueType::One(scalar.var_type()),
             Variant::Array(array) => ValueType::Array(array.elem()),
+        }
+    }
+
+    /// Whether a property of a declared type can hold it: it is of that type, or the type is VARIANT, which takes arrays too.
+    pub fn fits(&self, declared: ValueType) -> bool
+        ensures { result ≡ fits_declared self.now declared }
+    {
+        match (self, declared) {
+            (Variant::One(scalar), ValueType::One(one)) => scalar.fits(one),
+            (Variant::One(_), ValueType::Array(_)) => false,
+            (Variant::Array(_), ValueType::One(one)) => one == VarType::Variant,
+            (Variant::Array(array), ValueType::Array(elem)) => array.elem() == elem,
         }
     }
 

@@ -5,3 +5,4 @@ pub mod Libraries
 pub mod MemberValues
 pub mod Members
 pub mod Repeats
+pub mod Typed

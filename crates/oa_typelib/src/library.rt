@@ -1,10 +1,11 @@
 // Libraries.
-ghost use Rattle.std.specs.Prelude.{◌≡◌, map, position, option_copied, slice_get};
+ghost use Rattle.std.specs.Prelude.{◌≡◌, IfOk, map, position, option_copied, slice_get};
 ghost use Rattle.std.specs.Option.{option_and_then, option_map};
 ghost use Rattle.oa_typelib.specs.Breaches.{Refuses, first_breach};
 ghost use Rattle.oa_typelib.specs.Libraries.{same, same_name, guid_of, ids_of, class_of, interface_of, default_of, has_interface, selected_in, marked};
 ghost use Rattle.oa_typelib.specs.Indexes.{default_in, folded_names};
 ghost use Rattle.oa_typelib.specs.Members.{member_with, member_at};
+ghost use Rattle.oa_typelib.specs.Typed.{IsDeclarable, IsOfText};
 
 use crate::access::{Access, Kind, MemberFault};
 use crate::checks::{check_guids, check_ids, check_interfaces, check_names};
@@ -33,18 +34,20 @@ pub struct Library {
 impl Model for Library {
     ghost use Rattle.oa_idl.specs.Trees.{TreeValue};
     ghost use Rattle.oa_typelib.specs.Indexes.{IsIndexed};
+    ghost use Rattle.oa_typelib.specs.Typed.{IsTyped};
 
     ghost Value = { TreeValue };
 
     ghost view = { λ l. l.tree };
 
-    ghost invariant = { λ l. IsIndexed l.tree l.guids l.ids.items l.defaults.items };
+    ghost invariant = { λ l. IsIndexed l.tree l.guids l.ids.items l.defaults.items × IsTyped l.tree };
 }
 
-/// The library that a tree stands for. An Err names the first breach of the checks: the kinds follow in the order of `CheckError`'s
+/// The library that a tree stands for, which is that of some text, as one from `parse` is. An Err names the first breach of the checks: the kinds follow in the order of `CheckError`'s
 /// variants over the whole tree, and within a kind the breach counts whose later item stands first in the text. Memory may come in
 /// place of any answer.
 pub fn check(alloc: Global, tree: Tree) -> Result<Library, CheckError>
+    requires { IsOfText tree }
     ensures { Refuses (first_breach tree) (λ library. library ≡ marked tree) result }
 {
     let names = check_names(alloc, items_of(&tree))?;
@@ -184,13 +187,15 @@ impl Library {
 
     /// The member with a DISPID of the interface with a GUID, and the form of it that a call asks for. MemberNotFound where there is no
     /// such interface or member, where the flags ask for no form, and where the member has not the form, as a put of a readonly property.
+    /// A member's type is a scalar type or that of an array which there is.
     pub fn member(
         &self,
         interface: &Uuid,
         id: i32,
         access: Access,
     ) -> Result<(Member<'_>, Kind), MemberFault>
-        ensures { result ≡ member_at self.now interface.now id access }
+        ensures found { result ≡ member_at self.now interface.now id access }
+        ensures typed { IfOk result (λ found. IsDeclarable found.0.value_type) }
     {
         let Some(member) = self.find_member(interface, id) else {
             return Err(MemberFault::MemberNotFound);

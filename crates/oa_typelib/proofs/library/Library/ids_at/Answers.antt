@@ -6,4 +6,4 @@ use Rattle.oa_typelib.proofs.library.Library.ids_at.Goals as goal
 
 pub returns : goal.returns
 returns c =
-    c.at.ensures ∙ ap (λ (xs : List (List ℤ)). slice_get xs c.args.place) (c.as_slice.ensures.value ∙ c.self.invariant.1 ∙ ap (λ (t : TreeValue). map ids_of t.items) c.self.view_is) ∙ slice_get-map ids_of c.args.self.now.items c.args.place
+    c.at.ensures ∙ ap (λ (xs : List (List ℤ)). slice_get xs c.args.place) (c.as_slice.ensures.value ∙ c.self.invariant.0.1 ∙ ap (λ (t : TreeValue). map ids_of t.items) c.self.view_is) ∙ slice_get-map ids_of c.args.self.now.items c.args.place

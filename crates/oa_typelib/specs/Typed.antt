@@ -1,0 +1,28 @@
+-- The types that a library declares.
+use Rattle.std.specs.Prelude.{List, ℕ, IsSome}
+use Rattle.std.specs.List.{AllByRecursion}
+use Rattle.oa_model.specs.Types.{sf_type_of}
+use Rattle.oa_model.specs.declared.var_type.ValueType.{ValueType}
+use Rattle.oa_model.specs.declared.var_type.ValueType.TheVariants.{One, Array}
+use Rattle.oa_idl.specs.IsTree.{IsTree}
+use Rattle.oa_idl.specs.Trees.{TreeValue}
+use Rattle.oa_idl.specs.declared.parts.Property.{Property}
+use Rattle.oa_idl.specs.declared.items.Item.{Item}
+use Rattle.oa_idl.specs.declared.items.Item.TheVariants.{Interface, Coclass}
+
+-- some text stands for the tree
+abbrev pub IsOfText : TreeValue → Type 0
+IsOfText tree = (text : List ℕ) × IsTree text tree
+
+-- a scalar type, or an array with cells of a type that has an sfType (MS-OAUT section 2.2.8)
+abbrev pub IsDeclarable : ValueType → Type 0
+IsDeclarable (One t) = Unit {0}
+IsDeclarable (Array t) = IsSome (sf_type_of t)
+
+abbrev pub IsTypedItem : Item → Type 0
+IsTypedItem (Interface i) = AllByRecursion (λ (p : Property). IsDeclarable p.value_type) i.properties
+IsTypedItem (Coclass c) = Unit {0}
+
+-- each member of the tree has such a type
+abbrev pub IsTyped : TreeValue → Type 0
+IsTyped tree = AllByRecursion IsTypedItem tree.items

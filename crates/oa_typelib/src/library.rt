@@ -5,7 +5,7 @@ ghost use Rattle.oa_typelib.specs.Breaches.{Refuses, first_breach};
 ghost use Rattle.oa_typelib.specs.Libraries.{same, same_name, guid_of, ids_of, class_of, interface_of, default_of, has_interface, selected_in, marked};
 ghost use Rattle.oa_typelib.specs.Indexes.{default_in, folded_names};
 ghost use Rattle.oa_typelib.specs.Members.{member_with, member_at};
-ghost use Rattle.oa_typelib.specs.Typed.{IsDeclarable, IsOfText};
+ghost use Rattle.oa_typelib.specs.Typed.{IsDeclarable, IsOfText, IsTyped};
 
 use crate::access::{Access, Kind, MemberFault};
 use crate::checks::{check_guids, check_ids, check_interfaces, check_names};
@@ -105,6 +105,13 @@ impl Library {
         &self.tree
     }
 
+    // What is true of each library: its members have types that may be declared.
+    fn is_typed(&self)
+        ensures { IsTyped self.now }
+    {
+        let _tree = &self.tree;
+    }
+
     /// The place of the item with a GUID.
     fn place(&self, guid: &Uuid) -> Option<usize>
         ensures { result ≡ position (λ i. same guid.now (guid_of i)) self.now.items }
@@ -197,6 +204,7 @@ impl Library {
         ensures found { result ≡ member_at self.now interface.now id access }
         ensures typed { IfOk result (λ found. IsDeclarable found.0.value_type) }
     {
+        self.is_typed();
         let Some(member) = self.find_member(interface, id) else {
             return Err(MemberFault::MemberNotFound);
         };

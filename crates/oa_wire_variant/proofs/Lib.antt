@@ -1,4 +1,1 @@
-mod TextLaws
-mod ScalarLaws
-mod Fronts
-mod Written
+mod VariantLaws

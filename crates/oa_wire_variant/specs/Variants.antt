@@ -8,9 +8,9 @@ use Rattle.oa_model.specs.declared.var_type.VarType.TheVariants as types
 use Rattle.oa_variant.specs.Scalars.{IsScalar}
 use Rattle.oa_variant.specs.declared.variant.Variant.{Variant}
 use Rattle.oa_variant.specs.declared.variant.Variant.TheVariants.{One}
-use Rattle.oa_wire_variant.specs.Scalars.{scalar}
-use Rattle.oa_wire_variant.specs.declared.fault.WireFault.{WireFault}
-use Rattle.oa_wire_variant.specs.declared.fault.WireFault.TheVariants.{BadStub, BadVarType, Memory}
+use Rattle.oa_wire_array.specs.Scalars.{scalar}
+use Rattle.oa_wire_array.specs.declared.fault.WireFault.{WireFault}
+use Rattle.oa_wire_array.specs.declared.fault.WireFault.TheVariants.{BadStub, BadVarType, Memory}
 
 abbrev pub variant : Variant → Form
 variant (One s) = scalar s

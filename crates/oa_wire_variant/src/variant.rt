@@ -4,17 +4,23 @@ ghost use Rattle.std.specs.Prelude.{◌≡◌, ◌++◌, ◌≤◌, length, OnOk
 ghost use Rattle.oa_ndr.specs.Reading.{whole};
 ghost use Rattle.oa_ndr.specs.Writing.{within};
 ghost use Rattle.oa_wire_variant.specs.Variants.{IsReading, is_value_type, field_fault};
-ghost use Rattle.oa_wire_variant.specs.Reading.{Answers, AnswersAll, variant_at};
+ghost use Rattle.oa_wire_array.specs.Reading.{Answers, scalar_at};
+ghost use Rattle.oa_wire_variant.specs.Reading.{AnswersAll, variant_at};
 ghost use Rattle.oa_wire_variant.specs.Canon.{canon, put_variant};
 
-use crate::fault::{ReadFault, WireFault};
-use crate::scalar::{scalar, scalar_len, write_scalar};
 use byteorder::{ByteOrder, LittleEndian};
 use oa_model::VarType;
 use oa_ndr::{Ndr, NdrOut};
-use oa_variant::Variant;
+use oa_variant::{Scalar, Variant};
+use oa_wire_array::{ReadFault, WireFault, read_scalar, scalar_len, write_scalar};
 use std::alloc::{AllocError, Global};
 use std::mem;
+
+fn scalar(alloc: Global, r: &mut Ndr<'_>) -> Result<Scalar, ReadFault>
+    ensures { Answers result r.new (scalar_at r.old) }
+{
+    read_scalar(alloc, r)
+}
 
 #[tactic(auto, unfolding(oa_ndr::specs::Reading::bind, oa_ndr::specs::Reading::give, crate::specs::Reading::variant_at))]
 fn variant(alloc: Global, r: &mut Ndr<'_>) -> Result<Variant, ReadFault>
@@ -72,7 +78,7 @@ pub fn read_variant(alloc: Global, bytes: &[u8]) -> Result<Variant, WireFault>
 }
 
 /// How many bytes `write_variant` adds.
-#[tactic(auto, unfolding(crate::specs::Canon::scalar_len))]
+#[tactic(auto, unfolding(oa_wire_array::specs::Canon::scalar_len))]
 pub fn wire_len(value: &Variant) -> usize
     ensures value { result ≡ length (canon value.now) }
     ensures small { result ≤ 262180 }

@@ -1,7 +1,7 @@
 use Rattle.oa_ndr.proofs.Laws.{canon_is}
 use Rattle.oa_wire_variant.specs.Variants.{variant}
 use Rattle.oa_wire_variant.specs.Canon.{put_variant}
-use Rattle.oa_wire_variant.proofs.Written.{variant_writes}
+use Rattle.oa_wire_variant.proofs.VariantLaws.{variant_writes}
 use Rattle.oa_wire_variant.proofs.laws.canon_spells.Goals as goal
 
 pub returns : goal.returns

@@ -1,5 +1,5 @@
 use Rattle.oa_ndr.proofs.Laws.{no_proper_prefix}
-use Rattle.oa_wire_variant.proofs.ScalarLaws.{variant_reads}
+use Rattle.oa_wire_variant.proofs.VariantLaws.{variant_reads}
 use Rattle.oa_wire_variant.proofs.laws.no_proper_prefix.Goals as goal
 
 pub returns : goal.returns

@@ -1,5 +1,5 @@
 use Rattle.oa_ndr.proofs.Laws.{one_value}
-use Rattle.oa_wire_variant.proofs.ScalarLaws.{variant_reads}
+use Rattle.oa_wire_variant.proofs.VariantLaws.{variant_reads}
 use Rattle.oa_wire_variant.proofs.laws.one_value.Goals as goal
 
 pub returns : goal.returns

@@ -1,10 +1,10 @@
 use Rattle.std.proofs.Common.{◌≡◌, List, ℕ, Err, sym}
 use Rattle.oa_ndr.proofs.Laws.{whole_takes, whole_again}
 use Rattle.oa_variant.specs.declared.variant.Variant.{Variant}
-use Rattle.oa_wire_variant.specs.declared.fault.WireFault.{WireFault}
-use Rattle.oa_wire_variant.specs.declared.fault.WireFault.TheVariants.{BadStub, BadVarType, Memory}
+use Rattle.oa_wire_array.specs.declared.fault.WireFault.{WireFault}
+use Rattle.oa_wire_array.specs.declared.fault.WireFault.TheVariants.{BadStub, BadVarType, Memory}
 use Rattle.oa_wire_variant.specs.Variants.{Spells, IsReading, field_fault}
-use Rattle.oa_wire_variant.proofs.ScalarLaws.{variant_reads}
+use Rattle.oa_wire_variant.proofs.VariantLaws.{variant_reads}
 use Rattle.oa_wire_variant.proofs.variant.read_variant.Goals as goal
 
 fault_is : (bytes : List ℕ) (e : WireFault) → e ≡ field_fault bytes → ((v : Variant) → Spells bytes v → ⊥) → IsReading bytes (Err e)

@@ -1,8 +1,8 @@
 use Rattle.std.proofs.Common.{◌≡◌, true, false, rules}
 use Rattle.std.specs.Result.{is_ok}
-use Rattle.oa_wire_variant.proofs.Fronts.{front_ok, front_err}
-use Rattle.oa_wire_variant.proofs.ScalarLaws.{scalar_reads}
-use Rattle.oa_wire_variant.proofs.scalar.read_scalar.Goals as goal
+use Rattle.oa_wire_array.proofs.Fronts.{front_ok, front_err}
+use Rattle.oa_wire_array.proofs.ScalarLaws.{scalar_reads}
+use Rattle.oa_wire_array.proofs.scalar.read_scalar.Goals as goal
 
 pub returns-then-is_ok : goal.returns-then-is_ok
 returns-then-is_ok c =

@@ -1,7 +1,7 @@
 //! Why bytes are no value.
 
 ghost use Rattle.std.specs.Prelude.{◌≡◌};
-ghost use Rattle.oa_wire_variant.specs.declared.fault.ReadFault.TheVariants.{BadStub, Memory};
+ghost use Rattle.oa_wire_array.specs.declared.fault.ReadFault.TheVariants.{BadStub, Memory};
 
 use oa_ndr::Short;
 use std::alloc::AllocError;

@@ -1,11 +1,14 @@
 -- What a call at a reader answers, from the law of what it reads.
-use Rattle.std.proofs.Common.{◌≡◌, true, false, ◌++◌, List, ℕ, None, Result, Ok, Err, refl, sym, ap, ◌∙◌}
+use Rattle.std.proofs.Common.{◌≡◌, true, false, ◌+◌, ◌++◌, length, List, ℕ, Option, Some, None, Result, Ok, Err, refl, sym, ap, ◌∙◌}
 use Rattle.std.specs.Result.{is_ok}
 use Rattle.oa_ndr.specs.Reading.{Cursor, at, Reading}
 use Rattle.oa_ndr.proofs.Laws.{Reads, Always}
-use Rattle.oa_wire_variant.specs.declared.fault.ReadFault.{ReadFault}
-use Rattle.oa_wire_variant.specs.declared.fault.ReadFault.TheVariants.{BadStub, Memory}
-use Rattle.oa_wire_variant.specs.Reading.{Answers, Stretch, IsFront}
+use Rattle.oa_wire_array.specs.declared.fault.ReadFault.{ReadFault}
+use Rattle.oa_wire_array.specs.declared.fault.ReadFault.TheVariants.{BadStub, Memory}
+use Rattle.oa_wire_array.specs.Reading.{Answers, Stretch, IsFront}
+
+abbrev done : {A : Type 0} → A → Cursor → Option (A × Cursor)
+done x t = Some (x, t)
 
 -- where reading takes nothing, no stretch is of the form
 no_front : {A : Type 0} {F : A → ℕ → List ℕ → Type 0} {read : Reading A} → Reads Always F read → (old : Cursor) → read old ≡ None → (x : A) (end : Cursor) → Stretch (F x) old end → ⊥
@@ -26,3 +29,20 @@ pub front_err : {A : Type 0} {F : A → ℕ → List ℕ → Type 0} {read : Rea
 front_err r (Ok x) old ahead new same h e = absurd cc
 front_err {A} {F} {read} r (Err BadStub) old ahead new same h e = (no_front r old (ap read (sym same) ∙ h), refl)
 front_err r (Err Memory) old ahead new same h e = refl
+
+-- the other way round: what a call answered is what reading gives
+pub front_answers : {A : Type 0} {F : A → ℕ → List ℕ → Type 0} {read : Reading A} → Reads Always F read
+    → (result : Result A ReadFault) (old new : Cursor) → IsFront F result old new → Answers result new (read old)
+front_answers {A} {F} {read} r (Ok x) old new h =
+    let again = r.again old.position h.text new.rest x tt h.form in
+    let same : read old ≡ read (at old.position (h.text ++ new.rest)) = ap (λ (y : List ℕ). read (at old.position y)) h.parts in
+    let end : at (old.position + length h.text) new.rest ≡ new = ap (λ (n : ℕ). at n new.rest) (sym h.place) in
+    same ∙ again ∙ ap (λ (t : Cursor). done x t) end
+front_answers {A} {F} {read} r (Err BadStub) old new h = nothing_read (read old) refl
+  where
+    nothing_read : (o : Option (A × Cursor)) → read old ≡ o → o ≡ None
+    nothing_read None e = refl
+    nothing_read (Some y) e =
+        let one = (r.takes old.position old.rest y.0 y.1 e).1 in
+        absurd (h.0 y.0 y.1 (record { text = one.text; parts = one.parts; place = one.place; form = one.form }))
+front_answers r (Err Memory) old new h = tt

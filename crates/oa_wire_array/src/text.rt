@@ -3,9 +3,9 @@
 ghost use Rattle.std.specs.Prelude.{◌≡◌, ◌≤◌, ◌<◌, ◌++◌, OnOk, OnErr};
 ghost use Rattle.oa_bstr.specs.Text.{max_text_bytes};
 ghost use Rattle.oa_ndr.specs.Writing.{within};
-ghost use Rattle.oa_wire_variant.specs.Texts.{units, blob};
-ghost use Rattle.oa_wire_variant.specs.Reading.{Answers, IsFront, text_at, blob_at, bstr_at};
-ghost use Rattle.oa_wire_variant.specs.Canon.{put_blob, put_bstr};
+ghost use Rattle.oa_wire_array.specs.Texts.{units, blob};
+ghost use Rattle.oa_wire_array.specs.Reading.{Answers, IsFront, text_at, blob_at, bstr_at};
+ghost use Rattle.oa_wire_array.specs.Canon.{put_blob, put_bstr};
 
 use crate::fault::ReadFault;
 use oa_bstr::Bstr;

@@ -12,12 +12,9 @@ use Rattle.oa_variant.specs.Decimals.{DecimalValue}
 use Rattle.oa_variant.specs.Scalars.{type_of}
 use Rattle.oa_variant.specs.declared.scalar.Scalar.{Scalar}
 use Rattle.oa_variant.specs.declared.scalar.Scalar.TheVariants as scalars
-use Rattle.oa_variant.specs.declared.variant.Variant.{Variant}
-use Rattle.oa_variant.specs.declared.variant.Variant.TheVariants.{One}
-use Rattle.oa_wire_variant.specs.Scalars.{signed, truth, sign_of, sign, decimal, arm, scalar_vt, scalar}
-use Rattle.oa_wire_variant.specs.Variants.{variant}
-use Rattle.oa_wire_variant.specs.Reading.{signed_at, truth_at, sign_at, the_decimal, decimal_at, arm_at, arm_of, typed_at, scalar_at, variant_at}
-use Rattle.oa_wire_variant.proofs.TextLaws.{bstr_reads}
+use Rattle.oa_wire_array.specs.Scalars.{signed, truth, sign_of, sign, decimal, arm, scalar_vt, scalar}
+use Rattle.oa_wire_array.specs.Reading.{signed_at, truth_at, sign_at, the_decimal, decimal_at, arm_at, arm_of, typed_at, scalar_at}
+use Rattle.oa_wire_array.proofs.TextLaws.{bstr_reads}
 
 signed_reads : (n : ℕ) (w : Width) → Reads Always (signed n w) (signed_at n w)
 unfolding signed_at
@@ -190,10 +187,3 @@ scalar_reads =
     choose_reads (eqb discriminant vt)
     (λ same. same_values (arm_of_reads vt (type_at vt) refl) (λ v h. ((tt, h), h ∙ sym (eqb-true _ _ same))) (λ v h. h.0.1))
     (λ other. fail_reads (λ v p text h _. eqb-false _ _ other (sym h.1 ∙ h.0.1)))))))))))
-
-pub variant_reads : Reads Always variant variant_at
-unfolding variant_at
-variant_reads = made_reads One scalar_reads (λ _ _. tt) (λ v p text h form. of v)
-  where
-    of : (v : Variant) → (s : Scalar) × Always s × (One s ≡ v)
-    of (One s) = (s, tt, refl)

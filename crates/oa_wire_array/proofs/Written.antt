@@ -13,12 +13,9 @@ use Rattle.oa_variant.specs.Decimals.{DecimalValue}
 use Rattle.oa_variant.specs.Scalars.{type_of, IsScalar}
 use Rattle.oa_variant.specs.declared.scalar.Scalar.{Scalar}
 use Rattle.oa_variant.specs.declared.scalar.Scalar.TheVariants as scalars
-use Rattle.oa_variant.specs.declared.variant.Variant.{Variant}
-use Rattle.oa_variant.specs.declared.variant.Variant.TheVariants.{One}
-use Rattle.oa_wire_variant.specs.Texts.{units, blob, bstr}
-use Rattle.oa_wire_variant.specs.Scalars.{signed, truth, sign_of, sign, decimal, arm, scalar_vt, scalar}
-use Rattle.oa_wire_variant.specs.Variants.{variant, IsValue}
-use Rattle.oa_wire_variant.specs.Canon.{put_blob, put_bstr, put_truth, put_decimal, put_arm, put_sized, cl_size, put_variant}
+use Rattle.oa_wire_array.specs.Texts.{units, blob, bstr}
+use Rattle.oa_wire_array.specs.Scalars.{signed, truth, sign_of, sign, decimal, arm, scalar_vt, scalar}
+use Rattle.oa_wire_array.specs.Canon.{put_blob, put_bstr, put_truth, put_decimal, put_arm, put_sized, cl_size, put_scalar}
 
 vt_small : (t : VarType) → vt_of t < 32
 vt_small types.Empty = omega arith
@@ -106,5 +103,5 @@ sized_writes size v h =
     then_writes (align_writes 8) (then_writes (ignored_writes 4 size) (then_writes (ignored_writes 4 0) (then_writes (unit_writes 2 vt (omega arith))
     (then_writes (ignored_writes 2 0) (then_writes (ignored_writes 2 0) (then_writes (ignored_writes 2 0) (then_writes (unit_writes 4 vt (omega arith)) (arm_writes v h))))))))
 
-pub variant_writes : (v : Variant) → IsValue v → Writes (variant v) (put_variant v)
-variant_writes (One s) h = sized_writes (cl_size s) s h
+pub scalar_writes : (v : Scalar) → IsScalar v → Writes (scalar v) (put_scalar v)
+scalar_writes v h = sized_writes (cl_size v) v h

@@ -3,8 +3,8 @@
 ghost use Rattle.std.specs.Prelude.{◌≡◌, ◌≤◌, ◌<◌, OnOk, OnErr};
 ghost use Rattle.oa_model.specs.Types.{vt_of};
 ghost use Rattle.oa_ndr.specs.Writing.{within};
-ghost use Rattle.oa_wire_variant.specs.Scalars.{scalar};
-ghost use Rattle.oa_wire_variant.specs.Reading.{
+ghost use Rattle.oa_wire_array.specs.Scalars.{scalar};
+ghost use Rattle.oa_wire_array.specs.Reading.{
   Answers,
   IsFront,
   truth_at,
@@ -14,7 +14,7 @@ ghost use Rattle.oa_wire_variant.specs.Reading.{
   typed_at,
   scalar_at,
 };
-ghost use Rattle.oa_wire_variant.specs.Canon.{
+ghost use Rattle.oa_wire_array.specs.Canon.{
   put_truth,
   put_decimal,
   put_arm,
@@ -198,9 +198,10 @@ fn write_sized(out: &mut NdrOut, size: u32, value: &Scalar) -> Result<(), AllocE
     write_arm(out, value)
 }
 
-/// How many bytes a scalar takes, from its first byte to the last of its pointee.
+/// How many bytes `write_scalar` adds at a multiple of 8, from the first of clSize to the last of the
+/// pointee.
 #[tactic(auto, unfolding(crate::specs::Canon::scalar_len))]
-pub(crate) fn scalar_len(value: &Scalar) -> usize
+pub fn scalar_len(value: &Scalar) -> usize
     ensures value { result ≡ scalar_len value.now }
     ensures small { result ≤ 262180 }
 {

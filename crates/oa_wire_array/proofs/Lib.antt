@@ -1,0 +1,4 @@
+mod TextLaws
+pub mod ScalarLaws
+pub mod Fronts
+pub mod Written

@@ -1,0 +1,68 @@
+-- How values are written: the ignored parts and the choices of a spelling (this project's choice).
+use Rattle.std.specs.Prelude.{true, false, ℕ, ◌+◌, ◌/◌, ◌%◌, ◌^◌, Bool, if◌then◌else◌, List, [], length, replicate, Option, Some, None}
+use Rattle.std.specs.Int.{w8, w16, w32, w64, cast_unsigned}
+use Rattle.oa_ndr.specs.Writing.{put_align, put_unit, put_bytes, put_referent}
+use Rattle.oa_variant.specs.Decimals.{DecimalValue}
+use Rattle.oa_variant.specs.declared.scalar.Scalar.{Scalar}
+use Rattle.oa_variant.specs.declared.scalar.Scalar.TheVariants as scalars
+use Rattle.oa_wire_array.specs.Texts.{units}
+use Rattle.oa_wire_array.specs.Scalars.{scalar_vt, sign_of}
+
+infixl 3 ◌|>◌
+abbrev pub ◌|>◌ : {A B : Type 0} → A → (A → B) → B
+x |> f = f x
+
+abbrev pub put_blob : Option (List ℕ) → List ℕ → List ℕ
+put_blob None out = out |> put_unit 4 0 |> put_unit 4 4294967295 |> put_unit 4 0
+put_blob (Some text) out =
+    out |> put_unit 4 (units (length text)) |> put_unit 4 (length text) |> put_unit 4 (units (length text))
+    |> put_bytes text |> put_bytes (replicate (length text % 2) 0)
+
+-- the null text is a null referent
+abbrev pub put_bstr : Option (List ℕ) → List ℕ → List ℕ
+put_bstr None out = out |> put_referent false
+put_bstr (Some text) out = out |> put_referent true |> put_blob (Some text)
+
+abbrev pub put_truth : Bool → List ℕ → List ℕ
+put_truth b out = out |> put_unit 2 (if b then 65535 else 0)
+
+abbrev pub put_decimal : DecimalValue → List ℕ → List ℕ
+put_decimal d out =
+    out |> put_align 8 |> put_unit 2 0 |> put_unit 1 d.scale |> put_unit 1 (sign_of d.negative)
+    |> put_unit 4 (d.magnitude / 2 ^ 64) |> put_unit 8 (d.magnitude % 2 ^ 64)
+
+abbrev pub put_arm : Scalar → List ℕ → List ℕ
+put_arm scalars.Empty out = out
+put_arm scalars.Null out = out
+put_arm (scalars.I1 z) out = out |> put_unit 1 (cast_unsigned w8 z)
+put_arm (scalars.I2 z) out = out |> put_unit 2 (cast_unsigned w16 z)
+put_arm (scalars.I4 z) out = out |> put_unit 4 (cast_unsigned w32 z)
+put_arm (scalars.I8 z) out = out |> put_unit 8 (cast_unsigned w64 z)
+put_arm (scalars.Int z) out = out |> put_unit 4 (cast_unsigned w32 z)
+put_arm (scalars.Ui1 n) out = out |> put_unit 1 n
+put_arm (scalars.Ui2 n) out = out |> put_unit 2 n
+put_arm (scalars.Ui4 n) out = out |> put_unit 4 n
+put_arm (scalars.Ui8 n) out = out |> put_unit 8 n
+put_arm (scalars.Uint n) out = out |> put_unit 4 n
+put_arm (scalars.Cy z) out = out |> put_unit 8 (cast_unsigned w64 z)
+put_arm (scalars.Bool b) out = out |> put_truth b
+put_arm (scalars.Error n) out = out |> put_unit 4 n
+put_arm (scalars.Bstr t) out = out |> put_bstr t
+put_arm (scalars.Decimal d) out = out |> put_decimal d
+
+-- with a given clSize
+abbrev pub put_sized : ℕ → Scalar → List ℕ → List ℕ
+put_sized size v out =
+    out |> put_align 8 |> put_unit 4 size |> put_unit 4 0 |> put_unit 2 (scalar_vt v) |> put_unit 2 0 |> put_unit 2 0 |> put_unit 2 0
+    |> put_unit 4 (scalar_vt v) |> put_arm v
+
+-- how many bytes a scalar takes, from its first byte to the last of its pointee
+unfoldable pub scalar_len : Scalar → ℕ
+scalar_len v = length (put_sized 0 v [])
+
+-- clSize counts them in units of 8, rounded up
+abbrev pub cl_size : Scalar → ℕ
+cl_size v = (scalar_len v + 7) / 8 % 2 ^ 32
+
+abbrev pub put_scalar : Scalar → List ℕ → List ℕ
+put_scalar v out = put_sized (cl_size v) v out

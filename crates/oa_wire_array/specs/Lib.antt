@@ -1,0 +1,4 @@
+pub mod Texts
+pub mod Scalars
+pub mod Reading
+pub mod Canon

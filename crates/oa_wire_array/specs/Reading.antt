@@ -1,0 +1,169 @@
+-- Reading as functions on lists, which say the same as the forms (proofs/Reads* has the laws).
+use Rattle.std.specs.Prelude.{◌≡◌, ℕ, ℤ, ◌+◌, ◌*◌, ◌%◌, ◌^◌, ◌==◌, ◌&&◌, nat_le, Bool, true, false, not, List, Option, Some, None, Result, Ok, Err, ◌++◌, length}
+use Rattle.std.specs.Int.{Width, w8, w16, w32, w64, cast_signed}
+use Rattle.oa_ndr.specs.Reading.{Cursor, Reading, ◌>>=◌, give, fail, choose, bytes_at, align_at, unit_at, referent_at}
+use Rattle.oa_bstr.specs.Text.{max_text_bytes}
+use Rattle.oa_model.specs.Types.{type_at}
+use Rattle.oa_model.specs.declared.var_type.VarType.{VarType}
+use Rattle.oa_model.specs.declared.var_type.VarType.TheVariants as types
+use Rattle.oa_variant.specs.Decimals.{DecimalValue}
+use Rattle.oa_variant.specs.declared.scalar.Scalar.{Scalar}
+use Rattle.oa_variant.specs.declared.scalar.Scalar.TheVariants as scalars
+use Rattle.oa_wire_array.specs.declared.fault.ReadFault.{ReadFault}
+use Rattle.oa_wire_array.specs.declared.fault.ReadFault.TheVariants.{BadStub, Memory}
+use Rattle.oa_wire_array.specs.Texts.{units}
+
+-- What a call returned, and the reader after it, is what reading gives, unless memory ran out.
+abbrev pub Answers : {A : Type 0} → Result A ReadFault → Cursor → Option (A × Cursor) → Type 0
+Answers (Ok x) new read = read ≡ Some (x, new)
+Answers (Err BadStub) new read = read ≡ None
+Answers (Err Memory) new read = Unit {0}
+
+-- the same where nothing is left
+abbrev pub AnswersAll : {A : Type 0} → Result A ReadFault → Option A → Type 0
+AnswersAll (Ok x) read = read ≡ Some x
+AnswersAll (Err BadStub) read = read ≡ None
+AnswersAll (Err Memory) read = Unit {0}
+
+-- the bytes from one place of a reader to a later one have a form
+pub record Stretch (F : ℕ → List ℕ → Type 0) (from to : Cursor) : Type 0 where
+  pub text : List ℕ
+  pub parts : from.rest ≡ text ++ to.rest
+  pub place : to.position ≡ from.position + length text
+  pub form : F from.position text
+
+-- What a call at a reader answers: the value of the bytes that it moved past; BadStub where no bytes there are of the form of any value. At an error the reader is
+-- as it was.
+abbrev pub IsFront : {A : Type 0} → (A → ℕ → List ℕ → Type 0) → Result A ReadFault → Cursor → Cursor → Type 0
+IsFront F (Ok x) old new = Stretch (F x) old new
+IsFront {A} F (Err BadStub) old new = ((x : A) (end : Cursor) → Stretch (F x) old end → ⊥) × (new ≡ old)
+IsFront F (Err Memory) old new = new ≡ old
+
+-- ---- texts
+
+unfoldable pub body_at : ℕ → Reading (List ℕ)
+body_at len = do
+  text ← bytes_at len
+  _ ← bytes_at (len % 2)
+  give text
+
+unfoldable pub text_at : ℕ → Reading (Option (List ℕ))
+text_at len = do
+  text ← body_at len
+  give (Some text)
+
+unfoldable pub blob_at : Reading (Option (List ℕ))
+blob_at = do
+  maximum ← unit_at 4
+  len ← unit_at 4
+  size ← unit_at 4
+  choose (len == 4294967295)
+      (choose ((maximum == 0) && (size == 0)) (give None) fail)
+      (choose ((maximum == units len) && (size == units len) && nat_le len max_text_bytes) (text_at len) fail)
+
+unfoldable pub bstr_at : Reading (Option (List ℕ))
+bstr_at = do
+  is_set ← referent_at
+  choose is_set blob_at (give None)
+
+-- ---- scalars
+
+unfoldable pub signed_at : ℕ → Width → Reading ℤ
+signed_at n w = do
+  x ← unit_at n
+  give (cast_signed w x)
+
+unfoldable pub truth_at : Reading Bool
+truth_at = do
+  x ← unit_at 2
+  give (not (x == 0))
+
+unfoldable pub sign_at : Reading Bool
+sign_at = do
+  sign ← unit_at 1
+  choose (sign == 0) (give false) (choose (sign == 128) (give true) fail)
+
+abbrev pub the_decimal : Bool → ℕ → ℕ → ℕ → DecimalValue
+the_decimal negative scale high low = record { negative = negative; scale = scale; magnitude = high * 2 ^ 64 + low }
+
+unfoldable pub decimal_at : Reading DecimalValue
+decimal_at = do
+  _ ← align_at 8
+  _ ← unit_at 2
+  scale ← unit_at 1
+  negative ← sign_at
+  high ← unit_at 4
+  low ← unit_at 8
+  choose (nat_le scale 28) (give (the_decimal negative scale high low)) fail
+
+unfoldable pub arm_at : VarType → Reading Scalar
+arm_at types.Empty = give scalars.Empty
+arm_at types.Null = give scalars.Null
+arm_at types.I1 = do
+  z ← signed_at 1 w8
+  give (scalars.I1 z)
+arm_at types.I2 = do
+  z ← signed_at 2 w16
+  give (scalars.I2 z)
+arm_at types.I4 = do
+  z ← signed_at 4 w32
+  give (scalars.I4 z)
+arm_at types.I8 = do
+  z ← signed_at 8 w64
+  give (scalars.I8 z)
+arm_at types.Int = do
+  z ← signed_at 4 w32
+  give (scalars.Int z)
+arm_at types.Ui1 = do
+  n ← unit_at 1
+  give (scalars.Ui1 n)
+arm_at types.Ui2 = do
+  n ← unit_at 2
+  give (scalars.Ui2 n)
+arm_at types.Ui4 = do
+  n ← unit_at 4
+  give (scalars.Ui4 n)
+arm_at types.Ui8 = do
+  n ← unit_at 8
+  give (scalars.Ui8 n)
+arm_at types.Uint = do
+  n ← unit_at 4
+  give (scalars.Uint n)
+arm_at types.Cy = do
+  z ← signed_at 8 w64
+  give (scalars.Cy z)
+arm_at types.Bool = do
+  b ← truth_at
+  give (scalars.Bool b)
+arm_at types.Error = do
+  n ← unit_at 4
+  give (scalars.Error n)
+arm_at types.Bstr = do
+  t ← bstr_at
+  give (scalars.Bstr t)
+arm_at types.Decimal = do
+  d ← decimal_at
+  give (scalars.Decimal d)
+arm_at types.Variant = fail
+
+-- the arm of the type with some number
+unfoldable pub arm_of : Option VarType → Reading Scalar
+arm_of None = fail
+arm_of (Some t) = arm_at t
+
+-- what stands behind the number of the type
+unfoldable pub typed_at : ℕ → Reading Scalar
+typed_at vt = do
+  _ ← unit_at 2
+  _ ← unit_at 2
+  _ ← unit_at 2
+  discriminant ← unit_at 4
+  choose (discriminant == vt) (arm_of (type_at vt)) fail
+
+unfoldable pub scalar_at : Reading Scalar
+scalar_at = do
+  _ ← align_at 8
+  _ ← unit_at 4
+  _ ← unit_at 4
+  vt ← unit_at 2
+  typed_at vt

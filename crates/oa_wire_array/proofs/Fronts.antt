@@ -46,3 +46,16 @@ front_answers {A} {F} {read} r (Err BadStub) old new h = nothing_read (read old)
         let one = (r.takes old.position old.rest y.0 y.1 e).1 in
         absurd (h.0 y.0 y.1 (record { text = one.text; parts = one.parts; place = one.place; form = one.form }))
 front_answers r (Err Memory) old new h = tt
+
+-- the same for the values of which P holds
+pub front_of : {A : Type 0} {P : A → Type 0} {F : A → ℕ → List ℕ → Type 0} {read : Reading A} → Reads P F read → (old ahead new : Cursor) (x : A) → ahead ≡ old → read ahead ≡ Some (x, new) → P x × Stretch (F x) old new
+front_of {A} {P} {F} {read} r old ahead new x same h =
+    let one = r.takes old.position old.rest x new (ap read (sym same) ∙ h) in
+    (one.0, record { text = one.1.text; parts = one.1.parts; place = one.1.place; form = one.1.form })
+
+pub no_front_of : {A : Type 0} {P : A → Type 0} {F : A → ℕ → List ℕ → Type 0} {read : Reading A} → Reads P F read → (old ahead : Cursor) → ahead ≡ old → read ahead ≡ None → (x : A) (end : Cursor) → P x → Stretch (F x) old end → ⊥
+no_front_of {A} {P} {F} {read} r old ahead same none x end h stretch =
+    let again = r.again old.position stretch.text end.rest x h stretch.form in
+    let here : read old ≡ read (at old.position (stretch.text ++ end.rest)) = ap (λ (y : List ℕ). read (at old.position y)) stretch.parts in
+    let nothing : read old ≡ None = ap read (sym same) ∙ none in
+    absurd cc

@@ -12,11 +12,11 @@ use Rattle.oa_variant.specs.Decimals.{DecimalValue}
 use Rattle.oa_variant.specs.Scalars.{type_of}
 use Rattle.oa_variant.specs.declared.scalar.Scalar.{Scalar}
 use Rattle.oa_variant.specs.declared.scalar.Scalar.TheVariants as scalars
-use Rattle.oa_wire_array.specs.Scalars.{signed, truth, sign_of, sign, decimal, arm, scalar_vt, scalar}
-use Rattle.oa_wire_array.specs.Reading.{signed_at, truth_at, sign_at, the_decimal, decimal_at, arm_at, arm_of, typed_at, scalar_at}
+use Rattle.oa_wire_array.specs.Scalars.{signed, truth, sign_of, sign, decimal, arm, scalar_vt, union, scalar}
+use Rattle.oa_wire_array.specs.Reading.{signed_at, truth_at, sign_at, the_decimal, decimal_at, arm_at, arm_of, union_at, scalar_at}
 use Rattle.oa_wire_array.proofs.TextLaws.{bstr_reads}
 
-signed_reads : (n : ℕ) (w : Width) → Reads Always (signed n w) (signed_at n w)
+pub signed_reads : (n : ℕ) (w : Width) → Reads Always (signed n w) (signed_at n w)
 unfolding signed_at
 signed_reads n w = with_reads (unit_reads n) (λ c a p text _ _. tt) (λ x _. give_reads (cast_signed w x) tt refl (λ c _ e. e))
 
@@ -121,7 +121,7 @@ arm_again p text rest (scalars.Error x) form = made_again arm scalars.Error (uni
 arm_again p text rest (scalars.Bstr x) form = made_again arm scalars.Bstr bstr_reads p text rest x tt form
 arm_again p text rest (scalars.Decimal x) form = made_again arm scalars.Decimal decimal_reads p text rest x tt form
 
-arm_reads : (t : VarType) → Reads (λ v. type_of v ≡ t) arm (arm_at t)
+pub arm_reads : (t : VarType) → Reads (λ v. type_of v ≡ t) arm (arm_at t)
 arm_reads t = record {
   takes = arm_takes t;
   again = λ p text rest v h form. subst (λ (j : VarType). arm_at j (at p (text ++ rest)) ≡ Some (v, at (p + length text) rest)) h (arm_again p text rest v form);
@@ -179,11 +179,16 @@ arm_of_reads vt (Some t) e = same_values (arm_reads t)
     (λ v h. ap vt_of h ∙ vt_from_type_at vt t e)
     (λ v h. same_type (type_of v) t (sym (type_at_vt (type_of v)) ∙ ap type_at h ∙ e))
 
+pub union_reads : (vt : ℕ) → Reads (λ v. scalar_vt v ≡ vt) union (union_at vt)
+unfolding union_at
+union_reads vt =
+    bind_reads (unit 4) scalar_vt (unit_reads 4) (λ _ _. tt) (λ discriminant _.
+    choose_reads (eqb discriminant vt)
+    (λ same. same_values (arm_of_reads vt (type_at vt) refl) (λ v h. (h, h ∙ sym (eqb-true _ _ same))) (λ v h. h.0))
+    (λ other. fail_reads (λ v p text h _. eqb-false _ _ other (sym h.1 ∙ h.0))))
+
 pub scalar_reads : Reads Always scalar scalar_at
-unfolding scalar_at typed_at
+unfolding scalar_at
 scalar_reads =
     align_then 8 (ignored_then 4 (ignored_then 4 (bind_reads (unit 2) scalar_vt (unit_reads 2) (λ _ _. tt) (λ vt _.
-    ignored_then 2 (ignored_then 2 (ignored_then 2 (bind_reads (unit 4) scalar_vt (unit_reads 4) (λ _ _. tt) (λ discriminant _.
-    choose_reads (eqb discriminant vt)
-    (λ same. same_values (arm_of_reads vt (type_at vt) refl) (λ v h. ((tt, h), h ∙ sym (eqb-true _ _ same))) (λ v h. h.0.1))
-    (λ other. fail_reads (λ v p text h _. eqb-false _ _ other (sym h.1 ∙ h.0.1)))))))))))
+    ignored_then 2 (ignored_then 2 (ignored_then 2 (same_values (union_reads vt) (λ v h. (tt, h)) (λ v h. h.1))))))))

@@ -67,7 +67,7 @@ blob_reads =
     (some_only maximum len size some))
     (λ not_fits. fail_reads (some_told maximum len size some not_fits))))))
 
-pointee_reads : (is_set : Bool) → Reads Always (pointee is_set) (choose is_set blob_at (give None))
+pub pointee_reads : (is_set : Bool) → Reads Always (pointee is_set) (choose is_set blob_at (give None))
 pointee_reads true = choose_reads true (λ _. blob_reads) (λ e. absurd cc)
 pointee_reads false = choose_reads false (λ e. absurd cc) (λ _. give_reads None tt refl (λ t _ e. e))
 

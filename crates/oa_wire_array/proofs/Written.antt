@@ -17,7 +17,7 @@ use Rattle.oa_wire_array.specs.Texts.{units, blob, bstr}
 use Rattle.oa_wire_array.specs.Scalars.{signed, truth, sign_of, sign, decimal, arm, scalar_vt, scalar}
 use Rattle.oa_wire_array.specs.Canon.{put_blob, put_bstr, put_truth, put_decimal, put_arm, put_sized, cl_size, put_scalar}
 
-vt_small : (t : VarType) → vt_of t < 32
+pub vt_small : (t : VarType) → vt_of t < 32
 vt_small types.Empty = omega arith
 vt_small types.Null = omega arith
 vt_small types.I2 = omega arith
@@ -43,7 +43,7 @@ signed8_writes z fits = with_writes (cast_unsigned w8 z) (then_writes (unit_writ
 signed16_writes : (z : ℤ) → FitsSigned w16 z → Writes (signed 2 w16 z) (put_unit 2 (cast_unsigned w16 z))
 signed16_writes z fits = with_writes (cast_unsigned w16 z) (then_writes (unit_writes 2 (cast_unsigned w16 z) (omega (arith, Fits-of_z fits))) (given_writes (sym (to_z-of_z fits))))
 
-signed32_writes : (z : ℤ) → FitsSigned w32 z → Writes (signed 4 w32 z) (put_unit 4 (cast_unsigned w32 z))
+pub signed32_writes : (z : ℤ) → FitsSigned w32 z → Writes (signed 4 w32 z) (put_unit 4 (cast_unsigned w32 z))
 signed32_writes z fits = with_writes (cast_unsigned w32 z) (then_writes (unit_writes 4 (cast_unsigned w32 z) (omega (arith, Fits-of_z fits))) (given_writes (sym (to_z-of_z fits))))
 
 signed64_writes : (z : ℤ) → FitsSigned w64 z → Writes (signed 8 w64 z) (put_unit 8 (cast_unsigned w64 z))
@@ -66,7 +66,7 @@ decimal_writes d small fits =
     (with_writes (d.magnitude / 2 ^ 64) (then_writes (unit_writes 4 (d.magnitude / 2 ^ 64) high)
     (with_writes (d.magnitude % 2 ^ 64) (then_writes (unit_writes 8 (d.magnitude % 2 ^ 64) low) (given_writes (small, parts)))))))))
 
-blob_writes : (t : Option (List ℕ)) → length (bytes_of t) ≤ max_text_bytes → Writes (blob t) (put_blob t)
+pub blob_writes : (t : Option (List ℕ)) → length (bytes_of t) ≤ max_text_bytes → Writes (blob t) (put_blob t)
 blob_writes None h = then_writes (unit_writes 4 0 (omega arith)) (then_writes (unit_writes 4 4294967295 (omega arith)) (then_writes (unit_writes 4 0 (omega arith)) nothing_writes))
 blob_writes (Some text) h =
     let units_small : units (length text) < 256 ^ 4 = omega arith in
@@ -77,7 +77,7 @@ bstr_writes : (t : Option (List ℕ)) → length (bytes_of t) ≤ max_text_bytes
 bstr_writes None h = with_writes false (then_writes (referent_writes false) (given_writes refl))
 bstr_writes (Some text) h = with_writes true (then_writes (referent_writes true) (blob_writes (Some text) h))
 
-arm_writes : (v : Scalar) → IsScalar v → Writes (arm v) (put_arm v)
+pub arm_writes : (v : Scalar) → IsScalar v → Writes (arm v) (put_arm v)
 arm_writes scalars.Empty h = nothing_writes
 arm_writes scalars.Null h = nothing_writes
 arm_writes (scalars.I1 z) h = signed8_writes z h

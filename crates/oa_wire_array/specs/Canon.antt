@@ -50,11 +50,14 @@ put_arm (scalars.Error n) out = out |> put_unit 4 n
 put_arm (scalars.Bstr t) out = out |> put_bstr t
 put_arm (scalars.Decimal d) out = out |> put_decimal d
 
+-- clSize, rpcReserved, vt, three reserved numbers
+abbrev pub put_head : ℕ → ℕ → List ℕ → List ℕ
+put_head size vt out =
+    out |> put_align 8 |> put_unit 4 size |> put_unit 4 0 |> put_unit 2 vt |> put_unit 2 0 |> put_unit 2 0 |> put_unit 2 0
+
 -- with a given clSize
 abbrev pub put_sized : ℕ → Scalar → List ℕ → List ℕ
-put_sized size v out =
-    out |> put_align 8 |> put_unit 4 size |> put_unit 4 0 |> put_unit 2 (scalar_vt v) |> put_unit 2 0 |> put_unit 2 0 |> put_unit 2 0
-    |> put_unit 4 (scalar_vt v) |> put_arm v
+put_sized size v out = out |> put_head size (scalar_vt v) |> put_unit 4 (scalar_vt v) |> put_arm v
 
 -- how many bytes a scalar takes, from its first byte to the last of its pointee
 unfoldable pub scalar_len : Scalar → ℕ

@@ -2,3 +2,6 @@ pub mod Texts
 pub mod Scalars
 pub mod Reading
 pub mod Canon
+pub mod Arrays
+pub mod ArrayReading
+pub mod ArrayCanon

@@ -151,12 +151,9 @@ unfoldable pub arm_of : Option VarType → Reading Scalar
 arm_of None = fail
 arm_of (Some t) = arm_at t
 
--- what stands behind the number of the type
-unfoldable pub typed_at : ℕ → Reading Scalar
-typed_at vt = do
-  _ ← unit_at 2
-  _ ← unit_at 2
-  _ ← unit_at 2
+-- the union behind the number of the type
+unfoldable pub union_at : ℕ → Reading Scalar
+union_at vt = do
   discriminant ← unit_at 4
   choose (discriminant == vt) (arm_of (type_at vt)) fail
 
@@ -166,4 +163,7 @@ scalar_at = do
   _ ← unit_at 4
   _ ← unit_at 4
   vt ← unit_at 2
-  typed_at vt
+  _ ← unit_at 2
+  _ ← unit_at 2
+  _ ← unit_at 2
+  union_at vt

@@ -56,8 +56,14 @@ arm (scalars.Decimal d) = decimal d
 abbrev pub scalar_vt : Scalar → ℕ
 scalar_vt v = vt_of (type_of v)
 
--- clSize, rpcReserved, vt, three reserved numbers, the discriminant (equal to vt), the arm
+-- the union: the discriminant, which is vt, and the arm
+abbrev pub union : Scalar → Form
+union v = unit 4 (scalar_vt v) ▸ arm v
+
+-- the union behind a given vt
+abbrev pub union_of : ℕ → Scalar → Form
+union_of vt v = given (scalar_vt v ≡ vt) ▸ union v
+
+-- clSize, rpcReserved, vt, three reserved numbers, the union
 abbrev pub scalar : Scalar → Form
-scalar v =
-    align 8 ▸ ignored 4 ▸ ignored 4 ▸ unit 2 (scalar_vt v) ▸ ignored 2 ▸ ignored 2 ▸ ignored 2
-    ▸ unit 4 (scalar_vt v) ▸ arm v
+scalar v = align 8 ▸ ignored 4 ▸ ignored 4 ▸ unit 2 (scalar_vt v) ▸ ignored 2 ▸ ignored 2 ▸ ignored 2 ▸ union v

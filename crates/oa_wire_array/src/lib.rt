@@ -1,12 +1,16 @@
-//! Texts and scalars as parts of a field (MS-OAUT 2.2.23, 2.2.29) over NDR.
+//! Texts, scalars and arrays as parts of a field (MS-OAUT 2.2.23, 2.2.29, 2.2.30) over NDR.
 #![tactic(auto)]
 
+mod array;
+mod array_out;
 mod fault;
 mod scalar;
 mod text;
 
+pub use array::read_array;
+pub use array_out::write_array;
 pub use fault::{ReadFault, WireFault};
-pub use scalar::{read_scalar, scalar_len, write_scalar};
+pub use scalar::{read_scalar, read_union, scalar_len, write_head, write_scalar};
 pub use text::{read_text, write_text};
 
 #[cfg(test)]

@@ -3,7 +3,7 @@
 ghost use Rattle.std.specs.Prelude.{◌≡◌, ◌≤◌, ◌<◌, OnOk, OnErr};
 ghost use Rattle.oa_model.specs.Types.{vt_of};
 ghost use Rattle.oa_ndr.specs.Writing.{within};
-ghost use Rattle.oa_wire_array.specs.Scalars.{scalar};
+ghost use Rattle.oa_wire_array.specs.Scalars.{scalar, union_of};
 ghost use Rattle.oa_wire_array.specs.Reading.{
   Answers,
   IsFront,
@@ -11,13 +11,14 @@ ghost use Rattle.oa_wire_array.specs.Reading.{
   sign_at,
   decimal_at,
   arm_at,
-  typed_at,
+  union_at,
   scalar_at,
 };
 ghost use Rattle.oa_wire_array.specs.Canon.{
   put_truth,
   put_decimal,
   put_arm,
+  put_head,
   put_sized,
   put_scalar,
   scalar_len,
@@ -67,7 +68,7 @@ fn decimal(r: &mut Ndr<'_>) -> Result<Decimal, ReadFault>
 
 // The arm of a type.
 #[tactic(auto, unfolding(oa_ndr::specs::Reading::bind, oa_ndr::specs::Reading::give, oa_ndr::specs::Reading::fail, crate::specs::Reading::arm_at, crate::specs::Reading::signed_at))]
-fn arm(alloc: Global, var_type: VarType, r: &mut Ndr<'_>) -> Result<Scalar, ReadFault>
+pub(crate) fn arm(alloc: Global, var_type: VarType, r: &mut Ndr<'_>) -> Result<Scalar, ReadFault>
     ensures { Answers result r.new (arm_at var_type r.old) }
 {
     Ok(match var_type {
@@ -92,14 +93,10 @@ fn arm(alloc: Global, var_type: VarType, r: &mut Ndr<'_>) -> Result<Scalar, Read
     })
 }
 
-// What stands behind the number of the type.
-#[tactic(auto, unfolding(oa_ndr::specs::Reading::bind, oa_ndr::specs::Reading::choose, oa_ndr::specs::Reading::fail, crate::specs::Reading::arm_of, crate::specs::Reading::typed_at))]
-fn typed(alloc: Global, vt: u16, r: &mut Ndr<'_>) -> Result<Scalar, ReadFault>
-    ensures { Answers result r.new (typed_at vt r.old) }
+#[tactic(auto, unfolding(oa_ndr::specs::Reading::bind, oa_ndr::specs::Reading::choose, oa_ndr::specs::Reading::fail, crate::specs::Reading::arm_of, crate::specs::Reading::union_at))]
+fn union(alloc: Global, vt: u16, r: &mut Ndr<'_>) -> Result<Scalar, ReadFault>
+    ensures { Answers result r.new (union_at vt r.old) }
 {
-    r.u16()?;
-    r.u16()?;
-    r.u16()?;
     let discriminant = r.u32()?;
     if discriminant != vt as u32 {
         return Err(ReadFault::BadStub);
@@ -110,6 +107,22 @@ fn typed(alloc: Global, vt: u16, r: &mut Ndr<'_>) -> Result<Scalar, ReadFault>
     }
 }
 
+/// Reads the union of a wireVARIANT without VT_ARRAY (MS-OAUT 2.2.29.1), of which the vt was read
+/// before: the discriminant, which must be that vt, and the arm with its pointee.
+///
+/// `BadStub` where no bytes from the reader on are those of a scalar with that vt. At an error the
+/// reader is as it was.
+pub fn read_union(alloc: Global, vt: u16, r: &mut Ndr<'_>) -> Result<Scalar, ReadFault>
+    ensures exact { IsFront (union_of vt) result r.old r.new }
+{
+    let mut ahead = r.fork();
+    let answer = union(alloc, vt, &mut ahead);
+    if answer.is_ok() {
+        *r = ahead;
+    }
+    answer
+}
+
 #[tactic(auto, unfolding(oa_ndr::specs::Reading::bind, crate::specs::Reading::scalar_at))]
 pub(crate) fn scalar(alloc: Global, r: &mut Ndr<'_>) -> Result<Scalar, ReadFault>
     ensures { Answers result r.new (scalar_at r.old) }
@@ -118,7 +131,10 @@ pub(crate) fn scalar(alloc: Global, r: &mut Ndr<'_>) -> Result<Scalar, ReadFault
     r.u32()?;
     r.u32()?;
     let vt = r.u16()?;
-    typed(alloc, vt, r)
+    r.u16()?;
+    r.u16()?;
+    r.u16()?;
+    union(alloc, vt, r)
 }
 
 /// Reads a wireVARIANT without VT_ARRAY at the next multiple of 8, with its pointee
@@ -157,7 +173,7 @@ fn write_decimal(out: &mut NdrOut, decimal: &Decimal) -> Result<(), AllocError>
     out.u64((magnitude % 0x1_0000_0000_0000_0000) as u64)
 }
 
-fn write_arm(out: &mut NdrOut, value: &Scalar) -> Result<(), AllocError>
+pub(crate) fn write_arm(out: &mut NdrOut, value: &Scalar) -> Result<(), AllocError>
     ensures ok { OnOk result (out.new ≡ within (put_arm value.now) out.old) }
     ensures before { out.new.before ≡ out.old.before }
 {
@@ -182,18 +198,29 @@ fn write_arm(out: &mut NdrOut, value: &Scalar) -> Result<(), AllocError>
     }
 }
 
-fn write_sized(out: &mut NdrOut, size: u32, value: &Scalar) -> Result<(), AllocError>
-    ensures ok { OnOk result (out.new ≡ within (put_sized size value.now) out.old) }
+/// Writes what a wireVARIANT (MS-OAUT 2.2.29) begins with, at the next multiple of 8: clSize,
+/// rpcReserved, vt and three reserved numbers.
+///
+/// Where memory is refused, what stood before the field is as it was, and the field is unfinished.
+pub fn write_head(out: &mut NdrOut, size: u32, vt: u16) -> Result<(), AllocError>
+    ensures ok { OnOk result (out.new ≡ within (put_head size vt) out.old) }
     ensures before { out.new.before ≡ out.old.before }
 {
-    let vt = value.var_type().vt();
     out.align(8)?;
     out.u32(size)?;
     out.u32(0)?;
     out.u16(vt)?;
     out.u16(0)?;
     out.u16(0)?;
-    out.u16(0)?;
+    out.u16(0)
+}
+
+fn write_sized(out: &mut NdrOut, size: u32, value: &Scalar) -> Result<(), AllocError>
+    ensures ok { OnOk result (out.new ≡ within (put_sized size value.now) out.old) }
+    ensures before { out.new.before ≡ out.old.before }
+{
+    let vt = value.var_type().vt();
+    write_head(out, size, vt)?;
     out.u32(vt as u32)?;
     write_arm(out, value)
 }

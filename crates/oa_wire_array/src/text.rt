@@ -38,7 +38,7 @@ fn text(alloc: Global, len: u32, r: &mut Ndr<'_>) -> Result<Bstr, ReadFault>
 
 // The maximum count, cBytes, clSize and the bytes.
 #[tactic(auto, unfolding(oa_ndr::specs::Reading::bind, oa_ndr::specs::Reading::give, oa_ndr::specs::Reading::choose, oa_ndr::specs::Reading::fail, crate::specs::Reading::blob_at))]
-fn blob(alloc: Global, r: &mut Ndr<'_>) -> Result<Bstr, ReadFault>
+pub(crate) fn blob(alloc: Global, r: &mut Ndr<'_>) -> Result<Bstr, ReadFault>
     ensures { Answers result r.new (blob_at r.old) }
 {
     let maximum = r.u32()?;

@@ -1,0 +1,7 @@
+use Rattle.std.proofs.Common.{◌≡◌, ◌-◌}
+use Rattle.oa_ndr.specs.Reading.{many, referent_at}
+use Rattle.oa_ndr.proofs.Loop.{with_front}
+use Rattle.oa_wire_array.proofs.array.flags.Given as goal
+
+abbrev pub invariant-loop : goal.invariant-loop
+invariant-loop l = with_front l.all.items (many referent_at (l.count - l.counter) l.r) ≡ many referent_at l.count l.fn.r

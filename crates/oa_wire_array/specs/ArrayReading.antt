@@ -1,0 +1,96 @@
+-- Reading arrays as functions on lists, which say the same as their forms (proofs/ArrayLaws has the laws).
+use Rattle.std.specs.Prelude.{◌≡◌, ℕ, ◌==◌, ◌&&◌, nat_lt, nat_le, is_some, Bool, true, false, List, length, Option, Some, None, Result, Ok, Err}
+use Rattle.std.specs.Int.{w32}
+use Rattle.oa_ndr.specs.Reading.{Cursor, Reading, ◌>>=◌, give, fail, choose, unit_at, referent_at, many, map_at}
+use Rattle.oa_model.specs.declared.bound.Bound.{Bound}
+use Rattle.oa_model.specs.declared.var_type.VarType.{VarType}
+use Rattle.oa_model.specs.declared.var_type.VarType.TheVariants as types
+use Rattle.oa_model.specs.Types.{sf_type_of}
+use Rattle.oa_array.specs.Arrays.{ArrayValue}
+use Rattle.oa_array.specs.Boxes.{box_size}
+use Rattle.oa_variant.specs.declared.scalar.Scalar.{Scalar}
+use Rattle.oa_variant.specs.declared.scalar.Scalar.TheVariants as scalars
+use Rattle.oa_wire_array.specs.declared.fault.ReadFault.{ReadFault}
+use Rattle.oa_wire_array.specs.declared.fault.ReadFault.TheVariants.{BadStub, Memory}
+use Rattle.oa_wire_array.specs.Reading.{signed_at, blob_at, scalar_at, arm_at}
+
+-- the same as Answers, for what view shows of the value
+abbrev pub AnswersBy : {X Y : Type 0} → (X → Y) → Result X ReadFault → Cursor → Option (Y × Cursor) → Type 0
+AnswersBy view (Ok x) new read = read ≡ Some (view x, new)
+AnswersBy view (Err BadStub) new read = read ≡ None
+AnswersBy view (Err Memory) new read = Unit {0}
+
+unfoldable pub bound_at : Reading Bound
+bound_at = do
+  count ← unit_at 4
+  lower ← signed_at 4 w32
+  give (record { count = count; lower = lower })
+
+unfoldable pub text_cell_at : Bool → Reading Scalar
+text_cell_at is_set = do
+  t ← choose is_set blob_at (give None)
+  give (scalars.Bstr t)
+
+unfoldable pub variant_cell_at : Bool → Reading Scalar
+variant_cell_at is_set = choose is_set scalar_at (give scalars.Empty)
+
+-- the pointee of a cell
+unfoldable pub pointee_at : VarType → Bool → Reading Scalar
+pointee_at types.Bstr is_set = text_cell_at is_set
+pointee_at types.Variant is_set = variant_cell_at is_set
+pointee_at t is_set = fail
+
+unfoldable pub pointed_at : VarType → ℕ → Reading (List Scalar)
+pointed_at t n = do
+  flags ← many referent_at n
+  map_at (pointee_at t) flags
+
+unfoldable pub elements_at : VarType → ℕ → Reading (List Scalar)
+elements_at types.Bstr n = pointed_at types.Bstr n
+elements_at types.Variant n = pointed_at types.Variant n
+elements_at t n = many (arm_at t) n
+
+abbrev pub is_number : Option ℕ → ℕ → Bool
+is_number None n = false
+is_number (Some m) n = m == n
+
+-- whether arrays of the type have this sfType
+abbrev pub has_features : VarType → ℕ → Bool
+has_features t sf = is_number (sf_type_of t) sf
+
+-- whether there is an array of these bounds, and has n cells
+unfoldable pub is_count : VarType → List Bound → ℕ → Bool
+is_count t bounds n =
+    is_some (sf_type_of t) && nat_lt 0 (length bounds) && nat_le (length bounds) 16 && nat_le (box_size bounds) 65536 && (box_size bounds == n)
+
+abbrev pub array_of : VarType → List Bound → List Scalar → ArrayValue Scalar
+array_of t bounds cells = record { elem = t; bounds = bounds; cells = cells; locks = 0 }
+
+unfoldable pub cells_at : VarType → List Bound → ℕ → Reading (ArrayValue Scalar)
+cells_at t bounds size = do
+  cells ← elements_at t size
+  give (array_of t bounds cells)
+
+unfoldable pub data_at : VarType → ℕ → ℕ → Reading (ArrayValue Scalar)
+data_at t dims size = do
+  bounds ← many bound_at dims
+  maximum ← unit_at 4
+  choose ((maximum == size) && is_count t bounds size) (cells_at t bounds size) fail
+
+-- behind the second referent
+unfoldable pub header_at : VarType → Reading (ArrayValue Scalar)
+header_at t = do
+  maximum ← unit_at 4
+  dims ← unit_at 2
+  _ ← unit_at 2
+  _ ← unit_at 4
+  _ ← unit_at 4
+  sf ← unit_at 4
+  size ← unit_at 4
+  _ ← unit_at 4
+  choose ((maximum == dims) && nat_le dims 16 && has_features t sf) (data_at t dims size) fail
+
+unfoldable pub array_at : VarType → Reading (ArrayValue Scalar)
+array_at t = do
+  is_set ← referent_at
+  choose is_set (header_at t) fail

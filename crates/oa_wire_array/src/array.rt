@@ -1,0 +1,288 @@
+//! Arrays.
+
+ghost use Rattle.std.specs.Prelude.{◌≡◌, ◌≤◌, ◌<◌, true, IfOk, OnOk, OnErr, length, List, ℕ};
+ghost use Rattle.oa_ndr.specs.Reading.{many, map_at, referent_at};
+ghost use Rattle.oa_ndr.specs.Writing.{within, put_all};
+ghost use Rattle.oa_wire_array.specs.Reading.{Answers, arm_at};
+ghost use Rattle.oa_wire_array.specs.Arrays.{IsArrayFront};
+ghost use Rattle.oa_wire_array.specs.ArrayReading.{
+  AnswersBy,
+  bound_at,
+  text_cell_at,
+  variant_cell_at,
+  pointee_at,
+  pointed_at,
+  elements_at,
+  has_features,
+  is_count,
+  cells_at,
+  data_at,
+  header_at,
+  array_at,
+};
+
+use crate::fault::{ReadFault, WireFault};
+use crate::scalar::{arm, scalar};
+use crate::text::blob;
+use oa_array::{SafeArray, cell_count};
+use oa_bstr::Bstr;
+use oa_cells::Cells;
+use oa_model::{Bound, MAX_DIMENSIONS, VarType};
+use oa_ndr::Ndr;
+use oa_variant::Scalar;
+use std::alloc::{AllocError, Global};
+
+#[tactic(auto, unfolding(oa_ndr::specs::Reading::bind, oa_ndr::specs::Reading::give, crate::specs::ArrayReading::bound_at, crate::specs::Reading::signed_at))]
+fn bound(r: &mut Ndr<'_>) -> Result<Bound, ReadFault>
+    ensures { Answers result r.new (bound_at r.old) }
+{
+    let count = r.u32()?;
+    let lower = r.u32()?.cast_signed();
+    Ok(Bound { count, lower })
+}
+
+#[tactic(auto, using(oa_ndr::proofs::Loop::many_done, oa_ndr::proofs::Loop::many_goes_on, crate::proofs::Loops::many_err))]
+fn bounds(alloc: Global, dims: u16, r: &mut Ndr<'_>) -> Result<Vec<Bound>, ReadFault>
+    ensures { AnswersBy (λ v. v.items) result r.new (many bound_at dims r.old) }
+{
+    let mut all = Vec::new(alloc);
+    for _ in 0..dims {
+        let next = bound(r)?;
+        all.push(next)?;
+    }
+    Ok(all)
+}
+
+// Which referents of the cells are set.
+#[tactic(auto, using(oa_ndr::proofs::Loop::many_done, oa_ndr::proofs::Loop::many_goes_on, oa_ndr::proofs::Loop::many_ends))]
+fn flags(alloc: Global, count: u32, r: &mut Ndr<'_>) -> Result<Vec<bool>, ReadFault>
+    ensures { AnswersBy (λ v. v.items) result r.new (many referent_at count r.old) }
+{
+    let mut all = Vec::new(alloc);
+    for _ in 0..count {
+        let next = r.referent()?;
+        all.push(next)?;
+    }
+    Ok(all)
+}
+
+// Cells to be filled.
+fn blank(alloc: Global, count: usize) -> Result<Cells<Scalar>, AllocError>
+    ensures { IfOk result (λ cells. length cells ≡ count) }
+{
+    Cells::filled_by(
+        alloc,
+        count,
+        move |_| Ok::<Scalar, AllocError>(Scalar::Empty),
+    )
+}
+
+#[tactic(auto, unfolding(oa_ndr::specs::Reading::bind, oa_ndr::specs::Reading::give, oa_ndr::specs::Reading::choose, crate::specs::ArrayReading::text_cell_at))]
+fn text_cell(alloc: Global, is_set: bool, r: &mut Ndr<'_>) -> Result<Scalar, ReadFault>
+    ensures { Answers result r.new (text_cell_at is_set r.old) }
+{
+    if is_set {
+        return Ok(Scalar::Bstr(blob(alloc, r)?));
+    }
+    Ok(Scalar::Bstr(Bstr::null()))
+}
+
+#[tactic(auto, unfolding(oa_ndr::specs::Reading::give, oa_ndr::specs::Reading::choose, crate::specs::ArrayReading::variant_cell_at))]
+fn variant_cell(alloc: Global, is_set: bool, r: &mut Ndr<'_>) -> Result<Scalar, ReadFault>
+    ensures { Answers result r.new (variant_cell_at is_set r.old) }
+{
+    if is_set {
+        return scalar(alloc, r);
+    }
+    Ok(Scalar::Empty)
+}
+
+// What lies behind the referent of a cell.
+#[tactic(auto, unfolding(oa_ndr::specs::Reading::fail, crate::specs::ArrayReading::pointee_at))]
+fn pointee(alloc: Global, elem: VarType, is_set: bool, r: &mut Ndr<'_>) -> Result<Scalar, ReadFault>
+    ensures { Answers result r.new (pointee_at elem is_set r.old) }
+{
+    match elem {
+        VarType::Bstr => text_cell(alloc, is_set, r),
+        VarType::Variant => variant_cell(alloc, is_set, r),
+        _ => Err(ReadFault::BadStub),
+    }
+}
+
+// The pointees, one for each referent.
+#[tactic(auto, using(crate::proofs::Loops::map_full, crate::proofs::Loops::map_put, crate::proofs::Loops::map_err))]
+fn pointees(
+    alloc: Global,
+    elem: VarType,
+    flags: &[bool],
+    r: &mut Ndr<'_>,
+) -> Result<Cells<Scalar>, ReadFault>
+    ensures { Answers result r.new (map_at (pointee_at elem) flags.now r.old) }
+{
+    let mut cells = blank(alloc, flags.len())?;
+    for i in 0..flags.len() {
+        let next = pointee(alloc, elem, flags[i], r)?;
+        cells.replace(i, next);
+    }
+    Ok(cells)
+}
+
+// Cells without pointees.
+#[tactic(auto, using(crate::proofs::Loops::cells_full, crate::proofs::Loops::cells_put, crate::proofs::Loops::cells_err))]
+fn plain(
+    alloc: Global,
+    elem: VarType,
+    count: u32,
+    r: &mut Ndr<'_>,
+) -> Result<Cells<Scalar>, ReadFault>
+    ensures { Answers result r.new (many (arm_at elem) count r.old) }
+{
+    let mut cells = blank(alloc, count as usize)?;
+    for i in 0..count as usize {
+        let next = arm(alloc, elem, r)?;
+        cells.replace(i, next);
+    }
+    Ok(cells)
+}
+
+// All referents first, then the pointees.
+#[tactic(auto, unfolding(oa_ndr::specs::Reading::bind, crate::specs::ArrayReading::pointed_at))]
+fn pointed(
+    alloc: Global,
+    elem: VarType,
+    count: u32,
+    r: &mut Ndr<'_>,
+) -> Result<Cells<Scalar>, ReadFault>
+    ensures { Answers result r.new (pointed_at elem count r.old) }
+{
+    let flags = flags(alloc, count, r)?;
+    pointees(alloc, elem, &flags, r)
+}
+
+#[tactic(auto, unfolding(crate::specs::ArrayReading::elements_at))]
+fn elements(
+    alloc: Global,
+    elem: VarType,
+    count: u32,
+    r: &mut Ndr<'_>,
+) -> Result<Cells<Scalar>, ReadFault>
+    ensures { Answers result r.new (elements_at elem count r.old) }
+{
+    match elem {
+        VarType::Bstr | VarType::Variant => pointed(alloc, elem, count, r),
+        _ => plain(alloc, elem, count, r),
+    }
+}
+
+// Whether arrays of the type have this sfType.
+fn has_features(elem: VarType, features: u32) -> bool
+    ensures { result ≡ has_features elem features }
+{
+    match elem.sf_type() {
+        Some(own) => own == features,
+        None => false,
+    }
+}
+
+// Whether there is an array of these bounds, and has this number of cells.
+fn is_count(elem: VarType, bounds: &[Bound], count: u32) -> bool
+    ensures { result ≡ is_count elem bounds.now count }
+{
+    match cell_count(elem, bounds) {
+        Some(all) => all == count as usize,
+        None => false,
+    }
+}
+
+#[tactic(auto, unfolding(oa_ndr::specs::Reading::bind, oa_ndr::specs::Reading::give, crate::specs::ArrayReading::cells_at))]
+fn cells(
+    alloc: Global,
+    elem: VarType,
+    bounds: Vec<Bound>,
+    count: u32,
+    r: &mut Ndr<'_>,
+) -> Result<SafeArray<Scalar>, ReadFault>
+    requires { is_count elem bounds.items count ≡ true }
+    ensures { Answers result r.new (cells_at elem bounds.items count r.old) }
+{
+    let cells = elements(alloc, elem, count, r)?;
+    Ok(SafeArray::of_cells(elem, bounds, cells))
+}
+
+// The bounds, the maximum count of the data, the data.
+#[tactic(auto, unfolding(oa_ndr::specs::Reading::bind, oa_ndr::specs::Reading::choose, oa_ndr::specs::Reading::fail, crate::specs::ArrayReading::data_at))]
+fn data(
+    alloc: Global,
+    elem: VarType,
+    dims: u16,
+    size: u32,
+    r: &mut Ndr<'_>,
+) -> Result<SafeArray<Scalar>, ReadFault>
+    ensures { Answers result r.new (data_at elem dims size r.old) }
+{
+    let bounds = bounds(alloc, dims, r)?;
+    let maximum = r.u32()?;
+    if maximum == size && is_count(elem, &bounds, size) {
+        return cells(alloc, elem, bounds, size, r);
+    }
+    Err(ReadFault::BadStub)
+}
+
+// The maximum count, cDims, fFeatures, cbElements, cLocks, sfType, Size and the pointer, with what lies behind them.
+#[tactic(auto, unfolding(oa_ndr::specs::Reading::bind, oa_ndr::specs::Reading::choose, oa_ndr::specs::Reading::fail, crate::specs::ArrayReading::header_at))]
+fn header(alloc: Global, elem: VarType, r: &mut Ndr<'_>) -> Result<SafeArray<Scalar>, ReadFault>
+    ensures { Answers result r.new (header_at elem r.old) }
+{
+    let maximum = r.u32()?;
+    let dims = r.u16()?;
+    r.u16()?;
+    r.u32()?;
+    r.u32()?;
+    let features = r.u32()?;
+    let size = r.u32()?;
+    r.u32()?;
+    if maximum == dims as u32 && dims as usize <= MAX_DIMENSIONS && has_features(elem, features) {
+        return data(alloc, elem, dims, size, r);
+    }
+    Err(ReadFault::BadStub)
+}
+
+#[tactic(auto, unfolding(oa_ndr::specs::Reading::bind, oa_ndr::specs::Reading::choose, oa_ndr::specs::Reading::fail, crate::specs::ArrayReading::array_at))]
+fn array(alloc: Global, elem: VarType, r: &mut Ndr<'_>) -> Result<SafeArray<Scalar>, ReadFault>
+    ensures { Answers result r.new (array_at elem r.old) }
+{
+    if r.referent()? {
+        return header(alloc, elem, r);
+    }
+    Err(ReadFault::BadStub)
+}
+
+/// Reads an array with cells of a type from the second of its two referents on, with all that it
+/// points to (wireSAFEARRAY, MS-OAUT 2.2.30.10). fFeatures, cbElements, cLocks and the pointer's value
+/// are not looked at; a null referent in an array of VARIANT is EMPTY. The array has no locks.
+///
+/// `BadVarType` exactly where there are no arrays of the type (EMPTY, NULL, ERROR and DECIMAL), else
+/// `BadStub` where no bytes from the reader on spell one: among others where the referent is null,
+/// cDims is not its maximum count or not 1 to 16, sfType is not that of the type, or Size or the
+/// maximum count of the data is not the product of the counts or is above 65,536. At an error the
+/// reader is as it was.
+pub fn read_array(
+    alloc: Global,
+    r: &mut Ndr<'_>,
+    elem: VarType,
+) -> Result<SafeArray<Scalar>, WireFault>
+    ensures exact { IsArrayFront elem result r.old r.new }
+{
+    if elem.sf_type().is_none() {
+        return Err(WireFault::BadVarType);
+    }
+    let mut ahead = r.fork();
+    match array(alloc, elem, &mut ahead) {
+        Ok(array) => {
+            *r = ahead;
+            Ok(array)
+        }
+        Err(ReadFault::BadStub) => Err(WireFault::BadStub),
+        Err(ReadFault::Memory) => Err(WireFault::Memory),
+    }
+}

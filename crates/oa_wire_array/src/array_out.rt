@@ -1,0 +1,186 @@
+//! Arrays as they are written, and where they end.
+
+ghost use Rattle.std.specs.Prelude.{◌≡◌, ◌≤◌, ◌<◌, ◌+◌, ◌*◌, ◌^◌, OnOk, OnErr, length, List, ℕ};
+ghost use Rattle.oa_ndr.specs.Writing.{within, put_all};
+ghost use Rattle.oa_variant.specs.Scalars.{text_of};
+ghost use Rattle.oa_wire_array.specs.Canon.{put_arm};
+ghost use Rattle.oa_wire_array.specs.ArrayCanon.{
+  put_bound,
+  has_pointee,
+  put_text,
+  put_pointee,
+  put_cell_referent,
+  put_pointed,
+  put_elements,
+  flags_of,
+  put_shape,
+  put_size,
+  put_array,
+};
+
+use crate::scalar::{write_arm, write_scalar};
+use crate::text::write_text;
+use oa_array::SafeArray;
+use oa_model::{Bound, VarType};
+use oa_ndr::NdrOut;
+use oa_variant::Scalar;
+use std::alloc::AllocError;
+
+fn write_bound(out: &mut NdrOut, bound: Bound) -> Result<(), AllocError>
+    ensures ok { OnOk result (out.new ≡ within (put_bound bound) out.old) }
+    ensures before { out.new.before ≡ out.old.before }
+{
+    out.u32(bound.count)?;
+    out.u32(bound.lower.cast_unsigned())
+}
+
+fn write_bounds(out: &mut NdrOut, bounds: &[Bound]) -> Result<(), AllocError>
+    ensures ok { OnOk result (out.new ≡ within (put_all put_bound bounds.now) out.old) }
+    ensures before { out.new.before ≡ out.old.before }
+{
+    for bound in bounds {
+        write_bound(out, *bound)?;
+    }
+    Ok(())
+}
+
+// Cells without pointees.
+fn write_plain(out: &mut NdrOut, cells: &[Scalar]) -> Result<(), AllocError>
+    ensures ok { OnOk result (out.new ≡ within (put_all put_arm cells.now) out.old) }
+    ensures before { out.new.before ≡ out.old.before }
+{
+    for cell in cells {
+        write_arm(out, cell)?;
+    }
+    Ok(())
+}
+
+// Whether the referent of a cell is set.
+fn has_pointee(elem: VarType, cell: &Scalar) -> bool
+    ensures { result ≡ has_pointee elem cell.now }
+{
+    match (elem, cell) {
+        (VarType::Bstr, Scalar::Bstr(text)) => !text.is_null(),
+        (VarType::Bstr, _) => false,
+        _ => true,
+    }
+}
+
+fn write_referents(out: &mut NdrOut, elem: VarType, cells: &[Scalar]) -> Result<(), AllocError>
+    ensures ok { OnOk result (out.new ≡ within (put_all (put_cell_referent elem) cells.now) out.old) }
+    ensures before { out.new.before ≡ out.old.before }
+{
+    for cell in cells {
+        out.referent(has_pointee(elem, cell))?;
+    }
+    Ok(())
+}
+
+// The text of a cell, where it is not null.
+fn write_cell_text(out: &mut NdrOut, cell: &Scalar) -> Result<(), AllocError>
+    ensures ok { OnOk result (out.new ≡ within (put_text (text_of cell.now)) out.old) }
+    ensures before { out.new.before ≡ out.old.before }
+{
+    match cell {
+        Scalar::Bstr(text) => {
+            if text.is_null() {
+                return Ok(());
+            }
+            write_text(out, text)
+        }
+        _ => Ok(()),
+    }
+}
+
+fn write_pointee(out: &mut NdrOut, elem: VarType, cell: &Scalar) -> Result<(), AllocError>
+    ensures ok { OnOk result (out.new ≡ within (put_pointee elem cell.now) out.old) }
+    ensures before { out.new.before ≡ out.old.before }
+{
+    match elem {
+        VarType::Bstr => write_cell_text(out, cell),
+        _ => write_scalar(out, cell),
+    }
+}
+
+fn write_pointees(out: &mut NdrOut, elem: VarType, cells: &[Scalar]) -> Result<(), AllocError>
+    ensures ok { OnOk result (out.new ≡ within (put_all (put_pointee elem) cells.now) out.old) }
+    ensures before { out.new.before ≡ out.old.before }
+{
+    for cell in cells {
+        write_pointee(out, elem, cell)?;
+    }
+    Ok(())
+}
+
+// All referents first, then the pointees.
+fn write_pointed(out: &mut NdrOut, elem: VarType, cells: &[Scalar]) -> Result<(), AllocError>
+    ensures ok { OnOk result (out.new ≡ within (put_pointed elem cells.now) out.old) }
+    ensures before { out.new.before ≡ out.old.before }
+{
+    write_referents(out, elem, cells)?;
+    write_pointees(out, elem, cells)
+}
+
+fn write_elements(out: &mut NdrOut, elem: VarType, cells: &[Scalar]) -> Result<(), AllocError>
+    ensures ok { OnOk result (out.new ≡ within (put_elements elem cells.now) out.old) }
+    ensures before { out.new.before ≡ out.old.before }
+{
+    match elem {
+        VarType::Bstr | VarType::Variant => write_pointed(out, elem, cells),
+        _ => write_plain(out, cells),
+    }
+}
+
+// fFeatures.
+fn flags_of(elem: VarType) -> u16
+    ensures { result ≡ flags_of elem }
+{
+    match elem {
+        VarType::Bstr => 0x180,
+        VarType::Variant => 0x880,
+        _ => 0x80,
+    }
+}
+
+// The second referent, the maximum count, cDims, fFeatures, cbElements.
+fn write_shape(out: &mut NdrOut, elem: VarType, dims: u16) -> Result<(), AllocError>
+    ensures ok { OnOk result (out.new ≡ within (put_shape elem dims) out.old) }
+    ensures before { out.new.before ≡ out.old.before }
+{
+    out.referent(true)?;
+    out.u32(dims as u32)?;
+    out.u16(dims)?;
+    out.u16(flags_of(elem))?;
+    out.u32(elem.element_size().unwrap_or(0))
+}
+
+// cLocks, sfType, Size, the pointer.
+fn write_size(out: &mut NdrOut, elem: VarType, count: u32) -> Result<(), AllocError>
+    ensures ok { OnOk result (out.new ≡ within (put_size elem count) out.old) }
+    ensures before { out.new.before ≡ out.old.before }
+{
+    out.u32(elem.vt() as u32 * 0x1_0000)?;
+    out.u32(elem.sf_type().unwrap_or(0))?;
+    out.u32(count)?;
+    out.referent(true)
+}
+
+/// Writes an array from the second of its two referents on, with all that it points to (see
+/// `read_array`): fFeatures 0x80, with 0x100 for BSTR and 0x800 for VARIANT; cbElements as in a
+/// 32-bit process; the vt of the cells in the high half of cLocks; a null text as a null referent.
+/// Locks are not written.
+///
+/// Where memory is refused, what stood before the field is as it was, and the field is unfinished.
+pub fn write_array(out: &mut NdrOut, array: &SafeArray<Scalar>) -> Result<(), AllocError>
+    ensures ok { OnOk result (out.new ≡ within (put_array array.now) out.old) }
+    ensures before { out.new.before ≡ out.old.before }
+{
+    let elem = array.elem();
+    let bounds = array.bounds();
+    let cells = array.cells();
+    write_shape(out, elem, bounds.len() as u16)?;
+    write_size(out, elem, cells.len() as u32)?;
+    write_bounds(out, bounds)?;
+    out.u32(cells.len() as u32)?;
+    write_elements(out, elem, cells)
+}

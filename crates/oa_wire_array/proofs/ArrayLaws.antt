@@ -36,7 +36,7 @@ bound_reads = bind_reads (unit 4) (λ (b : Bound). b.count) (unit_reads 4) (λ _
     made_reads (bound_of count) (signed_reads 4 w32) (λ lower _. (tt, refl)) (λ b p text h form. (b.lower, tt, bound_is b count h.1)))
 
 -- a fact of the value that the bytes before it say, and which the reading of the rest needs
-given_part : {C : Type 0} {P : C → Type 0} (Q : C → Type 0) {F : C → ℕ → List ℕ → Type 0} {read : Reading C} → Reads (λ c. P c × Q c) F read → Reads P (λ c. given (Q c) ▸ F c) read
+pub given_part : {C : Type 0} {P : C → Type 0} (Q : C → Type 0) {F : C → ℕ → List ℕ → Type 0} {read : Reading C} → Reads (λ c. P c × Q c) F read → Reads P (λ c. given (Q c) ▸ F c) read
 given_part {C} {P} Q {F} {read} r = record {
   takes = λ p bytes c t e.
       let one = r.takes p bytes c t e in
@@ -117,7 +117,7 @@ counts t bounds n shape =
 
 -- ---- the array
 
-by_recursion : (P : Scalar → Type 0) (cells : List Scalar) → All P cells → AllByRecursion P cells
+pub by_recursion : (P : Scalar → Type 0) (cells : List Scalar) → All P cells → AllByRecursion P cells
 by_recursion P [] h = tt
 by_recursion P (v ∷ cells) h = (All-head P v cells h, by_recursion P cells (All-tail P v cells h))
 

@@ -5,3 +5,4 @@ pub mod Fronts
 mod Loops
 pub mod Written
 pub mod ArrayWritten
+mod ArrayLengths

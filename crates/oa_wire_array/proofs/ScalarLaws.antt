@@ -127,7 +127,7 @@ arm_reads t = record {
   again = λ p text rest v h form. subst (λ (j : VarType). arm_at j (at p (text ++ rest)) ≡ Some (v, at (p + length text) rest)) h (arm_again p text rest v form);
 }
 
-type_at_vt : (t : VarType) → type_at (vt_of t) ≡ Some t
+pub type_at_vt : (t : VarType) → type_at (vt_of t) ≡ Some t
 type_at_vt types.Empty = refl
 type_at_vt types.Null = refl
 type_at_vt types.I2 = refl
@@ -150,7 +150,7 @@ type_at_vt types.Uint = refl
 abbrev some_type : VarType → Option VarType
 some_type t = Some t
 
-same_type : (t j : VarType) → some_type t ≡ Some j → t ≡ j
+pub same_type : (t j : VarType) → some_type t ≡ Some j → t ≡ j
 same_type t j e = cc
 
 -- the test of one number
@@ -161,7 +161,7 @@ tried vt n j other t is e next = by_test (eqb vt n) refl e
     by_test true h e = ap vt_of (sym (same_type j t e)) ∙ is ∙ sym (eqb-true _ _ h)
     by_test false h e = next e
 
-vt_from_type_at : (vt : ℕ) (t : VarType) → type_at vt ≡ Some t → vt_of t ≡ vt
+pub vt_from_type_at : (vt : ℕ) (t : VarType) → type_at vt ≡ Some t → vt_of t ≡ vt
 vt_from_type_at vt t e =
     tried vt 0 types.Empty _ t refl e (λ e. tried vt 1 types.Null _ t refl e (λ e. tried vt 2 types.I2 _ t refl e (λ e.
     tried vt 3 types.I4 _ t refl e (λ e. tried vt 6 types.Cy _ t refl e (λ e. tried vt 8 types.Bstr _ t refl e (λ e.

@@ -34,6 +34,12 @@ put_cell_referent t v out = put_referent (has_pointee t v) out
 abbrev pub put_pointed : VarType → List Scalar → List ℕ → List ℕ
 put_pointed t cells out = out |> put_all (put_cell_referent t) cells |> put_all (put_pointee t) cells
 
+-- whether the cells of a type have referents and pointees
+abbrev pub is_pointed : VarType → Bool
+is_pointed types.Bstr = true
+is_pointed types.Variant = true
+is_pointed t = false
+
 abbrev pub put_elements : VarType → List Scalar → List ℕ → List ℕ
 put_elements types.Bstr cells out = put_pointed types.Bstr cells out
 put_elements types.Variant cells out = put_pointed types.Variant cells out

@@ -2,12 +2,14 @@
 #![tactic(auto)]
 
 mod array;
+mod array_len;
 mod array_out;
 mod fault;
 mod scalar;
 mod text;
 
 pub use array::read_array;
+pub use array_len::array_end;
 pub use array_out::write_array;
 pub use fault::{ReadFault, WireFault};
 pub use scalar::{read_scalar, read_union, scalar_len, write_head, write_scalar};

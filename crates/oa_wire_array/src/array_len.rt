@@ -1,0 +1,137 @@
+//! Where arrays end when they are written.
+
+ghost use Rattle.std.specs.Prelude.{◌≡◌, ◌≤◌, ◌<◌, ◌+◌, ◌*◌, ◌%◌, ◌^◌, All, length, List, ℕ};
+ghost use Rattle.oa_ndr.specs.Forms.{padding};
+ghost use Rattle.oa_ndr.specs.Writing.{put_all};
+ghost use Rattle.oa_variant.specs.Scalars.{text_of, FitsType};
+ghost use Rattle.std.specs.Option.{IsSome};
+ghost use Rattle.std.specs.Prelude.{true, false, Some, ◌⊎◌};
+ghost use Rattle.oa_model.specs.Types.{sf_type_of, element_size_of};
+ghost use Rattle.oa_wire_array.specs.Canon.{put_arm};
+ghost use Rattle.oa_wire_array.specs.ArrayCanon.{is_pointed, put_text, put_pointee, put_elements, put_array};
+
+use crate::scalar::scalar_len;
+use oa_array::SafeArray;
+use oa_model::VarType;
+use oa_variant::Scalar;
+
+// The next multiple of n.
+fn aligned(n: usize, place: usize) -> usize
+    requires above { 0 < n }
+    requires small { n ≤ 16 }
+    requires room { place < 2 ^ 60 }
+    ensures value { result ≡ place + padding n place }
+    ensures near { result < place + n }
+{
+    let over = place % n;
+    if over == 0 { place } else { place + n - over }
+}
+
+// Where the text of a cell ends; a null text takes nothing.
+fn text_end(cell: &Scalar, place: usize) -> usize
+    requires { place < 2 ^ 59 }
+    ensures value { (out : List ℕ) → length out ≡ place → length (put_text (text_of cell.now) out) ≡ result }
+    ensures near { result ≤ place + 262200 }
+{
+    match cell {
+        Scalar::Bstr(text) => {
+            if text.is_null() {
+                return place;
+            }
+            let len = text.as_bytes().len();
+            aligned(4, place) + 12 + len + len % 2
+        }
+        _ => place,
+    }
+}
+
+// Where the pointee of a cell ends.
+fn pointee_end(elem: VarType, cell: &Scalar, place: usize) -> usize
+    requires { place < 2 ^ 59 }
+    ensures value { (out : List ℕ) → length out ≡ place → length (put_pointee elem cell.now out) ≡ result }
+    ensures near { result ≤ place + 262200 }
+{
+    match elem {
+        VarType::Bstr => text_end(cell, place),
+        _ => aligned(8, place) + scalar_len(cell),
+    }
+}
+
+fn pointees_end(elem: VarType, cells: &[Scalar], place: usize) -> usize
+    requires few { length cells.now ≤ 65536 }
+    requires room { place < 2 ^ 58 }
+    ensures value { (out : List ℕ) → length out ≡ place → length (put_all (put_pointee elem) cells.now out) ≡ result }
+    ensures near { result ≤ place + 262200 * length cells.now }
+{
+    let mut end = place;
+    for cell in cells {
+        end = pointee_end(elem, cell, end);
+    }
+    end
+}
+
+// Whether the cells of a type have referents and pointees.
+fn is_pointed(elem: VarType) -> bool
+    ensures { result ≡ is_pointed elem }
+{
+    matches!(elem, VarType::Bstr | VarType::Variant)
+}
+
+// The bytes of a cell without a pointee.
+fn width_of(elem: VarType) -> usize
+    requires plain { is_pointed elem ≡ false }
+    requires typed { IsSome (sf_type_of elem) }
+    ensures value { element_size_of elem ≡ Some result }
+    ensures width { (result ≡ 1) ⊎ (result ≡ 2) ⊎ (result ≡ 4) ⊎ (result ≡ 8) }
+    ensures above { 0 < result }
+    ensures small { result ≤ 8 }
+{
+    elem.element_size().unwrap_or(0) as usize
+}
+
+// Where cells without pointees end.
+fn plain_end(elem: VarType, cells: &[Scalar], place: usize) -> usize
+    requires plain { is_pointed elem ≡ false }
+    requires typed { IsSome (sf_type_of elem) }
+    requires fits { All (λ cell. FitsType cell elem) cells.now }
+    requires few { length cells.now ≤ 65536 }
+    requires room { place < 2 ^ 57 }
+    ensures value { (out : List ℕ) → length out ≡ place → length (put_all put_arm cells.now out) ≡ result }
+    ensures near { result ≤ place + 262300 * length cells.now }
+{
+    let count = cells.len();
+    if count == 0 {
+        return place;
+    }
+    let width = width_of(elem);
+    aligned(width, place) + width * count
+}
+
+fn elements_end(elem: VarType, cells: &[Scalar], place: usize) -> usize
+    requires typed { IsSome (sf_type_of elem) }
+    requires fits { All (λ cell. FitsType cell elem) cells.now }
+    requires few { length cells.now ≤ 65536 }
+    requires place { place % 4 ≡ 0 }
+    requires room { place < 2 ^ 57 }
+    ensures value { (out : List ℕ) → length out ≡ place → length (put_elements elem cells.now out) ≡ result }
+    ensures near { result ≤ place + 262300 * length cells.now }
+{
+    if is_pointed(elem) {
+        return pointees_end(elem, cells, place + 4 * cells.len());
+    }
+    plain_end(elem, cells, place)
+}
+
+/// Where an array ends that `write_array` writes from a place on, in bytes from the field's first.
+///
+/// The place is a multiple of 4, as that of a referent is.
+pub fn array_end(array: &SafeArray<Scalar>, place: usize) -> usize
+    requires place { place % 4 ≡ 0 }
+    requires small { place ≤ 64 }
+    ensures value { (out : List ℕ) → length out ≡ place → length (put_array array.now out) ≡ result }
+    ensures near { result < 2 ^ 40 }
+{
+    let cells = array.cells();
+    let first = place + 36 + 8 * array.bounds().len();
+    elements_end(array.elem(), cells, first)
+}

@@ -116,6 +116,7 @@ sf_is types.Error h = absurd cc
 sf_is types.Decimal h = absurd cc
 
 pub array_writes : (a : ArrayValue Scalar) → IsArray FitsType a → All IsScalar a.cells → All IsBound a.bounds → Writes (array (with_locks a 0)) (put_array a)
+unfolding put_array
 array_writes a is cells bounds =
     let dims : length a.bounds < 256 ^ 2 = omega (arith, is.shape.few) in
     let few : length a.cells < 256 ^ 4 = omega (arith, is.whole, is.shape.small) in

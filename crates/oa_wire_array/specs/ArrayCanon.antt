@@ -62,7 +62,8 @@ abbrev pub put_size : VarType → ℕ → List ℕ → List ℕ
 put_size t count out =
     out |> put_unit 4 (vt_of t * 65536) |> put_unit 4 (unwrap_or (sf_type_of t) 0) |> put_unit 4 count |> put_referent true
 
-abbrev pub put_array : ArrayValue Scalar → List ℕ → List ℕ
+-- not unfolded by itself: each part counts the bytes before it, so a long row of parts is a large term
+unfoldable pub put_array : ArrayValue Scalar → List ℕ → List ℕ
 put_array a out =
     out |> put_shape a.elem (length a.bounds) |> put_size a.elem (length a.cells) |> put_all put_bound a.bounds
     |> put_unit 4 (length a.cells) |> put_elements a.elem a.cells

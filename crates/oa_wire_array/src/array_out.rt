@@ -171,6 +171,7 @@ fn write_size(out: &mut NdrOut, elem: VarType, count: u32) -> Result<(), AllocEr
 /// Locks are not written.
 ///
 /// Where memory is refused, what stood before the field is as it was, and the field is unfinished.
+#[tactic(auto, unfolding(crate::specs::ArrayCanon::put_array))]
 pub fn write_array(out: &mut NdrOut, array: &SafeArray<Scalar>) -> Result<(), AllocError>
     ensures ok { OnOk result (out.new ≡ within (put_array array.now) out.old) }
     ensures before { out.new.before ≡ out.old.before }

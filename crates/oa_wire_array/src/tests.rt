@@ -1,9 +1,9 @@
 use super::*;
+use oa_array::SafeArray;
 use oa_bstr::Bstr;
+use oa_model::{Bound, VarType};
 use oa_ndr::{Ndr, NdrOut};
 use oa_variant::Scalar;
-use std::alloc::Global;
-use std::process::Abort;
 use std::test::*;
 
 // A byte, the I2 7 at the next multiple of 8, the text "Hi" without its referent, the null text.
@@ -37,5 +37,56 @@ fn parts_are_read(rt: HostRuntime) -> Result<(), Fail> {
     assert_eq!(rt; hi.as_bytes(), b"H\0i\0".as_slice());
     assert!(rt; read_text(rt.alloc(), &mut reader)?.is_null());
     assert_eq!(rt; reader.rest().len(), 0);
+    Ok(())
+}
+
+// I2, bound (2, 4), two zeros, from the second referent on.
+const ZEROS: [u8; 48] = [
+    0, 0, 2, 0, 1, 0, 0, 0, 1, 0, 0x80, 0, 2, 0, 0, 0, 0, 0, 2, 0, 2, 0, 0, 0, 2, 0, 0, 0, 0, 0, 2,
+    0, 2, 0, 0, 0, 4, 0, 0, 0, 2, 0, 0, 0, 0, 0, 0, 0,
+];
+
+#[test]
+fn arrays_are_parts(rt: HostRuntime) -> Result<(), Fail> {
+    let bound = Bound { count: 2, lower: 4 };
+    let array = SafeArray::create(rt.alloc(), VarType::I2, &[bound])?;
+    let mut out = NdrOut::new(Vec::new(rt.alloc()));
+    write_array(&mut out, &array)?;
+    assert_eq!(rt; out.written(), ZEROS.as_slice());
+    assert_eq!(rt; array_end(&array, 0), 48);
+    let mut reader = Ndr::new(&ZEROS);
+    assert_eq!(rt;
+        read_array(rt.alloc(), &mut reader, VarType::I4).err(),
+        Some(WireFault::BadStub)
+    );
+    assert_eq!(rt;
+        read_array(rt.alloc(), &mut reader, VarType::Decimal).err(),
+        Some(WireFault::BadVarType)
+    );
+    assert_eq!(rt; reader.position(), 0);
+    let zeros = read_array(rt.alloc(), &mut reader, VarType::I2)?;
+    assert_eq!(rt; zeros, array);
+    assert_eq!(rt; reader.rest().len(), 0);
+    Ok(())
+}
+
+#[test]
+fn heads_and_unions(rt: HostRuntime) -> Result<(), Fail> {
+    let mut out = NdrOut::new(Vec::new(rt.alloc()));
+    write_head(&mut out, 3, 2)?;
+    assert_eq!(rt;
+        out.written(),
+        [3, 0, 0, 0, 0, 0, 0, 0, 2, 0, 0, 0, 0, 0, 0, 0].as_slice()
+    );
+    let mut reader = Ndr::new(&[2, 0, 0, 0, 7, 0]);
+    assert_eq!(rt;
+        read_union(rt.alloc(), 3, &mut reader).err(),
+        Some(ReadFault::BadStub)
+    );
+    assert_eq!(rt;
+        read_union(rt.alloc(), 2, &mut reader).ok(),
+        Some(Scalar::I2(7))
+    );
+    assert_eq!(rt; scalar_len(&Scalar::I2(7)), 22);
     Ok(())
 }

@@ -1,11 +1,29 @@
 -- How a field is written: the ignored parts and the choices of a spelling (this project's choice).
-use Rattle.std.specs.Prelude.{ℕ, List, []}
+use Rattle.std.specs.Prelude.{ℕ, ◌+◌, ◌/◌, ◌%◌, ◌^◌, true, List, [], length}
+use Rattle.oa_ndr.specs.Writing.{put_unit, put_referent}
+use Rattle.oa_model.specs.Types.{vt_of}
+use Rattle.oa_array.specs.Arrays.{ArrayValue}
+use Rattle.oa_variant.specs.declared.scalar.Scalar.{Scalar}
 use Rattle.oa_variant.specs.declared.variant.Variant.{Variant}
-use Rattle.oa_variant.specs.declared.variant.Variant.TheVariants.{One}
-use Rattle.oa_wire_array.specs.Canon.{put_scalar}
+use Rattle.oa_variant.specs.declared.variant.Variant.TheVariants.{One, Array}
+use Rattle.oa_wire_array.specs.Canon.{◌|>◌, put_head, put_scalar}
+use Rattle.oa_wire_array.specs.ArrayCanon.{put_array}
+
+-- up to the second referent: the discriminant is VT_ARRAY
+abbrev pub put_array_head : ℕ → ℕ → List ℕ → List ℕ
+put_array_head size vt out = out |> put_head size vt |> put_unit 4 8192 |> put_referent true
+
+-- with a given clSize
+abbrev pub put_sized_array : ℕ → ArrayValue Scalar → List ℕ → List ℕ
+put_sized_array size a out = out |> put_array_head size (vt_of a.elem + 8192) |> put_array a
+
+-- how many bytes an array takes, from the first of its wireVARIANT to the last of its pointees
+unfoldable pub array_len : ArrayValue Scalar → ℕ
+array_len a = length (put_sized_array 0 a [])
 
 abbrev pub put_variant : Variant → List ℕ → List ℕ
 put_variant (One s) out = put_scalar s out
+put_variant (Array a) out = put_sized_array ((array_len a + 7) / 8 % 2 ^ 32) a out
 
 -- the bytes of a whole field
 abbrev pub canon : Variant → List ℕ

@@ -1,11 +1,16 @@
 -- Reading a field as a function on lists, which says the same as the forms (proofs/VariantLaws has the law).
-use Rattle.std.specs.Prelude.{◌≡◌, Option, Some, None, Result, Ok, Err}
-use Rattle.oa_ndr.specs.Reading.{Reading, ◌>>=◌, give}
+use Rattle.std.specs.Prelude.{◌≡◌, ℕ, ◌-◌, ◌==◌, ◌&&◌, ◌||◌, nat_lt, Option, Some, None, Result, Ok, Err}
+use Rattle.oa_ndr.specs.Reading.{Reading, ◌>>=◌, give, fail, choose, align_at, unit_at, referent_at}
+use Rattle.oa_model.specs.Types.{type_at}
+use Rattle.oa_model.specs.declared.var_type.VarType.{VarType}
+use Rattle.oa_array.specs.Arrays.{ArrayValue}
+use Rattle.oa_variant.specs.declared.scalar.Scalar.{Scalar}
 use Rattle.oa_variant.specs.declared.variant.Variant.{Variant}
-use Rattle.oa_variant.specs.declared.variant.Variant.TheVariants.{One}
+use Rattle.oa_variant.specs.declared.variant.Variant.TheVariants.{One, Array}
 use Rattle.oa_wire_array.specs.declared.fault.ReadFault.{ReadFault}
 use Rattle.oa_wire_array.specs.declared.fault.ReadFault.TheVariants.{BadStub, Memory}
-use Rattle.oa_wire_array.specs.Reading.{scalar_at}
+use Rattle.oa_wire_array.specs.Reading.{union_at}
+use Rattle.oa_wire_array.specs.ArrayReading.{array_at}
 
 -- what a call on a whole field returned is what reading gives, unless memory ran out
 abbrev pub AnswersAll : {A : Type 0} → Result A ReadFault → Option A → Type 0
@@ -13,7 +18,32 @@ AnswersAll (Ok x) read = read ≡ Some x
 AnswersAll (Err BadStub) read = read ≡ None
 AnswersAll (Err Memory) read = Unit {0}
 
+-- what stands behind the vt of a scalar
+unfoldable pub one_at : ℕ → Reading Variant
+one_at vt = do
+  s ← union_at vt
+  give (One s)
+
+-- behind the vt of an array with cells of a type
+unfoldable pub array_union_at : VarType → ℕ → Reading (ArrayValue Scalar)
+array_union_at t vt = do
+  discriminant ← unit_at 4
+  is_set ← referent_at
+  choose (((discriminant == 8192) || (discriminant == vt)) && is_set) (array_at t) fail
+
+unfoldable pub many_at : Option VarType → ℕ → Reading Variant
+many_at None vt = fail
+many_at (Some t) vt = do
+  a ← array_union_at t vt
+  give (Array a)
+
 unfoldable pub variant_at : Reading Variant
 variant_at = do
-  s ← scalar_at
-  give (One s)
+  _ ← align_at 8
+  _ ← unit_at 4
+  _ ← unit_at 4
+  vt ← unit_at 2
+  _ ← unit_at 2
+  _ ← unit_at 2
+  _ ← unit_at 2
+  choose (nat_lt vt 8192) (one_at vt) (many_at (type_at (vt - 8192)) vt)

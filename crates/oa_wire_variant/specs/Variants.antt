@@ -1,19 +1,36 @@
--- Which bytes of a whole field spell which value, and the fault of a field that spells none. Arrays join as a further case of `variant` and of `is_value_type`.
-use Rattle.std.specs.Prelude.{◌≡◌, ℕ, ◌&&◌, nat_le, Bool, true, false, not, if◌then◌else◌, List, length, drop, Option, Some, None, Result, Ok, Err}
+-- Which bytes of a whole field spell which value, and the fault of a field that spells none: wireVARIANT (MS-OAUT 2.2.29).
+use Rattle.std.specs.Prelude.{◌≡◌, ℕ, ◌+◌, ◌-◌, ◌&&◌, ◌⊎◌, nat_le, nat_lt, is_some, Bool, true, false, not, if◌then◌else◌, All, List, length, drop, Option, Some, None, Result, Ok, Err}
 use Rattle.byteorder.specs.Endian.{little_number}
-use Rattle.oa_ndr.specs.Forms.{Form}
-use Rattle.oa_model.specs.Types.{type_at}
+use Rattle.oa_ndr.specs.Forms.{Form, ◌▸◌, align, ignored, unit, with, given, referent}
+use Rattle.oa_model.specs.Types.{vt_of, vt_of_value, type_at, sf_type_of}
 use Rattle.oa_model.specs.declared.var_type.VarType.{VarType}
 use Rattle.oa_model.specs.declared.var_type.VarType.TheVariants as types
-use Rattle.oa_variant.specs.Scalars.{IsScalar}
+use Rattle.oa_array.specs.Arrays.{ArrayValue, IsArray}
+use Rattle.oa_variant.specs.Scalars.{IsScalar, FitsType}
+use Rattle.oa_variant.specs.Variants.{value_type_of}
+use Rattle.oa_variant.specs.declared.scalar.Scalar.{Scalar}
 use Rattle.oa_variant.specs.declared.variant.Variant.{Variant}
-use Rattle.oa_variant.specs.declared.variant.Variant.TheVariants.{One}
-use Rattle.oa_wire_array.specs.Scalars.{scalar}
+use Rattle.oa_variant.specs.declared.variant.Variant.TheVariants.{One, Array}
+use Rattle.oa_wire_array.specs.Scalars.{union}
+use Rattle.oa_wire_array.specs.Arrays.{IsBound, array}
 use Rattle.oa_wire_array.specs.declared.fault.WireFault.{WireFault}
 use Rattle.oa_wire_array.specs.declared.fault.WireFault.TheVariants.{BadStub, BadVarType, Memory}
 
+-- the number of a value's type: that of an array is the number of its cells' type with VT_ARRAY, 0x2000
+abbrev pub value_vt : Variant → ℕ
+value_vt v = vt_of_value (value_type_of v)
+
+-- the union of an array: the discriminant, which is VT_ARRAY or vt (this project's choice), a referent, which is set, and what lies behind it
+abbrev pub array_union : ArrayValue Scalar → Form
+array_union a = with (unit 4) (λ d. given ((d ≡ 8192) ⊎ (d ≡ vt_of a.elem + 8192)) ▸ referent true ▸ array a)
+
+abbrev pub value_union : Variant → Form
+value_union (One s) = union s
+value_union (Array a) = array_union a
+
+-- clSize, rpcReserved, vt, three reserved numbers, the union
 abbrev pub variant : Variant → Form
-variant (One s) = scalar s
+variant v = align 8 ▸ ignored 4 ▸ ignored 4 ▸ unit 2 (value_vt v) ▸ ignored 2 ▸ ignored 2 ▸ ignored 2 ▸ value_union v
 
 -- the bytes spell the value, all of them
 abbrev pub Spells : List ℕ → Variant → Type 0
@@ -22,6 +39,7 @@ Spells bytes v = variant v 0 bytes
 -- what a value may be
 abbrev pub IsValue : Variant → Type 0
 IsValue (One s) = IsScalar s
+IsValue (Array a) = IsArray FitsType a × All IsScalar a.cells × All IsBound a.bounds
 
 -- no value has the type VARIANT, which only declared types and the cells of arrays have
 abbrev pub is_scalar_type : Option VarType → Bool
@@ -29,9 +47,14 @@ is_scalar_type None = false
 is_scalar_type (Some types.Variant) = false
 is_scalar_type (Some t) = true
 
+-- there are arrays of the types with an sfType
+abbrev pub is_cell_type : Option VarType → Bool
+is_cell_type None = false
+is_cell_type (Some t) = is_some (sf_type_of t)
+
 -- whether some value has this vt
 abbrev pub is_value_type : ℕ → Bool
-is_value_type vt = is_scalar_type (type_at vt)
+is_value_type vt = if nat_lt vt 8192 then is_scalar_type (type_at vt) else is_cell_type (type_at (vt - 8192))
 
 -- the fault of a field that spells no value (this project's choice): its vt, at the offset 8, is asked where the field has room for a vt and a discriminant
 abbrev pub field_fault : List ℕ → WireFault

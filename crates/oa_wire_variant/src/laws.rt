@@ -2,6 +2,7 @@
 
 ghost use Rattle.std.specs.Prelude.{◌≡◌, ℕ, List, [], ◌++◌};
 ghost use Rattle.oa_variant.specs.declared.variant.Variant.{Variant};
+ghost use Rattle.oa_variant.specs.Variants.{unlocked};
 ghost use Rattle.oa_wire_variant.specs.Variants.{Spells, IsValue};
 ghost use Rattle.oa_wire_variant.specs.Canon.{canon};
 
@@ -10,9 +11,9 @@ pub fn one_value()
     ensures { (bytes : List ℕ) (v w : Variant) → Spells bytes v → Spells bytes w → v ≡ w }
 {}
 
-/// What is written is a spelling.
+/// What is written is a spelling of the value, without the locks of an array.
 pub fn canon_spells()
-    ensures { (v : Variant) → IsValue v → Spells (canon v) v }
+    ensures { (v : Variant) → IsValue v → Spells (canon v) (unlocked v) }
 {}
 
 /// No spelling is a proper prefix of another.

@@ -1,5 +1,7 @@
 use super::*;
+use oa_array::SafeArray;
 use oa_bstr::Bstr;
+use oa_model::{Bound, VarType};
 use oa_variant::{Decimal, Scalar, Variant};
 use std::alloc::Global;
 use std::process::Abort;
@@ -263,13 +265,16 @@ fn faults_of_fields(rt: HostRuntime) -> Result<(), Fail> {
             Some(WireFault::BadStub)
         );
     }
-    // vt 5, 12, 0x2003, 0x2000 and 0x4003
-    let no_type: [&[(usize, u8)]; 5] = [
+    // vt 5, 12, 0x4003, and VT_ARRAY with 0, 1, 10, 14, 0x1003
+    let no_type: [&[(usize, u8)]; 8] = [
         &[(8, 5), (16, 5)],
         &[(8, 12), (16, 12)],
-        &[(9, 0x20)],
-        &[(8, 0), (9, 0x20)],
         &[(9, 0x40)],
+        &[(8, 0), (9, 0x20)],
+        &[(8, 1), (9, 0x20)],
+        &[(8, 10), (9, 0x20)],
+        &[(8, 14), (9, 0x20)],
+        &[(9, 0x30)],
     ];
     for changes in &no_type {
         assert_eq!(rt;
@@ -304,6 +309,187 @@ fn faults_of_fields(rt: HostRuntime) -> Result<(), Fail> {
     );
     assert_eq!(rt;
         changed(rt.alloc(), &longer, &[(24, 3), (32, 3)])?.err(),
+        Some(WireFault::BadStub)
+    );
+    Ok(())
+}
+
+// I2, bounds (2, -1) and (3, 5), cells 1 to 6.
+const GRID: [u8; 88] = [
+    11, 0, 0, 0, 0, 0, 0, 0, 2, 0x20, 0, 0, 0, 0, 0, 0, 0, 0x20, 0, 0, 0, 0, 2, 0, 0, 0, 2, 0, 2,
+    0, 0, 0, 2, 0, 0x80, 0, 2, 0, 0, 0, 0, 0, 2, 0, 2, 0, 0, 0, 6, 0, 0, 0, 0, 0, 2, 0, 2, 0, 0, 0,
+    0xFF, 0xFF, 0xFF, 0xFF, 3, 0, 0, 0, 5, 0, 0, 0, 6, 0, 0, 0, 1, 0, 2, 0, 3, 0, 4, 0, 5, 0, 6, 0,
+];
+
+// VARIANT, bound (1, 0), the cell I2 7.
+const VARIANTS: [u8; 94] = [
+    12, 0, 0, 0, 0, 0, 0, 0, 12, 0x20, 0, 0, 0, 0, 0, 0, 0, 0x20, 0, 0, 0, 0, 2, 0, 0, 0, 2, 0, 1,
+    0, 0, 0, 1, 0, 0x80, 8, 16, 0, 0, 0, 0, 0, 12, 0, 12, 0, 0, 0, 1, 0, 0, 0, 0, 0, 2, 0, 1, 0, 0,
+    0, 0, 0, 0, 0, 1, 0, 0, 0, 0, 0, 2, 0, 3, 0, 0, 0, 0, 0, 0, 0, 2, 0, 0, 0, 0, 0, 0, 0, 2, 0, 0,
+    0, 7, 0,
+];
+
+// I4, bound (0, 0).
+const NO_CELLS: [u8; 68] = [
+    9, 0, 0, 0, 0, 0, 0, 0, 3, 0x20, 0, 0, 0, 0, 0, 0, 0, 0x20, 0, 0, 0, 0, 2, 0, 0, 0, 2, 0, 1, 0,
+    0, 0, 1, 0, 0x80, 0, 4, 0, 0, 0, 0, 0, 3, 0, 3, 0, 0, 0, 0, 0, 0, 0, 0, 0, 2, 0, 0, 0, 0, 0, 0,
+    0, 0, 0, 0, 0, 0, 0,
+];
+
+// I4, bounds (65,536, 0), (65,536, 0) and (0, 0).
+const EMPTY_BOX: [u8; 84] = [
+    11, 0, 0, 0, 0, 0, 0, 0, 3, 0x20, 0, 0, 0, 0, 0, 0, 0, 0x20, 0, 0, 0, 0, 2, 0, 0, 0, 2, 0, 3,
+    0, 0, 0, 3, 0, 0x80, 0, 4, 0, 0, 0, 0, 0, 3, 0, 3, 0, 0, 0, 0, 0, 0, 0, 0, 0, 2, 0, 0, 0, 1, 0,
+    0, 0, 0, 0, 0, 0, 1, 0, 0, 0, 0, 0, 0, 0, 0, 0, 0, 0, 0, 0, 0, 0, 0, 0,
+];
+
+// BSTR, bound (3, 0): "Hi", null, the three bytes 41 00 42.
+const TEXTS: [u8; 112] = [
+    14, 0, 0, 0, 0, 0, 0, 0, 8, 0x20, 0, 0, 0, 0, 0, 0, 0, 0x20, 0, 0, 0, 0, 2, 0, 0, 0, 2, 0, 1,
+    0, 0, 0, 1, 0, 0x80, 1, 4, 0, 0, 0, 0, 0, 8, 0, 8, 0, 0, 0, 3, 0, 0, 0, 0, 0, 2, 0, 3, 0, 0, 0,
+    0, 0, 0, 0, 3, 0, 0, 0, 0, 0, 2, 0, 0, 0, 0, 0, 0, 0, 2, 0, 2, 0, 0, 0, 4, 0, 0, 0, 2, 0, 0, 0,
+    0x48, 0, 0x69, 0, 2, 0, 0, 0, 3, 0, 0, 0, 2, 0, 0, 0, 0x41, 0, 0x42, 0,
+];
+
+// I8, bound (1, 0), the cell -2, behind four bytes of padding.
+const ONE_I8: [u8; 80] = [
+    10, 0, 0, 0, 0, 0, 0, 0, 20, 0x20, 0, 0, 0, 0, 0, 0, 0, 0x20, 0, 0, 0, 0, 2, 0, 0, 0, 2, 0, 1,
+    0, 0, 0, 1, 0, 0x80, 0, 8, 0, 0, 0, 0, 0, 20, 0, 20, 0, 0, 0, 1, 0, 0, 0, 0, 0, 2, 0, 1, 0, 0,
+    0, 0, 0, 0, 0, 1, 0, 0, 0, 0, 0, 0, 0, 0xFE, 0xFF, 0xFF, 0xFF, 0xFF, 0xFF, 0xFF, 0xFF,
+];
+
+// The array of a field, which is written as it was read.
+fn array_there_and_back(
+    rt: &impl Abort,
+    alloc: Global,
+    field: &[u8],
+) -> Result<SafeArray<Scalar>, Fail> {
+    let value = read_variant(alloc, field)?;
+    assert_eq!(rt; wire_len(&value), field.len());
+    let mut out = Vec::new(alloc);
+    write_variant(&value, &mut out)?;
+    assert_eq!(rt; out.as_slice(), field);
+    match value {
+        Variant::Array(array) => Ok(array),
+        Variant::One(_) => Err(WireFault::BadStub.into()),
+    }
+}
+
+fn bound(count: u32, lower: i32) -> Bound {
+    Bound { count, lower }
+}
+
+#[test]
+fn worked_arrays(rt: HostRuntime) -> Result<(), Fail> {
+    let mut grid = array_there_and_back(&rt, rt.alloc(), &GRID)?;
+    assert_eq!(rt; grid.elem(), VarType::I2);
+    assert_eq!(rt; grid.bounds(), [bound(2, -1), bound(3, 5)].as_slice());
+    for i in 0..6usize {
+        assert_eq!(rt; &grid.cells()[i], &Scalar::I2(1 + i as i16));
+    }
+    // locks are not written
+    assert_eq!(rt; grid.lock().ok(), Some(1));
+    let mut out = Vec::new(rt.alloc());
+    write_variant(&Variant::Array(grid), &mut out)?;
+    assert_eq!(rt; out.as_slice(), GRID.as_slice());
+    let variants = array_there_and_back(&rt, rt.alloc(), &VARIANTS)?;
+    assert_eq!(rt; variants.elem(), VarType::Variant);
+    assert_eq!(rt; variants.cells(), [Scalar::I2(7)].as_slice());
+    Ok(())
+}
+
+#[test]
+fn arrays_without_cells(rt: HostRuntime) -> Result<(), Fail> {
+    let none = array_there_and_back(&rt, rt.alloc(), &NO_CELLS)?;
+    assert_eq!(rt; none.bounds(), [bound(0, 0)].as_slice());
+    assert_eq!(rt; none.cells().len(), 0);
+    let box_of_three = array_there_and_back(&rt, rt.alloc(), &EMPTY_BOX)?;
+    assert_eq!(rt;
+        box_of_three.bounds(),
+        [bound(65_536, 0), bound(65_536, 0), bound(0, 0)].as_slice()
+    );
+    assert_eq!(rt; box_of_three.cells().len(), 0);
+    Ok(())
+}
+
+#[test]
+fn arrays_with_pointees_and_padding(rt: HostRuntime) -> Result<(), Fail> {
+    let texts = array_there_and_back(&rt, rt.alloc(), &TEXTS)?;
+    let hi = Scalar::Bstr(Bstr::from_bytes(rt.alloc(), b"H\0i\0")?);
+    let three = Scalar::Bstr(Bstr::from_bytes(rt.alloc(), b"A\0B")?);
+    assert_eq!(rt;
+        texts.cells(),
+        [hi, Scalar::Bstr(Bstr::null()), three].as_slice()
+    );
+    let numbers = array_there_and_back(&rt, rt.alloc(), &ONE_I8)?;
+    assert_eq!(rt; numbers.cells(), [Scalar::I8(-2)].as_slice());
+    Ok(())
+}
+
+#[test]
+fn ignored_parts_of_arrays(rt: HostRuntime) -> Result<(), Fail> {
+    // the discriminant 0x2002, fFeatures, cbElements, cLocks and the pointer
+    let changes = [(16, 2), (34, 9), (36, 9), (40, 9), (52, 9)];
+    let grid = changed(rt.alloc(), &GRID, &changes)?;
+    assert_eq!(rt; grid.ok(), read_variant(rt.alloc(), &GRID).ok());
+    // a null referent in an array of VARIANT
+    match changed(rt.alloc(), &VARIANTS[..72], &[(70, 0)])? {
+        Ok(Variant::Array(array)) => {
+            assert_eq!(rt; array.cells(), [Scalar::Empty].as_slice());
+        }
+        _ => return Err(WireFault::BadStub.into()),
+    }
+    Ok(())
+}
+
+#[test]
+fn faults_of_arrays(rt: HostRuntime) -> Result<(), Fail> {
+    let stub: [(&[u8], &[(usize, u8)]); 17] = [
+        // a null referent, the first and the second
+        (&GRID, &[(22, 0)]),
+        (&GRID, &[(26, 0)]),
+        // a discriminant that is neither VT_ARRAY nor vt
+        (&GRID, &[(16, 3)]),
+        // cDims 0 and 17, and one that is not its maximum count
+        (&NO_CELLS, &[(28, 0), (32, 0)]),
+        (&GRID, &[(28, 17), (32, 17)]),
+        (&GRID, &[(28, 3)]),
+        (&GRID, &[(44, 3)]),
+        // Size and the maximum count of the data, which are not the product of the counts
+        (&GRID, &[(48, 5)]),
+        (&GRID, &[(72, 5)]),
+        (&GRID, &[(48, 5), (72, 5)]),
+        // more than 65,536 cells
+        (&EMPTY_BOX, &[(72, 1)]),
+        (
+            &NO_CELLS,
+            &[(48, 1), (50, 1), (56, 1), (58, 1), (64, 1), (66, 1)],
+        ),
+        // 65,536 cells of I8 that are not there
+        (&NO_CELLS, &[(8, 20), (44, 20), (50, 1), (58, 1), (66, 1)]),
+        // a cell with VT_ARRAY, and of the type VARIANT
+        (&VARIANTS, &[(81, 0x20), (89, 0x20)]),
+        (&VARIANTS, &[(80, 12), (88, 12)]),
+        // a null referent with its pointee left over
+        (&VARIANTS, &[(70, 0)]),
+        (&TEXTS, &[(70, 0)]),
+    ];
+    for (field, changes) in &stub {
+        assert_eq!(rt;
+            changed(rt.alloc(), *field, *changes)?.err(),
+            Some(WireFault::BadStub)
+        );
+    }
+    for len in 0..88 {
+        assert_eq!(rt;
+            changed(rt.alloc(), &GRID[..len], &[])?.err(),
+            Some(WireFault::BadStub)
+        );
+    }
+    let mut longer = Vec::from_slice(rt.alloc(), &GRID)?;
+    longer.push(0)?;
+    assert_eq!(rt;
+        changed(rt.alloc(), &longer, &[])?.err(),
         Some(WireFault::BadStub)
     );
     Ok(())

@@ -1,32 +1,107 @@
 //! Whole fields.
 
-ghost use Rattle.std.specs.Prelude.{◌≡◌, ◌++◌, ◌≤◌, length, OnOk, OnErr};
+ghost use Rattle.std.specs.Prelude.{◌≡◌, ◌++◌, ◌-◌, ◌<◌, ◌≤◌, ◌^◌, length, OnOk, OnErr};
+ghost use Rattle.oa_model.specs.Types.{type_at};
 ghost use Rattle.oa_ndr.specs.Reading.{whole};
 ghost use Rattle.oa_ndr.specs.Writing.{within};
+ghost use Rattle.oa_wire_array.specs.Reading.{Answers, union_at};
+ghost use Rattle.oa_wire_array.specs.ArrayReading.{array_at};
 ghost use Rattle.oa_wire_variant.specs.Variants.{IsReading, is_value_type, field_fault};
-ghost use Rattle.oa_wire_array.specs.Reading.{Answers, scalar_at};
-ghost use Rattle.oa_wire_variant.specs.Reading.{AnswersAll, variant_at};
-ghost use Rattle.oa_wire_variant.specs.Canon.{canon, put_variant};
+ghost use Rattle.oa_wire_variant.specs.Reading.{
+  AnswersAll,
+  one_at,
+  array_union_at,
+  many_at,
+  variant_at,
+};
+ghost use Rattle.oa_wire_variant.specs.Canon.{canon, put_variant, put_array_head, put_sized_array, array_len};
 
 use byteorder::{ByteOrder, LittleEndian};
-use oa_model::VarType;
+use oa_array::SafeArray;
+use oa_model::{ValueType, VarType};
 use oa_ndr::{Ndr, NdrOut};
 use oa_variant::{Scalar, Variant};
-use oa_wire_array::{ReadFault, WireFault, read_scalar, scalar_len, write_scalar};
+use oa_wire_array::{
+    ReadFault, WireFault, array_end, read_array, read_union, scalar_len, write_array, write_head,
+    write_scalar,
+};
 use std::alloc::{AllocError, Global};
 use std::mem;
 
-fn scalar(alloc: Global, r: &mut Ndr<'_>) -> Result<Scalar, ReadFault>
-    ensures { Answers result r.new (scalar_at r.old) }
+// The flag of arrays in a vt (MS-OAUT 2.2.7).
+const VT_ARRAY: u16 = 0x2000;
+
+// Where the second referent of an array stands.
+const SECOND_REFERENT: usize = 24;
+
+fn union(alloc: Global, vt: u16, r: &mut Ndr<'_>) -> Result<Scalar, ReadFault>
+    ensures { Answers result r.new (union_at vt r.old) }
 {
-    read_scalar(alloc, r)
+    read_union(alloc, vt, r)
 }
 
-#[tactic(auto, unfolding(oa_ndr::specs::Reading::bind, oa_ndr::specs::Reading::give, crate::specs::Reading::variant_at))]
+fn array(alloc: Global, elem: VarType, r: &mut Ndr<'_>) -> Result<SafeArray<Scalar>, ReadFault>
+    ensures { Answers result r.new (array_at elem r.old) }
+{
+    match read_array(alloc, r, elem) {
+        Ok(array) => Ok(array),
+        Err(WireFault::BadStub) => Err(ReadFault::BadStub),
+        Err(WireFault::BadVarType) => Err(ReadFault::BadStub),
+        Err(WireFault::Memory) => Err(ReadFault::Memory),
+    }
+}
+
+#[tactic(auto, unfolding(oa_ndr::specs::Reading::bind, oa_ndr::specs::Reading::give, crate::specs::Reading::one_at))]
+fn one(alloc: Global, vt: u16, r: &mut Ndr<'_>) -> Result<Variant, ReadFault>
+    ensures { Answers result r.new (one_at vt r.old) }
+{
+    Ok(Variant::One(union(alloc, vt, r)?))
+}
+
+// The discriminant, the first referent and the array.
+#[tactic(auto, unfolding(oa_ndr::specs::Reading::bind, oa_ndr::specs::Reading::choose, oa_ndr::specs::Reading::fail, crate::specs::Reading::array_union_at))]
+fn array_union(
+    alloc: Global,
+    elem: VarType,
+    vt: u16,
+    r: &mut Ndr<'_>,
+) -> Result<SafeArray<Scalar>, ReadFault>
+    ensures { Answers result r.new (array_union_at elem vt r.old) }
+{
+    let discriminant = r.u32()?;
+    let is_set = r.referent()?;
+    if (discriminant == VT_ARRAY as u32 || discriminant == vt as u32) && is_set {
+        return array(alloc, elem, r);
+    }
+    Err(ReadFault::BadStub)
+}
+
+#[tactic(auto, unfolding(oa_ndr::specs::Reading::bind, oa_ndr::specs::Reading::give, oa_ndr::specs::Reading::fail, crate::specs::Reading::many_at))]
+fn many(alloc: Global, vt: u16, r: &mut Ndr<'_>) -> Result<Variant, ReadFault>
+    requires { 8192 ≤ vt }
+    ensures { Answers result r.new (many_at (type_at (vt - 8192)) vt r.old) }
+{
+    match VarType::from_vt(vt - VT_ARRAY) {
+        Some(elem) => Ok(Variant::Array(array_union(alloc, elem, vt, r)?)),
+        None => Err(ReadFault::BadStub),
+    }
+}
+
+#[tactic(auto, unfolding(oa_ndr::specs::Reading::bind, oa_ndr::specs::Reading::choose, crate::specs::Reading::variant_at))]
 fn variant(alloc: Global, r: &mut Ndr<'_>) -> Result<Variant, ReadFault>
     ensures { Answers result r.new (variant_at r.old) }
 {
-    Ok(Variant::One(scalar(alloc, r)?))
+    r.align(8)?;
+    r.u32()?;
+    r.u32()?;
+    let vt = r.u16()?;
+    r.u16()?;
+    r.u16()?;
+    r.u16()?;
+    if vt < VT_ARRAY {
+        return one(alloc, vt, r);
+    }
+    many(alloc, vt, r)
 }
 
 fn whole(alloc: Global, bytes: &[u8]) -> Result<Variant, ReadFault>
@@ -44,10 +119,16 @@ fn whole(alloc: Global, bytes: &[u8]) -> Result<Variant, ReadFault>
 fn is_value_type(vt: u16) -> bool
     ensures { result ≡ is_value_type vt }
 {
-    match VarType::from_vt(vt) {
+    if vt < VT_ARRAY {
+        return match VarType::from_vt(vt) {
+            None => false,
+            Some(VarType::Variant) => false,
+            Some(_) => true,
+        };
+    }
+    match VarType::from_vt(vt - VT_ARRAY) {
         None => false,
-        Some(VarType::Variant) => false,
-        Some(_) => true,
+        Some(elem) => elem.sf_type().is_some(),
     }
 }
 
@@ -61,12 +142,12 @@ fn field_fault(bytes: &[u8]) -> WireFault
     }
 }
 
-/// The value that all of the bytes spell (MS-OAUT 2.2.29).
+/// The value that all of the bytes spell (MS-OAUT 2.2.29): a scalar, or an array, which has no locks.
 ///
 /// `BadVarType` where they spell none, are at least 20, and the vt at the offset 8 is that of no
-/// value: outside the types of `VarType`, VARIANT, or with VT_ARRAY. `BadStub` where they spell
-/// none for another reason, bytes left over among them. `Memory` only where a text was refused its
-/// block.
+/// value: outside the types of `VarType`, VARIANT, or VT_ARRAY with anything but a type of which
+/// there are arrays. `BadStub` where they spell none for another reason, bytes left over among them.
+/// `Memory` only where a block for the value was refused.
 pub fn read_variant(alloc: Global, bytes: &[u8]) -> Result<Variant, WireFault>
     ensures exact { IsReading bytes.now result }
 {
@@ -81,11 +162,43 @@ pub fn read_variant(alloc: Global, bytes: &[u8]) -> Result<Variant, WireFault>
 #[tactic(auto, unfolding(oa_wire_array::specs::Canon::scalar_len))]
 pub fn wire_len(value: &Variant) -> usize
     ensures value { result ≡ length (canon value.now) }
-    ensures small { result ≤ 262180 }
+    ensures small { result < 2 ^ 40 }
 {
     match value {
         Variant::One(one) => scalar_len(one),
+        Variant::Array(array) => array_end(array, SECOND_REFERENT),
     }
+}
+
+// What clSize of an array counts.
+fn array_len(array: &SafeArray<Scalar>) -> usize
+    ensures value { result ≡ array_len array.now }
+    ensures small { result < 2 ^ 40 }
+{
+    array_end(array, SECOND_REFERENT)
+}
+
+// What stands before the second referent of an array.
+fn write_array_head(out: &mut NdrOut, size: u32, vt: u16) -> Result<(), AllocError>
+    ensures ok { OnOk result (out.new ≡ within (put_array_head size vt) out.old) }
+    ensures before { out.new.before ≡ out.old.before }
+{
+    write_head(out, size, vt)?;
+    out.u32(VT_ARRAY as u32)?;
+    out.referent(true)
+}
+
+fn write_sized_array(
+    out: &mut NdrOut,
+    size: u32,
+    array: &SafeArray<Scalar>,
+) -> Result<(), AllocError>
+    ensures ok { OnOk result (out.new ≡ within (put_sized_array size array.now) out.old) }
+    ensures before { out.new.before ≡ out.old.before }
+{
+    let vt = ValueType::Array(array.elem()).vt();
+    write_array_head(out, size, vt)?;
+    write_array(out, array)
 }
 
 // Adds the bytes of a value, in place.
@@ -95,12 +208,16 @@ fn write_field(out: &mut NdrOut, value: &Variant) -> Result<(), AllocError>
 {
     match value {
         Variant::One(one) => write_scalar(out, one),
+        Variant::Array(array) => {
+            let size = (array_len(array) + 7) / 8 % 0x1_0000_0000;
+            write_sized_array(out, size as u32, array)
+        }
     }
 }
 
 /// Adds the bytes of a value, a field of its own: its places count from the end of `out`. The bytes
 /// are the spelling of the value with 0 in reserved numbers and padding, 0x00020000 as referent
-/// and clSize in units of 8 bytes.
+/// and clSize in units of 8 bytes. Locks are no part of them.
 ///
 /// Where memory is refused, `out` is as it was.
 pub fn write_variant(value: &Variant, out: &mut Vec<u8>) -> Result<(), AllocError>

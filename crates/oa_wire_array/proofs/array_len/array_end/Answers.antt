@@ -1,8 +1,10 @@
 use Rattle.std.proofs.Common.{◌≡◌, ap, ◌∙◌, ◌%◌, length, List, ℕ, arith}
+use Rattle.oa_wire_array.specs.ArrayCanon.{put_array}
 use Rattle.oa_wire_array.proofs.ArrayLengths.{before_cells, before_len}
 use Rattle.oa_wire_array.proofs.array_len.array_end.Goals as goal
 
 pub returns : goal.returns
+unfolding put_array
 returns c =
     let is = c.cells-cells.ensures.array in
     let dims = ap length c.bounds.ensures in

@@ -1,8 +1,9 @@
 use Rattle.oa_ndr.proofs.Laws.{canon_is}
+use Rattle.oa_variant.specs.Variants.{unlocked}
 use Rattle.oa_wire_variant.specs.Variants.{variant}
 use Rattle.oa_wire_variant.specs.Canon.{put_variant}
 use Rattle.oa_wire_variant.proofs.VariantLaws.{variant_writes}
 use Rattle.oa_wire_variant.proofs.laws.canon_spells.Goals as goal
 
 pub returns : goal.returns
-returns c = λ v h. canon_is variant put_variant v (variant_writes v h)
+returns c = λ v h. canon_is (λ w. variant (unlocked w)) put_variant v (variant_writes v h)

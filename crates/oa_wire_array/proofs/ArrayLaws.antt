@@ -1,17 +1,17 @@
 -- Reading an array reads its form.
-use Rattle.std.proofs.Common.{◌≡◌, ℕ, ◌+◌, ◌<◌, ◌≤◌, ◌⊎◌, inl, inr, Bool, true, false, not, eqb, leb, ltb, ◌&&◌, List, [], ◌∷◌, ◌++◌, length, Option, Some, None, All, IsSome, is_some, refl, sym, ap, subst, ◌∙◌, arith, ℤ}
+use Rattle.std.proofs.Common.{◌≡◌, ℕ, ◌+◌, inl, inr, Bool, true, false, eqb, leb, ltb, ◌&&◌, List, [], ◌∷◌, ◌++◌, length, Option, Some, None, All, is_some, refl, sym, ap, subst, ◌∙◌, arith, ℤ}
 use Rattle.std.specs.Int.{w32}
 use Rattle.std.specs.List.{AllByRecursion}
 use Rattle.std.proofs.lemmas.Bool.{eqb-true, eq-eqb, leb-true, le-leb, ltb-true, lt-ltb, and_parts, and_from, true≢false, false_from_ne_true}
 use Rattle.std.proofs.lemmas.List.Elements.{All-from_recursion, All-head, All-tail}
-use Rattle.oa_ndr.specs.Forms.{◌▸◌, unit, referent, each, given, made, pairwise}
-use Rattle.oa_ndr.specs.Reading.{Cursor, Reading, give, choose, referent_at, many}
-use Rattle.oa_ndr.proofs.Laws.{Reads, Always, all_always, give_reads, fail_reads, choose_reads, unit_reads, referent_reads, bind_reads, with_reads, first_as, ignored_then, same_values, made_reads, made_from, many_reads, pairwise_reads, pairwise_length}
+use Rattle.oa_ndr.specs.Forms.{◌▸◌, unit, referent, each, given, made}
+use Rattle.oa_ndr.specs.Reading.{Cursor, Reading, many}
+use Rattle.oa_ndr.proofs.Laws.{Reads, Always, all_always, give_reads, fail_reads, choose_reads, unit_reads, referent_reads, bind_reads, with_reads, ignored_then, same_values, made_reads, made_from, many_reads, pairwise_reads, pairwise_length}
 use Rattle.oa_model.specs.declared.bound.Bound.{Bound}
 use Rattle.oa_model.specs.declared.var_type.VarType.{VarType}
 use Rattle.oa_model.specs.declared.var_type.VarType.TheVariants as types
 use Rattle.oa_model.specs.Types.{sf_type_of}
-use Rattle.oa_array.specs.Arrays.{ArrayValue, IsShape, IsArray}
+use Rattle.oa_array.specs.Arrays.{ArrayValue, IsShape}
 use Rattle.oa_array.specs.Boxes.{box_size}
 use Rattle.oa_variant.specs.Scalars.{type_of, FitsType}
 use Rattle.oa_variant.specs.declared.scalar.Scalar.{Scalar}
@@ -19,8 +19,8 @@ use Rattle.oa_variant.specs.declared.scalar.Scalar.TheVariants as scalars
 use Rattle.oa_wire_array.specs.Texts.{pointee}
 use Rattle.oa_wire_array.specs.Scalars.{arm}
 use Rattle.oa_wire_array.specs.Reading.{arm_at}
-use Rattle.oa_wire_array.specs.Arrays.{bound, cell_pointee, pointed, elements, IsPlain, dimensions, header, array}
-use Rattle.oa_wire_array.specs.ArrayReading.{bound_at, text_cell_at, variant_cell_at, pointee_at, pointed_at, elements_at, is_number, has_features, is_count, array_of, cells_at, data_at, header_at, array_at}
+use Rattle.oa_wire_array.specs.Arrays.{bound, cell_pointee, pointed, elements, IsUnlocked, dimensions, header, array}
+use Rattle.oa_wire_array.specs.ArrayReading.{bound_at, text_cell_at, variant_cell_at, pointee_at, pointed_at, elements_at, is_number, has_sf_type, is_count, array_of, cells_at, data_at, header_at, array_at}
 use Rattle.oa_wire_array.proofs.TextLaws.{pointee_reads}
 use Rattle.oa_wire_array.proofs.ScalarLaws.{signed_reads, arm_reads, scalar_reads}
 
@@ -122,24 +122,24 @@ by_recursion P [] h = tt
 by_recursion P (v ∷ cells) h = (All-head P v cells h, by_recursion P cells (All-tail P v cells h))
 
 -- cells that were read make an array
-pub is_array : (t : VarType) (bounds : List Bound) (cells : List Scalar) (n : ℕ) → is_count t bounds n ≡ true → AreCells t n cells → IsPlain (array_of t bounds cells)
+pub is_array : (t : VarType) (bounds : List Bound) (cells : List Scalar) (n : ℕ) → is_count t bounds n ≡ true → AreCells t n cells → IsUnlocked (array_of t bounds cells)
 is_array t bounds cells n e are =
     let c = counted t bounds n e in
     (record { shape = c.0; whole = are.0 ∙ sym c.1; typed = All-from_recursion (Fits t) cells are.1 }, refl)
 
 -- what is known of an array before its data are read
 abbrev IsSized : VarType → ℕ → ℕ → ArrayValue Scalar → Type 0
-IsSized t dims size a = ((IsPlain a × (a.elem ≡ t)) × (length a.bounds ≡ dims)) × (length a.cells ≡ size)
+IsSized t dims size a = ((IsUnlocked a × (a.elem ≡ t)) × (length a.bounds ≡ dims)) × (length a.cells ≡ size)
 
 array_is : (a : ArrayValue Scalar) (t : VarType) (bounds : List Bound) → a.elem ≡ t → a.bounds ≡ bounds → a.locks ≡ 0 → array_of t bounds a.cells ≡ a
 array_is a t bounds e f h = rw (← e, ← f, ← h) refl
 
 -- the cells of an array are of its type
-are_cells : (a : ArrayValue Scalar) (t : VarType) (n : ℕ) → a.elem ≡ t → length a.cells ≡ n → IsPlain a → AreCells t n a.cells
+are_cells : (a : ArrayValue Scalar) (t : VarType) (n : ℕ) → a.elem ≡ t → length a.cells ≡ n → IsUnlocked a → AreCells t n a.cells
 are_cells a t n e len plain = (len, subst (λ (j : VarType). AllByRecursion (Fits j) a.cells) e (by_recursion (Fits a.elem) a.cells plain.0.typed))
 
 -- the test that an array passes
-is_counted : (a : ArrayValue Scalar) (t : VarType) (bounds : List Bound) (n : ℕ) → a.elem ≡ t → a.bounds ≡ bounds → length a.cells ≡ n → IsPlain a → is_count t bounds n ≡ true
+is_counted : (a : ArrayValue Scalar) (t : VarType) (bounds : List Bound) (n : ℕ) → a.elem ≡ t → a.bounds ≡ bounds → length a.cells ≡ n → IsUnlocked a → is_count t bounds n ≡ true
 is_counted a t bounds n e f g plain =
     let here : is_count a.elem a.bounds (length a.cells) ≡ true = counts a.elem a.bounds (length a.cells) plain.0.shape ∙ eq-eqb _ _ (sym plain.0.whole) in
     rw (← e, ← f, ← g) here
@@ -173,7 +173,7 @@ some_number (Some m) n e = ap Some (eqb-true m n e)
 is_that_number : (o : Option ℕ) (n : ℕ) → o ≡ Some n → is_number o n ≡ true
 is_that_number o n e = ap (λ (x : Option ℕ). is_number x n) e ∙ eq-eqb n n refl
 
-header_reads : (t : VarType) → Reads (λ a. IsPlain a × (a.elem ≡ t)) header (header_at t)
+header_reads : (t : VarType) → Reads (λ a. IsUnlocked a × (a.elem ≡ t)) header (header_at t)
 unfolding header_at
 header_reads t =
     bind_reads (unit 4) (λ (a : ArrayValue Scalar). length a.bounds) (unit_reads 4) (λ _ _. tt) (λ maximum _.
@@ -181,9 +181,9 @@ header_reads t =
     ignored_then 2 (ignored_then 4 (ignored_then 4 (with_reads (unit_reads 4) (λ _ _ _ _ _ _. tt) (λ sf _.
     given_part (λ (a : ArrayValue Scalar). sf_type_of a.elem ≡ Some sf)
     (bind_reads (unit 4) (λ (a : ArrayValue Scalar). length a.cells) (unit_reads 4) (λ _ _. tt) (λ size _.
-    ignored_then 4 (choose_reads (eqb maximum dims && leb dims 16 && has_features t sf)
+    ignored_then 4 (choose_reads (eqb maximum dims && leb dims 16 && has_sf_type t sf)
     (λ ok.
-    let a2 = and_parts (eqb maximum dims && leb dims 16) (has_features t sf) ok in
+    let a2 = and_parts (eqb maximum dims && leb dims 16) (has_sf_type t sf) ok in
     let a1 = and_parts (eqb maximum dims) (leb dims 16) a2.0 in
     same_values (data_reads t dims size)
     (λ a h. ((((h.0.0, h.0.1 ∙ sym (eqb-true _ _ a1.0)), h.0.1), ap sf_type_of h.0.0.1 ∙ some_number (sf_type_of t) sf a2.1), h.1))
@@ -191,14 +191,14 @@ header_reads t =
     (λ no. fail_reads (λ a p text h form.
     let same : eqb maximum dims ≡ true = eq-eqb _ _ (sym h.0.0.0.1 ∙ h.0.0.1) in
     let few : leb dims 16 ≡ true = le-leb _ _ (omega (arith, h.0.0.0.0.0.0.shape.few, h.0.0.1)) in
-    let own : has_features t sf ≡ true = is_that_number (sf_type_of t) sf (ap sf_type_of (sym h.0.0.0.0.1) ∙ h.0.1) in
-    let all : (eqb maximum dims && leb dims 16 && has_features t sf) ≡ true = rw (same, few, own) refl in
+    let own : has_sf_type t sf ≡ true = is_that_number (sf_type_of t) sf (ap sf_type_of (sym h.0.0.0.0.1) ∙ h.0.1) in
+    let all : (eqb maximum dims && leb dims 16 && has_sf_type t sf) ≡ true = rw (same, few, own) refl in
     absurd cc)))))))))))
 
 pub array_reads : (t : VarType) → Reads (λ a. a.elem ≡ t) array (array_at t)
 unfolding array_at
 array_reads t =
-    given_part IsPlain
+    given_part IsUnlocked
     (same_values (bind_reads referent (λ _. true) referent_reads (λ _ _. tt) (λ is_set _.
     choose_reads is_set
     (λ set. same_values (header_reads t) (λ a h. (h, sym set)) (λ a h. h.0))

@@ -1,9 +1,9 @@
 -- How many bytes are written.
-use Rattle.std.proofs.Common.{◌≡◌, ℕ, ◌+◌, ◌-◌, ◌*◌, ◌/◌, ◌%◌, ◌<◌, ◌≤◌, ◌⊎◌, inl, inr, Bool, true, false, cond, eqb, List, [], ◌∷◌, ◌++◌, length, drop, get_or, replicate, Option, Some, None, All, is_some, refl, sym, ap, subst, ◌∙◌, arith}
+use Rattle.std.proofs.Common.{◌≡◌, ℕ, ◌+◌, ◌-◌, ◌*◌, ◌%◌, ◌<◌, ◌≤◌, ◌⊎◌, inl, inr, Bool, true, false, cond, eqb, List, [], ◌∷◌, ◌++◌, length, drop, get_or, replicate, Option, Some, None, All, is_some, refl, sym, ap, subst, ◌∙◌, arith}
 use Rattle.std.specs.List.{AllByRecursion}
 use Rattle.std.specs.Option.{unwrap_or}
-use Rattle.std.specs.Int.{w8, w16, w32, w64, cast_unsigned}
-use Rattle.std.proofs.lemmas.Bool.{eqb-true, eqb-false, true≢false}
+use Rattle.std.specs.Int.{w32, cast_unsigned}
+use Rattle.std.proofs.lemmas.Bool.{eqb-true, true≢false}
 use Rattle.std.proofs.lemmas.List.{length-append, length-replicate, drop_more, drop_all}
 use Rattle.byteorder.specs.Endian.{little_bytes}
 use Rattle.byteorder.specs.Numbers.{length-bytes_low_first}
@@ -15,13 +15,13 @@ use Rattle.oa_model.specs.declared.var_type.VarType.{VarType}
 use Rattle.oa_model.specs.declared.var_type.VarType.TheVariants as types
 use Rattle.oa_array.specs.Arrays.{ArrayValue}
 use Rattle.oa_variant.specs.Decimals.{DecimalValue}
-use Rattle.oa_variant.specs.Scalars.{type_of, text_of, FitsType}
+use Rattle.oa_variant.specs.Scalars.{type_of, FitsType}
 use Rattle.oa_variant.specs.declared.scalar.Scalar.{Scalar}
 use Rattle.oa_variant.specs.declared.scalar.Scalar.TheVariants as scalars
 use Rattle.oa_wire_array.specs.Texts.{units}
 use Rattle.oa_wire_array.specs.Scalars.{scalar_vt, sign_of}
-use Rattle.oa_wire_array.specs.Canon.{put_blob, put_bstr, put_truth, put_decimal, put_arm, put_head, put_sized, put_scalar, scalar_len, cl_size}
-use Rattle.oa_wire_array.specs.ArrayCanon.{put_bound, has_pointee, put_text, put_pointee, put_cell_referent, put_pointed, is_pointed, put_elements, flags_of, put_shape, put_size, put_array}
+use Rattle.oa_wire_array.specs.Canon.{put_blob, put_bstr, put_decimal, put_arm, put_sized, put_scalar, scalar_len, cl_size}
+use Rattle.oa_wire_array.specs.ArrayCanon.{put_bound, has_pointee, put_pointee, put_cell_referent, put_pointed, is_pointed, put_elements, features_of, put_shape, put_size}
 use Rattle.oa_wire_array.proofs.ArrayLaws.{Fits, by_recursion}
 
 -- ---- places
@@ -317,11 +317,11 @@ shape_len t dims out h =
     let a = put_referent true out in
     let b = put_unit 4 dims a in
     let c = put_unit 2 dims b in
-    let d = put_unit 2 (flags_of t) c in
+    let d = put_unit 2 (features_of t) c in
     let la : length a ≡ length out + 4 = unit_on 4 131072 out h in
     let lb : length b ≡ length a + 4 = unit_on 4 dims a (omega (arith, la, h)) in
     let lc : length c ≡ length b + 2 = unit_on 2 dims b (omega (arith, la, lb, h)) in
-    let ld : length d ≡ length c + 2 = unit_on 2 (flags_of t) c (omega (arith, la, lb, lc, h)) in
+    let ld : length d ≡ length c + 2 = unit_on 2 (features_of t) c (omega (arith, la, lb, lc, h)) in
     let le = unit_on 4 (unwrap_or (element_size_of t) 0) d (omega (arith, la, lb, lc, ld, h)) in
     omega (arith, la, lb, lc, ld, le)
 

@@ -1,27 +1,23 @@
 -- What is written of an array is of its form.
-use Rattle.std.proofs.Common.{◌≡◌, ℕ, ◌+◌, ◌*◌, ◌^◌, ◌<◌, ◌≤◌, Bool, true, false, List, [], ◌∷◌, map, length, Option, Some, None, All, is_some, refl, sym, ap, subst, ◌∙◌, arith}
+use Rattle.std.proofs.Common.{◌≡◌, ℕ, ◌*◌, ◌^◌, ◌<◌, true, List, [], ◌∷◌, map, length, Some, None, All, is_some, refl, arith}
 use Rattle.std.specs.Option.{unwrap_or}
-use Rattle.std.specs.Int.{w32, cast_unsigned}
 use Rattle.std.specs.List.{AllByRecursion}
-use Rattle.std.proofs.Common.{◌⊎◌, inl, inr}
+use Rattle.std.proofs.Common.{inl, inr}
 use Rattle.std.proofs.lemmas.List.Elements.{All-head, All-tail}
-use Rattle.oa_ndr.specs.Forms.{referent, each, pairwise, given, made}
-use Rattle.oa_ndr.specs.Writing.{put_referent, put_all, put_unit}
+use Rattle.oa_ndr.specs.Forms.{referent, each, pairwise, made}
+use Rattle.oa_ndr.specs.Writing.{put_all, put_unit}
 use Rattle.oa_ndr.proofs.Laws.{Writes, then_writes, with_writes, unit_writes, ignored_writes, nothing_writes, given_writes, referent_writes, each_writes}
 use Rattle.oa_model.specs.Types.{vt_of, sf_type_of, element_size_of}
 use Rattle.oa_model.specs.declared.bound.Bound.{Bound}
 use Rattle.oa_model.specs.declared.var_type.VarType.{VarType}
 use Rattle.oa_model.specs.declared.var_type.VarType.TheVariants as types
 use Rattle.oa_array.specs.Arrays.{ArrayValue, IsArray, with_locks}
-use Rattle.oa_variant.specs.Scalars.{type_of, text_of, FitsType, IsScalar}
+use Rattle.oa_variant.specs.Scalars.{type_of, FitsType, IsScalar}
 use Rattle.oa_variant.specs.declared.scalar.Scalar.{Scalar}
 use Rattle.oa_variant.specs.declared.scalar.Scalar.TheVariants as scalars
-use Rattle.oa_wire_array.specs.Texts.{pointee}
-use Rattle.oa_wire_array.specs.Scalars.{arm}
-use Rattle.oa_wire_array.specs.Canon.{put_arm}
-use Rattle.oa_wire_array.specs.Arrays.{bound, cell_pointee, pointed, elements, IsBound, IsPlain, dimensions, header, array}
-use Rattle.oa_wire_array.specs.ArrayCanon.{put_bound, has_pointee, put_pointee, put_cell_referent, put_pointed, put_elements, flags_of, put_shape, put_size, put_array}
-use Rattle.oa_wire_array.proofs.Written.{vt_small, signed32_writes, blob_writes, arm_writes, scalar_writes}
+use Rattle.oa_wire_array.specs.Arrays.{bound, cell_pointee, pointed, elements, IsBound, IsUnlocked, dimensions, array}
+use Rattle.oa_wire_array.specs.ArrayCanon.{put_bound, has_pointee, put_pointee, put_cell_referent, put_pointed, put_elements, features_of, put_array}
+use Rattle.oa_wire_array.proofs.Written.{signed32_writes, blob_writes, arm_writes, scalar_writes}
 
 bound_writes : (b : Bound) → IsBound b → Writes (bound b) (put_bound b)
 bound_writes b h = then_writes (unit_writes 4 b.count h.0) (signed32_writes b.lower h.1)
@@ -121,9 +117,9 @@ array_writes a is cells bounds =
     let dims : length a.bounds < 256 ^ 2 = omega (arith, is.shape.few) in
     let few : length a.cells < 256 ^ 4 = omega (arith, is.whole, is.shape.small) in
     let sf = sf_is a.elem is.shape.typed in
-    let plain : IsPlain (with_locks a 0) = (record { shape = is.shape; whole = is.whole; typed = is.typed }, refl) in
+    let plain : IsUnlocked (with_locks a 0) = (record { shape = is.shape; whole = is.whole; typed = is.typed }, refl) in
     then_writes (given_writes plain) (then_writes (referent_writes true)
     (then_writes (unit_writes 4 (length a.bounds) (omega (arith, dims))) (then_writes (unit_writes 2 (length a.bounds) dims)
-    (then_writes (ignored_writes 2 (flags_of a.elem)) (then_writes (ignored_writes 4 (unwrap_or (element_size_of a.elem) 0)) (then_writes (ignored_writes 4 (vt_of a.elem * 65536))
+    (then_writes (ignored_writes 2 (features_of a.elem)) (then_writes (ignored_writes 4 (unwrap_or (element_size_of a.elem) 0)) (then_writes (ignored_writes 4 (vt_of a.elem * 65536))
     (with_writes (unwrap_or (sf_type_of a.elem) 0) (then_writes (unit_writes 4 (unwrap_or (sf_type_of a.elem) 0) sf.1)
     (then_writes (given_writes sf.0) (then_writes (unit_writes 4 (length a.cells) few) (then_writes (ignored_writes 4 131072) (dimensions_writes a is cells bounds))))))))))))

@@ -1,5 +1,5 @@
 -- The turns and the exits of the loops that read several values.
-use Rattle.std.proofs.Common.{◌≡◌, ℕ, ◌+◌, ◌-◌, ◌<◌, ◌≤◌, List, [], ◌∷◌, ◌++◌, length, get_or, set, take, drop, Option, Some, Result, Err, refl, sym, ap, ◌∙◌, arith}
+use Rattle.std.proofs.Common.{◌≡◌, ℕ, ◌+◌, ◌-◌, ◌<◌, ◌≤◌, List, length, get_or, set, take, drop, Option, Some, Err, arith}
 use Rattle.std.proofs.lemmas.List.{take_more_set, take_all}
 use Rattle.std.specs.Global.{Vec}
 use Rattle.oa_ndr.specs.Reading.{Cursor, Reading, many, map_at}

@@ -1,5 +1,5 @@
 -- How arrays are written (this project's choice).
-use Rattle.std.specs.Prelude.{ℕ, ◌+◌, ◌*◌, Bool, true, false, is_some, List, length, Option, Some, None}
+use Rattle.std.specs.Prelude.{ℕ, ◌*◌, Bool, true, false, is_some, List, length, Option, Some, None}
 use Rattle.std.specs.Int.{w32, cast_unsigned}
 use Rattle.std.specs.Option.{unwrap_or}
 use Rattle.oa_ndr.specs.Writing.{put_unit, put_referent, put_all}
@@ -46,15 +46,15 @@ put_elements types.Variant cells out = put_pointed types.Variant cells out
 put_elements t cells out = put_all put_arm cells out
 
 -- FADF_HAVEVARTYPE, with FADF_BSTR or FADF_VARIANT (MS-OAUT 2.2.9)
-abbrev pub flags_of : VarType → ℕ
-flags_of types.Bstr = 384
-flags_of types.Variant = 2176
-flags_of t = 128
+abbrev pub features_of : VarType → ℕ
+features_of types.Bstr = 384
+features_of types.Variant = 2176
+features_of t = 128
 
 -- the second referent, the maximum count, cDims, fFeatures, cbElements
 abbrev pub put_shape : VarType → ℕ → List ℕ → List ℕ
 put_shape t dims out =
-    out |> put_referent true |> put_unit 4 dims |> put_unit 2 dims |> put_unit 2 (flags_of t)
+    out |> put_referent true |> put_unit 4 dims |> put_unit 2 dims |> put_unit 2 (features_of t)
     |> put_unit 4 (unwrap_or (element_size_of t) 0)
 
 -- cLocks, of which the high half is the type of the cells, sfType, Size, the pointer

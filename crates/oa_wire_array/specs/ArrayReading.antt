@@ -1,5 +1,5 @@
 -- Reading arrays as functions on lists, which say the same as their forms (proofs/ArrayLaws has the laws).
-use Rattle.std.specs.Prelude.{◌≡◌, ℕ, ◌==◌, ◌&&◌, nat_lt, nat_le, is_some, Bool, true, false, List, length, Option, Some, None, Result, Ok, Err}
+use Rattle.std.specs.Prelude.{◌≡◌, ℕ, ◌==◌, ◌&&◌, nat_lt, nat_le, is_some, Bool, false, List, length, Option, Some, None, Result, Ok, Err}
 use Rattle.std.specs.Int.{w32}
 use Rattle.oa_ndr.specs.Reading.{Cursor, Reading, ◌>>=◌, give, fail, choose, unit_at, referent_at, many, map_at}
 use Rattle.oa_model.specs.declared.bound.Bound.{Bound}
@@ -55,8 +55,8 @@ is_number None n = false
 is_number (Some m) n = m == n
 
 -- whether arrays of the type have this sfType
-abbrev pub has_features : VarType → ℕ → Bool
-has_features t sf = is_number (sf_type_of t) sf
+abbrev pub has_sf_type : VarType → ℕ → Bool
+has_sf_type t sf = is_number (sf_type_of t) sf
 
 -- whether there is an array of these bounds, and has n cells
 unfoldable pub is_count : VarType → List Bound → ℕ → Bool
@@ -88,7 +88,7 @@ header_at t = do
   sf ← unit_at 4
   size ← unit_at 4
   _ ← unit_at 4
-  choose ((maximum == dims) && nat_le dims 16 && has_features t sf) (data_at t dims size) fail
+  choose ((maximum == dims) && nat_le dims 16 && has_sf_type t sf) (data_at t dims size) fail
 
 unfoldable pub array_at : VarType → Reading (ArrayValue Scalar)
 array_at t = do

@@ -1,6 +1,6 @@
 -- How an array lies in bytes: wireSAFEARRAY (MS-OAUT 2.2.30.10) from its second referent on. The order of bounds and cells, and that a null referent in an array of
 -- VARIANT is EMPTY, are this project's choice.
-use Rattle.std.specs.Prelude.{◌≡◌, ℕ, ◌<◌, ◌^◌, FitsSigned, Bool, true, false, List, length, Option, Some, None, IsSome, Result, Ok, Err}
+use Rattle.std.specs.Prelude.{◌≡◌, ◌<◌, ◌^◌, FitsSigned, Bool, true, false, List, length, Some, None, IsSome, Result, Ok, Err}
 use Rattle.std.specs.Int.{w32}
 use Rattle.oa_ndr.specs.Forms.{Form, ◌▸◌, ignored, unit, with, given, referent, each, pairwise, made}
 use Rattle.oa_ndr.specs.Reading.{Cursor}
@@ -43,8 +43,8 @@ abbrev pub IsBound : Bound → Type 0
 IsBound b = (b.count < 2 ^ 32) × FitsSigned w32 b.lower
 
 -- one cell for each index list, and no locks, which are of a session alone
-abbrev pub IsPlain : ArrayValue Scalar → Type 0
-IsPlain a = IsArray FitsType a × (a.locks ≡ 0)
+abbrev pub IsUnlocked : ArrayValue Scalar → Type 0
+IsUnlocked a = IsArray FitsType a × (a.locks ≡ 0)
 
 -- the bounds, the maximum count of the data, the data
 abbrev pub dimensions : ArrayValue Scalar → Form
@@ -58,7 +58,7 @@ header a =
 
 -- the second referent, which is set, and what lies behind it
 abbrev pub array : ArrayValue Scalar → Form
-array a = given (IsPlain a) ▸ referent true ▸ header a
+array a = given (IsUnlocked a) ▸ referent true ▸ header a
 
 -- What a call at a reader answers: the array of that type which the bytes that it moved past spell; BadVarType where there are no arrays of the type; else BadStub
 -- where no bytes there spell one. At an error the reader is as it was.

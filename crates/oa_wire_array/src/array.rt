@@ -13,7 +13,7 @@ ghost use Rattle.oa_wire_array.specs.ArrayReading.{
   pointee_at,
   pointed_at,
   elements_at,
-  has_features,
+  has_sf_type,
   is_count,
   cells_at,
   data_at,
@@ -175,11 +175,11 @@ fn elements(
 }
 
 // Whether arrays of the type have this sfType.
-fn has_features(elem: VarType, features: u32) -> bool
-    ensures { result ≡ has_features elem features }
+fn has_sf_type(elem: VarType, sf_type: u32) -> bool
+    ensures { result ≡ has_sf_type elem sf_type }
 {
     match elem.sf_type() {
-        Some(own) => own == features,
+        Some(own) => own == sf_type,
         None => false,
     }
 }
@@ -238,10 +238,10 @@ fn header(alloc: Global, elem: VarType, r: &mut Ndr<'_>) -> Result<SafeArray<Sca
     r.u16()?;
     r.u32()?;
     r.u32()?;
-    let features = r.u32()?;
+    let sf_type = r.u32()?;
     let size = r.u32()?;
     r.u32()?;
-    if maximum == dims as u32 && dims as usize <= MAX_DIMENSIONS && has_features(elem, features) {
+    if maximum == dims as u32 && dims as usize <= MAX_DIMENSIONS && has_sf_type(elem, sf_type) {
         return data(alloc, elem, dims, size, r);
     }
     Err(ReadFault::BadStub)

@@ -12,7 +12,7 @@ ghost use Rattle.oa_wire_array.specs.ArrayCanon.{
   put_cell_referent,
   put_pointed,
   put_elements,
-  flags_of,
+  features_of,
   put_shape,
   put_size,
   put_array,
@@ -132,8 +132,8 @@ fn write_elements(out: &mut NdrOut, elem: VarType, cells: &[Scalar]) -> Result<(
 }
 
 // fFeatures.
-fn flags_of(elem: VarType) -> u16
-    ensures { result ≡ flags_of elem }
+fn features_of(elem: VarType) -> u16
+    ensures { result ≡ features_of elem }
 {
     match elem {
         VarType::Bstr => 0x180,
@@ -150,7 +150,7 @@ fn write_shape(out: &mut NdrOut, elem: VarType, dims: u16) -> Result<(), AllocEr
     out.referent(true)?;
     out.u32(dims as u32)?;
     out.u16(dims)?;
-    out.u16(flags_of(elem))?;
+    out.u16(features_of(elem))?;
     out.u32(elem.element_size().unwrap_or(0))
 }
 

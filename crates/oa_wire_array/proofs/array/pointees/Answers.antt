@@ -1,4 +1,4 @@
-use Rattle.std.proofs.Common.{length-set, ◌∙◌, ap, length}
+use Rattle.std.proofs.Common.{length-set, ◌∙◌}
 use Rattle.oa_variant.specs.declared.scalar.Scalar.{Scalar}
 use Rattle.oa_wire_array.specs.ArrayReading.{pointee_at}
 use Rattle.oa_wire_array.proofs.Loops.{map_put}

@@ -1,4 +1,4 @@
-use Rattle.std.proofs.Common.{◌≡◌, ◌≤◌, ◌+◌, ◌*◌}
+use Rattle.std.proofs.Common.{◌≤◌, ◌+◌, ◌*◌}
 use Rattle.oa_wire_array.proofs.ArrayLengths.{Runs}
 use Rattle.oa_wire_array.proofs.array_len.pointees_end.Given as goal
 

@@ -1,6 +1,3 @@
-use Rattle.std.proofs.Common.{◌≡◌, sym, ap, ◌∙◌, arith, Some, ℕ}
-use Rattle.std.specs.Option.{unwrap_or}
-use Rattle.oa_model.specs.Types.{element_size_of}
 use Rattle.oa_wire_array.proofs.ArrayLengths.{size_is, width_bounds}
 use Rattle.oa_wire_array.proofs.array_len.width_of.Goals as goal
 

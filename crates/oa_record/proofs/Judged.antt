@@ -5,8 +5,8 @@ use Rattle.std.specs.List.{drop-map}
 use Rattle.std.specs.List.{AllByRecursion}
 use Rattle.oa_variant.specs.declared.variant.Variant.{Variant}
 use Rattle.oa_wire_variant.specs.Variants.{Spells, IsReading, field_fault}
-use Rattle.oa_wire_variant.specs.declared.fault.WireFault.{WireFault}
-use Rattle.oa_wire_variant.specs.declared.fault.WireFault.TheVariants as faults
+use Rattle.oa_wire_array.specs.declared.fault.WireFault.{WireFault}
+use Rattle.oa_wire_array.specs.declared.fault.WireFault.TheVariants as faults
 use Rattle.oa_record.specs.declared.fault.RecordFault.{RecordFault}
 use Rattle.oa_record.specs.declared.fault.RecordFault.TheVariants.{Stub, BadVarType, Memory}
 use Rattle.oa_record.specs.Judging.{Refuses, Sounds, SoundsOne}

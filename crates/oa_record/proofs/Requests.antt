@@ -4,7 +4,7 @@ use Rattle.oa_ndr.specs.Reading.{whole}
 use Rattle.oa_ndr.proofs.Laws.{one_value, whole_takes, whole_again}
 use Rattle.oa_variant.specs.declared.variant.Variant.{Variant}
 use Rattle.oa_wire_variant.specs.Variants.{Spells}
-use Rattle.oa_wire_variant.specs.declared.fault.WireFault.{WireFault}
+use Rattle.oa_wire_array.specs.declared.fault.WireFault.{WireFault}
 use Rattle.oa_record.specs.Layouts.{Layout, opcode_of, variant_fields}
 use Rattle.oa_record.specs.Heads.{HeadValue}
 use Rattle.oa_record.specs.Reading.{layout_at, Fails, IsStarvedBody}

@@ -4,8 +4,8 @@ use Rattle.std.specs.List.{AllByRecursion}
 use Rattle.byteorder.specs.Endian.{little_number}
 use Rattle.oa_variant.specs.declared.variant.Variant.{Variant}
 use Rattle.oa_wire_variant.specs.Variants.{Spells, field_fault}
-use Rattle.oa_wire_variant.specs.declared.fault.WireFault.{WireFault}
-use Rattle.oa_wire_variant.specs.declared.fault.WireFault.TheVariants as faults
+use Rattle.oa_wire_array.specs.declared.fault.WireFault.{WireFault}
+use Rattle.oa_wire_array.specs.declared.fault.WireFault.TheVariants as faults
 use Rattle.oa_record.specs.Layouts.{Layout, layout, variant_fields}
 use Rattle.oa_record.specs.declared.request.Request.{Request}
 use Rattle.oa_record.specs.declared.request.Request.TheVariants.{Create, Invoke}

@@ -139,12 +139,20 @@ fn pad(out: &mut Vec<u8>) -> Result<(), AllocError>
     out.resize(out.len().next_multiple_of(8), 0)
 }
 
+/// The longest value that a reply has room for, in bytes.
+const MAX_VALUE_BYTES: usize = 4_294_967_264;
+
 /// The fields of a reply that are a value: u32 count of the value's bytes, u32 reserved, these bytes, zeros up to a multiple of 8.
+///
+/// Err where memory is refused, and for an array above 4,294,967,264 bytes on the wire.
 pub fn variant_field(alloc: Global, value: &Variant) -> Result<Vec<u8>, AllocError>
     ensures value { IfOk result (λ v. v.items ≡ variant_field value.now) }
-    ensures len { IfOk result (λ v. length v.items ≤ 262200) }
+    ensures len { IfOk result (λ v. length v.items ≤ 4294967279) }
 {
     let len = wire_len(value);
+    if len > MAX_VALUE_BYTES {
+        return Err(AllocError);
+    }
     let mut field = Vec::with_capacity(alloc, 16 + len)?;
     field.extend_from_slice(&two_words(len as u32))?;
     write_variant(value, &mut field)?;

@@ -2,7 +2,7 @@
 use Rattle.std.proofs.Common.{◌≡◌, inl, inr, ℕ, suc, List, [], ◌∷◌, ◌++◌, length, drop, refl, sym, ap, subst, ◌∙◌}
 use Rattle.std.specs.List.{AllByRecursion}
 use Rattle.oa_wire_variant.specs.Variants.{Spells}
-use Rattle.oa_wire_variant.specs.declared.fault.WireFault.TheVariants as faults
+use Rattle.oa_wire_array.specs.declared.fault.WireFault.TheVariants as faults
 use Rattle.oa_record.specs.Layouts.{variant_fields}
 use Rattle.oa_record.specs.Asks.{IsSpelled, IsUnbroken, Spoils, IsStub, IsBadVarType}
 use Rattle.oa_record.proofs.Requests.{one_layout}

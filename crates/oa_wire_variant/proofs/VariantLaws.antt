@@ -23,12 +23,12 @@ use Rattle.oa_wire_array.proofs.ArrayLaws.{array_reads, given_part}
 use Rattle.oa_wire_array.proofs.Written.{scalar_writes, vt_small}
 use Rattle.oa_wire_array.proofs.ArrayWritten.{array_writes}
 use Rattle.oa_wire_variant.specs.Variants.{value_vt, array_union, value_union, variant, IsValue}
-use Rattle.oa_wire_variant.specs.Reading.{one_at, array_union_at, many_at, variant_at}
+use Rattle.oa_wire_variant.specs.Reading.{scalar_value_at, array_union_at, array_value_at, variant_at}
 use Rattle.oa_wire_variant.specs.Canon.{array_len, put_array_head, put_variant, canon}
 
-one_reads : (vt : ℕ) → vt < 8192 → Reads (λ v. value_vt v ≡ vt) value_union (one_at vt)
-unfolding one_at
-one_reads vt small = made_reads One (union_reads vt) (λ s h. h) of
+scalar_value_reads : (vt : ℕ) → vt < 8192 → Reads (λ v. value_vt v ≡ vt) value_union (scalar_value_at vt)
+unfolding scalar_value_at
+scalar_value_reads vt small = made_reads One (union_reads vt) (λ s h. h) of
   where
     of : (v : Variant) (p : ℕ) (text : List ℕ) → value_vt v ≡ vt → value_union v p text → (s : Scalar) × (value_vt (One s) ≡ vt) × (One s ≡ v)
     of (One s) p text h form = (s, h, refl)
@@ -79,14 +79,14 @@ no_scalar s vt large h = omega (arith, vt_small (type_of s), large, h)
 its_type : (a : ArrayValue Scalar) (vt : ℕ) → vt_of a.elem + 8192 ≡ vt → type_at (vt - 8192) ≡ Some a.elem
 its_type a vt h = let n : vt - 8192 ≡ vt_of a.elem = omega (arith, h) in ap type_at n ∙ type_at_vt a.elem
 
-many_reads : (vt : ℕ) (o : Option VarType) → 8192 ≤ vt → type_at (vt - 8192) ≡ o → Reads (λ v. value_vt v ≡ vt) value_union (many_at o vt)
-unfolding many_at
-many_reads vt None large e = fail_reads never
+array_value_reads : (vt : ℕ) (o : Option VarType) → 8192 ≤ vt → type_at (vt - 8192) ≡ o → Reads (λ v. value_vt v ≡ vt) value_union (array_value_at o vt)
+unfolding array_value_at
+array_value_reads vt None large e = fail_reads never
   where
     never : (v : Variant) (p : ℕ) (text : List ℕ) → value_vt v ≡ vt → value_union v p text → ⊥
     never (One s) p text h form = no_scalar s vt large h
     never (Array a) p text h form = let some : type_at (vt - 8192) ≡ Some a.elem = its_type a vt h in absurd cc
-many_reads vt (Some t) large e = made_reads Array (array_union_reads t vt number) (λ a h. ap (λ (j : VarType). vt_of j + 8192) h ∙ sym number) of
+array_value_reads vt (Some t) large e = made_reads Array (array_union_reads t vt number) (λ a h. ap (λ (j : VarType). vt_of j + 8192) h ∙ sym number) of
   where
     number : vt ≡ vt_of t + 8192
     number = omega (arith, large, vt_from_type_at (vt - 8192) t e)
@@ -100,8 +100,8 @@ unfolding variant_at
 variant_reads =
     align_then 8 (ignored_then 4 (ignored_then 4 (bind_reads (unit 2) value_vt (unit_reads 2) (λ _ _. tt) (λ vt _.
     ignored_then 2 (ignored_then 2 (ignored_then 2 (choose_reads (ltb vt 8192)
-    (λ small. same_values (one_reads vt (ltb-true _ _ small)) (λ v h. (tt, h)) (λ v h. h.1))
-    (λ large. same_values (many_reads vt (type_at (vt - 8192)) (ltb-false _ _ large) refl) (λ v h. (tt, h)) (λ v h. h.1)))))))))
+    (λ small. same_values (scalar_value_reads vt (ltb-true _ _ small)) (λ v h. (tt, h)) (λ v h. h.1))
+    (λ large. same_values (array_value_reads vt (type_at (vt - 8192)) (ltb-false _ _ large) refl) (λ v h. (tt, h)) (λ v h. h.1)))))))))
 
 pub variant_writes : (v : Variant) → IsValue v → Writes (variant (unlocked v)) (put_variant v)
 variant_writes (One s) h = scalar_writes s h

@@ -19,8 +19,8 @@ AnswersAll (Err BadStub) read = read ≡ None
 AnswersAll (Err Memory) read = Unit {0}
 
 -- what stands behind the vt of a scalar
-unfoldable pub one_at : ℕ → Reading Variant
-one_at vt = do
+unfoldable pub scalar_value_at : ℕ → Reading Variant
+scalar_value_at vt = do
   s ← union_at vt
   give (One s)
 
@@ -31,9 +31,9 @@ array_union_at t vt = do
   is_set ← referent_at
   choose (((discriminant == 8192) || (discriminant == vt)) && is_set) (array_at t) fail
 
-unfoldable pub many_at : Option VarType → ℕ → Reading Variant
-many_at None vt = fail
-many_at (Some t) vt = do
+unfoldable pub array_value_at : Option VarType → ℕ → Reading Variant
+array_value_at None vt = fail
+array_value_at (Some t) vt = do
   a ← array_union_at t vt
   give (Array a)
 
@@ -46,4 +46,4 @@ variant_at = do
   _ ← unit_at 2
   _ ← unit_at 2
   _ ← unit_at 2
-  choose (nat_lt vt 8192) (one_at vt) (many_at (type_at (vt - 8192)) vt)
+  choose (nat_lt vt 8192) (scalar_value_at vt) (array_value_at (type_at (vt - 8192)) vt)

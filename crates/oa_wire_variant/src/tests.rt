@@ -1,7 +1,7 @@
 use super::*;
 use oa_array::SafeArray;
 use oa_bstr::Bstr;
-use oa_model::{Bound, VarType};
+use oa_model::{Bound, ValueType, VarType};
 use oa_variant::{Decimal, Scalar, Variant};
 use std::alloc::Global;
 use std::process::Abort;
@@ -358,21 +358,13 @@ const ONE_I8: [u8; 80] = [
     0, 0, 0, 0, 0, 1, 0, 0, 0, 0, 0, 0, 0, 0xFE, 0xFF, 0xFF, 0xFF, 0xFF, 0xFF, 0xFF, 0xFF,
 ];
 
-// The array of a field, which is written as it was read.
-fn array_there_and_back(
-    rt: &impl Abort,
-    alloc: Global,
-    field: &[u8],
-) -> Result<SafeArray<Scalar>, Fail> {
-    let value = read_variant(alloc, field)?;
-    assert_eq!(rt; wire_len(&value), field.len());
+// Compares what is written of a value.
+fn written_as(rt: &impl Abort, alloc: Global, value: &Variant, field: &[u8]) -> Result<(), Fail> {
+    assert_eq!(rt; wire_len(value), field.len());
     let mut out = Vec::new(alloc);
-    write_variant(&value, &mut out)?;
-    assert_eq!(rt; out.as_slice(), field);
-    match value {
-        Variant::Array(array) => Ok(array),
-        Variant::One(_) => Err(WireFault::BadStub.into()),
-    }
+    write_variant(value, &mut out)?;
+    assert_eq!(rt; &out[..], field);
+    Ok(())
 }
 
 fn bound(count: u32, lower: i32) -> Bound {
@@ -381,48 +373,64 @@ fn bound(count: u32, lower: i32) -> Bound {
 
 #[test]
 fn worked_arrays(rt: HostRuntime) -> Result<(), Fail> {
-    let mut grid = array_there_and_back(&rt, rt.alloc(), &GRID)?;
-    assert_eq!(rt; grid.elem(), VarType::I2);
-    assert_eq!(rt; grid.bounds(), [bound(2, -1), bound(3, 5)].as_slice());
-    for i in 0..6usize {
-        assert_eq!(rt; &grid.cells()[i], &Scalar::I2(1 + i as i16));
+    let value = read_variant(rt.alloc(), &GRID)?;
+    written_as(&rt, rt.alloc(), &value, &GRID)?;
+    assert_eq!(rt; value.value_type(), ValueType::Array(VarType::I2));
+    if let Variant::Array(grid) = &value {
+        assert_eq!(rt; grid.bounds(), [bound(2, -1), bound(3, 5)].as_slice());
+        for i in 0..6usize {
+            assert_eq!(rt; &grid.cells()[i], &Scalar::I2(1 + i as i16));
+        }
     }
-    // locks are not written
-    assert_eq!(rt; grid.lock().ok(), Some(1));
-    let mut out = Vec::new(rt.alloc());
-    write_variant(&Variant::Array(grid), &mut out)?;
-    assert_eq!(rt; out.as_slice(), GRID.as_slice());
-    let variants = array_there_and_back(&rt, rt.alloc(), &VARIANTS)?;
-    assert_eq!(rt; variants.elem(), VarType::Variant);
-    assert_eq!(rt; variants.cells(), [Scalar::I2(7)].as_slice());
+    let value = read_variant(rt.alloc(), &VARIANTS)?;
+    written_as(&rt, rt.alloc(), &value, &VARIANTS)?;
+    assert_eq!(rt; value.value_type(), ValueType::Array(VarType::Variant));
+    if let Variant::Array(variants) = &value {
+        assert_eq!(rt; variants.cells(), [Scalar::I2(7)].as_slice());
+    }
     Ok(())
 }
 
 #[test]
 fn arrays_without_cells(rt: HostRuntime) -> Result<(), Fail> {
-    let none = array_there_and_back(&rt, rt.alloc(), &NO_CELLS)?;
-    assert_eq!(rt; none.bounds(), [bound(0, 0)].as_slice());
-    assert_eq!(rt; none.cells().len(), 0);
-    let box_of_three = array_there_and_back(&rt, rt.alloc(), &EMPTY_BOX)?;
-    assert_eq!(rt;
-        box_of_three.bounds(),
-        [bound(65_536, 0), bound(65_536, 0), bound(0, 0)].as_slice()
-    );
-    assert_eq!(rt; box_of_three.cells().len(), 0);
+    // locks are not written
+    let mut locked = SafeArray::create(rt.alloc(), VarType::I4, &[bound(0, 0)])?;
+    assert_eq!(rt; locked.lock().ok(), Some(1));
+    written_as(&rt, rt.alloc(), &Variant::Array(locked), &NO_CELLS)?;
+    let none = read_variant(rt.alloc(), &NO_CELLS)?;
+    written_as(&rt, rt.alloc(), &none, &NO_CELLS)?;
+    let empty_box = read_variant(rt.alloc(), &EMPTY_BOX)?;
+    written_as(&rt, rt.alloc(), &empty_box, &EMPTY_BOX)?;
+    assert_eq!(rt; empty_box.value_type(), ValueType::Array(VarType::I4));
+    if let Variant::Array(array) = &empty_box {
+        assert_eq!(rt;
+            array.bounds(),
+            [bound(65_536, 0), bound(65_536, 0), bound(0, 0)].as_slice()
+        );
+        assert_eq!(rt; array.cells().len(), 0);
+    }
     Ok(())
 }
 
 #[test]
 fn arrays_with_pointees_and_padding(rt: HostRuntime) -> Result<(), Fail> {
-    let texts = array_there_and_back(&rt, rt.alloc(), &TEXTS)?;
-    let hi = Scalar::Bstr(Bstr::from_bytes(rt.alloc(), b"H\0i\0")?);
-    let three = Scalar::Bstr(Bstr::from_bytes(rt.alloc(), b"A\0B")?);
-    assert_eq!(rt;
-        texts.cells(),
-        [hi, Scalar::Bstr(Bstr::null()), three].as_slice()
-    );
-    let numbers = array_there_and_back(&rt, rt.alloc(), &ONE_I8)?;
-    assert_eq!(rt; numbers.cells(), [Scalar::I8(-2)].as_slice());
+    let value = read_variant(rt.alloc(), &TEXTS)?;
+    written_as(&rt, rt.alloc(), &value, &TEXTS)?;
+    assert_eq!(rt; value.value_type(), ValueType::Array(VarType::Bstr));
+    if let Variant::Array(texts) = &value {
+        let hi = Scalar::Bstr(Bstr::from_bytes(rt.alloc(), b"H\0i\0")?);
+        let three = Scalar::Bstr(Bstr::from_bytes(rt.alloc(), b"A\0B")?);
+        assert_eq!(rt;
+            texts.cells(),
+            [hi, Scalar::Bstr(Bstr::null()), three].as_slice()
+        );
+    }
+    let value = read_variant(rt.alloc(), &ONE_I8)?;
+    written_as(&rt, rt.alloc(), &value, &ONE_I8)?;
+    assert_eq!(rt; value.value_type(), ValueType::Array(VarType::I8));
+    if let Variant::Array(numbers) = &value {
+        assert_eq!(rt; numbers.cells(), [Scalar::I8(-2)].as_slice());
+    }
     Ok(())
 }
 
@@ -430,14 +438,13 @@ fn arrays_with_pointees_and_padding(rt: HostRuntime) -> Result<(), Fail> {
 fn ignored_parts_of_arrays(rt: HostRuntime) -> Result<(), Fail> {
     // the discriminant 0x2002, fFeatures, cbElements, cLocks and the pointer
     let changes = [(16, 2), (34, 9), (36, 9), (40, 9), (52, 9)];
-    let grid = changed(rt.alloc(), &GRID, &changes)?;
-    assert_eq!(rt; grid.ok(), read_variant(rt.alloc(), &GRID).ok());
+    let grid = changed(rt.alloc(), &GRID, &changes)??;
+    written_as(&rt, rt.alloc(), &grid, &GRID)?;
     // a null referent in an array of VARIANT
-    match changed(rt.alloc(), &VARIANTS[..72], &[(70, 0)])? {
-        Ok(Variant::Array(array)) => {
-            assert_eq!(rt; array.cells(), [Scalar::Empty].as_slice());
-        }
-        _ => return Err(WireFault::BadStub.into()),
+    let value = changed(rt.alloc(), &VARIANTS[..72], &[(70, 0)])??;
+    assert_eq!(rt; value.value_type(), ValueType::Array(VarType::Variant));
+    if let Variant::Array(array) = &value {
+        assert_eq!(rt; array.cells(), [Scalar::Empty].as_slice());
     }
     Ok(())
 }

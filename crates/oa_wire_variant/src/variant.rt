@@ -9,9 +9,9 @@ ghost use Rattle.oa_wire_array.specs.ArrayReading.{array_at};
 ghost use Rattle.oa_wire_variant.specs.Variants.{IsReading, is_value_type, field_fault};
 ghost use Rattle.oa_wire_variant.specs.Reading.{
   AnswersAll,
-  one_at,
+  scalar_value_at,
   array_union_at,
-  many_at,
+  array_value_at,
   variant_at,
 };
 ghost use Rattle.oa_wire_variant.specs.Canon.{canon, put_variant, put_array_head, put_sized_array, array_len};
@@ -51,9 +51,9 @@ fn array(alloc: Global, elem: VarType, r: &mut Ndr<'_>) -> Result<SafeArray<Scal
     }
 }
 
-#[tactic(auto, unfolding(oa_ndr::specs::Reading::bind, oa_ndr::specs::Reading::give, crate::specs::Reading::one_at))]
-fn one(alloc: Global, vt: u16, r: &mut Ndr<'_>) -> Result<Variant, ReadFault>
-    ensures { Answers result r.new (one_at vt r.old) }
+#[tactic(auto, unfolding(oa_ndr::specs::Reading::bind, oa_ndr::specs::Reading::give, crate::specs::Reading::scalar_value_at))]
+fn scalar_value(alloc: Global, vt: u16, r: &mut Ndr<'_>) -> Result<Variant, ReadFault>
+    ensures { Answers result r.new (scalar_value_at vt r.old) }
 {
     Ok(Variant::One(union(alloc, vt, r)?))
 }
@@ -76,10 +76,10 @@ fn array_union(
     Err(ReadFault::BadStub)
 }
 
-#[tactic(auto, unfolding(oa_ndr::specs::Reading::bind, oa_ndr::specs::Reading::give, oa_ndr::specs::Reading::fail, crate::specs::Reading::many_at))]
-fn many(alloc: Global, vt: u16, r: &mut Ndr<'_>) -> Result<Variant, ReadFault>
+#[tactic(auto, unfolding(oa_ndr::specs::Reading::bind, oa_ndr::specs::Reading::give, oa_ndr::specs::Reading::fail, crate::specs::Reading::array_value_at))]
+fn array_value(alloc: Global, vt: u16, r: &mut Ndr<'_>) -> Result<Variant, ReadFault>
     requires { 8192 ≤ vt }
-    ensures { Answers result r.new (many_at (type_at (vt - 8192)) vt r.old) }
+    ensures { Answers result r.new (array_value_at (type_at (vt - 8192)) vt r.old) }
 {
     match VarType::from_vt(vt - VT_ARRAY) {
         Some(elem) => Ok(Variant::Array(array_union(alloc, elem, vt, r)?)),
@@ -99,9 +99,9 @@ fn variant(alloc: Global, r: &mut Ndr<'_>) -> Result<Variant, ReadFault>
     r.u16()?;
     r.u16()?;
     if vt < VT_ARRAY {
-        return one(alloc, vt, r);
+        return scalar_value(alloc, vt, r);
     }
-    many(alloc, vt, r)
+    array_value(alloc, vt, r)
 }
 
 fn whole(alloc: Global, bytes: &[u8]) -> Result<Variant, ReadFault>

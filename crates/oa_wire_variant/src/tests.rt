@@ -378,9 +378,15 @@ fn worked_arrays(rt: HostRuntime) -> Result<(), Fail> {
     assert_eq!(rt; value.value_type(), ValueType::Array(VarType::I2));
     if let Variant::Array(grid) = &value {
         assert_eq!(rt; grid.bounds(), [bound(2, -1), bound(3, 5)].as_slice());
-        for i in 0..6usize {
-            assert_eq!(rt; &grid.cells()[i], &Scalar::I2(1 + i as i16));
-        }
+        let cells = [
+            Scalar::I2(1),
+            Scalar::I2(2),
+            Scalar::I2(3),
+            Scalar::I2(4),
+            Scalar::I2(5),
+            Scalar::I2(6),
+        ];
+        assert_eq!(rt; grid.cells(), cells.as_slice());
     }
     let value = read_variant(rt.alloc(), &VARIANTS)?;
     written_as(&rt, rt.alloc(), &value, &VARIANTS)?;

@@ -6,3 +6,4 @@ pub mod Runs
 pub mod ReplyLines
 pub mod Goes
 pub mod Quiet
+pub mod Zeros

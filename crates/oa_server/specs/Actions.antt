@@ -2,12 +2,9 @@
 use Rattle.std.specs.Prelude.{ℕ, ◌||◌, ◌==◌, nat_lt, not, Bool, List, [], length, Option, Some, None, Result, Ok, Err}
 use Rattle.uuid.specs.Parts.{is_nil_bytes}
 use Rattle.oa_model.specs.declared.var_type.ValueType.{ValueType}
-use Rattle.oa_model.specs.declared.var_type.ValueType.TheVariants as kinds
 use Rattle.oa_model.specs.Codes.{disp_e_unknowninterface, disp_e_membernotfound, e_nointerface, e_notimpl, e_unexpected, regdb_e_classnotreg, rpc_e_disconnected}
 use Rattle.oa_variant.specs.declared.variant.Variant.{Variant}
-use Rattle.oa_variant.specs.declared.variant.Variant.TheVariants.{One}
-use Rattle.oa_variant.specs.declared.scalar.Scalar.TheVariants.{Empty}
-use Rattle.oa_variant.specs.Scalars.{zero_of}
+use Rattle.oa_variant.specs.Variants.{HasZero, zero_value}
 use Rattle.oa_record.specs.declared.request.Invoke.{Invoke}
 use Rattle.oa_record.specs.Replies.{variant_field}
 use Rattle.oa_typelib.specs.declared.access.Kind.{Kind}
@@ -59,13 +56,14 @@ action_of state call = do
   good ← checked found.1 call.named (length call.arguments)
   acting found.1 (place_of interface.guid call) found.0.value_type call
 
--- the value of a cell that was never put
-abbrev pub zero_in : ValueType → Variant
-zero_in (kinds.One t) = One (zero_of t)
-zero_in (kinds.Array t) = One Empty
+-- a get is of a declared type that has a zero
+abbrev pub HasValue : Action → Type 0
+HasValue (Get place declared) = HasZero declared
+HasValue (Put place value) = Unit {0}
 
+-- a cell that was never put reads as the zero of its declared type
 abbrev pub or_zero : ValueType → Option Variant → Variant
-or_zero declared None = zero_in declared
+or_zero declared None = zero_value declared
 or_zero declared (Some value) = value
 
 -- the fields of a get's reply

@@ -1,14 +1,11 @@
 -- The arguments of an INVOKE of a property without parameters (MS-OAUT section 3.1.4.4; the order of the refusals is this project's choice).
-use Rattle.std.specs.Prelude.{ℕ, ℤ, negsuc, nat_lt, ◌==◌, ◌||◌, Bool, false, not, if◌then◌else◌, List, [], ◌∷◌, length, Some, Result, Ok, Err}
+use Rattle.std.specs.Prelude.{ℕ, ℤ, negsuc, nat_lt, ◌||◌, Bool, false, not, if◌then◌else◌, List, [], ◌∷◌, length, Some, Result, Ok, Err}
 use Rattle.std.specs.List.{list_any}
 use Rattle.std.specs.Ordering.{int_eq}
 use Rattle.oa_model.specs.declared.var_type.ValueType.{ValueType}
-use Rattle.oa_model.specs.declared.var_type.ValueType.TheVariants as kinds
-use Rattle.oa_model.specs.Types.{vt_of}
 use Rattle.oa_model.specs.Codes.{e_invalidarg, disp_e_badparamcount, disp_e_typemismatch}
 use Rattle.oa_variant.specs.declared.variant.Variant.{Variant}
-use Rattle.oa_variant.specs.declared.variant.Variant.TheVariants.{One}
-use Rattle.oa_variant.specs.Scalars.{type_of}
+use Rattle.oa_variant.specs.Variants.{fits_declared}
 use Rattle.oa_typelib.specs.declared.access.Kind.{Kind}
 use Rattle.oa_typelib.specs.declared.access.Kind.TheVariants.{Get, Put}
 use Rattle.oa_server.specs.declared.refusal.Refusal.{Refusal}
@@ -41,12 +38,7 @@ checked kind named arguments =
     if is_consistent kind named arguments then unless disp_e_badparamcount (nat_lt (most kind) arguments)
     else refused e_invalidarg
 
--- a value of a declared type; VARIANT takes any scalar
-abbrev pub fits : Variant → ValueType → Bool
-fits (One s) (kinds.One t) = (vt_of t == 12) || (vt_of (type_of s) == vt_of t)
-fits (One s) (kinds.Array t) = false
-
--- the new value of a put, which is the only argument
+-- the new value of a put, which is the only argument: of the declared type, an array of that element type; VARIANT takes any value
 abbrev pub new_value : ValueType → List Variant → Result Variant Refusal
 new_value declared [] = refused e_invalidarg
-new_value declared (value ∷ more) = if fits value declared then Ok value else Err (record { code = disp_e_typemismatch; index = Some 0 })
+new_value declared (value ∷ more) = if fits_declared value declared then Ok value else Err (record { code = disp_e_typemismatch; index = Some 0 })

@@ -1,10 +1,10 @@
 //! What an INVOKE does, before it is done.
 ghost use Rattle.std.specs.Prelude.{◌≡◌, ◌≤◌, length};
-ghost use Rattle.oa_server.specs.Calls.{checked, fits, is_consistent, new_value, repeats};
+ghost use Rattle.oa_server.specs.Calls.{checked, is_consistent, new_value, repeats};
 
 use crate::refusal::Refusal;
 use crate::table::place::Place;
-use oa_model::{HResult, ValueType, VarType};
+use oa_model::{HResult, ValueType};
 use oa_typelib::Kind;
 use oa_variant::Variant;
 
@@ -72,26 +72,12 @@ pub(crate) fn take_value(
     let Some(value) = arguments.pop() else {
         return Err(Refusal::of(HResult::E_INVALIDARG));
     };
-    if is_of(&value, declared) {
+    if value.fits(declared) {
         Ok(value)
     } else {
         Err(Refusal {
             code: HResult::DISP_E_TYPEMISMATCH,
             index: Some(0),
         })
-    }
-}
-
-/// Whether a value is of a declared type.
-fn is_of(value: &Variant, declared: ValueType) -> bool
-    ensures { result ≡ fits value.now declared }
-{
-    match value {
-        Variant::One(scalar) => match declared {
-            ValueType::One(one) => {
-                one.vt() == VarType::Variant.vt() || scalar.var_type().vt() == one.vt()
-            }
-            ValueType::Array(_) => false,
-        },
     }
 }

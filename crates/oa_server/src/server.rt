@@ -2,10 +2,11 @@
 ghost use Rattle.std.specs.Prelude.{◌≡◌, ◌≤◌, [], length, true, map, IfOk, OnOk, OnErr};
 ghost use Rattle.oa_record.specs.Asks.{tag_at};
 ghost use Rattle.oa_record.specs.declared.request.Request.TheVariants as requests;
-ghost use Rattle.oa_server.specs.Actions.{action_of, class_found, value_of, zero_in};
+ghost use Rattle.oa_server.specs.Actions.{HasValue, action_of, class_found, value_of};
 ghost use Rattle.oa_server.specs.Steps.{after, reply_of, takes_memory};
 ghost use Rattle.oa_server.specs.Table.{first_table};
 ghost use Rattle.oa_server.specs.Turns.{Run, Turn};
+ghost use Rattle.oa_variant.specs.Variants.{HasZero};
 
 use crate::call::{Action, check, take_value};
 use crate::refusal::Refusal;
@@ -16,7 +17,7 @@ use oa_record::{
     Invoke, RecordFault, Reply, Request, number_field, read_request, tag_of, variant_field,
 };
 use oa_typelib::{Access, Kind, Library, MemberFault};
-use oa_variant::{Scalar, Variant};
+use oa_variant::Variant;
 use std::alloc::{AllocError, Global};
 use std::marker::Model;
 use uuid::Uuid;
@@ -164,9 +165,10 @@ impl Server {
     }
 
     /// What an INVOKE does, or why it is refused.
-    #[tactic(auto, unfolding(crate::specs::Actions::action_of))]
+    #[tactic(auto, using(crate::proofs::Zeros::has_zero), unfolding(crate::specs::Actions::action_of))]
     fn action(&self, call: Invoke) -> Result<Action, Refusal>
-        ensures { result ≡ action_of self.now call }
+        ensures action { result ≡ action_of self.now call }
+        ensures typed { IfOk result HasValue }
     {
         let Some(class) = self.table.class_of(call.object) else {
             return Err(Refusal::of(HResult::RPC_E_DISCONNECTED));
@@ -209,22 +211,16 @@ impl Server {
         place: &Place,
         declared: ValueType,
     ) -> Result<Vec<u8>, AllocError>
+        requires { HasZero declared }
         ensures value { IfOk result (λ body. body.items ≡ value_of self.now object place.now declared) }
-        ensures small { IfOk result (λ body. length body.items ≤ 262200) }
+        ensures small { IfOk result (λ body. length body.items ≤ 4294967279) }
     {
         match self.table.get(object, place) {
             Some(value) => variant_field(self.alloc, value),
-            None => variant_field(self.alloc, &zero(declared)),
+            None => {
+                let zero = Variant::zero(self.alloc, declared)?;
+                variant_field(self.alloc, &zero)
+            }
         }
-    }
-}
-
-/// The value of a cell that was never put. (A property of array type reads EMPTY until arrays are values.)
-fn zero(declared: ValueType) -> Variant
-    ensures { result ≡ zero_in declared }
-{
-    match declared {
-        ValueType::One(one) => Variant::One(Scalar::zero(one)),
-        ValueType::Array(_) => Variant::One(Scalar::Empty),
     }
 }

@@ -5,69 +5,52 @@
 
 The first thousand lines are creates, the others puts and gets of a long property in turn. Prints requests a second, the peak resident
 memory of the program, and the same for a file four times as long, which needs no more memory. Then puts and gets of texts of 1 KiB and
-of 256 KiB in turn: megabytes of hexadecimal digits read and written a second, beside `cat` from and to files of the same length.
+of 256 KiB in turn, of an array of 65,536 I4 and of one of 4,096 texts: megabytes of hexadecimal digits read and written a second, beside
+`cat` from and to files of the same length.
 """
 import os
+import struct
 import subprocess
 import sys
 import tempfile
 import time
 
 ROOT = os.path.dirname(os.path.dirname(os.path.abspath(__file__)))
+sys.path.append(f"{ROOT}/cli")
+import wire
+
 PROGRAM = os.path.abspath(sys.argv[1]) if len(sys.argv) > 1 else f"{ROOT}/crates/oaut/out/oaut"
 LINES = int(sys.argv[2]) if len(sys.argv) > 2 else 200_000
 OBJECTS = 1_000
+# the DISPIDs of SAFEARRAY(long), SAFEARRAY(BSTR) and VARIANT in examples/arrays.idl
+LONGS, NAMES, ANY = 5, 13, 15
 
 
-def u32(number):
-    return number.to_bytes(4, "little").hex()
-
-
-CLASS = "443322116655887799aabbccddeeff03"
-NONE = "00" * 16
+CLASS = bytes.fromhex("443322116655887799aabbccddeeff03")
 
 
 def create(tag):
-    return u32(tag) + "01000000" + CLASS
-
-
-def head(tag, object, flags, arguments, named):
-    return u32(tag) + "04000000" + u32(object) + u32(1) + NONE + NONE + u32(0) + flags + "0000" + u32(arguments) + u32(named)
-
-
-def put(tag, object, value):
-    field = "0300000000000000030000000000000003000000" + u32(value)
-    return head(tag, object, "0400", 1, 1) + "fdffffff00000000" + u32(24) + u32(0) + field
-
-
-def get(tag, object):
-    return head(tag, object, "0200", 0, 0)
-
-
-def put_text(tag, object, length):
-    """A put of a text of a length that is a multiple of 8, all of one letter."""
-    units, size = u32(length // 2), 36 + length
-    field = u32((size + 7) // 8) + "00000000080000000000000008000000" + "00000200" + units + u32(length) + units + "6100" * (length // 2)
-    return head(tag, object, "0400", 1, 1) + "fdffffff00000000" + u32(size) + u32(0) + field + "00" * (-size % 8)
-
-
-def write_texts(path, length, pairs):
-    with open(path, "w", encoding="ascii") as file:
-        file.write(create(0) + "\n")
-        for tag in range(1, pairs + 1):
-            file.write(put_text(tag, 1, length) + "\n" + get(tag, 1) + "\n")
+    return (struct.pack("<IHH", tag, 1, 0) + CLASS).hex().encode() + b"\n"
 
 
 def write_requests(path, count):
-    with open(path, "w", encoding="ascii") as file:
+    with open(path, "wb") as file:
         for tag in range(count):
             if tag < OBJECTS:
                 line = create(tag)
             elif tag % 2:
-                line = put(tag, 1 + tag % OBJECTS, tag)
+                line = wire.put(tag, 1 + tag % OBJECTS, 1, wire.scalar(wire.I4, tag))
             else:
-                line = get(tag, 1 + tag % OBJECTS)
-            file.write(line + "\n")
+                line = wire.get(tag, 1 + tag % OBJECTS, 1)
+            file.write(line)
+
+
+def write_values(path, dispid, value, pairs):
+    """Creates an object, and then puts and gets the value in turn."""
+    with open(path, "wb") as file:
+        file.write(create(0))
+        for tag in range(1, pairs + 1):
+            file.write(wire.put(tag, 1, dispid, value) + wire.get(tag, 1, dispid))
 
 
 def peak_of(pid):
@@ -103,17 +86,21 @@ with tempfile.TemporaryDirectory() as room:
         if (status, replies) != (0, count):
             sys.exit(f"{replies} replies to {count} requests, status {status}")
         print(f"{count} requests in {seconds:.3f} s: {count / seconds:,.0f} a second, peak {peak:,} KiB; wc -l {beside:.3f} s")
-    with open(f"{room}/lib.idl", encoding="ascii") as file:
-        texts = file.read().replace("long Count", "BSTR Name")
-    with open(f"{room}/lib.idl", "w", encoding="ascii") as file:
-        file.write(texts)
+    with open(f"{ROOT}/examples/arrays.idl", "rb") as file, open(f"{room}/lib.idl", "wb") as copy:
+        copy.write(file.read())
     os.mkdir(f"{room}/beside")
-    for length in (1 << 10, 1 << 18):
-        pairs = (1 << 26) // length
-        write_texts(f"{room}/in", length, pairs)
+    names = [f"text {n}".encode("utf-16-le") for n in range(4_096)]
+    for name, dispid, value in (
+        ("texts of 1 KiB", ANY, wire.scalar(wire.BSTR, b"a\0" * 512)),
+        ("texts of 256 KiB", ANY, wire.scalar(wire.BSTR, b"a\0" * (1 << 17))),
+        ("arrays of 65,536 I4", LONGS, wire.array(wire.I4, [(65_536, 0)], range(65_536))),
+        ("arrays of 4,096 texts", NAMES, wire.array(wire.BSTR, [(4_096, 0)], names)),
+    ):
+        pairs = (1 << 26) // len(value)
+        write_values(f"{room}/in", dispid, value, pairs)
         seconds, peak, replies, status = timed([PROGRAM, "play", "lib.idl", "--hex"], f"{room}/in", room)
         if (status, replies) != (0, 2 * pairs + 1):
-            sys.exit(f"{replies} replies to {2 * pairs + 1} requests of texts, status {status}")
+            sys.exit(f"{replies} replies to {2 * pairs + 1} requests, status {status}")
         moved = (os.path.getsize(f"{room}/in") + os.path.getsize(f"{room}/out")) / 1e6
-        both = sum(timed(["cat"], f"{room}/{name}", f"{room}/beside")[0] for name in ("in", "out"))
-        print(f"texts of {length} bytes: {moved:,.0f} MB in {seconds:.3f} s: {moved / seconds:,.0f} MB/s, peak {peak:,} KiB; cat {moved / both:,.0f} MB/s")
+        both = sum(timed(["cat"], f"{room}/{it}", f"{room}/beside")[0] for it in ("in", "out"))
+        print(f"{name}: {moved:,.0f} MB in {seconds:.3f} s: {moved / seconds:,.0f} MB/s, peak {peak:,} KiB; cat {moved / both:,.0f} MB/s")

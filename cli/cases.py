@@ -236,6 +236,93 @@ made = run(["play", "lib.idl", "--hex"], (CREATE + b"\n") * (OBJECTS + 1), files
 wanted = [(b"00000000ffffffff00000000%08x00000000" % int.from_bytes(number.to_bytes(4, "little"), "big")) for number in range(1, OBJECTS + 1)]
 tell("an object too many", [it[8:] for it in made] == wanted + [wire.reply(1, E_UNEXPECTED)[8:-1]], made[-1:])
 
+# --- arrays
+
+ARRAYS = text_of("arrays.idl")
+# of each property of the library: its DISPID, the type of its cells, and cells for the bounds (2, -1), (2, 5)
+ARRAY_ROWS = [
+    (1, wire.I1, [-128, 127, 0, -1]),
+    (2, wire.UI1, [0, 255, 1, 2]),
+    (3, wire.I2, [-32_768, 32_767, 0, -1]),
+    (4, wire.UI2, [0, 65_535, 1, 2]),
+    (5, wire.I4, [-(2**31), 2**31 - 1, 0, -1]),
+    (6, wire.UI4, [0, 2**32 - 1, 1, 2]),
+    (7, wire.INT, [-(2**31), 2**31 - 1, 0, -1]),
+    (8, wire.UINT, [0, 2**32 - 1, 1, 2]),
+    (9, wire.I8, [-(2**63), 2**63 - 1, 0, -1]),
+    (10, wire.UI8, [0, 2**64 - 1, 1, 2]),
+    (11, wire.CY, [-25_000, 25_000, 0, 2**63 - 1]),
+    (12, wire.BOOL, [0xFFFF, 0, 0, 0xFFFF]),
+    (13, wire.BSTR, [None, b"", b"H\0i\0", b"A\0B"]),
+    (14, wire.VARIANT, [(wire.EMPTY,), (wire.DECIMAL, (28, 0x80, 2**96 - 1)), (wire.BSTR, b"k\0"), (wire.ERROR, 0x8002_0004)]),
+]
+ANY, COUNT = 15, 16
+
+for dispid, vt, cells in ARRAY_ROWS:
+    value = wire.array(vt, [(2, -1), (2, 5)], cells)
+    other = wire.array(wire.I2 if vt != wire.I2 else wire.UI2, [(1, 0)], [7])
+    talk(
+        f"an array of the type {vt}",
+        ARRAYS,
+        [
+            gets(dispid, wire.zero_array(vt)),
+            puts(dispid, value),
+            gets(dispid, value),
+            puts(dispid, other, TYPE_MISMATCH, 0),
+            puts(dispid, wire.scalar(wire.I2, 7), TYPE_MISMATCH, 0),
+            puts(COUNT, value, TYPE_MISMATCH, 0),
+            gets(dispid, value),
+            puts(ANY, value),
+            gets(ANY, value),
+            puts(dispid, wire.zero_array(vt)),
+            gets(dispid, wire.zero_array(vt)),
+        ],
+    )
+read_null = wire.array(wire.VARIANT, [(3, 0)], [(wire.NULL,), (wire.DECIMAL, (0, 0, 1)), None])
+read_empty = wire.array(wire.VARIANT, [(3, 0)], [(wire.NULL,), (wire.DECIMAL, (0, 0, 1)), (wire.EMPTY,)])
+sixteen = wire.array(wire.UI1, [(1, -(2**31))] * 15 + [(2, 2**31 - 1)], [8, 9])
+largest = wire.array(wire.UI1, [(256, 0), (256, 0)], bytes(65_536))
+no_cells = wire.array(wire.I2, [(65_536, 0), (65_536, 0), (0, 0)], [])
+talk(
+    "arrays at their limits",
+    ARRAYS,
+    [
+        puts(ANY, read_null),
+        gets(ANY, read_empty),
+        puts(ANY, sixteen),
+        gets(ANY, sixteen),
+        puts(ANY, largest),
+        gets(ANY, largest),
+        puts(ANY, no_cells),
+        gets(ANY, no_cells),
+    ],
+)
+good = wire.array(wire.I2, [(2, 0)], [1, 2])
+talk(
+    "arrays that are none",
+    ARRAYS,
+    [puts(ANY, good)]
+    + [
+        puts(ANY, spoiled, STUB_CODE)
+        for spoiled in (
+            wire.array(wire.I2, [], []),
+            wire.array(wire.UI1, [(1, 0)] * 17, [1]),
+            wire.array(wire.UI1, [(65_537, 0)], bytes(65_537)),
+            wire.array(wire.UI1, [(2**32 - 1, 0)] * 3, [], count=2**32 - 1),
+            wire.array(wire.I2, [(2, 0)], [1, 2], count=3),
+            wire.array(wire.I2, [(2, 0)], [1, 2], dimensions=2),
+            wire.array(wire.I2, [(2, 0)], [1, 2], second=bytes(4)),
+            wire.array(wire.VARIANT, [(1, 0)], [(wire.VARIANT,)]),
+            wire.array(wire.VARIANT, [(1, 0)], [(wire.ARRAY + wire.I4,)]),
+            wire.array(wire.VARIANT, [(1, 0)], [(5,)]),
+            good[:-1],
+            good + b"\0",
+        )
+    ]
+    + [puts(ANY, wire.array(vt, [(1, 0)], [1]), BAD_VAR_TYPE, 0) for vt in (wire.EMPTY, wire.NULL, wire.ERROR, wire.DECIMAL, 5, 0x4003, 0x1003)]
+    + [gets(ANY, good)],
+)
+
 # --- libraries
 
 case("a library that is not there", ["play", "none.idl", "--hex"], 1, b"", b"oaut: cannot read none.idl\n")

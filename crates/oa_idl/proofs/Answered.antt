@@ -21,7 +21,7 @@ use Rattle.oa_idl.specs.GrammarReading.{library_at}
 use Rattle.oa_idl.specs.Limits.{Keeps}
 use Rattle.oa_idl.specs.TextLimits.{limit_of}
 use Rattle.oa_idl.specs.Parsed.{IsParsed}
-use Rattle.oa_idl.specs.IsTree.{MayBeText, IsTree, place_after, Refused, AnyTree, IsOver, IsAnswer, IsFound}
+use Rattle.oa_idl.specs.IsTree.{MayBeText, IsTree, place_after, Refused, AnyTree, BrokenAt, IsOver, IsAnswer, IsFound}
 use Rattle.oa_idl.proofs.Parses.{clash, begins_itself}
 use Rattle.oa_idl.proofs.OneList.{one_list}
 use Rattle.oa_idl.proofs.Whole.{library_parses}
@@ -76,27 +76,26 @@ syntax_is text ts left place are e at =
       never = λ t other _ f b. h.apart t other [] tt tt f (subst (Begins h.front left) (sym (append-nil other)) b);
     }
 
-limit_is : (text : List ℕ) (ts : List Token) (left : List Word) (l : TreeLimit) → AreTokens 0 text ts → library_at (words_of text ts) ≡ Stuck (stops.Limit l) left → (place : ℕ) × Refused (Keeps l) text place
+limit_is : (text : List ℕ) (ts : List Token) (left : List Word) (l : TreeLimit) → AreTokens 0 text ts → library_at (words_of text ts) ≡ Stuck (stops.Limit l) left → BrokenAt l text
 limit_is text ts left l are e =
-    let h = (library_parses {n = length (words_of text ts)}).stuck (words_of text ts) (stops.Limit l) left (omega arith) e in (
-      place_after (length text) ts (length h.front),
-      record {
-        tokens = ts;
-        are = are;
-        front = h.front;
-        left = left;
-        parts = h.parts;
-        at = refl;
-        never = λ t other k f b. h.apart t other [] tt (tree_keeps l t k) f (subst (Begins h.front left) (sym (append-nil other)) b);
-      },
-    )
+    let h = (library_parses {n = length (words_of text ts)}).stuck (words_of text ts) (stops.Limit l) left (omega arith) e in
+    record {
+      tokens = ts;
+      are = are;
+      front = h.front;
+      word = h.named.word;
+      left = h.named.more;
+      parts = h.parts ∙ ap (λ (ws : List Word). h.front ++ ws) h.named.is;
+      named = h.named.named;
+      never = λ t other more k f b. h.apart t other [] tt (tree_keeps l t k) f (subst (λ (ws : List Word). Begins h.front ws (other ++ [])) (sym h.named.is) (more, append-nil other ∙ b));
+    }
 
 limit_answer : (text : List ℕ) (l : TreeLimit) → IsOver l text → IsAnswer text (Err (errors.Limit (limit_of l)))
 limit_answer text limits.Name h = h
 limit_answer text limits.Interfaces h = h
 limit_answer text limits.Coclasses h = h
 limit_answer text limits.Members h = h
-limit_answer text limits.Params h = h
+limit_answer text limits.Params h = absurd h.1.named.long
 
 answer_is : (text : List ℕ) (ts : List Token) → AreTokens 0 text ts → MayBeText text → (r : Result TreeValue ParseError) → IsParsed (length text) (ts ++ end_token (length text) ∷ []) (words_of text ts) r → IsAnswer text r
 answer_is text ts are short (Ok t) p = let h = tree_is (words_of text ts) t p.0 (ended text 0 text ts are) p.1 in record { short = short; tokens = ts; are = are; form = h.0; kept = h.1 }
@@ -117,18 +116,23 @@ one_tree text s t f g =
     ((library_parses {n = 0}).same s t (words_of text f.tokens) (words_of text g.tokens) [] [] tt tt f.form g.form (ap (λ (us : List Token). words_of text us ++ []) same)).0
 
 -- a text that has a tree is not refused
-refuted : (P : TreeValue → Type 0) (text : List ℕ) (place : ℕ) (t : TreeValue) → IsTree text t → P t → Refused P text place → ⊥
-refuted P text place t f k h =
+refuted : (text : List ℕ) (place : ℕ) (t : TreeValue) → IsTree text t → Refused AnyTree text place → ⊥
+refuted text place t f h =
     let same = one_list 0 text f.tokens h.tokens f.are h.are in
-    h.never t (words_of text f.tokens) k f.form (begins_itself h.front h.left (words_of text f.tokens) (ap (words_of text) same ∙ h.parts))
+    h.never t (words_of text f.tokens) tt f.form (begins_itself h.front h.left (words_of text f.tokens) (ap (words_of text) same ∙ h.parts))
+
+unbroken : (text : List ℕ) (l : TreeLimit) (t : TreeValue) → IsTree text t → BrokenAt l text → ⊥
+unbroken text l t f h =
+    let same = one_list 0 text f.tokens h.tokens f.are h.are in
+    h.never t (words_of text f.tokens) h.left (f.kept l) f.form (ap (words_of text) same ∙ h.parts)
 
 pub found : (text : List ℕ) (r : Result TreeValue ParseError) → IsAnswer text r → (t : TreeValue) → IsTree text t → IsFound t r
 found text (Ok u) h t f = one_tree text u t h f
-found text (Err (errors.Syntax place)) h t f = refuted AnyTree text place t f tt h.1
+found text (Err (errors.Syntax place)) h t f = refuted text place t f h.1
 found text (Err (errors.Limit texts.Text)) h t f = absurd (omega (arith, h, f.short))
-found text (Err (errors.Limit texts.Name)) h t f = refuted (Keeps limits.Name) text h.1.0 t f (f.kept limits.Name) h.1.1
-found text (Err (errors.Limit texts.Interfaces)) h t f = refuted (Keeps limits.Interfaces) text h.1.0 t f (f.kept limits.Interfaces) h.1.1
-found text (Err (errors.Limit texts.Coclasses)) h t f = refuted (Keeps limits.Coclasses) text h.1.0 t f (f.kept limits.Coclasses) h.1.1
-found text (Err (errors.Limit texts.Members)) h t f = refuted (Keeps limits.Members) text h.1.0 t f (f.kept limits.Members) h.1.1
-found text (Err (errors.Limit texts.Params)) h t f = refuted (Keeps limits.Params) text h.1.0 t f (f.kept limits.Params) h.1.1
+found text (Err (errors.Limit texts.Name)) h t f = unbroken text limits.Name t f h.1
+found text (Err (errors.Limit texts.Interfaces)) h t f = unbroken text limits.Interfaces t f h.1
+found text (Err (errors.Limit texts.Coclasses)) h t f = unbroken text limits.Coclasses t f h.1
+found text (Err (errors.Limit texts.Members)) h t f = unbroken text limits.Members t f h.1
+found text (Err (errors.Limit texts.Params)) h t f = h
 found text (Err errors.Memory) h t f = tt

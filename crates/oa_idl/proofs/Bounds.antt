@@ -1,5 +1,5 @@
 -- The limits of a tree, and the limits step by step.
-use Rattle.std.proofs.Common.{◌≡◌, ℕ, suc, ◌+◌, ◌<◌, ◌≤◌, Bool, true, false, List, [], ◌∷◌, length, Option, Some, None, ◌⊎◌, refl, sym, ap, subst, ◌∙◌, arith, ltb-true, ltb-false, leb-true, leb-false}
+use Rattle.std.proofs.Common.{◌≡◌, ℕ, suc, ◌+◌, ◌<◌, ◌≤◌, Bool, true, false, List, [], ◌∷◌, length, Option, Some, None, ◌⊎◌, refl, sym, ap, subst, ◌∙◌, arith, ltb-false, leb-false}
 use Rattle.std.specs.Prelude.{nat_lt, nat_le, if◌then◌else◌}
 use Rattle.std.specs.List.{AllByRecursion}
 use Rattle.std.proofs.Math.Logic.{⊎_elim, inl, inr}
@@ -17,25 +17,8 @@ use Rattle.oa_idl.specs.Words.{over, too_long}
 use Rattle.oa_idl.specs.Grammar.{one_more, no_entry, entry_grow, no_items, items_grow}
 use Rattle.oa_idl.specs.Limits.{IsShort, HasShortNames, one_interface, one_coclass, how_many, HasFewMembers, Keeps}
 use Rattle.oa_idl.proofs.Lists.{KeepsFrom}
+use Rattle.oa_idl.proofs.Overs.{over_is}
 use Rattle.oa_idl.proofs.Whole.{MemberKeeps, MemberKept, Nothing, MembersKeep, MembersKept, EntriesKeep, EntriesKept, ItemKeeps, ItemKept, TreeKeeps, TreeKept}
-
-abbrev some : TreeLimit → Option TreeLimit
-some m = Some m
-
-some_limit : (m l : TreeLimit) → some m ≡ Some l → m ≡ l
-some_limit m l e = cc
-
--- which limits `over` names
-over_is : (m l : TreeLimit) (b c : ℕ) (name : List ℕ) → over m b c name ≡ Some l → ((64 < length name) × (limits.Name ≡ l)) ⊎ ((b ≤ c) × (m ≡ l))
-over_is m l b c name e = by_length (nat_lt 64 (length name)) refl e
-  where
-    by_count : (v : Bool) → nat_le b c ≡ v → (if v then Some m else None) ≡ Some l → ((64 < length name) × (limits.Name ≡ l)) ⊎ ((b ≤ c) × (m ≡ l))
-    by_count true is e = inr (leb-true b c is, some_limit m l e)
-    by_count false is e = absurd cc
-
-    by_length : (v : Bool) → nat_lt 64 (length name) ≡ v → (if v then Some limits.Name else (if nat_le b c then Some m else None)) ≡ Some l → ((64 < length name) × (limits.Name ≡ l)) ⊎ ((b ≤ c) × (m ≡ l))
-    by_length true is e = inl (ltb-true 64 (length name) is, some_limit limits.Name l e)
-    by_length false is e = by_count (nat_le b c) refl e
 
 over_none : (m : TreeLimit) (b c : ℕ) (name : List ℕ) → over m b c name ≡ None → (length name ≤ 64) × (c < b)
 over_none m b c name e = by_length (nat_lt 64 (length name)) refl e

@@ -9,6 +9,7 @@ mod Lists
 mod Loop
 mod Maps
 mod OneList
+mod Overs
 mod Parses
 mod Scans
 mod Steps

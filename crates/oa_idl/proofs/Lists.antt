@@ -9,7 +9,7 @@ use Rattle.oa_idl.specs.declared.stop.Stop.TheVariants as stops
 use Rattle.oa_idl.specs.Forms.{Word, Form, Then, ◌▸◌, given, this, optional, with, listed, gathered, nowhere, Begins}
 use Rattle.oa_idl.specs.Reading.{Step, Reading, and_then, bind, give, fail, heads, done, choose, rest_of, perhaps_at, until, list_at, gather, gather_at}
 use Rattle.oa_idl.specs.Reading.Step.{Got, Stuck}
-use Rattle.oa_idl.proofs.Parses.{Parses, Always, NoLimit, clash, enough, stuck_at, got, said_parses, alike_parses, with_parses, skip_parses, given_parses, choose_parses, perhaps_parses, this_parses, then_heads, this_heads, add_fact, less_fact}
+use Rattle.oa_idl.proofs.Parses.{Parses, Always, NoLimit, clash, enough, stuck_at, syntax_stops, got, said_parses, alike_parses, with_parses, skip_parses, given_parses, choose_parses, perhaps_parses, this_parses, then_heads, this_heads, add_fact, less_fact}
 
 -- each item keeps a limit, by what came before it, and the end does
 abbrev pub KeepsFrom : {S A B : Type 0} → (S → A → S) → (S → A → Type 0) → (S → B → Type 0) → S → List A → B → Type 0
@@ -88,6 +88,7 @@ module _ {S A B : Type 0} {F : S → A → List Word → Type 0} {K : S → Tree
           record {
             front = [];
             parts = left_is words why left w;
+            named = syntax_stops words why left w;
             apart = λ p text more _ _ f b.
                 let empty : text ++ more ≡ [] = subst (λ (l : List Word). Begins [] l (text ++ more)) (sym gone) b in
                 let long = listed_some s p.0 p.1 text f in

@@ -9,7 +9,7 @@ use Rattle.oa_idl.specs.declared.stop.Stop.TheVariants.{Syntax, Memory}
 use Rattle.oa_idl.specs.declared.stop.Stop.TheVariants as stops
 use Rattle.oa_idl.specs.Forms.{Word, Form, Then, ◌▸◌, nothing, given, this, one, optional, with, Begins}
 use Rattle.oa_idl.specs.Reading.{Step, Reading, and_then, bind, give, fail, heads, done, choose, rest_of, this_at, meaning_of, unless_over, if_meant, one_at, perhaps_at, require, demand}
-use Rattle.oa_idl.specs.Words.{never_over}
+use Rattle.oa_idl.specs.Words.{never_over, NamedAt}
 use Rattle.oa_idl.specs.Reading.Step.{Got, Stuck}
 
 -- ---- what the laws say
@@ -26,9 +26,22 @@ Keeps K Syntax c = Unit {0}
 Keeps K (stops.Limit l) c = K l c
 Keeps K Memory c = Unit {0}
 
+-- a limit is broken at a name, which is the first word that is left
+pub record AtName (l : TreeLimit) (left : List Word) : Type 0 where
+  pub word : Word
+  pub more : List Word
+  pub is : left ≡ word ∷ more
+  pub named : NamedAt l word
+
+abbrev pub StopsAt : Stop → List Word → Type 0
+StopsAt Syntax left = Unit {0}
+StopsAt (stops.Limit l) left = AtName l left
+StopsAt Memory left = Unit {0}
+
 pub record Stops {C : Type 0} (R : C → Type 0) (F : C → List Word → Type 0) (K : TreeLimit → C → Type 0) (words : List Word) (why : Stop) (left : List Word) : Type 0 where
   pub front : List Word
   pub parts : words ≡ front ++ left
+  pub named : StopsAt why left
   pub apart : (c : C) (text more : List Word) → R c → Keeps K why c → F c text → Begins front left (text ++ more) → ⊥
 
 -- R says which values are meant, K which of them keep a limit, and Q what is known of a value that was read
@@ -75,6 +88,10 @@ bind_stuck {A} {B} (Stuck w s) next why t e = inl (same_stop w why s t e)
     same_stop : (w why : Stop) (s t : List Word) → stuck_at {A = B} w s ≡ Stuck why t → stuck_at {A = A} w s ≡ Stuck why t
     same_stop w why s t e = cc
 
+-- a fault of syntax stands anywhere
+pub syntax_stops : {A : Type 0} (words : List Word) (why : Stop) (left : List Word) → stuck_at {A = A} Syntax words ≡ Stuck why left → StopsAt why left
+syntax_stops words why left e = let z : Syntax ≡ why = cc in subst (λ (v : Stop). StopsAt v left) z tt
+
 apart_cons : (w v : Word) (s t : List Word) → w ∷ s ≡ v ∷ t → (w ≡ v) × (s ≡ t)
 apart_cons w v s t e = (cc, cc)
 
@@ -120,6 +137,7 @@ this_parses {n} test = record {
     stops_one [] why left e = record {
       front = [];
       parts = left_is e;
+      named = syntax_stops [] why left e;
       apart = λ c text more _ _ f b. never text more f (subst (λ (l : List Word). Begins [] l (text ++ more)) (sym (left_is e)) b);
     }
       where
@@ -135,6 +153,7 @@ this_parses {n} test = record {
         stopped false is e = record {
           front = [];
           parts = left_is e;
+          named = syntax_stops (w ∷ words) why left e;
           apart = λ c text more _ _ f b. never text more f (subst (λ (l : List Word). Begins [] l (text ++ more)) (sym (left_is e)) b);
         }
           where
@@ -190,6 +209,7 @@ with_known_parses {n} {m} {A} {C} {F} {K} {P} {H} {R} {G} {L} {Q} {read} {next} 
         record {
           front = s.front;
           parts = s.parts;
+          named = s.named;
           apart = λ c text more h k f b.
               s.apart f.value f.form.front (f.form.back ++ more) tt (keeps why f.value c f.form.back h f.form.second k) f.form.first (subst (Begins s.front left) (sym (regroup text f.form.front f.form.back more f.form.parts)) b);
         }
@@ -201,6 +221,7 @@ with_known_parses {n} {m} {A} {C} {F} {K} {P} {H} {R} {G} {L} {Q} {read} {next} 
         record {
           front = first.text ++ s.front;
           parts = first.parts ∙ ap (λ (ws : List Word). first.text ++ ws) s.parts ∙ sym (append_assoc first.text s.front left);
+          named = s.named;
           apart = λ c text more h k f b.
               let past = begins_after first.text s.front left (text ++ more) b in
               let one = r.same f.value d.value f.form.front first.text (f.form.back ++ more) past.0 tt tt f.form.first first.form (regroup text f.form.front f.form.back more f.form.parts ∙ past.1) in
@@ -227,7 +248,7 @@ said_parses to from there back known r = record {
       ((to x h.0.0, known x h.0.1), record { text = h.1.text; parts = h.1.parts; form = there x h.1.text h.0.0 h.1.form });
   stuck = λ words why left le e.
       let h = r.stuck words why left le e in
-      record { front = h.front; parts = h.parts; apart = λ c text more s k f b. h.apart c text more (from c s) k (back c text s f) b };
+      record { front = h.front; parts = h.parts; named = h.named; apart = λ c text more s k f b. h.apart c text more (from c s) k (back c text s f) b };
 }
 
 -- no fewer words are left than that
@@ -255,7 +276,7 @@ part_parses {n} {A} {C} {F} {K} {P} {R} {G} {L} {Q} {read} {next} proj r has the
               ((h.0.0.0, h.0.1), record { text = h.1.text; parts = h.1.parts; form = (h.0.0.1, h.1.form) });
           stuck = λ words why left le e.
               let h = r.stuck words why left le e in
-              record { front = h.front; parts = h.parts; apart = λ c text more s k f b. h.apart c text more (s, f.0) k f.1 b };
+              record { front = h.front; parts = h.parts; named = h.named; apart = λ c text more s k f b. h.apart c text more (s, f.0) k f.1 b };
         }
 
     there : (c : C) (text : List Word) → R c → with F (λ a ws. (proj c ≡ a) × G c ws) text → (F (proj c) ▸ G c) text
@@ -282,9 +303,9 @@ give_parses {n} {C} {R} {L} {Q} v hr hq only = record {
 }
 
 -- one word that has a meaning
-pub one_parses : {n : ℕ} {A : Type 0} (meaning : Word → Option A) (over : A → Option TreeLimit) → Parses n Always (one meaning) (λ l x. over x ≡ Some l → ⊥) (λ x. over x ≡ None) (one_at meaning over)
+pub one_parses : {n : ℕ} {A : Type 0} (meaning : Word → Option A) (over : A → Option TreeLimit) → ((l : TreeLimit) (w : Word) (x : A) → meaning w ≡ Some x → over x ≡ Some l → NamedAt l w) → Parses n Always (one meaning) (λ l x. over x ≡ Some l → ⊥) (λ x. over x ≡ None) (one_at meaning over)
 unfolding one_at
-one_parses {n} {A} meaning over = record {
+one_parses {n} {A} meaning over name_at = record {
   same = λ x y a b s t _ _ f g e.
       let k = apart_cons f.word g.word s t (ap (λ (ws : List Word). ws ++ s) (sym f.parts) ∙ e ∙ ap (λ (ws : List Word). ws ++ t) g.parts) in
       (some_is x y (sym f.is ∙ ap meaning k.0 ∙ g.is), k.1);
@@ -310,15 +331,15 @@ one_parses {n} {A} meaning over = record {
         meant (Some y) is e = within y is (over y) refl e
 
     -- it stopped at the first word, which stands for nothing or breaks a limit
-    at_first : (words : List Word) (why : Stop) (left : List Word) → words ≡ left → ((x : A) (text more : List Word) → Keeps (λ l x. over x ≡ Some l → ⊥) why x → one meaning x text → Begins [] words (text ++ more) → ⊥)
+    at_first : (words : List Word) (why : Stop) (left : List Word) → words ≡ left → StopsAt why left → ((x : A) (text more : List Word) → Keeps (λ l x. over x ≡ Some l → ⊥) why x → one meaning x text → Begins [] words (text ++ more) → ⊥)
         → Stops Always (one meaning) (λ l x. over x ≡ Some l → ⊥) words why left
-    at_first words why left e never = record { front = []; parts = e; apart = λ x text more _ k f b. never x text more k f (subst (λ (l : List Word). Begins [] l (text ++ more)) (sym e) b) }
+    at_first words why left e named never = record { front = []; parts = e; named = named; apart = λ x text more _ k f b. never x text more k f (subst (λ (l : List Word). Begins [] l (text ++ more)) (sym e) b) }
 
     stop_is : (v w : Stop) (s t : List Word) → stuck_at {A = A} v s ≡ Stuck w t → (v ≡ w) × (s ≡ t)
     stop_is v w s t e = (cc, cc)
 
     stops_one : (words : List Word) (why : Stop) (left : List Word) → if_meant (meaning_of meaning words) over words ≡ Stuck why left → Stops Always (one meaning) (λ l x. over x ≡ Some l → ⊥) words why left
-    stops_one [] why left e = at_first [] why left (stop_is Syntax why [] left e).1 (λ x text more k f b. let z : f.word ∷ more ≡ [] = ap (λ (ws : List Word). ws ++ more) (sym f.parts) ∙ b in absurd cc)
+    stops_one [] why left e = at_first [] why left (stop_is Syntax why [] left e).1 (syntax_stops [] why left e) (λ x text more k f b. let z : f.word ∷ more ≡ [] = ap (λ (ws : List Word). ws ++ more) (sym f.parts) ∙ b in absurd cc)
     stops_one (w ∷ words) why left e = meant (meaning w) refl e
       where
         first_word : (x : A) (text more : List Word) → one meaning x text → Begins [] (w ∷ words) (text ++ more) → meaning w ≡ Some x
@@ -330,12 +351,12 @@ one_parses {n} {A} meaning over = record {
         within y is None kept e = absurd cc
         within y is (Some l) kept e =
             let b = stop_is (stops.Limit l) why (w ∷ words) left e in
-            at_first (w ∷ words) why left b.1 (λ x text more k f h.
+            at_first (w ∷ words) why left b.1 (subst (λ (v : Stop). StopsAt v left) b.0 (record { word = w; more = words; is = sym b.1; named = name_at l w y is kept })) (λ x text more k f h.
             let keeps : over x ≡ Some l → ⊥ = subst (λ (v : Stop). Keeps (λ l x. over x ≡ Some l → ⊥) v x) (sym b.0) k in
             keeps (ap over (some_is x y (sym (first_word x text more f h) ∙ is)) ∙ kept))
 
         meant : (o : Option A) → meaning w ≡ o → if_meant o over (w ∷ words) ≡ Stuck why left → Stops Always (one meaning) (λ l x. over x ≡ Some l → ⊥) (w ∷ words) why left
-        meant None is e = at_first (w ∷ words) why left (stop_is Syntax why (w ∷ words) left e).1 (λ x text more k f b. let z = sym is ∙ first_word x text more f b in absurd cc)
+        meant None is e = at_first (w ∷ words) why left (stop_is Syntax why (w ∷ words) left e).1 (syntax_stops (w ∷ words) why left e) (λ x text more k f b. let z = sym is ∙ first_word x text more f b in absurd cc)
         meant (Some y) is e = within y is (over y) refl e
 
 -- ---- by the next word
@@ -363,10 +384,10 @@ choose_parses {n} {C} {R} {F} {A} {B} {K} {Q} {first} {other} test yes_a no_b fr
     stopped : (words : List Word) (why : Stop) (left : List Word) → length words ≤ n → (v : Bool) → heads test words ≡ v → cond v (first words) (other words) ≡ Stuck why left → Stops R F K words why left
     stopped words why left le true is e =
         let h = r.stuck words why left le e in
-        record { front = h.front; parts = h.parts; apart = λ c text more s k f b. h.apart c text more s k (yes_a c text more s f (sym (begins_heads test h.front left words (text ++ more) h.parts b) ∙ is)) b }
+        record { front = h.front; parts = h.parts; named = h.named; apart = λ c text more s k f b. h.apart c text more s k (yes_a c text more s f (sym (begins_heads test h.front left words (text ++ more) h.parts b) ∙ is)) b }
     stopped words why left le false is e =
         let h = q.stuck words why left le e in
-        record { front = h.front; parts = h.parts; apart = λ c text more s k f b. h.apart c text more s k (no_b c text more s f (sym (begins_heads test h.front left words (text ++ more) h.parts b) ∙ is)) b }
+        record { front = h.front; parts = h.parts; named = h.named; apart = λ c text more s k f b. h.apart c text more s k (no_b c text more s f (sym (begins_heads test h.front left words (text ++ more) h.parts b) ∙ is)) b }
 
 -- no words, and a value that a form tells
 pub given_parses : {n : ℕ} {C : Type 0} {R : C → Type 0} {L : TreeLimit → C → Type 0} {Q : C → Type 0} (v : C) → R v → Q v → Parses n R (λ c. given (c ≡ v)) L Q (give v)
@@ -444,7 +465,7 @@ fact_parses r = record {
       ((h.0.0.0, h.0.1), record { text = h.1.text; parts = h.1.parts; form = (h.0.0.1, h.1.form) });
   stuck = λ words why left le e.
       let h = r.stuck words why left le e in
-      record { front = h.front; parts = h.parts; apart = λ c text more s k f b. h.apart c text more (s, f.0) k f.1 b };
+      record { front = h.front; parts = h.parts; named = h.named; apart = λ c text more s k f b. h.apart c text more (s, f.0) k f.1 b };
 }
 
 -- only where a test holds
@@ -454,7 +475,7 @@ require_parses true r = fact_parses (said_parses (λ c h. (h, refl)) (λ c h. h.
 require_parses {n} {C} {R} {F} {K} {Q} false r = record {
   same = λ x y a b s t hx hy f g e. absurd (clash f.0 refl);
   takes = λ words x left le e. absurd cc;
-  stuck = λ words why left le e. record { front = []; parts = stop_left words why left e; apart = λ c text more h k f b. clash f.0 refl };
+  stuck = λ words why left le e. record { front = []; parts = stop_left words why left e; named = syntax_stops words why left e; apart = λ c text more h k f b. clash f.0 refl };
 }
   where
     stop_left : (words : List Word) (why : Stop) (left : List Word) → stuck_at {A = C} Syntax words ≡ Stuck why left → words ≡ left
@@ -521,7 +542,7 @@ limit_parses {n} {C} {R} {F} {K} {L} {Q} {read} has r = record {
   takes = r.takes;
   stuck = λ words why left le e.
       let h = r.stuck words why left le e in
-      record { front = h.front; parts = h.parts; apart = λ c text more s k f b. h.apart c text more s (keeps why c k) f b };
+      record { front = h.front; parts = h.parts; named = h.named; apart = λ c text more s k f b. h.apart c text more s (keeps why c k) f b };
 }
   where
     keeps : (why : Stop) (c : C) → Keeps L why c → Keeps K why c
@@ -531,7 +552,7 @@ limit_parses {n} {C} {R} {F} {K} {L} {Q} {read} has r = record {
 
 -- one word that has a meaning, and no limit
 pub sure_parses : {n : ℕ} {A : Type 0} (meaning : Word → Option A) → Parses n Always (one meaning) NoLimit Always (one_at meaning never_over)
-sure_parses meaning = limit_parses (λ l c _ e. absurd cc) (said_parses (λ c h. h) (λ c h. h) (λ c t h f. f) (λ c t h f. f) (λ c h. tt) (one_parses meaning never_over))
+sure_parses meaning = limit_parses (λ l c _ e. absurd cc) (said_parses (λ c h. h) (λ c h. h) (λ c t h f. f) (λ c t h f. f) (λ c h. tt) (one_parses meaning never_over (λ l w x e o. absurd cc)))
 
 -- where there is a value, a last word, which says nothing
 pub demand_parses : {n : ℕ} {B : Type 0} (test : Word → Bool) (o : Option B) → Parses n Always (λ b ws. (o ≡ Some b) × this test ws) NoLimit Always (demand o (λ b. bind (this_at test) (λ _. give b)))
@@ -539,7 +560,7 @@ unfolding demand
 demand_parses {n} {B} test None = record {
   same = λ x y a b s t _ _ f g e. let z = f.0 in absurd cc;
   takes = λ words x left le e. absurd cc;
-  stuck = λ words why left le e. record { front = []; parts = stop_left words why left e; apart = λ c text more h k f b. let z = f.0 in absurd cc };
+  stuck = λ words why left le e. record { front = []; parts = stop_left words why left e; named = syntax_stops words why left e; apart = λ c text more h k f b. let z = f.0 in absurd cc };
 }
   where
     stop_left : (words : List Word) (why : Stop) (left : List Word) → stuck_at {A = B} Syntax words ≡ Stuck why left → words ≡ left

@@ -20,6 +20,7 @@ use Rattle.oa_idl.specs.Grammar.{sign, help, HeadAttribute, head_attribute, no_h
 use Rattle.oa_idl.specs.Grammar.HeadAttribute.{Guid, Numbered, HeadHelp}
 use Rattle.oa_idl.specs.Grammar.PropertyAttribute.{Id, Readonly, PropertyHelp}
 use Rattle.oa_idl.specs.GrammarReading.{sign_at, help_at, minor_at, uuid_at, version_at, head_attribute_at, head_full, head_at, type_word_at, value_type_at, signed_at, id_at, property_attribute_at, property_full, property_head_at, property_at}
+use Rattle.oa_idl.proofs.Overs.{over_named}
 use Rattle.oa_idl.proofs.Parses.{Parses, Always, NoLimit, clash, said_parses, fact_parses, require_parses, part_parses, skip_parses, give_parses, one_parses, sure_parses, choose_parses, this_parses, end_parses, end_part_parses, then_heads, this_heads}
 use Rattle.oa_idl.proofs.Heads.{sign_heads, one_sign_heads, same_heads, one_heads, id_no_minus, type_no_sign, unsigned_no_type, array_no_type}
 use Rattle.oa_idl.proofs.AttributeLists.{attributes_parses}
@@ -362,5 +363,5 @@ marks p = record { id = p.id; readonly = p.readonly }
 pub property_parses : {n : ℕ} (count : ℕ) → Parses n Always property (λ l p. over limits.Members 512 count p.name ≡ Some l → ⊥) (λ p. over limits.Members 512 count p.name ≡ None) (property_at count)
 unfolding property_at property_with marks
 property_parses count = part_parses marks property_head_parses (λ l p h k. tt) (λ h. part_parses (λ p. p.value_type) value_type_parses (λ l p h k. tt) (λ t.
-    part_parses (λ p. p.name) (one_parses name_of (over limits.Members 512 count)) (λ l p h k. k) (λ name. skip_parses (passes signs.Semicolon)
+    part_parses (λ p. p.name) (one_parses name_of (over limits.Members 512 count) (over_named limits.Members 512 count (λ k. absurd cc) (λ k. absurd cc))) (λ l p h k. k) (λ name. skip_parses (passes signs.Semicolon)
     (give_parses (property_with h.id h.readonly t name) (((tt, refl), refl), refl) (λ kept _ _. kept) (λ p k. λ i. record { id = (k.0.0.1 i).id; readonly = (k.0.0.1 i).readonly; value_type = k.0.1 i; name = k.1 i })))))

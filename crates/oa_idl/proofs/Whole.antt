@@ -23,6 +23,7 @@ use Rattle.oa_idl.specs.Words.{passes, spelling, name_of, over, too_long}
 use Rattle.oa_idl.specs.Reading.{Step, Reading, bind, give, heads, choose, require, done, this_at, one_at, list_at}
 use Rattle.oa_idl.specs.Grammar.{sign, head, property, one_more, closing, members, interface, entry_word, named, entry_by, no_entry, entry_may, entry_grow, entry, last_entry, coclass, guid_of_item, body, item, no_items, items_grow, semicolon_after, library}
 use Rattle.oa_idl.specs.GrammarReading.{sign_at, head_at, property_at, closing_at, properties_at, members_at, interface_at, named_at, entry_at, last_entry_at, entries_at, coclass_at, item_at, items_at, library_at}
+use Rattle.oa_idl.proofs.Overs.{over_named, long_named}
 use Rattle.oa_idl.proofs.Parses.{Parses, Always, NoLimit, clash, enough, said_parses, fact_parses, require_parses, part_parses, with_parses, skip_parses, give_parses, one_parses, choose_parses, perhaps_parses, this_parses, end_parses, end_part_parses, limit_parses, then_heads, this_heads}
 use Rattle.oa_idl.proofs.Lists.{KeepsFrom, both, list_parses}
 use Rattle.oa_idl.proofs.Heads.{other_sign, one_sign_heads, sign_heads, same_heads, this_some}
@@ -154,7 +155,7 @@ coclass_entries s l (items.Coclass c) is k = k.1
 
 interface_parses : {n : ℕ} (s : ItemsSeen) (guid : List ℕ) → Parses n (λ x. Always x × (guid ≡ guid_of_item x)) (λ x ws. (is_interface x ≡ true) × interface (title x) (properties_of x) ws) (ItemKeeps s) (ItemKept s) (interface_at s guid)
 unfolding interface_at interface_item
-interface_parses s guid = fact_parses (skip_parses (passes signs.Dispinterface) (part_parses title (one_parses name_of (over limits.Interfaces 256 s.interfaces)) (λ l x h k. interface_title s l x h.1 k) (λ name. skip_parses (passes signs.Begin)
+interface_parses s guid = fact_parses (skip_parses (passes signs.Dispinterface) (part_parses title (one_parses name_of (over limits.Interfaces 256 s.interfaces) (over_named limits.Interfaces 256 s.interfaces (λ k. absurd cc) (λ k. absurd cc))) (λ l x h k. interface_title s l x h.1 k) (λ name. skip_parses (passes signs.Begin)
     (part_parses properties_of members_parses (λ l x h k. interface_members s l x h.0.1 k) (λ ps. give_parses (interface_item guid name ps) ((((tt, refl), refl), refl), refl) (λ all kept. (kept, all))
     (λ x h. only_interface guid name ps x h.0.0.0.1 h.0.0.1 h.0.1 h.1))))))
 
@@ -162,7 +163,7 @@ interface_parses s guid = fact_parses (skip_parses (passes signs.Dispinterface) 
 
 named_parses : {n : ℕ} (b : Bool) → Parses n (λ e. Always e × (e.is_default ≡ b)) named (λ l e. too_long e.interface ≡ Some l → ⊥) (λ e. too_long e.interface ≡ None) (named_at b)
 unfolding named_at
-named_parses b = skip_parses entry_word (part_parses (λ e. e.interface) (one_parses name_of too_long) (λ l e h k. k) (λ name. skip_parses (passes signs.Semicolon)
+named_parses b = skip_parses entry_word (part_parses (λ e. e.interface) (one_parses name_of too_long long_named) (λ l e h k. k) (λ name. skip_parses (passes signs.Semicolon)
     (give_parses (record { is_default = b; interface = name }) ((tt, refl), refl) (λ kept. kept) (λ e h. λ i. record { is_default = h.0.1 i; interface = h.1 i }))))
 
 -- neither of two signs is a third
@@ -226,7 +227,7 @@ entries_of_item x = both (entries_of x) tt
 
 coclass_parses : {n : ℕ} (s : ItemsSeen) (guid : List ℕ) → Parses n (λ x. Always x × (guid ≡ guid_of_item x)) (λ x ws. (is_interface x ≡ false) × coclass (title x) (entries_of x) ws) (ItemKeeps s) (ItemKept s) (coclass_at s guid)
 unfolding coclass_at coclass_item entries_of_item
-coclass_parses s guid = fact_parses (skip_parses (passes signs.Coclass) (part_parses title (one_parses name_of (over limits.Coclasses 256 s.coclasses)) (λ l x h k. coclass_title s l x h.1 k) (λ name. skip_parses (passes signs.Begin)
+coclass_parses s guid = fact_parses (skip_parses (passes signs.Coclass) (part_parses title (one_parses name_of (over limits.Coclasses 256 s.coclasses) (over_named limits.Coclasses 256 s.coclasses (λ k. absurd cc) (λ k. absurd cc))) (λ l x h k. coclass_title s l x h.1 k) (λ name. skip_parses (passes signs.Begin)
     (part_parses entries_of_item entries_parses (λ l x h k. coclass_entries s l x h.0.1 k) (λ es. give_parses (coclass_item guid name es.0) ((((tt, refl), refl), refl), refl) (λ all kept. (kept, all))
     (λ x h. only_coclass guid name es.0 x h.0.0.0.1 h.0.0.1 h.0.1 (ap es_of h.1)))))))
 
@@ -289,7 +290,7 @@ tree_of h name all = record { guid = h.guid; version = h.version; name = name; i
 
 pub library_parses : {n : ℕ} → Parses n Always library TreeKeeps TreeKept library_at
 unfolding library_at head_of_tree items_of_tree tree_of
-library_parses = part_parses head_of_tree (head_parses true) (λ l t h k. tt) (λ head. skip_parses (passes signs.Library) (part_parses (λ t. t.name) (one_parses name_of too_long) (λ l t h k. k.0) (λ name. skip_parses (passes signs.Begin)
+library_parses = part_parses head_of_tree (head_parses true) (λ l t h k. tt) (λ head. skip_parses (passes signs.Library) (part_parses (λ t. t.name) (one_parses name_of too_long long_named) (λ l t h k. k.0) (λ name. skip_parses (passes signs.Begin)
     (part_parses items_of_tree items_parses (λ l t h k. k.1)
     (λ all. perhaps_parses (passes signs.Semicolon) (λ t text more h f. sign_heads signs.Semicolon signs.End refl text more f) (skip_parses (passes signs.End)
     (give_parses (tree_of head name all) (((tt, refl), refl), refl) (λ kept short _. (short, kept)) (λ t h. λ i. record { guid = (h.0.0.1 i).guid; version = (h.0.0.1 i).version; name = h.0.1 i; items = xs_of (h.1 i) }))))))))

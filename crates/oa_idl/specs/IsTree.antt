@@ -9,7 +9,7 @@ use Rattle.oa_idl.specs.declared.stop.ParseError.TheVariants as errors
 use Rattle.oa_idl.specs.Trees.{TreeValue}
 use Rattle.oa_idl.specs.Tokens.{AreTokens}
 use Rattle.oa_idl.specs.Forms.{Word, Begins}
-use Rattle.oa_idl.specs.Words.{words_of}
+use Rattle.oa_idl.specs.Words.{words_of, NamedAt}
 use Rattle.oa_idl.specs.Grammar.{library}
 use Rattle.oa_idl.specs.Limits.{Keeps}
 
@@ -46,9 +46,19 @@ pub record Refused (P : TreeValue → Type 0) (text : List ℕ) (place : ℕ) : 
 abbrev pub AnyTree : TreeValue → Type 0
 AnyTree t = Unit {0}
 
--- a limit is broken at some place
+-- A limit is broken at a name: no text of the grammar whose tree keeps the limit begins with the tokens up to and with that name.
+pub record BrokenAt (l : TreeLimit) (text : List ℕ) : Type 0 where
+  pub tokens : List Token
+  pub are : AreTokens 0 text tokens
+  pub front : List Word
+  pub word : Word
+  pub left : List Word
+  pub parts : words_of text tokens ≡ front ++ word ∷ left
+  pub named : NamedAt l word
+  pub never : (t : TreeValue) (other more : List Word) → Keeps l t → library t other → other ≡ front ++ word ∷ more → ⊥
+
 abbrev pub IsOver : TreeLimit → List ℕ → Type 0
-IsOver l text = MayBeText text × ((place : ℕ) × Refused (Keeps l) text place)
+IsOver l text = MayBeText text × BrokenAt l text
 
 abbrev pub IsAnswer : List ℕ → Result TreeValue ParseError → Type 0
 IsAnswer text (Ok t) = IsTree text t
@@ -58,7 +68,7 @@ IsAnswer text (Err (errors.Limit texts.Name)) = IsOver limits.Name text
 IsAnswer text (Err (errors.Limit texts.Interfaces)) = IsOver limits.Interfaces text
 IsAnswer text (Err (errors.Limit texts.Coclasses)) = IsOver limits.Coclasses text
 IsAnswer text (Err (errors.Limit texts.Members)) = IsOver limits.Members text
-IsAnswer text (Err (errors.Limit texts.Params)) = IsOver limits.Params text
+IsAnswer text (Err (errors.Limit texts.Params)) = ⊥
 IsAnswer text (Err errors.Memory) = MayBeText text
 
 -- a text that has a tree is answered by it, or by want of memory

@@ -1,5 +1,5 @@
 -- Words: what stands for itself, names, types, numbers and GUIDs.
-use Rattle.std.specs.Prelude.{◌≡◌, ℕ, ◌+◌, ◌-◌, ◌*◌, ◌^◌, ◌==◌, ◌&&◌, ◌||◌, not, Bool, true, false, nat_lt, nat_le, if◌then◌else◌, List, [], ◌∷◌, ◌++◌, length, take, drop, get_or, map, codes, Option, Some, None, ℤ, pos, negsuc, neg_ℤ, is_some}
+use Rattle.std.specs.Prelude.{◌≡◌, ℕ, ◌+◌, ◌-◌, ◌*◌, ◌^◌, ◌==◌, ◌<◌, ◌&&◌, ◌||◌, not, Bool, true, false, nat_lt, nat_le, if◌then◌else◌, List, [], ◌∷◌, ◌++◌, length, take, drop, get_or, map, codes, Option, Some, None, ℤ, pos, negsuc, neg_ℤ, is_some}
 use Rattle.std.specs.Int.{cast_signed, w32}
 use Rattle.std.specs.Str.{bytes_eq}
 use Rattle.uuid.specs.Text.{parsed_hyphenated}
@@ -181,6 +181,20 @@ too_long name = over limits.Name 1 0 name
 
 abbrev pub never_over : {A : Type 0} → A → Option TreeLimit
 never_over x = None
+
+-- a name of more than 64 bytes, where that limit is meant; no name breaks that of parameters, which are not read yet
+abbrev pub TooLong : TreeLimit → List ℕ → Type 0
+TooLong limits.Name name = 64 < length name
+TooLong limits.Interfaces name = Unit {0}
+TooLong limits.Coclasses name = Unit {0}
+TooLong limits.Members name = Unit {0}
+TooLong limits.Params name = ⊥
+
+-- the word is a name, at which the limit can be broken
+pub record NamedAt (l : TreeLimit) (w : Word) : Type 0 where
+  pub name : List ℕ
+  pub is : name_of w ≡ Some name
+  pub long : TooLong l name
 
 -- ---- GUIDs and numbers
 

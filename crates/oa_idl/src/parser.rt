@@ -303,8 +303,9 @@ fn parse_words(alloc: Global, text: &[u8], words: &[Token]) -> Result<Tree, Pars
 ///
 /// `Ok` exactly where the text is in the grammar (docs/idl.md), with its one tree. `Limit(Text)` exactly where the text has more than
 /// 262,144 bytes. `Syntax(place)` where the token that begins at this byte, or the end, cannot stand there: no text of the grammar
-/// begins with the tokens up to and with that one. Another `Limit` where a name is too long, or an item is one too many: no text of
-/// the grammar that keeps this limit begins with the tokens up to and with that one. `Memory` where none was found.
+/// begins with the tokens up to and with that one. Another `Limit` where a name is too long, or is that of an item or member
+/// that is one too many: no text of the grammar that keeps this limit begins with the tokens up to and with that name; never `Limit(Params)`.
+/// `Memory` where none was found.
 pub fn parse(alloc: Global, text: &str) -> Result<Tree, ParseError>
     ensures exact { IsAnswer text.now result }
     ensures found { (t : TreeValue) → IsTree text.now t → IsFound t result }

@@ -10,7 +10,7 @@ use crate::name::Name;
 use crate::scan::after;
 use crate::sign::{Sign, is_reserved, kind_of, spelling, type_named};
 use crate::stop::{Stop, TreeLimit};
-use oa_model::VarType;
+use oa_model::{MAX_NAME_CHARACTERS, VarType};
 use std::alloc::Global;
 use std::marker::Model;
 use uuid::Uuid;
@@ -266,7 +266,7 @@ impl<'a> Reader<'a> {
         if !same_kind(kind, Kind::Name) || is_reserved(text) {
             return Err(Stop::Syntax);
         }
-        if text.len() > 64 {
+        if text.len() > MAX_NAME_CHARACTERS {
             return Err(Stop::Limit(TreeLimit::Name));
         }
         if bound <= count {

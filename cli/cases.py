@@ -306,6 +306,7 @@ talk(
         puts(ANY, spoiled, STUB_CODE)
         for spoiled in (
             wire.array(wire.I2, [], []),
+            wire.array(wire.I2, [], [7]),
             wire.array(wire.UI1, [(1, 0)] * 17, [1]),
             wire.array(wire.UI1, [(65_537, 0)], bytes(65_537)),
             wire.array(wire.UI1, [(2**32 - 1, 0)] * 3, [], count=2**32 - 1),

@@ -24,7 +24,7 @@ pub fn position_is_a_sum_of_products()
         position_of (bound ∷ others) ((bound.lower +ℤ pos above) ∷ rest) ≡ above * box_size others + position_of others rest }
 {}
 
-/// After a put the cell of that index list is the new one, and every other index list has the cell that it had.
+/// After a put the cell of that index list is the new one, and every other index list in the bounds has the cell that it had.
 pub fn put_changes_one_cell<T>()
     ensures { (a : ArrayValue T) (index other : List ℤ) (cell : T) → length a.cells ≡ box_size a.bounds →
         InBounds a.bounds index → InBounds a.bounds other →

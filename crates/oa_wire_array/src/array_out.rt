@@ -1,4 +1,4 @@
-//! Arrays as they are written, and where they end.
+//! Arrays as they are written.
 
 ghost use Rattle.std.specs.Prelude.{◌≡◌, ◌≤◌, ◌<◌, ◌+◌, ◌*◌, ◌^◌, OnOk, OnErr, length, List, ℕ};
 ghost use Rattle.oa_ndr.specs.Writing.{within, put_all};

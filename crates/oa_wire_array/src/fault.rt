@@ -18,13 +18,13 @@ pub enum ReadFault {
     Memory,
 }
 
-/// Why a field was not read.
+/// Why a field, or an array in it, was not read.
 #[derive(Clone, Copy, Debug, PartialEq, Eq, Error)]
 pub enum WireFault {
     /// The bytes spell no value, and the next fault is not theirs.
     #[error("bad stub data")]
     BadStub,
-    /// The bytes spell no value, are at least 20, and the vt at the offset 8 is that of no value.
+    /// Of a field: the bytes spell no value, are at least 20, and the vt at the offset 8 is that of no value. Of an array: there are none of its type.
     #[error("bad variable type")]
     BadVarType,
     /// The allocator had no block for the value.

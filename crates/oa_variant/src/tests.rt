@@ -1,6 +1,6 @@
 // Types, zeros, copies and the order of keys, as tables.
 use crate::{Decimal, Scalar, Variant, laws};
-use oa_array::{Cell, SafeArray};
+use oa_array::{ArrayFault, Cell, SafeArray};
 use oa_bstr::Bstr;
 use oa_model::{Bound, ValueType, VarType};
 use std::alloc::{AllocError, Global};
@@ -187,5 +187,57 @@ fn arrays_are_values(rt: HostRuntime) -> Result<(), Fail> {
         assert_eq!(rt; others.put_element(&[0], text).is_ok(), true);
         assert_eq!(rt; *array == others, true);
     }
+    Ok(())
+}
+
+const fn rows(count: u32, lower: i32) -> Bound {
+    Bound { count, lower }
+}
+
+/// Two texts, at [0, 0] and [1, 0].
+fn two_texts(alloc: Global) -> Result<SafeArray<Scalar>, ArrayFault> {
+    let mut texts = SafeArray::create(alloc, VarType::Bstr, &[rows(2, 0), rows(1, 0)])?;
+    for (index, text) in [([0, 0], b"a\0"), ([1, 0], b"b\0")] {
+        if let Ok(text) = Bstr::from_bytes(alloc, text) {
+            let _ = texts.put_element(&index, Scalar::Bstr(text));
+        }
+    }
+    Ok(texts)
+}
+
+/// Whether that text stands at an index list; none is a null text.
+fn has_text(texts: &SafeArray<Scalar>, index: &[i32], text: Option<&[u8]>) -> bool {
+    match texts.element(index) {
+        Ok(Scalar::Bstr(found)) => match text {
+            Some(text) => !found.is_null() && found.as_bytes() == text,
+            None => found.is_null(),
+        },
+        _ => false,
+    }
+}
+
+/// Whether these texts stand at the index lists [lower, 0], [lower + 1, 0] and so on, and no more.
+fn has_texts(
+    texts: &SafeArray<Scalar>,
+    first: Option<&[u8]>,
+    second: Option<&[u8]>,
+    third: Option<&[u8]>,
+) -> bool {
+    texts.cells().len() == 3
+        && has_text(texts, &[0, 0], first)
+        && has_text(texts, &[1, 0], second)
+        && has_text(texts, &[2, 0], third)
+}
+
+#[test]
+fn redimensioned_texts_keep_their_positions(rt: HostRuntime) -> Result<(), Fail> {
+    let mut texts = two_texts(rt.alloc())?;
+    texts.redim(rt.alloc(), rows(3, 0))?;
+    let three = has_texts(&texts, Some(b"a\0"), Some(b"b\0"), None);
+    assert_eq!(rt; three, true);
+    texts.redim(rt.alloc(), rows(1, 5))?;
+    let one = has_text(&texts, &[5, 0], Some(b"a\0"));
+    assert_eq!(rt; one, true);
+    assert_eq!(rt; texts.cells().len(), 1);
     Ok(())
 }

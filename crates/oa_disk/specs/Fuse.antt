@@ -14,8 +14,8 @@ calls_left_of f = f.calls_left
 abbrev pub refused_of : {D : Type 0} → FuseDisk D → ℕ
 refused_of f = f.refused
 
--- A call takes one of those that are left, and is passed on: the fuse itself refuses none. With none left it fails, and
--- is not passed on.
+-- A call takes one of those that are left, and the fuse itself refuses none. With none left it fails, and the disk within
+-- is as it was.
 pub record Spends {D E : Type 0} (old new : FuseDisk D) (result : Result (Unit {0}) E) : Type 0 where
   pub left : new.calls_left ≡ old.calls_left - 1
   pub passed : 0 < old.calls_left → new.refused ≡ old.refused

@@ -8,7 +8,7 @@ use crate::crash::{leave_at, overwrite};
 use crate::{Call, DeviceFault, Disk, Tear};
 use std::alloc::{AllocError, Global};
 
-/// A disk in memory. It keeps each of its calls, so that it can be made to crash at any moment: moment 0 is its start,
+/// A disk in memory. It keeps each call that it served, so that it can be made to crash at any moment: moment 0 is its start,
 /// moment `2k - 1` lies within call k, and moment `2k` comes after it. Reads, writes and syncs are its calls, numbered
 /// from 1.
 #[derive(Drop)]

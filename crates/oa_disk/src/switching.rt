@@ -27,7 +27,8 @@ pub fn flip<D: Disk>(disk: &mut D, at: u64, value: u8) -> Result<(), DeviceFault
 }
 
 /// Writes the bytes behind a gate, the byte before them, and then opens it by a 1: a write, a sync, a write and a sync.
-/// A crash at any moment leaves the gate closed, or open with the bytes behind it, never open before they are whole.
+/// Where the gate was closed in every image, a crash at any moment leaves it closed, or open with the bytes behind it,
+/// never open before they are whole.
 pub fn write_behind_gate<D: Disk>(disk: &mut D, at: u64, bytes: &[u8]) -> Result<(), DeviceFault>
     requires gate { 0 < at }
     requires inside { at + length bytes.now ≤ D.size_of disk.old }

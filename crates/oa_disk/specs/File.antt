@@ -1,8 +1,8 @@
 -- What a FileDisk shows.
-use Rattle.std.specs.Prelude.{◌≡◌, ℕ, true, [], length}
+use Rattle.std.specs.Prelude.{◌≡◌, ℕ}
 use Rattle.oa_disk.specs.declared.file.FileDisk.{FileDisk}
 use Rattle.oa_disk.specs.declared.record.Record.{Record}
-use Rattle.oa_disk.specs.Record.{blank}
+use Rattle.oa_disk.specs.Record.{beginning}
 
 abbrev pub size_of : FileDisk → ℕ
 size_of disk = disk.size
@@ -14,16 +14,12 @@ failures_of disk = disk.failures
 abbrev pub record_of : FileDisk → Record
 record_of disk = disk.history
 
--- it has met no call, and held something of that size
-pub record IsNew (disk : FileDisk) : Type 0 where
-  pub size : length disk.history.first ≡ disk.size
-  pub calls : disk.history.calls ≡ []
-  pub written : disk.history.written ≡ []
-  pub honest : disk.history.honest ≡ true
+-- it has met no call, and its record begins with this byte at each place
+pub record IsHeld (held : ℕ → ℕ) (disk : FileDisk) : Type 0 where
+  pub record_is : disk.history ≡ beginning held disk.size
   pub failures : disk.failures ≡ 0
 
--- it has met no call, and held so many zeros
+-- it has met no call, and its record begins with so many zeros
 pub record IsZeros (size : ℕ) (disk : FileDisk) : Type 0 where
   pub bytes : disk.size ≡ size
-  pub zeros : disk.history ≡ blank size
-  pub failures : disk.failures ≡ 0
+  pub zeros : IsHeld (λ _. 0) disk

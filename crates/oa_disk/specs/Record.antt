@@ -1,12 +1,13 @@
 -- What a record of a file's calls holds.
-use Rattle.std.specs.Prelude.{ℕ, true, ◌&&◌, List, [], ◌∷◌, ◌++◌, replicate}
+use Rattle.std.specs.Prelude.{ℕ, true, ◌&&◌, List, [], ◌∷◌, ◌++◌, map}
+use Rattle.std.specs.List.{range_with_len}
 use Rattle.oa_disk.specs.declared.call.Call.{Call}
 use Rattle.oa_disk.specs.declared.record.Record.{Record}
 use Rattle.oa_disk.specs.Replay.{agrees, contents_after}
 
--- a file of so many zeros, and no call
-abbrev pub blank : ℕ → Record
-blank size = record { first = replicate size 0; calls = []; written = []; honest = true }
+-- a file of that size that holds this byte at each place, and no call
+abbrev pub beginning : (ℕ → ℕ) → ℕ → Record
+beginning held size = record { first = map held (range_with_len 0 size); calls = []; written = []; honest = true }
 
 -- One call more, with the bytes that it wrote. It gave these bytes, from this place on.
 abbrev pub noted : Record → Call → List ℕ → ℕ → List ℕ → Record

@@ -6,12 +6,12 @@ ghost use Rattle.oa_disk.specs.Replaying.{contents_is_image, size_after, counts_
 
 use crate::record::Record;
 use crate::{Call, DeviceFault, Disk};
-use std::fs::{File, OpenFile, OpenOptions};
+use std::fs::{File, OpenFile};
 use std::io;
 use std::os::unix::fs::FileExt;
 use std::rt::Files;
 
-/// A file as a disk of the length that it had when it was opened. It keeps a record of its calls that only clauses
+/// A file as a disk of the length that it had when it was taken. It keeps a record of its calls that only clauses
 /// read: each member of the trait is read off that record, and it is honest as long as each read has given the bytes
 /// that are there by the record. That the file held what the record begins with, that it was on the device, and that
 /// a crash leaves one of the images, is a premise of whoever uses the clauses.
@@ -26,20 +26,22 @@ pub struct FileDisk {
 }
 
 impl FileDisk {
-    ghost use Rattle.oa_disk.specs.File.{size_of, failures_of, record_of, IsNew, IsZeros};
+    ghost use Rattle.oa_disk.specs.File.{size_of, failures_of, record_of, IsHeld, IsZeros};
 
-    /// Opens a file that is there, in its own length, and brings to the device what was written to it before. Anything
-    /// but a regular file that may be read and written is std's error.
-    pub fn open<R: Files<File = File>>(rt: &R, path: &str) -> io::Result<FileDisk>
-        ensures { IfOk result IsNew }
+    /// Takes an open file as a disk of its own length, and brings to the device what was written to it before. It has to
+    /// be open for reading and writing, else those calls fail. Anything but a regular file is std's error `Unsupported`.
+    /// The clause holds for all bytes `held` that the record may begin with: a caller picks them, and what it then proves
+    /// is of use where the file held those.
+    pub fn over(file: File) -> io::Result<FileDisk>
+        ghost held: { ℕ → ℕ }
+        ensures { IfOk result (IsHeld held) }
     {
-        let file = OpenOptions::new().read(true).write(true).open(rt, path)?;
         let found = file.metadata()?;
         if !found.is_file() {
             return Err(io::ErrorKind::Unsupported.into());
         }
         file.sync_all()?;
-        Ok(FileDisk::over(file, found.len()))
+        Ok(FileDisk::begin(file, found.len()))
     }
 
     /// Makes a file of so many zeros and brings it to the device, with its name in its folder. Where something has the
@@ -51,13 +53,15 @@ impl FileDisk {
         file.set_len(size)?;
         file.sync_all()?;
         File::open(rt, folder_of(path))?.sync_all()?;
-        Ok(FileDisk::over(file, size))
+        Ok(FileDisk::begin(file, size))
     }
 
-    fn over(file: File, size: u64) -> FileDisk
-        ensures { IsZeros size result }
+    fn begin(file: File, size: u64) -> FileDisk
+        ghost held: { ℕ → ℕ }
+        ensures size { size_of result ≡ size }
+        ensures held { IsHeld held result }
     {
-        let history = Record::blank(&size);
+        let history = Record::beginning(&size);
         FileDisk {
             file,
             size,

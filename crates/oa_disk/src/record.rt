@@ -22,11 +22,12 @@ impl Model for Record {
 }
 
 impl Record {
-    ghost use Rattle.oa_disk.specs.Record.{blank, noted};
+    ghost use Rattle.oa_disk.specs.Record.{beginning, noted};
 
-    /// So many zeros, and no call.
-    pub(crate) fn blank(_size: &u64) -> Record
-        ensures { result ≡ blank _size.now }
+    /// A file of that size, with this byte at each place, and no call.
+    pub(crate) fn beginning(_size: &u64) -> Record
+        ghost held: { ℕ → ℕ }
+        ensures { result ≡ beginning held _size.now }
     {
         Record {}
     }

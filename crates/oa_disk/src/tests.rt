@@ -2,9 +2,10 @@ use crate::{
     DeviceFault, Disk, FileDisk, FuseDisk, MemoryDisk, NoDisk, Tear, flip, write_behind_gate,
 };
 use std::alloc::{AllocError, Global};
-use std::fs::{self, OpenOptions, Permissions};
+use std::fs::{self, File, OpenOptions, Permissions};
 use std::io::{self, ErrorKind};
 use std::os::unix::fs::PermissionsExt;
+use std::rt::Files;
 use std::test::Fail;
 
 const SIZE: usize = 16;
@@ -380,13 +381,18 @@ const CUT_AT_8: [Row; 4] = [
     ((Read, 8, &[21]), Err(DeviceFault::Read), 2),
 ];
 
+/// A file that is there.
+fn opened<R: Files<File = File>>(rt: &R, path: &str) -> io::Result<FileDisk> {
+    FileDisk::over(OpenOptions::new().read(true).write(true).open(rt, path)?)
+}
+
 #[test]
 fn a_file_keeps_what_was_synced(rt: HostRuntime) -> Result<(), Fail> {
     let _ = fs::remove_file(&rt, PATH);
     assert!(rt; is_written(FileDisk::create(&rt, PATH, 16)));
-    assert!(rt; meets(FileDisk::open(&rt, PATH), 16, &WHOLE));
+    assert!(rt; meets(opened(&rt, PATH), 16, &WHOLE));
     // A file that is made shorter by another.
-    let disk = FileDisk::open(&rt, PATH);
+    let disk = opened(&rt, PATH);
     OpenOptions::new().write(true).open(&rt, PATH)?.set_len(8)?;
     assert!(rt; meets(disk, 16, &CUT_AT_8));
     fs::remove_file(&rt, PATH)?;
@@ -420,10 +426,7 @@ fn a_path_that_is_no_disk(rt: HostRuntime) -> Result<(), Fail> {
     let _ = fs::remove_file(&rt, THERE);
     fs::write(&rt, THERE, b"abc".as_slice())?;
     for (path, wanted) in NO_DISKS {
-        assert!(rt;
-            refusal(FileDisk::open(&rt, path)) == Some(wanted),
-            "{path}"
-        );
+        assert!(rt; refusal(opened(&rt, path)) == Some(wanted), "{path}");
     }
     for (path, size, wanted) in NOT_MADE {
         assert!(rt;
@@ -434,7 +437,7 @@ fn a_path_that_is_no_disk(rt: HostRuntime) -> Result<(), Fail> {
     let _ = fs::remove_file(&rt, "oa_disk_large");
     // A user who may do anything opens a file that is only to be read all the same.
     fs::set_permissions(&rt, THERE, Permissions::from_mode(0o444))?;
-    let found = refusal(FileDisk::open(&rt, THERE));
+    let found = refusal(opened(&rt, THERE));
     assert!(rt; found.is_none() || found == Some(ErrorKind::PermissionDenied));
     fs::remove_file(&rt, THERE)?;
     Ok(())

@@ -1,5 +1,5 @@
 -- A value of no bytes, at a record of no call.
-use Rattle.std.proofs.Common.{[], ◌∷◌, refl}
+use Rattle.std.proofs.Common.{ℕ, [], ◌∷◌, refl}
 use seplogic.Ra.Ura.{Ura}
 use mir.Syntax.{named}
 use mir.Val.{Val, vptr, vstruct, vnil}
@@ -28,12 +28,12 @@ use denote.Triple.Spec.{Meets, triple_of}
 use denote.Triple.Table.{entered}
 use denote.Triple.Walked.{says, stay_none_ref, Stays, walk_of, Walks, ends_at, walked, Goes-none_ref, walk_Meets}
 use Rattle.oa_disk.specs.declared.record.Record.{Record}
-use Rattle.oa_disk.specs.Record.{blank}
-use Rattle.oa_disk.specs.contracts.record.Record.blank.Key.{name as key}
-use Rattle.oa_disk.specs.contracts.record.Record.blank as f
+use Rattle.oa_disk.specs.Record.{beginning}
+use Rattle.oa_disk.specs.contracts.record.Record.beginning.Key.{name as key}
+use Rattle.oa_disk.specs.contracts.record.Record.beginning as f
 use Rattle.oa_disk.specs.contracts.record.Record as record_type
-use Rattle.oa_disk.proofs.record.Record.blank.Statement as stated
-use Rattle.oa_disk.proofs.record.Record.blank.Code as code
+use Rattle.oa_disk.proofs.record.Record.beginning.Statement as stated
+use Rattle.oa_disk.proofs.record.Record.beginning.Code as code
 
 abbrev stayed : Stays (f.ended).signature.params (f.ended).kept
 stayed = (stay_none_ref (0 ∷ []) tt (plain (λ _. u64)) yes, tt)
@@ -41,18 +41,18 @@ stayed = (stay_none_ref (0 ∷ []) tt (plain (λ _. u64)) yes, tt)
 module _ {M : Type 1} {𝓤 : Ura M} (𝓛 : Logic 𝓤) (mem : Memory → SProp 𝓤) (run : Routine → Fun 𝓤) (C : Calls 𝓤 𝓛.H) (Λ : Loops 𝓤 𝓛.H) where
   open 𝓛 use {H}
 
-  module _ (κs : Lfts 1) (qs : Shares 1) (a : Args f.signature κs) where
+  module _ (κs : Lfts 1) (qs : Shares 1) (a : Args f.signature κs) (held : ℕ → ℕ) where
     abbrev size_at : Val
     size_at = vptr a.0.ref_ptr.0 a.0.ref_ptr.1
 
     abbrev bound : (walk_of 𝓛 f.ended stayed (f.clauses 𝓛 mem run)).Ghost
-    bound = ((κs, qs, tt, a, (size_at ∷ [], tt)), tt)
+    bound = ((κs, qs, tt, a, (size_at ∷ [], tt)), held)
 
     abbrev passed : Fml
     passed = owns (types_at f.signature.params κs) a (size_at ∷ [], tt)
 
     abbrev made : Record
-    made = blank a.0.now
+    made = beginning held a.0.now
 
     walk : ent 𝓤 (on_entry 𝓛 f.signature κs qs a (size_at ∷ [], tt))
         (WpFn 𝓤 H C Λ code.function (size_at ∷ []) ((walk_of 𝓛 f.ended stayed (f.clauses 𝓛 mem run)).post bound))
@@ -68,7 +68,7 @@ module _ {M : Type 1} {𝓤 : Ura M} (𝓛 : Logic 𝓤) (mem : Memory → SProp
   walks =
       walked 𝓛 f.ended stayed (f.clauses 𝓛 mem run) (WpFn 𝓤 H C Λ code.function) (λ κs. (shr_vals, tt))
       (λ κs. (shr_Tells (named 0) κs.0 u64, tt))
-      (λ κs qs bounds a g are. via 𝓤 _ (fst∗ 𝓤 _ (emp 𝓤)) (walk κs qs a))
+      (λ κs qs bounds a g are. via 𝓤 _ (fst∗ 𝓤 _ (emp 𝓤)) (walk κs qs a g))
 
 meets : {M : Type 1} {𝓤 : Ura M} (𝓛 : Logic 𝓤) (mem : Memory → SProp 𝓤) (run : Routine → Fun 𝓤) (𝓣 : Tables 𝓤 𝓛.H)
     → Meets 𝓛 f.signature (WpFn 𝓤 𝓛.H 𝓣.C 𝓣.Λ code.function) (f.spec 𝓛 mem run)
@@ -76,9 +76,9 @@ meets {𝓤 = 𝓤} 𝓛 mem run 𝓣 =
     walk_Meets 𝓛 f.ended stayed (Goes-none_ref 𝓛 1 (0 ∷ []) tt (plain (λ _. u64)) yes, tt) (f.clauses 𝓛 mem run) (WpFn 𝓤 𝓛.H 𝓣.C 𝓣.Λ code.function)
     (WpFn-mono 𝓤 𝓛.H 𝓛.laws 𝓣 code.function) (walks 𝓛 mem run 𝓣.C 𝓣.Λ)
 
-pub blank_spec : {M : Type 1} → stated.statement M
+pub beginning_spec : {M : Type 1} → stated.statement M
 unfolding tables_of
-blank_spec 𝓤 𝓛 𝓜 𝓡 wired =
+beginning_spec 𝓤 𝓛 𝓜 𝓡 wired =
     entered 𝓤 𝓛.H (triple_of 𝓛 f.signature (f.spec 𝓛 𝓜.mem 𝓡.returns))
     (tables 𝓤 𝓛.H 𝓜 𝓡 𝓡.env).C (tables 𝓤 𝓛.H 𝓜 𝓡 𝓡.env).Λ key code.function (code.unfolded 𝓤 𝓛.H 𝓜 𝓡 wired)
     (meets 𝓛 𝓜.mem 𝓡.returns (tables_of 𝓤 𝓛.H 𝓜 (tables 𝓤 𝓛.H 𝓜 𝓡 𝓡.env)))

@@ -21,6 +21,8 @@ pub use sink::{Sink, Unwritten, deliver_all, put_all};
 pub use source::{Next, Source, next_byte};
 
 #[cfg(test)]
+mod array_tests;
+#[cfg(test)]
 mod session_tests;
 #[cfg(test)]
 mod tests;

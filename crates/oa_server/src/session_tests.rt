@@ -219,9 +219,14 @@ const LAST: [(&str, &str); 4] = [
     ("0400000001000000 G03", "04000000ffff0080ffffffff00000000"),
 ];
 
-fn server(alloc: Global) -> Result<Server, Fail> {
-    let tree = parse(alloc, SMALL)?;
+/// A server of the library of a text.
+pub(crate) fn server_of(alloc: Global, text: &str) -> Result<Server, Fail> {
+    let tree = parse(alloc, text)?;
     Ok(Server::in_memory(alloc, check(alloc, tree)?))
+}
+
+fn server(alloc: Global) -> Result<Server, Fail> {
+    server_of(alloc, SMALL)
 }
 
 /// Appends the digits of a row, and what ends them.
@@ -247,7 +252,7 @@ fn asked(alloc: Global, rows: &[(&str, &str)]) -> Result<String, AllocError> {
 }
 
 /// The replies of some rows as lines.
-fn wanted(alloc: Global, rows: &[(&str, &str)]) -> Result<String, AllocError> {
+pub(crate) fn wanted(alloc: Global, rows: &[(&str, &str)]) -> Result<String, AllocError> {
     let mut text = String::new(alloc);
     for (_, reply) in rows {
         push_digits(&mut text, reply, "\n")?;
@@ -278,7 +283,11 @@ fn push_reply(alloc: Global, text: &mut String, reply: &Reply) -> Result<(), Fai
 }
 
 /// What `answer` replies to the requests of some rows, one after another.
-fn answered(alloc: Global, server: &mut Server, rows: &[(&str, &str)]) -> Result<String, Fail> {
+pub(crate) fn answered(
+    alloc: Global,
+    server: &mut Server,
+    rows: &[(&str, &str)],
+) -> Result<String, Fail> {
     let mut text = String::new(alloc);
     for (request, _) in rows {
         let reply = server.answer(body(alloc, request)?.as_slice());

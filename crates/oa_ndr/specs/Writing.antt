@@ -1,5 +1,5 @@
 -- Writing as functions on lists: from the bytes of the field so far to those with one more part at their end.
-use Rattle.std.specs.Prelude.{ℕ, Bool, if◌then◌else◌, List, [], ◌∷◌, ◌++◌, length, replicate}
+use Rattle.std.specs.Prelude.{◌≡◌, ℕ, Bool, if◌then◌else◌, List, [], ◌∷◌, ◌++◌, length, replicate}
 use Rattle.byteorder.specs.Endian.{little_bytes}
 use Rattle.oa_ndr.specs.Forms.{padding}
 
@@ -15,6 +15,14 @@ field_after before = record { before = before; field = [] }
 -- the same, with one more part at the end of the field
 abbrev pub within : (List ℕ → List ℕ) → Output → Output
 within put o = record { before = o.before; field = put o.field }
+
+-- what was written up to some moment still stands there, whatever was written behind it
+unfoldable pub StillHas : Output → Output → Type 0
+StillHas was o = (o.before ≡ was.before) × (behind : List ℕ) × (o.field ≡ was.field ++ behind)
+
+-- between two moments nothing was taken back
+abbrev pub Keeps : Output → Output → Type 0
+Keeps old new = (was : Output) → StillHas was old → StillHas was new
 
 -- zeros up to a multiple of n
 abbrev pub put_align : ℕ → List ℕ → List ℕ

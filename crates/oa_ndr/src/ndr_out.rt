@@ -1,7 +1,8 @@
 //! The writer.
 
-ghost use Rattle.std.specs.Prelude.{◌≡◌, ◌<◌, ◌≤◌, ◌++◌, OnOk, OnErr, length, replicate};
+ghost use Rattle.std.specs.Prelude.{◌≡◌, ◌<◌, ◌≤◌, ◌++◌, OnOk, OnErr, length, replicate, take};
 ghost use Rattle.oa_ndr.specs.Writing.{
+  Keeps,
   field_after,
   within,
   put_align,
@@ -23,7 +24,8 @@ const REFERENT: u32 = 0x0002_0000;
 /// A writer of one field at the end of a vector.
 ///
 /// Each call writes at the next multiple of its own size, counted from the field's first byte,
-/// with zeros as padding before it. Where memory is refused, nothing is written.
+/// with zeros as padding before it. Where memory is refused, nothing is written. Only `truncate` takes
+/// back what was written.
 #[derive(Drop)]
 pub struct NdrOut {
     out: Vec<u8>,
@@ -94,11 +96,13 @@ impl NdrOut {
         self.out
     }
 
-    /// Takes back what was written, and the field begins anew.
-    pub fn clear(&mut self)
-        ensures { self.new ≡ field_after self.old.before }
+    /// Takes back what was written behind the first `len` bytes of the field. Where there is nothing behind them, the field stays.
+    pub fn truncate(&mut self, len: usize)
+        ensures { self.new ≡ within (take len) self.old }
     {
-        self.out.truncate(self.start);
+        if len < self.position() {
+            self.out.truncate(self.start + len);
+        }
     }
 
     /// Zeros up to the next multiple of `n`.
@@ -107,6 +111,7 @@ impl NdrOut {
         requires small { n ≤ 8 }
         ensures ok { OnOk result (self.new ≡ within (put_align n) self.old) }
         ensures err { OnErr result (self.new ≡ self.old) }
+        ensures kept { Keeps self.old self.new }
     {
         let gap = padding(n, self.position());
         self.bytes(&ZEROS[..gap])
@@ -116,6 +121,7 @@ impl NdrOut {
     pub fn bytes(&mut self, text: &[u8]) -> Result<(), AllocError>
         ensures ok { OnOk result (self.new ≡ within (put_bytes text.now) self.old) }
         ensures err { OnErr result (self.new ≡ self.old) }
+        ensures kept { Keeps self.old self.new }
     {
         self.out.extend_from_slice(text)
     }
@@ -125,6 +131,7 @@ impl NdrOut {
         requires { n ≤ 8 }
         ensures ok { OnOk result (self.new ≡ within (put_bytes (replicate n 0)) self.old) }
         ensures err { OnErr result (self.new ≡ self.old) }
+        ensures kept { Keeps self.old self.new }
     {
         self.bytes(&ZEROS[..n])
     }
@@ -135,6 +142,7 @@ impl NdrOut {
         requires small { n ≤ 8 }
         ensures ok { OnOk result (self.new ≡ within (put_slot n number.now) self.old) }
         ensures err { OnErr result (self.new ≡ self.old) }
+        ensures kept { Keeps self.old self.new }
     {
         let gap = padding(n, self.position());
         append_behind_zeros(&mut self.out, gap, number)
@@ -144,6 +152,7 @@ impl NdrOut {
     pub fn u8(&mut self, x: u8) -> Result<(), AllocError>
         ensures ok { OnOk result (self.new ≡ within (put_unit 1 x) self.old) }
         ensures err { OnErr result (self.new ≡ self.old) }
+        ensures kept { Keeps self.old self.new }
     {
         self.slot(1, &x.to_le_bytes())
     }
@@ -152,6 +161,7 @@ impl NdrOut {
     pub fn u16(&mut self, x: u16) -> Result<(), AllocError>
         ensures ok { OnOk result (self.new ≡ within (put_unit 2 x) self.old) }
         ensures err { OnErr result (self.new ≡ self.old) }
+        ensures kept { Keeps self.old self.new }
     {
         self.slot(2, &x.to_le_bytes())
     }
@@ -160,6 +170,7 @@ impl NdrOut {
     pub fn u32(&mut self, x: u32) -> Result<(), AllocError>
         ensures ok { OnOk result (self.new ≡ within (put_unit 4 x) self.old) }
         ensures err { OnErr result (self.new ≡ self.old) }
+        ensures kept { Keeps self.old self.new }
     {
         self.slot(4, &x.to_le_bytes())
     }
@@ -168,6 +179,7 @@ impl NdrOut {
     pub fn u64(&mut self, x: u64) -> Result<(), AllocError>
         ensures ok { OnOk result (self.new ≡ within (put_unit 8 x) self.old) }
         ensures err { OnErr result (self.new ≡ self.old) }
+        ensures kept { Keeps self.old self.new }
     {
         self.slot(8, &x.to_le_bytes())
     }
@@ -176,6 +188,7 @@ impl NdrOut {
     pub fn referent(&mut self, is_set: bool) -> Result<(), AllocError>
         ensures ok { OnOk result (self.new ≡ within (put_referent is_set) self.old) }
         ensures err { OnErr result (self.new ≡ self.old) }
+        ensures kept { Keeps self.old self.new }
     {
         self.u32(if is_set { REFERENT } else { 0 })
     }

@@ -56,10 +56,13 @@ fn writer_counts_from_the_start_of_its_field(rt: HostRuntime) -> Result<(), Fail
     let mut before = Vec::new(rt.alloc());
     before.extend_from_slice(&[7, 7, 7])?;
     let mut writer = NdrOut::new(before);
-    writer.u8(9)?;
-    writer.clear();
-    assert_eq!(rt; writer.position(), 0);
     writer.u8(1)?;
+    writer.u32(9)?;
+    assert_eq!(rt; writer.position(), 8);
+    writer.truncate(9);
+    assert_eq!(rt; writer.position(), 8);
+    writer.truncate(1);
+    assert_eq!(rt; writer.position(), 1);
     writer.u16(0x0302)?;
     writer.u32(0x0706_0504)?;
     writer.u8(8)?;

@@ -1,12 +1,12 @@
 -- Variants (MS-OAUT section 2.2.29).
-use Rattle.std.specs.Prelude.{Bool, false, [], ◌∷◌, pos, All, IsSome}
+use Rattle.std.specs.Prelude.{Bool, false, ◌<◌, ◌^◌, [], ◌∷◌, pos, FitsSigned, All, IsSome}
+use Rattle.std.specs.Int.{w32}
 use Rattle.oa_model.specs.Types.{sf_type_of}
 use Rattle.oa_model.specs.declared.bound.Bound.{Bound}
 use Rattle.oa_model.specs.declared.var_type.VarType.TheVariants as types
 use Rattle.oa_model.specs.declared.var_type.ValueType.{ValueType}
 use Rattle.oa_model.specs.declared.var_type.ValueType.TheVariants as kinds
-use Rattle.oa_array.specs.Arrays.{ArrayValue, IsArray, with_locks}
-use Rattle.oa_variant.specs.declared.scalar.Scalar.{Scalar}
+use Rattle.oa_array.specs.Arrays.{IsArray, with_locks}
 use Rattle.oa_variant.specs.declared.variant.Variant.{Variant}
 use Rattle.oa_variant.specs.declared.variant.Variant.TheVariants.{One, Array}
 use Rattle.oa_variant.specs.Scalars.{type_of, zero_of, same_type, fits_type, FitsType, IsScalar}
@@ -22,10 +22,14 @@ fits_declared (One s) (kinds.Array t) = false
 fits_declared (Array a) (kinds.One t) = same_type t types.Variant
 fits_declared (Array a) (kinds.Array t) = same_type a.elem t
 
+-- what a bound may be (MS-OAUT section 2.2.30.1)
+unfoldable pub IsBound : Bound → Type 0
+IsBound b = (b.count < 2 ^ 32) × FitsSigned w32 b.lower
+
 -- what a value may be
 abbrev pub IsVariant : Variant → Type 0
 IsVariant (One s) = IsScalar s
-IsVariant (Array a) = IsArray FitsType a × All IsScalar a.cells
+IsVariant (Array a) = IsArray FitsType a × All IsScalar a.cells × All IsBound a.bounds
 
 -- the value itself: locks are no part of it
 abbrev pub unlocked : Variant → Variant

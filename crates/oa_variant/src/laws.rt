@@ -3,11 +3,12 @@ ghost use Rattle.std.specs.Prelude.{◌≡◌, ◌↔◌, true, All};
 ghost use Rattle.std.specs.declared.cmp.Ordering.TheVariants.{Equal};
 ghost use Rattle.oa_variant.specs.declared.scalar.Scalar.{Scalar as AScalar};
 ghost use Rattle.oa_variant.specs.Scalars.{IsScalar};
-ghost use Rattle.oa_variant.specs.Variants.{IsVariant, unlocked};
+ghost use Rattle.oa_variant.specs.Variants.{IsBound, IsVariant, unlocked};
 ghost use Rattle.oa_variant.specs.declared.variant.Variant.{Variant as AVariant};
 ghost use Rattle.oa_variant.specs.Keys.{scalar_cmp};
 
 use crate::{Scalar, Variant};
+use oa_model::Bound;
 
 /// What is true of each scalar: its number is in the range of its type, its text and its DECIMAL are within their limits.
 pub fn is_scalar(scalar: &Scalar)
@@ -66,13 +67,17 @@ pub fn equal_is_same()
     ensures { (a b : AScalar) → scalar_cmp a b ≡ Equal → a ≡ b }
 {}
 
-/// What is true of each value: its scalars are as `is_scalar` says, and an array has a cell of its type for each index list.
+/// What is true of each value: its scalars are as `is_scalar` says, and an array has a cell of its type for each index list and
+/// bounds of 32 bits.
 pub fn is_variant(value: &Variant)
     ensures { IsVariant value.now }
 {
     match value {
         Variant::One(scalar) => is_scalar(scalar),
-        Variant::Array(array) => are_scalars(array.cells()),
+        Variant::Array(array) => {
+            are_scalars(array.cells());
+            are_bounds(array.bounds());
+        }
     }
 }
 
@@ -83,6 +88,24 @@ fn are_scalars(cells: &[Scalar])
     'cells: for cell in cells {
         is_scalar(cell);
     }
+}
+
+// What is true of each bound of an array.
+fn are_bounds(bounds: &[Bound])
+    ensures { All IsBound bounds.now }
+{
+    'bounds: for bound in bounds {
+        is_bound(bound);
+    }
+}
+
+// What is true of each bound: its numbers are in the ranges of their types.
+#[tactic(auto, unfolding(crate::specs::Variants::IsBound))]
+fn is_bound(bound: &Bound)
+    ensures { IsBound bound.now }
+{
+    let _count = bound.count;
+    let _lower = bound.lower;
 }
 
 /// Equal values are the same but for the locks of an array, and values that are the same are equal.

@@ -34,7 +34,7 @@ unit_len n x out =
 align_len : (n : ℕ) (out : List ℕ) → length (put_align n out) ≡ length out + padding n (length out)
 align_len n out = omega (arith, length-append {A = ℕ} out (replicate (padding n (length out)) 0), length-replicate {A = ℕ} (padding n (length out)) 0)
 
-no_padding : (n p : ℕ) → p % n ≡ 0 → padding n p ≡ 0
+pub no_padding : (n p : ℕ) → p % n ≡ 0 → padding n p ≡ 0
 no_padding n p h = rw h refl
 
 unit_on : (n x : ℕ) (out : List ℕ) → length out % n ≡ 0 → length (put_unit n x out) ≡ length out + n
@@ -53,7 +53,7 @@ of_width P a b c d w (inr (inr (inr e))) = subst P (sym e) d
 stays : (p w : ℕ) → IsWidth w → p % w ≡ 0 → (p + w) % w ≡ 0
 stays p = of_width (λ w. p % w ≡ 0 → (p + w) % w ≡ 0) (λ h. omega (arith, h)) (λ h. omega (arith, h)) (λ h. omega (arith, h)) (λ h. omega (arith, h))
 
-lands : (p w : ℕ) → IsWidth w → (p + padding w p) % w ≡ 0
+pub lands : (p w : ℕ) → IsWidth w → (p + padding w p) % w ≡ 0
 lands p = of_width (λ w. (p + padding w p) % w ≡ 0) (at_one 1 (omega arith)) (at_two (eqb (p % 2) 0) refl) (at_four (eqb (p % 4) 0) refl) (at_eight (eqb (p % 8) 0) refl)
   where
     at_one : (w : ℕ) → (p + padding 1 p) % 1 ≡ 0 → (p + padding 1 p) % 1 ≡ 0
@@ -112,7 +112,7 @@ two = inr (inl refl)
 four : IsWidth 4
 four = inr (inr (inl refl))
 
-eight : IsWidth 8
+pub eight : IsWidth 8
 eight = inr (inr (inr refl))
 
 align_alike : Alike (put_align 8) (put_align 8)

@@ -13,13 +13,15 @@ use Rattle.oa_model.specs.declared.var_type.VarType.{VarType}
 use Rattle.oa_model.specs.declared.var_type.VarType.TheVariants as types
 use Rattle.oa_array.specs.Arrays.{ArrayValue, IsArray, with_locks}
 use Rattle.oa_variant.specs.Scalars.{type_of, FitsType, IsScalar}
+use Rattle.oa_variant.specs.Variants.{IsBound}
 use Rattle.oa_variant.specs.declared.scalar.Scalar.{Scalar}
 use Rattle.oa_variant.specs.declared.scalar.Scalar.TheVariants as scalars
-use Rattle.oa_wire_array.specs.Arrays.{bound, cell_pointee, pointed, elements, IsBound, IsUnlocked, dimensions, array}
+use Rattle.oa_wire_array.specs.Arrays.{bound, cell_pointee, pointed, elements, IsUnlocked, dimensions, array}
 use Rattle.oa_wire_array.specs.ArrayCanon.{put_bound, has_pointee, put_pointee, put_cell_referent, put_pointed, put_elements, features_of, put_array}
 use Rattle.oa_wire_array.proofs.Written.{signed32_writes, blob_writes, arm_writes, scalar_writes}
 
 bound_writes : (b : Bound) → IsBound b → Writes (bound b) (put_bound b)
+unfolding IsBound
 bound_writes b h = then_writes (unit_writes 4 b.count h.0) (signed32_writes b.lower h.1)
 
 made_writes : {A C : Type 0} {make : A → C} {F : A → ℕ → List ℕ → Type 0} {c : C} {put : List ℕ → List ℕ} (value : A) → make value ≡ c → Writes (F value) put → Writes (made make F c) put

@@ -2,6 +2,7 @@ mod TextLaws
 pub mod ScalarLaws
 pub mod ArrayLaws
 pub mod Fronts
+pub mod Heads
 mod Loops
 pub mod Written
 pub mod ArrayWritten

@@ -1,6 +1,7 @@
 -- Reading as functions on lists, which say the same as the forms (proofs/Reads* has the laws).
-use Rattle.std.specs.Prelude.{◌≡◌, ℕ, ℤ, ◌+◌, ◌*◌, ◌%◌, ◌^◌, ◌==◌, ◌&&◌, nat_le, Bool, true, false, not, List, Option, Some, None, Result, Ok, Err, ◌++◌, length}
+use Rattle.std.specs.Prelude.{◌≡◌, ℕ, ℤ, ◌+◌, ◌*◌, ◌%◌, ◌^◌, ◌==◌, ◌&&◌, nat_le, Bool, true, false, not, List, Option, Some, None, Result, Ok, Err, ◌++◌, length, drop}
 use Rattle.std.specs.Int.{Width, w8, w16, w32, w64, cast_signed}
+use Rattle.oa_ndr.specs.Forms.{padding}
 use Rattle.oa_ndr.specs.Reading.{Cursor, Reading, ◌>>=◌, give, fail, choose, bytes_at, align_at, unit_at, referent_at}
 use Rattle.oa_bstr.specs.Text.{max_text_bytes}
 use Rattle.oa_model.specs.Types.{type_at}
@@ -19,11 +20,15 @@ Answers (Ok x) new read = read ≡ Some (x, new)
 Answers (Err BadStub) new read = read ≡ None
 Answers (Err Memory) new read = Unit {0}
 
--- the same where nothing is left
-abbrev pub AnswersAll : {A : Type 0} → Result A ReadFault → Option A → Type 0
-AnswersAll (Ok x) read = read ≡ Some x
-AnswersAll (Err BadStub) read = read ≡ None
-AnswersAll (Err Memory) read = Unit {0}
+-- what is true where a call was refused memory
+abbrev pub OnMemory : {A : Type 0} → Result A ReadFault → Type 0 → Type 0
+OnMemory (Ok x) P = Unit {0}
+OnMemory (Err BadStub) P = Unit {0}
+OnMemory (Err Memory) P = P
+
+-- the bytes from the next multiple of n on
+abbrev pub from_multiple : ℕ → Cursor → List ℕ
+from_multiple n s = drop (padding n s.position) s.rest
 
 -- the bytes from one place of a reader to a later one have a form
 pub record Stretch (F : ℕ → List ℕ → Type 0) (from to : Cursor) : Type 0 where

@@ -1,6 +1,7 @@
 -- How a scalar lies in bytes: wireVARIANT (MS-OAUT 2.2.29) with the arm of its type. Alignment is NDR's (C706 14.2.2); that CURRENCY, DECIMAL and wireVARIANT
 -- begin at a multiple of 8 is this project's choice.
-use Rattle.std.specs.Prelude.{◌≡◌, ℕ, ℤ, ◌+◌, ◌*◌, ◌^◌, ◌≤◌, ◌==◌, Bool, true, false, not}
+use Rattle.std.specs.Prelude.{◌≡◌, ℕ, ℤ, ◌+◌, ◌*◌, ◌^◌, ◌≤◌, ◌==◌, Bool, true, false, not, List, length, drop}
+use Rattle.byteorder.specs.Endian.{little_number}
 use Rattle.std.specs.Int.{Width, w8, w16, w32, w64, cast_signed}
 use Rattle.oa_ndr.specs.Forms.{Form, ◌▸◌, nothing, align, ignored, unit, with, given}
 use Rattle.oa_model.specs.Types.{vt_of}
@@ -63,6 +64,14 @@ union v = unit 4 (scalar_vt v) ▸ arm v
 -- the union behind a given vt
 abbrev pub union_of : ℕ → Scalar → Form
 union_of vt v = given (scalar_vt v ≡ vt) ▸ union v
+
+-- the vt of a wireVARIANT
+abbrev pub own_vt : List ℕ → ℕ
+own_vt bytes = little_number 2 (drop 8 bytes)
+
+-- a scalar takes memory where it is a text: the vt is VT_BSTR (MS-OAUT 2.2.7), and a discriminant is there
+abbrev pub TakesText : List ℕ → Type 0
+TakesText bytes = (20 ≤ length bytes) × (own_vt bytes ≡ 8)
 
 -- clSize, rpcReserved, vt, three reserved numbers, the union
 abbrev pub scalar : Scalar → Form

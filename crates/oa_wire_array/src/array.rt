@@ -3,7 +3,7 @@
 ghost use Rattle.std.specs.Prelude.{◌≡◌, ◌≤◌, ◌<◌, true, IfOk, OnOk, OnErr, length, List, ℕ};
 ghost use Rattle.oa_ndr.specs.Reading.{many, map_at, referent_at};
 ghost use Rattle.oa_ndr.specs.Writing.{within, put_all};
-ghost use Rattle.oa_wire_array.specs.Reading.{Answers, arm_at};
+ghost use Rattle.oa_wire_array.specs.Reading.{Answers, OnMemory, arm_at};
 ghost use Rattle.oa_wire_array.specs.Arrays.{IsArrayFront};
 ghost use Rattle.oa_wire_array.specs.ArrayReading.{
   AnswersBy,
@@ -231,7 +231,8 @@ fn data(
 // The maximum count, cDims, fFeatures, cbElements, cLocks, sfType, Size and the pointer, with what lies behind them.
 #[tactic(auto, unfolding(oa_ndr::specs::Reading::bind, oa_ndr::specs::Reading::choose, oa_ndr::specs::Reading::fail, crate::specs::ArrayReading::header_at))]
 fn header(alloc: Global, elem: VarType, r: &mut Ndr<'_>) -> Result<SafeArray<Scalar>, ReadFault>
-    ensures { Answers result r.new (header_at elem r.old) }
+    ensures value { Answers result r.new (header_at elem r.old) }
+    ensures memory { OnMemory result (28 ≤ length r.old.rest) }
 {
     let maximum = r.u32()?;
     let dims = r.u16()?;
@@ -249,7 +250,8 @@ fn header(alloc: Global, elem: VarType, r: &mut Ndr<'_>) -> Result<SafeArray<Sca
 
 #[tactic(auto, unfolding(oa_ndr::specs::Reading::bind, oa_ndr::specs::Reading::choose, oa_ndr::specs::Reading::fail, crate::specs::ArrayReading::array_at))]
 fn array(alloc: Global, elem: VarType, r: &mut Ndr<'_>) -> Result<SafeArray<Scalar>, ReadFault>
-    ensures { Answers result r.new (array_at elem r.old) }
+    ensures value { Answers result r.new (array_at elem r.old) }
+    ensures memory { OnMemory result (32 ≤ length r.old.rest) }
 {
     if r.referent()? {
         return header(alloc, elem, r);
@@ -264,8 +266,8 @@ fn array(alloc: Global, elem: VarType, r: &mut Ndr<'_>) -> Result<SafeArray<Scal
 /// `BadVarType` exactly where there are no arrays of the type (EMPTY, NULL, ERROR and DECIMAL), else
 /// `BadStub` where no bytes from the reader on spell one: among others where the referent is null,
 /// cDims is not its maximum count or not 1 to 16, sfType is not that of the type, or Size or the
-/// maximum count of the data is not the product of the counts or is above 65,536. At an error the
-/// reader is as it was.
+/// maximum count of the data is not the product of the counts or is above 65,536. `Memory` only
+/// where 32 bytes are there, all before the bounds. At an error the reader is as it was.
 pub fn read_array(
     alloc: Global,
     r: &mut Ndr<'_>,

@@ -1,7 +1,7 @@
 //! Arrays as they are written.
 
 ghost use Rattle.std.specs.Prelude.{◌≡◌, ◌≤◌, ◌<◌, ◌+◌, ◌*◌, ◌^◌, OnOk, OnErr, length, List, ℕ};
-ghost use Rattle.oa_ndr.specs.Writing.{within, put_all};
+ghost use Rattle.oa_ndr.specs.Writing.{Keeps, within, put_all};
 ghost use Rattle.oa_variant.specs.Scalars.{text_of};
 ghost use Rattle.oa_wire_array.specs.Canon.{put_arm};
 ghost use Rattle.oa_wire_array.specs.ArrayCanon.{
@@ -18,8 +18,8 @@ ghost use Rattle.oa_wire_array.specs.ArrayCanon.{
   put_array,
 };
 
-use crate::scalar::{write_arm, write_scalar};
-use crate::text::write_text;
+use crate::scalar::{add_scalar, write_arm};
+use crate::text::add_blob;
 use oa_array::SafeArray;
 use oa_model::{Bound, VarType};
 use oa_ndr::NdrOut;
@@ -28,7 +28,7 @@ use std::alloc::AllocError;
 
 fn write_bound(out: &mut NdrOut, bound: Bound) -> Result<(), AllocError>
     ensures ok { OnOk result (out.new ≡ within (put_bound bound) out.old) }
-    ensures before { out.new.before ≡ out.old.before }
+    ensures kept { Keeps out.old out.new }
 {
     out.u32(bound.count)?;
     out.u32(bound.lower.cast_unsigned())
@@ -36,7 +36,7 @@ fn write_bound(out: &mut NdrOut, bound: Bound) -> Result<(), AllocError>
 
 fn write_bounds(out: &mut NdrOut, bounds: &[Bound]) -> Result<(), AllocError>
     ensures ok { OnOk result (out.new ≡ within (put_all put_bound bounds.now) out.old) }
-    ensures before { out.new.before ≡ out.old.before }
+    ensures kept { Keeps out.old out.new }
 {
     for bound in bounds {
         write_bound(out, *bound)?;
@@ -47,7 +47,7 @@ fn write_bounds(out: &mut NdrOut, bounds: &[Bound]) -> Result<(), AllocError>
 // Cells without pointees.
 fn write_plain(out: &mut NdrOut, cells: &[Scalar]) -> Result<(), AllocError>
     ensures ok { OnOk result (out.new ≡ within (put_all put_arm cells.now) out.old) }
-    ensures before { out.new.before ≡ out.old.before }
+    ensures kept { Keeps out.old out.new }
 {
     for cell in cells {
         write_arm(out, cell)?;
@@ -68,7 +68,7 @@ fn has_pointee(elem: VarType, cell: &Scalar) -> bool
 
 fn write_referents(out: &mut NdrOut, elem: VarType, cells: &[Scalar]) -> Result<(), AllocError>
     ensures ok { OnOk result (out.new ≡ within (put_all (put_cell_referent elem) cells.now) out.old) }
-    ensures before { out.new.before ≡ out.old.before }
+    ensures kept { Keeps out.old out.new }
 {
     for cell in cells {
         out.referent(has_pointee(elem, cell))?;
@@ -79,14 +79,14 @@ fn write_referents(out: &mut NdrOut, elem: VarType, cells: &[Scalar]) -> Result<
 // The text of a cell, where it is not null.
 fn write_cell_text(out: &mut NdrOut, cell: &Scalar) -> Result<(), AllocError>
     ensures ok { OnOk result (out.new ≡ within (put_text (text_of cell.now)) out.old) }
-    ensures before { out.new.before ≡ out.old.before }
+    ensures kept { Keeps out.old out.new }
 {
     match cell {
         Scalar::Bstr(text) => {
             if text.is_null() {
                 return Ok(());
             }
-            write_text(out, text)
+            add_blob(out, text)
         }
         _ => Ok(()),
     }
@@ -94,17 +94,17 @@ fn write_cell_text(out: &mut NdrOut, cell: &Scalar) -> Result<(), AllocError>
 
 fn write_pointee(out: &mut NdrOut, elem: VarType, cell: &Scalar) -> Result<(), AllocError>
     ensures ok { OnOk result (out.new ≡ within (put_pointee elem cell.now) out.old) }
-    ensures before { out.new.before ≡ out.old.before }
+    ensures kept { Keeps out.old out.new }
 {
     match elem {
         VarType::Bstr => write_cell_text(out, cell),
-        _ => write_scalar(out, cell),
+        _ => add_scalar(out, cell),
     }
 }
 
 fn write_pointees(out: &mut NdrOut, elem: VarType, cells: &[Scalar]) -> Result<(), AllocError>
     ensures ok { OnOk result (out.new ≡ within (put_all (put_pointee elem) cells.now) out.old) }
-    ensures before { out.new.before ≡ out.old.before }
+    ensures kept { Keeps out.old out.new }
 {
     for cell in cells {
         write_pointee(out, elem, cell)?;
@@ -115,7 +115,7 @@ fn write_pointees(out: &mut NdrOut, elem: VarType, cells: &[Scalar]) -> Result<(
 // All referents first, then the pointees.
 fn write_pointed(out: &mut NdrOut, elem: VarType, cells: &[Scalar]) -> Result<(), AllocError>
     ensures ok { OnOk result (out.new ≡ within (put_pointed elem cells.now) out.old) }
-    ensures before { out.new.before ≡ out.old.before }
+    ensures kept { Keeps out.old out.new }
 {
     write_referents(out, elem, cells)?;
     write_pointees(out, elem, cells)
@@ -123,7 +123,7 @@ fn write_pointed(out: &mut NdrOut, elem: VarType, cells: &[Scalar]) -> Result<()
 
 fn write_elements(out: &mut NdrOut, elem: VarType, cells: &[Scalar]) -> Result<(), AllocError>
     ensures ok { OnOk result (out.new ≡ within (put_elements elem cells.now) out.old) }
-    ensures before { out.new.before ≡ out.old.before }
+    ensures kept { Keeps out.old out.new }
 {
     match elem {
         VarType::Bstr | VarType::Variant => write_pointed(out, elem, cells),
@@ -145,7 +145,7 @@ fn features_of(elem: VarType) -> u16
 // The second referent, the maximum count, cDims, fFeatures, cbElements.
 fn write_shape(out: &mut NdrOut, elem: VarType, dims: u16) -> Result<(), AllocError>
     ensures ok { OnOk result (out.new ≡ within (put_shape elem dims) out.old) }
-    ensures before { out.new.before ≡ out.old.before }
+    ensures kept { Keeps out.old out.new }
 {
     out.referent(true)?;
     out.u32(dims as u32)?;
@@ -157,7 +157,7 @@ fn write_shape(out: &mut NdrOut, elem: VarType, dims: u16) -> Result<(), AllocEr
 // cLocks, sfType, Size, the pointer.
 fn write_size(out: &mut NdrOut, elem: VarType, count: u32) -> Result<(), AllocError>
     ensures ok { OnOk result (out.new ≡ within (put_size elem count) out.old) }
-    ensures before { out.new.before ≡ out.old.before }
+    ensures kept { Keeps out.old out.new }
 {
     out.u32(elem.vt() as u32 * 0x1_0000)?;
     out.u32(elem.sf_type().unwrap_or(0))?;
@@ -165,16 +165,11 @@ fn write_size(out: &mut NdrOut, elem: VarType, count: u32) -> Result<(), AllocEr
     out.referent(true)
 }
 
-/// Writes an array from the second of its two referents on, with all that it points to (see
-/// `read_array`): fFeatures 0x80, with 0x100 for BSTR and 0x800 for VARIANT; cbElements as in a
-/// 32-bit process; the vt of the cells in the high half of cLocks; a null text as a null referent.
-/// Locks are not written.
-///
-/// Where memory is refused, what stood before the field is as it was, and the field is unfinished.
+// The same as `write_array`, but where memory is refused a part of it may stay.
 #[tactic(auto, unfolding(crate::specs::ArrayCanon::put_array))]
-pub fn write_array(out: &mut NdrOut, array: &SafeArray<Scalar>) -> Result<(), AllocError>
+fn add_array(out: &mut NdrOut, array: &SafeArray<Scalar>) -> Result<(), AllocError>
     ensures ok { OnOk result (out.new ≡ within (put_array array.now) out.old) }
-    ensures before { out.new.before ≡ out.old.before }
+    ensures kept { Keeps out.old out.new }
 {
     let elem = array.elem();
     let bounds = array.bounds();
@@ -184,4 +179,22 @@ pub fn write_array(out: &mut NdrOut, array: &SafeArray<Scalar>) -> Result<(), Al
     write_bounds(out, bounds)?;
     out.u32(cells.len() as u32)?;
     write_elements(out, elem, cells)
+}
+
+/// Writes an array from the second of its two referents on, with all that it points to (see
+/// `read_array`): fFeatures 0x80, with 0x100 for BSTR and 0x800 for VARIANT; cbElements as in a
+/// 32-bit process; the vt of the cells in the high half of cLocks; a null text as a null referent.
+/// Locks are not written.
+///
+/// Where memory is refused, the output is as it was.
+pub fn write_array(out: &mut NdrOut, array: &SafeArray<Scalar>) -> Result<(), AllocError>
+    ensures ok { OnOk result (out.new ≡ within (put_array array.now) out.old) }
+    ensures err { OnErr result (out.new ≡ out.old) }
+{
+    let start = out.position();
+    if let Err(e) = add_array(out, array) {
+        out.truncate(start);
+        return Err(e);
+    }
+    Ok(())
 }

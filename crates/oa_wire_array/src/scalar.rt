@@ -1,13 +1,15 @@
 //! Scalars.
 
-ghost use Rattle.std.specs.Prelude.{◌≡◌, ◌≤◌, ◌<◌, OnOk, OnErr};
+ghost use Rattle.std.specs.Prelude.{◌≡◌, ◌≤◌, ◌<◌, OnOk, OnErr, length};
 ghost use Rattle.oa_model.specs.Types.{vt_of};
-ghost use Rattle.oa_ndr.specs.Writing.{within};
-ghost use Rattle.oa_wire_array.specs.Scalars.{scalar, union_of};
+ghost use Rattle.oa_model.specs.declared.var_type.VarType.TheVariants as types;
+ghost use Rattle.oa_ndr.specs.Writing.{Keeps, within};
+ghost use Rattle.oa_wire_array.specs.Scalars.{scalar, union_of, TakesText};
 ghost use Rattle.oa_wire_array.specs.Reading.{
   Answers,
   IsFront,
-  truth_at,
+  OnMemory,
+  from_multiple,
   sign_at,
   decimal_at,
   arm_at,
@@ -31,16 +33,10 @@ use oa_ndr::{Ndr, NdrOut};
 use oa_variant::{Decimal, Scalar};
 use std::alloc::{AllocError, Global};
 
-#[tactic(auto, unfolding(oa_ndr::specs::Reading::bind, oa_ndr::specs::Reading::give, crate::specs::Reading::truth_at))]
-fn truth(r: &mut Ndr<'_>) -> Result<bool, ReadFault>
-    ensures { Answers result r.new (truth_at r.old) }
-{
-    Ok(r.u16()? != 0)
-}
-
 #[tactic(auto, unfolding(oa_ndr::specs::Reading::bind, oa_ndr::specs::Reading::give, oa_ndr::specs::Reading::choose, oa_ndr::specs::Reading::fail, crate::specs::Reading::sign_at))]
 fn sign(r: &mut Ndr<'_>) -> Result<bool, ReadFault>
-    ensures { Answers result r.new (sign_at r.old) }
+    ensures value { Answers result r.new (sign_at r.old) }
+    ensures memory { OnMemory result ⊥ }
 {
     match r.u8()? {
         0 => Ok(false),
@@ -51,7 +47,8 @@ fn sign(r: &mut Ndr<'_>) -> Result<bool, ReadFault>
 
 #[tactic(auto, unfolding(oa_ndr::specs::Reading::bind, oa_ndr::specs::Reading::give, oa_ndr::specs::Reading::choose, oa_ndr::specs::Reading::fail, crate::specs::Reading::decimal_at))]
 fn decimal(r: &mut Ndr<'_>) -> Result<Decimal, ReadFault>
-    ensures { Answers result r.new (decimal_at r.old) }
+    ensures value { Answers result r.new (decimal_at r.old) }
+    ensures memory { OnMemory result ⊥ }
 {
     r.align(8)?;
     r.u16()?;
@@ -67,9 +64,10 @@ fn decimal(r: &mut Ndr<'_>) -> Result<Decimal, ReadFault>
 }
 
 // The arm of a type.
-#[tactic(auto, unfolding(oa_ndr::specs::Reading::bind, oa_ndr::specs::Reading::give, oa_ndr::specs::Reading::fail, crate::specs::Reading::arm_at, crate::specs::Reading::signed_at))]
+#[tactic(auto, unfolding(oa_ndr::specs::Reading::bind, oa_ndr::specs::Reading::give, oa_ndr::specs::Reading::fail, crate::specs::Reading::arm_at, crate::specs::Reading::signed_at, crate::specs::Reading::truth_at))]
 pub(crate) fn arm(alloc: Global, var_type: VarType, r: &mut Ndr<'_>) -> Result<Scalar, ReadFault>
-    ensures { Answers result r.new (arm_at var_type r.old) }
+    ensures value { Answers result r.new (arm_at var_type r.old) }
+    ensures memory { OnMemory result (var_type ≡ types.Bstr) }
 {
     Ok(match var_type {
         VarType::Empty => Scalar::Empty,
@@ -85,7 +83,7 @@ pub(crate) fn arm(alloc: Global, var_type: VarType, r: &mut Ndr<'_>) -> Result<S
         VarType::Ui8 => Scalar::Ui8(r.u64()?),
         VarType::Uint => Scalar::Uint(r.u32()?),
         VarType::Cy => Scalar::Cy(r.u64()?.cast_signed()),
-        VarType::Bool => Scalar::Bool(truth(r)?),
+        VarType::Bool => Scalar::Bool(r.u16()? != 0),
         VarType::Error => Scalar::Error(r.u32()?),
         VarType::Bstr => Scalar::Bstr(bstr(alloc, r)?),
         VarType::Decimal => Scalar::Decimal(decimal(r)?),
@@ -95,7 +93,8 @@ pub(crate) fn arm(alloc: Global, var_type: VarType, r: &mut Ndr<'_>) -> Result<S
 
 #[tactic(auto, unfolding(oa_ndr::specs::Reading::bind, oa_ndr::specs::Reading::choose, oa_ndr::specs::Reading::fail, crate::specs::Reading::arm_of, crate::specs::Reading::union_at))]
 fn union(alloc: Global, vt: u16, r: &mut Ndr<'_>) -> Result<Scalar, ReadFault>
-    ensures { Answers result r.new (union_at vt r.old) }
+    ensures value { Answers result r.new (union_at vt r.old) }
+    ensures memory { OnMemory result ((vt ≡ 8) × (4 ≤ length r.old.rest)) }
 {
     let discriminant = r.u32()?;
     if discriminant != vt as u32 {
@@ -110,10 +109,11 @@ fn union(alloc: Global, vt: u16, r: &mut Ndr<'_>) -> Result<Scalar, ReadFault>
 /// Reads the union of a wireVARIANT without VT_ARRAY (MS-OAUT 2.2.29.1), of which the vt was read
 /// before: the discriminant, which must be that vt, and the arm with its pointee.
 ///
-/// `BadStub` where no bytes from the reader on are those of a scalar with that vt. At an error the
-/// reader is as it was.
+/// `BadStub` where no bytes from the reader on are those of a scalar with that vt. `Memory` only for a
+/// BSTR. At an error the reader is as it was.
 pub fn read_union(alloc: Global, vt: u16, r: &mut Ndr<'_>) -> Result<Scalar, ReadFault>
     ensures exact { IsFront (union_of vt) result r.old r.new }
+    ensures memory { OnMemory result ((vt ≡ 8) × (4 ≤ length r.old.rest)) }
 {
     let mut ahead = r.fork();
     let answer = union(alloc, vt, &mut ahead);
@@ -125,7 +125,8 @@ pub fn read_union(alloc: Global, vt: u16, r: &mut Ndr<'_>) -> Result<Scalar, Rea
 
 #[tactic(auto, unfolding(oa_ndr::specs::Reading::bind, crate::specs::Reading::scalar_at))]
 pub(crate) fn scalar(alloc: Global, r: &mut Ndr<'_>) -> Result<Scalar, ReadFault>
-    ensures { Answers result r.new (scalar_at r.old) }
+    ensures value { Answers result r.new (scalar_at r.old) }
+    ensures memory { OnMemory result (TakesText (from_multiple 8 r.old)) }
 {
     r.align(8)?;
     r.u32()?;
@@ -141,9 +142,11 @@ pub(crate) fn scalar(alloc: Global, r: &mut Ndr<'_>) -> Result<Scalar, ReadFault
 /// (MS-OAUT 2.2.29): clSize at its first byte, vt at 8, the discriminant at 16, the arm from 20
 /// on. clSize and reserved numbers are not looked at.
 ///
-/// `BadStub` where no bytes from the reader on spell a scalar. At an error the reader is as it was.
+/// `BadStub` where no bytes from the reader on spell a scalar. `Memory` only where the vt is that of a
+/// BSTR. At an error the reader is as it was.
 pub fn read_scalar(alloc: Global, r: &mut Ndr<'_>) -> Result<Scalar, ReadFault>
     ensures exact { IsFront scalar result r.old r.new }
+    ensures memory { OnMemory result (TakesText (from_multiple 8 r.old)) }
 {
     let mut ahead = r.fork();
     let answer = scalar(alloc, &mut ahead);
@@ -155,14 +158,14 @@ pub fn read_scalar(alloc: Global, r: &mut Ndr<'_>) -> Result<Scalar, ReadFault>
 
 fn write_truth(out: &mut NdrOut, truth: bool) -> Result<(), AllocError>
     ensures ok { OnOk result (out.new ≡ within (put_truth truth) out.old) }
-    ensures before { out.new.before ≡ out.old.before }
+    ensures kept { Keeps out.old out.new }
 {
     out.u16(if truth { 0xFFFF } else { 0 })
 }
 
 fn write_decimal(out: &mut NdrOut, decimal: &Decimal) -> Result<(), AllocError>
     ensures ok { OnOk result (out.new ≡ within (put_decimal decimal.now) out.old) }
-    ensures before { out.new.before ≡ out.old.before }
+    ensures kept { Keeps out.old out.new }
 {
     let magnitude = decimal.magnitude();
     out.align(8)?;
@@ -175,7 +178,7 @@ fn write_decimal(out: &mut NdrOut, decimal: &Decimal) -> Result<(), AllocError>
 
 pub(crate) fn write_arm(out: &mut NdrOut, value: &Scalar) -> Result<(), AllocError>
     ensures ok { OnOk result (out.new ≡ within (put_arm value.now) out.old) }
-    ensures before { out.new.before ≡ out.old.before }
+    ensures kept { Keeps out.old out.new }
 {
     match value {
         Scalar::Empty => Ok(()),
@@ -198,13 +201,10 @@ pub(crate) fn write_arm(out: &mut NdrOut, value: &Scalar) -> Result<(), AllocErr
     }
 }
 
-/// Writes what a wireVARIANT (MS-OAUT 2.2.29) begins with, at the next multiple of 8: clSize,
-/// rpcReserved, vt and three reserved numbers.
-///
-/// Where memory is refused, what stood before the field is as it was, and the field is unfinished.
-pub fn write_head(out: &mut NdrOut, size: u32, vt: u16) -> Result<(), AllocError>
+// The same as `write_head`, but where memory is refused a part of it may stay.
+fn add_head(out: &mut NdrOut, size: u32, vt: u16) -> Result<(), AllocError>
     ensures ok { OnOk result (out.new ≡ within (put_head size vt) out.old) }
-    ensures before { out.new.before ≡ out.old.before }
+    ensures kept { Keeps out.old out.new }
 {
     out.align(8)?;
     out.u32(size)?;
@@ -215,12 +215,28 @@ pub fn write_head(out: &mut NdrOut, size: u32, vt: u16) -> Result<(), AllocError
     out.u16(0)
 }
 
+/// Writes what a wireVARIANT (MS-OAUT 2.2.29) begins with, at the next multiple of 8: clSize,
+/// rpcReserved, vt and three reserved numbers.
+///
+/// Where memory is refused, the output is as it was.
+pub fn write_head(out: &mut NdrOut, size: u32, vt: u16) -> Result<(), AllocError>
+    ensures ok { OnOk result (out.new ≡ within (put_head size vt) out.old) }
+    ensures err { OnErr result (out.new ≡ out.old) }
+{
+    let start = out.position();
+    if let Err(e) = add_head(out, size, vt) {
+        out.truncate(start);
+        return Err(e);
+    }
+    Ok(())
+}
+
 fn write_sized(out: &mut NdrOut, size: u32, value: &Scalar) -> Result<(), AllocError>
     ensures ok { OnOk result (out.new ≡ within (put_sized size value.now) out.old) }
-    ensures before { out.new.before ≡ out.old.before }
+    ensures kept { Keeps out.old out.new }
 {
     let vt = value.var_type().vt();
-    write_head(out, size, vt)?;
+    add_head(out, size, vt)?;
     out.u32(vt as u32)?;
     write_arm(out, value)
 }
@@ -249,14 +265,27 @@ pub fn scalar_len(value: &Scalar) -> usize
     }
 }
 
-/// Writes a wireVARIANT without VT_ARRAY at the next multiple of 8, with its pointee (see
-/// `read_scalar`). clSize is the number of its bytes, in units of 8, rounded up.
-///
-/// Where memory is refused, what stood before the field is as it was, and the field is unfinished.
-pub fn write_scalar(out: &mut NdrOut, value: &Scalar) -> Result<(), AllocError>
+// The same as `write_scalar`, but where memory is refused a part of it may stay.
+pub(crate) fn add_scalar(out: &mut NdrOut, value: &Scalar) -> Result<(), AllocError>
     ensures ok { OnOk result (out.new ≡ within (put_scalar value.now) out.old) }
-    ensures before { out.new.before ≡ out.old.before }
+    ensures kept { Keeps out.old out.new }
 {
     let size = (scalar_len(value) + 7) / 8 % 0x1_0000_0000;
     write_sized(out, size as u32, value)
+}
+
+/// Writes a wireVARIANT without VT_ARRAY at the next multiple of 8, with its pointee (see
+/// `read_scalar`). clSize is the number of its bytes, in units of 8, rounded up.
+///
+/// Where memory is refused, the output is as it was.
+pub fn write_scalar(out: &mut NdrOut, value: &Scalar) -> Result<(), AllocError>
+    ensures ok { OnOk result (out.new ≡ within (put_scalar value.now) out.old) }
+    ensures err { OnErr result (out.new ≡ out.old) }
+{
+    let start = out.position();
+    if let Err(e) = add_scalar(out, value) {
+        out.truncate(start);
+        return Err(e);
+    }
+    Ok(())
 }

@@ -1,10 +1,10 @@
 //! Texts as pointees.
 
-ghost use Rattle.std.specs.Prelude.{◌≡◌, ◌≤◌, ◌<◌, ◌++◌, OnOk, OnErr};
+ghost use Rattle.std.specs.Prelude.{◌≡◌, ◌≤◌, ◌<◌, ◌++◌, OnOk, OnErr, length};
 ghost use Rattle.oa_bstr.specs.Text.{max_text_bytes};
-ghost use Rattle.oa_ndr.specs.Writing.{within};
+ghost use Rattle.oa_ndr.specs.Writing.{Keeps, within};
 ghost use Rattle.oa_wire_array.specs.Texts.{units, blob};
-ghost use Rattle.oa_wire_array.specs.Reading.{Answers, IsFront, text_at, blob_at, bstr_at};
+ghost use Rattle.oa_wire_array.specs.Reading.{Answers, IsFront, OnMemory, text_at, blob_at, bstr_at};
 ghost use Rattle.oa_wire_array.specs.Canon.{put_blob, put_bstr};
 
 use crate::fault::ReadFault;
@@ -39,7 +39,8 @@ fn text(alloc: Global, len: u32, r: &mut Ndr<'_>) -> Result<Bstr, ReadFault>
 // The maximum count, cBytes, clSize and the bytes.
 #[tactic(auto, unfolding(oa_ndr::specs::Reading::bind, oa_ndr::specs::Reading::give, oa_ndr::specs::Reading::choose, oa_ndr::specs::Reading::fail, crate::specs::Reading::blob_at))]
 pub(crate) fn blob(alloc: Global, r: &mut Ndr<'_>) -> Result<Bstr, ReadFault>
-    ensures { Answers result r.new (blob_at r.old) }
+    ensures value { Answers result r.new (blob_at r.old) }
+    ensures memory { OnMemory result (12 ≤ length r.old.rest) }
 {
     let maximum = r.u32()?;
     let len = r.u32()?;
@@ -71,9 +72,11 @@ pub(crate) fn bstr(alloc: Global, r: &mut Ndr<'_>) -> Result<Bstr, ReadFault>
 /// (MS-OAUT 2.2.23), from the maximum count on.
 ///
 /// `BadStub` where the bytes end too early, where the maximum count or clSize is not cBytes / 2
-/// rounded up, or where the text has more than 262,144 bytes. At an error the reader is as it was.
+/// rounded up, or where the text has more than 262,144 bytes. `Memory` only where 12 bytes are there.
+/// At an error the reader is as it was.
 pub fn read_text(alloc: Global, r: &mut Ndr<'_>) -> Result<Bstr, ReadFault>
     ensures exact { IsFront blob result r.old r.new }
+    ensures memory { OnMemory result (12 ≤ length r.old.rest) }
 {
     let mut ahead = r.fork();
     let answer = blob(alloc, &mut ahead);
@@ -83,13 +86,10 @@ pub fn read_text(alloc: Global, r: &mut Ndr<'_>) -> Result<Bstr, ReadFault>
     answer
 }
 
-/// Writes a text as it stands behind its referent (see `read_text`): the null text as the count
-/// 0xFFFFFFFF, an odd last byte with a 0 behind it.
-///
-/// Where memory is refused, what stood before the field is as it was, and the field is unfinished.
-pub fn write_text(out: &mut NdrOut, text: &Bstr) -> Result<(), AllocError>
+// The same as `write_text`, but where memory is refused a part of it may stay.
+pub(crate) fn add_blob(out: &mut NdrOut, text: &Bstr) -> Result<(), AllocError>
     ensures ok { OnOk result (out.new ≡ within (put_blob text.now) out.old) }
-    ensures before { out.new.before ≡ out.old.before }
+    ensures kept { Keeps out.old out.new }
 {
     if text.is_null() {
         out.u32(0)?;
@@ -105,14 +105,30 @@ pub fn write_text(out: &mut NdrOut, text: &Bstr) -> Result<(), AllocError>
     out.zeros(len as usize % 2)
 }
 
+/// Writes a text as it stands behind its referent (see `read_text`): the null text as the count
+/// 0xFFFFFFFF, an odd last byte with a 0 behind it.
+///
+/// Where memory is refused, the output is as it was.
+pub fn write_text(out: &mut NdrOut, text: &Bstr) -> Result<(), AllocError>
+    ensures ok { OnOk result (out.new ≡ within (put_blob text.now) out.old) }
+    ensures err { OnErr result (out.new ≡ out.old) }
+{
+    let start = out.position();
+    if let Err(e) = add_blob(out, text) {
+        out.truncate(start);
+        return Err(e);
+    }
+    Ok(())
+}
+
 // A referent and its pointee; the null text is a null referent.
 pub(crate) fn write_bstr(out: &mut NdrOut, text: &Bstr) -> Result<(), AllocError>
     ensures ok { OnOk result (out.new ≡ within (put_bstr text.now) out.old) }
-    ensures before { out.new.before ≡ out.old.before }
+    ensures kept { Keeps out.old out.new }
 {
     if text.is_null() {
         return out.referent(false);
     }
     out.referent(true)?;
-    write_text(out, text)
+    add_blob(out, text)
 }

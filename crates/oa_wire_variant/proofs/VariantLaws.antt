@@ -1,6 +1,6 @@
 -- Reading a whole field reads its form, and what is written is of the form.
-use Rattle.std.proofs.Common.{◌≡◌, ℕ, ◌+◌, ◌-◌, ◌/◌, ◌%◌, ◌^◌, ◌<◌, ◌≤◌, ◌⊎◌, inl, inr, Bool, true, false, eqb, ltb, ◌&&◌, ◌||◌, is_some, List, [], ◌++◌, length, Result, Ok, Err, Option, Some, None, refl, sym, ap, subst, ◌∙◌, arith}
-use Rattle.std.proofs.lemmas.Bool.{eqb-true, eqb-false, eq-eqb, ltb-true, ltb-false, and_parts, and_from, or_left, or_right, true≢false}
+use Rattle.std.proofs.Common.{◌≡◌, ℕ, ◌+◌, ◌-◌, ◌/◌, ◌%◌, ◌^◌, ◌<◌, ◌≤◌, ◌⊎◌, inl, inr, Bool, true, false, eqb, ltb, ◌&&◌, ◌||◌, is_some, List, [], ◌++◌, length, Result, Ok, Err, Option, Some, None, refl, sym, ap, ◌∙◌, arith}
+use Rattle.std.proofs.lemmas.Bool.{eqb-true, eq-eqb, ltb-true, ltb-false, and_parts, and_from, or_left, or_right, true≢false}
 use Rattle.oa_ndr.specs.Forms.{unit, referent}
 use Rattle.oa_ndr.specs.Reading.{Cursor, at}
 use Rattle.oa_ndr.proofs.Laws.{Reads, Always, made_reads, fail_reads, choose_reads, unit_reads, referent_reads, bind_reads, with_reads, ignored_then, align_then, same_values, Writes, then_writes, with_writes, unit_writes, ignored_writes, align_writes, given_writes, referent_writes}
@@ -8,7 +8,7 @@ use Rattle.oa_model.specs.Types.{vt_of, type_at, sf_type_of}
 use Rattle.oa_model.specs.declared.var_type.VarType.{VarType}
 use Rattle.oa_array.specs.Arrays.{ArrayValue}
 use Rattle.oa_variant.specs.Scalars.{type_of}
-use Rattle.oa_variant.specs.Variants.{unlocked}
+use Rattle.oa_variant.specs.Variants.{IsVariant, unlocked}
 use Rattle.oa_variant.specs.declared.scalar.Scalar.{Scalar}
 use Rattle.oa_variant.specs.declared.variant.Variant.{Variant}
 use Rattle.oa_variant.specs.declared.variant.Variant.TheVariants.{One, Array}
@@ -22,7 +22,7 @@ use Rattle.oa_wire_array.proofs.ScalarLaws.{union_reads, type_at_vt, vt_from_typ
 use Rattle.oa_wire_array.proofs.ArrayLaws.{array_reads, given_part}
 use Rattle.oa_wire_array.proofs.Written.{scalar_writes, vt_small}
 use Rattle.oa_wire_array.proofs.ArrayWritten.{array_writes}
-use Rattle.oa_wire_variant.specs.Variants.{value_vt, array_union, value_union, variant, IsValue}
+use Rattle.oa_wire_variant.specs.Variants.{value_vt, array_union, value_union, variant}
 use Rattle.oa_wire_variant.specs.Reading.{scalar_value_at, array_union_at, array_value_at, variant_at}
 use Rattle.oa_wire_variant.specs.Canon.{array_len, put_array_head, put_variant, canon}
 
@@ -103,7 +103,7 @@ variant_reads =
     (λ small. same_values (scalar_value_reads vt (ltb-true _ _ small)) (λ v h. (tt, h)) (λ v h. h.1))
     (λ large. same_values (array_value_reads vt (type_at (vt - 8192)) (ltb-false _ _ large) refl) (λ v h. (tt, h)) (λ v h. h.1)))))))))
 
-pub variant_writes : (v : Variant) → IsValue v → Writes (variant (unlocked v)) (put_variant v)
+pub variant_writes : (v : Variant) → IsVariant v → Writes (variant (unlocked v)) (put_variant v)
 variant_writes (One s) h = scalar_writes s h
 variant_writes (Array a) h =
     let small = vt_small a.elem in

@@ -1,18 +1,16 @@
 -- Which bytes of a whole field spell which value, and the fault of a field that spells none: wireVARIANT (MS-OAUT 2.2.29).
-use Rattle.std.specs.Prelude.{◌≡◌, ℕ, ◌+◌, ◌-◌, ◌&&◌, ◌⊎◌, nat_le, nat_lt, is_some, Bool, true, false, not, if◌then◌else◌, All, List, length, drop, Option, Some, None, Result, Ok, Err}
-use Rattle.byteorder.specs.Endian.{little_number}
+use Rattle.std.specs.Prelude.{◌≡◌, ℕ, ◌+◌, ◌-◌, ◌≤◌, ◌&&◌, ◌⊎◌, nat_le, nat_lt, is_some, Bool, true, false, not, if◌then◌else◌, List, length, Option, Some, None, Result, Ok, Err}
 use Rattle.oa_ndr.specs.Forms.{Form, ◌▸◌, align, ignored, unit, with, given, referent}
 use Rattle.oa_model.specs.Types.{vt_of, vt_of_value, type_at, sf_type_of}
 use Rattle.oa_model.specs.declared.var_type.VarType.{VarType}
 use Rattle.oa_model.specs.declared.var_type.VarType.TheVariants as types
-use Rattle.oa_array.specs.Arrays.{ArrayValue, IsArray}
-use Rattle.oa_variant.specs.Scalars.{IsScalar, FitsType}
+use Rattle.oa_array.specs.Arrays.{ArrayValue}
 use Rattle.oa_variant.specs.Variants.{value_type_of}
 use Rattle.oa_variant.specs.declared.scalar.Scalar.{Scalar}
 use Rattle.oa_variant.specs.declared.variant.Variant.{Variant}
 use Rattle.oa_variant.specs.declared.variant.Variant.TheVariants.{One, Array}
-use Rattle.oa_wire_array.specs.Scalars.{union}
-use Rattle.oa_wire_array.specs.Arrays.{IsBound, array}
+use Rattle.oa_wire_array.specs.Scalars.{own_vt, union}
+use Rattle.oa_wire_array.specs.Arrays.{array}
 use Rattle.oa_wire_array.specs.declared.fault.WireFault.{WireFault}
 use Rattle.oa_wire_array.specs.declared.fault.WireFault.TheVariants.{BadStub, BadVarType, Memory}
 
@@ -36,11 +34,6 @@ variant v = align 8 ▸ ignored 4 ▸ ignored 4 ▸ unit 2 (value_vt v) ▸ igno
 abbrev pub Spells : List ℕ → Variant → Type 0
 Spells bytes v = variant v 0 bytes
 
--- what a value may be
-abbrev pub IsValue : Variant → Type 0
-IsValue (One s) = IsScalar s
-IsValue (Array a) = IsArray FitsType a × All IsScalar a.cells × All IsBound a.bounds
-
 -- no value has the type VARIANT, which only declared types and the cells of arrays have
 abbrev pub is_scalar_type : Option VarType → Bool
 is_scalar_type None = false
@@ -58,11 +51,19 @@ is_value_type vt = if nat_lt vt 8192 then is_scalar_type (type_at vt) else is_ce
 
 -- the fault of a field that spells no value (this project's choice): its vt, at the offset 8, is asked where the field has room for a vt and a discriminant
 abbrev pub field_fault : List ℕ → WireFault
-field_fault bytes = if nat_le 20 (length bytes) && not (is_value_type (little_number 2 (drop 8 bytes))) then BadVarType else BadStub
+field_fault bytes = if nat_le 20 (length bytes) && not (is_value_type (own_vt bytes)) then BadVarType else BadStub
 
--- what reading a field answers: the value that its bytes spell, or its fault where they spell none
+-- the vt of an array with cells of a type of which there are arrays
+abbrev pub IsArrayType : ℕ → Type 0
+IsArrayType vt = (8192 ≤ vt) × (is_cell_type (type_at (vt - 8192)) ≡ true)
+
+-- a value takes memory where it is a text, VT_BSTR, or an array, VT_ARRAY with a type of cells (MS-OAUT 2.2.7), and a discriminant is there
+abbrev pub TakesMemory : List ℕ → Type 0
+TakesMemory bytes = (20 ≤ length bytes) × ((own_vt bytes ≡ 8) ⊎ IsArrayType (own_vt bytes))
+
+-- what reading a field answers: the value that its bytes spell, or its fault where they spell none; want of memory only where a value takes some
 abbrev pub IsReading : List ℕ → Result Variant WireFault → Type 0
 IsReading bytes (Ok v) = Spells bytes v
-IsReading bytes (Err Memory) = Unit {0}
+IsReading bytes (Err Memory) = TakesMemory bytes
 IsReading bytes (Err BadStub) = ((v : Variant) → Spells bytes v → ⊥) × (field_fault bytes ≡ BadStub)
 IsReading bytes (Err BadVarType) = ((v : Variant) → Spells bytes v → ⊥) × (field_fault bytes ≡ BadVarType)

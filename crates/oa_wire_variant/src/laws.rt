@@ -2,8 +2,8 @@
 
 ghost use Rattle.std.specs.Prelude.{◌≡◌, ℕ, List, [], ◌++◌};
 ghost use Rattle.oa_variant.specs.declared.variant.Variant.{Variant};
-ghost use Rattle.oa_variant.specs.Variants.{unlocked};
-ghost use Rattle.oa_wire_variant.specs.Variants.{Spells, IsValue};
+ghost use Rattle.oa_variant.specs.Variants.{IsVariant, unlocked};
+ghost use Rattle.oa_wire_variant.specs.Variants.{Spells};
 ghost use Rattle.oa_wire_variant.specs.Canon.{canon};
 
 /// No bytes spell two values.
@@ -11,9 +11,10 @@ pub fn one_value()
     ensures { (bytes : List ℕ) (v w : Variant) → Spells bytes v → Spells bytes w → v ≡ w }
 {}
 
-/// What is written is a spelling of the value, without the locks of an array.
+/// What is written is a spelling of the value, without the locks of an array. Each `Variant` of the code is such a value
+/// (`oa_variant::laws::is_variant`).
 pub fn canon_spells()
-    ensures { (v : Variant) → IsValue v → Spells (canon v) (unlocked v) }
+    ensures { (v : Variant) → IsVariant v → Spells (canon v) (unlocked v) }
 {}
 
 /// No spelling is a proper prefix of another.

@@ -1,3 +1,7 @@
+ghost use Rattle.oa_variant.specs.Variants.{unlocked};
+ghost use Rattle.oa_wire_variant.specs.Variants.{Spells};
+ghost use Rattle.oa_wire_variant.specs.Canon.{canon};
+
 use super::*;
 use oa_array::SafeArray;
 use oa_bstr::Bstr;
@@ -358,12 +362,21 @@ const ONE_I8: [u8; 80] = [
     0, 0, 0, 0, 0, 1, 0, 0, 0, 0, 0, 0, 0, 0xFE, 0xFF, 0xFF, 0xFF, 0xFF, 0xFF, 0xFF, 0xFF,
 ];
 
+// What `canon_spells` asks of a value holds of every `Variant`.
+fn is_spelled(value: &Variant)
+    ensures { Spells (canon value.now) (unlocked value.now) }
+{
+    oa_variant::laws::is_variant(value);
+    laws::canon_spells();
+}
+
 // Compares what is written of a value.
 fn written_as(rt: &impl Abort, alloc: Global, value: &Variant, field: &[u8]) -> Result<(), Fail> {
     assert_eq!(rt; wire_len(value), field.len());
     let mut out = Vec::new(alloc);
     write_variant(value, &mut out)?;
     assert_eq!(rt; &out[..], field);
+    is_spelled(value);
     Ok(())
 }
 

@@ -1,12 +1,12 @@
 //! Whole fields.
 
-ghost use Rattle.std.specs.Prelude.{◌≡◌, ◌++◌, ◌-◌, ◌<◌, ◌≤◌, ◌^◌, length, OnOk, OnErr};
-ghost use Rattle.oa_model.specs.Types.{type_at};
+ghost use Rattle.std.specs.Prelude.{◌≡◌, ◌++◌, ◌-◌, ◌<◌, ◌≤◌, ◌^◌, length, IsSome, OnOk, OnErr};
+ghost use Rattle.oa_model.specs.Types.{type_at, sf_type_of};
 ghost use Rattle.oa_ndr.specs.Reading.{whole};
 ghost use Rattle.oa_ndr.specs.Writing.{within};
-ghost use Rattle.oa_wire_array.specs.Reading.{Answers, union_at};
+ghost use Rattle.oa_wire_array.specs.Reading.{Answers, OnMemory, from_multiple, union_at};
 ghost use Rattle.oa_wire_array.specs.ArrayReading.{array_at};
-ghost use Rattle.oa_wire_variant.specs.Variants.{IsReading, is_value_type, field_fault};
+ghost use Rattle.oa_wire_variant.specs.Variants.{IsReading, IsArrayType, TakesMemory, is_value_type, field_fault};
 ghost use Rattle.oa_wire_variant.specs.Reading.{
   AnswersAll,
   scalar_value_at,
@@ -35,13 +35,15 @@ const VT_ARRAY: u16 = 0x2000;
 const SECOND_REFERENT: usize = 24;
 
 fn union(alloc: Global, vt: u16, r: &mut Ndr<'_>) -> Result<Scalar, ReadFault>
-    ensures { Answers result r.new (union_at vt r.old) }
+    ensures value { Answers result r.new (union_at vt r.old) }
+    ensures memory { OnMemory result ((vt ≡ 8) × (4 ≤ length r.old.rest)) }
 {
     read_union(alloc, vt, r)
 }
 
 fn array(alloc: Global, elem: VarType, r: &mut Ndr<'_>) -> Result<SafeArray<Scalar>, ReadFault>
-    ensures { Answers result r.new (array_at elem r.old) }
+    ensures value { Answers result r.new (array_at elem r.old) }
+    ensures memory { OnMemory result (IsSome (sf_type_of elem)) }
 {
     match read_array(alloc, r, elem) {
         Ok(array) => Ok(array),
@@ -53,7 +55,8 @@ fn array(alloc: Global, elem: VarType, r: &mut Ndr<'_>) -> Result<SafeArray<Scal
 
 #[tactic(auto, unfolding(oa_ndr::specs::Reading::bind, oa_ndr::specs::Reading::give, crate::specs::Reading::scalar_value_at))]
 fn scalar_value(alloc: Global, vt: u16, r: &mut Ndr<'_>) -> Result<Variant, ReadFault>
-    ensures { Answers result r.new (scalar_value_at vt r.old) }
+    ensures value { Answers result r.new (scalar_value_at vt r.old) }
+    ensures memory { OnMemory result ((vt ≡ 8) × (4 ≤ length r.old.rest)) }
 {
     Ok(Variant::One(union(alloc, vt, r)?))
 }
@@ -66,7 +69,8 @@ fn array_union(
     vt: u16,
     r: &mut Ndr<'_>,
 ) -> Result<SafeArray<Scalar>, ReadFault>
-    ensures { Answers result r.new (array_union_at elem vt r.old) }
+    ensures value { Answers result r.new (array_union_at elem vt r.old) }
+    ensures memory { OnMemory result ((4 ≤ length r.old.rest) × IsSome (sf_type_of elem)) }
 {
     let discriminant = r.u32()?;
     let is_set = r.referent()?;
@@ -79,7 +83,8 @@ fn array_union(
 #[tactic(auto, unfolding(oa_ndr::specs::Reading::bind, oa_ndr::specs::Reading::give, oa_ndr::specs::Reading::fail, crate::specs::Reading::array_value_at))]
 fn array_value(alloc: Global, vt: u16, r: &mut Ndr<'_>) -> Result<Variant, ReadFault>
     requires { 8192 ≤ vt }
-    ensures { Answers result r.new (array_value_at (type_at (vt - 8192)) vt r.old) }
+    ensures value { Answers result r.new (array_value_at (type_at (vt - 8192)) vt r.old) }
+    ensures memory { OnMemory result ((4 ≤ length r.old.rest) × IsArrayType vt) }
 {
     match VarType::from_vt(vt - VT_ARRAY) {
         Some(elem) => Ok(Variant::Array(array_union(alloc, elem, vt, r)?)),
@@ -89,7 +94,8 @@ fn array_value(alloc: Global, vt: u16, r: &mut Ndr<'_>) -> Result<Variant, ReadF
 
 #[tactic(auto, unfolding(oa_ndr::specs::Reading::bind, oa_ndr::specs::Reading::choose, crate::specs::Reading::variant_at))]
 fn variant(alloc: Global, r: &mut Ndr<'_>) -> Result<Variant, ReadFault>
-    ensures { Answers result r.new (variant_at r.old) }
+    ensures value { Answers result r.new (variant_at r.old) }
+    ensures memory { OnMemory result (TakesMemory (from_multiple 8 r.old)) }
 {
     r.align(8)?;
     r.u32()?;
@@ -105,7 +111,8 @@ fn variant(alloc: Global, r: &mut Ndr<'_>) -> Result<Variant, ReadFault>
 }
 
 fn whole(alloc: Global, bytes: &[u8]) -> Result<Variant, ReadFault>
-    ensures { AnswersAll result (whole variant_at bytes.now) }
+    ensures value { AnswersAll result (whole variant_at bytes.now) }
+    ensures memory { OnMemory result (TakesMemory bytes.now) }
 {
     let mut r = Ndr::new(bytes);
     let value = variant(alloc, &mut r)?;
@@ -147,7 +154,8 @@ fn field_fault(bytes: &[u8]) -> WireFault
 /// `BadVarType` where they spell none, are at least 20, and the vt at the offset 8 is that of no
 /// value: outside the types of `VarType`, VARIANT, or VT_ARRAY with anything but a type of which
 /// there are arrays. `BadStub` where they spell none for another reason, bytes left over among them.
-/// `Memory` only where a block for the value was refused.
+/// `Memory` only where a block for the value was refused: the field has at least 20 bytes, and its vt
+/// is that of BSTR, or VT_ARRAY with a type of which there are arrays.
 pub fn read_variant(alloc: Global, bytes: &[u8]) -> Result<Variant, WireFault>
     ensures exact { IsReading bytes.now result }
 {
@@ -228,7 +236,7 @@ pub fn write_variant(value: &Variant, out: &mut Vec<u8>) -> Result<(), AllocErro
     let mut field = NdrOut::new(mem::replace(out, Vec::new(*out.allocator())));
     let answer = write_field(&mut field, value);
     if answer.is_err() {
-        field.clear();
+        field.truncate(0);
     }
     *out = field.into_vec();
     answer

@@ -7,9 +7,9 @@ use Rattle.oa_wire_array.proofs.text.read_text.Goals as goal
 pub returns-then-is_ok : goal.returns-then-is_ok
 returns-then-is_ok c =
     let ok : is_ok c.blob-answer.result ≡ true = search rules in
-    record { exact = front_ok blob_reads c.blob-answer.result c.args.r.now c.fork-ahead.result c.blob-answer.new.r c.fork-ahead.ensures c.blob-answer.ensures ok }
+    record { exact = front_ok blob_reads c.blob-answer.result c.args.r.now c.fork-ahead.result c.blob-answer.new.r c.fork-ahead.ensures c.blob-answer.ensures.value ok; memory = rw c.fork-ahead.ensures at c.blob-answer.ensures.memory }
 
 pub returns-else-is_ok : goal.returns-else-is_ok
 returns-else-is_ok c =
     let err : is_ok c.blob-answer.result ≡ false = search rules in
-    record { exact = front_err blob_reads c.blob-answer.result c.args.r.now c.fork-ahead.result c.blob-answer.new.r c.fork-ahead.ensures c.blob-answer.ensures err }
+    record { exact = front_err blob_reads c.blob-answer.result c.args.r.now c.fork-ahead.result c.blob-answer.new.r c.fork-ahead.ensures c.blob-answer.ensures.value err; memory = rw c.fork-ahead.ensures at c.blob-answer.ensures.memory }

@@ -1,6 +1,3 @@
-use Rattle.std.proofs.Common.{◌+◌, [], refl}
-use Rattle.oa_model.specs.Types.{vt_of}
-use Rattle.oa_wire_variant.specs.Canon.{put_array_head, array_len}
 use Rattle.oa_wire_variant.proofs.VariantLaws.{as_long}
 use Rattle.oa_wire_variant.proofs.variant.array_len.Goals as goal
 

@@ -3,5 +3,5 @@ use Rattle.oa_wire_array.proofs.ScalarLaws.{union_reads}
 use Rattle.oa_wire_array.proofs.Fronts.{front_answers}
 use Rattle.oa_wire_variant.proofs.variant.union.Goals as goal
 
-pub returns : goal.returns
-returns c = front_answers (told_reads (union_reads c.args.vt)) c.read_union.result c.args.r.now c.read_union.new.r c.read_union.ensures.exact
+pub returns-clause-value : goal.returns-clause-value
+returns-clause-value c = front_answers (told_reads (union_reads c.args.vt)) c.read_union.result c.args.r.now c.read_union.new.r c.read_union.ensures.exact

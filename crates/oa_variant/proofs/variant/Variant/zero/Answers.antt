@@ -1,4 +1,4 @@
-use Rattle.std.proofs.Common.{◌≡◌, ap, ◌∙◌, [], ◌∷◌}
+use Rattle.std.proofs.Common.{ap, ◌∙◌, [], ◌∷◌}
 use Rattle.oa_variant.proofs.Zeros.{no_cells}
 use Rattle.oa_variant.specs.Variants.{no_indices}
 use Rattle.oa_variant.specs.Scalars.{zero_of}

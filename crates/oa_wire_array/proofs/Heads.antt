@@ -1,0 +1,72 @@
+-- Where the vt of a wireVARIANT lies that was read, and what is left behind its head.
+use Rattle.std.proofs.Common.{◌≡◌, ℕ, ◌+◌, ◌%◌, ◌≤◌, Bool, List, ◌++◌, length, drop, Some, Result, Ok, Err, refl, sym, ap, ◌∙◌, arith}
+use Rattle.std.proofs.lemmas.List.{take_at, drop_at, drop-drop, length-append}
+use Rattle.byteorder.specs.Endian.{little_number, little_from}
+use Rattle.byteorder.specs.Numbers.{little_from-take}
+use Rattle.oa_ndr.specs.Forms.{padding}
+use Rattle.oa_ndr.specs.Reading.{Cursor, align_at, unit_at, referent_at}
+use Rattle.oa_ndr.proofs.Laws.{unit_reads, align_reads, referent_reads}
+use Rattle.oa_wire_array.specs.declared.fault.ReadFault.{ReadFault}
+use Rattle.oa_wire_array.specs.declared.fault.ReadFault.TheVariants.{BadStub, Memory}
+use Rattle.oa_wire_array.specs.Scalars.{own_vt}
+use Rattle.oa_wire_array.specs.Reading.{OnMemory, from_multiple}
+use Rattle.oa_wire_array.proofs.ArrayLengths.{lands, no_padding, eight}
+
+pub on_memory : {A : Type 0} {P Q : Type 0} (r : Result A ReadFault) → (P → Q) → OnMemory r P → OnMemory r Q
+on_memory (Ok x) f h = tt
+on_memory (Err BadStub) f h = tt
+on_memory (Err Memory) f h = f h
+
+-- k bytes behind another cursor
+abbrev Behind : Cursor → ℕ → Cursor → Type 0
+Behind base k s = (s.position ≡ base.position + k) × (k + length s.rest ≡ length base.rest) × (s.rest ≡ drop k base.rest)
+
+first_bytes : (n : ℕ) (text rest : List ℕ) → length text ≡ n → little_number n (text ++ rest) ≡ little_number n text
+first_bytes n text rest len = sym (little_from-take 0 n n (text ++ rest) (omega arith)) ∙ ap (little_from 0 n) (take_at text rest n len)
+
+unit_behind : (n k : ℕ) (base s t : Cursor) (x : ℕ) → Behind base k s → padding n (base.position + k) ≡ 0 → unit_at n s ≡ Some (x, t) → (x ≡ little_number n (drop k base.rest)) × Behind base (k + n) t
+unit_behind n k base s t x here none e =
+    let one = ((unit_reads n).takes s.position s.rest x t e).1 in
+    let pad : padding n s.position ≡ 0 = ap (padding n) here.0 ∙ none in
+    let len : length one.text ≡ n = omega (arith, one.form.len, pad) in
+    let value : little_number n one.text ≡ x = ap (λ (i : ℕ). little_number n (drop i one.text)) (sym pad) ∙ one.form.value in
+    let at_k : little_number n (drop k base.rest) ≡ x = ap (little_number n) (sym here.2 ∙ one.parts) ∙ first_bytes n one.text t.rest len ∙ value in
+    let rest : t.rest ≡ drop (k + n) base.rest = sym (drop_at one.text t.rest n len) ∙ ap (drop n) (sym one.parts ∙ here.2) ∙ drop-drop n k base.rest in
+    (sym at_k, (omega (arith, one.place, here.0, len), omega (arith, ap length one.parts, length-append one.text t.rest, here.1, len), rest))
+
+pub head_lies : (r s0 s1 s2 s3 s4 s5 s6 : Cursor) (u : Unit {0}) (a b vt c d e : ℕ)
+    → align_at 8 r ≡ Some (u, s0) → unit_at 4 s0 ≡ Some (a, s1) → unit_at 4 s1 ≡ Some (b, s2) → unit_at 2 s2 ≡ Some (vt, s3) → unit_at 2 s3 ≡ Some (c, s4) → unit_at 2 s4 ≡ Some (d, s5) → unit_at 2 s5 ≡ Some (e, s6)
+    → (vt ≡ own_vt (from_multiple 8 r)) × (16 + length s6.rest ≡ length (from_multiple 8 r))
+head_lies r s0 s1 s2 s3 s4 s5 s6 u a b vt c d e h0 h1 h2 h3 h4 h5 h6 =
+    let zero = ((align_reads 8).takes r.position r.rest u s0 h0).1 in
+    let start : s0.position % 8 ≡ 0 = ap (λ (i : ℕ). i % 8) (zero.place ∙ ap (λ (i : ℕ). r.position + i) zero.form) ∙ lands r.position 8 eight in
+    let rest : from_multiple 8 r ≡ s0.rest = ap (drop (padding 8 r.position)) zero.parts ∙ drop_at zero.text s0.rest (padding 8 r.position) zero.form in
+    let q = s0.position in
+    let one = unit_behind 4 0 s0 s0 s1 a (omega arith, omega arith, refl) (no_padding 4 (q + 0) (omega (arith, start))) h1 in
+    let two = unit_behind 4 4 s0 s1 s2 b one.1 (no_padding 4 (q + 4) (omega (arith, start))) h2 in
+    let three = unit_behind 2 8 s0 s2 s3 vt two.1 (no_padding 2 (q + 8) (omega (arith, start))) h3 in
+    let four = unit_behind 2 10 s0 s3 s4 c three.1 (no_padding 2 (q + 10) (omega (arith, start))) h4 in
+    let five = unit_behind 2 12 s0 s4 s5 d four.1 (no_padding 2 (q + 12) (omega (arith, start))) h5 in
+    let six = unit_behind 2 14 s0 s5 s6 e five.1 (no_padding 2 (q + 14) (omega (arith, start))) h6 in
+    (three.0 ∙ ap own_vt (sym rest), six.1.1 ∙ ap length (sym rest))
+
+-- n bytes are read, so they are there
+pub unit_there : (n : ℕ) (s t : Cursor) (x : ℕ) → unit_at n s ≡ Some (x, t) → n + length t.rest ≤ length s.rest
+unit_there n s t x e =
+    let one = ((unit_reads n).takes s.position s.rest x t e).1 in
+    omega (arith, ap length one.parts, length-append one.text t.rest, one.form.len)
+
+pub referent_there : (s t : Cursor) (b : Bool) → referent_at s ≡ Some (b, t) → 4 + length t.rest ≤ length s.rest
+referent_there s t b e =
+    let one = (referent_reads.takes s.position s.rest b t e).1 in
+    let front = one.form.form.first in
+    omega (arith, ap length one.parts, length-append one.text t.rest, ap length one.form.form.parts, length-append one.form.form.front one.form.form.back, front.len)
+
+-- what is true anyhow is true where memory was refused
+pub anyhow : {A : Type 0} {P : Type 0} (r : Result A ReadFault) → P → OnMemory r P
+anyhow r p = on_memory r (λ _. p) (own r)
+  where
+    own : {A : Type 0} (r : Result A ReadFault) → OnMemory r (Unit {0})
+    own (Ok x) = tt
+    own (Err BadStub) = tt
+    own (Err Memory) = tt

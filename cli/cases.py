@@ -27,6 +27,8 @@ def text_of(name):
 SMALL = text_of("small.idl")
 REQUESTS = text_of("first.hex")
 REPLIES = text_of("first.out")
+FULL = text_of("full.idl")
+CANONICAL = text_of("full.canonical.idl")
 CREATE = REQUESTS.splitlines()[0]
 CREATED = REPLIES.splitlines()[0]
 STUB = b"00000000" + b"f7060780" + b"ffffffff" + b"00000000"
@@ -69,8 +71,14 @@ def play(name, given, status, out, err, library=SMALL, **how):
     case(name, ["play", "lib.idl", "--hex"], status, out, err, given=given, files={"lib.idl": library}, **how)
 
 
+def checked(name, library, status, out, err, **how):
+    case(f"check: {name}", ["check", "lib.idl"], status, out, err, files={"lib.idl": library}, **how)
+
+
 def refused(name, library, text):
-    play(name, CREATE + b"\n", 2, b"", f"oaut: {text}\n".encode(), library=library)
+    err = f"oaut: {text}\n".encode()
+    play(name, CREATE + b"\n", 2, b"", err, library=library)
+    checked(name, library, 2, b"", err)
 
 
 def library_with(body, head=b"[uuid(11223344-5566-7788-99AA-BBCCDDEEFF01)] library Demo"):
@@ -79,6 +87,17 @@ def library_with(body, head=b"[uuid(11223344-5566-7788-99AA-BBCCDDEEFF01)] libra
 
 def interface(last, name=b"DItem", body=b"[id(1)] long Count;"):
     return b"[uuid(11223344-5566-7788-99AA-BBCCDDEEFF0" + last + b")] dispinterface " + name + b" { properties: " + body + b" }"
+
+
+def long_when_printed():
+    """A library text below the limit whose canonical text is above it."""
+    parts = []
+    for part in range(37):
+        members = b"".join(b"[id(%d)]int a%d;" % (it, it) for it in range(400))
+        parts.append(b"[uuid(11223344-5566-7788-99AA-BBCCDDEEFF%02x)]dispinterface D%d{properties:%s}" % (part + 2, part, members))
+    text = library_with(b"".join(parts) + b"[uuid(11223344-5566-7788-99AA-BBCCDDEEFFFF)]coclass C{dispinterface D0;}")
+    assert len(text) <= 262_144 < len(text) + 2 * 16_000, len(text)
+    return text
 
 
 def coclass(last, name=b"Item", body=b"dispinterface DItem;"):
@@ -324,8 +343,82 @@ talk(
     + [gets(ANY, good)],
 )
 
+# --- names and type information
+
+UNKNOWN_NAME, BAD_INDEX, NOT_IMPLEMENTED = 0x8002_0006, 0x8002_000B, 0x8000_4001
+play("names and descriptions", text_of("info.hex"), 0, text_of("info.out"), b"", library=FULL)
+
+
+def looks_up(names, dispids):
+    code = UNKNOWN_NAME if -1 in dispids else 0
+    return (lambda tag: wire.get_ids(tag, 1, names), lambda tag: wire.reply(tag, code, fields=wire.ids(dispids)))
+
+
+def describes(index, fields=None):
+    code = BAD_INDEX if fields is None else 0
+    return (lambda tag: wire.type_info(tag, index), lambda tag: wire.reply(tag, code, fields=fields or b""))
+
+
+talk(
+    "names that are looked up",
+    FULL,
+    [
+        looks_up(["Clear"], [10]),
+        looks_up(["none", "Key"], [-1, -1]),
+        looks_up(["CELL", "row", "PAGE", "Value"], [9, 0, 2, -1]),
+        looks_up(["Cell"] + ["Key"] * 16, [9] + [1] * 16),
+        (lambda tag: wire.get_ids(tag, 1, ["Cell"] + ["Key"] * 17), lambda tag: wire.reply(tag, STUB_CODE)),
+        (lambda tag: wire.get_ids(tag, 1, []), lambda tag: wire.reply(tag, STUB_CODE)),
+        calls(10, 1, [], [], NOT_IMPLEMENTED),
+        calls(10, 2, [], [], MEMBER_NOT_FOUND),
+    ],
+)
+ITEM = bytes.fromhex("443322116655887799aabbccddeeff02")
+MARKED, BOTH, DEFAULT = 0x1, 0x11, 0x31
+DEFAULTS = library_with(
+    interface(b"2", body=b"methods: [id(1)] long Sum(SAFEARRAY(short) Of, [in, optional] BSTR To, [in, defaultvalue(-2)] CURRENCY By, [in, defaultvalue(\"x\")] VARIANT Or);")
+    + coclass(b"3")
+)
+talk(
+    "descriptions",
+    DEFAULTS,
+    [
+        describes(
+            0,
+            wire.interface(
+                ITEM,
+                "DItem",
+                [
+                    wire.member(
+                        1,
+                        1,
+                        0,
+                        wire.I4,
+                        "Sum",
+                        [
+                            wire.parameter(wire.ARRAY + wire.I2, 0, "Of"),
+                            wire.parameter(wire.BSTR, BOTH, "To"),
+                            wire.parameter(wire.CY, DEFAULT, "By", wire.scalar(wire.CY, -20_000)),
+                            wire.parameter(wire.VARIANT, DEFAULT, "Or", wire.scalar(wire.BSTR, b"x\0")),
+                        ],
+                    )
+                ],
+            ),
+        ),
+        describes(2),
+        describes(2**32 - 1),
+    ],
+)
+
 # --- libraries
 
+checked("the small library", SMALL, 0, text_of("small.canonical.idl"), b"")
+checked("the full library", FULL, 0, CANONICAL, b"")
+checked("a canonical text", CANONICAL, 0, CANONICAL, b"")
+case("check: a library that is not there", ["check", "none.idl"], 1, b"", b"oaut: cannot read none.idl\n")
+case("check: a folder for a library", ["check", "."], 1, b"", b"oaut: cannot read .\n")
+with open("/dev/full", "wb") as full:
+    checked("standard output that takes nothing", FULL, 1, None, b"oaut: write fault\n", stdout=full)
 case("a library that is not there", ["play", "none.idl", "--hex"], 1, b"", b"oaut: cannot read none.idl\n")
 case("a folder for a library", ["play", ".", "--hex"], 1, b"", b"oaut: cannot read .\n")
 refused("not UTF-8", b"\xff", "library is not UTF-8")
@@ -341,15 +434,24 @@ refused("a coclass too many", library_with(interface(b"2") + b"".join(coclass(b"
 refused("a member too many", library_with(interface(b"2", body=b"".join(b"[id(%d)] long P%d;" % (it, it) for it in range(1, 514)))), "limit members")
 refused("a name twice", library_with(interface(b"2", body=b"[id(1)] long Count; [id(2)] long COUNT;") + coclass(b"3")), "duplicate name COUNT")
 refused("an id twice", library_with(interface(b"2", body=b"[id(1)] long Count; [id(1)] long Other;") + coclass(b"3")), "duplicate id Other")
+refused("a parameter twice", library_with(interface(b"2", body=b"methods: [id(1)] void Go(long At, long AT);") + coclass(b"3")), "duplicate name AT")
+refused("two gets of a name", library_with(interface(b"2", body=b"methods: [id(1), propget] long A(); [id(1), propget] long a();") + coclass(b"3")), "duplicate name a")
+refused("a get and a put of two types", library_with(interface(b"2", body=b"methods: [id(1), propget] long A(); [id(1), propput] void a([in] short V);") + coclass(b"3")), "get and put disagree a")
+refused("a get and a put of two ids", library_with(interface(b"2", body=b"methods: [id(1), propget] long A(); [id(2), propput] void a([in] long V);") + coclass(b"3")), "get and put disagree a")
+refused("an array as a property's parameter", library_with(interface(b"2", body=b"methods: [id(1), propget] long A(SAFEARRAY(long) By);") + coclass(b"3")), "array parameter By")
+refused("a default out of range", library_with(interface(b"2", body=b"methods: [id(1)] void Go([defaultvalue(40000)] short At);") + coclass(b"3")), "bad default At")
+refused("an id that is none", SMALL.replace(b"id(1)", b"id(-1)"), f"syntax at byte {SMALL.index(b'id(1)') + 4}")
+refused("a parameter too many", library_with(interface(b"2", body=b"methods: [id(1)] void Go(" + b", ".join(b"long P%d" % it for it in range(17)) + b");") + coclass(b"3")), "limit params")
+refused("a canonical text above the limit", long_when_printed(), "limit text")
 refused("a GUID twice", library_with(interface(b"2") + coclass(b"1")), "duplicate guid 11223344-5566-7788-99aa-bbccddeeff01")
 refused("an interface that is not there", library_with(interface(b"2") + coclass(b"3", body=b"dispinterface Other;")), "unknown interface Other")
 
 # --- the command line
 
-for words in ([], ["play"], ["play", "lib.idl"], ["play", "--hex"], ["play", "lib.idl", "--hex", "more"], ["play", "lib.idl", "--wide"], ["serve"], ["help"]):
+for words in ([], ["play"], ["play", "lib.idl"], ["play", "--hex"], ["play", "lib.idl", "--hex", "more"], ["play", "lib.idl", "--wide"], ["check"], ["check", "lib.idl", "--hex"], ["check", "lib.idl", "more"], ["serve"], ["help"]):
     status, out, err = run(words, files={"lib.idl": SMALL})
     tell(f"the words {words} are refused", (status, out, err.startswith(b"error: "), b"--help" in err) == (2, b"", True, True), (status, out, err))
-for words, said in ((["--help"], b"Usage: oaut <COMMAND>"), (["play", "--help"], b"Usage: oaut play --hex <LIB>"), (["--version"], b"oaut 0.1.0")):
+for words, said in ((["--help"], b"Usage: oaut <COMMAND>"), (["play", "--help"], b"Usage: oaut play --hex <LIB>"), (["check", "--help"], b"Usage: oaut check <LIB>"), (["--version"], b"oaut 0.1.0")):
     status, out, err = run(words)
     tell(f"the words {words} are answered", (status, said in out, err) == (0, True, b""), (status, out, err))
 

@@ -113,3 +113,40 @@ def get(tag, object, dispid):
 def reply(tag, code=0, index=0xFFFF_FFFF, fields=b""):
     """A reply, as a line."""
     return (struct.pack("<IIII", tag, code, index, 0) + fields).hex().encode() + b"\n"
+
+
+def string(text):
+    """A string of a record: the count of its UTF-16 units, a reserved number, the units, padding."""
+    units = text.encode("utf-16-le")
+    return struct.pack("<II", len(units) // 2, 0) + aligned(units, 8)
+
+
+def get_ids(tag, object, names):
+    """A GETIDS of the default interface, as a line."""
+    out = struct.pack("<IHHII", tag, 3, 0, object, 0) + bytes(32) + struct.pack("<II", 0, len(names))
+    return (out + b"".join(string(name) for name in names)).hex().encode() + b"\n"
+
+
+def ids(dispids):
+    """The fields of a reply to a GETIDS."""
+    return aligned(struct.pack("<II", len(dispids), 0) + b"".join(struct.pack("<i", id) for id in dispids), 8)
+
+
+def type_info(tag, index):
+    """A TYPEINFO, as a line."""
+    return struct.pack("<IHHII", tag, 10, 0, index, 0).hex().encode() + b"\n"
+
+
+def parameter(vt, flags, name, default=None):
+    """A parameter of a description; flag 0x20 comes with a default."""
+    return struct.pack("<HHI", vt, flags, 0) + string(name) + (b"" if default is None else field(default))
+
+
+def member(dispid, kind, flags, vt, name, parameters=()):
+    """A member of a description."""
+    return struct.pack("<iHHHHI", dispid, kind, flags, vt, len(parameters), 0) + string(name) + b"".join(parameters)
+
+
+def interface(guid, name, members):
+    """The description of an interface whose GUID is spelled so on the wire."""
+    return struct.pack("<II", 4, len(members)) + guid + string(name) + b"".join(members)

@@ -1,5 +1,5 @@
 -- What reading a whole text says of it.
-use Rattle.std.proofs.Common.{◌≡◌, ℕ, ◌+◌, ◌-◌, ◌<◌, ◌≤◌, Bool, true, false, List, [], ◌∷◌, ◌++◌, length, map, refl, sym, ap, subst, ◌∙◌, append_assoc, arith, Result, Ok, Err}
+use Rattle.std.proofs.Common.{◌≡◌, ℕ, ◌-◌, true, List, [], ◌∷◌, ◌++◌, length, map, refl, sym, ap, subst, ◌∙◌, append_assoc, arith, Result, Ok, Err}
 use Rattle.std.proofs.lemmas.List.{append-nil}
 use Rattle.oa_idl.specs.declared.lexer.Token.{Token}
 use Rattle.oa_idl.specs.declared.stop.Stop.TheVariants.{Syntax}
@@ -14,7 +14,6 @@ use Rattle.oa_idl.specs.Trees.{TreeValue}
 use Rattle.oa_idl.specs.Tokens.{AreTokens}
 use Rattle.oa_idl.specs.Forms.{Word, Then, ◌▸◌, nothing, Begins}
 use Rattle.oa_idl.specs.Words.{passes, word_of, words_of}
-use Rattle.oa_idl.specs.Reading.{Step}
 use Rattle.oa_idl.specs.Reading.Step.{Got, Stuck}
 use Rattle.oa_idl.specs.Grammar.{sign, library}
 use Rattle.oa_idl.specs.GrammarReading.{library_at}
@@ -95,7 +94,7 @@ limit_answer text limits.Name h = h
 limit_answer text limits.Interfaces h = h
 limit_answer text limits.Coclasses h = h
 limit_answer text limits.Members h = h
-limit_answer text limits.Params h = absurd h.1.named.long
+limit_answer text limits.Params h = h
 
 answer_is : (text : List ℕ) (ts : List Token) → AreTokens 0 text ts → MayBeText text → (r : Result TreeValue ParseError) → IsParsed (length text) (ts ++ end_token (length text) ∷ []) (words_of text ts) r → IsAnswer text r
 answer_is text ts are short (Ok t) p = let h = tree_is (words_of text ts) t p.0 (ended text 0 text ts are) p.1 in record { short = short; tokens = ts; are = are; form = h.0; kept = h.1 }
@@ -134,5 +133,5 @@ found text (Err (errors.Limit texts.Name)) h t f = unbroken text limits.Name t f
 found text (Err (errors.Limit texts.Interfaces)) h t f = unbroken text limits.Interfaces t f h.1
 found text (Err (errors.Limit texts.Coclasses)) h t f = unbroken text limits.Coclasses t f h.1
 found text (Err (errors.Limit texts.Members)) h t f = unbroken text limits.Members t f h.1
-found text (Err (errors.Limit texts.Params)) h t f = h
+found text (Err (errors.Limit texts.Params)) h t f = unbroken text limits.Params t f h.1
 found text (Err errors.Memory) h t f = tt

@@ -1,10 +1,10 @@
 -- The reading of a list of attributes reads it.
-use Rattle.std.proofs.Common.{◌≡◌, ℕ, ◌+◌, ◌<◌, ◌≤◌, Bool, true, false, List, [], ◌∷◌, ◌++◌, length, Option, Some, None, refl, sym, ap, subst, ◌∙◌, arith}
+use Rattle.std.proofs.Common.{◌≡◌, ℕ, Bool, true, List, Option, refl, sym}
 use Rattle.std.specs.Prelude.{not}
 use Rattle.oa_idl.specs.declared.sign.Sign.TheVariants as signs
-use Rattle.oa_idl.specs.Forms.{Word, Form, Then, ◌▸◌, this, with, gathered, nowhere}
+use Rattle.oa_idl.specs.Forms.{Word, ◌▸◌, gathered, nowhere}
 use Rattle.oa_idl.specs.Words.{passes}
-use Rattle.oa_idl.specs.Reading.{Step, Reading, and_then, bind, give, heads, gather_at}
+use Rattle.oa_idl.specs.Reading.{Step, Reading, and_then, bind, give, gather_at}
 use Rattle.oa_idl.specs.Reading.Step.{Got, Stuck}
 use Rattle.oa_idl.specs.Grammar.{sign, next_attribute, last_attribute, attributes}
 use Rattle.oa_idl.specs.GrammarReading.{grown_at, next_at, next_grown_at, last_at, attributes_at}

@@ -1,5 +1,5 @@
 -- GUIDs of 36 characters.
-use Rattle.std.proofs.Common.{◌≡◌, ℕ, List, length, Option, Some, None, Result, Ok, Err, refl, sym, ◌∙◌}
+use Rattle.std.proofs.Common.{◌≡◌, ℕ, List, length, Option, Some, None, Result, Ok, Err, refl, ◌∙◌}
 use Rattle.std.specs.Prelude.{IsOk, IfOk, ◌↔◌}
 use Rattle.std.specs.Result.{result_ok}
 use Rattle.uuid.specs.Text.{parsed, parsed_hyphenated}

@@ -1,6 +1,6 @@
 -- What the first word of a stretch passes.
-use Rattle.std.proofs.Common.{◌≡◌, ℕ, ◌<◌, Bool, true, false, List, [], ◌∷◌, ◌++◌, length, Option, Some, None, refl, sym, ap, subst, ◌∙◌, arith}
-use Rattle.std.specs.Prelude.{ℤ, if◌then◌else◌, is_some, not, ◌&&◌, ◌||◌}
+use Rattle.std.proofs.Common.{◌≡◌, ℕ, ◌<◌, Bool, true, false, List, ◌++◌, length, Option, Some, None, refl, ap, subst, ◌∙◌, arith}
+use Rattle.std.specs.Prelude.{ℤ, if◌then◌else◌, ◌&&◌}
 use Rattle.std.proofs.Math.Logic.{⊎_elim}
 use Rattle.std.specs.Str.{bytes_eq}
 use Rattle.std.proofs.lemmas.Bool.{and_parts}
@@ -11,8 +11,8 @@ use Rattle.oa_idl.specs.declared.lexer.Kind.{Kind}
 use Rattle.oa_idl.specs.declared.lexer.Kind.TheVariants as kinds
 use Rattle.oa_idl.specs.declared.sign.Sign.{Sign}
 use Rattle.oa_idl.specs.declared.sign.Sign.TheVariants as signs
-use Rattle.oa_idl.specs.Forms.{Word, Form, Then, ◌▸◌, this, one}
-use Rattle.oa_idl.specs.Words.{same_kind, kind_of, spelling, passes, id_of, type_of, type_named, plain_type, if_cell}
+use Rattle.oa_idl.specs.Forms.{Word, Then, this, one}
+use Rattle.oa_idl.specs.Words.{same_kind, kind_of, spelling, passes, is_text, id_of, type_of, plain_type, if_cell, amount_of, characters_of}
 use Rattle.oa_idl.specs.Reading.{heads}
 use Rattle.oa_idl.specs.Grammar.{sign}
 use Rattle.oa_idl.proofs.Parses.{clash, test_cases, then_heads, this_heads}
@@ -89,3 +89,96 @@ unsigned_no_type = refl
 pub array_no_type : plain_type (spelling signs.SafeArray) ≡ None
 unfolding plain_type
 array_no_type = refl
+
+pub void_no_type : plain_type (spelling signs.Void) ≡ None
+unfolding plain_type
+void_no_type = refl
+
+pub open_no_type : plain_type (spelling signs.Open) ≡ None
+unfolding plain_type
+open_no_type = refl
+
+pub right_no_type : plain_type (spelling signs.Right) ≡ None
+unfolding plain_type
+right_no_type = refl
+
+-- ---- kinds
+
+kind_known : {A : Type 0} (b : Bool) (o : Option A) (x : A) → (if b then o else None) ≡ Some x → b ≡ true
+kind_known true o x e = refl
+kind_known false o x e = absurd cc
+
+number_is : (k : Kind) → same_kind k kinds.Number ≡ true → k ≡ kinds.Number
+number_is kinds.Guid e = absurd cc
+number_is kinds.Name e = absurd cc
+number_is kinds.Number e = refl
+number_is kinds.Text e = absurd cc
+number_is kinds.Mark e = absurd cc
+number_is kinds.Junk e = absurd cc
+number_is kinds.End e = absurd cc
+
+text_is : (k : Kind) → same_kind k kinds.Text ≡ true → k ≡ kinds.Text
+text_is kinds.Guid e = absurd cc
+text_is kinds.Name e = absurd cc
+text_is kinds.Number e = absurd cc
+text_is kinds.Text e = refl
+text_is kinds.Mark e = absurd cc
+text_is kinds.Junk e = absurd cc
+text_is kinds.End e = absurd cc
+
+mark_no_text : (k : Kind) → same_kind k kinds.Mark ≡ true → same_kind k kinds.Text ≡ false
+mark_no_text kinds.Guid e = absurd cc
+mark_no_text kinds.Name e = absurd cc
+mark_no_text kinds.Number e = absurd cc
+mark_no_text kinds.Text e = absurd cc
+mark_no_text kinds.Mark e = refl
+mark_no_text kinds.Junk e = absurd cc
+mark_no_text kinds.End e = absurd cc
+
+name_no_text : (k : Kind) → same_kind k kinds.Name ≡ true → same_kind k kinds.Text ≡ false
+name_no_text kinds.Guid e = absurd cc
+name_no_text kinds.Name e = refl
+name_no_text kinds.Number e = absurd cc
+name_no_text kinds.Text e = absurd cc
+name_no_text kinds.Mark e = absurd cc
+name_no_text kinds.Junk e = absurd cc
+name_no_text kinds.End e = absurd cc
+
+other_kind : (k : Kind) (s : Sign) → same_kind k (kind_of s) ≡ false → (w : Word) → w.kind ≡ k → passes s w ≡ false
+unfolding passes
+other_kind k s ne w e = ap (λ (j : Kind). same_kind j (kind_of s) && bytes_eq w.text (spelling s)) e ∙ ap (λ (b : Bool). b && bytes_eq w.text (spelling s)) ne
+
+amount_kind : (negative : Bool) (i : ℤ) (w : Word) → amount_of negative w ≡ Some i → w.kind ≡ kinds.Number
+unfolding amount_of
+amount_kind negative i w e = number_is w.kind (kind_known (same_kind w.kind kinds.Number) _ i e)
+
+characters_kind : (cs : List ℕ) (w : Word) → characters_of w ≡ Some cs → w.kind ≡ kinds.Text
+unfolding characters_of
+characters_kind cs w e = text_is w.kind (kind_known (same_kind w.kind kinds.Text) _ cs e)
+
+-- the number of a default is no sign that is no number
+pub amount_no_sign : (s : Sign) → same_kind kinds.Number (kind_of s) ≡ false → (negative : Bool) (i : ℤ) (w : Word) → amount_of negative w ≡ Some i → passes s w ≡ false
+amount_no_sign s ne negative i w e = other_kind kinds.Number s ne w (amount_kind negative i w e)
+
+pub amount_no_text : (negative : Bool) (i : ℤ) (w : Word) → amount_of negative w ≡ Some i → is_text w ≡ false
+unfolding is_text
+amount_no_text negative i w e = ap (λ (k : Kind). same_kind k kinds.Text) (amount_kind negative i w e)
+
+pub characters_no_sign : (s : Sign) → same_kind kinds.Text (kind_of s) ≡ false → (cs : List ℕ) (w : Word) → characters_of w ≡ Some cs → passes s w ≡ false
+characters_no_sign s ne cs w e = other_kind kinds.Text s ne w (characters_kind cs w e)
+
+pub characters_text : (cs : List ℕ) (w : Word) → characters_of w ≡ Some cs → is_text w ≡ true
+unfolding is_text
+characters_text cs w e = ap (λ (k : Kind). same_kind k kinds.Text) (characters_kind cs w e)
+
+pub minus_no_text : (w : Word) → passes signs.Minus w ≡ true → is_text w ≡ false
+unfolding passes is_text
+minus_no_text w is = mark_no_text w.kind (and_parts (same_kind w.kind kinds.Mark) (bytes_eq w.text (spelling signs.Minus)) is).0
+
+pub true_no_text : (w : Word) → passes signs.True w ≡ true → is_text w ≡ false
+unfolding passes is_text
+true_no_text w is = name_no_text w.kind (and_parts (same_kind w.kind kinds.Name) (bytes_eq w.text (spelling signs.True)) is).0
+
+pub false_no_text : (w : Word) → passes signs.False w ≡ true → is_text w ≡ false
+unfolding passes is_text
+false_no_text w is = name_no_text w.kind (and_parts (same_kind w.kind kinds.Name) (bytes_eq w.text (spelling signs.False)) is).0

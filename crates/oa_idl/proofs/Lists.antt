@@ -1,15 +1,14 @@
 -- The reading of a list reads the form of the list.
-use Rattle.std.proofs.Common.{◌≡◌, ℕ, zero, suc, ◌+◌, ◌<◌, ◌≤◌, Bool, true, false, cond, List, [], ◌∷◌, ◌++◌, length, Option, Some, None, ◌⊎◌, refl, sym, ap, subst, ◌∙◌, append_assoc, arith}
-use Rattle.std.proofs.lemmas.List.{nil_from_length, append-nil, length-append}
-use Rattle.std.proofs.Math.Logic.{⊎_elim, inl, inr}
+use Rattle.std.proofs.Common.{◌≡◌, ℕ, zero, suc, ◌<◌, ◌≤◌, Bool, true, false, cond, List, [], ◌∷◌, ◌++◌, length, refl, sym, ap, subst, ◌∙◌, append_assoc, arith}
+use Rattle.std.proofs.lemmas.List.{nil_from_length, length-append}
+use Rattle.std.proofs.Math.Logic.{⊎_elim}
 use Rattle.oa_idl.specs.declared.stop.TreeLimit.{TreeLimit}
 use Rattle.oa_idl.specs.declared.stop.Stop.{Stop}
-use Rattle.oa_idl.specs.declared.stop.Stop.TheVariants.{Syntax, Memory}
-use Rattle.oa_idl.specs.declared.stop.Stop.TheVariants as stops
-use Rattle.oa_idl.specs.Forms.{Word, Form, Then, ◌▸◌, given, this, optional, with, listed, gathered, nowhere, Begins}
+use Rattle.oa_idl.specs.declared.stop.Stop.TheVariants.{Syntax}
+use Rattle.oa_idl.specs.Forms.{Word, ◌▸◌, given, this, optional, with, listed, gathered, nowhere, Begins}
 use Rattle.oa_idl.specs.Reading.{Step, Reading, and_then, bind, give, fail, heads, done, choose, rest_of, perhaps_at, until, list_at, gather, gather_at}
 use Rattle.oa_idl.specs.Reading.Step.{Got, Stuck}
-use Rattle.oa_idl.proofs.Parses.{Parses, Always, NoLimit, clash, enough, stuck_at, syntax_stops, got, said_parses, alike_parses, with_parses, skip_parses, given_parses, choose_parses, perhaps_parses, this_parses, then_heads, this_heads, add_fact, less_fact}
+use Rattle.oa_idl.proofs.Parses.{Parses, Always, NoLimit, clash, enough, stuck_at, syntax_stops, said_parses, alike_parses, with_parses, given_parses, choose_parses, perhaps_parses, this_parses, then_heads, this_heads, add_fact, less_fact}
 
 -- each item keeps a limit, by what came before it, and the end does
 abbrev pub KeepsFrom : {S A B : Type 0} → (S → A → S) → (S → A → Type 0) → (S → B → Type 0) → S → List A → B → Type 0

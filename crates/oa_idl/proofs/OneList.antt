@@ -1,10 +1,9 @@
 -- Bytes have one list of tokens.
-use Rattle.std.proofs.Common.{◌≡◌, ℕ, ◌+◌, ◌<◌, List, [], ◌∷◌, length, drop, refl, sym, ap, subst, ◌∙◌, arith}
+use Rattle.std.proofs.Common.{◌≡◌, ℕ, ◌+◌, List, ◌∷◌, drop, refl, sym, subst, ◌∙◌, arith}
 use Rattle.oa_idl.specs.declared.lexer.Kind.{Kind}
 use Rattle.oa_idl.specs.declared.lexer.Token.{Token}
-use Rattle.oa_idl.specs.declared.lexer.Piece.{Piece}
 use Rattle.oa_idl.specs.declared.lexer.Piece.TheVariants.{Word, Gap, Broken}
-use Rattle.oa_idl.specs.Tokens.{front, token, AreTokens}
+use Rattle.oa_idl.specs.Tokens.{token, AreTokens}
 use Rattle.oa_idl.specs.Tokens.AreTokens.{End, Apart, Next, Rest}
 
 gap_is : (m n : ℕ) → Gap m ≡ Gap n → m ≡ n

@@ -25,22 +25,22 @@ over_is m l b c name e = by_length (nat_lt 64 (length name)) refl e
     by_length true is e = inl (ltb-true 64 (length name) is, some_limit limits.Name l e)
     by_length false is e = by_count (nat_le b c) refl e
 
-free : (l m : TreeLimit) (name : List ℕ) → (m ≡ limits.Name → ⊥) → (m ≡ limits.Params → ⊥) → m ≡ l → TooLong l name
-free limits.Name m name apart never e = absurd (apart e)
-free limits.Interfaces m name apart never e = tt
-free limits.Coclasses m name apart never e = tt
-free limits.Members m name apart never e = tt
-free limits.Params m name apart never e = absurd (never e)
+free : (l m : TreeLimit) (name : List ℕ) → (m ≡ limits.Name → ⊥) → m ≡ l → TooLong l name
+free limits.Name m name apart e = absurd (apart e)
+free limits.Interfaces m name apart e = tt
+free limits.Coclasses m name apart e = tt
+free limits.Members m name apart e = tt
+free limits.Params m name apart e = tt
 
 long_name : (l : TreeLimit) (name : List ℕ) → 64 < length name → limits.Name ≡ l → TooLong l name
 long_name l name long e = subst (λ (k : TreeLimit). TooLong k name) e long
 
 -- a limit of a list is broken at a name
-pub over_named : (m : TreeLimit) (b c : ℕ) → (m ≡ limits.Name → ⊥) → (m ≡ limits.Params → ⊥) → (l : TreeLimit) (w : Word) (name : List ℕ) → name_of w ≡ Some name → over m b c name ≡ Some l → NamedAt l w
-over_named m b c apart never l w name is e = record {
+pub over_named : (m : TreeLimit) (b c : ℕ) → (m ≡ limits.Name → ⊥) → (l : TreeLimit) (w : Word) (name : List ℕ) → name_of w ≡ Some name → over m b c name ≡ Some l → NamedAt l w
+over_named m b c apart l w name is e = record {
   name = name;
   is = is;
-  long = ⊎_elim (λ (k : (64 < length name) × (limits.Name ≡ l)). long_name l name k.0 k.1) (λ (k : (b ≤ c) × (m ≡ l)). free l m name apart never k.1) (over_is m l b c name e);
+  long = ⊎_elim (λ (k : (64 < length name) × (limits.Name ≡ l)). long_name l name k.0 k.1) (λ (k : (b ≤ c) × (m ≡ l)). free l m name apart k.1) (over_is m l b c name e);
 }
 
 -- and so is that of names alone

@@ -1,14 +1,13 @@
 -- A reading reads a form: what it takes is of the form; where it stops, nothing of the form begins with the words up to that one; and no text of the form begins another.
-use Rattle.std.proofs.Common.{◌≡◌, ℕ, zero, suc, ◌+◌, ◌<◌, ◌≤◌, Bool, true, false, cond, List, [], ◌∷◌, ◌++◌, length, Option, Some, None, ◌⊎◌, refl, sym, ap, subst, ◌∙◌, append_assoc, arith}
-use Rattle.std.specs.List.{AllByRecursion}
-use Rattle.std.proofs.lemmas.List.{nil_from_length, append-nil, length-append}
+use Rattle.std.proofs.Common.{◌≡◌, ℕ, ◌≤◌, Bool, true, false, cond, List, [], ◌∷◌, ◌++◌, length, Option, Some, None, ◌⊎◌, refl, sym, ap, subst, ◌∙◌, append_assoc, arith}
+use Rattle.std.proofs.lemmas.List.{append-nil, length-append}
 use Rattle.std.proofs.Math.Logic.{⊎_elim, inl, inr}
 use Rattle.oa_idl.specs.declared.stop.TreeLimit.{TreeLimit}
 use Rattle.oa_idl.specs.declared.stop.Stop.{Stop}
 use Rattle.oa_idl.specs.declared.stop.Stop.TheVariants.{Syntax, Memory}
 use Rattle.oa_idl.specs.declared.stop.Stop.TheVariants as stops
-use Rattle.oa_idl.specs.Forms.{Word, Form, Then, ◌▸◌, nothing, given, this, one, optional, with, Begins}
-use Rattle.oa_idl.specs.Reading.{Step, Reading, and_then, bind, give, fail, heads, done, choose, rest_of, this_at, meaning_of, unless_over, if_meant, one_at, perhaps_at, require, demand}
+use Rattle.oa_idl.specs.Forms.{Word, Then, ◌▸◌, nothing, given, this, one, optional, with, Begins}
+use Rattle.oa_idl.specs.Reading.{Step, Reading, and_then, bind, give, heads, done, choose, rest_of, this_at, meaning_of, unless_over, if_meant, one_at, perhaps_at, require, demand}
 use Rattle.oa_idl.specs.Words.{never_over, NamedAt}
 use Rattle.oa_idl.specs.Reading.Step.{Got, Stuck}
 

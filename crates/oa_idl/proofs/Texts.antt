@@ -1,44 +1,45 @@
 -- The readings of attributes, types and properties read them.
-use Rattle.std.proofs.Common.{◌≡◌, ℕ, ◌+◌, ◌<◌, ◌≤◌, Bool, true, false, List, [], ◌∷◌, ◌++◌, length, Option, Some, None, refl, sym, ap, subst, ◌∙◌, arith}
+use Rattle.std.proofs.Common.{◌≡◌, ℕ, ◌<◌, Bool, true, false, List, [], ◌++◌, length, Some, None, refl, ap, arith}
 use Rattle.std.specs.Prelude.{ℤ, pos, not, is_some, ◌&&◌}
 use Rattle.std.proofs.Math.Logic.{⊎_elim, inl, inr}
 use Rattle.oa_model.specs.declared.var_type.VarType.{VarType}
 use Rattle.oa_model.specs.declared.var_type.ValueType.{ValueType}
 use Rattle.oa_model.specs.declared.var_type.ValueType.TheVariants as values
+use Rattle.std.specs.Str.{bytes_eq}
+use Rattle.oa_idl.specs.declared.sign.Sign.{Sign}
 use Rattle.oa_idl.specs.declared.sign.Sign.TheVariants as signs
 use Rattle.oa_idl.specs.declared.stop.TreeLimit.TheVariants as limits
 use Rattle.oa_idl.specs.declared.parts.Version.{Version}
 use Rattle.oa_idl.specs.declared.parts.Property.{Property}
 use Rattle.oa_idl.specs.declared.seen.HeadSeen.{HeadSeen}
-use Rattle.oa_idl.specs.declared.seen.Head.{Head}
 use Rattle.oa_idl.specs.declared.seen.PropertySeen.{PropertySeen}
 use Rattle.oa_idl.specs.declared.seen.PropertyHead.{PropertyHead}
-use Rattle.oa_idl.specs.Forms.{Word, Form, Then, ◌▸◌, nothing, given, this, one, either_of, where_is, with}
-use Rattle.oa_idl.specs.Words.{passes, is_text, name_of, over, guid_of, part_of, id_of, type_of, never_over}
-use Rattle.oa_idl.specs.Reading.{Step, Reading, bind, give, heads, choose, require, done, this_at, one_at}
+use Rattle.oa_idl.specs.Forms.{Word, ◌▸◌, one, either_of, where_is}
+use Rattle.oa_idl.specs.Words.{passes, spelling, plain_type, is_text, name_of, over, guid_of, part_of, id_of, type_of}
+use Rattle.oa_idl.specs.Reading.{bind, give, heads, done}
 use Rattle.oa_idl.specs.Grammar.{sign, help, HeadAttribute, head_attribute, no_head, head_may, head_grow, head_finish, head, type_word, value_type, PropertyAttribute, id_form, property_attribute, no_property, property_may, property_grow, property_finish, property_head, property}
 use Rattle.oa_idl.specs.Grammar.HeadAttribute.{Guid, Numbered, HeadHelp}
 use Rattle.oa_idl.specs.Grammar.PropertyAttribute.{Id, Readonly, PropertyHelp}
 use Rattle.oa_idl.specs.GrammarReading.{sign_at, help_at, minor_at, uuid_at, version_at, head_attribute_at, head_full, head_at, type_word_at, value_type_at, signed_at, id_at, property_attribute_at, property_full, property_head_at, property_at}
 use Rattle.oa_idl.proofs.Overs.{over_named}
-use Rattle.oa_idl.proofs.Parses.{Parses, Always, NoLimit, clash, said_parses, fact_parses, require_parses, part_parses, skip_parses, give_parses, one_parses, sure_parses, choose_parses, this_parses, end_parses, end_part_parses, then_heads, this_heads}
-use Rattle.oa_idl.proofs.Heads.{sign_heads, one_sign_heads, same_heads, one_heads, id_no_minus, type_no_sign, unsigned_no_type, array_no_type}
+use Rattle.oa_idl.proofs.Parses.{Parses, Always, NoLimit, clash, fact_parses, require_parses, part_parses, skip_parses, give_parses, one_parses, sure_parses, choose_parses, this_parses, end_parses, end_part_parses, this_heads}
+use Rattle.oa_idl.proofs.Heads.{sign_heads, one_sign_heads, same_heads, one_heads, this_some, id_no_minus, type_no_sign, unsigned_no_type, array_no_type}
 use Rattle.oa_idl.proofs.AttributeLists.{attributes_parses}
 
-help_parses : {n : ℕ} → Parses n Always (λ _. help) NoLimit Always help_at
+pub help_parses : {n : ℕ} → Parses n Always (λ _. help) NoLimit Always help_at
 unfolding help_at
 help_parses = skip_parses (passes signs.Helpstring) (skip_parses (passes signs.Left) (skip_parses is_text (this_parses (passes signs.Right))))
 
-full_left : (a b : Bool) → not a ≡ true → not (a && b) ≡ true
+pub full_left : (a b : Bool) → not a ≡ true → not (a && b) ≡ true
 full_left true b e = absurd cc
 full_left false b e = refl
 
-full_middle : (a b c : Bool) → not b ≡ true → not (a && (b && c)) ≡ true
+pub full_middle : (a b c : Bool) → not b ≡ true → not (a && (b && c)) ≡ true
 full_middle true true c e = absurd cc
 full_middle true false c e = refl
 full_middle false b c e = refl
 
-full_right : (a b c : Bool) → not c ≡ true → not (a && (b && c)) ≡ true
+pub full_right : (a b c : Bool) → not c ≡ true → not (a && (b && c)) ≡ true
 full_right a b true e = absurd cc
 full_right true true false e = refl
 full_right true false false e = refl
@@ -239,9 +240,27 @@ value_type_parses = choose_parses {A = λ v ws. (is_array v ≡ true) × array_f
     from_other (values.One t) text f = f.1
     from_other (values.Array t) text f = absurd (clash refl f.0)
 
+-- a type begins with no other sign
+type_word_heads : (a : Sign) → plain_type (spelling a) ≡ None → bytes_eq (spelling signs.Unsigned) (spelling a) ≡ false → (in_array : Bool) (t : VarType) (text more : List Word) → type_word in_array t text → heads (passes a) (text ++ more) ≡ false
+type_word_heads a none ne in_array t text more f = ⊎_elim (λ (k : (sign signs.Unsigned ▸ one (type_of in_array true) t) text). sign_heads a signs.Unsigned ne text more k)
+    (λ (k : one (type_of in_array false) t text). one_heads (type_of in_array false) (passes a) t (λ w e. type_no_sign a none in_array t w e) text more k) f
+
+pub value_type_heads : (a : Sign) → plain_type (spelling a) ≡ None → bytes_eq (spelling signs.Unsigned) (spelling a) ≡ false → bytes_eq (spelling signs.SafeArray) (spelling a) ≡ false → (v : ValueType) (text more : List Word) → value_type v text → heads (passes a) (text ++ more) ≡ false
+unfolding value_type
+value_type_heads a none ne other (values.One t) text more f = type_word_heads a none ne false t text more f
+value_type_heads a none ne other (values.Array t) text more f = sign_heads a signs.SafeArray other text more f
+
+type_word_some : (in_array : Bool) (t : VarType) (text : List Word) → type_word in_array t text → 0 < length text
+type_word_some in_array t text f = ⊎_elim (λ (k : (sign signs.Unsigned ▸ one (type_of in_array true) t) text). this_some text k) (λ (k : one (type_of in_array false) t text). omega (arith, ap length k.parts)) f
+
+pub value_type_some : (v : ValueType) (text : List Word) → value_type v text → 0 < length text
+unfolding value_type
+value_type_some (values.One t) text f = type_word_some false t text f
+value_type_some (values.Array t) text f = this_some text f
+
 -- ---- properties
 
-signed_parses : {n : ℕ} → Parses n Always id_form NoLimit Always signed_at
+pub signed_parses : {n : ℕ} → Parses n Always id_form NoLimit Always signed_at
 unfolding signed_at
 signed_parses = choose_parses {A = λ i. sign signs.Minus ▸ one (id_of true) i} {B = one (id_of false)} (passes signs.Minus)
     (λ i text more _ f is. ⊎_elim (λ (k : (sign signs.Minus ▸ one (id_of true) i) text). k) (λ (k : one (id_of false) i text). absurd (clash is (plain_heads i text more k))) f)
@@ -363,5 +382,5 @@ marks p = record { id = p.id; readonly = p.readonly }
 pub property_parses : {n : ℕ} (count : ℕ) → Parses n Always property (λ l p. over limits.Members 512 count p.name ≡ Some l → ⊥) (λ p. over limits.Members 512 count p.name ≡ None) (property_at count)
 unfolding property_at property_with marks
 property_parses count = part_parses marks property_head_parses (λ l p h k. tt) (λ h. part_parses (λ p. p.value_type) value_type_parses (λ l p h k. tt) (λ t.
-    part_parses (λ p. p.name) (one_parses name_of (over limits.Members 512 count) (over_named limits.Members 512 count (λ k. absurd cc) (λ k. absurd cc))) (λ l p h k. k) (λ name. skip_parses (passes signs.Semicolon)
+    part_parses (λ p. p.name) (one_parses name_of (over limits.Members 512 count) (over_named limits.Members 512 count (λ k. absurd cc))) (λ l p h k. k) (λ name. skip_parses (passes signs.Semicolon)
     (give_parses (property_with h.id h.readonly t name) (((tt, refl), refl), refl) (λ kept _ _. kept) (λ p k. λ i. record { id = (k.0.0.1 i).id; readonly = (k.0.0.1 i).readonly; value_type = k.0.1 i; name = k.1 i })))))

@@ -1,5 +1,5 @@
 -- The readings of items and of a whole text read the grammar.
-use Rattle.std.proofs.Common.{◌≡◌, ℕ, ◌+◌, ◌<◌, ◌≤◌, Bool, true, false, List, [], ◌∷◌, ◌++◌, length, Option, Some, None, refl, sym, ap, subst, ◌∙◌, arith}
+use Rattle.std.proofs.Common.{◌≡◌, ℕ, ◌<◌, Bool, true, false, List, [], ◌∷◌, ◌++◌, length, Some, None, refl, sym, ap, subst, ◌∙◌, arith}
 use Rattle.std.specs.Prelude.{not, ◌&&◌, ◌||◌}
 use Rattle.std.proofs.Math.Logic.{⊎_elim, inl, inr}
 use Rattle.std.specs.Str.{bytes_eq}
@@ -8,7 +8,6 @@ use Rattle.oa_idl.specs.declared.stop.TreeLimit.{TreeLimit}
 use Rattle.oa_idl.specs.declared.stop.TreeLimit.TheVariants as limits
 use Rattle.oa_idl.specs.declared.sign.Sign.{Sign}
 use Rattle.oa_idl.specs.declared.sign.Sign.TheVariants as signs
-use Rattle.oa_idl.specs.declared.parts.Version.{Version}
 use Rattle.oa_idl.specs.declared.parts.Property.{Property}
 use Rattle.oa_idl.specs.declared.parts.Entry.{Entry}
 use Rattle.oa_idl.specs.declared.items.Item.{Item}
@@ -16,18 +15,21 @@ use Rattle.oa_idl.specs.declared.items.Item.TheVariants as items
 use Rattle.oa_idl.specs.declared.seen.Head.{Head}
 use Rattle.oa_idl.specs.declared.seen.EntriesSeen.{EntriesSeen}
 use Rattle.oa_idl.specs.declared.seen.ItemsSeen.{ItemsSeen}
-use Rattle.oa_idl.specs.Values.{InterfaceValue, CoclassValue}
 use Rattle.oa_idl.specs.Trees.{TreeValue}
-use Rattle.oa_idl.specs.Forms.{Word, Form, Then, ◌▸◌, nothing, given, this, one, optional, either_of, where_is, with, listed, nowhere}
-use Rattle.oa_idl.specs.Words.{passes, spelling, name_of, over, too_long}
-use Rattle.oa_idl.specs.Reading.{Step, Reading, bind, give, heads, choose, require, done, this_at, one_at, list_at}
-use Rattle.oa_idl.specs.Grammar.{sign, head, property, one_more, closing, members, interface, entry_word, named, entry_by, no_entry, entry_may, entry_grow, entry, last_entry, coclass, guid_of_item, body, item, no_items, items_grow, semicolon_after, library}
-use Rattle.oa_idl.specs.GrammarReading.{sign_at, head_at, property_at, closing_at, properties_at, members_at, interface_at, named_at, entry_at, last_entry_at, entries_at, coclass_at, item_at, items_at, library_at}
+use Rattle.oa_idl.specs.Forms.{Word, ◌▸◌, given, where_is, with, listed, nowhere}
+use Rattle.oa_idl.specs.MethodValues.{MethodValue}
+use Rattle.oa_idl.specs.Words.{passes, spelling, is_text, name_of, over, too_long}
+use Rattle.oa_idl.specs.Reading.{bind, give, heads, done, list_at}
+use Rattle.oa_idl.specs.Grammar.{sign, head, property, one_more, closing, methods, members, interface, entry_word, named, entry_by, no_entry, entry_may, entry_grow, entry, last_entry, coclass, guid_of_item, body, item, no_items, items_grow, Content, importing, element, semicolon_after, elements_grow, items_in, elements, library}
+use Rattle.oa_idl.specs.Grammar.Content.{Import, OfItem}
+use Rattle.oa_idl.specs.GrammarReading.{property_at, closing_at, methods_at, ends_properties, members_at, interface_at, named_at, entry_at, last_entry_at, entries_at, coclass_at, item_at, import_at, element_at, elements_within, elements_at, library_at}
 use Rattle.oa_idl.proofs.Overs.{over_named, long_named}
-use Rattle.oa_idl.proofs.Parses.{Parses, Always, NoLimit, clash, enough, said_parses, fact_parses, require_parses, part_parses, with_parses, skip_parses, give_parses, one_parses, choose_parses, perhaps_parses, this_parses, end_parses, end_part_parses, limit_parses, then_heads, this_heads}
+use Rattle.oa_idl.proofs.Parses.{Parses, Always, NoLimit, clash, enough, said_parses, alike_parses, given_parses, fact_parses, require_parses, part_parses, with_parses, skip_parses, give_parses, one_parses, choose_parses, perhaps_parses, this_parses, end_part_parses, then_heads, this_heads}
 use Rattle.oa_idl.proofs.Lists.{KeepsFrom, both, list_parses}
 use Rattle.oa_idl.proofs.Heads.{other_sign, one_sign_heads, sign_heads, same_heads, this_some}
+use Rattle.oa_idl.proofs.Choices.{tagged_parses, branch_parses, first_heads}
 use Rattle.oa_idl.proofs.Texts.{head_parses, property_parses}
+use Rattle.oa_idl.proofs.MethodTexts.{MethodsKeep, MethodsKept, methods_parses, methods_heads, methods_begin, open_ends_nothing}
 
 never_heads : {A : Type 0} (x : A) (words : List Word) → heads (nowhere x) words ≡ false
 never_heads x [] = refl
@@ -45,48 +47,51 @@ MemberKept n p = over limits.Members 512 n p.name ≡ None
 abbrev pub Nothing : {S B : Type 0} → S → B → Type 0
 Nothing s b = Unit {0}
 
-abbrev pub MembersKeep : TreeLimit → List Property → Type 0
-MembersKeep l ps = KeepsFrom {B = Unit {0}} one_more (λ n p. MemberKeeps n l p) Nothing 0 ps tt
+abbrev pub MembersKeep : TreeLimit → List Property → List MethodValue → Type 0
+MembersKeep l ps ms = KeepsFrom one_more (λ n p. MemberKeeps n l p) (λ n ms. MethodsKeep n l ms) 0 ps ms
 
-abbrev pub MembersKept : List Property → Type 0
-MembersKept ps = KeepsFrom {B = Unit {0}} one_more MemberKept Nothing 0 ps tt
+abbrev pub MembersKept : List Property → List MethodValue → Type 0
+MembersKept ps ms = KeepsFrom one_more MemberKept MethodsKept 0 ps ms
 
 closing_parses : {S : Type 0} (n : ℕ) (s : S) → Parses n Always (closing s) NoLimit Always (closing_at s)
 closing_parses n s = this_parses (passes signs.Finish)
 
-property_heads : (a : Sign) → bytes_eq (spelling signs.Open) (spelling a) ≡ false → (p : Property) (text more : List Word) → property p text → heads (passes a) (text ++ more) ≡ false
+property_heads : (test : Word → Bool) → ((w : Word) → passes signs.Open w ≡ true → test w ≡ false) → (p : Property) (text more : List Word) → property p text → heads test (text ++ more) ≡ false
 unfolding Rattle.oa_idl.specs.Grammar.property_head
-property_heads a ne p text more f = then_heads (passes a) false text more (λ front left h. sign_heads a signs.Open ne front left h) f
+property_heads test is p text more f = then_heads test false text more (λ front left h. first_heads test (passes signs.Open) false is front left h) f
 
 property_some : (p : Property) (text : List Word) → property p text → 0 < length text
 unfolding Rattle.oa_idl.specs.Grammar.property_head
 property_some p text f = omega (arith, this_some f.front f.first, ap length f.parts, length-append f.front f.back)
 
-abbrev ps_of : List Property × Unit {0} → List Property
-ps_of p = p.0
+-- the members of both sections
+abbrev Members : Type 0
+Members = List Property × List MethodValue
 
-properties_parses : {n : ℕ} → Parses n Always (λ p. listed (λ n. property) one_more nowhere closing 0 p.0 p.1) (λ l p. KeepsFrom one_more (λ n x. MemberKeeps n l x) Nothing 0 p.0 p.1) (λ p. KeepsFrom one_more MemberKept Nothing 0 p.0 p.1) properties_at
-unfolding properties_at
-properties_parses {n} = list_parses one_more (passes signs.Finish) nowhere (λ n s. property_parses s) closing_parses (λ s p text f. property_some p text f) (λ s p text more f. property_heads signs.Finish refl p text more f)
-    (λ s b text more f. this_heads (passes signs.Finish) text more f) (λ y s p text more f. never_heads y (text ++ more)) (λ y s b text more f. never_heads y (text ++ more)) n 0
+abbrev properties_in : Members → List Property
+properties_in p = p.0
 
-members_parses : {n : ℕ} → Parses n Always members MembersKeep MembersKept members_at
-unfolding members_at
-members_parses = choose_parses {A = section} {B = λ ps ws. (ps ≡ []) × sign signs.Finish ws} (passes signs.Properties)
-    (λ ps text more _ f is. ⊎_elim (λ (k : section ps text). k) (λ (k : where_is (ps ≡ []) (sign signs.Finish) text). absurd (clash is (one_sign_heads signs.Properties signs.Finish refl text more k.1))) f)
-    (λ ps text more _ f is. ⊎_elim (λ (k : section ps text). absurd (clash (same_heads signs.Properties text more k) is)) (λ (k : where_is (ps ≡ []) (sign signs.Finish) text). k) f)
-    (λ ps text _ f. inl f) (λ ps text _ f. inr f)
-    (skip_parses (passes signs.Properties) (skip_parses (passes signs.Colon) (end_part_parses (λ ps. both ps tt) ps_of properties_parses (λ l ps h k. k) (λ a. (tt, whole a)) (λ a kept. kept_of a kept) (λ a ps h. ap ps_of h.1))))
-    (fact_parses (end_parses (passes signs.Finish) [] (tt, refl) tt (λ ps h. h.1)))
+abbrev methods_in : Members → List MethodValue
+methods_in p = p.1
+
+section : Members → List Word → Type 0
+section p = sign signs.Properties ▸ sign signs.Colon ▸ listed (λ n. property) one_more nowhere methods 0 p.0 p.1
+
+list_members_parses : {n : ℕ} → Parses n Always (λ (p : Members). listed (λ n. property) one_more nowhere methods 0 p.0 p.1) (λ l p. MembersKeep l p.0 p.1) (λ p. MembersKept p.0 p.1) (list_at ends_properties nowhere property_at one_more methods_at 0)
+list_members_parses {n} = list_parses one_more ends_properties nowhere (λ n s. property_parses s) (λ n s. methods_parses s) (λ s p text f. property_some p text f) (λ s p text more f. property_heads ends_properties open_ends_nothing p text more f)
+    (λ s ms text more f. methods_heads s ms text more f) (λ y s p text more f. never_heads y (text ++ more)) (λ y s ms text more f. never_heads y (text ++ more)) n 0
+
+members_parses : {n : ℕ} → Parses n Always (λ (p : Members). members p.0 p.1) (λ l p. MembersKeep l p.0 p.1) (λ p. MembersKept p.0 p.1) members_at
+unfolding members_at section
+members_parses = choose_parses {A = section} {B = λ p ws. (p.0 ≡ []) × methods 0 p.1 ws} (passes signs.Properties)
+    (λ p text more _ f is. ⊎_elim (λ (k : section p text). k) (λ (k : where_is (p.0 ≡ []) (methods 0 p.1) text). absurd (clash is (methods_begin 0 p.1 text more k.1))) f)
+    (λ p text more _ f is. ⊎_elim (λ (k : section p text). absurd (clash (same_heads signs.Properties text more k) is)) (λ (k : where_is (p.0 ≡ []) (methods 0 p.1) text). k) f)
+    (λ p text _ f. inl f) (λ p text _ f. inr f)
+    (skip_parses (passes signs.Properties) (skip_parses (passes signs.Colon) list_members_parses))
+    (fact_parses (end_part_parses methods_in alone_methods (methods_parses 0) (λ l p h k. subst (λ (ps : List Property). KeepsFrom one_more (λ n x. MemberKeeps n l x) (λ n ms. MethodsKeep n l ms) 0 ps p.1) h.1 k) (λ ms. ((tt, refl), refl)) (λ ms kept. kept) (λ ms p h. λ i. (h.0.1 i, h.1 i))))
   where
-    section : List Property → List Word → Type 0
-    section ps = sign signs.Properties ▸ sign signs.Colon ▸ listed (λ n. property) one_more nowhere closing 0 ps tt
-
-    whole : (a : List Property × Unit {0}) → both (ps_of a) tt ≡ a
-    whole a = refl
-
-    kept_of : (a : List Property × Unit {0}) → KeepsFrom one_more MemberKept Nothing 0 a.0 a.1 → MembersKept (ps_of a)
-    kept_of a k = k
+    alone_methods : List MethodValue → Members
+    alone_methods ms = ([], ms)
 
 -- ---- items
 
@@ -98,9 +103,9 @@ abbrev title : Item → List ℕ
 title (items.Interface d) = d.name
 title (items.Coclass c) = c.name
 
-abbrev properties_of : Item → List Property
-properties_of (items.Interface d) = d.properties
-properties_of (items.Coclass c) = []
+abbrev members_of : Item → Members
+members_of (items.Interface d) = (d.properties, d.methods)
+members_of (items.Coclass c) = ([], [])
 
 abbrev entries_of : Item → List Entry
 entries_of (items.Interface d) = []
@@ -114,23 +119,23 @@ EntriesKept es = KeepsFrom {B = Unit {0}} entry_grow (λ s e. too_long e.interfa
 
 -- an item keeps a limit, after those of s
 abbrev pub ItemKeeps : ItemsSeen → TreeLimit → Item → Type 0
-ItemKeeps s l (items.Interface d) = (over limits.Interfaces 256 s.interfaces d.name ≡ Some l → ⊥) × MembersKeep l d.properties
+ItemKeeps s l (items.Interface d) = (over limits.Interfaces 256 s.interfaces d.name ≡ Some l → ⊥) × MembersKeep l d.properties d.methods
 ItemKeeps s l (items.Coclass c) = (over limits.Coclasses 256 s.coclasses c.name ≡ Some l → ⊥) × EntriesKeep l c.entries
 
 abbrev pub ItemKept : ItemsSeen → Item → Type 0
-ItemKept s (items.Interface d) = (over limits.Interfaces 256 s.interfaces d.name ≡ None) × MembersKept d.properties
+ItemKept s (items.Interface d) = (over limits.Interfaces 256 s.interfaces d.name ≡ None) × MembersKept d.properties d.methods
 ItemKept s (items.Coclass c) = (over limits.Coclasses 256 s.coclasses c.name ≡ None) × EntriesKept c.entries
 
-interface_item : List ℕ → List ℕ → List Property → Item
-interface_item guid name properties = items.Interface (record { guid = guid; name = name; properties = properties })
+interface_item : List ℕ → List ℕ → Members → Item
+interface_item guid name all = items.Interface (record { guid = guid; name = name; properties = all.0; methods = all.1 })
 
 coclass_item : List ℕ → List ℕ → List Entry → Item
 coclass_item guid name entries = items.Coclass (record { guid = guid; name = name; entries = entries })
 
-only_interface : (guid name : List ℕ) (ps : List Property) (x : Item) → guid ≡ guid_of_item x → is_interface x ≡ true → title x ≡ name → properties_of x ≡ ps → x ≡ interface_item guid name ps
+only_interface : (guid name : List ℕ) (all : Members) (x : Item) → guid ≡ guid_of_item x → is_interface x ≡ true → title x ≡ name → members_of x ≡ all → x ≡ interface_item guid name all
 unfolding interface_item
-only_interface guid name ps (items.Interface d) a b c e = λ i. items.Interface (record { guid = sym a i; name = c i; properties = e i })
-only_interface guid name ps (items.Coclass c) a b t e = absurd (clash b refl)
+only_interface guid name all (items.Interface d) a b c e = λ i. items.Interface (record { guid = sym a i; name = c i; properties = properties_in (e i); methods = methods_in (e i) })
+only_interface guid name all (items.Coclass c) a b t e = absurd (clash b refl)
 
 only_coclass : (guid name : List ℕ) (es : List Entry) (x : Item) → guid ≡ guid_of_item x → is_interface x ≡ false → title x ≡ name → entries_of x ≡ es → x ≡ coclass_item guid name es
 unfolding coclass_item
@@ -141,7 +146,7 @@ interface_title : (s : ItemsSeen) (l : TreeLimit) (x : Item) → is_interface x 
 interface_title s l (items.Interface d) is k = k.0
 interface_title s l (items.Coclass c) is k = absurd (clash is refl)
 
-interface_members : (s : ItemsSeen) (l : TreeLimit) (x : Item) → is_interface x ≡ true → ItemKeeps s l x → MembersKeep l (properties_of x)
+interface_members : (s : ItemsSeen) (l : TreeLimit) (x : Item) → is_interface x ≡ true → ItemKeeps s l x → MembersKeep l (members_of x).0 (members_of x).1
 interface_members s l (items.Interface d) is k = k.1
 interface_members s l (items.Coclass c) is k = absurd (clash is refl)
 
@@ -153,11 +158,11 @@ coclass_entries : (s : ItemsSeen) (l : TreeLimit) (x : Item) → is_interface x 
 coclass_entries s l (items.Interface d) is k = absurd (clash refl is)
 coclass_entries s l (items.Coclass c) is k = k.1
 
-interface_parses : {n : ℕ} (s : ItemsSeen) (guid : List ℕ) → Parses n (λ x. Always x × (guid ≡ guid_of_item x)) (λ x ws. (is_interface x ≡ true) × interface (title x) (properties_of x) ws) (ItemKeeps s) (ItemKept s) (interface_at s guid)
+interface_parses : {n : ℕ} (s : ItemsSeen) (guid : List ℕ) → Parses n (λ x. Always x × (guid ≡ guid_of_item x)) (λ x ws. (is_interface x ≡ true) × interface (title x) (members_of x).0 (members_of x).1 ws) (ItemKeeps s) (ItemKept s) (interface_at s guid)
 unfolding interface_at interface_item
-interface_parses s guid = fact_parses (skip_parses (passes signs.Dispinterface) (part_parses title (one_parses name_of (over limits.Interfaces 256 s.interfaces) (over_named limits.Interfaces 256 s.interfaces (λ k. absurd cc) (λ k. absurd cc))) (λ l x h k. interface_title s l x h.1 k) (λ name. skip_parses (passes signs.Begin)
-    (part_parses properties_of members_parses (λ l x h k. interface_members s l x h.0.1 k) (λ ps. give_parses (interface_item guid name ps) ((((tt, refl), refl), refl), refl) (λ all kept. (kept, all))
-    (λ x h. only_interface guid name ps x h.0.0.0.1 h.0.0.1 h.0.1 h.1))))))
+interface_parses s guid = fact_parses (skip_parses (passes signs.Dispinterface) (part_parses title (one_parses name_of (over limits.Interfaces 256 s.interfaces) (over_named limits.Interfaces 256 s.interfaces (λ k. absurd cc))) (λ l x h k. interface_title s l x h.1 k) (λ name. skip_parses (passes signs.Begin)
+    (part_parses members_of members_parses (λ l x h k. interface_members s l x h.0.1 k) (λ all. give_parses (interface_item guid name all) ((((tt, refl), refl), refl), refl) (λ kept short. (short, kept))
+    (λ x h. only_interface guid name all x h.0.0.0.1 h.0.0.1 h.0.1 h.1))))))
 
 -- ---- entries
 
@@ -227,7 +232,7 @@ entries_of_item x = both (entries_of x) tt
 
 coclass_parses : {n : ℕ} (s : ItemsSeen) (guid : List ℕ) → Parses n (λ x. Always x × (guid ≡ guid_of_item x)) (λ x ws. (is_interface x ≡ false) × coclass (title x) (entries_of x) ws) (ItemKeeps s) (ItemKept s) (coclass_at s guid)
 unfolding coclass_at coclass_item entries_of_item
-coclass_parses s guid = fact_parses (skip_parses (passes signs.Coclass) (part_parses title (one_parses name_of (over limits.Coclasses 256 s.coclasses) (over_named limits.Coclasses 256 s.coclasses (λ k. absurd cc) (λ k. absurd cc))) (λ l x h k. coclass_title s l x h.1 k) (λ name. skip_parses (passes signs.Begin)
+coclass_parses s guid = fact_parses (skip_parses (passes signs.Coclass) (part_parses title (one_parses name_of (over limits.Coclasses 256 s.coclasses) (over_named limits.Coclasses 256 s.coclasses (λ k. absurd cc))) (λ l x h k. coclass_title s l x h.1 k) (λ name. skip_parses (passes signs.Begin)
     (part_parses entries_of_item entries_parses (λ l x h k. coclass_entries s l x h.0.1 k) (λ es. give_parses (coclass_item guid name es.0) ((((tt, refl), refl), refl), refl) (λ all kept. (kept, all))
     (λ x h. only_coclass guid name es.0 x h.0.0.0.1 h.0.0.1 h.0.1 (ap es_of h.1)))))))
 
@@ -236,11 +241,11 @@ coclass_parses s guid = fact_parses (skip_parses (passes signs.Coclass) (part_pa
 item_parses : {n : ℕ} (s : ItemsSeen) → Parses n Always item (ItemKeeps s) (ItemKept s) (item_at s)
 unfolding item_at
 item_parses {n} s = with_parses {G = λ h x ws. (h.guid ≡ guid_of_item x) × body x ws} (head_parses false) (enough (head false) n) (λ l h x text _ g k. tt) (λ h.
-    fact_parses (choose_parses {A = λ x ws. (is_interface x ≡ true) × interface (title x) (properties_of x) ws} {B = λ x ws. (is_interface x ≡ false) × coclass (title x) (entries_of x) ws} (passes signs.Dispinterface)
+    fact_parses (choose_parses {A = λ x ws. (is_interface x ≡ true) × interface (title x) (members_of x).0 (members_of x).1 ws} {B = λ x ws. (is_interface x ≡ false) × coclass (title x) (entries_of x) ws} (passes signs.Dispinterface)
     (λ x text more _ f is. yes x text more f is) (λ x text more _ f is. other x text more f is) (λ x text _ f. from_yes x text f) (λ x text _ f. from_other x text f)
     (said_parses (λ c h. h) (λ c h. h) (λ c t h f. f) (λ c t h f. f) (λ c h _. h) (interface_parses s h.guid)) (said_parses (λ c h. h) (λ c h. h) (λ c t h f. f) (λ c t h f. f) (λ c h _. h) (coclass_parses s h.guid))))
   where
-    yes : (x : Item) (text more : List Word) → body x text → heads (passes signs.Dispinterface) (text ++ more) ≡ true → (is_interface x ≡ true) × interface (title x) (properties_of x) text
+    yes : (x : Item) (text more : List Word) → body x text → heads (passes signs.Dispinterface) (text ++ more) ≡ true → (is_interface x ≡ true) × interface (title x) (members_of x).0 (members_of x).1 text
     yes (items.Interface d) text more f is = (refl, f)
     yes (items.Coclass c) text more f is = absurd (clash is (sign_heads signs.Dispinterface signs.Coclass refl text more f))
 
@@ -248,7 +253,7 @@ item_parses {n} s = with_parses {G = λ h x ws. (h.guid ≡ guid_of_item x) × b
     other (items.Interface d) text more f is = absurd (clash (same_heads signs.Dispinterface text more f) is)
     other (items.Coclass c) text more f is = (refl, f)
 
-    from_yes : (x : Item) (text : List Word) → (is_interface x ≡ true) × interface (title x) (properties_of x) text → body x text
+    from_yes : (x : Item) (text : List Word) → (is_interface x ≡ true) × interface (title x) (members_of x).0 (members_of x).1 text → body x text
     from_yes (items.Interface d) text f = f.1
     from_yes (items.Coclass c) text f = absurd (clash f.0 refl)
 
@@ -264,33 +269,116 @@ item_some : (x : Item) (text : List Word) → item x text → 0 < length text
 unfolding head
 item_some x text f = omega (arith, this_some f.form.front f.form.first, ap length f.form.parts, length-append f.form.front f.form.back)
 
-items_parses : {n : ℕ} → Parses n Always (λ p. listed (λ s. item) items_grow semicolon_after closing no_items p.0 p.1) (λ l p. KeepsFrom items_grow (λ s x. ItemKeeps s l x) Nothing no_items p.0 p.1) (λ p. KeepsFrom items_grow ItemKept Nothing no_items p.0 p.1) items_at
-unfolding items_at
-items_parses {n} = list_parses items_grow (passes signs.Finish) semicolon_after (λ n s. item_parses s) closing_parses (λ s x text f. item_some x text f) (λ s x text more f. item_heads signs.Finish refl x text more f)
-    (λ s b text more f. this_heads (passes signs.Finish) text more f) (λ y s x text more f. item_heads signs.Semicolon refl x text more f) (λ y s b text more f. one_sign_heads signs.Semicolon signs.Finish refl text more f) n no_items
+-- ---- imports
+
+abbrev pub ContentKeeps : ItemsSeen → TreeLimit → Content → Type 0
+ContentKeeps s l Import = Unit {0}
+ContentKeeps s l (OfItem x) = ItemKeeps s l x
+
+abbrev pub ContentKept : ItemsSeen → Content → Type 0
+ContentKept s Import = Unit {0}
+ContentKept s (OfItem x) = ItemKept s x
+
+abbrev is_import : Content → Bool
+is_import Import = true
+is_import (OfItem x) = false
+
+abbrev item_in : Content → Item
+item_in Import = items.Coclass (record { guid = []; name = []; entries = [] })
+item_in (OfItem x) = x
+
+import_heads : (e : Content) (text more : List Word) → element e text → heads (passes signs.Importlib) (text ++ more) ≡ is_import e
+unfolding element
+import_heads Import text more f = same_heads signs.Importlib text more f
+import_heads (OfItem x) text more f = item_heads signs.Importlib refl x text more f
+
+only_import : (e : Content) → Always e × (is_import e ≡ true) → e ≡ Import
+only_import Import h = refl
+only_import (OfItem x) h = absurd (clash h.1 refl)
+
+only_item : (e : Content) → Always e × (is_import e ≡ false) → e ≡ OfItem (item_in e)
+only_item Import h = absurd (clash refl h.1)
+only_item (OfItem x) h = refl
+
+item_keeps : (s : ItemsSeen) (l : TreeLimit) (e : Content) → Always e × (is_import e ≡ false) → ContentKeeps s l e → ItemKeeps s l (item_in e)
+item_keeps s l Import h k = absurd (clash refl h.1)
+item_keeps s l (OfItem x) h k = k
+
+import_parses : {n : ℕ} → Parses n Always (λ (_ : Unit {0}). importing) NoLimit Always import_at
+unfolding import_at
+import_parses = skip_parses (passes signs.Importlib) (skip_parses (passes signs.Left) (skip_parses is_text (skip_parses (passes signs.Right) (this_parses (passes signs.Semicolon)))))
+
+element_parses : {n : ℕ} (s : ItemsSeen) → Parses n Always element (ContentKeeps s) (ContentKept s) (element_at s)
+unfolding element element_at
+element_parses s = tagged_parses {F = element} (passes signs.Importlib) is_import import_heads
+    (branch_parses {F = element} (λ (_ : Unit {0}). Import) (λ _. done) only_import (λ a. ((tt, refl), refl)) (λ l c h k. tt) (λ a h. tt) import_parses)
+    (branch_parses {F = element} (λ x. OfItem x) item_in only_item (λ a. ((tt, refl), refl)) (λ l c h k. item_keeps s l c h k) (λ a h. h) (item_parses s))
+
+element_heads : (a : Sign) → bytes_eq (spelling signs.Open) (spelling a) ≡ false → bytes_eq (spelling signs.Importlib) (spelling a) ≡ false → (e : Content) (text more : List Word) → element e text → heads (passes a) (text ++ more) ≡ false
+unfolding element
+element_heads a x y Import text more f = sign_heads a signs.Importlib y text more f
+element_heads a x y (OfItem i) text more f = item_heads a x i text more f
+
+element_some : (e : Content) (text : List Word) → element e text → 0 < length text
+unfolding element
+element_some Import text f = this_some text f
+element_some (OfItem x) text f = item_some x text f
+
+not_after : (y : Content) (words : List Word) → heads (passes signs.Semicolon) words ≡ false → heads (semicolon_after y) words ≡ false
+not_after Import [] h = refl
+not_after Import (w ∷ words) h = refl
+not_after (OfItem x) [] h = refl
+not_after (OfItem x) (w ∷ words) h = h
+
+abbrev contents_of : List Content × Unit {0} → List Content
+contents_of p = p.0
+
+contents_parses : {n : ℕ} → Parses n Always (λ p. listed (λ s. element) elements_grow semicolon_after closing no_items p.0 p.1) (λ l p. KeepsFrom elements_grow (λ s x. ContentKeeps s l x) Nothing no_items p.0 p.1) (λ p. KeepsFrom elements_grow ContentKept Nothing no_items p.0 p.1) (list_at (passes signs.Finish) semicolon_after element_at elements_grow closing_at no_items)
+contents_parses {n} = list_parses elements_grow (passes signs.Finish) semicolon_after (λ n s. element_parses s) closing_parses (λ s x text f. element_some x text f) (λ s x text more f. element_heads signs.Finish refl refl x text more f)
+    (λ s b text more f. this_heads (passes signs.Finish) text more f) (λ y s x text more f. not_after y (text ++ more) (element_heads signs.Semicolon refl refl x text more f)) (λ y s b text more f. not_after y (text ++ more) (one_sign_heads signs.Semicolon signs.Finish refl text more f)) n no_items
+
+abbrev pub ItemsKeep : TreeLimit → ItemsSeen → List Item → Type 0
+ItemsKeep l s xs = KeepsFrom {B = Unit {0}} items_grow (λ s x. ItemKeeps s l x) Nothing s xs tt
+
+abbrev pub ItemsKept : ItemsSeen → List Item → Type 0
+ItemsKept s xs = KeepsFrom {B = Unit {0}} items_grow ItemKept Nothing s xs tt
+
+contents_keep : (l : TreeLimit) (s : ItemsSeen) (es : List Content) → ItemsKeep l s (items_in es) → KeepsFrom {B = Unit {0}} elements_grow (λ s x. ContentKeeps s l x) Nothing s es tt
+contents_keep l s [] k = tt
+contents_keep l s (Import ∷ es) k = (tt, contents_keep l s es k)
+contents_keep l s (OfItem x ∷ es) k = (k.0, contents_keep l (items_grow s x) es k.1)
+
+contents_kept : (s : ItemsSeen) (es : List Content) → KeepsFrom {B = Unit {0}} elements_grow ContentKept Nothing s es tt → ItemsKept s (items_in es)
+contents_kept s [] k = tt
+contents_kept s (Import ∷ es) k = contents_kept s es k.1
+contents_kept s (OfItem x ∷ es) k = (k.0, contents_kept (items_grow s x) es k.1)
+
+elements_parses : {n : ℕ} → Parses n Always elements (λ l xs. ItemsKeep l no_items xs) (λ xs. ItemsKept no_items xs) elements_at
+unfolding elements elements_at elements_within bind list_at
+elements_parses {n} = alike_parses {f = bind (list_at (passes signs.Finish) semicolon_after element_at elements_grow closing_at no_items) (λ (p : List Content × Unit {0}). give (items_in p.0))} (λ words. refl)
+    (said_parses {F = λ xs. with whole (λ p. given (xs ≡ items_in p.0))} (λ c h. h) (λ c h. h) (λ c t h f. record { value = f.value.0; form = f.form }) (λ c t h f. record { value = both f.value tt; form = f.form }) (λ c h. h)
+    (with_parses {G = λ p xs. given (xs ≡ items_in p.0)} contents_parses (enough whole n) (λ l p xs text _ g k. contents_keep l no_items p.0 (subst (λ (ys : List Item). ItemsKeep l no_items ys) g.fact k))
+    (λ p. given_parses (items_in p.0) tt (λ kept. contents_kept no_items p.0 kept))))
+  where
+    whole : List Content × Unit {0} → List Word → Type 0
+    whole p = listed (λ s. element) elements_grow semicolon_after closing no_items p.0 p.1
 
 -- a tree keeps a limit, step by step
 abbrev pub TreeKeeps : TreeLimit → TreeValue → Type 0
-TreeKeeps l t = (too_long t.name ≡ Some l → ⊥) × KeepsFrom {B = Unit {0}} items_grow (λ s x. ItemKeeps s l x) Nothing no_items t.items tt
+TreeKeeps l t = (too_long t.name ≡ Some l → ⊥) × ItemsKeep l no_items t.items
 
 abbrev pub TreeKept : TreeValue → Type 0
-TreeKept t = (too_long t.name ≡ None) × KeepsFrom {B = Unit {0}} items_grow ItemKept Nothing no_items t.items tt
+TreeKept t = (too_long t.name ≡ None) × ItemsKept no_items t.items
 
 head_of_tree : TreeValue → Head
 head_of_tree t = record { guid = t.guid; version = t.version }
 
-items_of_tree : TreeValue → List Item × Unit {0}
-items_of_tree t = both t.items tt
-
-abbrev xs_of : List Item × Unit {0} → List Item
-xs_of p = p.0
-
-tree_of : Head → List ℕ → List Item × Unit {0} → TreeValue
-tree_of h name all = record { guid = h.guid; version = h.version; name = name; items = all.0 }
+tree_of : Head → List ℕ → List Item → TreeValue
+tree_of h name xs = record { guid = h.guid; version = h.version; name = name; items = xs }
 
 pub library_parses : {n : ℕ} → Parses n Always library TreeKeeps TreeKept library_at
-unfolding library_at head_of_tree items_of_tree tree_of
+unfolding library_at head_of_tree tree_of
 library_parses = part_parses head_of_tree (head_parses true) (λ l t h k. tt) (λ head. skip_parses (passes signs.Library) (part_parses (λ t. t.name) (one_parses name_of too_long long_named) (λ l t h k. k.0) (λ name. skip_parses (passes signs.Begin)
-    (part_parses items_of_tree items_parses (λ l t h k. k.1)
-    (λ all. perhaps_parses (passes signs.Semicolon) (λ t text more h f. sign_heads signs.Semicolon signs.End refl text more f) (skip_parses (passes signs.End)
-    (give_parses (tree_of head name all) (((tt, refl), refl), refl) (λ kept short _. (short, kept)) (λ t h. λ i. record { guid = (h.0.0.1 i).guid; version = (h.0.0.1 i).version; name = h.0.1 i; items = xs_of (h.1 i) }))))))))
+    (part_parses (λ t. t.items) elements_parses (λ l t h k. k.1)
+    (λ xs. perhaps_parses (passes signs.Semicolon) (λ t text more h f. sign_heads signs.Semicolon signs.End refl text more f) (skip_parses (passes signs.End)
+    (give_parses (tree_of head name xs) (((tt, refl), refl), refl) (λ kept short _. (short, kept)) (λ t h. λ i. record { guid = (h.0.0.1 i).guid; version = (h.0.0.1 i).version; name = h.0.1 i; items = h.1 i }))))))))

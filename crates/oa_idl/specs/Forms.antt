@@ -1,5 +1,5 @@
 -- Languages over the words of a text. A form says which stretches of words stand for a value.
-use Rattle.std.specs.Prelude.{◌≡◌, ℕ, Bool, true, false, List, [], ◌∷◌, ◌++◌, Option, Some, None, ◌⊎◌}
+use Rattle.std.specs.Prelude.{◌≡◌, ℕ, Bool, true, false, List, [], ◌∷◌, ◌++◌, Option, Some, ◌⊎◌}
 use Rattle.oa_idl.specs.declared.lexer.Kind.{Kind}
 
 -- a token with its bytes

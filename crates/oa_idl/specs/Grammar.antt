@@ -1,5 +1,5 @@
 -- The grammar of a library text, over its words.
-use Rattle.std.specs.Prelude.{◌≡◌, ℕ, ◌+◌, ◌||◌, ◌&&◌, Bool, true, false, not, List, [], ◌∷◌, length, Option, Some, None, ℤ, is_some, if◌then◌else◌}
+use Rattle.std.specs.Prelude.{◌≡◌, ℕ, ◌+◌, ◌==◌, ◌||◌, ◌&&◌, Bool, true, false, not, List, [], ◌∷◌, Option, Some, None, ℤ, is_some, if◌then◌else◌}
 use Rattle.uuid.specs.Parts.{zero_bytes}
 use Rattle.oa_model.specs.declared.var_type.VarType.{VarType}
 use Rattle.oa_model.specs.declared.var_type.ValueType.{ValueType}
@@ -9,6 +9,11 @@ use Rattle.oa_idl.specs.declared.sign.Sign.TheVariants as signs
 use Rattle.oa_idl.specs.declared.parts.Version.{Version}
 use Rattle.oa_idl.specs.declared.parts.Property.{Property}
 use Rattle.oa_idl.specs.declared.parts.Entry.{Entry}
+use Rattle.oa_idl.specs.declared.parts.Literal.{Literal}
+use Rattle.oa_idl.specs.declared.parts.Literal.TheVariants as literals
+use Rattle.oa_idl.specs.declared.parts.MethodKind.{MethodKind}
+use Rattle.oa_idl.specs.declared.parts.MethodKind.TheVariants as forms
+use Rattle.oa_idl.specs.declared.parts.Parameter.{Parameter}
 use Rattle.oa_idl.specs.declared.items.Item.{Item}
 use Rattle.oa_idl.specs.declared.items.Item.TheVariants as items
 use Rattle.oa_idl.specs.declared.seen.HeadSeen.{HeadSeen}
@@ -17,10 +22,13 @@ use Rattle.oa_idl.specs.declared.seen.PropertySeen.{PropertySeen}
 use Rattle.oa_idl.specs.declared.seen.PropertyHead.{PropertyHead}
 use Rattle.oa_idl.specs.declared.seen.EntriesSeen.{EntriesSeen}
 use Rattle.oa_idl.specs.declared.seen.ItemsSeen.{ItemsSeen}
-use Rattle.oa_idl.specs.Values.{InterfaceValue, CoclassValue}
+use Rattle.oa_idl.specs.declared.seen.MethodSeen.{MethodSeen}
+use Rattle.oa_idl.specs.declared.seen.MethodHead.{MethodHead}
+use Rattle.oa_idl.specs.declared.seen.ParameterSeen.{ParameterSeen}
+use Rattle.oa_idl.specs.MethodValues.{MethodValue}
 use Rattle.oa_idl.specs.Trees.{TreeValue}
-use Rattle.oa_idl.specs.Forms.{Word, Form, ◌▸◌, nothing, given, this, one, optional, either_of, where_is, with, listed, gathered, nowhere, never}
-use Rattle.oa_idl.specs.Words.{passes, is_text, name_of, guid_of, part_of, id_of, type_of}
+use Rattle.oa_idl.specs.Forms.{Word, Form, ◌▸◌, nothing, given, this, one, optional, either_of, where_is, with, listed, gathered, nowhere}
+use Rattle.oa_idl.specs.Words.{passes, is_text, name_of, guid_of, part_of, id_of, type_of, amount_of, characters_of}
 
 abbrev pub sign : Sign → Form
 sign s = this (passes s)
@@ -128,20 +136,164 @@ property_head h = attributes property_attribute property_may property_grow prope
 abbrev pub property : Property → Form
 property p = property_head (record { id = p.id; readonly = p.readonly }) ▸ value_type p.value_type ▸ one name_of p.name ▸ sign signs.Semicolon ▸ nothing
 
--- ---- disp = attrs "dispinterface" name "{" ["properties" ":" {prop}] "}"
+-- ---- param = ["[" patt {"," patt} "]"] type name    patt = "in" | "optional" | "defaultvalue" "(" literal ")"
 
--- how many members came before
+-- how many came before
 abbrev pub one_more : {A : Type 0} → ℕ → A → ℕ
 one_more n x = n + 1
 
 abbrev pub closing : {S : Type 0} → S → Unit {0} → Form
 closing s x = sign signs.Finish
 
-abbrev pub members : List Property → Form
-members ps = either_of (sign signs.Properties ▸ sign signs.Colon ▸ listed (λ n. property) one_more nowhere closing 0 ps tt) (where_is (ps ≡ []) (sign signs.Finish))
+-- literal = ["-"] number | string | "TRUE" | "FALSE"
+abbrev pub amount : ℤ → Form
+amount i = either_of (sign signs.Minus ▸ one (amount_of true) i) (one (amount_of false) i)
 
-abbrev pub interface : List ℕ → List Property → Form
-interface name ps = sign signs.Dispinterface ▸ one name_of name ▸ sign signs.Begin ▸ members ps ▸ nothing
+unfoldable pub literal : Literal → Form
+literal (literals.Number i) = amount i
+literal (literals.Text cs) = one characters_of cs
+literal (literals.Bool true) = sign signs.True
+literal (literals.Bool false) = sign signs.False
+
+pub data ParameterAttribute : Type 0 where
+  IsIn : ParameterAttribute
+  IsOptional : ParameterAttribute
+  HasDefault : Literal → ParameterAttribute
+
+abbrev pub parameter_attribute : ParameterAttribute → Form
+parameter_attribute IsIn = sign signs.In
+parameter_attribute IsOptional = sign signs.Optional
+parameter_attribute (HasDefault v) = sign signs.DefaultValue ▸ sign signs.Left ▸ literal v ▸ sign signs.Right
+
+abbrev pub no_parameter : ParameterSeen
+no_parameter = record { is_in = false; is_optional = false; default = None }
+
+abbrev pub parameter_may : ParameterSeen → ParameterAttribute → Bool
+parameter_may s IsIn = not s.is_in
+parameter_may s IsOptional = not s.is_optional
+parameter_may s (HasDefault v) = not (is_some s.default)
+
+abbrev pub parameter_grow : ParameterSeen → ParameterAttribute → ParameterSeen
+parameter_grow s IsIn = record { is_in = true; is_optional = s.is_optional; default = s.default }
+parameter_grow s IsOptional = record { is_in = s.is_in; is_optional = true; default = s.default }
+parameter_grow s (HasDefault v) = record { is_in = s.is_in; is_optional = s.is_optional; default = Some v }
+
+-- none is required
+abbrev pub parameter_finish : ParameterSeen → Option ParameterSeen
+parameter_finish s = Some s
+
+unfoldable pub parameter_head : ParameterSeen → Form
+parameter_head h = attributes parameter_attribute parameter_may parameter_grow parameter_finish no_parameter h
+
+abbrev pub head_of_parameter : Parameter → ParameterSeen
+head_of_parameter p = record { is_in = p.is_in; is_optional = p.is_optional; default = p.default }
+
+abbrev pub typed : Parameter → Form
+typed p = value_type p.value_type ▸ one name_of p.name ▸ nothing
+
+unfoldable pub parameter : Parameter → Form
+parameter p = either_of (parameter_head (head_of_parameter p) ▸ typed p) (where_is (head_of_parameter p ≡ no_parameter) (typed p))
+
+-- ---- method = "[" att {"," att} "]" (type | "void") name "(" [param {"," param}] ")" ";"
+-- att = "id" "(" ["-"] num ")" | "propget" | "propput" | help
+
+pub data MethodAttribute : Type 0 where
+  MethodId : ℤ → MethodAttribute
+  Propget : MethodAttribute
+  Propput : MethodAttribute
+  MethodHelp : MethodAttribute
+
+abbrev pub numbered : ℤ → Form
+numbered i = sign signs.Id ▸ sign signs.Left ▸ id_form i ▸ sign signs.Right
+
+abbrev pub method_attribute : MethodAttribute → Form
+method_attribute (MethodId i) = numbered i
+method_attribute Propget = sign signs.Propget
+method_attribute Propput = sign signs.Propput
+method_attribute MethodHelp = help
+
+abbrev pub no_method : MethodSeen
+no_method = record { id = None; kind = forms.Method; help = false }
+
+-- the form of a property
+abbrev pub is_form : MethodKind → Bool
+is_form forms.Method = false
+is_form forms.Get = true
+is_form forms.Put = true
+
+-- not both propget and propput
+abbrev pub method_may : MethodSeen → MethodAttribute → Bool
+method_may s (MethodId i) = not (is_some s.id)
+method_may s Propget = not (is_form s.kind)
+method_may s Propput = not (is_form s.kind)
+method_may s MethodHelp = not s.help
+
+abbrev pub method_grow : MethodSeen → MethodAttribute → MethodSeen
+method_grow s (MethodId i) = record { id = Some i; kind = s.kind; help = s.help }
+method_grow s Propget = record { id = s.id; kind = forms.Get; help = s.help }
+method_grow s Propput = record { id = s.id; kind = forms.Put; help = s.help }
+method_grow s MethodHelp = record { id = s.id; kind = s.kind; help = true }
+
+-- there has to be an id
+abbrev pub method_head_of : Option ℤ → MethodKind → Option MethodHead
+method_head_of None kind = None
+method_head_of (Some i) kind = Some (record { id = i; kind = kind })
+
+abbrev pub method_finish : MethodSeen → Option MethodHead
+method_finish s = method_head_of s.id s.kind
+
+unfoldable pub method_head : MethodHead → Form
+method_head h = attributes method_attribute method_may method_grow method_finish no_method h
+
+-- a get is not void, and a put is
+abbrev pub may_be_void : MethodKind → Bool
+may_be_void forms.Method = true
+may_be_void forms.Get = false
+may_be_void forms.Put = true
+
+abbrev pub may_have_type : MethodKind → Bool
+may_have_type forms.Method = true
+may_have_type forms.Get = true
+may_have_type forms.Put = false
+
+unfoldable pub result_type : MethodKind → Option ValueType → Form
+result_type k None = where_is (may_be_void k ≡ true) (sign signs.Void)
+result_type k (Some t) = where_is (may_have_type k ≡ true) (value_type t)
+
+-- a parameter that is the first, or not
+abbrev pub separated : Bool → Parameter → Form
+separated true p = parameter p
+separated false p = sign signs.Comma ▸ parameter p
+
+abbrev pub next_parameter : ℕ → Parameter → Form
+next_parameter n p = separated (n == 0) p
+
+-- a put has at least one parameter
+abbrev pub may_end : MethodKind → ℕ → Bool
+may_end forms.Method n = true
+may_end forms.Get n = true
+may_end forms.Put n = not (n == 0)
+
+abbrev pub last_parameter : MethodKind → ℕ → Unit {0} → Form
+last_parameter k n x = where_is (may_end k n ≡ true) (sign signs.Right)
+
+abbrev pub method_body : MethodKind → MethodValue → Form
+method_body k m = result_type k m.value_type ▸ one name_of m.name ▸ sign signs.Left ▸ listed next_parameter one_more nowhere (last_parameter k) 0 m.parameters tt ▸ sign signs.Semicolon ▸ nothing
+
+unfoldable pub method : MethodValue → Form
+method m = method_head (record { id = m.id; kind = m.kind }) ▸ method_body m.kind m
+
+-- ---- disp = attrs "dispinterface" name "{" ["properties" ":" {prop}] ["methods" ":" {method}] "}"
+
+-- the second section, after n members of the first, and the brace that closes the interface
+abbrev pub methods : ℕ → List MethodValue → Form
+methods n ms = either_of (sign signs.Methods ▸ sign signs.Colon ▸ listed (λ k. method) one_more nowhere closing n ms tt) (where_is (ms ≡ []) (sign signs.Finish))
+
+abbrev pub members : List Property → List MethodValue → Form
+members ps ms = either_of (sign signs.Properties ▸ sign signs.Colon ▸ listed (λ n. property) one_more nowhere methods 0 ps ms) (where_is (ps ≡ []) (methods 0 ms))
+
+abbrev pub interface : List ℕ → List Property → List MethodValue → Form
+interface name ps ms = sign signs.Dispinterface ▸ one name_of name ▸ sign signs.Begin ▸ members ps ms ▸ nothing
 
 -- ---- class = attrs "coclass" name "{" entry {entry} "}"    entry = ["[" "default" "]"] ("dispinterface" | "interface") name ";"
 
@@ -175,18 +327,34 @@ last_entry s x = where_is (s.some ≡ true) (sign signs.Finish)
 abbrev pub coclass : List ℕ → List Entry → Form
 coclass name es = sign signs.Coclass ▸ one name_of name ▸ sign signs.Begin ▸ listed entry entry_grow nowhere last_entry no_entry es tt ▸ nothing
 
--- ---- text = attrs "library" name "{" {(disp | class) [";"]} "}" [";"]
+-- ---- text = attrs "library" name "{" {import | (disp | class) [";"]} "}" [";"]    import = "importlib" "(" string ")" ";"
 
 abbrev pub guid_of_item : Item → List ℕ
 guid_of_item (items.Interface d) = d.guid
 guid_of_item (items.Coclass c) = c.guid
 
 abbrev pub body : Item → Form
-body (items.Interface d) = interface d.name d.properties
+body (items.Interface d) = interface d.name d.properties d.methods
 body (items.Coclass c) = coclass c.name c.entries
 
 abbrev pub item : Item → Form
 item x = with (head false) (λ h. where_is (h.guid ≡ guid_of_item x) (body x))
+
+-- what stands in a library: an import, which is ignored, or an item
+pub data Content : Type 0 where
+  Import : Content
+  OfItem : Item → Content
+
+abbrev pub importing : Form
+importing = sign signs.Importlib ▸ sign signs.Left ▸ this is_text ▸ sign signs.Right ▸ sign signs.Semicolon
+
+unfoldable pub element : Content → Form
+element Import = importing
+element (OfItem x) = item x
+
+abbrev pub semicolon_after : Content → Word → Bool
+semicolon_after Import w = false
+semicolon_after (OfItem x) w = passes signs.Semicolon w
 
 -- how many interfaces and coclasses came before
 abbrev pub no_items : ItemsSeen
@@ -196,9 +364,19 @@ abbrev pub items_grow : ItemsSeen → Item → ItemsSeen
 items_grow s (items.Interface d) = record { interfaces = s.interfaces + 1; coclasses = s.coclasses }
 items_grow s (items.Coclass c) = record { interfaces = s.interfaces; coclasses = s.coclasses + 1 }
 
-abbrev pub semicolon_after : Item → Word → Bool
-semicolon_after x = passes signs.Semicolon
+abbrev pub elements_grow : ItemsSeen → Content → ItemsSeen
+elements_grow s Import = s
+elements_grow s (OfItem x) = items_grow s x
+
+-- the items alone
+abbrev pub items_in : List Content → List Item
+items_in [] = []
+items_in (Import ∷ es) = items_in es
+items_in (OfItem x ∷ es) = x ∷ items_in es
+
+unfoldable pub elements : List Item → Form
+elements xs = with (λ es. listed (λ s. element) elements_grow semicolon_after closing no_items es tt) (λ es. given (xs ≡ items_in es))
 
 abbrev pub library : TreeValue → Form
 library t = head true (record { guid = t.guid; version = t.version }) ▸ sign signs.Library ▸ one name_of t.name ▸ sign signs.Begin ▸
-    listed (λ s. item) items_grow semicolon_after closing no_items t.items tt ▸ optional (sign signs.Semicolon) ▸ sign signs.End ▸ nothing
+    elements t.items ▸ optional (sign signs.Semicolon) ▸ sign signs.End ▸ nothing

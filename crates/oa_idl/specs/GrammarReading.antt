@@ -1,14 +1,21 @@
 -- The grammar as functions that read.
-use Rattle.std.specs.Prelude.{◌≡◌, ℕ, zero, suc, ◌+◌, ◌&&◌, ◌||◌, Bool, true, false, not, List, [], ◌∷◌, Option, Some, None, ℤ, is_some}
+use Rattle.std.specs.Prelude.{ℕ, ◌&&◌, ◌||◌, ◌==◌, Bool, true, false, not, List, [], length, Option, Some, None, ℤ, is_some}
 use Rattle.oa_model.specs.declared.var_type.VarType.{VarType}
 use Rattle.oa_model.specs.declared.var_type.ValueType.{ValueType}
 use Rattle.oa_model.specs.declared.var_type.ValueType.TheVariants as values
 use Rattle.oa_idl.specs.declared.stop.TreeLimit.TheVariants as limits
 use Rattle.oa_idl.specs.declared.sign.Sign.{Sign}
 use Rattle.oa_idl.specs.declared.sign.Sign.TheVariants as signs
-use Rattle.oa_idl.specs.declared.parts.Version.{Version}
 use Rattle.oa_idl.specs.declared.parts.Property.{Property}
 use Rattle.oa_idl.specs.declared.parts.Entry.{Entry}
+use Rattle.oa_idl.specs.declared.parts.Literal.{Literal}
+use Rattle.oa_idl.specs.declared.parts.Literal.TheVariants as literals
+use Rattle.oa_idl.specs.declared.parts.MethodKind.{MethodKind}
+use Rattle.oa_idl.specs.declared.parts.Parameter.{Parameter}
+use Rattle.oa_idl.specs.MethodValues.{MethodValue}
+use Rattle.oa_idl.specs.declared.seen.MethodSeen.{MethodSeen}
+use Rattle.oa_idl.specs.declared.seen.MethodHead.{MethodHead}
+use Rattle.oa_idl.specs.declared.seen.ParameterSeen.{ParameterSeen}
 use Rattle.oa_idl.specs.declared.items.Item.{Item}
 use Rattle.oa_idl.specs.declared.items.Item.TheVariants as items
 use Rattle.oa_idl.specs.declared.seen.HeadSeen.{HeadSeen}
@@ -17,14 +24,16 @@ use Rattle.oa_idl.specs.declared.seen.PropertySeen.{PropertySeen}
 use Rattle.oa_idl.specs.declared.seen.PropertyHead.{PropertyHead}
 use Rattle.oa_idl.specs.declared.seen.EntriesSeen.{EntriesSeen}
 use Rattle.oa_idl.specs.declared.seen.ItemsSeen.{ItemsSeen}
-use Rattle.oa_idl.specs.Values.{InterfaceValue, CoclassValue}
 use Rattle.oa_idl.specs.Trees.{TreeValue}
 use Rattle.oa_idl.specs.Forms.{Word, nowhere}
-use Rattle.oa_idl.specs.Words.{passes, is_text, name_of, over, too_long, guid_of, part_of, id_of, type_of, never_over}
-use Rattle.oa_idl.specs.Reading.{Reading, ◌>>=◌, give, fail, choose, require, demand, done, this_at, one_at, perhaps_at, list_at, gather_at}
-use Rattle.oa_idl.specs.Grammar.{HeadAttribute, no_head, head_grow, head_finish, PropertyAttribute, no_property, property_grow, property_finish, one_more, entry_word, no_entry, entry_grow, no_items, items_grow, semicolon_after}
+use Rattle.oa_idl.specs.Words.{passes, is_text, name_of, over, too_long, guid_of, part_of, id_of, type_of, amount_of, characters_of, never_over}
+use Rattle.oa_idl.specs.Reading.{Reading, ◌>>=◌, give, choose, require, demand, this_at, one_at, perhaps_at, until, list_at, gather_at}
+use Rattle.oa_idl.specs.Grammar.{HeadAttribute, no_head, head_grow, head_finish, PropertyAttribute, no_property, property_grow, property_finish, one_more, entry_word, no_entry, entry_grow, no_items, semicolon_after, Content, elements_grow, items_in, ParameterAttribute, no_parameter, parameter_grow, parameter_finish, MethodAttribute, no_method, method_grow, method_finish, is_form, may_be_void, may_have_type, may_end}
 use Rattle.oa_idl.specs.Grammar.HeadAttribute.{Guid, Numbered, HeadHelp}
 use Rattle.oa_idl.specs.Grammar.PropertyAttribute.{Id, Readonly, PropertyHelp}
+use Rattle.oa_idl.specs.Grammar.ParameterAttribute.{IsIn, IsOptional, HasDefault}
+use Rattle.oa_idl.specs.Grammar.MethodAttribute.{MethodId, Propget, Propput, MethodHelp}
+use Rattle.oa_idl.specs.Grammar.Content.{Import, OfItem}
 
 abbrev pub sign_at : Sign → Reading (Unit {0})
 sign_at s = this_at (passes s)
@@ -121,17 +130,103 @@ property_at n = property_head_at >>= λ h. value_type_at >>= λ t. one_at name_o
 abbrev pub closing_at : {S : Type 0} → S → Reading (Unit {0})
 closing_at s = sign_at signs.Finish
 
-unfoldable pub properties_at : Reading (List Property × Unit {0})
-properties_at = list_at (passes signs.Finish) nowhere property_at one_more closing_at 0
+-- ---- parameters
 
-unfoldable pub members_at : Reading (List Property)
-members_at = choose (passes signs.Properties)
-    (sign_at signs.Properties >>= λ _. sign_at signs.Colon >>= λ _. properties_at >>= λ ps. give ps.0)
+unfoldable pub amount_at : Reading ℤ
+amount_at = choose (passes signs.Minus)
+    (sign_at signs.Minus >>= λ _. one_at (amount_of true) never_over)
+    (one_at (amount_of false) never_over)
+
+unfoldable pub literal_at : Reading Literal
+literal_at = choose (passes signs.True) (sign_at signs.True >>= λ _. give (literals.Bool true))
+    (choose (passes signs.False) (sign_at signs.False >>= λ _. give (literals.Bool false))
+    (choose is_text (one_at characters_of never_over >>= λ cs. give (literals.Text cs))
+    (amount_at >>= λ i. give (literals.Number i))))
+
+unfoldable pub default_at : Reading Literal
+default_at = sign_at signs.DefaultValue >>= λ _. sign_at signs.Left >>= λ _. literal_at >>= λ v. sign_at signs.Right >>= λ _. give v
+
+unfoldable pub parameter_attribute_at : ParameterSeen → Reading ParameterAttribute
+parameter_attribute_at s = choose (passes signs.In) (require (not s.is_in) (sign_at signs.In) >>= λ _. give IsIn)
+    (choose (passes signs.Optional) (require (not s.is_optional) (sign_at signs.Optional) >>= λ _. give IsOptional)
+    (require (not (is_some s.default)) default_at >>= λ v. give (HasDefault v)))
+
+abbrev pub parameter_full : ParameterSeen → Bool
+parameter_full s = s.is_in && (s.is_optional && is_some s.default)
+
+unfoldable pub parameter_head_at : Reading ParameterSeen
+parameter_head_at = attributes_at parameter_attribute_at parameter_grow parameter_full parameter_finish no_parameter
+
+-- the type and name of a parameter after n others
+unfoldable pub typed_at : ℕ → ParameterSeen → Reading Parameter
+typed_at n h = value_type_at >>= λ t. one_at name_of (over limits.Params 16 n) >>= λ name.
+    give (record { is_in = h.is_in; is_optional = h.is_optional; default = h.default; value_type = t; name = name })
+
+unfoldable pub parameter_at : ℕ → Reading Parameter
+parameter_at n = choose (passes signs.Open) (parameter_head_at >>= λ h. typed_at n h) (typed_at n no_parameter)
+
+-- the first, or another behind its comma
+unfoldable pub separated_at : ℕ → Bool → Reading Parameter
+separated_at n true = parameter_at n
+separated_at n false = sign_at signs.Comma >>= λ _. parameter_at n
+
+abbrev pub next_parameter_at : ℕ → Reading Parameter
+next_parameter_at n = separated_at n (n == 0)
+
+abbrev pub last_parameter_at : MethodKind → ℕ → Reading (Unit {0})
+last_parameter_at k n = require (may_end k n) (sign_at signs.Right)
+
+unfoldable pub parameters_at : MethodKind → Reading (List Parameter × Unit {0})
+parameters_at k = list_at (passes signs.Right) nowhere next_parameter_at one_more (last_parameter_at k) 0
+
+-- ---- methods
+
+unfoldable pub numbered_at : Reading ℤ
+numbered_at = sign_at signs.Id >>= λ _. sign_at signs.Left >>= λ _. signed_at >>= λ i. sign_at signs.Right >>= λ _. give i
+
+unfoldable pub method_attribute_at : MethodSeen → Reading MethodAttribute
+method_attribute_at s = choose (passes signs.Id) (require (not (is_some s.id)) numbered_at >>= λ i. give (MethodId i))
+    (choose (passes signs.Propget) (require (not (is_form s.kind)) (sign_at signs.Propget) >>= λ _. give Propget)
+    (choose (passes signs.Propput) (require (not (is_form s.kind)) (sign_at signs.Propput) >>= λ _. give Propput)
+    (require (not s.help) help_at >>= λ _. give MethodHelp)))
+
+abbrev pub method_full : MethodSeen → Bool
+method_full s = is_some s.id && (is_form s.kind && s.help)
+
+unfoldable pub method_head_at : Reading MethodHead
+method_head_at = attributes_at method_attribute_at method_grow method_full method_finish no_method
+
+unfoldable pub result_type_at : MethodKind → Reading (Option ValueType)
+result_type_at k = choose (passes signs.Void) (require (may_be_void k) (sign_at signs.Void) >>= λ _. give None)
+    (require (may_have_type k) value_type_at >>= λ t. give (Some t))
+
+-- what follows the attributes of a method after n members of its interface
+unfoldable pub method_body_at : ℕ → MethodHead → Reading MethodValue
+method_body_at n h = result_type_at h.kind >>= λ t. one_at name_of (over limits.Members 512 n) >>= λ name. sign_at signs.Left >>= λ _. parameters_at h.kind >>= λ ps. sign_at signs.Semicolon >>= λ _.
+    give (record { id = h.id; kind = h.kind; value_type = t; name = name; parameters = ps.0 })
+
+unfoldable pub method_at : ℕ → Reading MethodValue
+method_at n = method_head_at >>= λ h. method_body_at n h
+
+-- ---- members
+
+unfoldable pub methods_at : ℕ → Reading (List MethodValue)
+methods_at n = choose (passes signs.Methods)
+    (sign_at signs.Methods >>= λ _. sign_at signs.Colon >>= λ _. list_at (passes signs.Finish) nowhere method_at one_more closing_at n >>= λ ms. give ms.0)
     (sign_at signs.Finish >>= λ _. give [])
 
+-- the first section ends before the second, or before the brace
+abbrev pub ends_properties : Word → Bool
+ends_properties w = passes signs.Methods w || passes signs.Finish w
+
+unfoldable pub members_at : Reading (List Property × List MethodValue)
+members_at = choose (passes signs.Properties)
+    (sign_at signs.Properties >>= λ _. sign_at signs.Colon >>= λ _. list_at ends_properties nowhere property_at one_more methods_at 0)
+    (methods_at 0 >>= λ ms. give ([], ms))
+
 unfoldable pub interface_at : ItemsSeen → List ℕ → Reading Item
-interface_at s guid = sign_at signs.Dispinterface >>= λ _. one_at name_of (over limits.Interfaces 256 s.interfaces) >>= λ name. sign_at signs.Begin >>= λ _. members_at >>= λ ps.
-    give (items.Interface (record { guid = guid; name = name; properties = ps }))
+interface_at s guid = sign_at signs.Dispinterface >>= λ _. one_at name_of (over limits.Interfaces 256 s.interfaces) >>= λ name. sign_at signs.Begin >>= λ _. members_at >>= λ all.
+    give (items.Interface (record { guid = guid; name = name; properties = all.0; methods = all.1 }))
 
 -- ---- coclasses
 
@@ -158,9 +253,19 @@ coclass_at s guid = sign_at signs.Coclass >>= λ _. one_at name_of (over limits.
 unfoldable pub item_at : ItemsSeen → Reading Item
 item_at s = head_at false >>= λ h. choose (passes signs.Dispinterface) (interface_at s h.guid) (coclass_at s h.guid)
 
-unfoldable pub items_at : Reading (List Item × Unit {0})
-items_at = list_at (passes signs.Finish) semicolon_after item_at items_grow closing_at no_items
+unfoldable pub import_at : Reading (Unit {0})
+import_at = sign_at signs.Importlib >>= λ _. sign_at signs.Left >>= λ _. this_at is_text >>= λ _. sign_at signs.Right >>= λ _. sign_at signs.Semicolon
+
+unfoldable pub element_at : ItemsSeen → Reading Content
+element_at s = choose (passes signs.Importlib) (import_at >>= λ _. give Import) (item_at s >>= λ x. give (OfItem x))
+
+-- the items of at most so many imports and items
+unfoldable pub elements_within : ℕ → Reading (List Item)
+elements_within n = until (passes signs.Finish) semicolon_after element_at elements_grow closing_at n no_items >>= λ es. give (items_in es.0)
+
+unfoldable pub elements_at : Reading (List Item)
+elements_at words = elements_within (length words) words
 
 unfoldable pub library_at : Reading TreeValue
-library_at = head_at true >>= λ h. sign_at signs.Library >>= λ _. one_at name_of too_long >>= λ name. sign_at signs.Begin >>= λ _. items_at >>= λ all.
-    perhaps_at (passes signs.Semicolon) >>= λ _. sign_at signs.End >>= λ _. give (record { guid = h.guid; version = h.version; name = name; items = all.0 })
+library_at = head_at true >>= λ h. sign_at signs.Library >>= λ _. one_at name_of too_long >>= λ name. sign_at signs.Begin >>= λ _. elements_at >>= λ xs.
+    perhaps_at (passes signs.Semicolon) >>= λ _. sign_at signs.End >>= λ _. give (record { guid = h.guid; version = h.version; name = name; items = xs })

@@ -1,5 +1,5 @@
 -- What parsing answers.
-use Rattle.std.specs.Prelude.{◌≡◌, ℕ, ◌<◌, ◌≤◌, slice_get, Option, Some, None, List, [], ◌∷◌, ◌++◌, length, Result, Ok, Err}
+use Rattle.std.specs.Prelude.{◌≡◌, ℕ, ◌<◌, ◌≤◌, slice_get, Option, Some, None, List, ◌∷◌, ◌++◌, length, Result, Ok, Err}
 use Rattle.oa_idl.specs.declared.lexer.Token.{Token}
 use Rattle.oa_idl.specs.declared.stop.TreeLimit.{TreeLimit}
 use Rattle.oa_idl.specs.declared.stop.TreeLimit.TheVariants as limits
@@ -68,7 +68,7 @@ IsAnswer text (Err (errors.Limit texts.Name)) = IsOver limits.Name text
 IsAnswer text (Err (errors.Limit texts.Interfaces)) = IsOver limits.Interfaces text
 IsAnswer text (Err (errors.Limit texts.Coclasses)) = IsOver limits.Coclasses text
 IsAnswer text (Err (errors.Limit texts.Members)) = IsOver limits.Members text
-IsAnswer text (Err (errors.Limit texts.Params)) = ⊥
+IsAnswer text (Err (errors.Limit texts.Params)) = IsOver limits.Params text
 IsAnswer text (Err errors.Memory) = MayBeText text
 
 -- a text that has a tree is answered by it, or by want of memory

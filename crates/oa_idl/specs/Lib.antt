@@ -1,10 +1,13 @@
 pub mod Bytes
+pub mod Canonical
 pub mod Forms
 pub mod Grammar
 pub mod GrammarReading
 pub mod IsTree
 pub mod Limits
+pub mod MethodValues
 pub mod Parsed
+pub mod Printable
 pub mod Reading
 pub mod TextLimits
 pub mod Tokens

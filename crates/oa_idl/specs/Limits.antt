@@ -1,21 +1,25 @@
 -- Which trees keep the limits. The limits are this project's choice.
-use Rattle.std.specs.Prelude.{◌≡◌, ℕ, ◌+◌, ◌≤◌, List, [], ◌∷◌, length}
+use Rattle.std.specs.Prelude.{ℕ, ◌+◌, ◌≤◌, List, [], ◌∷◌, length}
 use Rattle.std.specs.List.{AllByRecursion}
 use Rattle.oa_idl.specs.declared.stop.TreeLimit.{TreeLimit}
 use Rattle.oa_idl.specs.declared.stop.TreeLimit.TheVariants as limits
 use Rattle.oa_idl.specs.declared.parts.Property.{Property}
 use Rattle.oa_idl.specs.declared.parts.Entry.{Entry}
+use Rattle.oa_idl.specs.declared.parts.Parameter.{Parameter}
+use Rattle.oa_idl.specs.MethodValues.{MethodValue}
 use Rattle.oa_idl.specs.declared.items.Item.{Item}
 use Rattle.oa_idl.specs.declared.items.Item.TheVariants as items
-use Rattle.oa_idl.specs.Values.{InterfaceValue, CoclassValue}
 use Rattle.oa_idl.specs.Trees.{TreeValue}
 
 abbrev pub IsShort : List ℕ → Type 0
 IsShort name = length name ≤ 64
 
+abbrev pub HasShortParameters : MethodValue → Type 0
+HasShortParameters m = IsShort m.name × AllByRecursion (λ (p : Parameter). IsShort p.name) m.parameters
+
 -- each name of an item has at most 64 bytes
 abbrev pub HasShortNames : Item → Type 0
-HasShortNames (items.Interface d) = IsShort d.name × AllByRecursion (λ (p : Property). IsShort p.name) d.properties
+HasShortNames (items.Interface d) = IsShort d.name × AllByRecursion (λ (p : Property). IsShort p.name) d.properties × AllByRecursion HasShortParameters d.methods
 HasShortNames (items.Coclass c) = IsShort c.name × AllByRecursion (λ (e : Entry). IsShort e.interface) c.entries
 
 abbrev pub one_interface : Item → ℕ
@@ -31,10 +35,15 @@ abbrev pub how_many : (Item → ℕ) → List Item → ℕ
 how_many weight [] = 0
 how_many weight (x ∷ xs) = weight x + how_many weight xs
 
--- an interface has at most 512 members
+-- an interface has at most 512 members, a get and a put counting as two
 abbrev pub HasFewMembers : Item → Type 0
-HasFewMembers (items.Interface d) = length d.properties ≤ 512
+HasFewMembers (items.Interface d) = length d.properties + length d.methods ≤ 512
 HasFewMembers (items.Coclass c) = Unit {0}
+
+-- a member has at most 16 parameters, the new value of a put being one
+abbrev pub HasFewParameters : Item → Type 0
+HasFewParameters (items.Interface d) = AllByRecursion (λ (m : MethodValue). length m.parameters ≤ 16) d.methods
+HasFewParameters (items.Coclass c) = Unit {0}
 
 -- a tree keeps one of the limits
 abbrev pub Keeps : TreeLimit → TreeValue → Type 0
@@ -42,4 +51,4 @@ Keeps limits.Name t = IsShort t.name × AllByRecursion HasShortNames t.items
 Keeps limits.Interfaces t = how_many one_interface t.items ≤ 256
 Keeps limits.Coclasses t = how_many one_coclass t.items ≤ 256
 Keeps limits.Members t = AllByRecursion HasFewMembers t.items
-Keeps limits.Params t = Unit {0}
+Keeps limits.Params t = AllByRecursion HasFewParameters t.items

@@ -55,6 +55,13 @@ kind_of signs.Helpstring = kinds.Name
 kind_of signs.Id = kinds.Name
 kind_of signs.Readonly = kinds.Name
 kind_of signs.Default = kinds.Name
+kind_of signs.Propget = kinds.Name
+kind_of signs.Propput = kinds.Name
+kind_of signs.In = kinds.Name
+kind_of signs.Optional = kinds.Name
+kind_of signs.DefaultValue = kinds.Name
+kind_of signs.True = kinds.Name
+kind_of signs.False = kinds.Name
 
 abbrev pub spelling : Sign → List ℕ
 spelling signs.Open = codes "["
@@ -96,6 +103,13 @@ spelling signs.Helpstring = codes "helpstring"
 spelling signs.Id = codes "id"
 spelling signs.Readonly = codes "readonly"
 spelling signs.Default = codes "default"
+spelling signs.Propget = codes "propget"
+spelling signs.Propput = codes "propput"
+spelling signs.In = codes "in"
+spelling signs.Optional = codes "optional"
+spelling signs.DefaultValue = codes "defaultvalue"
+spelling signs.True = codes "TRUE"
+spelling signs.False = codes "FALSE"
 
 abbrev pub same_kind : Kind → Kind → Bool
 same_kind kinds.Guid kinds.Guid = true
@@ -182,13 +196,13 @@ too_long name = over limits.Name 1 0 name
 abbrev pub never_over : {A : Type 0} → A → Option TreeLimit
 never_over x = None
 
--- a name of more than 64 bytes, where that limit is meant; no name breaks that of parameters, which are not read yet
+-- a name of more than 64 bytes, where that limit is meant
 abbrev pub TooLong : TreeLimit → List ℕ → Type 0
 TooLong limits.Name name = 64 < length name
 TooLong limits.Interfaces name = Unit {0}
 TooLong limits.Coclasses name = Unit {0}
 TooLong limits.Members name = Unit {0}
-TooLong limits.Params name = ⊥
+TooLong limits.Params name = Unit {0}
 
 -- the word is a name, at which the limit can be broken
 pub record NamedAt (l : TreeLimit) (w : Word) : Type 0 where
@@ -250,6 +264,45 @@ id_from negative hexadecimal (Some n) = usable (id_number negative hexadecimal n
 
 unfoldable pub id_of : Bool → Word → Option ℤ
 id_of negative w = if same_kind w.kind kinds.Number then id_from negative (is_hexadecimal w.text) (number_of w.text) else None
+
+-- ---- defaults of parameters
+
+-- a number of a default, after a minus or not
+abbrev pub signed : Bool → ℕ → ℤ
+signed true n = neg_ℤ (pos n)
+signed false n = pos n
+
+abbrev pub amount_from : Bool → Option ℕ → Option ℤ
+amount_from negative None = None
+amount_from negative (Some n) = Some (signed negative n)
+
+unfoldable pub amount_of : Bool → Word → Option ℤ
+amount_of negative w = if same_kind w.kind kinds.Number then amount_from negative (number_of w.text) else None
+
+-- what a default string may have: ASCII from the blank to the tilde
+abbrev pub is_printable : ℕ → Bool
+is_printable b = nat_le 32 b && nat_le b 126
+
+-- what may stand behind a backslash: a quote, or a backslash
+abbrev pub is_escaped : ℕ → Bool
+is_escaped b = b == 34 || b == 92
+
+abbrev pub with_character : ℕ → Option (List ℕ) → Option (List ℕ)
+with_character b None = None
+with_character b (Some bs) = Some (b ∷ bs)
+
+-- the characters up to the quote that closes a string, after a backslash or not
+unfoldable pub characters_from : Bool → List ℕ → Option (List ℕ)
+characters_from marked [] = None
+characters_from true (b ∷ bs) = if is_escaped b then with_character b (characters_from false bs) else None
+characters_from false (b ∷ bs) = if b == 34 then Some []
+    else if b == 92 then characters_from true bs
+    else if is_printable b then with_character b (characters_from false bs)
+    else None
+
+-- the characters of a default string
+unfoldable pub characters_of : Word → Option (List ℕ)
+characters_of w = if same_kind w.kind kinds.Text then characters_from false (drop 1 w.text) else None
 
 -- ---- the words of a text
 

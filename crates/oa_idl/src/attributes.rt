@@ -16,7 +16,7 @@ use crate::stop::Stop;
 use uuid::Uuid;
 
 #[tactic(auto, unfolding(crate::specs::Reading::bind, crate::specs::GrammarReading::help_at))]
-fn help(r: &mut Reader<'_>) -> Result<(), Stop>
+pub(crate) fn help(r: &mut Reader<'_>) -> Result<(), Stop>
     ensures { Answers (λ _. done) result r.new (help_at r.old) }
 {
     r.take(Sign::Helpstring)?;
@@ -152,7 +152,7 @@ pub(crate) fn head(r: &mut Reader<'_>, counts: bool) -> Result<Head, Stop>
 
 /// A number of an id with its sign.
 #[tactic(auto, unfolding(crate::specs::Reading::bind, crate::specs::Reading::choose, crate::specs::GrammarReading::signed_at))]
-fn signed(r: &mut Reader<'_>) -> Result<i32, Stop>
+pub(crate) fn signed(r: &mut Reader<'_>) -> Result<i32, Stop>
     ensures { Answers (λ i. i) result r.new (signed_at r.old) }
 {
     if r.is(Sign::Minus) {

@@ -1,4 +1,5 @@
 // The items of a library.
+use crate::method::Method;
 use crate::name::Name;
 use crate::parts::{Entry, Property};
 use std::marker::Model;
@@ -7,10 +8,14 @@ use uuid::Uuid;
 /// A dispinterface.
 #[derive(Drop)]
 pub struct Interface {
+    /// Its GUID.
     pub guid: Uuid,
+    /// Its name.
     pub name: Name,
     /// The section `properties:`, in the text's order.
     pub properties: Vec<Property>,
+    /// The section `methods:`, in the text's order.
+    pub methods: Vec<Method>,
 }
 
 impl Model for Interface {
@@ -18,13 +23,15 @@ impl Model for Interface {
 
     ghost Value = { InterfaceValue };
 
-    ghost view = { λ d. record { guid = d.guid; name = d.name; properties = d.properties.items } };
+    ghost view = { λ d. record { guid = d.guid; name = d.name; properties = d.properties.items; methods = d.methods.items } };
 }
 
 /// A coclass.
 #[derive(Drop)]
 pub struct Coclass {
+    /// Its GUID.
     pub guid: Uuid,
+    /// Its name.
     pub name: Name,
     /// Its interfaces in the text's order, of which at most one is marked as the default.
     pub entries: Vec<Entry>,
@@ -41,6 +48,8 @@ impl Model for Coclass {
 /// An item of a library.
 #[derive(Drop)]
 pub enum Item {
+    /// A dispinterface.
     Interface(Interface),
+    /// A coclass.
     Coclass(Coclass),
 }

@@ -7,10 +7,15 @@ use std::alloc::{AllocError, Global};
 /// What a token is.
 #[derive(Clone, Copy, Debug, PartialEq, Eq)]
 pub enum Kind {
+    /// 36 bytes of the form 8-4-4-4-12.
     Guid,
+    /// A name, or a word of the language.
     Name,
+    /// A decimal or hexadecimal number, without sign.
     Number,
+    /// A string with its quotes.
     Text,
+    /// One of `[ ] ( ) { } , ; : . -`.
     Mark,
     /// Bytes that form no token, to the text's end.
     Junk,
@@ -21,8 +26,11 @@ pub enum Kind {
 /// A token, and where it stands in its text.
 #[derive(Clone, Copy, Debug, PartialEq, Eq)]
 pub struct Token {
+    /// What it is.
     pub kind: Kind,
+    /// The place of its first byte.
     pub start: usize,
+    /// The place behind its last byte.
     pub end: usize,
 }
 

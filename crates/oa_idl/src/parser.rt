@@ -1,18 +1,20 @@
 // The grammar of a library text.
-ghost use Rattle.std.specs.Prelude.{◌≡◌, ◌-◌, ◌+◌, ◌<◌, ◌^◌, length, map};
+ghost use Rattle.std.specs.Prelude.{◌≡◌, ◌-◌, ◌+◌, ◌<◌, ◌^◌, length, map, IfOk};
 ghost use Rattle.oa_idl.specs.declared.sign.Sign.TheVariants as signs;
 ghost use Rattle.oa_idl.specs.Forms.{nowhere};
 ghost use Rattle.oa_idl.specs.Words.{word_of, passes};
-ghost use Rattle.oa_idl.specs.Reading.{Answers, done, until};
+ghost use Rattle.oa_idl.specs.Reading.{Answers, done, heads, until};
 ghost use Rattle.oa_idl.specs.IsTree.{IsTree, IsAnswer, IsFound, place_after};
-ghost use Rattle.oa_idl.specs.Grammar.{one_more, entry_grow, no_entry, semicolon_after, items_grow, no_items};
-ghost use Rattle.oa_idl.specs.GrammarReading.{type_word_at, value_type_at, property_at, closing_at, members_at, interface_at, named_at, entry_at, last_entry_at, coclass_at, item_at, library_at};
+ghost use Rattle.oa_idl.specs.Grammar.{one_more, entry_grow, no_entry, items_grow};
+ghost use Rattle.oa_idl.specs.GrammarReading.{type_word_at, value_type_at, property_at, methods_at, ends_properties, members_at, interface_at, named_at, entry_at, last_entry_at, coclass_at, import_at, item_at, elements_within, library_at};
 ghost use Rattle.oa_idl.specs.Trees.{TreeValue};
 ghost use Rattle.oa_idl.specs.Parsed.{IsParsed};
 
 use crate::attributes::{head, property_head};
 use crate::items::{Coclass, Interface, Item};
 use crate::lexer::{Kind, Token, tokens};
+use crate::method::Method;
+use crate::methods::methods;
 use crate::parts::{Entry, Property};
 use crate::reader::Reader;
 use crate::seen::{EntriesSeen, ItemsSeen};
@@ -35,7 +37,7 @@ fn type_word(r: &mut Reader<'_>, in_array: bool) -> Result<VarType, Stop>
 }
 
 #[tactic(auto, unfolding(crate::specs::Reading::bind, crate::specs::Reading::give, crate::specs::Reading::choose, crate::specs::GrammarReading::value_type_at))]
-fn value_type(r: &mut Reader<'_>) -> Result<ValueType, Stop>
+pub(crate) fn value_type(r: &mut Reader<'_>) -> Result<ValueType, Stop>
     ensures { Answers (λ t. t) result r.new (value_type_at r.old) }
 {
     if r.is(Sign::SafeArray) {
@@ -52,7 +54,8 @@ fn value_type(r: &mut Reader<'_>) -> Result<ValueType, Stop>
 /// A property after `count` members of its interface.
 #[tactic(auto, unfolding(crate::specs::Reading::bind, crate::specs::Reading::give, crate::specs::GrammarReading::property_at))]
 fn property(alloc: Global, r: &mut Reader<'_>, count: usize) -> Result<Property, Stop>
-    ensures { Answers (λ p. p) result r.new (property_at count r.old) }
+    ensures value { Answers (λ p. p) result r.new (property_at count r.old) }
+    ensures few { IfOk result (λ _. count < 512) }
 {
     let head = property_head(r)?;
     let value_type = value_type(r)?;
@@ -66,26 +69,40 @@ fn property(alloc: Global, r: &mut Reader<'_>, count: usize) -> Result<Property,
     })
 }
 
-/// At most so many properties, and the brace that closes them.
-#[tactic(auto, using(crate::proofs::Loop::until_err, crate::proofs::Loop::until_out))]
-fn properties(alloc: Global, r: &mut Reader<'_>, room: usize) -> Result<Vec<Property>, Stop>
-    ensures { Answers (λ v. (v.items, done)) result r.new (until (passes signs.Finish) nowhere property_at one_more closing_at room 0 r.old) }
+/// Whether the section of properties ends.
+#[tactic(auto, using(crate::proofs::Loop::either_heads))]
+fn ends_section(r: &Reader<'_>) -> bool
+    ensures { result ≡ heads ends_properties r.now }
+{
+    r.is(Sign::Methods) || r.is(Sign::Finish)
+}
+
+/// At most so many properties, and what ends them: the section of methods, or the brace.
+#[tactic(auto, using(crate::proofs::Loop::properties_err, crate::proofs::Loop::properties_end_err))]
+fn properties(
+    alloc: Global,
+    r: &mut Reader<'_>,
+    room: usize,
+) -> Result<(Vec<Property>, Vec<Method>), Stop>
+    ensures { Answers (λ v. (v.0.items, v.1.items)) result r.new (until ends_properties nowhere property_at one_more methods_at room 0 r.old) }
 {
     let mut all = Vec::new(alloc);
+    let mut count = 0;
     for _ in 0..room {
-        if r.is(Sign::Finish) {
-            r.skip();
-            return Ok(all);
+        if ends_section(r) {
+            let methods = methods(alloc, r, count)?;
+            return Ok((all, methods));
         }
-        let next = property(alloc, r, all.len())?;
+        let next = property(alloc, r, count)?;
         all.push(next)?;
+        count += 1;
     }
     Err(Stop::Syntax)
 }
 
-#[tactic(auto, unfolding(crate::specs::Reading::bind, crate::specs::Reading::give, crate::specs::Reading::choose, crate::specs::Reading::list_at, crate::specs::GrammarReading::properties_at, crate::specs::GrammarReading::members_at))]
-fn members(alloc: Global, r: &mut Reader<'_>) -> Result<Vec<Property>, Stop>
-    ensures { Answers (λ v. v.items) result r.new (members_at r.old) }
+#[tactic(auto, unfolding(crate::specs::Reading::bind, crate::specs::Reading::give, crate::specs::Reading::choose, crate::specs::Reading::list_at, crate::specs::GrammarReading::members_at))]
+fn members(alloc: Global, r: &mut Reader<'_>) -> Result<(Vec<Property>, Vec<Method>), Stop>
+    ensures { Answers (λ v. (v.0.items, v.1.items)) result r.new (members_at r.old) }
 {
     if r.is(Sign::Properties) {
         r.take(Sign::Properties)?;
@@ -93,8 +110,8 @@ fn members(alloc: Global, r: &mut Reader<'_>) -> Result<Vec<Property>, Stop>
         let room = r.left();
         return properties(alloc, r, room);
     }
-    r.take(Sign::Finish)?;
-    Ok(Vec::new(alloc))
+    let methods = methods(alloc, r, 0)?;
+    Ok((Vec::new(alloc), methods))
 }
 
 #[tactic(auto, unfolding(crate::specs::Reading::bind, crate::specs::Reading::give, crate::specs::GrammarReading::interface_at))]
@@ -109,11 +126,12 @@ fn interface(alloc: Global, r: &mut Reader<'_>, seen: ItemsSeen, guid: Uuid) -> 
         seen.interfaces,
     )?;
     r.take(Sign::Begin)?;
-    let properties = members(alloc, r)?;
+    let (properties, methods) = members(alloc, r)?;
     Ok(Item::Interface(Interface {
         guid,
         name,
         properties,
+        methods,
     }))
 }
 
@@ -225,10 +243,21 @@ fn counted(seen: ItemsSeen, item: &Item) -> ItemsSeen
     }
 }
 
-/// At most so many items, and the brace that closes them.
-#[tactic(auto, using(crate::proofs::Loop::until_err, crate::proofs::Loop::until_out))]
+/// An import, which is ignored.
+#[tactic(auto, unfolding(crate::specs::Reading::bind, crate::specs::GrammarReading::import_at))]
+fn import(r: &mut Reader<'_>) -> Result<(), Stop>
+    ensures { Answers (λ _. done) result r.new (import_at r.old) }
+{
+    r.take(Sign::Importlib)?;
+    r.take(Sign::Left)?;
+    r.text()?;
+    r.take(Sign::Right)?;
+    r.take(Sign::Semicolon)
+}
+
+/// The items of at most so many imports and items, and the brace that closes them.
 fn items(alloc: Global, r: &mut Reader<'_>, room: usize) -> Result<Vec<Item>, Stop>
-    ensures { Answers (λ v. (v.items, done)) result r.new (until (passes signs.Finish) semicolon_after item_at items_grow closing_at room no_items r.old) }
+    ensures { Answers (λ v. v.items) result r.new (elements_within room r.old) }
 {
     let mut all = Vec::new(alloc);
     let mut seen = ItemsSeen {
@@ -240,6 +269,10 @@ fn items(alloc: Global, r: &mut Reader<'_>, room: usize) -> Result<Vec<Item>, St
             r.skip();
             return Ok(all);
         }
+        if r.is(Sign::Importlib) {
+            import(r)?;
+            continue;
+        }
         let next = item(alloc, r, seen)?;
         r.perhaps(Sign::Semicolon);
         seen = counted(seen, &next);
@@ -248,7 +281,7 @@ fn items(alloc: Global, r: &mut Reader<'_>, room: usize) -> Result<Vec<Item>, St
     Err(Stop::Syntax)
 }
 
-#[tactic(auto, unfolding(crate::specs::Reading::bind, crate::specs::Reading::give, crate::specs::Reading::perhaps_at, crate::specs::Reading::list_at, crate::specs::GrammarReading::items_at, crate::specs::GrammarReading::library_at))]
+#[tactic(auto, unfolding(crate::specs::Reading::bind, crate::specs::Reading::give, crate::specs::Reading::perhaps_at, crate::specs::Reading::list_at, crate::specs::GrammarReading::elements_at, crate::specs::GrammarReading::library_at))]
 fn library(alloc: Global, r: &mut Reader<'_>) -> Result<Tree, Stop>
     ensures { Answers (λ t. t) result r.new (library_at r.old) }
 {
@@ -303,9 +336,8 @@ fn parse_words(alloc: Global, text: &[u8], words: &[Token]) -> Result<Tree, Pars
 ///
 /// `Ok` exactly where the text is in the grammar (docs/idl.md), with its one tree. `Limit(Text)` exactly where the text has more than
 /// 262,144 bytes. `Syntax(place)` where the token that begins at this byte, or the end, cannot stand there: no text of the grammar
-/// begins with the tokens up to and with that one. Another `Limit` where a name is too long, or is that of an item or member
-/// that is one too many: no text of the grammar that keeps this limit begins with the tokens up to and with that name; never `Limit(Params)`.
-/// `Memory` where none was found.
+/// begins with the tokens up to and with that one. Another `Limit` where a name is too long, or is that of an item, member or parameter
+/// that is one too many: no text of the grammar that keeps this limit begins with the tokens up to and with that name. `Memory` where none was found.
 pub fn parse(alloc: Global, text: &str) -> Result<Tree, ParseError>
     ensures exact { IsAnswer text.now result }
     ensures found { (t : TreeValue) → IsTree text.now t → IsFound t result }

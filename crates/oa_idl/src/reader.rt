@@ -1,17 +1,18 @@
 // Reading the words of a text from the front.
-ghost use Rattle.std.specs.Prelude.{◌≡◌, ◌-◌, ◌+◌, ◌*◌, ◌<◌, ◌^◌, ◌&&◌, Bool, if◌then◌else◌, length, take, drop, map, IfSome, OnOk, OnErr};
-ghost use Rattle.oa_idl.specs.Words.{word_of, passes, is_text, name_of, over, guid_of, digit_of, number_from, number_of, value_of, is_hexadecimal, below, part_from, part_of, id_number, usable, id_from, id_of, type_of, same_kind, never_over};
+ghost use Rattle.std.specs.Prelude.{◌≡◌, ◌-◌, ◌+◌, ◌*◌, ◌<◌, ◌^◌, ◌&&◌, Bool, if◌then◌else◌, length, take, drop, map, false, IfOk, IfSome, OnOk, OnErr};
+ghost use Rattle.oa_idl.specs.Words.{word_of, passes, is_text, name_of, over, guid_of, digit_of, number_from, number_of, value_of, is_hexadecimal, below, part_from, part_of, id_number, usable, id_from, id_of, type_of, same_kind, never_over, amount_from, amount_of, is_printable, is_escaped, characters_from, characters_of};
 ghost use Rattle.oa_idl.specs.Grammar.{entry_word};
 ghost use Rattle.oa_idl.specs.Reading.{Answers, heads, rest_of, this_at, one_at, perhaps_at, done, seen_first, first_of};
 ghost use Rattle.uuid.specs.Text.{parsed_hyphenated};
 
+use crate::characters::Characters;
 use crate::lexer::{Kind, Token};
 use crate::name::Name;
 use crate::scan::after;
 use crate::sign::{Sign, is_reserved, kind_of, spelling, type_named};
 use crate::stop::{Stop, TreeLimit};
 use oa_model::{MAX_NAME_CHARACTERS, VarType};
-use std::alloc::Global;
+use std::alloc::{AllocError, Global};
 use std::marker::Model;
 use uuid::Uuid;
 
@@ -76,7 +77,8 @@ fn digit_of(byte: u8) -> u8
 /// The number that digits stand for, if it is below 2^96.
 #[tactic(auto, unfolding(crate::specs::Words::number_from), using(crate::proofs::Digits::digits_go_on, crate::proofs::Digits::digits_stop, crate::proofs::Digits::digits_end))]
 fn digits(hexadecimal: bool, text: &[u8]) -> Option<u128>
-    ensures { result ≡ below (2 ^ 96) (number_from (if hexadecimal then 16 else 10) 0 text.now) }
+    ensures small { IfSome result (λ n. n < 2 ^ 96) }
+    ensures value { result ≡ below (2 ^ 96) (number_from (if hexadecimal then 16 else 10) 0 text.now) }
 {
     let base = if hexadecimal { 16u128 } else { 10u128 };
     let mut value = 0u128;
@@ -100,7 +102,8 @@ fn is_hexadecimal(text: &[u8]) -> bool
 
 #[tactic(auto, unfolding(crate::specs::Words::number_of))]
 fn number_of(text: &[u8]) -> Option<u128>
-    ensures { result ≡ number_of text.now }
+    ensures value { result ≡ number_of text.now }
+    ensures small { IfSome result (λ n. n < 2 ^ 96) }
 {
     if is_hexadecimal(text) {
         return digits(true, after(text, 2));
@@ -137,6 +140,62 @@ fn id_from(negative: bool, hexadecimal: bool, number: Option<u128>) -> Option<i3
 {
     let id = id_number(negative, hexadecimal, number?)?;
     if id == -1 || id == -3 { None } else { Some(id) }
+}
+
+fn amount_from(negative: bool, number: Option<u128>) -> Option<i128>
+    requires { IfSome number (λ n. n < 2 ^ 96) }
+    ensures { result ≡ amount_from negative number }
+{
+    if negative {
+        return 0i128.checked_sub_unsigned(number?);
+    }
+    0i128.checked_add_unsigned(number?)
+}
+
+fn is_printable(byte: u8) -> bool
+    ensures { result ≡ is_printable byte }
+{
+    b' ' <= byte && byte <= b'~'
+}
+
+fn is_escaped(byte: u8) -> bool
+    ensures { result ≡ is_escaped byte }
+{
+    byte == b'"' || byte == b'\\'
+}
+
+/// The characters up to the quote that closes a string, None where one cannot stand.
+#[tactic(auto, using(crate::proofs::Strings::escape_taken, crate::proofs::Strings::escape_refused, crate::proofs::Strings::string_closed, crate::proofs::Strings::escape_begins, crate::proofs::Strings::character_taken, crate::proofs::Strings::character_refused, crate::proofs::Strings::characters_end))]
+fn characters(alloc: Global, text: &[u8]) -> Result<Option<Characters>, AllocError>
+    ensures { IfOk result (λ found. found ≡ characters_from false text.now) }
+{
+    let mut out = Vec::new(alloc);
+    let mut marked = false;
+    let mut n = 0;
+    while n < text.len() {
+        let byte = text[n];
+        if marked {
+            if !is_escaped(byte) {
+                return Ok(None);
+            }
+            out.push(byte)?;
+            marked = false;
+        } else {
+            if byte == b'"' {
+                return Ok(Some(Characters::from_bytes(out)));
+            }
+            if byte == b'\\' {
+                marked = true;
+            } else {
+                if !is_printable(byte) {
+                    return Ok(None);
+                }
+                out.push(byte)?;
+            }
+        }
+        n += 1;
+    }
+    Ok(None)
 }
 
 /// The GUID of a text of the form 8-4-4-4-12.
@@ -258,7 +317,8 @@ impl<'a> Reader<'a> {
         bound: usize,
         count: usize,
     ) -> Result<Name, Stop>
-        ensures { Answers (λ n. n) result self.new (one_at name_of (over limit bound count) self.old) }
+        ensures value { Answers (λ n. n) result self.new (one_at name_of (over limit bound count) self.old) }
+        ensures few { IfOk result (λ _. count < bound) }
     {
         let Some((kind, text)) = self.first() else {
             return Err(Stop::Syntax);
@@ -349,6 +409,57 @@ impl<'a> Reader<'a> {
             return Err(Stop::Syntax);
         }
         match type_named(in_array, unsigned, text) {
+            Some(found) => {
+                self.skip();
+                Ok(found)
+            }
+            None => Err(Stop::Syntax),
+        }
+    }
+
+    /// Whether the next word is a string.
+    #[tactic(auto, unfolding(crate::specs::Words::is_text))]
+    pub(crate) fn is_string(&self) -> bool
+        ensures { result ≡ heads is_text self.now }
+    {
+        match self.first() {
+            Some((kind, _text)) => same_kind(kind, Kind::Text),
+            None => false,
+        }
+    }
+
+    /// Takes a number of a default, after a minus or not.
+    #[tactic(auto, unfolding(crate::specs::Reading::one_at, crate::specs::Words::amount_of))]
+    pub(crate) fn amount(&mut self, negative: bool) -> Result<i128, Stop>
+        ensures { Answers (λ n. n) result self.new (one_at (amount_of negative) never_over self.old) }
+    {
+        let Some((kind, text)) = self.first() else {
+            return Err(Stop::Syntax);
+        };
+        if !same_kind(kind, Kind::Number) {
+            return Err(Stop::Syntax);
+        }
+        match amount_from(negative, number_of(text)) {
+            Some(value) => {
+                self.skip();
+                Ok(value)
+            }
+            None => Err(Stop::Syntax),
+        }
+    }
+
+    /// Takes a default string.
+    #[tactic(auto, unfolding(crate::specs::Reading::one_at, crate::specs::Words::characters_of))]
+    pub(crate) fn characters(&mut self, alloc: Global) -> Result<Characters, Stop>
+        ensures { Answers (λ n. n) result self.new (one_at characters_of never_over self.old) }
+    {
+        let Some((kind, text)) = self.first() else {
+            return Err(Stop::Syntax);
+        };
+        if !same_kind(kind, Kind::Text) {
+            return Err(Stop::Syntax);
+        }
+        match characters(alloc, after(text, 1))? {
             Some(found) => {
                 self.skip();
                 Ok(found)

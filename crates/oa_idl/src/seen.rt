@@ -1,5 +1,5 @@
 // What was seen so far of a list that is being read.
-use crate::parts::Version;
+use crate::parts::{Literal, MethodKind, Version};
 use uuid::Uuid;
 
 /// What the attributes of a library or an item say.
@@ -45,4 +45,27 @@ pub(crate) struct EntriesSeen {
 pub(crate) struct ItemsSeen {
     pub(crate) interfaces: usize,
     pub(crate) coclasses: usize,
+}
+
+/// The attributes of a method that were seen; it is a method as long as nothing else is said.
+#[derive(Clone, Copy)]
+pub(crate) struct MethodSeen {
+    pub(crate) id: Option<i32>,
+    pub(crate) kind: MethodKind,
+    pub(crate) help: bool,
+}
+
+/// What the attributes of a method say.
+#[derive(Clone, Copy)]
+pub(crate) struct MethodHead {
+    pub(crate) id: i32,
+    pub(crate) kind: MethodKind,
+}
+
+/// The attributes of a parameter that were seen, and what they say.
+#[derive(Drop)]
+pub(crate) struct ParameterSeen {
+    pub(crate) is_in: bool,
+    pub(crate) is_optional: bool,
+    pub(crate) default: Option<Literal>,
 }

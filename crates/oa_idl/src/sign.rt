@@ -47,6 +47,13 @@ pub(crate) enum Sign {
     Id,
     Readonly,
     Default,
+    Propget,
+    Propput,
+    In,
+    Optional,
+    DefaultValue,
+    True,
+    False,
 }
 
 pub(crate) fn kind_of(sign: Sign) -> Kind
@@ -112,6 +119,13 @@ pub(crate) fn spelling(sign: Sign) -> &'static [u8]
         Sign::Id => b"id",
         Sign::Readonly => b"readonly",
         Sign::Default => b"default",
+        Sign::Propget => b"propget",
+        Sign::Propput => b"propput",
+        Sign::In => b"in",
+        Sign::Optional => b"optional",
+        Sign::DefaultValue => b"defaultvalue",
+        Sign::True => b"TRUE",
+        Sign::False => b"FALSE",
     }
 }
 

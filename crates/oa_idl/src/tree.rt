@@ -8,9 +8,11 @@ use uuid::Uuid;
 /// What a library text says, in its order and without places.
 #[derive(Drop)]
 pub struct Tree {
+    /// The library's GUID.
     pub guid: Uuid,
     /// 0.0 where the text gives none.
     pub version: Version,
+    /// The library's name.
     pub name: Name,
     /// Interfaces and coclasses in the text's order.
     pub items: Vec<Item>,

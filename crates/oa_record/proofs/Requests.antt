@@ -15,6 +15,7 @@ use Rattle.oa_record.specs.declared.request.Request.TheVariants as requests
 use Rattle.oa_record.specs.Asks.{Lies, AllSpell, request_of, request_opcode, Asks, Spoils, HasBroken, HasBadType, HasNoLayout, IsStub, IsBadVarType, IsRequest, opcode_at, opcode_takes_memory, max_body}
 use Rattle.oa_record.specs.declared.request.Request.{Request}
 use Rattle.oa_record.specs.declared.request.Invoke.{Invoke}
+use Rattle.oa_record.specs.declared.request.GetIds.{GetIds}
 use Rattle.oa_record.proofs.LayoutLaws.{layout_reads}
 use Rattle.oa_record.proofs.Header.{opcode_lies}
 
@@ -44,6 +45,8 @@ one_request one body p q a b =
 
 opcode_same : (l : Layout) (vs : List Variant) → request_opcode (request_of l vs) ≡ opcode_of l
 opcode_same (Layout.CreateBody class) vs = refl
+opcode_same (Layout.GetIdsBody call) vs = refl
+opcode_same (Layout.TypeInfoBody index) vs = refl
 opcode_same (Layout.InvokeBody h) vs = refl
 
 pub opcode_stands : (body : List ℕ) (q : Request) → Asks body q → (8 ≤ length body) × (opcode_at body ≡ request_opcode q)
@@ -97,6 +100,12 @@ no_values body head fields Memory short read same h =
 
 pub asks_create : (body class : List ℕ) → length body ≤ max_body → whole layout_at body ≡ Some (Layout.CreateBody class) → Asks body (requests.Create class)
 asks_create body class short read = record { parts = Layout.CreateBody class; lies = lies_so body (Layout.CreateBody class) short read; values = []; spelled = tt; is = refl }
+
+pub asks_get_ids : (body : List ℕ) (call : GetIds) → length body ≤ max_body → whole layout_at body ≡ Some (Layout.GetIdsBody call) → Asks body (requests.GetIds call)
+asks_get_ids body call short read = record { parts = Layout.GetIdsBody call; lies = lies_so body (Layout.GetIdsBody call) short read; values = []; spelled = tt; is = refl }
+
+pub asks_type_info : (body : List ℕ) (index : ℕ) → length body ≤ max_body → whole layout_at body ≡ Some (Layout.TypeInfoBody index) → Asks body (requests.TypeInfo index)
+asks_type_info body index short read = record { parts = Layout.TypeInfoBody index; lies = lies_so body (Layout.TypeInfoBody index) short read; values = []; spelled = tt; is = refl }
 
 pub asks_invoke : (body : List ℕ) (head : HeadValue) (fields : List (List ℕ)) (values : List Variant) (q : Invoke) → length body ≤ max_body → whole layout_at body ≡ Some (Layout.InvokeBody head) → fields ≡ head.fields → AllSpell fields values
     → requests.Invoke q ≡ request_of (Layout.InvokeBody head) values → Asks body (requests.Invoke q)

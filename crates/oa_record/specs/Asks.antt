@@ -1,5 +1,5 @@
 -- Which body asks which request, and the refusal of a body that asks none (this project's choice). Each further opcode joins as a case of `request_of`.
-use Rattle.std.specs.Prelude.{◌≡◌, ◌⊎◌, ℕ, ◌≤◌, ◌==◌, nat_lt, if◌then◌else◌, Bool, true, List, [], ◌∷◌, ◌++◌, length, drop, Some, Result, Ok, Err}
+use Rattle.std.specs.Prelude.{◌≡◌, ◌⊎◌, ℕ, ◌≤◌, ◌==◌, ◌||◌, nat_lt, if◌then◌else◌, Bool, true, List, [], ◌∷◌, ◌++◌, length, drop, Some, Result, Ok, Err}
 use Rattle.std.specs.List.{AllByRecursion}
 use Rattle.byteorder.specs.Endian.{little_number}
 use Rattle.oa_variant.specs.declared.variant.Variant.{Variant}
@@ -8,7 +8,7 @@ use Rattle.oa_wire_array.specs.declared.fault.WireFault.{WireFault}
 use Rattle.oa_wire_array.specs.declared.fault.WireFault.TheVariants as faults
 use Rattle.oa_record.specs.Layouts.{Layout, layout, variant_fields}
 use Rattle.oa_record.specs.declared.request.Request.{Request}
-use Rattle.oa_record.specs.declared.request.Request.TheVariants.{Create, Invoke}
+use Rattle.oa_record.specs.declared.request.Request.TheVariants.{Create, GetIds, Invoke, TypeInfo}
 use Rattle.oa_record.specs.declared.fault.RecordFault.{RecordFault}
 use Rattle.oa_record.specs.declared.fault.RecordFault.TheVariants.{Stub, BadVarType, Memory}
 
@@ -31,6 +31,8 @@ AllSpell (f ∷ fs) [] = ⊥
 -- the request of a layout, with the values of its variant fields
 abbrev pub request_of : Layout → List Variant → Request
 request_of (Layout.CreateBody class) values = Create class
+request_of (Layout.GetIdsBody call) values = GetIds call
+request_of (Layout.TypeInfoBody index) values = TypeInfo index
 request_of (Layout.InvokeBody h) values = Invoke (record {
   object = h.object;
   dispid = h.dispid;
@@ -45,7 +47,9 @@ request_of (Layout.InvokeBody h) values = Invoke (record {
 -- the opcode of a request
 abbrev pub request_opcode : Request → ℕ
 request_opcode (Create class) = 1
+request_opcode (GetIds call) = 3
 request_opcode (Invoke call) = 4
+request_opcode (TypeInfo index) = 10
 
 -- the body asks this request
 pub record Asks (body : List ℕ) (request : Request) : Type 0 where
@@ -115,9 +119,9 @@ opcode_at body = little_number 2 (drop 4 body)
 
 -- the opcodes whose bodies take memory to be read
 abbrev pub opcode_takes_memory : ℕ → Bool
-opcode_takes_memory opcode = opcode == 4
+opcode_takes_memory opcode = (opcode == 3) || (opcode == 4)
 
--- The body is of such an opcode. No other body is answered with want of memory: not one below 8 bytes, nor one with an opcode that is none, nor a CREATE.
+-- The body is of such an opcode. No other body is answered with want of memory: not one below 8 bytes, nor one with an opcode that is none, nor a CREATE or a TYPEINFO.
 pub record MayStarve (body : List ℕ) : Type 0 where
   pub long : 8 ≤ length body
   pub short : length body ≤ max_body

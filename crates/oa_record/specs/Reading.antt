@@ -4,7 +4,8 @@ use Rattle.std.specs.Int.{w32, cast_signed}
 use Rattle.oa_ndr.specs.Reading.{Cursor, Reading, ◌>>=◌, give, fail, choose, unit_at, bytes_at, align_at, many}
 use Rattle.oa_model.specs.Guids.{wire_order}
 use Rattle.oa_record.specs.Heads.{HeadValue}
-use Rattle.oa_record.specs.Layouts.{Layout, max_arguments}
+use Rattle.oa_record.specs.Layouts.{Layout, max_arguments, max_names}
+use Rattle.oa_record.specs.declared.request.GetIds.{GetIds}
 use Rattle.oa_record.specs.Asks.{opcode_takes_memory, opcode_at}
 use Rattle.oa_record.specs.declared.fault.RecordFault.{RecordFault}
 use Rattle.oa_record.specs.declared.fault.RecordFault.TheVariants.{Stub, BadVarType, Memory}
@@ -101,6 +102,40 @@ head_at = do
   named_count ← unit_at 4
   choose (nat_le count max_arguments && nat_le named_count max_arguments) (lists_at object dispid interface riid lcid flags count named_count) fail
 
+-- the units of a string
+unfoldable pub string_at : Reading (List ℕ)
+string_at = do
+  n ← unit_at 4
+  _ ← unit_at 4
+  units ← many (unit_at 2) n
+  _ ← align_at 8
+  give units
+
+abbrev pub ids_of : ℕ → List ℕ → List ℕ → ℕ → List (List ℕ) → GetIds
+ids_of object interface riid lcid names = record { object = object; interface = interface; riid = riid; lcid = lcid; names = names }
+
+-- the names behind their number
+unfoldable pub names_at : ℕ → List ℕ → List ℕ → ℕ → ℕ → Reading GetIds
+names_at object interface riid lcid count = do
+  names ← many string_at count
+  give (ids_of object interface riid lcid names)
+
+unfoldable pub get_ids_at : Reading GetIds
+get_ids_at = do
+  object ← unit_at 4
+  _ ← unit_at 4
+  interface ← guid_at
+  riid ← guid_at
+  lcid ← unit_at 4
+  count ← unit_at 4
+  choose (nat_le 1 count && nat_le count max_names) (names_at object interface riid lcid count) fail
+
+unfoldable pub type_info_at : Reading ℕ
+type_info_at = do
+  index ← unit_at 4
+  _ ← unit_at 4
+  give index
+
 unfoldable pub create_at : Reading Layout
 create_at = do
   class ← guid_at
@@ -111,9 +146,19 @@ invoke_at = do
   head ← head_at
   give (Layout.InvokeBody head)
 
+unfoldable pub get_ids_body_at : Reading Layout
+get_ids_body_at = do
+  call ← get_ids_at
+  give (Layout.GetIdsBody call)
+
+unfoldable pub type_info_body_at : Reading Layout
+type_info_body_at = do
+  index ← type_info_at
+  give (Layout.TypeInfoBody index)
+
 -- the fields of the opcode
 unfoldable pub fields_at : ℕ → Reading Layout
-fields_at opcode = choose (opcode == 1) create_at (choose (opcode == 4) invoke_at fail)
+fields_at opcode = choose (opcode == 1) create_at (choose (opcode == 3) get_ids_body_at (choose (opcode == 4) invoke_at (choose (opcode == 10) type_info_body_at fail)))
 
 unfoldable pub layout_at : Reading Layout
 layout_at = do

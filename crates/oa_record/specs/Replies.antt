@@ -1,6 +1,7 @@
 -- The bytes of a reply (this project's choice): its length, not counted in itself; tag, code, index and a reserved number; the fields of its body.
-use Rattle.std.specs.Prelude.{◌≡◌, ℕ, ◌+◌, List, ◌++◌, length, replicate, Option, Some, None, Result, Ok, Err}
-use Rattle.std.specs.Int.{to_le_bytes, w32}
+use Rattle.std.specs.Prelude.{◌≡◌, ℕ, ℤ, ◌+◌, List, ◌++◌, length, replicate, Option, Some, None, Result, Ok, Err}
+use Rattle.std.specs.Int.{to_le_bytes, cast_unsigned, w16, w32}
+use Rattle.std.specs.List.{flat_map}
 use Rattle.std.specs.Io.KnownBytes.{Appends}
 use Rattle.oa_ndr.specs.Forms.{padding}
 use Rattle.oa_model.specs.declared.hresult.HResult.{HResult}
@@ -52,6 +53,26 @@ Puts (Err e) old new bytes = Breaks old new bytes
 abbrev pub number_field : ℕ → List ℕ
 number_field n = word n ++ word 0
 
--- how many bytes, a reserved number, the value as it is written, padding up to a multiple of 8
+-- bytes, and zeros up to a multiple of 8
+abbrev pub padded : List ℕ → List ℕ
+padded bytes = bytes ++ replicate (padding 8 (length bytes)) 0
+
+-- how many bytes, a reserved number, the value as it is written, padding
 abbrev pub variant_field : Variant → List ℕ
-variant_field v = word (length (canon v)) ++ (word 0 ++ (canon v ++ replicate (padding 8 (length (canon v))) 0))
+variant_field v = number_field (length (canon v)) ++ padded (canon v)
+
+-- a number of 2 bytes
+unfoldable pub half_word : ℕ → List ℕ
+half_word n = to_le_bytes w16 n
+
+-- a signed number of 4 bytes
+abbrev pub signed_word : ℤ → List ℕ
+signed_word z = word (cast_unsigned w32 z)
+
+-- how many DISPIDs, a reserved number, the DISPIDs, padding
+abbrev pub ids_field : List ℤ → List ℕ
+ids_field ids = number_field (length ids) ++ padded (flat_map signed_word ids)
+
+-- a text of ASCII characters: how many, a reserved number, the UTF-16 unit of each, padding
+abbrev pub string_field : List ℕ → List ℕ
+string_field text = number_field (length text) ++ padded (flat_map half_word text)

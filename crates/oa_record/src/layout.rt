@@ -1,6 +1,6 @@
 //! The layout of a body, with the bytes of its variant fields.
 ghost use Rattle.std.specs.Prelude.{◌≡◌, ℕ, ◌<◌, ◌≤◌, map, length, IfOk};
-ghost use Rattle.oa_ndr.specs.Reading.{many, whole};
+ghost use Rattle.oa_ndr.specs.Reading.{many, unit_at, whole};
 ghost use Rattle.oa_record.specs.Reading.{
   Answers,
   AnswersAll,
@@ -12,15 +12,21 @@ ghost use Rattle.oa_record.specs.Reading.{
   field_at,
   lists_at,
   head_at,
+  string_at,
+  names_at,
+  get_ids_at,
+  type_info_at,
   create_at,
+  get_ids_body_at,
   invoke_at,
+  type_info_body_at,
   fields_at,
   layout_at,
 };
 ghost use Rattle.oa_record.specs.Shown.{shown};
 
-use crate::{Arguments, Dispids, Invoke, RecordFault};
-use oa_model::{MAX_ARGUMENTS, guid_from_wire};
+use crate::{Arguments, Dispids, GetIds, Invoke, Names, RecordFault};
+use oa_model::{MAX_ARGUMENTS, MAX_NAMES, guid_from_wire};
 use oa_ndr::{Ndr, Short};
 use oa_variant::Variant;
 use std::alloc::Global;
@@ -82,7 +88,9 @@ impl<'a> Head<'a> {
 #[derive(Drop)]
 pub(crate) enum Parts<'a> {
     Create(Uuid),
+    GetIds(GetIds),
     Invoke(Head<'a>),
+    TypeInfo(u32),
 }
 
 // A GUID in wire order.
@@ -174,15 +182,88 @@ fn read_head<'a>(alloc: Global, r: &mut Ndr<'a>) -> Result<Head<'a>, RecordFault
     })
 }
 
+#[tactic(auto, using(oa_ndr::proofs::Loop::many_done, oa_ndr::proofs::Loop::many_goes_on, oa_ndr::proofs::Loop::many_ends))]
+fn units(alloc: Global, count: u32, r: &mut Ndr<'_>) -> Result<Vec<u16>, RecordFault>
+    ensures { Answers (λ v. v.items) result r.new (many (unit_at 2) count r.old) }
+{
+    let mut all = Vec::new(alloc);
+    'units: for _ in 0..count {
+        let next = r.u16()?;
+        all.push(next)?;
+    }
+    Ok(all)
+}
+
+// The units of a string.
+#[tactic(auto, unfolding(oa_ndr::specs::Reading::bind, oa_ndr::specs::Reading::give, crate::specs::Reading::string_at))]
+fn string(alloc: Global, r: &mut Ndr<'_>) -> Result<Vec<u16>, RecordFault>
+    ensures { Answers (λ v. v.items) result r.new (string_at r.old) }
+{
+    let n = r.u32()?;
+    r.u32()?;
+    let units = units(alloc, n, r)?;
+    r.align(8)?;
+    Ok(units)
+}
+
+#[tactic(auto, using(oa_ndr::proofs::Loop::many_done, oa_ndr::proofs::Loop::many_goes_on, oa_ndr::proofs::Loop::many_ends, std::proofs::lemmas::List::map_push))]
+fn strings(alloc: Global, count: u32, r: &mut Ndr<'_>) -> Result<Vec<Vec<u16>>, RecordFault>
+    ensures answers { Answers (λ v. map (λ x. x.items) v.items) result r.new (many string_at count r.old) }
+    ensures count { IfOk result (λ v. length v.items ≡ count) }
+{
+    let mut all = Vec::new(alloc);
+    'strings: for _ in 0..count {
+        let next = string(alloc, r)?;
+        all.push(next)?;
+    }
+    Ok(all)
+}
+
+// Object, GUIDs and lcid, the count, and the names behind it.
+#[tactic(auto, unfolding(oa_ndr::specs::Reading::bind, oa_ndr::specs::Reading::give, oa_ndr::specs::Reading::choose, oa_ndr::specs::Reading::fail, crate::specs::Reading::get_ids_at, crate::specs::Reading::names_at))]
+fn read_get_ids(alloc: Global, r: &mut Ndr<'_>) -> Result<GetIds, RecordFault>
+    ensures { Answers (λ x. x) result r.new (get_ids_at r.old) }
+{
+    let object = r.u32()?;
+    r.u32()?;
+    let interface = guid(r)?;
+    let riid = guid(r)?;
+    let lcid = r.u32()?;
+    let count = r.u32()?;
+    if count < 1 || count > MAX_NAMES {
+        return Err(RecordFault::Stub);
+    }
+    let names = strings(alloc, count, r)?;
+    Ok(GetIds {
+        object,
+        interface,
+        riid,
+        lcid,
+        names: Names::new(names),
+    })
+}
+
+// An index and a reserved number.
+#[tactic(auto, unfolding(oa_ndr::specs::Reading::bind, oa_ndr::specs::Reading::give, crate::specs::Reading::type_info_at))]
+fn read_index(r: &mut Ndr<'_>) -> Result<u32, Short>
+    ensures { Finds (λ x. x) result r.new (type_info_at r.old) }
+{
+    let index = r.u32()?;
+    r.u32()?;
+    Ok(index)
+}
+
 // The fields of an opcode.
-#[tactic(auto, unfolding(oa_ndr::specs::Reading::bind, oa_ndr::specs::Reading::give, oa_ndr::specs::Reading::choose, oa_ndr::specs::Reading::fail, crate::specs::Reading::fields_at, crate::specs::Reading::create_at, crate::specs::Reading::invoke_at))]
+#[tactic(auto, unfolding(oa_ndr::specs::Reading::bind, oa_ndr::specs::Reading::give, oa_ndr::specs::Reading::choose, oa_ndr::specs::Reading::fail, crate::specs::Reading::fields_at, crate::specs::Reading::create_at, crate::specs::Reading::get_ids_body_at, crate::specs::Reading::invoke_at, crate::specs::Reading::type_info_body_at))]
 fn fields_of<'a>(alloc: Global, opcode: u16, r: &mut Ndr<'a>) -> Result<Parts<'a>, RecordFault>
     ensures answers { Answers shown result r.new (fields_at opcode r.old) }
     ensures memory { StarvesAt result opcode }
 {
     match opcode {
         1 => Ok(Parts::Create(guid(r)?)),
+        3 => Ok(Parts::GetIds(read_get_ids(alloc, r)?)),
         4 => Ok(Parts::Invoke(read_head(alloc, r)?)),
+        10 => Ok(Parts::TypeInfo(read_index(r)?)),
         _ => Err(RecordFault::Stub),
     }
 }

@@ -3,8 +3,10 @@
 
 mod arguments;
 mod fault;
+mod fields;
 pub mod laws;
 mod layout;
+mod names;
 mod reading;
 mod reply;
 mod request;
@@ -12,9 +14,11 @@ mod writing;
 
 pub use arguments::{Arguments, Dispids};
 pub use fault::RecordFault;
+pub use fields::{MAX_FIELDS_BYTES, ids_field, number_field, string_field, variant_field};
+pub use names::Names;
 pub use reading::{read_request, tag_of};
-pub use reply::{Reply, number_field, variant_field};
-pub use request::{Invoke, Request};
+pub use reply::Reply;
+pub use request::{GetIds, Invoke, Request};
 pub use writing::put_all;
 
 #[cfg(test)]

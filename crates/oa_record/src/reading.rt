@@ -68,9 +68,9 @@ fn values(alloc: Global, fields: &[&[u8]]) -> Result<Vec<Variant>, RecordFault>
 /// The request that a body asks: the tag at its first byte, which `tag_of` reads, the opcode at 4, its fields from 8 to the end (this
 /// project's choice).
 ///
-/// `Stub` where the body is laid out as no request, has more than 1,048,576 bytes, or has more than 32 arguments or named ones, and where the
-/// field of a value is broken; else `BadVarType` with the lowest index of a value with a type outside the profile. `Memory` only for an
-/// INVOKE's opcode in a body of 8 to 1,048,576 bytes.
+/// `Stub` where the body is laid out as no request, has more than 1,048,576 bytes, or has more than 32 arguments or named ones, no name or
+/// more than 17, and where the field of a value is broken; else `BadVarType` with the lowest index of a value with a type outside the profile.
+/// `Memory` only for the opcode of a GETIDS or an INVOKE in a body of 8 to 1,048,576 bytes.
 pub fn read_request(alloc: Global, body: &[u8]) -> Result<Request, RecordFault>
     ensures { IsRequest body.now result }
 {
@@ -79,6 +79,8 @@ pub fn read_request(alloc: Global, body: &[u8]) -> Result<Request, RecordFault>
     }
     match read_parts(alloc, body)? {
         Parts::Create(class) => Ok(Request::Create { class }),
+        Parts::GetIds(call) => Ok(Request::GetIds(call)),
+        Parts::TypeInfo(index) => Ok(Request::TypeInfo { index }),
         Parts::Invoke(head) => {
             let values = values(alloc, head.fields())?;
             Ok(Request::Invoke(head.with(values)))

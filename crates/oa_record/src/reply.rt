@@ -1,15 +1,11 @@
 //! Replies.
 ghost use Rattle.std.specs.Prelude.{◌≡◌, ◌≤◌, ◌<◌, ◌+◌, ◌++◌, [], length, replicate, Some, None, IfOk, OnOk, OnErr};
 ghost use Rattle.std.specs.Int.{to_le_bytes, w32};
-ghost use Rattle.oa_model.specs.Codes.{s_ok};
-ghost use Rattle.oa_ndr.specs.Forms.{padding};
-ghost use Rattle.oa_record.specs.Replies.{ReplyValue, word, index_word, reply_head, reply_record, reply_bytes, number_field, variant_field, Puts};
+ghost use Rattle.oa_record.specs.Replies.{ReplyValue, word, index_word, reply_head, reply_record, reply_bytes, Puts};
 
 use crate::put_all;
 use oa_model::HResult;
-use oa_variant::Variant;
-use oa_wire_variant::{wire_len, write_variant};
-use std::alloc::{AllocError, Global};
+use std::alloc::Global;
 use std::io::{self, Write};
 use std::marker::Model;
 
@@ -113,49 +109,4 @@ impl Reply {
     {
         (16 + self.body.len() as u32).to_le_bytes()
     }
-}
-
-// A number and a reserved number.
-#[tactic(auto, unfolding(crate::specs::Replies::word))]
-fn two_words(number: u32) -> [u8; 8]
-    ensures { result ≡ word number ++ word 0 }
-{
-    let [a, b, c, d] = number.to_le_bytes();
-    [a, b, c, d, 0, 0, 0, 0]
-}
-
-/// The fields of a reply that are a number: u32 number, u32 reserved.
-pub fn number_field(alloc: Global, number: u32) -> Result<Vec<u8>, AllocError>
-    ensures value { IfOk result (λ v. v.items ≡ number_field number) }
-    ensures len { IfOk result (λ v. length v.items ≡ 8) }
-{
-    Vec::from_slice(alloc, &two_words(number))
-}
-
-// Adds zeros up to the next multiple of 8.
-fn pad(out: &mut Vec<u8>) -> Result<(), AllocError>
-    ensures { OnOk result (out.new.items ≡ out.old.items ++ replicate (padding 8 (length out.old.items)) 0) }
-{
-    out.resize(out.len().next_multiple_of(8), 0)
-}
-
-/// The longest value that a reply has room for, in bytes.
-const MAX_VALUE_BYTES: usize = 4_294_967_264;
-
-/// The fields of a reply that are a value: u32 count of the value's bytes, u32 reserved, these bytes, zeros up to a multiple of 8.
-///
-/// Err where memory is refused, and for an array above 4,294,967,264 bytes on the wire.
-pub fn variant_field(alloc: Global, value: &Variant) -> Result<Vec<u8>, AllocError>
-    ensures value { IfOk result (λ v. v.items ≡ variant_field value.now) }
-    ensures len { IfOk result (λ v. length v.items ≤ 4294967279) }
-{
-    let len = wire_len(value);
-    if len > MAX_VALUE_BYTES {
-        return Err(AllocError);
-    }
-    let mut field = Vec::with_capacity(alloc, 16 + len)?;
-    field.extend_from_slice(&two_words(len as u32))?;
-    write_variant(value, &mut field)?;
-    pad(&mut field)?;
-    Ok(field)
 }

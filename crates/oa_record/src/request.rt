@@ -1,14 +1,38 @@
 //! Requests.
-use crate::{Arguments, Dispids};
+use crate::{Arguments, Dispids, Names};
 use uuid::Uuid;
 
 /// What a body asks for (this project's choice).
 #[derive(Debug, Drop)]
 pub enum Request {
     /// A new object of a coclass.
-    Create { class: Uuid },
+    Create {
+        class: Uuid,
+    },
+    /// The DISPIDs of a member and of its parameters.
+    GetIds(GetIds),
     /// A call of a member of an object.
     Invoke(Invoke),
+    /// What the library says of an interface or a coclass.
+    TypeInfo {
+        /// Counts the interfaces in the order of the library's text, from 0 on, and then the coclasses.
+        index: u32,
+    },
+}
+
+/// A look-up of names (IDispatch::GetIDsOfNames, MS-OAUT section 3.1.4.3).
+#[derive(Debug, Drop)]
+pub struct GetIds {
+    /// The number of the object.
+    pub object: u32,
+    /// The interface; the zero GUID stands for the default interface.
+    pub interface: Uuid,
+    /// The reserved riid.
+    pub riid: Uuid,
+    /// The locale, which may be any.
+    pub lcid: u32,
+    /// The names that are looked up.
+    pub names: Names,
 }
 
 /// A call of a member (IDispatch::Invoke, MS-OAUT section 3.1.4.4).

@@ -1,7 +1,7 @@
 // Bodies and replies byte for byte.
 use crate::{
-    Arguments, Dispids, RecordFault, Reply, Request, laws, number_field, put_all, read_request,
-    tag_of, variant_field,
+    Arguments, Dispids, Names, RecordFault, Reply, Request, ids_field, laws, number_field, put_all,
+    read_request, string_field, tag_of, variant_field,
 };
 use oa_model::HResult;
 use oa_variant::{Scalar, Variant};
@@ -30,6 +30,17 @@ const PUT: [u8; 104] = [
     0, 0, 0, 0, 0, 3, 0, 0, 0, 7, 0, 0, 0,
 ];
 
+// GETIDS of "cELL", "KEY" and "none" of object 1 in the locale 0x0409, tag 6
+const LOOK_UP: [u8; 104] = [
+    6, 0, 0, 0, 3, 0, 0, 0, 1, 0, 0, 0, 0, 0, 0, 0, 0, 0, 0, 0, 0, 0, 0, 0, 0, 0, 0, 0, 0, 0, 0, 0,
+    0, 0, 0, 0, 0, 0, 0, 0, 0, 0, 0, 0, 0, 0, 0, 0, 9, 4, 0, 0, 3, 0, 0, 0, 4, 0, 0, 0, 0, 0, 0, 0,
+    0x63, 0, 0x45, 0, 0x4c, 0, 0x4c, 0, 3, 0, 0, 0, 0, 0, 0, 0, 0x4b, 0, 0x45, 0, 0x59, 0, 0, 0, 4,
+    0, 0, 0, 0, 0, 0, 0, 0x6e, 0, 0x6f, 0, 0x6e, 0, 0x65, 0,
+];
+
+// TYPEINFO of the index 1, tag 5
+const INFO: [u8; 16] = [5, 0, 0, 0, 10, 0, 0, 0, 1, 0, 0, 0, 0, 0, 0, 0];
+
 // The field of I4 7 in a body.
 const FIELD: [u8; 32] = [
     24, 0, 0, 0, 0, 0, 0, 0, 3, 0, 0, 0, 0, 0, 0, 0, 3, 0, 0, 0, 0, 0, 0, 0, 3, 0, 0, 0, 7, 0, 0, 0,
@@ -47,7 +58,7 @@ fn refusal(alloc: Global, body: &[u8]) -> Option<RecordFault> {
 fn class_of(request: &Request) -> Option<[u8; 16]> {
     match request {
         Request::Create { class } => Some(class.into_bytes()),
-        Request::Invoke(_) => None,
+        Request::GetIds(_) | Request::Invoke(_) | Request::TypeInfo { .. } => None,
     }
 }
 
@@ -100,9 +111,81 @@ fn an_invoke_has_its_head_and_its_arguments(rt: HostRuntime) -> Result<(), Fail>
     Ok(())
 }
 
+// The names of a GETIDS as text, a blank before each.
+fn names_of(alloc: Global, body: &[u8]) -> Result<String, Fail> {
+    let mut text = String::new(alloc);
+    let request = read_request(alloc, body).ok().ok_or("no request")?;
+    if let Request::GetIds(call) = request {
+        for name in call.names.as_slice() {
+            text.push(' ')?;
+            text.push_str(String::from_utf16_lossy(alloc, name.as_slice())?.as_str())?;
+        }
+    }
+    Ok(text)
+}
+
+#[test]
+fn a_look_up_has_its_names(rt: HostRuntime) -> Result<(), Fail> {
+    assert_eq!(rt; tag_of(&LOOK_UP), 6);
+    assert_eq!(rt; names_of(rt.alloc(), &LOOK_UP)?.as_str(), " cELL KEY none");
+    match read_request(rt.alloc(), &LOOK_UP) {
+        Ok(Request::GetIds(call)) => {
+            assert_eq!(rt; call.object, 1);
+            assert!(rt; call.interface.is_nil());
+            assert!(rt; call.riid.is_nil());
+            assert_eq!(rt; call.lcid, 0x0409);
+        }
+        _ => return Err("no GETIDS".into()),
+    }
+    let one = Names::new(vec![in rt.alloc(); Vec::new(rt.alloc())]?);
+    assert_eq!(rt; one.as_slice().len(), 1);
+    Ok(())
+}
+
+// The body of a GETIDS with so many empty names, its count being another number.
+fn empty_names(alloc: Global, count: u8, names: usize) -> Result<Vec<u8>, Fail> {
+    let mut body = Vec::from_slice(alloc, &LOOK_UP[..52])?;
+    body.extend_from_slice(&[count, 0, 0, 0])?;
+    for _ in 0..names {
+        body.extend_from_slice(&[0; 8])?;
+    }
+    Ok(body)
+}
+
+#[test]
+fn a_look_up_has_1_to_17_names(rt: HostRuntime) -> Result<(), Fail> {
+    for (count, names, fault) in [
+        (0u8, 0usize, Some(RecordFault::Stub)),
+        (1, 1, None),
+        (17, 17, None),
+        (17, 16, Some(RecordFault::Stub)),
+        (16, 17, Some(RecordFault::Stub)),
+        (18, 18, Some(RecordFault::Stub)),
+    ] {
+        let body = empty_names(rt.alloc(), count, names)?;
+        assert_eq!(rt; refusal(rt.alloc(), &body), fault, "{count} {names}");
+    }
+    Ok(())
+}
+
+#[test]
+fn a_type_info_has_its_index(rt: HostRuntime) -> Result<(), Fail> {
+    match read_request(rt.alloc(), &INFO) {
+        Ok(Request::TypeInfo { index }) => assert_eq!(rt; index, 1),
+        _ => return Err("no TYPEINFO".into()),
+    }
+    Ok(())
+}
+
 #[test]
 fn what_is_cut_or_goes_on_is_stub(rt: HostRuntime) -> Result<(), Fail> {
-    for body in [CREATE.as_slice(), GET.as_slice(), PUT.as_slice()] {
+    for body in [
+        CREATE.as_slice(),
+        GET.as_slice(),
+        PUT.as_slice(),
+        LOOK_UP.as_slice(),
+        INFO.as_slice(),
+    ] {
         for end in 0..body.len() {
             assert_eq!(rt; refusal(rt.alloc(), &body[..end]), Some(RecordFault::Stub));
         }
@@ -211,5 +294,22 @@ fn replies_are_written_as_laid_out(rt: HostRuntime) -> Result<(), Fail> {
     };
     created.write(&mut wide)?;
     assert_eq!(rt; wide.taken.as_slice(), want.as_slice());
+    Ok(())
+}
+
+// The string "DItem".
+const ITEM: [u8; 24] = [
+    5, 0, 0, 0, 0, 0, 0, 0, 0x44, 0, 0x49, 0, 0x74, 0, 0x65, 0, 0x6d, 0, 0, 0, 0, 0, 0, 0,
+];
+
+#[test]
+fn fields_are_padded(rt: HostRuntime) -> Result<(), Fail> {
+    let ids = ids_field(rt.alloc(), &[9, 1, -1])?;
+    let three = [
+        3u8, 0, 0, 0, 0, 0, 0, 0, 9, 0, 0, 0, 1, 0, 0, 0, 0xff, 0xff, 0xff, 0xff, 0, 0, 0, 0,
+    ];
+    assert_eq!(rt; ids.as_slice(), three.as_slice());
+    let text = string_field(rt.alloc(), b"DItem")?;
+    assert_eq!(rt; text.as_slice(), ITEM.as_slice());
     Ok(())
 }

@@ -6,4 +6,5 @@ pub mod Runs
 pub mod ReplyLines
 pub mod Goes
 pub mod Quiet
+pub mod Named
 pub mod Zeros

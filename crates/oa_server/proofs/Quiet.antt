@@ -25,6 +25,8 @@ quiet_action state tag object (Ok (Put place value)) n = absurd (n refl)
 
 quiet_step : (state : State) (tag : ℕ) (request : Request) → ((reply_of state tag request).code.0 ≡ 0 → ⊥) → after state request ≡ state
 quiet_step state tag (requests.Create class) n = quiet_create state class tag (class_found state class) n
+quiet_step state tag (requests.GetIds call) n = refl
+quiet_step state tag (requests.TypeInfo index) n = refl
 quiet_step state tag (requests.Invoke call) n = quiet_action state tag call.object (action_of state call) n
 
 pub quiet_turn : (old new : State) (body : List ℕ) (reply : ReplyValue) → Turn old body reply new → (reply.code.0 ≡ 0 → ⊥) → new ≡ old

@@ -5,6 +5,7 @@ use Rattle.oa_model.specs.declared.var_type.ValueType.{ValueType}
 use Rattle.oa_model.specs.Codes.{disp_e_unknowninterface, disp_e_membernotfound, e_nointerface, e_notimpl, e_unexpected, regdb_e_classnotreg, rpc_e_disconnected}
 use Rattle.oa_variant.specs.declared.variant.Variant.{Variant}
 use Rattle.oa_variant.specs.Variants.{HasZero, zero_value}
+use Rattle.oa_record.specs.declared.request.GetIds.{GetIds}
 use Rattle.oa_record.specs.declared.request.Invoke.{Invoke}
 use Rattle.oa_record.specs.Replies.{variant_field}
 use Rattle.oa_typelib.specs.declared.access.Kind.{Kind}
@@ -15,6 +16,10 @@ use Rattle.oa_typelib.specs.declared.access.MemberFault.TheVariants.{MemberNotFo
 use Rattle.oa_typelib.specs.MemberValues.{MemberValue}
 use Rattle.oa_typelib.specs.Libraries.{class_of, selected_in}
 use Rattle.oa_typelib.specs.Members.{member_at}
+use Rattle.oa_typelib.specs.NamedValues.{DispIdsValue}
+use Rattle.oa_typelib.specs.Names.{named_at}
+use Rattle.oa_typelib.specs.DescriptionValues.{DescriptionValue}
+use Rattle.oa_typelib.specs.Descriptions.{description_at}
 use Rattle.oa_server.specs.declared.call.Action.{Action}
 use Rattle.oa_server.specs.declared.call.Action.TheVariants.{Get, Put}
 use Rattle.oa_server.specs.declared.refusal.Refusal.{Refusal}
@@ -46,15 +51,32 @@ abbrev pub acting : Kind → PlaceValue → ValueType → Invoke → Result Acti
 acting forms.Get place declared call = Ok (Get place declared)
 acting forms.Put place declared call = new_value declared call.arguments >>= λ value. Ok (Put place value)
 
--- INVOKE: the object, its interface, riid, the member, the arguments
+-- the object, its interface, riid: the GUID of the interface
+unfoldable pub interface_found : State → ℕ → List ℕ → List ℕ → Result (List ℕ) Refusal
+interface_found state object interface riid = do
+  class ← known rpc_e_disconnected (class_in (object_at object state.table))
+  found ← known e_nointerface (selected_in state.library class interface)
+  zero ← unless disp_e_unknowninterface (not (is_nil_bytes riid))
+  Ok found.guid
+
+-- GETIDS: the interface; then the DISPIDs of the names, and whether all are known
+unfoldable pub ids_found : State → GetIds → Result DispIdsValue Refusal
+ids_found state call = do
+  interface ← interface_found state call.object call.interface call.riid
+  Ok (named_at state.library interface call.names)
+
+-- INVOKE: the interface, the member, the arguments. A member with parameters is none yet.
 unfoldable pub action_of : State → Invoke → Result Action Refusal
 action_of state call = do
-  class ← known rpc_e_disconnected (class_in (object_at call.object state.table))
-  interface ← known e_nointerface (selected_in state.library class call.interface)
-  zero ← unless disp_e_unknowninterface (not (is_nil_bytes call.riid))
-  found ← member_found (member_at state.library interface.guid call.dispid (Flags call.flags))
+  interface ← interface_found state call.object call.interface call.riid
+  found ← member_found (member_at state.library interface call.dispid (Flags call.flags))
+  plain ← unless disp_e_membernotfound (nat_lt 0 (length found.0.parameters))
   good ← checked found.1 call.named (length call.arguments)
-  acting found.1 (place_of interface.guid call) found.0.value_type call
+  acting found.1 (place_of interface call) found.0.value_type call
+
+-- TYPEINFO: the description at an index
+unfoldable pub description_of : State → ℕ → Option DescriptionValue
+description_of state index = description_at state.library index
 
 -- a get is of a declared type that has a zero
 abbrev pub HasValue : Action → Type 0

@@ -8,6 +8,7 @@ pub mod Table
 pub mod States
 pub mod Refusals
 pub mod Calls
+pub mod DescriptionFields
 pub mod Actions
 pub mod Steps
 pub mod Turns

@@ -27,7 +27,7 @@ pub record RefusesType (old : State) (body : List ℕ) (reply : ReplyValue) (new
   pub answers : reply ≡ refusal (tag_at body) disp_e_badvartype (Some place)
   pub leaves : new ≡ old
 
--- the body asks a request that takes memory to carry out: an INVOKE, or a CREATE that is not refused
+-- the body asks a request that takes memory to carry out: any but a CREATE that is refused
 pub record MayLack (old : State) (body : List ℕ) : Type 0 where
   pub request : Request
   pub asked : Asks body request

@@ -3,6 +3,7 @@
 
 mod bodies;
 mod call;
+mod description;
 mod ends;
 pub mod laws;
 mod lines;
@@ -22,6 +23,8 @@ pub use source::{Next, Source, next_byte};
 
 #[cfg(test)]
 mod array_tests;
+#[cfg(test)]
+mod info_tests;
 #[cfg(test)]
 mod session_tests;
 #[cfg(test)]

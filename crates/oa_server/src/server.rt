@@ -2,21 +2,23 @@
 ghost use Rattle.std.specs.Prelude.{◌≡◌, ◌≤◌, [], length, true, map, IfOk, OnOk, OnErr};
 ghost use Rattle.oa_record.specs.Asks.{tag_at};
 ghost use Rattle.oa_record.specs.declared.request.Request.TheVariants as requests;
-ghost use Rattle.oa_server.specs.Actions.{HasValue, action_of, class_found, value_of};
-ghost use Rattle.oa_server.specs.Steps.{after, reply_of, takes_memory};
+ghost use Rattle.oa_server.specs.Actions.{HasValue, action_of, class_found, interface_found, value_of};
+ghost use Rattle.oa_server.specs.Steps.{after, ids_reply, reply_of, takes_memory};
 ghost use Rattle.oa_server.specs.Table.{first_table};
 ghost use Rattle.oa_server.specs.Turns.{Run, Turn};
 ghost use Rattle.oa_variant.specs.Variants.{HasZero};
 
 use crate::call::{Action, check, take_value};
+use crate::description::description_field;
 use crate::refusal::Refusal;
 use crate::table::Table;
 use crate::table::place::Place;
 use oa_model::{HResult, MAX_LIVE_OBJECTS, ValueType};
 use oa_record::{
-    Invoke, RecordFault, Reply, Request, number_field, read_request, tag_of, variant_field,
+    GetIds, Invoke, RecordFault, Reply, Request, ids_field, number_field, read_request, tag_of,
+    variant_field,
 };
-use oa_typelib::{Access, Kind, Library, MemberFault};
+use oa_typelib::{Access, DescribeError, DispIds, Kind, Library, MemberFault};
 use oa_variant::Variant;
 use std::alloc::{AllocError, Global};
 use std::marker::Model;
@@ -103,7 +105,9 @@ impl Server {
     {
         match request {
             Request::Create { class } => self.create(tag, class),
+            Request::GetIds(call) => self.get_ids(tag, call),
             Request::Invoke(call) => self.invoke(tag, call),
+            Request::TypeInfo { index } => self.type_info(tag, index),
         }
     }
 
@@ -121,6 +125,50 @@ impl Server {
                 self.table.create(class)?;
                 Ok(Reply::new(tag, HResult::S_OK, None, body))
             }
+        }
+    }
+
+    /// Looks up names.
+    #[tactic(auto, unfolding(crate::specs::Actions::ids_found))]
+    fn get_ids(&self, tag: u32, call: GetIds) -> Result<Reply, AllocError>
+        ensures { IfOk result (λ reply. reply ≡ reply_of self.now tag (requests.GetIds call)) }
+    {
+        let interface = match self.find_interface(call.object, &call.interface, &call.riid) {
+            Ok(interface) => interface,
+            Err(refusal) => return Ok(self.refuse(tag, refusal)),
+        };
+        let found = self.library.dispid(&interface, call.names.as_slice())?;
+        self.ids_reply(tag, found)
+    }
+
+    /// A reply to names; its fields stand there also where not all are known.
+    fn ids_reply(&self, tag: u32, found: DispIds) -> Result<Reply, AllocError>
+        requires { length found.ids ≤ 17 }
+        ensures { IfOk result (λ reply. reply ≡ ids_reply tag found) }
+    {
+        let body = ids_field(self.alloc, found.ids.as_slice())?;
+        let code = if found.all_known {
+            HResult::S_OK
+        } else {
+            HResult::DISP_E_UNKNOWNNAME
+        };
+        Ok(Reply::new(tag, code, None, body))
+    }
+
+    /// Describes an interface or a coclass of the library.
+    #[tactic(auto, unfolding(crate::specs::Actions::description_of))]
+    fn type_info(&self, tag: u32, index: u32) -> Result<Reply, AllocError>
+        ensures { IfOk result (λ reply. reply ≡ reply_of self.now tag (requests.TypeInfo index)) }
+    {
+        match self.library.describe(index) {
+            Ok(description) => {
+                let body = description_field(self.alloc, &description)?;
+                Ok(Reply::new(tag, HResult::S_OK, None, body))
+            }
+            Err(DescribeError::BadIndex) => {
+                Ok(self.refuse(tag, Refusal::of(HResult::DISP_E_BADINDEX)))
+            }
+            Err(DescribeError::Memory) => Err(AllocError),
         }
     }
 
@@ -164,22 +212,31 @@ impl Server {
         Ok(())
     }
 
+    /// The GUID of the interface that a call names of an object.
+    #[tactic(auto, unfolding(crate::specs::Actions::interface_found))]
+    fn find_interface(&self, object: u32, interface: &Uuid, riid: &Uuid) -> Result<Uuid, Refusal>
+        ensures { result ≡ interface_found self.now object interface.now riid.now }
+    {
+        let Some(class) = self.table.class_of(object) else {
+            return Err(Refusal::of(HResult::RPC_E_DISCONNECTED));
+        };
+        let Some(found) = self.library.select(&class, interface) else {
+            return Err(Refusal::of(HResult::E_NOINTERFACE));
+        };
+        let guid = found.guid;
+        if !riid.is_nil() {
+            return Err(Refusal::of(HResult::DISP_E_UNKNOWNINTERFACE));
+        }
+        Ok(guid)
+    }
+
     /// What an INVOKE does, or why it is refused.
     #[tactic(auto, using(crate::proofs::Zeros::has_zero), unfolding(crate::specs::Actions::action_of))]
     fn action(&self, call: Invoke) -> Result<Action, Refusal>
         ensures action { result ≡ action_of self.now call }
         ensures typed { IfOk result HasValue }
     {
-        let Some(class) = self.table.class_of(call.object) else {
-            return Err(Refusal::of(HResult::RPC_E_DISCONNECTED));
-        };
-        let Some(interface) = self.library.select(&class, &call.interface) else {
-            return Err(Refusal::of(HResult::E_NOINTERFACE));
-        };
-        let interface = interface.guid;
-        if !call.riid.is_nil() {
-            return Err(Refusal::of(HResult::DISP_E_UNKNOWNINTERFACE));
-        }
+        let interface = self.find_interface(call.object, &call.interface, &call.riid)?;
         let (member, kind) = match self
             .library
             .member(&interface, call.dispid, Access::Flags(call.flags))
@@ -193,6 +250,9 @@ impl Server {
             }
         };
         let declared = member.value_type;
+        if !member.parameters.is_empty() {
+            return Err(Refusal::of(HResult::DISP_E_MEMBERNOTFOUND));
+        }
         check(kind, call.named.as_slice(), call.arguments.as_slice().len())?;
         let place = Place::new(interface, call.dispid, Vec::new(self.alloc));
         match kind {

@@ -1,5 +1,5 @@
 -- Passes over a list that stop at the first breach.
-use Rattle.std.proofs.Common.{◌≡◌, ◌<◌, ◌≤◌, ◌+◌, ℕ, Bool, true, false, List, [], ◌∷◌, ◌++◌, length, map, take, drop, get_or, slice_get, position, Option, None, Some, Bor, Vec, Global, Result, Ok, Err, refl, sym, ap, subst, ◌∙◌, arith, add-one, is_some, IsErr, true≢false, option_copied}
+use Rattle.std.proofs.Common.{◌≡◌, ◌<◌, ◌≤◌, ◌+◌, ℕ, Bool, true, false, List, [], ◌∷◌, ◌++◌, length, map, take, drop, get_or, slice_get, position, Option, None, Some, Bor, Vec, Global, Result, Ok, Err, refl, sym, ap, subst, ◌∙◌, arith, add-one, is_some, if◌then◌else◌, IsErr, true≢false, option_copied}
 use Rattle.std.proofs.Math.Seq.{drop-cons}
 use Rattle.std.proofs.Math.ListN.{drop_of_length-le}
 use Rattle.std.proofs.lemmas.List.{take_more, take_all, map-append}
@@ -9,14 +9,15 @@ use Rattle.std.specs.Result.{IsErrAnd}
 use Rattle.oa_model.specs.Folding.{folded_name}
 use Rattle.oa_idl.specs.declared.items.Item.{Item}
 use Rattle.oa_typelib.specs.declared.fault.CheckError.{CheckError}
-use Rattle.oa_typelib.specs.declared.fault.CheckError.TheVariants.{DuplicateName, DuplicateId, DuplicateGuid, UnknownInterface, Memory}
+use Rattle.oa_typelib.specs.declared.fault.CheckError.TheVariants.{DuplicateName, DuplicateId, DuplicateGuid, UnknownInterface, GetPutDisagree, ArrayParameter, BadDefault, TextTooLong, Memory}
 use Rattle.oa_typelib.specs.declared.repeats.Distinct.{Distinct}
 use Rattle.oa_typelib.specs.declared.repeats.Distinct.TheVariants.{All, Repeat}
 use Rattle.oa_typelib.specs.Keys.{Tells, repeat_of}
 use Rattle.oa_typelib.specs.Repeats.{repeat_at, first_repeat, first_answer}
-use Rattle.oa_typelib.specs.Breaches.{UnlessMemory, Refuses, repeated_name, item_breach, name_breach, if_none}
+use Rattle.oa_typelib.specs.Breaches.{UnlessMemory, Refuses, repeated_name, inner_breach, item_breach}
 use Rattle.oa_typelib.specs.Libraries.{same, same_name, name_of, as_interface, interface_named}
-use Rattle.oa_typelib.proofs.Lists.{repeat_by_place, repeat_at-map, position-map, position_finds, length-mapped}
+use Rattle.std.specs.List.{list_any}
+use Rattle.oa_typelib.proofs.Lists.{list_any-map, repeat_by_place, repeat_at-map, position-map, position_finds, length-mapped}
 
 -- ---- what a refusal says, made larger
 pub for_memory : {P Q : Type 0} (e : CheckError) → (P → Q) → UnlessMemory e P → UnlessMemory e Q
@@ -24,6 +25,10 @@ for_memory (DuplicateName n) f h = f h
 for_memory (DuplicateId n) f h = f h
 for_memory (DuplicateGuid n) f h = f h
 for_memory (UnknownInterface n) f h = f h
+for_memory (GetPutDisagree n) f h = f h
+for_memory (ArrayParameter n) f h = f h
+for_memory (BadDefault n) f h = f h
+for_memory TextTooLong f h = f h
 for_memory Memory f h = tt
 
 pub refuses_more : {X : Type 0} (make : X → CheckError) (part whole : Option X) (e : CheckError) → ((x : X) → part ≡ Some x → whole ≡ Some x) → UnlessMemory e (option_map make part ≡ Some e) → UnlessMemory e (option_map make whole ≡ Some e)
@@ -64,23 +69,12 @@ module _ {X Y : Type 0} (f : X → Y) (xs : List X) (i : ℕ) where
   pub mapped_all : length xs ≤ i → map f (take i xs) ≡ map f xs
   mapped_all h = ap (map f) (take_all i xs h)
 
--- ---- the same of names
-module _ (items : List Item) (i : ℕ) (before : List (List ℕ)) where
-  name_turn : (x : Item) → i < length items → x ≡ get_or items i x → name_breach before (drop i items) ≡ option_or (item_breach before x) (name_breach (before ++ folded_name (name_of x) ∷ []) (drop (i + 1) items))
-  unfolding name_breach
-  name_turn x h is =
-      let e = drop-cons items i x h in
-      rw (e, ← is, add-one) refl
+-- ---- whether an item's name is one of those before
+any_name : (k : List ℕ) (before : List Item) → list_any (λ (other : Item). same k (folded_name (name_of other))) before ≡ list_any (same k) (map (λ i. folded_name (name_of i)) before)
+any_name k before = sym (list_any-map (λ (i : Item). folded_name (name_of i)) (same k) before)
 
-  pub name_found : (x : Item) (n : List ℕ) → i < length items → x ≡ get_or items i x → name_breach [] items ≡ name_breach before (drop i items) → item_breach before x ≡ Some n → name_breach [] items ≡ Some n
-  name_found x n h is left some = left ∙ name_turn x h is ∙ ap (λ o. option_or o (name_breach (before ++ folded_name (name_of x) ∷ []) (drop (i + 1) items))) some
-
-  pub name_on : (x : Item) → i < length items → x ≡ get_or items i x → name_breach [] items ≡ name_breach before (drop i items) → item_breach before x ≡ None → name_breach [] items ≡ name_breach (before ++ folded_name (name_of x) ∷ []) (drop (i + 1) items)
-  name_on x h is left none = left ∙ name_turn x h is ∙ ap (λ o. option_or o (name_breach (before ++ folded_name (name_of x) ∷ []) (drop (i + 1) items))) none
-
-  pub name_done : length items ≤ i → name_breach [] items ≡ name_breach before (drop i items) → name_breach [] items ≡ None
-  unfolding name_breach
-  name_done h left = left ∙ ap (name_breach before) (drop_of_length-le items h)
+pub item_breach_by_names : (before : List Item) (x : Item) (names : List (List ℕ)) → names ≡ map (λ i. folded_name (name_of i)) before → (if list_any (same (folded_name (name_of x))) names then Some (name_of x) else inner_breach x) ≡ item_breach before x
+item_breach_by_names before x names e = rw (e, any_name (folded_name (name_of x)) before) refl
 
 -- ---- a repeated name by its place among the folded ones
 map_twice : {A B C : Type 0} (f : A → B) (g : B → C) (xs : List A) → map g (map f xs) ≡ map (λ x. g (f x)) xs
@@ -144,19 +138,11 @@ some_copied None = refl
 some_copied (Some x) = refl
 
 module _ {X Y : Type 0} (o : Option X) (y : Y) (b : Bool) where
-  pub is_known : b ≡ is_some o → b ≡ true → if_none o y ≡ None
-  is_known e t = by o (sym e ∙ t)
-    where
-      by : (p : Option X) → is_some p ≡ true → if_none p y ≡ None
-      by None h = absurd (true≢false (sym h))
-      by (Some x) h = refl
+  pub is_known : b ≡ is_some o → b ≡ true → (if is_some o then None else Some y) ≡ None
+  is_known e t = rw (sym e ∙ t) refl
 
-  pub is_unknown : b ≡ is_some o → b ≡ false → if_none o y ≡ Some y
-  is_unknown e t = by o (sym e ∙ t)
-    where
-      by : (p : Option X) → is_some p ≡ false → if_none p y ≡ Some y
-      by None h = refl
-      by (Some x) h = absurd (true≢false h)
+  pub is_unknown : b ≡ is_some o → b ≡ false → (if is_some o then None else Some y) ≡ Some y
+  is_unknown e t = rw (sym e ∙ t) refl
 
 pub same_list : {X : Type 0} (xs : List X) → xs ≡ map (λ x. x) xs
 same_list [] = refl

@@ -1,12 +1,24 @@
 -- What a library keeps beside its tree, so that look-ups are quick.
-use Rattle.std.specs.Prelude.{◌≡◌, ℕ, ℤ, List, Option, None, map, find, position}
+use Rattle.std.specs.Prelude.{◌≡◌, ℕ, Bool, not, if◌then◌else◌, List, [], Option, None, map, find, position, slice_get}
+use Rattle.std.specs.List.{filter_map}
 use Rattle.std.specs.Option.{option_and_then}
+use Rattle.std.specs.Ordering.{int_eq}
 use Rattle.oa_model.specs.Folding.{folded_name}
 use Rattle.oa_idl.specs.Trees.{TreeValue}
+use Rattle.oa_idl.specs.Values.{InterfaceValue, CoclassValue}
 use Rattle.oa_idl.specs.declared.parts.Entry.{Entry}
 use Rattle.oa_idl.specs.declared.items.Item.{Item}
 use Rattle.oa_idl.specs.declared.items.Item.TheVariants.{Interface, Coclass}
-use Rattle.oa_typelib.specs.Libraries.{same, name_of, guid_of, ids_of}
+use Rattle.oa_idl.specs.Canonical.{canonical}
+use Rattle.oa_typelib.specs.declared.declaration.DeclarationKind.{DeclarationKind}
+use Rattle.oa_typelib.specs.DeclarationValues.{DeclarationValue}
+use Rattle.oa_typelib.specs.Declarations.{declarations, is_put}
+use Rattle.oa_typelib.specs.DescriptionValues.{EntryDescription, DescriptionValue}
+use Rattle.oa_typelib.specs.DescriptionValues.ContentDescription.{OfCoclass}
+use Rattle.oa_typelib.specs.Descriptions.{entry_at, interfaces_of}
+use Rattle.oa_typelib.specs.Groups.{GroupsValue, groups_of, places_in}
+use Rattle.oa_typelib.specs.IndexValues.{MembersValue, IndexValue}
+use Rattle.oa_typelib.specs.Libraries.{same, name_of, guid_of}
 
 -- the place of a coclass's default interface in a list of folded names
 abbrev pub default_in : List (List ℕ) → Item → Option ℕ
@@ -17,5 +29,32 @@ default_in names (Coclass c) = option_and_then (λ (e : Entry). position (same (
 abbrev pub folded_names : List Item → List (List ℕ)
 folded_names items = map (λ i. folded_name (name_of i)) items
 
-abbrev pub IsIndexed : TreeValue → List (List ℕ) → List (List ℤ) → List (Option ℕ) → Type 0
-IsIndexed tree guids ids defaults = (guids ≡ map guid_of tree.items) × (ids ≡ map ids_of tree.items) × (defaults ≡ map (default_in (folded_names tree.items)) tree.items)
+-- the declarations by their names, folded, and by their DISPIDs
+abbrev pub grouped : List DeclarationValue → MembersValue
+grouped ds = record { by_name = groups_of same (map (λ (d : DeclarationValue). folded_name d.name) ds); by_id = groups_of int_eq (map (λ (d : DeclarationValue). d.id) ds) }
+
+abbrev pub members_in : Item → MembersValue
+members_in (Interface i) = grouped (declarations i)
+members_in (Coclass c) = grouped []
+
+-- the members of each item, and the interfaces by their names, folded
+abbrev pub index_of : TreeValue → IndexValue
+index_of tree = record { members = map members_in tree.items; interfaces = groups_of same (map (λ (i : InterfaceValue). folded_name i.name) (interfaces_of tree.items)) }
+
+-- one of the two parts of a member's declarations: those that are puts, or those that are not
+abbrev pub is_put_or_not : Bool → DeclarationKind → Bool
+is_put_or_not puts kind = if puts then is_put kind else not (is_put kind)
+
+-- the place of the interface with a folded name, among the interfaces
+abbrev pub first_in : GroupsValue (List ℕ) → List ℕ → Option ℕ
+first_in groups name = slice_get (places_in (position (same name) groups.keys) groups.places) 0
+
+-- an entry, and a coclass, by it
+abbrev pub entry_in : GroupsValue (List ℕ) → Entry → Option EntryDescription
+entry_in groups e = option_and_then (entry_at e.is_default) (first_in groups (folded_name e.interface))
+
+abbrev pub class_in : GroupsValue (List ℕ) → CoclassValue → DescriptionValue
+class_in groups c = record { guid = c.guid; name = c.name; content = OfCoclass (filter_map (entry_in groups) c.entries) }
+
+abbrev pub IsIndexed : TreeValue → List (List ℕ) → IndexValue → List (Option ℕ) → List ℕ → Type 0
+IsIndexed tree guids index defaults text = (guids ≡ map guid_of tree.items) × (index ≡ index_of tree) × (defaults ≡ map (default_in (folded_names tree.items)) tree.items) × (text ≡ canonical tree)

@@ -1,5 +1,5 @@
 -- What a tree says of its interfaces and coclasses.
-use Rattle.std.specs.Prelude.{ℕ, ℤ, Bool, true, nat_eq, if◌then◌else◌, List, [], ◌∷◌, Option, Some, None, map, find}
+use Rattle.std.specs.Prelude.{ℕ, Bool, true, nat_eq, if◌then◌else◌, List, [], ◌∷◌, Option, Some, None, map, find}
 use Rattle.std.specs.Cmp.Lexicographic.{pointwise}
 use Rattle.std.specs.List.{list_any}
 use Rattle.std.specs.Option.{option_and_then}
@@ -7,7 +7,6 @@ use Rattle.uuid.specs.Parts.{is_nil_bytes}
 use Rattle.oa_model.specs.Folding.{folded_name}
 use Rattle.oa_idl.specs.Trees.{TreeValue}
 use Rattle.oa_idl.specs.Values.{InterfaceValue, CoclassValue}
-use Rattle.oa_idl.specs.declared.parts.Property.{Property}
 use Rattle.oa_idl.specs.declared.parts.Entry.{Entry}
 use Rattle.oa_idl.specs.declared.items.Item.{Item}
 use Rattle.oa_idl.specs.declared.items.Item.TheVariants.{Interface, Coclass}
@@ -27,11 +26,6 @@ name_of (Coclass c) = c.name
 abbrev pub guid_of : Item → List ℕ
 guid_of (Interface i) = i.guid
 guid_of (Coclass c) = c.guid
-
--- the DISPIDs of its members
-abbrev pub ids_of : Item → List ℤ
-ids_of (Interface i) = map (λ (p : Property). p.id) i.properties
-ids_of (Coclass c) = []
 
 abbrev pub as_interface : Item → Option InterfaceValue
 as_interface (Interface i) = Some i
@@ -75,8 +69,8 @@ abbrev pub marked : TreeValue → TreeValue
 marked tree = record { guid = tree.guid; version = tree.version; name = tree.name; items = map marked_item tree.items }
 
 -- the default interface of a coclass
-abbrev pub default_of : List Item → CoclassValue → Option InterfaceValue
-default_of items class = option_and_then (λ (e : Entry). interface_named items e.interface) (find (λ e. e.is_default) class.entries)
+abbrev pub default_interface : List Item → CoclassValue → Option InterfaceValue
+default_interface items class = option_and_then (λ (e : Entry). interface_named items e.interface) (find (λ e. e.is_default) class.entries)
 
 -- whether one of a coclass's entries names the interface
 abbrev pub has_interface : CoclassValue → InterfaceValue → Bool
@@ -88,7 +82,7 @@ if_entered class i = if has_interface class i then Some i else None
 -- The interface that a GUID selects for a coclass (this project's choice): the zero GUID stands for the default interface; another GUID for
 -- the interface that has it, where the coclass has that interface.
 abbrev pub selected : TreeValue → CoclassValue → List ℕ → Option InterfaceValue
-selected tree class guid = if is_nil_bytes guid then default_of tree.items class else option_and_then (if_entered class) (interface_of tree guid)
+selected tree class guid = if is_nil_bytes guid then default_interface tree.items class else option_and_then (if_entered class) (interface_of tree guid)
 
 -- the same by the coclass's GUID
 abbrev pub selected_in : TreeValue → List ℕ → List ℕ → Option InterfaceValue

@@ -1,27 +1,61 @@
--- The members of an interface, and the form of one that a call asks for.
-use Rattle.std.specs.Prelude.{ℕ, ℤ, Bool, true, not, nat_eq, if◌then◌else◌, List, Option, Some, None, Result, Ok, Err, find, bit_and}
-use Rattle.std.specs.Option.{option_map, option_and_then}
+-- The members of an interface, and the form of one that a call asks for. A member is the declarations of one DISPID and of one name:
+-- one declaration, or a get and a put.
+use Rattle.std.specs.Prelude.{ℕ, ℤ, Bool, true, false, not, ◌&&◌, nat_eq, if◌then◌else◌, List, [], Option, Some, None, Result, Ok, Err, find, slice_get, is_some, bit_and}
+use Rattle.std.specs.List.{filter}
+use Rattle.std.specs.Option.{option_map, option_map_or, option_or}
 use Rattle.std.specs.Ordering.{int_eq}
+use Rattle.oa_model.specs.declared.var_type.ValueType.{ValueType}
 use Rattle.oa_idl.specs.Trees.{TreeValue}
 use Rattle.oa_idl.specs.Values.{InterfaceValue}
-use Rattle.oa_idl.specs.declared.parts.Property.{Property}
+use Rattle.oa_typelib.specs.declared.declaration.DeclarationKind.{DeclarationKind}
+use Rattle.oa_typelib.specs.declared.declaration.DeclarationKind.TheVariants as declared
+use Rattle.oa_typelib.specs.DeclarationValues.{DeclarationValue}
+use Rattle.oa_typelib.specs.Declarations.{declarations, own_parameters, type_of_value}
 use Rattle.oa_typelib.specs.MemberValues.{MemberValue}
-use Rattle.oa_typelib.specs.Libraries.{interface_of}
+use Rattle.oa_typelib.specs.Libraries.{interface_of, same_name}
 use Rattle.oa_typelib.specs.declared.access.Access.{Access}
 use Rattle.oa_typelib.specs.declared.access.Access.TheVariants.{Flags, Get, Put}
 use Rattle.oa_typelib.specs.declared.access.Kind.{Kind}
 use Rattle.oa_typelib.specs.declared.access.Kind.TheVariants as kinds
 use Rattle.oa_typelib.specs.declared.access.MemberFault.{MemberFault}
-use Rattle.oa_typelib.specs.declared.access.MemberFault.TheVariants.{MemberNotFound}
+use Rattle.oa_typelib.specs.declared.access.MemberFault.TheVariants.{MemberNotFound, NotImplemented}
 
-abbrev pub of_property : Property → MemberValue
-of_property p = record { id = p.id; name = p.name; value_type = p.value_type; has_get = true; has_put = not p.readonly }
+-- the declarations with a DISPID, and those with a name, A to Z folded, in the text's order
+abbrev pub forms_with : ℤ → InterfaceValue → List DeclarationValue
+forms_with id i = filter (λ (d : DeclarationValue). int_eq id d.id) (declarations i)
 
--- the member with a DISPID; no two members of an interface have one in common
-abbrev pub member_with : ℤ → InterfaceValue → Option MemberValue
-member_with id i = option_map of_property (find (λ (p : Property). int_eq id p.id) i.properties)
+abbrev pub forms_named : List ℕ → InterfaceValue → List DeclarationValue
+forms_named name i = filter (λ (d : DeclarationValue). same_name name d.name) (declarations i)
 
--- A call's flags (MS-OAUT section 3.1.4.4): DISPATCH_PROPERTYGET and DISPATCH_PROPERTYPUT.
+-- whether a declaration lets a call read a value, or set it
+abbrev pub lets : Kind → DeclarationKind → Bool
+lets kinds.Get declared.Property = true
+lets kinds.Get declared.ReadonlyProperty = true
+lets kinds.Get declared.Get = true
+lets kinds.Put declared.Property = true
+lets kinds.Put declared.Put = true
+lets kind other = false
+
+abbrev pub is_method : DeclarationKind → Bool
+is_method declared.Method = true
+is_method other = false
+
+-- the first declaration of a member that lets a call read a value, or set it
+abbrev pub form_for : Kind → List DeclarationValue → Option DeclarationValue
+form_for kind forms = find (λ (d : DeclarationValue). lets kind d.kind) forms
+
+-- the declaration that speaks for a member: the one that lets a call read a value where there is one, else the first
+abbrev pub main_form : List DeclarationValue → Option DeclarationValue
+main_form forms = option_or (form_for kinds.Get forms) (slice_get forms 0)
+
+-- A property, by its declarations and the one that speaks for it.
+abbrev pub property_of : List DeclarationValue → DeclarationValue → ValueType → MemberValue
+property_of forms d t = record { id = d.id; name = d.name; value_type = t; parameters = own_parameters d; has_get = is_some (form_for kinds.Get forms); has_put = is_some (form_for kinds.Put forms) }
+
+-- A call's flags (MS-OAUT section 3.1.4.4): DISPATCH_METHOD, DISPATCH_PROPERTYGET and DISPATCH_PROPERTYPUT.
+abbrev pub asks_method : ℕ → Bool
+asks_method flags = not (nat_eq (bit_and flags 1) 0)
+
 abbrev pub asks_get : ℕ → Bool
 asks_get flags = not (nat_eq (bit_and flags 2) 0)
 
@@ -42,10 +76,24 @@ abbrev pub if_formed : MemberValue → Option Kind → Result (MemberValue × Ki
 if_formed m None = Err MemberNotFound
 if_formed m (Some kind) = if has_form m kind then Ok (m, kind) else Err MemberNotFound
 
-abbrev pub answer : Option MemberValue → Access → Result (MemberValue × Kind) MemberFault
-answer None access = Err MemberNotFound
-answer (Some m) access = if_formed m (kind_asked access)
+-- A method is called, or not: a library has no bodies of methods (this project's choice).
+abbrev pub method_fault : Access → MemberFault
+method_fault (Flags flags) = if asks_method flags && not (asks_put flags) then NotImplemented else MemberNotFound
+method_fault Get = MemberNotFound
+method_fault Put = MemberNotFound
 
--- The member of an interface that a call asks for, and its form.
+abbrev pub property_answer : Option MemberValue → Access → Result (MemberValue × Kind) MemberFault
+property_answer None access = Err MemberNotFound
+property_answer (Some m) access = if_formed m (kind_asked access)
+
+-- what the member of these declarations answers, by the one that speaks for it; a property holds values of some type
+abbrev pub answer : Option DeclarationValue → List DeclarationValue → Access → Result (MemberValue × Kind) MemberFault
+answer None forms access = Err MemberNotFound
+answer (Some d) forms access = if is_method d.kind then Err (method_fault access) else property_answer (option_map (property_of forms d) (type_of_value d)) access
+
+-- The member of an interface that a call asks for, and its form. Without the interface there is none.
+abbrev pub forms_at : TreeValue → List ℕ → ℤ → List DeclarationValue
+forms_at tree guid id = option_map_or (forms_with id) (interface_of tree guid) []
+
 abbrev pub member_at : TreeValue → List ℕ → ℤ → Access → Result (MemberValue × Kind) MemberFault
-member_at tree guid id access = answer (option_and_then (member_with id) (interface_of tree guid)) access
+member_at tree guid id access = answer (main_form (forms_at tree guid id)) (forms_at tree guid id) access

@@ -17,3 +17,18 @@ repeat_at eq before (k ∷ ks) = if list_any (eq k) before then Some zero else o
 unfoldable pub first_answer : {X Y : Type 0} → (X → Option Y) → List X → Option Y
 first_answer answer [] = None
 first_answer answer (x ∷ xs) = option_or (answer x) (first_answer answer xs)
+
+-- the first answer for a member of the list, by the members before it
+unfoldable pub first_after : {X Y : Type 0} → (List X → X → Option Y) → List X → List X → Option Y
+first_after answer before [] = None
+first_after answer before (x ∷ xs) = option_or (answer before x) (first_after answer (before ++ x ∷ []) xs)
+
+-- the last place that passes a test
+unfoldable pub last_place : {X : Type 0} → (X → Bool) → List X → Option ℕ
+last_place test [] = None
+last_place test (x ∷ xs) = option_or (option_map (λ n. suc n) (last_place test xs)) (if test x then Some zero else None)
+
+-- for each member of a list the last place before it of one like it, where some stand before the list
+unfoldable pub places_before : {X : Type 0} → (X → X → Bool) → List X → List X → List (Option ℕ)
+places_before eq before [] = []
+places_before eq before (x ∷ xs) = last_place (λ y. eq y x) before ∷ places_before eq (before ++ x ∷ []) xs

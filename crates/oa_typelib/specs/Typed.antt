@@ -1,14 +1,16 @@
 -- The types that a library declares.
-use Rattle.std.specs.Prelude.{List, ℕ, IsSome}
+use Rattle.std.specs.Prelude.{List, ℕ, IsSome, IfSome}
 use Rattle.std.specs.List.{AllByRecursion}
 use Rattle.oa_model.specs.Types.{sf_type_of}
 use Rattle.oa_model.specs.declared.var_type.ValueType.{ValueType}
 use Rattle.oa_model.specs.declared.var_type.ValueType.TheVariants.{One, Array}
 use Rattle.oa_idl.specs.IsTree.{IsTree}
 use Rattle.oa_idl.specs.Trees.{TreeValue}
-use Rattle.oa_idl.specs.declared.parts.Property.{Property}
+use Rattle.oa_idl.specs.declared.parts.Parameter.{Parameter}
 use Rattle.oa_idl.specs.declared.items.Item.{Item}
 use Rattle.oa_idl.specs.declared.items.Item.TheVariants.{Interface, Coclass}
+use Rattle.oa_typelib.specs.DeclarationValues.{DeclarationValue}
+use Rattle.oa_typelib.specs.Declarations.{declarations}
 
 -- some text stands for the tree
 abbrev pub IsOfText : TreeValue → Type 0
@@ -19,10 +21,14 @@ abbrev pub IsDeclarable : ValueType → Type 0
 IsDeclarable (One t) = Unit {0}
 IsDeclarable (Array t) = IsSome (sf_type_of t)
 
+-- what it declares has such a type or is void, and each parameter has such a type
+abbrev pub IsTypedDeclaration : DeclarationValue → Type 0
+IsTypedDeclaration d = IfSome d.value_type IsDeclarable × AllByRecursion (λ (p : Parameter). IsDeclarable p.value_type) d.parameters
+
 abbrev pub IsTypedItem : Item → Type 0
-IsTypedItem (Interface i) = AllByRecursion (λ (p : Property). IsDeclarable p.value_type) i.properties
+IsTypedItem (Interface i) = AllByRecursion IsTypedDeclaration (declarations i)
 IsTypedItem (Coclass c) = Unit {0}
 
--- each member of the tree has such a type
+-- each declaration of the tree is typed
 abbrev pub IsTyped : TreeValue → Type 0
 IsTyped tree = AllByRecursion IsTypedItem tree.items

@@ -1,7 +1,8 @@
 // What a call asks of a member, and why there is none.
 ghost use Rattle.std.specs.Prelude.{◌≡◌};
-ghost use Rattle.oa_typelib.specs.Members.{kind_asked};
+ghost use Rattle.oa_typelib.specs.Members.{is_method, kind_asked, lets, method_fault};
 
+use crate::declaration::DeclarationKind;
 use thiserror::Error;
 
 /// The form of a property that a call uses.
@@ -23,6 +24,8 @@ pub enum Access {
     /// The put form, whatever the flags.
     Put,
 }
+
+const METHOD: u16 = 1;
 
 const PROPERTY_GET: u16 = 2;
 
@@ -48,6 +51,43 @@ impl Access {
             Access::Put => Some(Kind::Put),
         }
     }
+
+    /// What is answered where the member is a method: NotImplemented where METHOD is set and PROPERTYPUT is not, else MemberNotFound.
+    pub(crate) fn of_method(self) -> MemberFault
+        ensures { result ≡ method_fault self }
+    {
+        match self {
+            Access::Flags(flags) => {
+                if flags & METHOD != 0 && flags & PROPERTY_PUT == 0 {
+                    MemberFault::NotImplemented
+                } else {
+                    MemberFault::MemberNotFound
+                }
+            }
+            Access::Get | Access::Put => MemberFault::MemberNotFound,
+        }
+    }
+}
+
+impl DeclarationKind {
+    /// Whether a declaration lets a call use the form.
+    pub(crate) fn lets(self, kind: Kind) -> bool
+        ensures { result ≡ lets kind self }
+    {
+        match kind {
+            Kind::Get => matches!(
+                self,
+                DeclarationKind::Property | DeclarationKind::ReadonlyProperty | DeclarationKind::Get
+            ),
+            Kind::Put => matches!(self, DeclarationKind::Property | DeclarationKind::Put),
+        }
+    }
+
+    pub(crate) fn is_method(self) -> bool
+        ensures { result ≡ is_method self }
+    {
+        matches!(self, DeclarationKind::Method)
+    }
 }
 
 /// Why a call finds no member to use.
@@ -56,7 +96,7 @@ pub enum MemberFault {
     /// The interface has no member with that DISPID, or none with the form that is asked for (DISP_E_MEMBERNOTFOUND).
     #[error("member not found")]
     MemberNotFound,
-    /// A method is asked for: a library has no bodies of methods (E_NOTIMPL). Not before libraries have methods.
+    /// A method is called: a library has no bodies of methods (E_NOTIMPL).
     #[error("not implemented")]
     NotImplemented,
 }

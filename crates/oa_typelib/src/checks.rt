@@ -1,17 +1,23 @@
 // The passes of `check`, one for each kind of breach.
-ghost use Rattle.std.specs.Prelude.{◌≡◌, ◌++◌, ◌∷◌, [], IfOk, is_some, map};
+ghost use Rattle.std.specs.Prelude.{◌≡◌, ◌++◌, ◌∷◌, [], IfOk, Some, if◌then◌else◌, is_some, map};
+ghost use Rattle.std.specs.List.{list_any};
 ghost use Rattle.std.specs.Option.{option_map};
 ghost use Rattle.oa_model.specs.Folding.{folded_name};
-ghost use Rattle.oa_typelib.specs.Breaches.{Refuses, inner_names, repeated_name, item_breach, name_breach, repeated_id, repeated_id_in, id_breach, guid_breach, unknown_name, entry_breach, interface_breach};
-ghost use Rattle.oa_typelib.specs.Libraries.{name_of, guid_of, ids_of, interface_named};
-ghost use Rattle.oa_typelib.specs.Repeats.{first_answer};
-ghost use Rattle.oa_typelib.specs.declared.fault.CheckError.TheVariants.{DuplicateName, DuplicateId, DuplicateGuid, UnknownInterface};
+ghost use Rattle.oa_typelib.specs.Breaches.{Refuses, repeated_name, declared_breach, inner_breach, name_breach, id_breach, guid_breach, unknown_name, entry_breach, interface_breach, form_breach, array_breach, default_breach, form_breaches, key_breaches, tree_breach};
+ghost use Rattle.oa_typelib.specs.Declarations.{declarations};
+ghost use Rattle.oa_typelib.specs.Libraries.{same, name_of, guid_of, interface_named};
+ghost use Rattle.oa_typelib.specs.Repeats.{first_answer, first_after};
+ghost use Rattle.oa_typelib.specs.Taken.{takes_reading, takes_setting, names_taken, is_taken};
+ghost use Rattle.oa_typelib.specs.declared.fault.CheckError.TheVariants.{DuplicateName, DuplicateId, DuplicateGuid, UnknownInterface, GetPutDisagree, ArrayParameter, BadDefault};
 
+use crate::declaration::{Declaration, declarations};
 use crate::fault::{CheckError, WrittenName};
-use crate::places::interface_at;
+use crate::member_checks::{MemberCheck, check_members};
+use crate::places::{interface_at, items_of};
 use crate::repeats::{Distinct, told_apart};
-use crate::sets::{Guids, Ids, Names};
-use oa_idl::{Entry, Item, Name, Property};
+use crate::sets::{Guids, Names};
+use crate::taken::Taken;
+use oa_idl::{Coclass, Entry, Interface, Item, Name, Parameter, Tree};
 use oa_model::fold;
 use std::alloc::{AllocError, Global};
 use uuid::Uuid;
@@ -41,16 +47,6 @@ fn item_guid(item: &Item) -> Uuid
     }
 }
 
-fn property_names(alloc: Global, properties: &[Property]) -> Result<Vec<&Name>, AllocError>
-    ensures { IfOk result (λ v. map (λ n. n.now) v.items ≡ map (λ p. p.name) properties.now) }
-{
-    let mut names = Vec::new(alloc);
-    for property in properties {
-        names.push(&property.name)?;
-    }
-    Ok(names)
-}
-
 fn entry_names(alloc: Global, entries: &[Entry]) -> Result<Vec<&Name>, AllocError>
     ensures { IfOk result (λ v. map (λ n. n.now) v.items ≡ map (λ e. e.interface) entries.now) }
 {
@@ -61,13 +57,14 @@ fn entry_names(alloc: Global, entries: &[Entry]) -> Result<Vec<&Name>, AllocErro
     Ok(names)
 }
 
-fn names_in(alloc: Global, item: &Item) -> Result<Vec<&Name>, AllocError>
-    ensures { IfOk result (λ v. map (λ n. n.now) v.items ≡ inner_names item.now) }
+fn parameter_names(alloc: Global, parameters: &[Parameter]) -> Result<Vec<&Name>, AllocError>
+    ensures { IfOk result (λ v. map (λ n. n.now) v.items ≡ map (λ p. p.name) parameters.now) }
 {
-    match item {
-        Item::Interface(interface) => property_names(alloc, interface.properties.as_slice()),
-        Item::Coclass(class) => entry_names(alloc, class.entries.as_slice()),
+    let mut names = Vec::new(alloc);
+    for parameter in parameters {
+        names.push(&parameter.name)?;
     }
+    Ok(names)
 }
 
 fn all_folded(alloc: Global, names: &[&Name]) -> Result<Vec<Vec<u8>>, AllocError>
@@ -91,24 +88,78 @@ fn first_repeated<'a>(alloc: Global, names: &[&'a Name]) -> Result<Option<&'a Na
     Ok(Some(names[place]))
 }
 
+/// Refuses names of which one repeats one before it.
+fn check_repeated(alloc: Global, names: &[&Name]) -> Result<(), CheckError>
+    ensures { Refuses (option_map DuplicateName (repeated_name (map (λ n. n.now) names.now))) (λ _. Unit {0}) result }
+{
+    match first_repeated(alloc, names)? {
+        Some(name) => Err(CheckError::DuplicateName(WrittenName::copy(alloc, name)?)),
+        None => Ok(()),
+    }
+}
+
+/// Adds a declaration's name to those of the declarations before it.
+fn admit_declaration(
+    alloc: Global,
+    taken: &mut Taken,
+    declaration: &Declaration<'_>,
+) -> Result<(), CheckError>
+    ensures refuses { Refuses (option_map DuplicateName (if is_taken taken.old.reading taken.old.setting declaration.now then Some declaration.now.name else repeated_name (map (λ p. p.name) declaration.now.parameters))) (λ _. (taken.new.reading ≡ taken.old.reading ++ names_taken takes_reading (declaration.now ∷ [])) × (taken.new.setting ≡ taken.old.setting ++ names_taken takes_setting (declaration.now ∷ []))) result }
+{
+    if !taken.take(alloc, declaration)? {
+        return Err(CheckError::DuplicateName(WrittenName::copy(alloc, declaration.name)?));
+    }
+    let names = parameter_names(alloc, declaration.parameters)?;
+    check_repeated(alloc, names.as_slice())
+}
+
+fn check_declared(alloc: Global, all: &[Declaration<'_>]) -> Result<(), CheckError>
+    ensures { Refuses (option_map DuplicateName (first_after declared_breach [] all.now)) (λ _. Unit {0}) result }
+{
+    let mut taken = Taken::new(alloc);
+    for declaration in all {
+        admit_declaration(alloc, &mut taken, declaration)?;
+    }
+    Ok(())
+}
+
+fn check_interface_names(alloc: Global, interface: &Interface) -> Result<(), CheckError>
+    ensures { Refuses (option_map DuplicateName (first_after declared_breach [] (declarations interface.now))) (λ _. Unit {0}) result }
+{
+    let all = declarations(alloc, interface)?;
+    check_declared(alloc, all.as_slice())
+}
+
+fn check_coclass_names(alloc: Global, class: &Coclass) -> Result<(), CheckError>
+    ensures { Refuses (option_map DuplicateName (repeated_name (map (λ e. e.interface) class.now.entries))) (λ _. Unit {0}) result }
+{
+    let names = entry_names(alloc, class.entries.as_slice())?;
+    check_repeated(alloc, names.as_slice())
+}
+
+fn check_inner_names(alloc: Global, item: &Item) -> Result<(), CheckError>
+    ensures { Refuses (option_map DuplicateName (inner_breach item.now)) (λ _. Unit {0}) result }
+{
+    match item {
+        Item::Interface(interface) => check_interface_names(alloc, interface),
+        Item::Coclass(class) => check_coclass_names(alloc, class),
+    }
+}
+
 /// Adds an item's name to those of the items before it.
 fn admit(alloc: Global, seen: &mut Names, item: &Item) -> Result<(), CheckError>
-    ensures refuses { Refuses (option_map DuplicateName (item_breach seen.old item.now)) (λ _. seen.new ≡ seen.old ++ folded_name (name_of item.now) ∷ []) result }
+    ensures refuses { Refuses (option_map DuplicateName (if list_any (same (folded_name (name_of item.now))) seen.old then Some (name_of item.now) else inner_breach item.now)) (λ _. seen.new ≡ seen.old ++ folded_name (name_of item.now) ∷ []) result }
 {
     let name = item_name(item);
     if !seen.insert(folded(alloc, name)?)? {
         return Err(CheckError::DuplicateName(WrittenName::copy(alloc, name)?));
     }
-    let names = names_in(alloc, item)?;
-    match first_repeated(alloc, names.as_slice())? {
-        Some(repeated) => Err(CheckError::DuplicateName(WrittenName::copy(alloc, repeated)?)),
-        None => Ok(()),
-    }
+    check_inner_names(alloc, item)
 }
 
 /// The items' names, which differ, as do the names inside each.
 pub(crate) fn check_names(alloc: Global, items: &[Item]) -> Result<Names, CheckError>
-    ensures { Refuses (option_map DuplicateName (name_breach [] items.now)) (λ names. names ≡ map (λ i. folded_name (name_of i)) items.now) result }
+    ensures { Refuses (option_map DuplicateName (name_breach items.now)) (λ names. names ≡ map (λ i. folded_name (name_of i)) items.now) result }
 {
     let mut seen = Names::new(alloc);
     for item in items {
@@ -117,43 +168,14 @@ pub(crate) fn check_names(alloc: Global, items: &[Item]) -> Result<Names, CheckE
     Ok(seen)
 }
 
-fn property_ids(alloc: Global, properties: &[Property]) -> Result<Vec<i32>, AllocError>
-    ensures { IfOk result (λ v. v.items ≡ map (λ p. p.id) properties.now) }
+/// No two members of an interface have one DISPID.
+pub(crate) fn check_ids(alloc: Global, items: &[Item]) -> Result<(), CheckError>
+    ensures { Refuses (option_map DuplicateId (id_breach items.now)) (λ _. Unit {0}) result }
 {
-    properties.iter().map(|p| p.id).collect(alloc)
-}
-
-fn member_ids(alloc: Global, properties: &[Property]) -> Result<Ids, CheckError>
-    ensures { Refuses (option_map DuplicateId (repeated_id properties.now)) (λ ids. ids ≡ map (λ p. p.id) properties.now) result }
-{
-    let keys = property_ids(alloc, properties)?;
-    match told_apart(alloc, keys)? {
-        Distinct::All(ids) => Ok(Ids::from_set(ids)),
-        Distinct::Repeat(place) => Err(CheckError::DuplicateId(WrittenName::copy(
-            alloc,
-            &properties[place].name,
-        )?)),
+    match check_members(alloc, MemberCheck::Ids, items)? {
+        Some(name) => Err(CheckError::DuplicateId(WrittenName::copy(alloc, name)?)),
+        None => Ok(()),
     }
-}
-
-fn item_ids(alloc: Global, item: &Item) -> Result<Ids, CheckError>
-    ensures { Refuses (option_map DuplicateId (repeated_id_in item.now)) (λ ids. ids ≡ ids_of item.now) result }
-{
-    match item {
-        Item::Interface(interface) => member_ids(alloc, interface.properties.as_slice()),
-        Item::Coclass(_) => Ok(Ids::none(alloc)),
-    }
-}
-
-/// The DISPIDs of each item, which differ within it.
-pub(crate) fn check_ids(alloc: Global, items: &[Item]) -> Result<Vec<Ids>, CheckError>
-    ensures { Refuses (option_map DuplicateId (id_breach items.now)) (λ ids. ids.items ≡ map ids_of items.now) result }
-{
-    let mut all = Vec::new(alloc);
-    for item in items {
-        all.push(item_ids(alloc, item)?)?;
-    }
-    Ok(all)
 }
 
 fn all_guids(alloc: Global, library: Uuid, items: &[Item]) -> Result<Vec<Uuid>, AllocError>
@@ -237,4 +259,73 @@ pub(crate) fn check_interfaces(
         check_item(alloc, names, items, item)?;
     }
     Ok(())
+}
+
+/// The get and the put of each property agree.
+pub(crate) fn check_forms(alloc: Global, items: &[Item]) -> Result<(), CheckError>
+    ensures { Refuses (option_map GetPutDisagree (form_breach items.now)) (λ _. Unit {0}) result }
+{
+    match check_members(alloc, MemberCheck::Forms, items)? {
+        Some(name) => Err(CheckError::GetPutDisagree(WrittenName::copy(alloc, name)?)),
+        None => Ok(()),
+    }
+}
+
+/// No parameter of a property is an array.
+pub(crate) fn check_arrays(alloc: Global, items: &[Item]) -> Result<(), CheckError>
+    ensures { Refuses (option_map ArrayParameter (array_breach items.now)) (λ _. Unit {0}) result }
+{
+    match check_members(alloc, MemberCheck::Arrays, items)? {
+        Some(name) => Err(CheckError::ArrayParameter(WrittenName::copy(alloc, name)?)),
+        None => Ok(()),
+    }
+}
+
+/// Each default has a value of its parameter's type, and no new value has one.
+pub(crate) fn check_defaults(alloc: Global, items: &[Item]) -> Result<(), CheckError>
+    ensures { Refuses (option_map BadDefault (default_breach items.now)) (λ _. Unit {0}) result }
+{
+    match check_members(alloc, MemberCheck::Defaults, items)? {
+        Some(name) => Err(CheckError::BadDefault(WrittenName::copy(alloc, name)?)),
+        None => Ok(()),
+    }
+}
+
+/// The forms of properties and the parameters, after names, DISPIDs and interfaces.
+fn check_form_kinds(alloc: Global, items: &[Item]) -> Result<(), CheckError>
+    ensures { Refuses (form_breaches items.now) (λ _. Unit {0}) result }
+{
+    check_forms(alloc, items)?;
+    check_arrays(alloc, items)?;
+    check_defaults(alloc, items)?;
+    Ok(())
+}
+
+/// What the checks of a tree leave: its items' names and GUIDs, by their places.
+#[derive(Drop)]
+pub(crate) struct Checked {
+    pub(crate) names: Names,
+    pub(crate) guids: Guids,
+}
+
+/// Names, DISPIDs and GUIDs.
+fn check_keys(alloc: Global, tree: &Tree) -> Result<Checked, CheckError>
+    ensures { Refuses (key_breaches tree.now) (λ c. (c.names ≡ map (λ i. folded_name (name_of i)) tree.now.items) × (c.guids ≡ map guid_of tree.now.items)) result }
+{
+    let items = items_of(tree);
+    let names = check_names(alloc, items)?;
+    check_ids(alloc, items)?;
+    let guids = check_guids(alloc, tree.guid, items)?;
+    Ok(Checked { names, guids })
+}
+
+/// All checks of a tree but that of its text's length, in their order.
+pub(crate) fn check_tree(alloc: Global, tree: &Tree) -> Result<Checked, CheckError>
+    ensures { Refuses (tree_breach tree.now) (λ c. (c.names ≡ map (λ i. folded_name (name_of i)) tree.now.items) × (c.guids ≡ map guid_of tree.now.items)) result }
+{
+    let checked = check_keys(alloc, tree)?;
+    let items = items_of(tree);
+    check_interfaces(alloc, &checked.names, items)?;
+    check_form_kinds(alloc, items)?;
+    Ok(checked)
 }

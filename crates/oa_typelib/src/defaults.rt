@@ -11,7 +11,7 @@ use crate::sets::Names;
 use oa_idl::{Entry, Item, Name, Tree};
 use std::alloc::{AllocError, Global};
 
-fn has_default(entries: &[Entry]) -> bool
+fn marks_default(entries: &[Entry]) -> bool
     ensures { result ≡ list_any (λ e. e.is_default) entries.now }
 {
     entries.iter().any(|e| e.is_default)
@@ -21,7 +21,7 @@ fn has_default(entries: &[Entry]) -> bool
 fn mark_entries(entries: &mut [Entry])
     ensures { entries.new ≡ marked_entries entries.old }
 {
-    if !has_default(entries) && !entries.is_empty() {
+    if !marks_default(entries) && !entries.is_empty() {
         entries[0].is_default = true;
     }
 }

@@ -58,10 +58,11 @@ impl Debug for WrittenName {
     }
 }
 
-/// Why a tree is no library. A refusal names the later one of two items that clash, as it is written.
+/// Why a tree is no library. A refusal names the later one of two items that clash, or the parameter, as it is written.
 #[derive(Debug, Drop, Error)]
 pub enum CheckError {
-    /// An interface, a coclass, a member or an entry of a coclass has the name of another, A to Z folded.
+    /// An interface, a coclass, a member, a parameter or an entry of a coclass has the name of another, A to Z folded;
+    /// but the get and the put of a property have one name.
     #[error("duplicate name {0}")]
     DuplicateName(WrittenName),
     /// A member has the DISPID of another of its interface.
@@ -73,6 +74,19 @@ pub enum CheckError {
     /// An entry of a coclass names no interface.
     #[error("unknown interface {0}")]
     UnknownInterface(WrittenName),
+    /// The get and the put of a property differ in their DISPID, in the type of what the property holds, or in a parameter's name, type,
+    /// flags or default.
+    #[error("get and put disagree {0}")]
+    GetPutDisagree(WrittenName),
+    /// A parameter of a property has an array type.
+    #[error("array parameter {0}")]
+    ArrayParameter(WrittenName),
+    /// A parameter's default has no value of its type, or the new value of a put has a default or is optional.
+    #[error("bad default {0}")]
+    BadDefault(WrittenName),
+    /// The canonical text has more than 262,144 bytes.
+    #[error("limit text")]
+    TextTooLong,
     /// Memory was refused.
     #[error("out of memory")]
     Memory,

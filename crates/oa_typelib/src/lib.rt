@@ -2,19 +2,36 @@
 #![tactic(auto)]
 
 mod access;
+mod agreement;
 mod checks;
+mod declaration;
+mod default_value;
 mod defaults;
+mod describe;
+mod described;
 mod fault;
+mod forms;
+mod laws;
 mod library;
 mod member;
+mod member_checks;
+mod members;
+mod names;
 mod places;
 mod repeats;
 mod sets;
+mod taken;
 
 pub use access::{Access, Kind, MemberFault};
+pub use declaration::DeclarationKind;
+pub use describe::Description;
+pub use described::{Content, DescribeError, DescribedEntry, DescribedMember, DescribedParameter};
 pub use fault::{CheckError, WrittenName};
 pub use library::{Library, check};
 pub use member::Member;
+pub use names::DispIds;
 
+#[cfg(test)]
+mod check_tests;
 #[cfg(test)]
 mod tests;

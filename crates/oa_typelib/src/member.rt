@@ -1,21 +1,27 @@
 // Members as a call sees them.
-ghost use Rattle.std.specs.Prelude.{◌≡◌, not};
-ghost use Rattle.oa_typelib.specs.Members.{of_property, has_form};
+ghost use Rattle.std.specs.Prelude.{◌≡◌};
+ghost use Rattle.std.specs.Option.{option_map};
+ghost use Rattle.oa_typelib.specs.Declarations.{type_of_value};
+ghost use Rattle.oa_typelib.specs.Members.{answer, has_form, main_form, property_of};
 
-use crate::access::Kind;
-use oa_idl::{Name, Property};
+use crate::access::{Access, Kind, MemberFault};
+use crate::declaration::Declaration;
+use crate::forms::Forms;
+use oa_idl::{Name, Parameter};
 use oa_model::ValueType;
 use std::marker::Model;
 
-/// A property of an interface, by what a call needs to know of it.
+/// A property of an interface, by what a call needs to know of it. Of one with a get and a put, name and parameters are those of the get.
 #[derive(Drop)]
 pub struct Member<'a> {
     /// Its DISPID.
     pub id: i32,
     /// Its name as it is written.
     pub name: &'a Name,
-    /// Its declared type.
+    /// The type of what it holds, which of a put is the type of the new value.
     pub value_type: ValueType,
+    /// Its parameters, without the new value of a put.
+    pub parameters: &'a [Parameter],
     /// Whether it can be read.
     pub has_get: bool,
     /// Whether it can be set.
@@ -27,20 +33,22 @@ impl<'a> Model for Member<'a> {
 
     ghost Value = { MemberValue };
 
-    ghost view = { λ m. record { id = m.id; name = m.name.now; value_type = m.value_type; has_get = m.has_get; has_put = m.has_put } };
+    ghost view = { λ m. record { id = m.id; name = m.name.now; value_type = m.value_type; parameters = m.parameters.now; has_get = m.has_get; has_put = m.has_put } };
 }
 
 impl<'a> Member<'a> {
-    pub(crate) fn of_property(property: &'a Property) -> Member<'a>
-        ensures { result ≡ of_property property.now }
+    /// The property that has these declarations, of which one speaks for it. None where that one has no type.
+    pub(crate) fn of(forms: &Forms<'a>, main: &Declaration<'a>) -> Option<Member<'a>>
+        ensures { result ≡ option_map (property_of forms.now main.now) (type_of_value main.now) }
     {
-        Member {
-            id: property.id,
-            name: &property.name,
-            value_type: property.value_type,
-            has_get: true,
-            has_put: !property.readonly,
-        }
+        Some(Member {
+            id: main.id,
+            name: main.name,
+            value_type: main.type_of_value()?,
+            parameters: main.own_parameters(),
+            has_get: forms.form_for(Kind::Get).is_some(),
+            has_put: forms.form_for(Kind::Put).is_some(),
+        })
     }
 
     /// Whether it has the form.
@@ -51,5 +59,28 @@ impl<'a> Member<'a> {
             Kind::Get => self.has_get,
             Kind::Put => self.has_put,
         }
+    }
+}
+
+/// The member that has these declarations, and the form of it that a call asks for.
+pub(crate) fn find<'a>(forms: &Forms<'a>, access: Access) -> Result<(Member<'a>, Kind), MemberFault>
+    ensures { result ≡ answer (main_form forms.now) forms.now access }
+{
+    let Some(main) = forms.main() else {
+        return Err(MemberFault::MemberNotFound);
+    };
+    if main.kind.is_method() {
+        return Err(access.of_method());
+    }
+    let Some(member) = Member::of(forms, &main) else {
+        return Err(MemberFault::MemberNotFound);
+    };
+    let Some(kind) = access.kind() else {
+        return Err(MemberFault::MemberNotFound);
+    };
+    if member.has(kind) {
+        Ok((member, kind))
+    } else {
+        Err(MemberFault::MemberNotFound)
     }
 }

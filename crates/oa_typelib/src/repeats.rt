@@ -1,8 +1,9 @@
 // Lists whose keys have to differ.
 ghost use Rattle.std.specs.Prelude.{◌≡◌, [], IfOk};
 ghost use Rattle.oa_typelib.specs.Keys.{Tells, repeat_of};
+ghost use Rattle.oa_typelib.specs.Repeats.{places_before};
 
-use indexmap::IndexSet;
+use indexmap::{IndexMap, IndexSet};
 use std::alloc::{AllocError, Global};
 use std::hash::Hash;
 
@@ -38,4 +39,21 @@ pub(crate) fn told_apart<K: Eq + Hash + Drop>(
         }
     }
     Ok(Distinct::All(seen))
+}
+
+/// For each key the last place before it with an equal one.
+pub(crate) fn earlier<K: Eq + Hash + Drop>(
+    alloc: Global,
+    keys: Vec<K>,
+) -> Result<Vec<Option<usize>>, AllocError>
+    ensures { IfOk result (λ v. v.items ≡ places_before K.eq [] keys.items) }
+{
+    let mut last = IndexMap::new(alloc);
+    let mut places = Vec::new(alloc);
+    for key in keys {
+        let place = places.len();
+        let before = last.insert(key, place)?;
+        places.push(before)?;
+    }
+    Ok(places)
 }

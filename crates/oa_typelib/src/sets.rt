@@ -1,7 +1,6 @@
-// Names, DISPIDs and GUIDs by their places in a list.
+// Names and GUIDs by their places in a list.
 ghost use Rattle.std.specs.Prelude.{◌≡◌, ◌++◌, ◌∷◌, [], not, OnOk, IfOk, position};
 ghost use Rattle.std.specs.List.{list_any};
-ghost use Rattle.std.specs.Ordering.{int_eq};
 ghost use Rattle.indexmap.specs.IndexSet.{insert_key};
 ghost use Rattle.oa_typelib.specs.Libraries.{same};
 
@@ -44,42 +43,6 @@ impl Names {
         ensures { result ≡ position (same name.now) self.now }
     {
         self.keys.get_index_of(name)
-    }
-}
-
-/// The DISPIDs of an interface's members, in their order.
-#[derive(Drop)]
-pub(crate) struct Ids {
-    keys: IndexSet<i32>,
-}
-
-impl Model for Ids {
-    ghost use Rattle.std.specs.Prelude.{List, ℤ};
-
-    ghost Value = { List ℤ };
-
-    ghost view = { λ n. n.keys.keys };
-}
-
-impl Ids {
-    pub(crate) fn none(alloc: Global) -> Ids
-        ensures { result ≡ [] }
-    {
-        Ids {
-            keys: IndexSet::new(alloc),
-        }
-    }
-
-    pub(crate) fn from_set(keys: IndexSet<i32>) -> Ids
-        ensures { result ≡ keys.keys }
-    {
-        Ids { keys }
-    }
-
-    pub(crate) fn place(&self, id: i32) -> Option<usize>
-        ensures { result ≡ position (int_eq id) self.now }
-    {
-        self.keys.get_index_of(&id)
     }
 }
 

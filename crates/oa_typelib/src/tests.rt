@@ -1,6 +1,10 @@
 // Small libraries: their refusals and their look-ups.
-use crate::{Access, Kind, Library, check};
-use oa_idl::{Interface, parse};
+use crate::{
+    Access, Content, DescribedEntry, DescribedMember, DescribedParameter, DispIds, Kind, Library,
+    MemberFault, check,
+};
+use oa_idl::{Interface, Name, parse};
+use oa_variant::Scalar;
 use std::alloc::{AllocError, Global};
 use std::test::Fail;
 use uuid::Uuid;
@@ -142,6 +146,92 @@ const MEMBERS: [(u8, i32, Access, Option<Kind>); 19] = [
     (9, 1, Access::Get, None),
 ];
 
+/// An interface with members of each kind, one whose put stands before its get, and coclasses before an interface.
+const DECLARED: &str = "[uuid(#2)] dispinterface DItem {
+properties: [id(1)] long Count; [id(2)] BSTR Name; [id(3)] CURRENCY Price; [id(4)] DECIMAL Exact; [id(5)] VARIANT_BOOL Flag;
+[id(6), readonly] long Version; [id(7)] VARIANT Any; [id(8)] SAFEARRAY(short) Grid;
+methods: [id(9), propget] BSTR Cell([in] long Row, [in] BSTR Key, [in, optional, defaultvalue(1)] short Page);
+[id(9), propput] void Cell([in] long Row, [in] BSTR Key, [in, optional, defaultvalue(1)] short Page, [in] BSTR Value);
+[id(10)] void Clear(); }
+[uuid(#3)] coclass Item { [default] dispinterface DItem; }
+[uuid(#5)] coclass Both { interface forms; [default] interface DItem; }
+[uuid(#4)] dispinterface Forms { methods: [id(1), propput] void W([in] long v);
+[id(2), propput] void BOTH([optional] long a, [in, defaultvalue(-7)] VARIANT b, BSTR c);
+[id(3), propget] SAFEARRAY(BSTR) R([defaultvalue(TRUE)] VARIANT_BOOL f);
+[id(2), propget] BSTR Both([optional] long A, [in, defaultvalue(-7)] VARIANT B);
+[id(-4)] long M([defaultvalue(\"ab\")] BSTR t, SAFEARRAY(long) g); }";
+
+/// The last byte of an interface's GUID, a DISPID, how the form is named, and what is found.
+const FORMS: [(u8, i32, Access, &str); 26] = [
+    (2, 1, Access::Flags(3), "get"),
+    (2, 1, Access::Flags(1), "member not found"),
+    (2, 1, Access::Flags(8), "member not found"),
+    (2, 1, Access::Flags(0), "member not found"),
+    (2, 6, Access::Flags(4), "member not found"),
+    (2, 10, Access::Flags(1), "not implemented"),
+    (2, 10, Access::Flags(3), "not implemented"),
+    (2, 10, Access::Flags(0xfffb), "not implemented"),
+    (2, 10, Access::Flags(2), "member not found"),
+    (2, 10, Access::Flags(5), "member not found"),
+    (2, 10, Access::Flags(0), "member not found"),
+    (2, 10, Access::Get, "member not found"),
+    (2, 10, Access::Put, "member not found"),
+    (2, 99, Access::Flags(1), "member not found"),
+    (2, 9, Access::Flags(2), "get"),
+    (2, 9, Access::Flags(4), "put"),
+    (2, 9, Access::Flags(1), "member not found"),
+    (2, 9, Access::Put, "put"),
+    (4, 1, Access::Get, "member not found"),
+    (4, 1, Access::Put, "put"),
+    (4, 3, Access::Get, "get"),
+    (4, 3, Access::Flags(6), "member not found"),
+    (4, 2, Access::Get, "get"),
+    (4, 2, Access::Put, "put"),
+    (4, -4, Access::Flags(1), "not implemented"),
+    (3, 1, Access::Flags(1), "member not found"),
+];
+
+/// The last byte of an interface's GUID, names, and their DISPIDs, with `all` where all are known.
+const NAMES: [(u8, &str, &str); 16] = [
+    (2, "cELL,KEY,none", "9 1 -1 "),
+    (2, "none,Key", "-1 -1 "),
+    (2, "Cell,Page", "9 2 all"),
+    (2, "Cell,row,ROW", "9 0 0 all"),
+    (2, "Cell,Value", "9 -1 "),
+    (2, "Clear", "10 all"),
+    (2, "Clear,Row", "10 -1 "),
+    (2, "Key", "-1 "),
+    (2, "", "-1 "),
+    // Only A to Z are folded.
+    (2, "Pr\u{131}ce", "-1 "),
+    (2, "\u{c5}ny", "-1 "),
+    (2, "Cell,\u{212a}ey", "9 -1 "),
+    (4, "both,b,A", "2 1 0 all"),
+    (4, "w,v", "1 -1 "),
+    (4, "m,G,t", "-4 1 0 all"),
+    (9, "Cell,Key", "-1 -1 "),
+];
+
+/// What is described at each index: of a declaration its DISPID, its kind, the number of its type (24 for void), its name, and its
+/// parameters with a `?` where they are optional, and the default; of an entry the index of its interface, with `*` for the default.
+const DESCRIPTIONS: [(u32, &str); 6] = [
+    (
+        0,
+        "DItem 2: 1 Property 3 Count; 2 Property 8 Name; 3 Property 6 Price; 4 Property 14 Exact; 5 Property 11 Flag; \
+6 ReadonlyProperty 3 Version; 7 Property 12 Any; 8 Property 8194 Grid; 9 Get 8 Cell Row in Key in Page in? I2 1; \
+9 Put 24 Cell Row in Key in Page in? I2 1 Value in; 10 Method 24 Clear; ",
+    ),
+    (
+        1,
+        "Forms 4: 1 Put 24 W v in; 2 Get 8 Both A? B in? I4 -7; 2 Put 24 BOTH a? b in? I4 -7 c; 3 Get 8200 R f? true; \
+-4 Method 3 M t? 4 bytes g; ",
+    ),
+    (2, "Item 3: 0*; "),
+    (3, "Both 5: 1; 0*; "),
+    (4, "bad index"),
+    (4_294_967_295, "bad index"),
+];
+
 fn text_of(alloc: Global, items: &str) -> Result<String, AllocError> {
     let mut text = String::new(alloc);
     text.push_str("[uuid(11223344-5566-7788-99AA-BBCCDDEEFF01)] library L {")?;
@@ -235,5 +325,178 @@ fn members_by_id_and_flags(rt: HostRuntime) -> Result<(), Fail> {
     );
     assert_eq!(rt; Access::Flags(0xfffa).kind(), Some(Kind::Get));
     assert!(rt; library.member(&guid(2), 2, Access::Get).is_err());
+    Ok(())
+}
+
+fn declared(alloc: Global) -> Result<Library, Fail> {
+    let text = text_of(alloc, DECLARED)?;
+    Ok(check(alloc, parse(alloc, text.as_str())?)?)
+}
+
+fn form_found(library: &Library, interface: u8, id: i32, access: Access) -> &'static str {
+    match library.member(&guid(interface), id, access) {
+        Ok((_, Kind::Get)) => "get",
+        Ok((_, Kind::Put)) => "put",
+        Err(MemberFault::MemberNotFound) => "member not found",
+        Err(MemberFault::NotImplemented) => "not implemented",
+    }
+}
+
+fn units(alloc: Global, name: &str) -> Result<Vec<u16>, AllocError> {
+    let mut units = Vec::new(alloc);
+    for c in name.chars() {
+        units.push(u16::try_from(c as u32).unwrap_or(0xfffd))?;
+    }
+    Ok(units)
+}
+
+fn names_of(alloc: Global, names: &str) -> Result<Vec<Vec<u16>>, AllocError> {
+    let mut all = Vec::new(alloc);
+    for name in names.split(',') {
+        all.push(units(alloc, name)?)?;
+    }
+    Ok(all)
+}
+
+fn shown(alloc: Global, found: &DispIds) -> Result<String, Fail> {
+    let mut text = String::new(alloc);
+    for id in found.ids.iter() {
+        let one = format!(in alloc; "{id} ")?;
+        text.push_str(one.as_str())?;
+    }
+    if found.all_known {
+        text.push_str("all")?;
+    }
+    Ok(text)
+}
+
+fn ids(alloc: Global, library: &Library, interface: u8, names: &str) -> Result<String, Fail> {
+    let names = names_of(alloc, names)?;
+    let found = library.dispid(&guid(interface), names.as_slice())?;
+    shown(alloc, &found)
+}
+
+fn push_name(text: &mut String, name: &Name) -> Result<(), AllocError> {
+    text.push(' ')?;
+    for byte in name.as_bytes() {
+        text.push(char::from(*byte))?;
+    }
+    Ok(())
+}
+
+fn value_shown(alloc: Global, value: &Option<Scalar>) -> Result<String, Fail> {
+    let text = match value {
+        None => format!(in alloc; "")?,
+        Some(Scalar::I2(n)) => format!(in alloc; " I2 {n}")?,
+        Some(Scalar::I4(n)) => format!(in alloc; " I4 {n}")?,
+        Some(Scalar::Bool(b)) => format!(in alloc; " {b}")?,
+        Some(Scalar::Bstr(b)) => format!(in alloc; " {} bytes", b.as_bytes().len())?,
+        Some(_) => format!(in alloc; " other")?,
+    };
+    Ok(text)
+}
+
+fn push_parameter(
+    alloc: Global,
+    text: &mut String,
+    parameter: &DescribedParameter,
+) -> Result<(), Fail> {
+    push_name(text, parameter.name)?;
+    if parameter.is_in {
+        text.push_str(" in")?;
+    }
+    if parameter.is_optional {
+        text.push('?')?;
+    }
+    let value = value_shown(alloc, &parameter.default)?;
+    text.push_str(value.as_str())?;
+    Ok(())
+}
+
+fn push_member(alloc: Global, text: &mut String, member: &DescribedMember) -> Result<(), Fail> {
+    let vt = match member.value_type {
+        Some(value_type) => value_type.vt(),
+        None => 24,
+    };
+    let head = format!(in alloc; "{} {:?} {vt}", member.id, member.kind)?;
+    text.push_str(head.as_str())?;
+    push_name(text, member.name)?;
+    for parameter in member.parameters.iter() {
+        push_parameter(alloc, text, parameter)?;
+    }
+    text.push_str("; ")?;
+    Ok(())
+}
+
+fn push_entry(alloc: Global, text: &mut String, entry: &DescribedEntry) -> Result<(), Fail> {
+    let default = if entry.is_default { "*" } else { "" };
+    let shown = format!(in alloc; "{}{default}; ", entry.interface)?;
+    text.push_str(shown.as_str())?;
+    Ok(())
+}
+
+fn push_content(alloc: Global, text: &mut String, content: &Content) -> Result<(), Fail> {
+    match content {
+        Content::Interface(members) => {
+            for member in members.iter() {
+                push_member(alloc, text, member)?;
+            }
+        }
+        Content::Coclass(entries) => {
+            for entry in entries.iter() {
+                push_entry(alloc, text, entry)?;
+            }
+        }
+    }
+    Ok(())
+}
+
+fn described(alloc: Global, library: &Library, index: u32) -> Result<String, Fail> {
+    let found = match library.describe(index) {
+        Ok(found) => found,
+        Err(error) => return Ok(format!(in alloc; "{error}")?),
+    };
+    let mut text = String::new(alloc);
+    for byte in found.name.as_bytes() {
+        text.push(char::from(*byte))?;
+    }
+    let last = found.guid.as_bytes()[15];
+    let head = format!(in alloc; " {last}: ")?;
+    text.push_str(head.as_str())?;
+    push_content(alloc, &mut text, &found.content)?;
+    Ok(text)
+}
+
+#[test]
+fn forms_of_members(rt: HostRuntime) -> Result<(), Fail> {
+    let library = declared(rt.alloc())?;
+    for (interface, id, access, expected) in FORMS.iter() {
+        let found = form_found(&library, *interface, *id, *access);
+        assert_eq!(rt; found, *expected, "{interface} {id} {access:?}");
+    }
+    let (member, _) = library.member(&guid(4), 2, Access::Put)?;
+    assert_eq!(rt; member.name.as_bytes(), b"Both".as_slice());
+    assert_eq!(rt; member.parameters.len(), 2);
+    assert_eq!(rt; member.value_type.vt(), 8);
+    Ok(())
+}
+
+#[test]
+fn ids_of_names(rt: HostRuntime) -> Result<(), Fail> {
+    let library = declared(rt.alloc())?;
+    for (interface, names, expected) in NAMES.iter() {
+        let found = ids(rt.alloc(), &library, *interface, names)?;
+        assert_eq!(rt; found.as_str(), *expected, "{interface} {names}");
+    }
+    Ok(())
+}
+
+#[test]
+fn descriptions_by_index(rt: HostRuntime) -> Result<(), Fail> {
+    let library = declared(rt.alloc())?;
+    for (index, expected) in DESCRIPTIONS.iter() {
+        let found = described(rt.alloc(), &library, *index)?;
+        assert_eq!(rt; found.as_str(), *expected, "{index}");
+    }
     Ok(())
 }

@@ -14,11 +14,15 @@ pub(crate) fn words(rt: &HostRuntime, alloc: Global) -> Result<Vec<String>, Faul
     }
 }
 
+/// The file of a library.
+fn library<'a>(alloc: Global) -> Arg<'a> {
+    Arg::new(alloc, "LIB").required(true).help(
+        "The file of a type library: automation IDL in UTF-8, one library statement with its dispinterfaces and coclasses",
+    )
+}
+
 /// What the program takes.
 pub(crate) fn command<'a>(alloc: Global) -> Result<Command<'a>, AllocError> {
-    let library = Arg::new(alloc, "LIB").required(true).help(
-        "The file of a type library: automation IDL in UTF-8, one library statement with its dispinterfaces and coclasses",
-    );
     let hex = Arg::new(alloc, "hex")
         .long("hex")
         .required(true)
@@ -26,12 +30,16 @@ pub(crate) fn command<'a>(alloc: Global) -> Result<Command<'a>, AllocError> {
         .help("Take one request a line in hexadecimal digits, and write each reply as such a line");
     let play = Command::new(alloc, "play")
         .about("Answers the requests of standard input on standard output, with objects in memory")
-        .arg(library)?
+        .arg(library(alloc))?
         .arg(hex)?;
+    let check = Command::new(alloc, "check")
+        .about("Checks a type library, and writes its canonical text on standard output")
+        .arg(library(alloc))?;
     Command::new(alloc, "oaut")
         .version("0.1.0")
         .about("A server of OLE Automation objects, whose coclasses a type library describes")
         .disable_help_subcommand(true)
         .subcommand_required(true)
-        .subcommand(play)
+        .subcommand(play)?
+        .subcommand(check)
 }

@@ -1,5 +1,6 @@
 // What ends the program early: one line on standard error, and a status.
 use oa_idl::ParseError;
+use oa_server::Unwritten;
 use oa_typelib::CheckError;
 use std::alloc::{AllocError, AllocFailed};
 use thiserror::Error;
@@ -65,5 +66,11 @@ impl From<ParseError> for Fault {
 impl From<CheckError> for Fault {
     fn from(e: CheckError) -> Fault {
         Fault::Check(e)
+    }
+}
+
+impl From<Unwritten> for Fault {
+    fn from(_e: Unwritten) -> Fault {
+        Fault::Write
     }
 }

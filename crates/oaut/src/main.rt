@@ -3,7 +3,9 @@
 
 mod command;
 mod fault;
+mod library;
 mod play;
+mod text;
 
 use crate::fault::Fault;
 use clap::error::ErrorKind;
@@ -33,9 +35,10 @@ fn run(rt: &HostRuntime) -> Result<ExitCode, Fault> {
             return Ok(ExitCode::from(error.exit_code() as u8));
         }
     };
-    let Some(("play", arguments)) = matches.subcommand() else {
-        return Ok(ExitCode::from(2));
-    };
-    play::play(rt, arguments.get_str("LIB").unwrap_or(""))?;
+    match matches.subcommand() {
+        Some(("play", arguments)) => play::play(rt, arguments.get_str("LIB").unwrap_or(""))?,
+        Some(("check", arguments)) => text::write_text(rt, arguments.get_str("LIB").unwrap_or(""))?,
+        _ => return Ok(ExitCode::from(2)),
+    }
     Ok(ExitCode::SUCCESS)
 }

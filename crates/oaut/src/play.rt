@@ -1,11 +1,9 @@
 // Answering requests with objects in memory.
 use crate::fault::Fault;
-use oa_idl::parse;
+use crate::library::read_library;
 use oa_server::{End, Server};
-use oa_typelib::{Library, check};
-use std::alloc::Global;
-use std::io::{BufReader, BufWriter, ErrorKind};
-use std::{fs, io};
+use std::io;
+use std::io::{BufReader, BufWriter};
 
 /// Answers the lines of standard input by lines on standard output, until the input ends or is refused.
 pub(crate) fn play(rt: &HostRuntime, path: &str) -> Result<(), Fault> {
@@ -26,17 +24,4 @@ pub(crate) fn play(rt: &HostRuntime, path: &str) -> Result<(), Fault> {
         End::ReadFault => Err(Fault::Read),
         End::WriteFault => Err(Fault::Write),
     }
-}
-
-/// The library of a file, which is read whole before its text is judged.
-fn read_library(rt: &HostRuntime, alloc: Global, path: &str) -> Result<Library, Fault> {
-    let bytes = match fs::read(rt, path) {
-        Ok(bytes) => bytes,
-        Err(error) if error.kind() == ErrorKind::OutOfMemory => return Err(Fault::Memory),
-        Err(_) => return Err(Fault::CannotRead(String::from_str(alloc, path)?)),
-    };
-    let Ok(text) = str::from_utf8(&bytes) else {
-        return Err(Fault::NotUtf8);
-    };
-    Ok(check(alloc, parse(alloc, text)?)?)
 }

@@ -1,4 +1,4 @@
-use Rattle.std.proofs.Common.{rules, arith, subst, sym, ltb-true, ltb-false}
+use Rattle.std.proofs.Common.{rules, subst}
 use Rattle.oa_idl.specs.Tokens.{AreTokens}
 use Rattle.oa_idl.proofs.Steps.{gap_more, word_more, junk_ends, all_read}
 use Rattle.oa_idl.proofs.lexer.tokens.Goals as goal

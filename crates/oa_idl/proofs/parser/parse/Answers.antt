@@ -1,4 +1,4 @@
-use Rattle.std.proofs.Common.{◌≡◌, ◌∙◌, sym, rules, arith}
+use Rattle.std.proofs.Common.{◌∙◌, rules}
 use Rattle.oa_idl.proofs.Answered.{answered, found}
 use Rattle.oa_idl.proofs.parser.parse.Goals as goal
 

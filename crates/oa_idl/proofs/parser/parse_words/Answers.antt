@@ -1,4 +1,3 @@
-use Rattle.std.proofs.Common.{◌≡◌, sym, ◌∙◌}
 use Rattle.oa_idl.proofs.parser.parse_words.Goals as goal
 
 pub returns-in-Ok : goal.returns-in-Ok

@@ -1,4 +1,4 @@
-use Rattle.std.proofs.Common.{◌≡◌, ◌∙◌}
+use Rattle.std.proofs.Common.{◌∙◌}
 use Rattle.oa_idl.proofs.Guids.{guid_is}
 use Rattle.oa_idl.proofs.reader.guid_of.Goals as goal
 

@@ -1,0 +1,87 @@
+#!/usr/bin/env python3
+"""Times the built program on library texts at their limit: 262,144 bytes with 256 interfaces, parsed, checked and printed by `oaut check`.
+
+    python3 bench/library.py [PROGRAM [RUNS]]      PROGRAM is crates/oaut/out/oaut where none is given
+
+Prints the least seconds and the greatest peak resident memory of some runs: of a text with properties and methods, of one whose last
+interface clashes with the first, and of one with the most members in one interface; and, beside them, `cat` on the first text.
+"""
+import os
+import subprocess
+import sys
+import tempfile
+import time
+
+ROOT = os.path.dirname(os.path.dirname(os.path.abspath(__file__)))
+PROGRAM = os.path.abspath(sys.argv[1]) if len(sys.argv) > 1 else f"{ROOT}/crates/oaut/out/oaut"
+RUNS = int(sys.argv[2]) if len(sys.argv) > 2 else 5
+LIMIT = 262_144
+HEAD = "[uuid(11223344-5566-7788-99aa-000000000000), version(1.0)]\nlibrary Demo {\n"
+TAIL = "[uuid(11223344-5566-7788-99aa-00000000ffff)]\ncoclass Item {\n[default] dispinterface D0;\n}\n}\n"
+
+
+def interface(number, name, members):
+    """An interface with properties and properties in two forms in turn, as the canonical text has them."""
+    properties = "".join(f"[id({it})] long P{it};\n" for it in range(1, members + 1))
+    forms = "".join(
+        f"[id({1_000 + it})] VARIANT M{it}([in] long At, [in, optional, defaultvalue({it})] short By);\n" for it in range(1, members + 1)
+    )
+    return f"[uuid(11223344-5566-7788-99aa-00000000{number + 1:04x})]\ndispinterface {name} {{\nproperties:\n{properties}methods:\n{forms}}}\n"
+
+
+def filled(body):
+    """A library text of exactly the limit: what is left is a comment."""
+    text = HEAD + body + TAIL
+    return text + "//" + "." * (LIMIT - len(text) - 2)
+
+
+def several(last):
+    """256 interfaces with as many members as fit."""
+    members = max(n for n in range(1, 20) if len(HEAD + TAIL) + 256 * len(interface(255, "D255", n)) <= LIMIT - 2)
+    return filled("".join(interface(it, f"D{it}" if it < 255 else last, members) for it in range(256))), 512 * members
+
+
+def peak_of(pid):
+    """The peak resident memory of a process so far, in KiB; 0 where it has ended."""
+    try:
+        with open(f"/proc/{pid}/status", encoding="ascii") as file:
+            return next((int(line.split()[1]) for line in file if line.startswith("VmHWM:")), 0)
+    except (OSError, StopIteration):
+        return 0
+
+
+def timed(words, cwd):
+    """The seconds, the peak resident memory in KiB and the status of a run."""
+    started = time.perf_counter()
+    child = subprocess.Popen(words, cwd=cwd, stdout=subprocess.DEVNULL, stderr=subprocess.DEVNULL)
+    peak = 0
+    while child.poll() is None:
+        peak = max(peak, peak_of(child.pid))
+    return time.perf_counter() - started, peak, child.returncode
+
+
+def best(words, cwd):
+    """The least seconds of some runs, the greatest peak, and the status."""
+    seconds, peaks, status = zip(*(timed(words, cwd) for _ in range(RUNS)))
+    return min(seconds), max(peaks), status[0]
+
+
+with tempfile.TemporaryDirectory() as room:
+    whole, members = several("D255")
+    clash, _ = several("D000")
+    clash = clash.replace("dispinterface D000 ", "dispinterface d0 ", 1) + "  "
+    most = filled(interface(0, "D0", 256))
+    for name, text, wanted in (
+        (f"256 interfaces with {members:,} members", whole, 0),
+        ("the same, its last interface's name repeated", clash[:LIMIT], 2),
+        ("512 members in one interface", most, 0),
+    ):
+        with open(f"{room}/lib.idl", "w", encoding="ascii") as file:
+            file.write(text)
+        seconds, peak, status = best([PROGRAM, "check", "lib.idl"], room)
+        if status != wanted:
+            sys.exit(f"{name}: status {status}")
+        print(f"{name}, {len(text):,} bytes: {seconds:.3f} s, peak {peak:,} KiB")
+    with open(f"{room}/lib.idl", "w", encoding="ascii") as file:
+        file.write(whole)
+    print(f"cat: {best(['cat', 'lib.idl'], room)[0]:.3f} s")

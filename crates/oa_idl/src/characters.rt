@@ -1,0 +1,34 @@
+// The characters of a default string.
+ghost use Rattle.std.specs.Prelude.{◌≡◌};
+
+use std::marker::Model;
+
+/// The characters of a default string, without its quotes and escapes: ASCII from the blank to the tilde, in a tree that was parsed.
+#[derive(Drop)]
+pub struct Characters {
+    bytes: Vec<u8>,
+}
+
+impl Model for Characters {
+    ghost use Rattle.std.specs.Prelude.{List, ℕ};
+
+    ghost Value = { List ℕ };
+
+    ghost view = { λ c. c.bytes.items };
+}
+
+impl Characters {
+    /// These characters.
+    pub fn from_bytes(bytes: Vec<u8>) -> Characters
+        ensures { result ≡ bytes.items }
+    {
+        Characters { bytes }
+    }
+
+    /// Its bytes, one for each character.
+    pub fn as_bytes(&self) -> &[u8]
+        ensures { result.now ≡ self.now }
+    {
+        self.bytes.as_slice()
+    }
+}

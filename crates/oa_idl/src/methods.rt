@@ -1,0 +1,254 @@
+// The section `methods:`.
+ghost use Rattle.std.specs.Prelude.{◌≡◌, ◌<◌, IfOk};
+ghost use Rattle.oa_idl.specs.declared.sign.Sign.TheVariants as signs;
+ghost use Rattle.oa_idl.specs.Forms.{nowhere};
+ghost use Rattle.oa_idl.specs.Words.{passes};
+ghost use Rattle.oa_idl.specs.Reading.{Answers, done, gather, until};
+ghost use Rattle.oa_idl.specs.Grammar.{one_more, is_form, method_grow, method_finish, may_be_void, may_have_type};
+ghost use Rattle.oa_idl.specs.GrammarReading.{grown_at, next_grown_at, last_at, numbered_at, method_attribute_at, method_full, method_head_at, result_type_at, method_body_at, method_at, closing_at, methods_at};
+
+use crate::attributes::{help, signed};
+use crate::method::Method;
+use crate::parameters::parameters;
+use crate::parser::value_type;
+use crate::parts::MethodKind;
+use crate::reader::Reader;
+use crate::seen::{MethodHead, MethodSeen};
+use crate::sign::Sign;
+use crate::stop::{Stop, TreeLimit};
+use oa_model::{MAX_MEMBERS, ValueType};
+use std::alloc::Global;
+
+#[tactic(auto, unfolding(crate::specs::Reading::bind, crate::specs::Reading::give, crate::specs::GrammarReading::numbered_at))]
+fn numbered(r: &mut Reader<'_>) -> Result<i32, Stop>
+    ensures { Answers (λ i. i) result r.new (numbered_at r.old) }
+{
+    r.take(Sign::Id)?;
+    r.take(Sign::Left)?;
+    let id = signed(r)?;
+    r.take(Sign::Right)?;
+    Ok(id)
+}
+
+/// Whether it is a form of a property.
+fn is_form(kind: MethodKind) -> bool
+    ensures { result ≡ is_form kind }
+{
+    match kind {
+        MethodKind::Method => false,
+        MethodKind::Get | MethodKind::Put => true,
+    }
+}
+
+#[tactic(auto, unfolding(crate::specs::Reading::bind, crate::specs::Reading::give, crate::specs::Reading::choose, crate::specs::Reading::require, crate::specs::GrammarReading::method_attribute_at))]
+fn method_attribute(r: &mut Reader<'_>, seen: MethodSeen) -> Result<MethodSeen, Stop>
+    ensures { Answers (λ s. s) result r.new (grown_at method_attribute_at method_grow seen r.old) }
+{
+    if r.is(Sign::Id) {
+        if seen.id.is_some() {
+            return Err(Stop::Syntax);
+        }
+        let id = numbered(r)?;
+        return Ok(MethodSeen {
+            id: Some(id),
+            ..seen
+        });
+    }
+    if r.is(Sign::Propget) {
+        if is_form(seen.kind) {
+            return Err(Stop::Syntax);
+        }
+        r.take(Sign::Propget)?;
+        return Ok(MethodSeen {
+            kind: MethodKind::Get,
+            ..seen
+        });
+    }
+    if r.is(Sign::Propput) {
+        if is_form(seen.kind) {
+            return Err(Stop::Syntax);
+        }
+        r.take(Sign::Propput)?;
+        return Ok(MethodSeen {
+            kind: MethodKind::Put,
+            ..seen
+        });
+    }
+    if seen.help {
+        return Err(Stop::Syntax);
+    }
+    help(r)?;
+    Ok(MethodSeen { help: true, ..seen })
+}
+
+#[tactic(auto, unfolding(crate::specs::Reading::bind, crate::specs::Reading::give, crate::specs::Reading::require))]
+fn next_method_attribute(r: &mut Reader<'_>, seen: MethodSeen) -> Result<MethodSeen, Stop>
+    ensures { Answers (λ s. s) result r.new (next_grown_at method_attribute_at method_grow method_full seen r.old) }
+{
+    if seen.id.is_some() && is_form(seen.kind) && seen.help {
+        return Err(Stop::Syntax);
+    }
+    r.take(Sign::Comma)?;
+    method_attribute(r, seen)
+}
+
+#[tactic(auto, unfolding(crate::specs::Reading::bind, crate::specs::Reading::give, crate::specs::Reading::demand))]
+fn last_method_attribute(r: &mut Reader<'_>, seen: MethodSeen) -> Result<MethodHead, Stop>
+    ensures { Answers (λ h. h) result r.new (last_at method_finish seen r.old) }
+{
+    let Some(id) = seen.id else {
+        return Err(Stop::Syntax);
+    };
+    r.take(Sign::Close)?;
+    Ok(MethodHead {
+        id,
+        kind: seen.kind,
+    })
+}
+
+#[tactic(auto, unfolding(crate::specs::Reading::gather, crate::specs::Reading::fail), using(crate::proofs::Loop::gather_goes_on, crate::proofs::Loop::gather_ends, crate::proofs::Loop::gather_err))]
+fn more_method_attributes(
+    r: &mut Reader<'_>,
+    seen: MethodSeen,
+    room: usize,
+) -> Result<MethodHead, Stop>
+    ensures { Answers (λ h. h) result r.new (gather (passes signs.Close) (next_grown_at method_attribute_at method_grow method_full) (last_at method_finish) room seen r.old) }
+{
+    if room == 0 {
+        return Err(Stop::Syntax);
+    }
+    if r.is(Sign::Close) {
+        return last_method_attribute(r, seen);
+    }
+    let next = next_method_attribute(r, seen)?;
+    more_method_attributes(r, next, room - 1)
+}
+
+/// The attributes of a method.
+#[tactic(auto, unfolding(crate::specs::Reading::bind, crate::specs::Reading::gather_at, crate::specs::GrammarReading::method_head_at))]
+fn method_head(r: &mut Reader<'_>) -> Result<MethodHead, Stop>
+    ensures { Answers (λ h. h) result r.new (method_head_at r.old) }
+{
+    r.take(Sign::Open)?;
+    let first = method_attribute(
+        r,
+        MethodSeen {
+            id: None,
+            kind: MethodKind::Method,
+            help: false,
+        },
+    )?;
+    let room = r.left();
+    more_method_attributes(r, first, room)
+}
+
+fn may_be_void(kind: MethodKind) -> bool
+    ensures { result ≡ may_be_void kind }
+{
+    match kind {
+        MethodKind::Method | MethodKind::Put => true,
+        MethodKind::Get => false,
+    }
+}
+
+fn may_have_type(kind: MethodKind) -> bool
+    ensures { result ≡ may_have_type kind }
+{
+    match kind {
+        MethodKind::Method | MethodKind::Get => true,
+        MethodKind::Put => false,
+    }
+}
+
+/// The type of a result, None for `void`.
+#[tactic(auto, unfolding(crate::specs::Reading::bind, crate::specs::Reading::give, crate::specs::Reading::choose, crate::specs::Reading::require, crate::specs::GrammarReading::result_type_at))]
+fn result_type(r: &mut Reader<'_>, kind: MethodKind) -> Result<Option<ValueType>, Stop>
+    ensures { Answers (λ t. t) result r.new (result_type_at kind r.old) }
+{
+    if r.is(Sign::Void) {
+        if !may_be_void(kind) {
+            return Err(Stop::Syntax);
+        }
+        r.take(Sign::Void)?;
+        return Ok(None);
+    }
+    if !may_have_type(kind) {
+        return Err(Stop::Syntax);
+    }
+    let found = value_type(r)?;
+    Ok(Some(found))
+}
+
+/// What follows the attributes of a method, after `count` members of its interface.
+#[tactic(auto, unfolding(crate::specs::Reading::bind, crate::specs::Reading::give, crate::specs::Reading::list_at, crate::specs::GrammarReading::parameters_at, crate::specs::GrammarReading::method_body_at))]
+fn method_body(
+    alloc: Global,
+    r: &mut Reader<'_>,
+    count: usize,
+    head: MethodHead,
+) -> Result<Method, Stop>
+    ensures value { Answers (λ m. m) result r.new (method_body_at count head r.old) }
+    ensures few { IfOk result (λ _. count < 512) }
+{
+    let value_type = result_type(r, head.kind)?;
+    let name = r.name(alloc, TreeLimit::Members, MAX_MEMBERS, count)?;
+    r.take(Sign::Left)?;
+    let room = r.left();
+    let parameters = parameters(alloc, r, head.kind, room)?;
+    r.take(Sign::Semicolon)?;
+    Ok(Method {
+        id: head.id,
+        kind: head.kind,
+        value_type,
+        name,
+        parameters,
+    })
+}
+
+#[tactic(auto, unfolding(crate::specs::Reading::bind, crate::specs::GrammarReading::method_at))]
+fn method(alloc: Global, r: &mut Reader<'_>, count: usize) -> Result<Method, Stop>
+    ensures value { Answers (λ m. m) result r.new (method_at count r.old) }
+    ensures few { IfOk result (λ _. count < 512) }
+{
+    let head = method_head(r)?;
+    method_body(alloc, r, count, head)
+}
+
+/// At most so many methods after `before` members, and the brace that closes them.
+#[tactic(auto, using(crate::proofs::Loop::until_err, crate::proofs::Loop::until_out))]
+fn method_list(
+    alloc: Global,
+    r: &mut Reader<'_>,
+    before: usize,
+    room: usize,
+) -> Result<Vec<Method>, Stop>
+    ensures { Answers (λ v. (v.items, done)) result r.new (until (passes signs.Finish) nowhere method_at one_more closing_at room before r.old) }
+{
+    let mut all = Vec::new(alloc);
+    let mut count = before;
+    for _ in 0..room {
+        if r.is(Sign::Finish) {
+            r.skip();
+            return Ok(all);
+        }
+        let next = method(alloc, r, count)?;
+        all.push(next)?;
+        count += 1;
+    }
+    Err(Stop::Syntax)
+}
+
+/// The section, after `before` members, and the brace that closes the interface.
+#[tactic(auto, unfolding(crate::specs::Reading::bind, crate::specs::Reading::give, crate::specs::Reading::choose, crate::specs::Reading::list_at, crate::specs::GrammarReading::methods_at))]
+pub(crate) fn methods(alloc: Global, r: &mut Reader<'_>, before: usize) -> Result<Vec<Method>, Stop>
+    ensures { Answers (λ v. v.items) result r.new (methods_at before r.old) }
+{
+    if r.is(Sign::Methods) {
+        r.take(Sign::Methods)?;
+        r.take(Sign::Colon)?;
+        let room = r.left();
+        return method_list(alloc, r, before, room);
+    }
+    r.take(Sign::Finish)?;
+    Ok(Vec::new(alloc))
+}

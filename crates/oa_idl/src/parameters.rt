@@ -1,0 +1,247 @@
+// Parameters of a member.
+ghost use Rattle.std.specs.Prelude.{◌≡◌, ◌<◌, IfOk};
+ghost use Rattle.oa_idl.specs.declared.sign.Sign.TheVariants as signs;
+ghost use Rattle.oa_idl.specs.Forms.{nowhere};
+ghost use Rattle.oa_idl.specs.Words.{passes};
+ghost use Rattle.oa_idl.specs.Reading.{Answers, done, gather, until};
+ghost use Rattle.oa_idl.specs.Grammar.{one_more, no_parameter, parameter_grow, parameter_finish, may_end};
+ghost use Rattle.oa_idl.specs.GrammarReading.{grown_at, next_grown_at, last_at, amount_at, literal_at, default_at, parameter_attribute_at, parameter_full, parameter_head_at, typed_at, parameter_at, next_parameter_at, last_parameter_at};
+
+use crate::parser::value_type;
+use crate::parts::{Literal, MethodKind, Parameter};
+use crate::reader::Reader;
+use crate::seen::ParameterSeen;
+use crate::sign::Sign;
+use crate::stop::{Stop, TreeLimit};
+use oa_model::MAX_PARAMETERS;
+use std::alloc::Global;
+
+/// A number of a default with its sign.
+#[tactic(auto, unfolding(crate::specs::Reading::bind, crate::specs::Reading::choose, crate::specs::GrammarReading::amount_at))]
+fn amount(r: &mut Reader<'_>) -> Result<i128, Stop>
+    ensures { Answers (λ n. n) result r.new (amount_at r.old) }
+{
+    if r.is(Sign::Minus) {
+        r.take(Sign::Minus)?;
+        return r.amount(true);
+    }
+    r.amount(false)
+}
+
+#[tactic(auto, unfolding(crate::specs::Reading::bind, crate::specs::Reading::give, crate::specs::Reading::choose, crate::specs::GrammarReading::literal_at))]
+fn literal(alloc: Global, r: &mut Reader<'_>) -> Result<Literal, Stop>
+    ensures { Answers (λ v. v) result r.new (literal_at r.old) }
+{
+    if r.is(Sign::True) {
+        r.take(Sign::True)?;
+        return Ok(Literal::Bool(true));
+    }
+    if r.is(Sign::False) {
+        r.take(Sign::False)?;
+        return Ok(Literal::Bool(false));
+    }
+    if r.is_string() {
+        let text = r.characters(alloc)?;
+        return Ok(Literal::Text(text));
+    }
+    let number = amount(r)?;
+    Ok(Literal::Number(number))
+}
+
+/// What `defaultvalue` says.
+#[tactic(auto, unfolding(crate::specs::Reading::bind, crate::specs::Reading::give, crate::specs::GrammarReading::default_at))]
+fn default(alloc: Global, r: &mut Reader<'_>) -> Result<Literal, Stop>
+    ensures { Answers (λ v. v) result r.new (default_at r.old) }
+{
+    r.take(Sign::DefaultValue)?;
+    r.take(Sign::Left)?;
+    let value = literal(alloc, r)?;
+    r.take(Sign::Right)?;
+    Ok(value)
+}
+
+#[tactic(auto, unfolding(crate::specs::Reading::bind, crate::specs::Reading::give, crate::specs::Reading::choose, crate::specs::Reading::require, crate::specs::GrammarReading::parameter_attribute_at))]
+fn parameter_attribute(
+    alloc: Global,
+    r: &mut Reader<'_>,
+    seen: ParameterSeen,
+) -> Result<ParameterSeen, Stop>
+    ensures { Answers (λ s. s) result r.new (grown_at parameter_attribute_at parameter_grow seen r.old) }
+{
+    if r.is(Sign::In) {
+        if seen.is_in {
+            return Err(Stop::Syntax);
+        }
+        r.take(Sign::In)?;
+        return Ok(ParameterSeen {
+            is_in: true,
+            ..seen
+        });
+    }
+    if r.is(Sign::Optional) {
+        if seen.is_optional {
+            return Err(Stop::Syntax);
+        }
+        r.take(Sign::Optional)?;
+        return Ok(ParameterSeen {
+            is_optional: true,
+            ..seen
+        });
+    }
+    if seen.default.is_some() {
+        return Err(Stop::Syntax);
+    }
+    let value = default(alloc, r)?;
+    Ok(ParameterSeen {
+        is_in: seen.is_in,
+        is_optional: seen.is_optional,
+        default: Some(value),
+    })
+}
+
+#[tactic(auto, unfolding(crate::specs::Reading::bind, crate::specs::Reading::give, crate::specs::Reading::require))]
+fn next_parameter_attribute(
+    alloc: Global,
+    r: &mut Reader<'_>,
+    seen: ParameterSeen,
+) -> Result<ParameterSeen, Stop>
+    ensures { Answers (λ s. s) result r.new (next_grown_at parameter_attribute_at parameter_grow parameter_full seen r.old) }
+{
+    if seen.is_in && seen.is_optional && seen.default.is_some() {
+        return Err(Stop::Syntax);
+    }
+    r.take(Sign::Comma)?;
+    parameter_attribute(alloc, r, seen)
+}
+
+#[tactic(auto, unfolding(crate::specs::Reading::bind, crate::specs::Reading::give, crate::specs::Reading::demand))]
+fn last_parameter_attribute(r: &mut Reader<'_>, seen: ParameterSeen) -> Result<ParameterSeen, Stop>
+    ensures { Answers (λ h. h) result r.new (last_at parameter_finish seen r.old) }
+{
+    r.take(Sign::Close)?;
+    Ok(seen)
+}
+
+#[tactic(auto, unfolding(crate::specs::Reading::gather, crate::specs::Reading::fail), using(crate::proofs::Loop::gather_goes_on, crate::proofs::Loop::gather_ends, crate::proofs::Loop::gather_err))]
+fn more_parameter_attributes(
+    alloc: Global,
+    r: &mut Reader<'_>,
+    seen: ParameterSeen,
+    room: usize,
+) -> Result<ParameterSeen, Stop>
+    ensures { Answers (λ h. h) result r.new (gather (passes signs.Close) (next_grown_at parameter_attribute_at parameter_grow parameter_full) (last_at parameter_finish) room seen r.old) }
+{
+    if room == 0 {
+        return Err(Stop::Syntax);
+    }
+    if r.is(Sign::Close) {
+        return last_parameter_attribute(r, seen);
+    }
+    let next = next_parameter_attribute(alloc, r, seen)?;
+    more_parameter_attributes(alloc, r, next, room - 1)
+}
+
+fn no_parameter() -> ParameterSeen
+    ensures { result ≡ no_parameter }
+{
+    ParameterSeen {
+        is_in: false,
+        is_optional: false,
+        default: None,
+    }
+}
+
+/// The attributes of a parameter.
+#[tactic(auto, unfolding(crate::specs::Reading::bind, crate::specs::Reading::gather_at, crate::specs::GrammarReading::parameter_head_at))]
+fn parameter_head(alloc: Global, r: &mut Reader<'_>) -> Result<ParameterSeen, Stop>
+    ensures { Answers (λ h. h) result r.new (parameter_head_at r.old) }
+{
+    r.take(Sign::Open)?;
+    let first = parameter_attribute(alloc, r, no_parameter())?;
+    let room = r.left();
+    more_parameter_attributes(alloc, r, first, room)
+}
+
+/// The type and name of a parameter after `count` others.
+#[tactic(auto, unfolding(crate::specs::Reading::bind, crate::specs::Reading::give, crate::specs::GrammarReading::typed_at))]
+fn typed(
+    alloc: Global,
+    r: &mut Reader<'_>,
+    count: usize,
+    seen: ParameterSeen,
+) -> Result<Parameter, Stop>
+    ensures value { Answers (λ p. p) result r.new (typed_at count seen r.old) }
+    ensures few { IfOk result (λ _. count < 16) }
+{
+    let value_type = value_type(r)?;
+    let name = r.name(alloc, TreeLimit::Params, MAX_PARAMETERS, count)?;
+    Ok(Parameter {
+        is_in: seen.is_in,
+        is_optional: seen.is_optional,
+        default: seen.default,
+        value_type,
+        name,
+    })
+}
+
+#[tactic(auto, unfolding(crate::specs::Reading::bind, crate::specs::Reading::choose, crate::specs::GrammarReading::parameter_at))]
+fn parameter(alloc: Global, r: &mut Reader<'_>, count: usize) -> Result<Parameter, Stop>
+    ensures value { Answers (λ p. p) result r.new (parameter_at count r.old) }
+    ensures few { IfOk result (λ _. count < 16) }
+{
+    if r.is(Sign::Open) {
+        let seen = parameter_head(alloc, r)?;
+        return typed(alloc, r, count, seen);
+    }
+    typed(alloc, r, count, no_parameter())
+}
+
+/// A parameter after `count` others, with the comma before it.
+#[tactic(auto, unfolding(crate::specs::Reading::bind, crate::specs::GrammarReading::separated_at))]
+fn next_parameter(alloc: Global, r: &mut Reader<'_>, count: usize) -> Result<Parameter, Stop>
+    ensures value { Answers (λ p. p) result r.new (next_parameter_at count r.old) }
+    ensures few { IfOk result (λ _. count < 16) }
+{
+    if count == 0 {
+        return parameter(alloc, r, count);
+    }
+    r.take(Sign::Comma)?;
+    parameter(alloc, r, count)
+}
+
+/// Whether the list of parameters may end after so many.
+fn may_end(kind: MethodKind, count: usize) -> bool
+    ensures { result ≡ may_end kind count }
+{
+    match kind {
+        MethodKind::Method | MethodKind::Get => true,
+        MethodKind::Put => count != 0,
+    }
+}
+
+/// At most so many parameters, and the bracket that closes them.
+#[tactic(auto, using(crate::proofs::Loop::until_err, crate::proofs::Loop::until_out))]
+pub(crate) fn parameters(
+    alloc: Global,
+    r: &mut Reader<'_>,
+    kind: MethodKind,
+    room: usize,
+) -> Result<Vec<Parameter>, Stop>
+    ensures { Answers (λ v. (v.items, done)) result r.new (until (passes signs.Right) nowhere next_parameter_at one_more (last_parameter_at kind) room 0 r.old) }
+{
+    let mut all = Vec::new(alloc);
+    let mut count = 0;
+    for _ in 0..room {
+        if r.is(Sign::Right) {
+            if !may_end(kind, count) {
+                return Err(Stop::Syntax);
+            }
+            r.skip();
+            return Ok(all);
+        }
+        let next = next_parameter(alloc, r, count)?;
+        all.push(next)?;
+        count += 1;
+    }
+    Err(Stop::Syntax)
+}

@@ -1,0 +1,36 @@
+-- Parts of replies, and their lengths.
+use Rattle.std.proofs.Common.{◌≡◌, ◌≤◌, ℕ, ℤ, ◌-◌, ◌*◌, ◌%◌, Bool, true, false, eqb, if◌then◌else◌, List, [], ◌∷◌, ◌++◌, length, replicate, refl, ap, ◌∙◌, append_assoc, arith}
+use Rattle.std.proofs.lemmas.List.{length-append, length-replicate}
+use Rattle.std.proofs.lemmas.List.Concat.{flat_map-cons}
+use Rattle.std.specs.List.{flat_map}
+use Rattle.oa_ndr.specs.Forms.{padding}
+use Rattle.oa_record.specs.Replies.{word, half_word, signed_word, number_field, padded}
+
+pub signed_length : (ids : List ℤ) → length (flat_map signed_word ids) ≡ 4 * length ids
+unfolding word
+signed_length [] = refl
+signed_length (z ∷ zs) = omega (arith, ap length (flat_map-cons signed_word z zs), length-append (signed_word z) (flat_map signed_word zs), signed_length zs)
+
+pub units_length : (text : List ℕ) → length (flat_map half_word text) ≡ 2 * length text
+unfolding half_word
+units_length [] = refl
+units_length (x ∷ xs) = omega (arith, ap length (flat_map-cons half_word x xs), length-append (half_word x) (flat_map half_word xs), units_length xs)
+
+pub number_length : (n : ℕ) → length (number_field n) ≡ 8
+unfolding word
+number_length n = refl
+
+-- a head and padded bytes, part by part
+pub field_is : (old head bytes : List ℕ) (n : ℕ) → length bytes ≡ n → ((old ++ head) ++ bytes) ++ replicate (padding 8 n) 0 ≡ old ++ (head ++ padded bytes)
+field_is old head bytes n is =
+    rw (← is) (append_assoc (old ++ head) bytes (replicate (padding 8 (length bytes)) 0) ∙ append_assoc old head (padded bytes))
+
+few_zeros : (b : Bool) (x : ℕ) → (if b then 0 else 8 - x) ≤ 8
+few_zeros true x = omega arith
+few_zeros false x = omega arith
+
+pub small_field : (n : ℕ) (ids : List ℤ) → length ids ≤ 17 → length (number_field n ++ padded (flat_map signed_word ids)) ≤ 4294967279
+small_field n ids few =
+    let bytes = flat_map signed_word ids in
+    let zeros = few_zeros (eqb (length bytes % 8) 0) (length bytes % 8) in
+    omega (arith, number_length n, signed_length ids, zeros, length-append (number_field n) (padded bytes), length-append bytes (replicate (padding 8 (length bytes)) 0), length-replicate {A = ℕ} (padding 8 (length bytes)) 0)

@@ -1,0 +1,124 @@
+//! The fields of replies.
+ghost use Rattle.std.specs.Prelude.{◌≡◌, ◌≤◌, ◌+◌, ◌*◌, ◌++◌, length, replicate, IfOk, OnOk};
+ghost use Rattle.std.specs.List.{flat_map};
+ghost use Rattle.oa_ndr.specs.Forms.{padding};
+ghost use Rattle.oa_record.specs.Replies.{word, half_word, signed_word, number_field, variant_field, ids_field, string_field};
+
+use oa_variant::Variant;
+use oa_wire_variant::{wire_len, write_variant};
+use std::alloc::{AllocError, Global};
+
+/// The most bytes that the fields of a reply have.
+pub const MAX_FIELDS_BYTES: usize = 4_294_967_279;
+
+/// The longest value that a reply has room for, in bytes.
+const MAX_VALUE_BYTES: usize = 4_294_967_264;
+
+// A number and a reserved number.
+#[tactic(auto, unfolding(crate::specs::Replies::word))]
+fn two_words(number: u32) -> [u8; 8]
+    ensures { result ≡ number_field number }
+{
+    let [a, b, c, d] = number.to_le_bytes();
+    [a, b, c, d, 0, 0, 0, 0]
+}
+
+// Adds the zeros that follow so many bytes.
+fn pad(out: &mut Vec<u8>, len: usize) -> Result<(), AllocError>
+    requires { len ≤ 8589934592 }
+    ensures { OnOk result (out.new.items ≡ out.old.items ++ replicate (padding 8 len) 0) }
+{
+    out.resize(out.len() + (len.next_multiple_of(8) - len), 0)
+}
+
+/// The fields of a reply that are a number: u32 number, u32 reserved.
+pub fn number_field(alloc: Global, number: u32) -> Result<Vec<u8>, AllocError>
+    ensures value { IfOk result (λ v. v.items ≡ number_field number) }
+    ensures len { IfOk result (λ v. length v.items ≡ 8) }
+{
+    Vec::from_slice(alloc, &two_words(number))
+}
+
+/// The fields of a reply that are a value: u32 count of the value's bytes, u32 reserved, these bytes, zeros up to a multiple of 8.
+///
+/// Err where memory is refused, and for an array above 4,294,967,264 bytes on the wire.
+pub fn variant_field(alloc: Global, value: &Variant) -> Result<Vec<u8>, AllocError>
+    ensures value { IfOk result (λ v. v.items ≡ variant_field value.now) }
+    ensures len { IfOk result (λ v. length v.items ≤ 4294967279) }
+{
+    let len = wire_len(value);
+    if len > MAX_VALUE_BYTES {
+        return Err(AllocError);
+    }
+    let mut field = Vec::with_capacity(alloc, 16 + len)?;
+    field.extend_from_slice(&two_words(len as u32))?;
+    write_variant(value, &mut field)?;
+    pad(&mut field, len)?;
+    Ok(field)
+}
+
+// The bytes of a DISPID.
+#[tactic(auto, unfolding(crate::specs::Replies::word))]
+fn signed_bytes(id: i32) -> [u8; 4]
+    ensures { result ≡ signed_word id }
+{
+    id.to_le_bytes()
+}
+
+// Adds the bytes of DISPIDs.
+fn put_ids(out: &mut Vec<u8>, ids: &[i32]) -> Result<(), AllocError>
+    ensures { OnOk result (out.new.items ≡ out.old.items ++ flat_map signed_word ids.now) }
+{
+    'ids: for id in ids {
+        out.extend_from_slice(&signed_bytes(*id))?;
+    }
+    Ok(())
+}
+
+/// The fields of a reply that are DISPIDs, at most 17: u32 count, u32 reserved, i32 each, zeros up to a multiple of 8.
+pub fn ids_field(alloc: Global, ids: &[i32]) -> Result<Vec<u8>, AllocError>
+    requires { length ids.now ≤ 17 }
+    ensures value { IfOk result (λ v. v.items ≡ ids_field ids.now) }
+    ensures len { IfOk result (λ v. length v.items ≤ 4294967279) }
+{
+    let len = 4 * ids.len();
+    let mut field = Vec::with_capacity(alloc, 12 + len)?;
+    field.extend_from_slice(&two_words(ids.len() as u32))?;
+    put_ids(&mut field, ids)?;
+    pad(&mut field, len)?;
+    Ok(field)
+}
+
+// The bytes of a character's unit.
+#[tactic(auto, unfolding(crate::specs::Replies::half_word))]
+fn unit_bytes(character: u8) -> [u8; 2]
+    ensures { result ≡ half_word character }
+{
+    (character as u16).to_le_bytes()
+}
+
+// Adds the units of a text.
+fn put_units(out: &mut Vec<u8>, text: &[u8]) -> Result<(), AllocError>
+    ensures { OnOk result (out.new.items ≡ out.old.items ++ flat_map half_word text.now) }
+{
+    'units: for character in text {
+        out.extend_from_slice(&unit_bytes(*character))?;
+    }
+    Ok(())
+}
+
+/// A text of ASCII characters as a string: u32 count, u32 reserved, a UTF-16 unit for each, zeros up to a multiple of 8.
+///
+/// Err where memory is refused, and for a text of more than 4,294,967,295 characters.
+pub fn string_field(alloc: Global, text: &[u8]) -> Result<Vec<u8>, AllocError>
+    ensures { IfOk result (λ v. v.items ≡ string_field text.now) }
+{
+    if text.len() > u32::MAX as usize {
+        return Err(AllocError);
+    }
+    let mut field = Vec::with_capacity(alloc, 16 + 2 * text.len())?;
+    field.extend_from_slice(&two_words(text.len() as u32))?;
+    put_units(&mut field, text)?;
+    pad(&mut field, 2 * text.len())?;
+    Ok(field)
+}

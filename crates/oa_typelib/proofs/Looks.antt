@@ -1,0 +1,131 @@
+-- What the index of an interface finds.
+use Rattle.std.proofs.Common.{◌≡◌, ◌≤◌, ◌-◌, ◌++◌, ◌∷◌, [], zero, suc, length, arith, append_assoc, if◌then◌else◌, Option, Some, None, ℕ, ℤ, Bool, true, false, List, Bor, Vec, Global, map, fold, position, slice_get, refl, sym, ap, ◌∙◌}
+use Rattle.std.proofs.lemmas.Cmp.{int_eq_equiv, nat_list_eq_equiv}
+use Rattle.std.proofs.lemmas.Option.{slice_get-map}
+use Rattle.std.specs.Option.{option_map, option_and_then}
+use Rattle.std.proofs.lemmas.List.{append-nil}
+use Rattle.std.specs.List.{list_any, filter, filter_map, flat_map}
+use Rattle.std.specs.Ordering.{int_eq}
+use Rattle.oa_model.specs.Folding.{folded_name}
+use Rattle.indexmap.specs.IndexSet.{insert_key}
+use Rattle.oa_idl.specs.Values.{InterfaceValue, CoclassValue}
+use Rattle.oa_idl.specs.Trees.{TreeValue}
+use Rattle.oa_typelib.specs.DeclarationValues.{DeclarationValue}
+use Rattle.oa_typelib.specs.Declarations.{declarations}
+use Rattle.oa_typelib.specs.DescriptionValues.ContentDescription.{OfCoclass}
+use Rattle.oa_typelib.specs.Descriptions.{first_names, put_last, members_described, entry_at, entry_description, interfaces_of, classes_of, interface_description, class_description, description_at}
+use Rattle.oa_typelib.specs.Groups.{distinct, groups_of, places_of, places_in}
+use Rattle.oa_typelib.specs.IndexValues.{MembersValue, IndexValue}
+use Rattle.oa_typelib.specs.Indexes.{grouped, first_in, entry_in, class_in}
+use Rattle.oa_typelib.specs.Libraries.{same, same_name}
+use Rattle.oa_typelib.proofs.Groups.{at_places, first_place, group_of}
+use Rattle.oa_typelib.proofs.Lists.{insert_key-map, position-map}
+use Rattle.oa_typelib.proofs.Named.{map_twice}
+
+module _ (m : MembersValue) (ds : List DeclarationValue) (is : m ≡ grouped ds) where
+  -- by a DISPID
+  pub with_id : (id : ℤ) → filter_map (slice_get ds) (places_in (position (int_eq id) m.by_id.keys) m.by_id.places) ≡ filter (λ (d : DeclarationValue). int_eq id d.id) ds
+  with_id id =
+      ap (λ (n : MembersValue). filter_map (slice_get ds) (places_in (position (int_eq id) n.by_id.keys) n.by_id.places)) is
+      ∙ ap (filter_map (slice_get ds)) (group_of int_eq int_eq_equiv id (map (λ (d : DeclarationValue). d.id) ds))
+      ∙ at_places int_eq (λ (d : DeclarationValue). d.id) id ds
+
+  -- by a folded name
+  pub with_name : (name : List ℕ) → filter_map (slice_get ds) (places_in (position (same name) m.by_name.keys) m.by_name.places) ≡ filter (λ (d : DeclarationValue). same name (folded_name d.name)) ds
+  with_name name =
+      ap (λ (n : MembersValue). filter_map (slice_get ds) (places_in (position (same name) n.by_name.keys) n.by_name.places)) is
+      ∙ ap (filter_map (slice_get ds)) (group_of same nat_list_eq_equiv name (map (λ (d : DeclarationValue). folded_name d.name) ds))
+      ∙ at_places same (λ (d : DeclarationValue). folded_name d.name) name ds
+
+-- ---- the members by names that are gathered
+abbrev pub grouped_by : List (List ℕ) → List ℤ → MembersValue
+grouped_by names ids = record { by_name = groups_of same names; by_id = groups_of int_eq ids }
+
+-- names that were gathered, folded
+pub names_folded : {Y : Type 0} (name : Y → List ℕ) (ns : List (Bor (List ℕ))) (ys : List Y) → map (λ (n : Bor (List ℕ)). n.now) ns ≡ map name ys → map (λ (n : Bor (List ℕ)). folded_name n.now) ns ≡ map (λ y. folded_name (name y)) ys
+names_folded name ns ys h = sym (map_twice (λ (n : Bor (List ℕ)). n.now) folded_name ns) ∙ ap (map folded_name) h ∙ map_twice name folded_name ys
+
+-- ---- the members in the order in which their names first stand
+flat_map-map : {X Y Z : Type 0} (f : X → Y) (g : Y → List Z) (xs : List X) → flat_map g (map f xs) ≡ flat_map (λ x. g (f x)) xs
+flat_map-map f g [] = refl
+flat_map-map f g (x ∷ xs) = ap (λ zs. g (f x) ++ zs) (flat_map-map f g xs)
+
+flat_map-same : {X Z : Type 0} (f g : X → List Z) → ((x : X) → f x ≡ g x) → (xs : List X) → flat_map f xs ≡ flat_map g xs
+flat_map-same f g e [] = refl
+flat_map-same f g e (x ∷ xs) = rw (e x, flat_map-same f g e xs) refl
+
+distinct-map_from : {A B : Type 0} (f : A → B) (e : B → B → Bool) (seen ks : List A) → map f (fold (insert_key (λ a b. e (f a) (f b))) seen ks) ≡ fold (insert_key e) (map f seen) (map f ks)
+distinct-map_from f e seen [] = refl
+distinct-map_from f e seen (k ∷ ks) = distinct-map_from f e (insert_key (λ a b. e (f a) (f b)) seen k) ks ∙ ap (λ ms. fold (insert_key e) ms (map f ks)) (insert_key-map f e k seen)
+
+first_step : (b : Bool) (x : List ℕ) (before rest : List (List ℕ)) (f : List (List ℕ) → List (List ℕ)) → ((seen : List (List ℕ)) → fold (insert_key same_name) seen rest ≡ seen ++ f seen) → fold (insert_key same_name) (if b then before else before ++ x ∷ []) rest ≡ before ++ (if b then f before else x ∷ f (before ++ x ∷ []))
+first_step true x before rest f h = h before
+first_step false x before rest f h = h (before ++ x ∷ []) ∙ append_assoc before (x ∷ []) (f (before ++ x ∷ []))
+
+distinct_from : (before names : List (List ℕ)) → fold (insert_key same_name) before names ≡ before ++ first_names before names
+unfolding first_names
+distinct_from before [] = sym (append-nil before)
+distinct_from before (name ∷ names) = first_step (list_any (same_name name) before) name before names (λ seen. first_names seen names) (λ seen. distinct_from seen names)
+
+pub in_order : (i : InterfaceValue) (groups : List (Vec ℕ Global)) → map (λ (ps : Vec ℕ Global). ps.items) groups ≡ (grouped (declarations i)).by_name.places → flat_map (λ (ps : Vec ℕ Global). put_last (filter_map (slice_get (declarations i)) ps.items)) groups ≡ members_described i
+in_order i groups is =
+    let ds = declarations i in
+    let names = map (λ (d : DeclarationValue). d.name) ds in
+    let key : DeclarationValue → List ℕ = λ d. folded_name d.name in
+    let of_places : List ℕ → List DeclarationValue = λ ps. put_last (filter_map (slice_get ds) ps) in
+    let of_key : List ℕ → List DeclarationValue = λ k. put_last (filter (λ (d : DeclarationValue). same k (folded_name d.name)) ds) in
+    sym (flat_map-map (λ (ps : Vec ℕ Global). ps.items) of_places groups) ∙ ap (flat_map of_places) is
+    ∙ flat_map-map (λ k. places_of same k (map key ds)) of_places (distinct same (map key ds))
+    ∙ flat_map-same (λ k. of_places (places_of same k (map key ds))) of_key (λ k. ap put_last (at_places same key k ds)) (distinct same (map key ds))
+    ∙ ap (λ ks. flat_map of_key (distinct same ks)) (sym (map_twice (λ (d : DeclarationValue). d.name) folded_name ds))
+    ∙ ap (flat_map of_key) (sym (distinct-map_from folded_name same [] names))
+    ∙ flat_map-map folded_name of_key (distinct same_name names)
+    ∙ ap (flat_map (λ name. of_key (folded_name name))) (distinct_from [] names)
+
+-- ---- interfaces by names that are gathered
+abbrev pub indexed_by : List MembersValue → List (List ℕ) → IndexValue
+indexed_by members names = record { members = members; interfaces = groups_of same names }
+
+-- the place of the interface with a name
+by_name : (is : List InterfaceValue) (name : List ℕ) → first_in (groups_of same (map (λ (i : InterfaceValue). folded_name i.name) is)) (folded_name name) ≡ position (λ (i : InterfaceValue). same_name name i.name) is
+by_name is name =
+    let names = map (λ (i : InterfaceValue). folded_name i.name) is in
+    ap (λ ps. slice_get ps 0) (group_of same nat_list_eq_equiv (folded_name name) names) ∙ first_place same (folded_name name) names ∙ position-map (λ (i : InterfaceValue). folded_name i.name) (same (folded_name name)) is
+
+filter_map-same : {X Y : Type 0} (f g : X → Option Y) → ((x : X) → f x ≡ g x) → (xs : List X) → filter_map f xs ≡ filter_map g xs
+filter_map-same f g e [] = refl
+filter_map-same f g e (x ∷ xs) = rw (e x, filter_map-same f g e xs) refl
+
+pub class_by_name : (is : List InterfaceValue) (c : CoclassValue) → class_in (groups_of same (map (λ (i : InterfaceValue). folded_name i.name) is)) c ≡ class_description is c
+class_by_name is c =
+    ap (λ es. record { guid = c.guid; name = c.name; content = OfCoclass es })
+    (filter_map-same (entry_in (groups_of same (map (λ (i : InterfaceValue). folded_name i.name) is))) (entry_description is) (λ e. ap (option_and_then (entry_at e.is_default)) (by_name is e.interface)) c.entries)
+
+-- ---- descriptions by an index
+past : {X : Type 0} (xs : List X) (n : ℕ) → slice_get xs n ≡ None → length xs ≤ n
+past [] n h = omega arith
+past (x ∷ xs) zero h = absurd (cc)
+past (x ∷ xs) (suc n) h = omega (arith, past xs n h)
+
+at_first : {X Y : Type 0} (f : X → Y) (xs : List X) (ys : List Y) (n : ℕ) (x : X) → slice_get xs n ≡ Some x → slice_get (map f xs ++ ys) n ≡ Some (f x)
+at_first f [] ys n x h = absurd (cc)
+at_first f (y ∷ xs) ys zero x h = let e : y ≡ x = cc in rw e refl
+at_first f (y ∷ xs) ys (suc n) x h = at_first f xs ys n x h
+
+at_second : {X Y : Type 0} (f : X → Y) (xs : List X) (ys : List Y) (n : ℕ) → slice_get xs n ≡ None → slice_get (map f xs ++ ys) n ≡ slice_get ys (n - length xs)
+at_second f [] ys n h = let e : n - 0 ≡ n = omega arith in rw e refl
+at_second f (y ∷ xs) ys zero h = absurd (cc)
+at_second f (y ∷ xs) ys (suc n) h = let e : suc n - suc (length xs) ≡ n - length xs = omega arith in at_second f xs ys n h ∙ rw e refl
+
+module _ (t : TreeValue) (n : ℕ) where
+  pub interface_there : (i : InterfaceValue) → slice_get (interfaces_of t.items) n ≡ Some i → description_at t n ≡ Some (interface_description i)
+  interface_there i h = at_first interface_description (interfaces_of t.items) (map (class_description (interfaces_of t.items)) (classes_of t.items)) n i h
+
+  pub past_interfaces : slice_get (interfaces_of t.items) n ≡ None → length (interfaces_of t.items) ≤ n
+  past_interfaces h = past (interfaces_of t.items) n h
+
+  pub class_there : (m : ℕ) (o : Option CoclassValue) → slice_get (interfaces_of t.items) n ≡ None → m ≡ n - length (interfaces_of t.items) → o ≡ slice_get (classes_of t.items) m → description_at t n ≡ option_map (class_description (interfaces_of t.items)) o
+  class_there m o none at is =
+      at_second interface_description (interfaces_of t.items) (map (class_description (interfaces_of t.items)) (classes_of t.items)) n none
+      ∙ ap (slice_get (map (class_description (interfaces_of t.items)) (classes_of t.items))) (sym at)
+      ∙ slice_get-map (class_description (interfaces_of t.items)) (classes_of t.items) m ∙ ap (option_map (class_description (interfaces_of t.items))) (sym is)

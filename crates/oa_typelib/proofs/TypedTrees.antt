@@ -1,0 +1,134 @@
+-- In the tree of a text each declaration has types that may be declared, also when its defaults are marked.
+use Rattle.std.proofs.Common.{◌≡◌, ◌==◌, refl, sym, subst, ⊎_elim, ℕ, Bool, true, false, if◌then◌else◌, List, [], ◌∷◌, ◌++◌, map, Option, Some, None, is_some, IsSome, IfSome}
+use Rattle.std.proofs.lemmas.Option.{none-some}
+use Rattle.std.specs.List.{AllByRecursion}
+use Rattle.oa_model.specs.Types.{sf_type_of}
+use Rattle.oa_model.specs.declared.var_type.VarType.{VarType}
+use Rattle.oa_model.specs.declared.var_type.ValueType.{ValueType}
+use Rattle.oa_model.specs.declared.var_type.ValueType.TheVariants.{One, Array}
+use Rattle.oa_idl.specs.declared.lexer.Kind.TheVariants as kinds
+use Rattle.oa_idl.specs.Forms.{Word, Form, listed}
+use Rattle.oa_idl.specs.Words.{same_kind, type_of, type_named, if_cell}
+use Rattle.oa_idl.specs.Grammar.{value_type, property, result_type, parameter, separated, method, methods, members, item, Content, element, elements, items_in, library}
+use Rattle.oa_idl.specs.Grammar.Content.{Import, OfItem}
+use Rattle.oa_idl.specs.Trees.{TreeValue}
+use Rattle.oa_idl.specs.MethodValues.{MethodValue}
+use Rattle.oa_idl.specs.declared.parts.MethodKind.{MethodKind}
+use Rattle.oa_idl.specs.declared.parts.Parameter.{Parameter}
+use Rattle.oa_idl.specs.declared.parts.Property.{Property}
+use Rattle.oa_idl.specs.declared.items.Item.{Item}
+use Rattle.oa_idl.specs.declared.items.Item.TheVariants.{Interface, Coclass}
+use Rattle.oa_typelib.specs.Declarations.{of_property, of_method}
+use Rattle.oa_typelib.specs.Libraries.{marked, marked_item}
+use Rattle.oa_typelib.specs.Typed.{IsDeclarable, IsTypedDeclaration, IsTypedItem, IsTyped, IsOfText}
+
+-- a word that names the type of cells
+guarded : (b : Bool) (o : Option VarType) (t : VarType) → (if b then o else None) ≡ Some t → o ≡ Some t
+guarded true o t e = e
+guarded false o t e = absurd (none-some t e)
+
+same_inside : (s t : VarType) → Some s ≡ Some t → s ≡ t
+same_inside s t e = cc
+
+with_cells : (s t : VarType) (o : Option ℕ) → o ≡ sf_type_of s → (if is_some o then Some s else None) ≡ Some t → IsSome (sf_type_of t)
+with_cells s t None is e = absurd (none-some t e)
+with_cells s t (Some n) is e = subst (λ v. IsSome (sf_type_of v)) (same_inside s t e) (subst IsSome is refl)
+
+cell_typed : (o : Option VarType) (t : VarType) → if_cell true o ≡ Some t → IsSome (sf_type_of t)
+cell_typed None t e = absurd (none-some t e)
+cell_typed (Some s) t e = with_cells s t (sf_type_of s) refl e
+
+word_typed : (unsigned : Bool) (t : VarType) (w : Word) → type_of true unsigned w ≡ Some t → IsSome (sf_type_of t)
+unfolding type_of
+word_typed unsigned t w e = cell_typed (type_named unsigned w.text) t (guarded (same_kind w.kind kinds.Name) (if_cell true (type_named unsigned w.text)) t e)
+
+type_typed : (v : ValueType) (ws : List Word) → value_type v ws → IsDeclarable v
+unfolding value_type
+type_typed (One t) ws f = tt
+type_typed (Array t) ws f = ⊎_elim (λ u. word_typed true t u.second.word u.second.is) (λ o. word_typed false t o.word o.is) f.second.second.first
+
+-- what holds of each form of a list holds of each member of it
+listed_all : {S A B : Type 0} (F : S → A → Form) (grow : S → A → S) (apart : A → Word → Bool) (E : S → B → Form) (P : A → Type 0)
+    → ((s : S) (x : A) (ws : List Word) → F s x ws → P x) → (s : S) (xs : List A) (b : B) (ws : List Word) → listed F grow apart E s xs b ws → AllByRecursion P xs
+listed_all F grow apart E P each s [] b ws l = tt
+listed_all F grow apart E P each s (x ∷ xs) b ws l = (each s x l.front l.first, listed_all F grow apart E P each (grow s x) xs b l.second.back l.second.second)
+
+-- and what holds of each form of what ends it holds of that
+listed_end : {S A B : Type 0} (F : S → A → Form) (grow : S → A → S) (apart : A → Word → Bool) (E : S → B → Form) (P : B → Type 0)
+    → ((s : S) (b : B) (ws : List Word) → E s b ws → P b) → (s : S) (xs : List A) (b : B) (ws : List Word) → listed F grow apart E s xs b ws → P b
+listed_end F grow apart E P each s [] b ws l = each s b ws l
+listed_end F grow apart E P each s (x ∷ xs) b ws l = listed_end F grow apart E P each (grow s x) xs b l.second.back l.second.second
+
+property_typed : (p : Property) (ws : List Word) → property p ws → IsTypedDeclaration (of_property p)
+property_typed p ws f = (type_typed p.value_type f.second.front f.second.first, tt)
+
+result_typed : (k : MethodKind) (t : Option ValueType) (ws : List Word) → result_type k t ws → IfSome t IsDeclarable
+unfolding result_type
+result_typed k None ws f = tt
+result_typed k (Some t) ws f = type_typed t ws f.1
+
+parameter_typed : (p : Parameter) (ws : List Word) → parameter p ws → IsDeclarable p.value_type
+unfolding parameter
+parameter_typed p ws f = ⊎_elim (λ l. type_typed p.value_type l.second.front l.second.first) (λ r. type_typed p.value_type r.1.front r.1.first) f
+
+separated_typed : (b : Bool) (p : Parameter) (ws : List Word) → separated b p ws → IsDeclarable p.value_type
+separated_typed true p ws f = parameter_typed p ws f
+separated_typed false p ws f = parameter_typed p f.back f.second
+
+method_typed : (m : MethodValue) (ws : List Word) → method m ws → IsTypedDeclaration (of_method m)
+unfolding method
+method_typed m ws f = let b = f.second in let l = b.second.second.second in (
+  result_typed m.kind m.value_type b.front b.first,
+  listed_all _ _ _ _ (λ (p : Parameter). IsDeclarable p.value_type) (λ n. separated_typed (n == 0)) 0 m.parameters tt l.front l.first,
+)
+
+methods_typed : (n : ℕ) (ms : List MethodValue) (ws : List Word) → methods n ms ws → AllByRecursion (λ m. IsTypedDeclaration (of_method m)) ms
+methods_typed n ms ws f = ⊎_elim
+    (λ l. listed_all _ _ _ _ (λ (m : MethodValue). IsTypedDeclaration (of_method m)) (λ k. method_typed) n ms tt l.second.back l.second.second)
+    (λ none. subst (AllByRecursion (λ (m : MethodValue). IsTypedDeclaration (of_method m))) (sym none.0) tt) f
+
+-- what holds of two lists holds of one after the other
+both_typed : (ps : List Property) (ms : List MethodValue) → AllByRecursion (λ p. IsTypedDeclaration (of_property p)) ps → AllByRecursion (λ m. IsTypedDeclaration (of_method m)) ms → AllByRecursion IsTypedDeclaration (map of_property ps ++ map of_method ms)
+both_typed (p ∷ ps) ms all rest = (all.0, both_typed ps ms all.1 rest)
+both_typed [] [] all rest = tt
+both_typed [] (m ∷ ms) all rest = (rest.0, both_typed [] ms tt rest.1)
+
+members_typed : (ps : List Property) (ms : List MethodValue) (ws : List Word) → members ps ms ws → AllByRecursion IsTypedDeclaration (map of_property ps ++ map of_method ms)
+members_typed ps ms ws f = ⊎_elim
+    (λ l. both_typed ps ms
+    (listed_all _ _ _ _ (λ (p : Property). IsTypedDeclaration (of_property p)) (λ n. property_typed) 0 ps ms l.second.back l.second.second)
+    (listed_end _ _ _ _ (λ xs. AllByRecursion (λ (m : MethodValue). IsTypedDeclaration (of_method m)) xs) methods_typed 0 ps ms l.second.back l.second.second))
+    (λ r. both_typed ps ms (subst (AllByRecursion (λ (p : Property). IsTypedDeclaration (of_property p))) (sym r.0) tt) (methods_typed 0 ms ws r.1)) f
+
+item_typed : (x : Item) (ws : List Word) → item x ws → IsTypedItem x
+item_typed (Interface d) ws f = let body = f.form.second.1 in members_typed d.properties d.methods body.second.second.second.front body.second.second.second.first
+item_typed (Coclass c) ws f = tt
+
+abbrev IsTypedContent : Content → Type 0
+IsTypedContent Import = Unit {0}
+IsTypedContent (OfItem x) = IsTypedItem x
+
+content_typed : (e : Content) (ws : List Word) → element e ws → IsTypedContent e
+unfolding element
+content_typed Import ws f = tt
+content_typed (OfItem x) ws f = item_typed x ws f
+
+items_typed : (es : List Content) → AllByRecursion IsTypedContent es → AllByRecursion IsTypedItem (items_in es)
+items_typed [] all = tt
+items_typed (Import ∷ es) all = items_typed es all.1
+items_typed (OfItem x ∷ es) all = (all.0, items_typed es all.1)
+
+elements_typed : (xs : List Item) (ws : List Word) → elements xs ws → AllByRecursion IsTypedItem xs
+unfolding elements
+elements_typed xs ws f = subst (AllByRecursion IsTypedItem) (sym f.form.second.fact) (items_typed f.value (listed_all _ _ _ _ IsTypedContent (λ s. content_typed) _ f.value tt f.form.front f.form.first))
+
+tree_typed : (t : TreeValue) (ws : List Word) → library t ws → IsTyped t
+tree_typed t ws f = elements_typed t.items f.second.second.second.second.front f.second.second.second.second.first
+
+mark_typed : (items : List Item) → AllByRecursion IsTypedItem items → AllByRecursion IsTypedItem (map marked_item items)
+mark_typed [] all = tt
+mark_typed (Interface i ∷ items) all = (all.0, mark_typed items all.1)
+mark_typed (Coclass c ∷ items) all = (tt, mark_typed items all.1)
+
+pub marked_typed : (t : TreeValue) → IsOfText t → IsTyped (marked t)
+marked_typed t of_text = mark_typed t.items (tree_typed t _ of_text.1.form)

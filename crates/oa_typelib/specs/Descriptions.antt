@@ -1,0 +1,68 @@
+-- The descriptions of a library's interfaces and coclasses (this project's choice): the interfaces in the text's order, then the coclasses.
+use Rattle.std.specs.Prelude.{ℕ, Bool, nat_lt, if◌then◌else◌, not, List, [], ◌∷◌, ◌++◌, map, slice_get, position, Option, Some, None}
+use Rattle.std.specs.List.{filter, filter_map, flat_map, list_any}
+use Rattle.std.specs.Option.{option_and_then}
+use Rattle.oa_idl.specs.Trees.{TreeValue}
+use Rattle.oa_idl.specs.Values.{InterfaceValue, CoclassValue}
+use Rattle.oa_idl.specs.declared.parts.Entry.{Entry}
+use Rattle.oa_idl.specs.declared.parts.Parameter.{Parameter}
+use Rattle.oa_idl.specs.declared.items.Item.{Item}
+use Rattle.oa_typelib.specs.Agreement.{is_optional}
+use Rattle.oa_typelib.specs.DeclarationValues.{DeclarationValue}
+use Rattle.oa_typelib.specs.Declarations.{declarations, is_put}
+use Rattle.oa_typelib.specs.Defaults.{default_of}
+use Rattle.oa_typelib.specs.DescriptionValues.{ParameterDescription, MemberDescription, EntryDescription, DescriptionValue}
+use Rattle.oa_typelib.specs.DescriptionValues.ContentDescription.{OfInterface, OfCoclass}
+use Rattle.oa_typelib.specs.Libraries.{as_interface, as_class, same_name}
+use Rattle.oa_typelib.specs.Members.{forms_named}
+
+-- a parameter, with the value of its default
+abbrev pub parameter_description : Parameter → ParameterDescription
+parameter_description p = record { value_type = p.value_type; is_in = p.is_in; is_optional = is_optional p; name = p.name; default = option_and_then (default_of p.value_type) p.default }
+
+-- a declaration as it is written, with the new value of a put among its parameters
+abbrev pub member_description : DeclarationValue → MemberDescription
+member_description d = record { id = d.id; kind = d.kind; value_type = d.value_type; name = d.name; parameters = map parameter_description d.parameters }
+
+-- the names of a list that are equal to none before them, A to Z folded
+unfoldable pub first_names : List (List ℕ) → List (List ℕ) → List (List ℕ)
+first_names before [] = []
+first_names before (name ∷ names) = if list_any (same_name name) before then first_names before names else name ∷ first_names (before ++ name ∷ []) names
+
+-- the names of an interface's members, each as it first stands
+abbrev pub member_names : InterfaceValue → List (List ℕ)
+member_names i = first_names [] (map (λ (d : DeclarationValue). d.name) (declarations i))
+
+-- a get before its put
+abbrev pub put_last : List DeclarationValue → List DeclarationValue
+put_last forms = filter (λ (d : DeclarationValue). not (is_put d.kind)) forms ++ filter (λ (d : DeclarationValue). is_put d.kind) forms
+
+-- the members of an interface in the order in which their names first stand
+abbrev pub members_described : InterfaceValue → List DeclarationValue
+members_described i = flat_map (λ name. put_last (forms_named name i)) (member_names i)
+
+abbrev pub interfaces_of : List Item → List InterfaceValue
+interfaces_of items = filter_map as_interface items
+
+abbrev pub classes_of : List Item → List CoclassValue
+classes_of items = filter_map as_class items
+
+abbrev pub interface_description : InterfaceValue → DescriptionValue
+interface_description i = record { guid = i.guid; name = i.name; content = OfInterface (map member_description (members_described i)) }
+
+-- an entry, with the index of the interface that it names, where there is one of 32 bits: in a library there always is
+abbrev pub entry_at : Bool → ℕ → Option EntryDescription
+entry_at is_default n = if nat_lt n 4294967296 then Some (record { is_default = is_default; interface = n }) else None
+
+abbrev pub entry_description : List InterfaceValue → Entry → Option EntryDescription
+entry_description interfaces e = option_and_then (entry_at e.is_default) (position (λ (i : InterfaceValue). same_name e.interface i.name) interfaces)
+
+abbrev pub class_description : List InterfaceValue → CoclassValue → DescriptionValue
+class_description interfaces c = record { guid = c.guid; name = c.name; content = OfCoclass (filter_map (entry_description interfaces) c.entries) }
+
+abbrev pub descriptions : TreeValue → List DescriptionValue
+descriptions tree = map interface_description (interfaces_of tree.items) ++ map (class_description (interfaces_of tree.items)) (classes_of tree.items)
+
+-- the description at an index
+abbrev pub description_at : TreeValue → ℕ → Option DescriptionValue
+description_at tree index = slice_get (descriptions tree) index

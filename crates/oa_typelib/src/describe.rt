@@ -1,0 +1,272 @@
+// Descriptions of interfaces and coclasses.
+ghost use Rattle.std.specs.Prelude.{◌≡◌, ◌++◌, if◌then◌else◌, Some, None, is_some, IfOk, OnOk, map, length, option_copied, slice_get};
+ghost use Rattle.std.specs.List.{filter, filter_map};
+ghost use Rattle.std.specs.Option.{option_and_then};
+ghost use Rattle.oa_typelib.specs.Declarations.{declarations};
+ghost use Rattle.oa_typelib.specs.Defaults.{default_of};
+ghost use Rattle.oa_typelib.specs.Indexes.{class_in, entry_in, is_put_or_not};
+ghost use Rattle.oa_typelib.specs.Descriptions.{classes_of, entry_at, interface_description, interfaces_of, member_description, members_described, parameter_description, put_last};
+ghost use Rattle.oa_typelib.specs.Libraries.{as_interface};
+
+use crate::agreement::is_optional;
+use crate::declaration::{Declaration, DeclarationKind};
+use crate::default_value::default_value;
+use crate::described::{Content, DescribedEntry, DescribedMember, DescribedParameter};
+use crate::forms::declaration_at;
+use crate::members::{Index, Indexed};
+use crate::names::folded_units;
+use oa_idl::{Coclass, Entry, Interface, Item, Literal, Name, Parameter};
+use oa_model::ValueType;
+use oa_variant::Scalar;
+use std::alloc::{AllocError, Global};
+use std::marker::Model;
+use uuid::Uuid;
+
+/// What type information says of an interface or a coclass (MS-OAUT section 3.7.4: ITypeInfo).
+#[derive(Drop)]
+pub struct Description<'a> {
+    /// Its GUID.
+    pub guid: Uuid,
+    /// Its name as it is written.
+    pub name: &'a Name,
+    /// Its members or its entries.
+    pub content: Content<'a>,
+}
+
+impl<'a> Model for Description<'a> {
+    ghost use Rattle.oa_typelib.specs.DescriptionValues.{DescriptionValue};
+    ghost use Rattle.oa_typelib.specs.Contents.{content_of};
+
+    ghost Value = { DescriptionValue };
+
+    ghost view = { λ d. record { guid = d.guid; name = d.name.now; content = content_of d.content } };
+}
+
+fn value_of_default(
+    alloc: Global,
+    value_type: ValueType,
+    default: &Option<Literal>,
+) -> Result<Option<Scalar>, AllocError>
+    ensures { IfOk result (λ value. value ≡ option_and_then (default_of value_type) default.now) }
+{
+    match default {
+        Some(literal) => default_value(alloc, value_type, literal),
+        None => Ok(None),
+    }
+}
+
+fn parameter(alloc: Global, parameter: &Parameter) -> Result<DescribedParameter<'_>, AllocError>
+    ensures { IfOk result (λ p. p ≡ parameter_description parameter.now) }
+{
+    Ok(DescribedParameter {
+        value_type: parameter.value_type,
+        is_in: parameter.is_in,
+        is_optional: is_optional(parameter),
+        name: &parameter.name,
+        default: value_of_default(alloc, parameter.value_type, &parameter.default)?,
+    })
+}
+
+fn parameters(
+    alloc: Global,
+    parameters: &[Parameter],
+) -> Result<Vec<DescribedParameter<'_>>, AllocError>
+    ensures { IfOk result (λ v. v.items ≡ map parameter_description parameters.now) }
+{
+    let mut all = Vec::new(alloc);
+    for one in parameters {
+        all.push(parameter(alloc, one)?)?;
+    }
+    Ok(all)
+}
+
+fn member<'a>(
+    alloc: Global,
+    declaration: &Declaration<'a>,
+) -> Result<DescribedMember<'a>, AllocError>
+    ensures { IfOk result (λ m. m ≡ member_description declaration.now) }
+{
+    Ok(DescribedMember {
+        id: declaration.id,
+        kind: declaration.kind,
+        value_type: declaration.value_type,
+        name: declaration.name,
+        parameters: parameters(alloc, declaration.parameters)?,
+    })
+}
+
+fn is_put_or_not(kind: DeclarationKind, puts: bool) -> bool
+    ensures { result ≡ is_put_or_not puts kind }
+{
+    if puts { kind.is_put() } else { !kind.is_put() }
+}
+
+/// The declaration at a place where it is a put, or where it is not.
+fn form_at(interface: &Interface, place: usize, puts: bool) -> Option<Declaration<'_>>
+    ensures { result ≡ option_and_then (λ d. if is_put_or_not puts d.kind then Some d else None) (slice_get (declarations interface.now) place) }
+{
+    let form = declaration_at(interface, place)?;
+    if is_put_or_not(form.kind, puts) {
+        Some(form)
+    } else {
+        None
+    }
+}
+
+/// Adds the declarations at some places that are puts, or that are not.
+fn add_forms<'a>(
+    alloc: Global,
+    members: &mut Vec<DescribedMember<'a>>,
+    interface: &'a Interface,
+    places: &[usize],
+    puts: bool,
+) -> Result<(), AllocError>
+    ensures { OnOk result (members.new.items ≡ members.old.items ++ map member_description (filter (λ d. is_put_or_not puts d.kind) (filter_map (slice_get (declarations interface.now)) places.now))) }
+{
+    for place in places {
+        if let Some(form) = form_at(interface, *place, puts) {
+            members.push(member(alloc, &form)?)?;
+        }
+    }
+    Ok(())
+}
+
+/// Adds the declarations of a member, a get before its put.
+fn add_member<'a>(
+    alloc: Global,
+    members: &mut Vec<DescribedMember<'a>>,
+    interface: &'a Interface,
+    places: &[usize],
+) -> Result<(), AllocError>
+    ensures { OnOk result (members.new.items ≡ members.old.items ++ map member_description (put_last (filter_map (slice_get (declarations interface.now)) places.now))) }
+{
+    add_forms(alloc, members, interface, places, false)?;
+    add_forms(alloc, members, interface, places, true)
+}
+
+fn members<'a>(
+    alloc: Global,
+    interface: &Indexed<'a>,
+) -> Result<Vec<DescribedMember<'a>>, AllocError>
+    ensures { IfOk result (λ v. v.items ≡ map member_description (members_described interface.now)) }
+{
+    let mut members = Vec::new(alloc);
+    let groups = interface.groups();
+    for places in groups {
+        add_member(alloc, &mut members, interface.interface, places.as_slice())?;
+    }
+    Ok(members)
+}
+
+/// The description of an interface.
+pub(crate) fn interface_description<'a>(
+    alloc: Global,
+    interface: &Indexed<'a>,
+) -> Result<Description<'a>, AllocError>
+    ensures { IfOk result (λ d. d ≡ interface_description interface.now) }
+{
+    let described: &'a Interface = interface.interface;
+    Ok(Description {
+        guid: described.guid,
+        name: &described.name,
+        content: Content::Interface(members(alloc, interface)?),
+    })
+}
+
+fn entry_at(is_default: bool, interface: usize) -> Option<DescribedEntry>
+    ensures { result ≡ entry_at is_default interface }
+{
+    let interface = u32::try_from(interface).ok()?;
+    Some(DescribedEntry {
+        is_default,
+        interface,
+    })
+}
+
+fn entry(alloc: Global, index: &Index, entry: &Entry) -> Result<Option<DescribedEntry>, AllocError>
+    ensures { IfOk result (λ e. e ≡ entry_in index.now.interfaces entry.now) }
+{
+    let name = folded_units(alloc, &entry.interface)?;
+    let Some(interface) = index.interface(name.as_slice()) else {
+        return Ok(None);
+    };
+    Ok(entry_at(entry.is_default, interface))
+}
+
+/// The entries of a coclass, without those that name no interface.
+fn entries(
+    alloc: Global,
+    index: &Index,
+    entries: &[Entry],
+) -> Result<Vec<DescribedEntry>, AllocError>
+    ensures { IfOk result (λ v. v.items ≡ filter_map (entry_in index.now.interfaces) entries.now) }
+{
+    let mut all = Vec::new(alloc);
+    for one in entries {
+        if let Some(described) = entry(alloc, index, one)? {
+            all.push(described)?;
+        }
+    }
+    Ok(all)
+}
+
+/// The description of a coclass.
+pub(crate) fn class_description<'a>(
+    alloc: Global,
+    index: &Index,
+    class: &'a Coclass,
+) -> Result<Description<'a>, AllocError>
+    ensures { IfOk result (λ d. d ≡ class_in index.now.interfaces class.now) }
+{
+    Ok(Description {
+        guid: class.guid,
+        name: &class.name,
+        content: Content::Coclass(entries(alloc, index, class.entries.as_slice())?),
+    })
+}
+
+/// The place of an interface among the items, by its index among the interfaces.
+pub(crate) fn nth_interface(items: &[Item], index: usize) -> Option<usize>
+    ensures { option_and_then (λ place. option_and_then as_interface (slice_get items.now place)) result ≡ slice_get (interfaces_of items.now) index }
+{
+    let mut left = index;
+    'items: for place in 0..items.len() {
+        if let Item::Interface(_) = &items[place] {
+            if left == 0 {
+                return Some(place);
+            }
+            left -= 1;
+        }
+    }
+    None
+}
+
+/// How many items are interfaces.
+pub(crate) fn count_interfaces(items: &[Item]) -> usize
+    ensures { result ≡ length (interfaces_of items.now) }
+{
+    let mut count = 0;
+    for item in items {
+        match item {
+            Item::Interface(_) => count += 1,
+            Item::Coclass(_) => {}
+        }
+    }
+    count
+}
+
+/// A coclass by its index among the coclasses.
+pub(crate) fn nth_class(items: &[Item], index: usize) -> Option<&Coclass>
+    ensures { option_copied result ≡ slice_get (classes_of items.now) index }
+{
+    let mut left = index;
+    for item in items {
+        if let Item::Coclass(class) = item {
+            if left == 0 {
+                return Some(class);
+            }
+            left -= 1;
+        }
+    }
+    None
+}

@@ -1,0 +1,183 @@
+// DISPIDs by names.
+ghost use Rattle.std.specs.Prelude.{◌≡◌, ◌++◌, IfOk, OnOk, is_some, map, position, None, Some};
+ghost use Rattle.std.specs.List.{list_all};
+ghost use Rattle.oa_model.specs.Folding.{folded, folded_name};
+ghost use Rattle.oa_typelib.specs.Libraries.{same_name};
+ghost use Rattle.oa_typelib.specs.Names.{ids_in, named_in, or_unknown, parameter_named, place_as_id, told};
+
+use crate::declaration::Declaration;
+use crate::members::Indexed;
+use oa_idl::{Name, Parameter};
+use oa_model::fold;
+use std::alloc::{AllocError, Global};
+use std::marker::Model;
+
+/// The DISPID of a name that is not known (MS-OAUT section 3.1.4.3).
+const DISPID_UNKNOWN: i32 = -1;
+
+/// The DISPIDs of names.
+#[derive(Drop)]
+pub struct DispIds {
+    /// One for each name, -1 (DISPID_UNKNOWN) for a name that is not known.
+    pub ids: Vec<i32>,
+    /// Whether all names are known.
+    pub all_known: bool,
+}
+
+impl Model for DispIds {
+    ghost use Rattle.oa_typelib.specs.NamedValues.{DispIdsValue};
+
+    ghost Value = { DispIdsValue };
+
+    ghost view = { λ d. record { ids = d.ids.items; all_known = d.all_known } };
+}
+
+/// A UTF-16 unit with A to Z made small; every other unit stays.
+fn fold_unit(unit: u16) -> u16
+    ensures { result ≡ folded unit }
+{
+    if unit >= 65 && unit <= 90 {
+        unit + 32
+    } else {
+        unit
+    }
+}
+
+/// A declared name, folded, in UTF-16 units.
+pub(crate) fn folded_units(alloc: Global, name: &Name) -> Result<Vec<u16>, AllocError>
+    ensures { IfOk result (λ v. v.items ≡ folded_name name.now) }
+{
+    name.as_bytes()
+        .iter()
+        .map(|b| u16::from(fold(*b)))
+        .collect(alloc)
+}
+
+/// A name that is asked for, folded.
+fn folded_name(alloc: Global, name: &[u16]) -> Result<Vec<u16>, AllocError>
+    ensures { IfOk result (λ v. v.items ≡ folded_name name.now) }
+{
+    name.iter().map(|u| fold_unit(*u)).collect(alloc)
+}
+
+/// Whether a name that is asked for is equal to a declared one, A to Z folded.
+fn is_same_name(name: &[u16], declared: &[u8]) -> bool
+    ensures { result ≡ same_name name.now declared.now }
+{
+    match (name.split_first(), declared.split_first()) {
+        (Some((unit, units)), Some((byte, bytes))) => {
+            fold_unit(*unit) == u16::from(fold(*byte)) && is_same_name(units, bytes)
+        }
+        (None, None) => true,
+        _ => false,
+    }
+}
+
+/// The place of the parameter that has a name.
+fn parameter_place(parameters: &[Parameter], name: &[u16]) -> Option<usize>
+    ensures { result ≡ position (λ p. same_name name.now p.name) parameters.now }
+{
+    parameters
+        .iter()
+        .position(|p| is_same_name(name, p.name.as_bytes()))
+}
+
+fn place_as_id(place: usize) -> Option<i32>
+    ensures { result ≡ place_as_id place }
+{
+    i32::try_from(place).ok()
+}
+
+/// The DISPID of a parameter.
+fn parameter_named(parameters: &[Parameter], name: &[u16]) -> Option<i32>
+    ensures { result ≡ parameter_named parameters.now name.now }
+{
+    place_as_id(parameter_place(parameters, name)?)
+}
+
+/// No DISPID for any of the names.
+pub(crate) fn unknown(alloc: Global, names: &[Vec<u16>]) -> Result<Vec<Option<i32>>, AllocError>
+    ensures { IfOk result (λ v. v.items ≡ map (λ name. None) (map (λ n. n.items) names.now)) }
+{
+    let mut ids = Vec::new(alloc);
+    for _ in names {
+        ids.push(None)?;
+    }
+    Ok(ids)
+}
+
+fn add_parameters(
+    ids: &mut Vec<Option<i32>>,
+    parameters: &[Parameter],
+    names: &[Vec<u16>],
+) -> Result<(), AllocError>
+    ensures { OnOk result (ids.new.items ≡ ids.old.items ++ map (λ n. parameter_named parameters.now n.items) names.now) }
+{
+    for name in names {
+        ids.push(parameter_named(parameters, name.as_slice()))?;
+    }
+    Ok(())
+}
+
+/// The DISPIDs of names, the first of which is that of the member.
+fn ids_in(
+    alloc: Global,
+    member: &Declaration<'_>,
+    names: &[Vec<u16>],
+) -> Result<Vec<Option<i32>>, AllocError>
+    ensures { IfOk result (λ v. v.items ≡ ids_in (Some member.now) (map (λ n. n.items) names.now)) }
+{
+    let mut ids = Vec::new(alloc);
+    let Some((_, others)) = names.split_first() else {
+        return Ok(ids);
+    };
+    ids.push(Some(member.id))?;
+    add_parameters(&mut ids, member.own_parameters(), others)?;
+    Ok(ids)
+}
+
+/// The DISPIDs of names of an interface.
+pub(crate) fn named_in(
+    alloc: Global,
+    interface: &Indexed<'_>,
+    names: &[Vec<u16>],
+) -> Result<Vec<Option<i32>>, AllocError>
+    ensures { IfOk result (λ v. v.items ≡ named_in interface.now (map (λ n. n.items) names.now)) }
+{
+    let Some(first) = names.first() else {
+        return Ok(Vec::new(alloc));
+    };
+    let key = folded_name(alloc, first.as_slice())?;
+    match interface.forms_named(key.as_slice()).main() {
+        Some(member) => ids_in(alloc, &member, names),
+        None => unknown(alloc, names),
+    }
+}
+
+fn or_unknown(id: Option<i32>) -> i32
+    ensures { result ≡ or_unknown id }
+{
+    id.unwrap_or(DISPID_UNKNOWN)
+}
+
+fn all_or_unknown(alloc: Global, ids: &[Option<i32>]) -> Result<Vec<i32>, AllocError>
+    ensures { IfOk result (λ v. v.items ≡ map or_unknown ids.now) }
+{
+    ids.iter().map(|id| or_unknown(*id)).collect(alloc)
+}
+
+fn are_known(ids: &[Option<i32>]) -> bool
+    ensures { result ≡ list_all is_some ids.now }
+{
+    ids.iter().all(|id| id.is_some())
+}
+
+/// The answer by the DISPIDs that are known.
+pub(crate) fn told(alloc: Global, ids: &[Option<i32>]) -> Result<DispIds, AllocError>
+    ensures { IfOk result (λ d. d ≡ told ids.now) }
+{
+    Ok(DispIds {
+        ids: all_or_unknown(alloc, ids)?,
+        all_known: are_known(ids),
+    })
+}

@@ -1,10 +1,10 @@
 #!/usr/bin/env python3
-"""Times the built program on library texts at their limit: 262,144 bytes with 256 interfaces, parsed, checked and printed by `oaut check`.
+"""Times the built program on library texts up to their limit, 262,144 bytes with 256 interfaces, parsed, checked and printed by `oaut check`.
 
     python3 bench/library.py [PROGRAM [RUNS]]      PROGRAM is crates/oaut/out/oaut where none is given
 
-Prints the least seconds and the greatest peak resident memory of some runs: of a text with properties and methods, of one whose last
-interface clashes with the first, and of one with the most members in one interface; and, beside them, `cat` on the first text.
+Prints the least seconds and the greatest peak resident memory of some runs: of a text with properties and methods, a quarter of the limit and the
+whole, of one whose last interface clashes with the first, and of one with the most members in one interface; and, beside them, `cat` on the last text.
 """
 import os
 import subprocess
@@ -29,16 +29,18 @@ def interface(number, name, members):
     return f"[uuid(11223344-5566-7788-99aa-00000000{number + 1:04x})]\ndispinterface {name} {{\nproperties:\n{properties}methods:\n{forms}}}\n"
 
 
-def filled(body):
-    """A library text of exactly the limit: what is left is a comment."""
+def filled(body, size=LIMIT):
+    """A library text of so many bytes: what is left is a comment."""
     text = HEAD + body + TAIL
-    return text + "//" + "." * (LIMIT - len(text) - 2)
+    return text + "//" + "." * (size - len(text) - 2)
 
 
-def several(last):
-    """256 interfaces with as many members as fit."""
-    members = max(n for n in range(1, 20) if len(HEAD + TAIL) + 256 * len(interface(255, "D255", n)) <= LIMIT - 2)
-    return filled("".join(interface(it, f"D{it}" if it < 255 else last, members) for it in range(256))), 512 * members
+def several(last, interfaces=256):
+    """Interfaces with as many members as fit 1,024 bytes each."""
+    size = 1_024 * interfaces
+    members = max(n for n in range(1, 20) if len(HEAD + TAIL) + interfaces * len(interface(255, "D255", n)) <= size - 2)
+    body = "".join(interface(it, f"D{it}" if it < interfaces - 1 else last, members) for it in range(interfaces))
+    return filled(body, size), 2 * interfaces * members
 
 
 def peak_of(pid):
@@ -51,12 +53,14 @@ def peak_of(pid):
 
 
 def timed(words, cwd):
-    """The seconds, the peak resident memory in KiB and the status of a run."""
+    """The seconds, the peak resident memory in KiB (0 where nothing was written) and the status of a run."""
     started = time.perf_counter()
-    child = subprocess.Popen(words, cwd=cwd, stdout=subprocess.DEVNULL, stderr=subprocess.DEVNULL)
-    peak = 0
-    while child.poll() is None:
-        peak = max(peak, peak_of(child.pid))
+    with subprocess.Popen(words, cwd=cwd, stdout=subprocess.PIPE, stderr=subprocess.DEVNULL, pipesize=4_096, bufsize=0) as child:
+        # It writes when all its memory is taken, and waits for a reader of what a pipe does not hold.
+        child.stdout.read(1)
+        peak = peak_of(child.pid)
+        while child.stdout.read(65_536):
+            pass
     return time.perf_counter() - started, peak, child.returncode
 
 
@@ -71,7 +75,9 @@ with tempfile.TemporaryDirectory() as room:
     clash, _ = several("D000")
     clash = clash.replace("dispinterface D000 ", "dispinterface d0 ", 1) + "  "
     most = filled(interface(0, "D0", 256))
+    quarter, fewer = several("D63", 64)
     for name, text, wanted in (
+        (f"64 interfaces with {fewer:,} members", quarter, 0),
         (f"256 interfaces with {members:,} members", whole, 0),
         ("the same, its last interface's name repeated", clash[:LIMIT], 2),
         ("512 members in one interface", most, 0),
@@ -81,7 +87,7 @@ with tempfile.TemporaryDirectory() as room:
         seconds, peak, status = best([PROGRAM, "check", "lib.idl"], room)
         if status != wanted:
             sys.exit(f"{name}: status {status}")
-        print(f"{name}, {len(text):,} bytes: {seconds:.3f} s, peak {peak:,} KiB")
+        print(f"{name}, {len(text):,} bytes: {seconds:.3f} s" + (f", peak {peak:,} KiB" if peak else ""))
     with open(f"{room}/lib.idl", "w", encoding="ascii") as file:
         file.write(whole)
     print(f"cat: {best(['cat', 'lib.idl'], room)[0]:.3f} s")

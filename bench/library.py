@@ -12,6 +12,8 @@ import sys
 import tempfile
 import time
 
+from memory import peak_of
+
 ROOT = os.path.dirname(os.path.dirname(os.path.abspath(__file__)))
 PROGRAM = os.path.abspath(sys.argv[1]) if len(sys.argv) > 1 else f"{ROOT}/crates/oaut/out/oaut"
 RUNS = int(sys.argv[2]) if len(sys.argv) > 2 else 5
@@ -41,15 +43,6 @@ def several(last, interfaces=256):
     members = max(n for n in range(1, 20) if len(HEAD + TAIL) + interfaces * len(interface(255, "D255", n)) <= size - 2)
     body = "".join(interface(it, f"D{it}" if it < interfaces - 1 else last, members) for it in range(interfaces))
     return filled(body, size), 2 * interfaces * members
-
-
-def peak_of(pid):
-    """The peak resident memory of a process so far, in KiB; 0 where it has ended."""
-    try:
-        with open(f"/proc/{pid}/status", encoding="ascii") as file:
-            return next((int(line.split()[1]) for line in file if line.startswith("VmHWM:")), 0)
-    except (OSError, StopIteration):
-        return 0
 
 
 def timed(words, cwd):

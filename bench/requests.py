@@ -18,6 +18,7 @@ import time
 ROOT = os.path.dirname(os.path.dirname(os.path.abspath(__file__)))
 sys.path.append(f"{ROOT}/cli")
 import wire
+from memory import peak_of
 
 PROGRAM = os.path.abspath(sys.argv[1]) if len(sys.argv) > 1 else f"{ROOT}/crates/oaut/out/oaut"
 LINES = int(sys.argv[2]) if len(sys.argv) > 2 else 200_000
@@ -51,15 +52,6 @@ def write_values(path, dispid, value, pairs):
         file.write(create(0))
         for tag in range(1, pairs + 1):
             file.write(wire.put(tag, 1, dispid, value) + wire.get(tag, 1, dispid))
-
-
-def peak_of(pid):
-    """The peak resident memory of a process so far, in KiB; 0 where it has ended."""
-    try:
-        with open(f"/proc/{pid}/status", encoding="ascii") as file:
-            return next((int(line.split()[1]) for line in file if line.startswith("VmHWM:")), 0)
-    except (OSError, StopIteration):
-        return 0
 
 
 def timed(words, given, cwd):

@@ -4,3 +4,4 @@ pub mod Fills
 pub mod Places
 pub mod Redim
 pub mod Walks
+pub mod Decided

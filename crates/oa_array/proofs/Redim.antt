@@ -7,6 +7,7 @@ use Rattle.std.proofs.Common.{⊎_elim}
 use Rattle.std.proofs.lemmas.List.{get_or_past}
 use Rattle.std.proofs.lemmas.List.Elements.{All-from_get_or, All-get_or}
 use Rattle.std.proofs.lemmas.List.FromFn.{length-map-range_with_len, get_or-map-range_with_len}
+use Rattle.oa_model.specs.Limits.{max_cells}
 use Rattle.oa_model.specs.declared.bound.Bound.{Bound}
 use Rattle.oa_model.specs.declared.var_type.VarType.{VarType}
 use Rattle.oa_array.specs.Boxes.{box_size}
@@ -42,7 +43,7 @@ module _ {X : Type 0} where
       let first = first_set bounds bound some in
       cc
 
-  pub redimensioned_array : (fits : X → VarType → Type 0) (elem : VarType) (bounds : List Bound) (cells new : List X) (locks : ℕ) (blank : X) (bound : Bound) (n : ℕ) → IsArray fits (record { elem = elem; bounds = bounds; cells = cells; locks = locks }) → fits blank elem → n ≡ box_size (with_first bound bounds) → n ≤ 65536 → new ≡ kept_by_position blank n cells → IsArray fits (record { elem = elem; bounds = set bounds 0 bound; cells = new; locks = locks })
+  pub redimensioned_array : (fits : X → VarType → Type 0) (elem : VarType) (bounds : List Bound) (cells new : List X) (locks : ℕ) (blank : X) (bound : Bound) (n : ℕ) → IsArray fits (record { elem = elem; bounds = bounds; cells = cells; locks = locks }) → fits blank elem → n ≡ box_size (with_first bound bounds) → n ≤ max_cells → new ≡ kept_by_position blank n cells → IsArray fits (record { elem = elem; bounds = set bounds 0 bound; cells = new; locks = locks })
   redimensioned_array fits elem bounds cells new locks blank bound n array here size few is =
       let first = first_set bounds bound array.shape.some in
       let long = ap length first ∙ length-with_first bounds bound array.shape.some in
@@ -62,10 +63,10 @@ rest_of : (s bounds : List Bound) → s ≡ bounds → take (length s - 1) (drop
 rest_of s bounds e = take_all (length s - 1) (drop 1 s) (omega (arith, length-drop 1 s)) ∙ ap (drop 1) e
 
 -- what `size` says of the new bounds
-pub size_behind : (r : Option ℕ) (bound : Bound) (s bounds : List Bound) → s ≡ bounds → MatchOption r (65536 < box_size (bound ∷ take (length s - 1) (drop 1 s))) (λ n. (n ≡ box_size (bound ∷ take (length s - 1) (drop 1 s))) × (n ≤ 65536)) → MatchOption r (65536 < box_size (with_first bound bounds)) (λ n. (n ≡ box_size (with_first bound bounds)) × (n ≤ 65536))
+pub size_behind : (r : Option ℕ) (bound : Bound) (s bounds : List Bound) → s ≡ bounds → MatchOption r (max_cells < box_size (bound ∷ take (length s - 1) (drop 1 s))) (λ n. (n ≡ box_size (bound ∷ take (length s - 1) (drop 1 s))) × (n ≤ max_cells)) → MatchOption r (max_cells < box_size (with_first bound bounds)) (λ n. (n ≡ box_size (with_first bound bounds)) × (n ≤ max_cells))
 size_behind None bound s bounds e h = omega (arith, h, ap (λ l. box_size (bound ∷ l)) (rest_of s bounds e))
 size_behind (Some n) bound s bounds e h = (h.0 ∙ ap (λ l. box_size (bound ∷ l)) (rest_of s bounds e), h.1)
 
-pub count_found : (r : Option ℕ) (size n : ℕ) → r ≡ Some n → MatchOption r (65536 < size) (λ m. (m ≡ size) × (m ≤ 65536)) → (n ≡ size) × (n ≤ 65536)
+pub count_found : (r : Option ℕ) (size n : ℕ) → r ≡ Some n → MatchOption r (max_cells < size) (λ m. (m ≡ size) × (m ≤ max_cells)) → (n ≡ size) × (n ≤ max_cells)
 count_found None size n e h = absurd (none-some n e)
 count_found (Some m) size n e h = let same = same_inside m n e in (omega (arith, h.0, same), omega (arith, h.1, same))

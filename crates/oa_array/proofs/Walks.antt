@@ -2,6 +2,7 @@
 use Rattle.std.proofs.Common.{◌≡◌, ℕ, zero, suc, ◌+◌, ◌*◌, ◌<◌, ◌≤◌, min, Bool, nat_lt, ◌==◌, length, MatchOption, Option, false, lt-ltb, le-ltb, ne_eqb, List, [], ◌∷◌, ℤ, pos, ◌+ℤ◌, sym, ap, subst, ◌∙◌, ⊎_elim, arith, mul_assoc, mul-le-mul_right, le-mul_of_pos_right, mul-zero, eq-zero-or-pos}
 use Rattle.std.proofs.lemmas.Bool.{cases_lt}
 use Rattle.std.specs.Bool.{then_some}
+use Rattle.oa_model.specs.Limits.{max_cells}
 use Rattle.oa_model.specs.declared.bound.Bound.{Bound}
 use Rattle.oa_array.specs.Boxes.{InBounds, box_size, position_of}
 use Rattle.oa_array.proofs.Places.{box_size-nil, box_size-cons, position_of-nil, position_of-cons, IsWithin-at}
@@ -115,7 +116,7 @@ place_returns bounds index left given place size b r er eb e es s =
     subst (IsPlaceAnswer bounds index size) (sym (er ∙ ap (λ t. then_some t place) eb)) (place_answer bounds index left given place size e es s)
 
 abbrev IsSizeAnswer : List Bound → Option ℕ → Type 0
-IsSizeAnswer bounds r = MatchOption r (65536 < box_size bounds) (λ n. (n ≡ box_size bounds) × (n ≤ 65536))
+IsSizeAnswer bounds r = MatchOption r (max_cells < box_size bounds) (λ n. (n ≡ box_size bounds) × (n ≤ max_cells))
 
 size_answer : (bounds left : List Bound) (size : ℕ) → length left ≡ 0 → IsSizeSoFar bounds left size → IsSizeAnswer bounds (then_some (nat_lt size 65537) size)
 size_answer bounds (bound ∷ left) size e s = absurd (omega (arith, e))

@@ -3,6 +3,7 @@
 use Rattle.std.specs.Prelude.{◌≡◌, ℕ, ◌<◌, ◌≤◌, List, ◌∷◌, map, drop, replicate, length, slice_get, slice_set, All, IsSome, Option, ℤ}
 use Rattle.std.specs.List.{range_with_len}
 use Rattle.std.specs.Option.{unwrap_or}
+use Rattle.oa_model.specs.Limits.{max_dimensions, max_cells}
 use Rattle.oa_model.specs.declared.bound.Bound.{Bound}
 use Rattle.oa_model.specs.declared.var_type.VarType.{VarType}
 use Rattle.oa_model.specs.Types.{sf_type_of}
@@ -15,12 +16,12 @@ pub record ArrayValue (X : Type 0) : Type 0 where
   pub cells : List X
   pub locks : ℕ
 
--- there are arrays of a type that has an sfType, of 1 to 16 bounds and of at most 65,536 cells (this project's choice)
+-- there are arrays of a type that has an sfType, of at least one bound, and of no more bounds and cells than the limits say
 pub record IsShape (elem : VarType) (bounds : List Bound) : Type 0 where
   pub typed : IsSome (sf_type_of elem)
   pub some : 0 < length bounds
-  pub few : length bounds ≤ 16
-  pub small : box_size bounds ≤ 65536
+  pub few : length bounds ≤ max_dimensions
+  pub small : box_size bounds ≤ max_cells
 
 -- the bounds with another first one, which is that of the slowest dimension
 abbrev pub with_first : Bound → List Bound → List Bound

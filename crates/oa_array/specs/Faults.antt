@@ -1,5 +1,6 @@
 -- Refusals: when each comes, and its code (MS-ERREF section 2.1). Their order is this project's choice.
 use Rattle.std.specs.Prelude.{◌≡◌, ◌<◌, ◌≤◌, List, ℤ}
+use Rattle.oa_model.specs.Limits.{max_cells}
 use Rattle.oa_model.specs.declared.bound.Bound.{Bound}
 use Rattle.oa_model.specs.declared.hresult.HResult.{HResult}
 use Rattle.oa_model.specs.declared.var_type.VarType.{VarType}
@@ -33,6 +34,6 @@ module _ {X : Type 0} where
   -- first the locks, then the size, then the memory
   abbrev pub RefusesRedim : ArrayValue X → Bound → ArrayFault → Type 0
   RefusesRedim a bound IsLocked = 0 < a.locks
-  RefusesRedim a bound InvalidArgument = (a.locks ≡ 0) × (65536 < box_size (with_first bound a.bounds))
-  RefusesRedim a bound Memory = (a.locks ≡ 0) × (box_size (with_first bound a.bounds) ≤ 65536)
+  RefusesRedim a bound InvalidArgument = (a.locks ≡ 0) × (max_cells < box_size (with_first bound a.bounds))
+  RefusesRedim a bound Memory = (a.locks ≡ 0) × (box_size (with_first bound a.bounds) ≤ max_cells)
   RefusesRedim a bound _ = ⊥

@@ -6,6 +6,7 @@ ghost use Rattle.oa_array.specs.Faults.{RefusesCreate, RefusesPut, RefusesRedim}
 ghost use Rattle.std.specs.Ordering.{eq_of_both, on};
 ghost use Rattle.std.specs.Cmp.{and_per, on_per, and_equiv, on_equiv};
 ghost use Rattle.std.specs.Cmp.Lexicographic.{pointwise, lists_per, lists_equiv};
+ghost use Rattle.oa_model.specs.Limits.{max_cells, max_cell_locks};
 ghost use Rattle.oa_model.specs.contracts.var_type.VarTypePartialEq.TheImpl.Laws.{laws-law as type_per};
 ghost use Rattle.oa_model.specs.contracts.var_type.VarTypeEq.TheImpl.Laws.{laws-law as type_equiv};
 ghost use Rattle.oa_model.specs.contracts.bound.BoundPartialEq.TheImpl.Laws.{laws-law as bound_per};
@@ -151,8 +152,8 @@ impl<T: Cell> SafeArray<T> {
 
     /// How many cells the array would have with another first bound; None above 65,536, where `redim` refuses it.
     pub fn redim_count(&self, bound: Bound) -> Option<usize>
-        ensures { MatchOption result (65536 < box_size (with_first bound self.now.bounds))
-            (λ n. (n ≡ box_size (with_first bound self.now.bounds)) × (n ≤ 65536)) }
+        ensures { MatchOption result (max_cells < box_size (with_first bound self.now.bounds))
+            (λ n. (n ≡ box_size (with_first bound self.now.bounds)) × (n ≤ max_cells)) }
     {
         size(bound, &self.bounds[1..])
     }
@@ -164,7 +165,7 @@ impl<T: Cell> SafeArray<T> {
     /// `_alloc` says that the call may take memory.
     pub fn redim(&mut self, _alloc: Global, bound: Bound) -> Result<(), ArrayFault>
         ensures { MatchResult result
-            (λ _. (self.old.locks ≡ 0) × (box_size (with_first bound self.old.bounds) ≤ 65536)
+            (λ _. (self.old.locks ≡ 0) × (box_size (with_first bound self.old.bounds) ≤ max_cells)
             × (self.new ≡ redimensioned (T.zero_of self.old.elem) bound self.old))
             (λ fault. RefusesRedim self.old bound fault × (self.new ≡ self.old)) }
     {
@@ -180,8 +181,8 @@ impl<T: Cell> SafeArray<T> {
     /// Adds a lock and gives the new count. Unexpected exactly where the array has 65,535 locks.
     pub fn lock(&mut self) -> Result<u16, ArrayFault>
         ensures { MatchResult result
-            (λ count. (self.old.locks < 65535) × (count ≡ self.old.locks + 1) × (self.new ≡ with_locks self.old count))
-            (λ fault. (fault ≡ ArrayFault.Unexpected) × (self.old.locks ≡ 65535) × (self.new ≡ self.old)) }
+            (λ count. (self.old.locks < max_cell_locks) × (count ≡ self.old.locks + 1) × (self.new ≡ with_locks self.old count))
+            (λ fault. (fault ≡ ArrayFault.Unexpected) × (self.old.locks ≡ max_cell_locks) × (self.new ≡ self.old)) }
     {
         if self.locks == MAX_CELL_LOCKS {
             return Err(ArrayFault::Unexpected);
@@ -201,6 +202,15 @@ impl<T: Cell> SafeArray<T> {
         }
         self.locks -= 1;
         Ok(self.locks)
+    }
+
+    /// The same array without locks.
+    pub fn into_unlocked(self) -> SafeArray<T>
+        ensures { result ≡ with_locks self 0 }
+    {
+        let mut array = self;
+        array.locks = 0;
+        array
     }
 
     /// An equal array with memory of its own and without locks; an error where no memory is found.

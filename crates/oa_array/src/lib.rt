@@ -4,12 +4,14 @@
 mod array;
 mod cell;
 mod fault;
+mod indices;
 pub mod laws;
 mod position;
 
 pub use array::{SafeArray, cell_count};
 pub use cell::Cell;
 pub use fault::ArrayFault;
+pub use indices::Indices;
 
 #[cfg(test)]
 mod tests;

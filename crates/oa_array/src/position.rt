@@ -1,5 +1,6 @@
 // The place of an index list in the row of cells, as a sum of products.
 ghost use Rattle.std.specs.Prelude.{◌≡◌, ◌<◌, ◌≤◌, ◌∷◌, MatchOption, pos, ◌+ℤ◌};
+ghost use Rattle.oa_model.specs.Limits.{max_cells};
 ghost use Rattle.oa_array.specs.Boxes.{IsWithin, InBounds, box_size, position_of};
 
 use oa_model::{Bound, MAX_CELLS};
@@ -16,8 +17,8 @@ pub(crate) fn offset(bound: Bound, index: i32) -> Option<u32>
 /// How many index lists lie in a first bound and the others; None above 65,536. A bound of count 0 makes it none at all, whatever
 /// the others are.
 pub(crate) fn size(first: Bound, others: &[Bound]) -> Option<usize>
-    ensures { MatchOption result (65536 < box_size (first ∷ others.now))
-        (λ n. (n ≡ box_size (first ∷ others.now)) × (n ≤ 65536)) }
+    ensures { MatchOption result (max_cells < box_size (first ∷ others.now))
+        (λ n. (n ≡ box_size (first ∷ others.now)) × (n ≤ max_cells)) }
 {
     let past = u64::from(MAX_CELLS) + 1;
     let mut size = u64::from(first.count).min(past);
@@ -32,7 +33,7 @@ pub(crate) fn size(first: Bound, others: &[Bound]) -> Option<usize>
 /// The position of an index list in the box of the bounds, which has `size` members; None where it does not lie in them.
 pub(crate) fn position(bounds: &[Bound], index: &[i32], size: usize) -> Option<usize>
     requires whole { size ≡ box_size bounds.now }
-    requires few { size ≤ 65536 }
+    requires few { size ≤ max_cells }
     ensures { MatchOption result (InBounds bounds.now index.now → ⊥)
         (λ place. InBounds bounds.now index.now × (place ≡ position_of bounds.now index.now) × (place < size)) }
 {

@@ -8,10 +8,6 @@ use Rattle.std.specs.Cmp.{IsTotalOrder}
 use Rattle.std.specs.Cmp.Lexicographic.{slice_cmp, options_total}
 use Rattle.std.proofs.lemmas.Cmp.{nat_list_cmp_total}
 
--- the most bytes that a text may have (this project's choice)
-abbrev pub max_text_bytes : ℕ
-max_text_bytes = 262144
-
 -- the bytes that can be read from it
 abbrev pub bytes_of : Option (List ℕ) → List ℕ
 bytes_of None = []

@@ -1,7 +1,7 @@
 //! The block of a text: how it is made, read and freed.
 ghost use Rattle.std.specs.Prelude.{◌≡◌, ◌+◌, ◌≤◌, length, take, IfOk};
 ghost use Rattle.oa_bstr.specs.Block.{block_of, text_of, IsBlock};
-ghost use Rattle.oa_bstr.specs.Text.{max_text_bytes};
+ghost use Rattle.oa_model.specs.Limits.{max_text_bytes};
 
 use oa_cells::{Partial, Row};
 use std::alloc::{AllocError, Global};

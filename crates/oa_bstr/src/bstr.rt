@@ -8,7 +8,8 @@ ghost use Rattle.std.specs.Cmp.Rules.{comparing};
 ghost use Rattle.std.specs.Ordering.{as_partial_cmp, eq_by_cmp};
 ghost use Rattle.std.proofs.lemmas.Cmp.{eq_by_cmp_equiv};
 ghost use Rattle.oa_bstr.specs.Block.{text_of, IsBlock};
-ghost use Rattle.oa_bstr.specs.Text.{max_text_bytes, bytes_of, unit_of, text_cmp, texts_total};
+ghost use Rattle.oa_model.specs.Limits.{max_text_bytes};
+ghost use Rattle.oa_bstr.specs.Text.{bytes_of, unit_of, text_cmp, texts_total};
 ghost use Rattle.oa_bstr.specs.declared.error.BstrError.TheVariants.{TooLong};
 
 use crate::block;

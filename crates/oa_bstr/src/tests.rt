@@ -54,6 +54,19 @@ fn null_is_no_empty_text(rt: HostRuntime) -> Result<(), Fail> {
 }
 
 #[test]
+fn texts_are_printed(rt: HostRuntime) -> Result<(), Fail> {
+    let hi = text(rt.alloc(), &[72, 0, 105, 0])?;
+    for (text, printed) in [(Bstr::null(), "null"), (hi, "[72, 0, 105, 0]")] {
+        let shown = match format!(in rt.alloc(); "{text:?}") {
+            Err(_) => format!(in rt.alloc(); "{text:?}")?,
+            Ok(shown) => shown,
+        };
+        assert_eq!(rt; shown.as_str(), printed);
+    }
+    Ok(())
+}
+
+#[test]
 fn the_longest_text_has_262144_bytes(rt: HostRuntime) -> Result<(), Fail> {
     let bytes = match Vec::from_elem(rt.alloc(), 7u8, 262_145) {
         Ok(bytes) => bytes,

@@ -4,6 +4,7 @@ use Rattle.oa_model.specs.declared.var_type.VarType.{VarType}
 use Rattle.oa_model.specs.declared.var_type.VarType.TheVariants as types
 use Rattle.oa_model.specs.declared.var_type.ValueType.{ValueType}
 use Rattle.oa_model.specs.declared.var_type.ValueType.TheVariants.{One, Array}
+use Rattle.oa_model.specs.Invoke.{vt_array}
 
 -- the number of a type (MS-OAUT section 2.2.7)
 abbrev pub vt_of : VarType → ℕ
@@ -52,7 +53,7 @@ type_at n =
 -- an array's number has 0x2000 added (VT_ARRAY)
 abbrev pub vt_of_value : ValueType → ℕ
 vt_of_value (One t) = vt_of t
-vt_of_value (Array t) = vt_of t + 8192
+vt_of_value (Array t) = vt_of t + vt_array
 
 abbrev pub is_signed_type : VarType → Bool
 is_signed_type types.I1 = true

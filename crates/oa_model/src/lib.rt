@@ -5,6 +5,8 @@ mod bound;
 mod folding;
 mod guid;
 mod hresult;
+mod integers;
+mod invoke;
 pub mod laws;
 mod limits;
 mod var_type;
@@ -13,6 +15,11 @@ pub use bound::Bound;
 pub use folding::fold;
 pub use guid::{guid_from_wire, guid_to_wire};
 pub use hresult::HResult;
+pub use invoke::{
+    COCLASS_KIND, DEFAULT_FLAG, GET_FLAG, HAS_DEFAULT_FLAG, IN_FLAG, INTERFACE_KIND, INVOKE_GET,
+    INVOKE_METHOD, INVOKE_PUT, METHOD_FLAG, OPTIONAL_FLAG, PUT_DISPID, PUT_FLAG, PUT_REF_FLAG,
+    READONLY_FLAG, UNKNOWN_DISPID, VT_ARRAY, VT_VOID,
+};
 pub use limits::{
     GREATEST_OBJECT_NUMBER, MAX_ARGUMENTS, MAX_CELL_LOCKS, MAX_CELLS, MAX_COCLASSES,
     MAX_DIMENSIONS, MAX_GROUP, MAX_INTERFACES, MAX_LIBRARY_BYTES, MAX_LINE_CHARACTERS,

@@ -2,6 +2,8 @@
 ghost use Rattle.std.specs.Prelude.{◌≡◌};
 ghost use Rattle.oa_model.specs.Types.{vt_of, type_at, vt_of_value, sf_type_of, element_size_of, is_signed_type};
 
+use crate::invoke::VT_ARRAY;
+
 /// The type of a scalar value (VARENUM, MS-OAUT section 2.2.7). VARIANT stands for any of them, as the type of an array's cells or as
 /// a declared type, and is the type of no value.
 #[derive(Clone, Copy, Debug, PartialEq, Eq)]
@@ -153,7 +155,7 @@ impl ValueType {
     {
         match self {
             ValueType::One(one) => one.vt(),
-            ValueType::Array(cell) => cell.vt() + 0x2000,
+            ValueType::Array(cell) => cell.vt() + VT_ARRAY,
         }
     }
 }

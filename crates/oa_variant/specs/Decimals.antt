@@ -1,5 +1,6 @@
 -- DECIMAL (MS-OAUT section 2.2.26), and its order in keys (this project's choice).
-use Rattle.std.specs.Prelude.{ℕ, Bool, false}
+use Rattle.std.specs.Prelude.{◌≡◌, ℕ, ◌+◌, ◌*◌, ◌^◌, ◌/◌, ◌%◌, ◌<◌, Bool, false}
+use Rattle.std.proofs.Common.{arith}
 use Rattle.std.specs.Ordering.{nat_cmp, bool_cmp, on, then_cmp}
 use Rattle.std.specs.Cmp.{IsTotalOrder, bool_cmp_total}
 use Rattle.std.specs.declared.cmp.Ordering.{Ordering}
@@ -11,11 +12,21 @@ pub record DecimalValue : Type 0 where
   pub scale : ℕ
   pub magnitude : ℕ
 
+-- the bits of a magnitude above the 64 lowest, and these: Hi32 and Lo64
+abbrev pub high_of : ℕ → ℕ
+high_of magnitude = magnitude / 2 ^ 64
+
+abbrev pub low_of : ℕ → ℕ
+low_of magnitude = magnitude % 2 ^ 64
+
+pub halves : (high low : ℕ) → low < 2 ^ 64 → (high_of (high * 2 ^ 64 + low) ≡ high) × (low_of (high * 2 ^ 64 + low) ≡ low)
+halves high low h = (omega (arith, h), omega (arith, h))
+
 -- the positive zero of scale 0
 abbrev pub zero_decimal : DecimalValue
 zero_decimal = record { negative = false; scale = 0; magnitude = 0 }
 
--- plus before minus, then by scale, then by magnitude
+-- the order in keys, which is not that of the numbers meant: plus before minus, then by scale, then by magnitude
 abbrev pub decimal_cmp : DecimalValue → DecimalValue → Ordering
 decimal_cmp = then_cmp (on (λ d. d.negative) bool_cmp) (then_cmp (on (λ d. d.scale) nat_cmp) (on (λ d. d.magnitude) nat_cmp))
 

@@ -1,34 +1,42 @@
 //! DECIMAL.
 ghost use Rattle.std.specs.Prelude.{◌≡◌, ◌≤◌, ◌<◌, ◌^◌};
-ghost use Rattle.std.specs.Cmp.{partial_order_from_total, partial_equiv_from_equiv, eq_by_cmp_equiv};
-ghost use Rattle.std.specs.Cmp.Rules.{comparing};
-ghost use Rattle.std.specs.Ordering.{as_partial_cmp, eq_by_cmp};
-ghost use Rattle.std.proofs.Common.{rules};
+ghost use Rattle.std.specs.Cmp.{partial_equiv_from_equiv, eq_by_cmp_equiv};
+ghost use Rattle.std.specs.Ordering.{eq_by_cmp};
 ghost use Rattle.oa_variant.specs.Decimals.{decimal_cmp, decimals_total};
 
 use std::cmp::Ordering;
 use std::marker::Model;
 
+/// How far the high bits of a magnitude stand above the low ones: 2^64.
+const ABOVE_LOW: u128 = 0x1_0000_0000_0000_0000;
+
 /// A DECIMAL (MS-OAUT section 2.2.26): a sign, a scale from 0 to 28 and a magnitude below 2^96, which stand for the number
-/// sign × magnitude / 10^scale. The scale and the sign of zero are part of the value.
+/// sign × magnitude / 10^scale. The scale and the sign of zero are part of the value. It has no `<`: the order of keys (`key_cmp`) is
+/// not that of the numbers meant.
+///
+/// The magnitude is kept in its 32 high and 64 low bits, so that a cell of an array takes no more bytes for it than for a text.
 #[derive(Clone, Copy, Debug)]
 pub struct Decimal {
     negative: bool,
     scale: u8,
-    magnitude: u128,
+    high: u32,
+    low: u64,
 }
 
 impl Model for Decimal {
-    ghost use Rattle.std.specs.Prelude.{◌≤◌, ◌<◌, ◌^◌};
-    ghost use Rattle.oa_variant.specs.Decimals.{DecimalValue};
+    ghost use Rattle.std.specs.Prelude.{◌≤◌, ◌<◌, ◌^◌, ◌+◌, ◌*◌};
+    ghost use Rattle.oa_variant.specs.Decimals.{DecimalValue, high_of, low_of, halves};
 
     ghost Value = { DecimalValue };
 
-    ghost view = { λ d. record { negative = d.negative; scale = d.scale; magnitude = d.magnitude } };
+    ghost view = { λ d. record { negative = d.negative; scale = d.scale; magnitude = d.high * 2 ^ 64 + d.low } };
 
-    ghost invariant = { λ d. (d.scale ≤ 28) × (d.magnitude < 2 ^ 96) };
+    ghost invariant = { λ d. (d.scale ≤ 28) × (d.high < 2 ^ 32) × (d.low < 2 ^ 64) };
 
-    ghost inverse = { λ d. record { negative = d.negative; scale = d.scale; magnitude = d.magnitude } };
+    ghost inverse = { λ d. record { negative = d.negative; scale = d.scale; high = high_of d.magnitude; low = low_of d.magnitude } };
+
+    ghost inverse_ok = { λ d is. let parts = halves d.high d.low is.2 in
+        λ i. record { negative = d.negative; scale = d.scale; high = parts.0 i; low = parts.1 i } };
 }
 
 impl Decimal {
@@ -40,7 +48,8 @@ impl Decimal {
         Decimal {
             negative,
             scale,
-            magnitude,
+            high: (magnitude / ABOVE_LOW) as u32,
+            low: (magnitude % ABOVE_LOW) as u64,
         }
     }
 
@@ -64,48 +73,32 @@ impl Decimal {
         ensures value { result ≡ self.now.magnitude }
         ensures small { result < 2 ^ 96 }
     {
-        self.magnitude
+        self.high as u128 * ABOVE_LOW + self.low as u128
+    }
+
+    /// Its place beside another in the order of keys: by sign (plus first), scale and magnitude, and not by the number that is meant
+    /// (this project's choice).
+    pub fn key_cmp(&self, other: &Decimal) -> Ordering
+        ensures { result ≡ decimal_cmp self.now other.now }
+    {
+        let by_sign = self.negative.cmp(&other.negative);
+        let by_scale = self.scale.cmp(&other.scale);
+        let by_magnitude = self.magnitude().cmp(&other.magnitude());
+        by_sign.then(by_scale.then(by_magnitude))
     }
 }
 
+/// Two are equal where sign, scale and magnitude are, so 1.0 is not 1.00.
 impl PartialEq for Decimal {
     ghost eq = { eq_by_cmp decimal_cmp };
 
     ghost laws = { partial_equiv_from_equiv (eq_by_cmp_equiv decimals_total) };
 
     fn eq(&self, other: &Decimal) -> bool {
-        self.cmp(other) == Ordering::Equal
+        self.key_cmp(other) == Ordering::Equal
     }
 }
 
 impl Eq for Decimal {
     ghost laws = { eq_by_cmp_equiv decimals_total };
-}
-
-impl PartialOrd for Decimal {
-    ghost partial_cmp = { as_partial_cmp decimal_cmp };
-
-    ghost laws = { partial_order_from_total decimals_total };
-
-    fn partial_cmp(&self, other: &Decimal) -> Option<Ordering> {
-        Some(self.cmp(other))
-    }
-}
-
-/// The order of keys: by sign (plus first), scale and magnitude, and not by the number that is meant.
-impl Ord for Decimal {
-    ghost cmp = { decimal_cmp };
-
-    ghost total = { decimals_total };
-
-    ghost matches_partial_cmp = { Prim.search (comparing, rules) };
-
-    ghost matches_eq = { Prim.search (comparing, rules) };
-
-    fn cmp(&self, other: &Decimal) -> Ordering {
-        let by_sign = self.negative.cmp(&other.negative);
-        let by_scale = self.scale.cmp(&other.scale);
-        let by_magnitude = self.magnitude.cmp(&other.magnitude);
-        by_sign.then(by_scale.then(by_magnitude))
-    }
 }

@@ -5,6 +5,7 @@ use oa_bstr::Bstr;
 use oa_model::{Bound, ValueType, VarType};
 use std::alloc::{AllocError, Global};
 use std::cmp::Ordering;
+use std::mem::size_of;
 use std::rt::HostRuntime;
 use std::test::Fail;
 
@@ -28,8 +29,7 @@ fn decimals_keep_sign_and_scale(rt: HostRuntime) -> Result<(), Fail> {
     ];
     for (i, one) in rising.iter().enumerate() {
         for (j, other) in rising.iter().enumerate() {
-            assert_eq!(rt; one.cmp(other), i.cmp(&j));
-            assert_eq!(rt; one.partial_cmp(other), Some(i.cmp(&j)));
+            assert_eq!(rt; one.key_cmp(other), i.cmp(&j));
             assert_eq!(rt; one == other, i == j);
         }
     }
@@ -128,6 +128,41 @@ fn keys_stand_in_order(rt: HostRuntime) -> Result<(), Fail> {
             rising[i].copy(rt.alloc())?.cmp(&rising[i]),
             Ordering::Equal
         );
+    }
+    Ok(())
+}
+
+#[test]
+fn integers_show_their_numbers(rt: HostRuntime) -> Result<(), Fail> {
+    // a cell of an array is a scalar
+    assert_eq!(rt; size_of::<Scalar>() <= 24, true);
+    let rows = [
+        (Scalar::I1(-128), Some(-128)),
+        (Scalar::I2(-32_768), Some(-32_768)),
+        (Scalar::I4(-2_147_483_648), Some(-2_147_483_648)),
+        (
+            Scalar::I8(-9_223_372_036_854_775_808),
+            Some(-9_223_372_036_854_775_808),
+        ),
+        (Scalar::Int(-1), Some(-1)),
+        (Scalar::Ui1(255), Some(255)),
+        (Scalar::Ui2(65_535), Some(65_535)),
+        (Scalar::Ui4(4_294_967_295), Some(4_294_967_295)),
+        (
+            Scalar::Ui8(18_446_744_073_709_551_615),
+            Some(18_446_744_073_709_551_615),
+        ),
+        (Scalar::Uint(7), Some(7)),
+        (Scalar::Empty, None),
+        (Scalar::Null, None),
+        (Scalar::Cy(10_000), None),
+        (Scalar::Bool(true), None),
+        (Scalar::Error(7), None),
+        (Scalar::Bstr(Bstr::null()), None),
+        (Scalar::Decimal(Decimal::new(false, 0, 7)), None),
+    ];
+    for (scalar, integer) in rows.iter() {
+        assert_eq!(rt; scalar.integer(), *integer);
     }
     Ok(())
 }

@@ -56,6 +56,16 @@ impl Variant {
         }
     }
 
+    /// The same value; an array has no locks then.
+    pub fn into_unlocked(self) -> Variant
+        ensures { result ≡ unlocked self }
+    {
+        match self {
+            Variant::One(scalar) => Variant::One(scalar),
+            Variant::Array(array) => Variant::Array(array.into_unlocked()),
+        }
+    }
+
     /// The value of a cell of a declared type that was never put: the zero of a scalar type, and of an array type the array of one
     /// dimension without indices (this project's choice). Err only where memory is refused: the zero of a scalar type takes none.
     pub fn zero(alloc: Global, declared: ValueType) -> Result<Variant, AllocError>

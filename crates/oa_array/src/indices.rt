@@ -1,0 +1,38 @@
+// Index lists.
+ghost use Rattle.std.specs.Prelude.{◌≡◌, ◌≤◌, length};
+
+use std::marker::Model;
+
+/// An index list of a request or of a change of a table: at most 65,535 indices. Contracts see it as its list.
+#[derive(Debug, Drop)]
+pub struct Indices {
+    values: Vec<i32>,
+}
+
+impl Model for Indices {
+    ghost use Rattle.std.specs.Prelude.{List, ℤ, ◌≤◌, length};
+
+    ghost Value = { List ℤ };
+
+    ghost view = { λ i. i.values.items };
+
+    ghost invariant = { λ i. length i.values.items ≤ 65535 };
+}
+
+impl Indices {
+    /// The index list of these indices.
+    pub fn new(values: Vec<i32>) -> Indices
+        requires { length values.items ≤ 65535 }
+        ensures { result ≡ values.items }
+    {
+        Indices { values }
+    }
+
+    /// The indices.
+    pub fn as_slice(&self) -> &[i32]
+        ensures value { result.now ≡ self.now }
+        ensures few { length self.now ≤ 65535 }
+    {
+        self.values.as_slice()
+    }
+}

@@ -1,0 +1,152 @@
+-- What is true of every coercion.
+use Rattle.std.specs.Prelude.{◌≡◌, true, false}
+use Rattle.std.proofs.Common.{refl, sym, ap, subst, ◌∙◌}
+use Rattle.std.proofs.lemmas.Bool.{cond_both, or_right, false≢true}
+use Rattle.oa_model.specs.Integers.{is_integer_type}
+use Rattle.oa_model.specs.declared.var_type.VarType.{VarType}
+use Rattle.oa_model.specs.declared.var_type.VarType.TheVariants as types
+use Rattle.oa_model.specs.declared.var_type.ValueType.{ValueType}
+use Rattle.oa_model.specs.declared.var_type.ValueType.TheVariants as kinds
+use Rattle.oa_variant.specs.Keys.{number_of}
+use Rattle.oa_variant.specs.Scalars.{type_of, same_type, fits_type, zero_of}
+use Rattle.oa_variant.specs.Variants.{fits_declared}
+use Rattle.oa_variant.specs.declared.scalar.Scalar.{Scalar}
+use Rattle.oa_variant.specs.declared.scalar.Scalar.TheVariants as scalars
+use Rattle.oa_variant.specs.declared.variant.Variant.{Variant}
+use Rattle.oa_variant.specs.declared.variant.Variant.TheVariants.{One, Array}
+use Rattle.oa_coerce.specs.Numbers.{places_of, number_in, IsNearest}
+use Rattle.oa_coerce.specs.Coercions.{rule_for, Makes, MakesValue, CoercesScalar, Coerces}
+use Rattle.oa_coerce.specs.declared.rule.Rule.TheVariants.{Unchanged, Zero, NoRule}
+use Rattle.oa_coerce.proofs.Nearest.{one_nearest, nearest_itself}
+use Rattle.oa_coerce.proofs.Rules.{are_same, tests_same, by_rule, same_scalar}
+use Rattle.oa_coerce.proofs.Lifted.{lowered}
+
+-- one answer
+
+one_scalar : (s a b : Scalar) (to : VarType) → CoercesScalar s to a → CoercesScalar s to b → a ≡ b
+one_scalar s a b to = by_rule (λ r. Makes r s to a → Makes r s to b → a ≡ b) (type_of s) to
+    (λ _ of_a of_b. of_a ∙ sym of_b)
+    (λ _ of_a of_b. of_a ∙ sym of_b)
+    (λ units of_a of_b. same_scalar a b to units of_a.1 of_b.1 (one_nearest (number_in s) (places_of to) (number_of a) (number_of b) of_a.2 of_b.2))
+    (λ _ _ of_a of_b. of_a ∙ sym of_b)
+    (λ _ _ of_a of_b. of_a ∙ sym of_b)
+    (λ none _. absurd none)
+
+pub one_answer : (v a b : Variant) (to : ValueType) → Coerces v to a → Coerces v to b → a ≡ b
+one_answer (One s) a b (kinds.One to) = λ of_a of_b.
+    let x = lowered (rule_for (type_of s) to) s to a of_a in
+    let y = lowered (rule_for (type_of s) to) s to b of_b in
+    x.1 ∙ (ap One (one_scalar s x.0 y.0 to x.2 y.2) ∙ sym y.1)
+one_answer (One s) a b (kinds.Array to) =
+    cond_both (same_type (type_of s) types.Empty) Zero NoRule (λ r. MakesValue r (One s) (kinds.Array to) a → MakesValue r (One s) (kinds.Array to) b → a ≡ b)
+    (λ _ of_a of_b. of_a ∙ sym of_b) (λ _ none _. absurd none)
+one_answer (Array x) a b (kinds.One to) =
+    cond_both (same_type to types.Variant) Unchanged NoRule (λ r. MakesValue r (Array x) (kinds.One to) a → MakesValue r (Array x) (kinds.One to) b → a ≡ b)
+    (λ _ of_a of_b. of_a ∙ sym of_b) (λ _ none _. absurd none)
+one_answer (Array x) a b (kinds.Array to) =
+    cond_both (same_type x.elem to) Unchanged NoRule (λ r. MakesValue r (Array x) (kinds.Array to) a → MakesValue r (Array x) (kinds.Array to) b → a ≡ b)
+    (λ _ of_a of_b. of_a ∙ sym of_b) (λ _ none _. absurd none)
+
+-- the answer fits
+
+zero_fits_type : (t : VarType) → fits_type (zero_of t) t ≡ true
+zero_fits_type types.Empty = refl
+zero_fits_type types.Null = refl
+zero_fits_type types.I1 = refl
+zero_fits_type types.I2 = refl
+zero_fits_type types.I4 = refl
+zero_fits_type types.I8 = refl
+zero_fits_type types.Int = refl
+zero_fits_type types.Ui1 = refl
+zero_fits_type types.Ui2 = refl
+zero_fits_type types.Ui4 = refl
+zero_fits_type types.Ui8 = refl
+zero_fits_type types.Uint = refl
+zero_fits_type types.Cy = refl
+zero_fits_type types.Bool = refl
+zero_fits_type types.Error = refl
+zero_fits_type types.Bstr = refl
+zero_fits_type types.Decimal = refl
+zero_fits_type types.Variant = refl
+
+of_its_type : (m : Scalar) (to : VarType) → type_of m ≡ to → fits_type m to ≡ true
+of_its_type m to e = or_right (same_type to types.Variant) (same_type (type_of m) to) (tests_same (type_of m) to e)
+
+pub scalar_fits : (s made : Scalar) (to : VarType) → CoercesScalar s to made → fits_type made to ≡ true
+scalar_fits s made to = by_rule (λ r. Makes r s to made → fits_type made to ≡ true) (type_of s) to
+    (λ fits h. ap (λ x. fits_type x to) h ∙ fits)
+    (λ _ h. ap (λ x. fits_type x to) h ∙ zero_fits_type to)
+    (λ _ h. of_its_type made to h.1)
+    (λ _ e h. of_its_type made to (ap type_of h ∙ sym e))
+    (λ _ e h. of_its_type made to (ap type_of h ∙ sym e))
+    (λ none. absurd none)
+
+pub answer_fits : (v made : Variant) (to : ValueType) → Coerces v to made → fits_declared made to ≡ true
+answer_fits (One s) made (kinds.One to) = λ h.
+    let x = lowered (rule_for (type_of s) to) s to made h in
+    ap (λ y. fits_declared y (kinds.One to)) x.1 ∙ scalar_fits s x.0 to x.2
+answer_fits (One s) made (kinds.Array to) =
+    cond_both (same_type (type_of s) types.Empty) Zero NoRule (λ r. MakesValue r (One s) (kinds.Array to) made → fits_declared made (kinds.Array to) ≡ true)
+    (λ _ h. ap (λ y. fits_declared y (kinds.Array to)) h ∙ tests_same to to refl) (λ _ none. absurd none)
+answer_fits (Array x) made (kinds.One to) =
+    cond_both (same_type to types.Variant) Unchanged NoRule (λ r. MakesValue r (Array x) (kinds.One to) made → fits_declared made (kinds.One to) ≡ true)
+    (λ fits h. ap (λ y. fits_declared y (kinds.One to)) h ∙ fits) (λ _ none. absurd none)
+answer_fits (Array x) made (kinds.Array to) =
+    cond_both (same_type x.elem to) Unchanged NoRule (λ r. MakesValue r (Array x) (kinds.Array to) made → fits_declared made (kinds.Array to) ≡ true)
+    (λ fits h. ap (λ y. fits_declared y (kinds.Array to)) h ∙ fits) (λ _ none. absurd none)
+
+-- integers stay
+
+-- a value of an integer type is a count of ones
+counts_ones : (s : Scalar) → is_integer_type (type_of s) ≡ true → number_in s ≡ record { count = number_of s; scale = 0 }
+counts_ones (scalars.I1 z) u = refl
+counts_ones (scalars.I2 z) u = refl
+counts_ones (scalars.I4 z) u = refl
+counts_ones (scalars.I8 z) u = refl
+counts_ones (scalars.Int z) u = refl
+counts_ones (scalars.Ui1 n) u = refl
+counts_ones (scalars.Ui2 n) u = refl
+counts_ones (scalars.Ui4 n) u = refl
+counts_ones (scalars.Ui8 n) u = refl
+counts_ones (scalars.Uint n) u = refl
+counts_ones (scalars.Cy z) u = absurd (false≢true u)
+counts_ones scalars.Empty u = absurd (false≢true u)
+counts_ones scalars.Null u = absurd (false≢true u)
+counts_ones (scalars.Bool b) u = absurd (false≢true u)
+counts_ones (scalars.Error n) u = absurd (false≢true u)
+counts_ones (scalars.Bstr t) u = absurd (false≢true u)
+counts_ones (scalars.Decimal d) u = absurd (false≢true u)
+
+no_places : (t : VarType) → is_integer_type t ≡ true → places_of t ≡ 0
+no_places types.Cy u = absurd (false≢true u)
+no_places types.Empty u = refl
+no_places types.Null u = refl
+no_places types.I1 u = refl
+no_places types.I2 u = refl
+no_places types.I4 u = refl
+no_places types.I8 u = refl
+no_places types.Int u = refl
+no_places types.Ui1 u = refl
+no_places types.Ui2 u = refl
+no_places types.Ui4 u = refl
+no_places types.Ui8 u = refl
+no_places types.Uint u = refl
+no_places types.Bool u = refl
+no_places types.Error u = refl
+no_places types.Bstr u = refl
+no_places types.Decimal u = refl
+no_places types.Variant u = refl
+
+other_type : (t u : VarType) → is_integer_type t ≡ true → is_integer_type u ≡ false → t ≡ u → ⊥
+other_type t u integer not_u e = false≢true (sym not_u ∙ (ap is_integer_type (sym e) ∙ integer))
+
+pub integers_stay : (s made : Scalar) (to : VarType) → is_integer_type (type_of s) ≡ true → is_integer_type to ≡ true → CoercesScalar s to made → number_of made ≡ number_of s
+integers_stay s made to from into = by_rule (λ r. Makes r s to made → number_of made ≡ number_of s) (type_of s) to
+    (λ _ h. ap number_of h)
+    (λ empty h. absurd (other_type (type_of s) types.Empty from refl (are_same (type_of s) types.Empty empty)))
+    (λ _ h. let near = subst (λ p. IsNearest (number_in s) p (number_of made)) (no_places to into) h.2 in
+    one_nearest (record { count = number_of s; scale = 0 }) 0 (number_of made) (number_of s)
+    (subst (λ x. IsNearest x 0 (number_of made)) (counts_ones s from) near) (nearest_itself (number_of s) 0))
+    (λ _ e h. absurd (other_type to types.Decimal into refl e))
+    (λ _ e h. absurd (other_type to types.Bool into refl e))
+    (λ none. absurd none)

@@ -1,0 +1,87 @@
+-- What a value becomes, or its refusal, as a function: for definitions above that must compute, as the first refusal of a call does. That
+-- it says the same as the relations of Coercions and Refusals are the laws `scalar_answer_is_coercion` and `answer_is_coercion`.
+use Rattle.std.specs.Prelude.{◌≡◌, ℕ, ℤ, ◌+◌, ◌*◌, ◌/◌, ◌%◌, ◌^◌, ◌==◌, ◌&&◌, ◌||◌, nat_lt, Bool, true, false, not, if◌then◌else◌, Result, Ok, Err, pos, unsigned_abs}
+use Rattle.std.specs.Int.{is_negative}
+use Rattle.std.specs.Ordering.{int_eq}
+use Rattle.oa_model.specs.Integers.{in_range}
+use Rattle.oa_model.specs.declared.var_type.VarType.{VarType}
+use Rattle.oa_model.specs.declared.var_type.VarType.TheVariants as types
+use Rattle.oa_model.specs.declared.var_type.ValueType.{ValueType}
+use Rattle.oa_model.specs.declared.var_type.ValueType.TheVariants as kinds
+use Rattle.oa_variant.specs.Scalars.{type_of, zero_of}
+use Rattle.oa_variant.specs.Variants.{value_type_of, zero_value}
+use Rattle.oa_variant.specs.declared.scalar.Scalar.{Scalar}
+use Rattle.oa_variant.specs.declared.scalar.Scalar.TheVariants as scalars
+use Rattle.oa_variant.specs.declared.variant.Variant.{Variant}
+use Rattle.oa_variant.specs.declared.variant.Variant.TheVariants.{One}
+use Rattle.oa_coerce.specs.Numbers.{places_of, signed, number_in, as_decimal}
+use Rattle.oa_coerce.specs.Coercions.{rule_for, rule_of}
+use Rattle.oa_coerce.specs.declared.fault.CoerceFault.{CoerceFault}
+use Rattle.oa_coerce.specs.declared.fault.CoerceFault.TheVariants.{Overflow, TypeMismatch, Memory}
+use Rattle.oa_coerce.specs.declared.number.Number.{Number}
+use Rattle.oa_coerce.specs.declared.rule.Rule.{Rule}
+use Rattle.oa_coerce.specs.declared.rule.Rule.TheVariants.{Unchanged, Zero, Nearest, Exact, ToTruth, NoRule}
+
+-- the nearest whole number: one more than the quotient where the rest is above half a unit, or is half of it and the quotient odd
+abbrev pub half_even : ℕ → ℕ → ℕ
+half_even whole unit = if nat_lt unit (2 * (whole % unit)) || 2 * (whole % unit) == unit && whole / unit % 2 == 1 then whole / unit + 1 else whole / unit
+
+abbrev pub nearest_count : Number → ℕ → ℤ
+nearest_count x places = signed (is_negative x.count) (half_even (unsigned_abs x.count * 10 ^ places) (10 ^ x.scale))
+
+-- the scalar of an integer type, or of CY, with this count of its unit; EMPTY for the other types
+abbrev pub of_count : VarType → ℤ → Scalar
+of_count types.I1 z = scalars.I1 z
+of_count types.I2 z = scalars.I2 z
+of_count types.I4 z = scalars.I4 z
+of_count types.I8 z = scalars.I8 z
+of_count types.Int z = scalars.Int z
+of_count types.Cy z = scalars.Cy z
+of_count types.Ui1 z = scalars.Ui1 (unsigned_abs z)
+of_count types.Ui2 z = scalars.Ui2 (unsigned_abs z)
+of_count types.Ui4 z = scalars.Ui4 (unsigned_abs z)
+of_count types.Ui8 z = scalars.Ui8 (unsigned_abs z)
+of_count types.Uint z = scalars.Uint (unsigned_abs z)
+of_count t z = scalars.Empty
+
+abbrev pub within_range : VarType → ℤ → Result Scalar CoerceFault
+within_range to n = if in_range to n then Ok (of_count to n) else Err Overflow
+
+abbrev pub answer_by : Rule → Scalar → VarType → Result Scalar CoerceFault
+answer_by Unchanged s to = Ok s
+answer_by Zero s to = Ok (zero_of to)
+answer_by Nearest s to = within_range to (nearest_count (number_in s) (places_of to))
+answer_by Exact s to = Ok (scalars.Decimal (as_decimal (number_in s)))
+answer_by ToTruth s to = Ok (scalars.Bool (not (int_eq (number_in s).count (pos 0))))
+answer_by NoRule s to = Err TypeMismatch
+
+unfoldable pub coerced_scalar : Scalar → VarType → Result Scalar CoerceFault
+coerced_scalar s to = answer_by (rule_for (type_of s) to) s to
+
+abbrev pub one : Result Scalar CoerceFault → Result Variant CoerceFault
+one (Ok s) = Ok (One s)
+one (Err f) = Err f
+
+abbrev pub value_by : Rule → Variant → ValueType → Result Variant CoerceFault
+value_by Unchanged v to = Ok v
+value_by Zero v to = Ok (zero_value to)
+value_by r (One s) (kinds.One to) = one (answer_by r s to)
+value_by r v to = Err TypeMismatch
+
+-- that memory is found for the array that EMPTY becomes is no part of it
+unfoldable pub coerced : Variant → ValueType → Result Variant CoerceFault
+coerced v to = value_by (rule_of (value_type_of v) to) v to
+
+-- a call answered this for a scalar, or handed it back with the refusal of this
+abbrev pub IsScalarAnswer : Result Scalar CoerceFault → Result Scalar (Scalar × CoerceFault) → Type 0
+IsScalarAnswer answer (Ok made) = answer ≡ Ok made
+IsScalarAnswer answer (Err back) = answer ≡ Err back.1
+
+abbrev pub is_memory : CoerceFault → Bool
+is_memory Memory = true
+is_memory f = false
+
+-- the same for a value, where want of memory says nothing
+abbrev pub IsAnswer : Result Variant CoerceFault → Result Variant (Variant × CoerceFault) → Type 0
+IsAnswer answer (Ok made) = answer ≡ Ok made
+IsAnswer answer (Err back) = is_memory back.1 ≡ false → answer ≡ Err back.1

@@ -1,0 +1,4 @@
+pub mod Answers
+pub mod Coercions
+pub mod Numbers
+pub mod Refusals

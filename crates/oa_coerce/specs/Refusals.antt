@@ -1,0 +1,36 @@
+-- When a value does not become one of a type, and the codes of these refusals (MS-ERREF section 2.1).
+use Rattle.std.specs.Prelude.{◌≡◌}
+use Rattle.oa_model.specs.Codes.{disp_e_overflow, disp_e_typemismatch, e_outofmemory}
+use Rattle.oa_model.specs.declared.hresult.HResult.{HResult}
+use Rattle.oa_model.specs.declared.var_type.VarType.{VarType}
+use Rattle.oa_model.specs.declared.var_type.ValueType.{ValueType}
+use Rattle.oa_model.specs.declared.var_type.ValueType.TheVariants as kinds
+use Rattle.oa_variant.specs.Scalars.{type_of}
+use Rattle.oa_variant.specs.Variants.{value_type_of}
+use Rattle.oa_variant.specs.declared.scalar.Scalar.{Scalar}
+use Rattle.oa_variant.specs.declared.variant.Variant.{Variant}
+use Rattle.oa_coerce.specs.Coercions.{rule_for, rule_of, CoercesScalar, Coerces}
+use Rattle.oa_coerce.specs.declared.fault.CoerceFault.{CoerceFault}
+use Rattle.oa_coerce.specs.declared.fault.CoerceFault.TheVariants.{Overflow, TypeMismatch, Memory}
+use Rattle.oa_coerce.specs.declared.rule.Rule.TheVariants.{Zero, Nearest, NoRule}
+
+abbrev pub code_of : CoerceFault → HResult
+code_of Overflow = disp_e_overflow
+code_of TypeMismatch = disp_e_typemismatch
+code_of Memory = e_outofmemory
+
+-- numbers are wanted and no scalar of the type has the nearest one; there is no rule; no scalar takes memory
+abbrev pub RefusesScalar : Scalar → VarType → CoerceFault → Type 0
+RefusesScalar s to Overflow = (rule_for (type_of s) to ≡ Nearest) × ((made : Scalar) → CoercesScalar s to made → ⊥)
+RefusesScalar s to TypeMismatch = rule_for (type_of s) to ≡ NoRule
+RefusesScalar s to Memory = ⊥
+
+abbrev pub IsArrayType : ValueType → Type 0
+IsArrayType (kinds.One t) = ⊥
+IsArrayType (kinds.Array t) = Unit {0}
+
+-- the same of values, where the zero of an array type takes memory
+abbrev pub Refuses : Variant → ValueType → CoerceFault → Type 0
+Refuses v to Overflow = (rule_of (value_type_of v) to ≡ Nearest) × ((made : Variant) → Coerces v to made → ⊥)
+Refuses v to TypeMismatch = rule_of (value_type_of v) to ≡ NoRule
+Refuses v to Memory = (rule_of (value_type_of v) to ≡ Zero) × IsArrayType to

@@ -1,0 +1,363 @@
+// Coercions as an independent library answered them, the profile's own rows, arrays, and the laws called.
+use crate::{CoerceFault, coerce, coerce_scalar, laws};
+use oa_array::SafeArray;
+use oa_bstr::Bstr;
+use oa_model::{Bound, ValueType, VarType};
+use oa_variant::{Decimal, Scalar, Variant};
+use std::alloc::Global;
+use std::rt::HostRuntime;
+use std::test::Fail;
+
+fn type_named(word: &str) -> Option<VarType> {
+    Some(match word {
+        "EMPTY" => VarType::Empty,
+        "NULL" => VarType::Null,
+        "I1" => VarType::I1,
+        "I2" => VarType::I2,
+        "I4" => VarType::I4,
+        "I8" => VarType::I8,
+        "INT" => VarType::Int,
+        "UI1" => VarType::Ui1,
+        "UI2" => VarType::Ui2,
+        "UI4" => VarType::Ui4,
+        "UI8" => VarType::Ui8,
+        "UINT" => VarType::Uint,
+        "CY" => VarType::Cy,
+        "BOOL" => VarType::Bool,
+        "ERROR" => VarType::Error,
+        "BSTR" => VarType::Bstr,
+        "DECIMAL" => VarType::Decimal,
+        "VARIANT" => VarType::Variant,
+        _ => return None,
+    })
+}
+
+/// The scalar of a type that a word says: a number, CY in ten-thousandths, DECIMAL as its digits, `e-` and its scale.
+fn scalar(one: VarType, word: &str) -> Option<Scalar> {
+    match one {
+        VarType::Empty => Some(Scalar::Empty),
+        VarType::Null => Some(Scalar::Null),
+        VarType::I1 => word.parse::<i8>().ok().map(Scalar::I1),
+        VarType::I2 => word.parse::<i16>().ok().map(Scalar::I2),
+        VarType::I4 => word.parse::<i32>().ok().map(Scalar::I4),
+        VarType::I8 => word.parse::<i64>().ok().map(Scalar::I8),
+        VarType::Int => word.parse::<i32>().ok().map(Scalar::Int),
+        VarType::Ui1 => word.parse::<u8>().ok().map(Scalar::Ui1),
+        VarType::Ui2 => word.parse::<u16>().ok().map(Scalar::Ui2),
+        VarType::Ui4 => word.parse::<u32>().ok().map(Scalar::Ui4),
+        VarType::Ui8 => word.parse::<u64>().ok().map(Scalar::Ui8),
+        VarType::Uint => word.parse::<u32>().ok().map(Scalar::Uint),
+        VarType::Cy => word.parse::<i64>().ok().map(Scalar::Cy),
+        VarType::Error => word.parse::<u32>().ok().map(Scalar::Error),
+        VarType::Bool => Some(Scalar::Bool(word == "true")),
+        VarType::Bstr => Some(Scalar::Bstr(Bstr::null())),
+        VarType::Decimal => {
+            let (digits, scale) = word.split_once("e-")?;
+            let scale = scale.parse::<u8>().ok()?;
+            let (negative, digits) = match digits.strip_prefix("-") {
+                Some(digits) => (true, digits),
+                None => (false, digits),
+            };
+            let magnitude = digits.parse::<u128>().ok()?;
+            if scale > 28 || magnitude >= 79_228_162_514_264_337_593_543_950_336 {
+                return None;
+            }
+            Some(Scalar::Decimal(Decimal::new(negative, scale, magnitude)))
+        }
+        VarType::Variant => None,
+    }
+}
+
+/// Whether a value becomes what is said after the name of a type: `I4 2`, `I4 OVERFLOW`, or `VARIANT` where it stays.
+fn becomes(from: VarType, word: &str, answer: &str) -> Option<bool> {
+    let (to, wanted) = answer.split_once(' ')?;
+    let to = type_named(to)?;
+    let stays = scalar(from, word)?;
+    Some(match coerce_scalar(scalar(from, word)?, to) {
+        Ok(made) => {
+            if to == VarType::Variant {
+                made == stays
+            } else {
+                made == scalar(to, wanted)?
+            }
+        }
+        Err((back, CoerceFault::Overflow)) => wanted == "OVERFLOW" && back == stays,
+        Err((back, CoerceFault::TypeMismatch)) => wanted == "TYPEMISMATCH" && back == stays,
+        Err((_, CoerceFault::Memory)) => false,
+    })
+}
+
+/// How many answers of the rows are so; None at the first that is not.
+fn answers(rows: &str) -> Option<u32> {
+    let mut count = 0u32;
+    for row in rows.lines() {
+        let (value, answers) = row.split_once(" = ")?;
+        let (from, word) = value.split_once(' ')?;
+        let from = type_named(from)?;
+        for answer in answers.split(", ") {
+            if !becomes(from, word, answer)? {
+                return None;
+            }
+            count = count.saturating_add(1);
+        }
+    }
+    Some(count)
+}
+
+#[test]
+fn another_library_answers_so(rt: HostRuntime) -> Result<(), Fail> {
+    assert_eq!(rt; answers(OTHERS), Some(894));
+    Ok(())
+}
+
+#[test]
+fn the_profile_answers_so(rt: HostRuntime) -> Result<(), Fail> {
+    assert_eq!(rt; answers(OWN), Some(66));
+    Ok(())
+}
+
+fn is_made(found: &Result<Variant, (Variant, CoerceFault)>, wanted: &Variant) -> bool {
+    match found {
+        Ok(made) => made == wanted,
+        Err(_) => false,
+    }
+}
+
+/// Whether a value was refused as of the wrong type, and came back.
+fn is_refused(found: &Result<Variant, (Variant, CoerceFault)>, value: &Variant) -> bool {
+    match found {
+        Ok(_) => false,
+        Err((back, fault)) => back == value && *fault == CoerceFault::TypeMismatch,
+    }
+}
+
+#[test]
+fn arrays_stay_or_are_refused(rt: HostRuntime) -> Result<(), Fail> {
+    let alloc = rt.alloc();
+    for elem in [VarType::I2, VarType::Bstr, VarType::Variant] {
+        // EMPTY becomes the array of one dimension without indices
+        let zero = Variant::zero(alloc, ValueType::Array(elem))?;
+        let made = coerce(alloc, Variant::One(Scalar::Empty), ValueType::Array(elem));
+        assert_eq!(rt; is_made(&made, &zero), true);
+    }
+    let bound = Bound { count: 2, lower: 1 };
+    let Ok(longs) = SafeArray::create(alloc, VarType::I4, &[bound]) else {
+        assert_eq!(rt; 0, 1, "no memory");
+        return Ok(());
+    };
+    let longs = Variant::Array(longs);
+    for (declared, stays) in [
+        (ValueType::Array(VarType::I4), true),
+        (ValueType::One(VarType::Variant), true),
+        (ValueType::Array(VarType::Variant), false),
+        (ValueType::Array(VarType::I2), false),
+        (ValueType::One(VarType::I4), false),
+    ] {
+        let found = coerce(alloc, longs.copy(alloc)?, declared);
+        assert_eq!(rt; is_made(&found, &longs), stays);
+        assert_eq!(rt; is_refused(&found, &longs), !stays);
+    }
+    let seven = Variant::One(Scalar::I4(7));
+    let found = coerce(alloc, seven.copy(alloc)?, ValueType::Array(VarType::I4));
+    assert_eq!(rt; is_refused(&found, &seven), true);
+    let found = coerce(alloc, seven.copy(alloc)?, ValueType::One(VarType::I2));
+    assert_eq!(rt; is_made(&found, &Variant::One(Scalar::I2(7))), true);
+    Ok(())
+}
+
+#[test]
+fn the_rest_is_called(rt: HostRuntime) -> Result<(), Fail> {
+    let codes = [
+        (CoerceFault::Overflow, 0x8002_000A),
+        (CoerceFault::TypeMismatch, 0x8002_0005),
+        (CoerceFault::Memory, 0x8007_000E),
+    ];
+    for (fault, code) in codes {
+        assert_eq!(rt; fault.code().0, code);
+    }
+    assert_eq!(rt; VarType::Cy.is_integer(), false);
+    assert_eq!(rt; VarType::Uint.is_integer(), true);
+    assert_eq!(rt; VarType::Uint.is_signed_integer(), false);
+    assert_eq!(rt; VarType::I1.is_signed_integer(), true);
+    laws::one_nearest_count();
+    laws::one_answer();
+    laws::own_type_changes_nothing();
+    laws::answer_fits();
+    laws::integers_stay();
+    laws::decimals_come_back();
+    laws::scalar_answer_is_coercion();
+    laws::answer_is_coercion();
+    Ok(())
+}
+
+/// What the profile says, of values that the other library was not asked, or answered otherwise.
+const OWN: &str = r#"CY 327675000 = I2 OVERFLOW
+CY -327685000 = I2 -32768, I8 -32768
+CY -5000 = UI1 0, I8 0
+CY -5001 = UI1 OVERFLOW
+CY -15000 = UI1 OVERFLOW
+CY 25001 = I4 3
+CY 10000 = BOOL TYPEMISMATCH
+CY 9223372036854775807 = DECIMAL 9223372036854775807e-4
+DECIMAL 12345e-5 = CY 1234
+DECIMAL 5e-1 = I4 0
+DECIMAL 15e-1 = I4 2
+DECIMAL -25e-1 = I4 -2
+DECIMAL 79228162514264337593543950335e-28 = I4 8, CY 79228
+DECIMAL 184467440737095516154e-1 = UI8 18446744073709551615
+DECIMAL 184467440737095516155e-1 = UI8 OVERFLOW
+DECIMAL 92233720368547758075e-1 = I8 OVERFLOW
+DECIMAL -92233720368547758085e-1 = I8 -9223372036854775808
+DECIMAL -92233720368547758086e-1 = I8 OVERFLOW
+DECIMAL 9223372036854775807e-4 = CY 9223372036854775807
+DECIMAL 92233720368547758075e-5 = CY OVERFLOW
+DECIMAL -0e-3 = I4 0, UI8 0, CY 0, DECIMAL -0e-3
+DECIMAL 1e-0 = BOOL TYPEMISMATCH, BSTR TYPEMISMATCH
+I8 922337203685477 = CY 9223372036854770000
+I8 922337203685478 = CY OVERFLOW
+I8 -9223372036854775808 = DECIMAL -9223372036854775808e-0
+I8 2147483648 = I4 OVERFLOW
+I8 -1 = UI8 OVERFLOW
+I4 0 = DECIMAL 0e-0
+I4 12 = BSTR TYPEMISMATCH, NULL TYPEMISMATCH, EMPTY TYPEMISMATCH, ERROR TYPEMISMATCH
+I2 5 = BOOL true
+I2 0 = BOOL false
+UINT 2147483648 = INT OVERFLOW
+UI8 9223372036854775808 = I8 OVERFLOW
+UI1 1 = BOOL TYPEMISMATCH
+UI2 1 = BOOL TYPEMISMATCH
+CY 0 = DECIMAL 0e-4
+BOOL true = I2 -1, UI1 TYPEMISMATCH, CY TYPEMISMATCH, DECIMAL TYPEMISMATCH
+EMPTY - = I4 0, NULL -, ERROR 0, BSTR -, BOOL false, DECIMAL 0e-0, VARIANT -
+NULL - = I4 TYPEMISMATCH, EMPTY TYPEMISMATCH, VARIANT -
+BSTR - = I4 TYPEMISMATCH, BSTR -, VARIANT -
+ERROR 5 = I4 TYPEMISMATCH, ERROR 5, VARIANT -"#;
+
+/// What an independent library answered (VariantChangeType of Wine's oleaut32), where the profile says the same.
+const OTHERS: &str =
+    r#"CY 0 = I1 0, UI1 0, I2 0, UI2 0, I4 0, UI4 0, I8 0, UI8 0, INT 0, UINT 0, CY 0, DECIMAL 0e-4
+CY 25000 = I1 2, UI1 2, I2 2, UI2 2, I4 2, UI4 2, I8 2, UI8 2, INT 2, UINT 2, CY 25000, DECIMAL 25000e-4
+CY 35000 = I1 4, UI1 4, I2 4, UI2 4, I4 4, UI4 4, I8 4, UI8 4, INT 4, UINT 4, CY 35000, DECIMAL 35000e-4
+CY -25000 = I1 -2, UI1 OVERFLOW, I2 -2, UI2 OVERFLOW, I4 -2, UI4 OVERFLOW, UI8 OVERFLOW, INT -2, UINT OVERFLOW, CY -25000
+CY -25000 = DECIMAL -25000e-4
+CY -35000 = I1 -4, UI1 OVERFLOW, I2 -4, UI2 OVERFLOW, I4 -4, UI4 OVERFLOW, I8 -4, UI8 OVERFLOW, INT -4, UINT OVERFLOW, CY -35000
+CY -35000 = DECIMAL -35000e-4
+CY 25001 = I1 3, UI1 3, I2 3, UI2 3, I4 3, UI4 3, I8 3, UI8 3, INT 3, UINT 3, CY 25001, DECIMAL 25001e-4
+CY 24999 = I1 2, UI1 2, I2 2, UI2 2, I4 2, UI4 2, I8 2, UI8 2, INT 2, UINT 2, CY 24999, DECIMAL 24999e-4
+CY 5000 = I1 0, UI1 0, I2 0, UI2 0, I4 0, UI4 0, I8 0, UI8 0, INT 0, UINT 0, CY 5000, DECIMAL 5000e-4
+CY -5000 = I1 0, UI1 0, I2 0, UI2 0, I4 0, UI4 0, UI8 0, INT 0, UINT 0, CY -5000, DECIMAL -5000e-4
+CY 15000 = I1 2, UI1 2, I2 2, UI2 2, I4 2, UI4 2, I8 2, UI8 2, INT 2, UINT 2, CY 15000, DECIMAL 15000e-4
+CY 327675000 = I1 OVERFLOW, UI1 OVERFLOW, I2 OVERFLOW, UI2 32768, I4 32768, UI4 32768, I8 32768, UI8 32768, INT 32768, UINT 32768
+CY 327675000 = CY 327675000, DECIMAL 327675000e-4
+CY 327670000 = I1 OVERFLOW, UI1 OVERFLOW, I2 32767, UI2 32767, I4 32767, UI4 32767, I8 32767, UI8 32767, INT 32767, UINT 32767
+CY 327670000 = CY 327670000, DECIMAL 327670000e-4
+CY -327685000 = I1 OVERFLOW, UI1 OVERFLOW, I2 -32768, UI2 OVERFLOW, I4 -32768, UI4 OVERFLOW, UI8 OVERFLOW, INT -32768, UINT OVERFLOW
+CY -327685000 = CY -327685000, DECIMAL -327685000e-4
+CY -327690000 = I1 OVERFLOW, UI1 OVERFLOW, I2 OVERFLOW, UI2 OVERFLOW, I4 -32769, UI4 OVERFLOW, UI8 OVERFLOW, INT -32769, UINT OVERFLOW
+CY -327690000 = CY -327690000, DECIMAL -327690000e-4
+CY 21474836475000 = I1 OVERFLOW, UI1 OVERFLOW, I2 OVERFLOW, UI2 OVERFLOW, I4 OVERFLOW, UI4 2147483648, I8 2147483648, UI8 2147483648
+CY 21474836475000 = INT OVERFLOW, UINT 2147483648, CY 21474836475000, DECIMAL 21474836475000e-4
+CY 21474836474999 = I1 OVERFLOW, UI1 OVERFLOW, I2 OVERFLOW, UI2 OVERFLOW, I4 2147483647, UI4 2147483647, I8 2147483647, UI8 2147483647
+CY 21474836474999 = INT 2147483647, UINT 2147483647, CY 21474836474999, DECIMAL 21474836474999e-4
+CY 655355000 = I1 OVERFLOW, UI1 OVERFLOW, I2 OVERFLOW, UI2 OVERFLOW, I4 65536, UI4 65536, I8 65536, UI8 65536, INT 65536, UINT 65536
+CY 655355000 = CY 655355000, DECIMAL 655355000e-4
+CY 42949672955000 = I1 OVERFLOW, UI1 OVERFLOW, I2 OVERFLOW, UI2 OVERFLOW, I4 OVERFLOW, UI4 OVERFLOW, I8 4294967296, UI8 4294967296
+CY 42949672955000 = INT OVERFLOW, UINT OVERFLOW, CY 42949672955000, DECIMAL 42949672955000e-4
+CY 9223372036854775807 = I1 OVERFLOW, UI1 OVERFLOW, I2 OVERFLOW, UI2 OVERFLOW, I4 OVERFLOW, UI4 OVERFLOW, I8 922337203685478
+CY 9223372036854775807 = UI8 922337203685478, INT OVERFLOW, UINT OVERFLOW, CY 9223372036854775807, DECIMAL 9223372036854775807e-4
+CY -9223372036854775808 = I1 OVERFLOW, UI1 OVERFLOW, I2 OVERFLOW, UI2 OVERFLOW, I4 OVERFLOW, UI4 OVERFLOW, I8 -922337203685478
+CY -9223372036854775808 = UI8 OVERFLOW, INT OVERFLOW, UINT OVERFLOW, CY -9223372036854775808, DECIMAL -9223372036854775808e-4
+CY 1275000 = I1 OVERFLOW, UI1 128, I2 128, UI2 128, I4 128, UI4 128, I8 128, UI8 128, INT 128, UINT 128, CY 1275000, DECIMAL 1275000e-4
+CY 1285000 = I1 OVERFLOW, UI1 128, I2 128, UI2 128, I4 128, UI4 128, I8 128, UI8 128, INT 128, UINT 128, CY 1285000, DECIMAL 1285000e-4
+CY -1285000 = I1 -128, UI1 OVERFLOW, I2 -128, UI2 OVERFLOW, I4 -128, UI4 OVERFLOW, UI8 OVERFLOW, INT -128, UINT OVERFLOW, CY -1285000
+CY -1285000 = DECIMAL -1285000e-4
+CY 2555000 = I1 OVERFLOW, UI1 OVERFLOW, I2 256, UI2 256, I4 256, UI4 256, I8 256, UI8 256, INT 256, UINT 256, CY 2555000
+CY 2555000 = DECIMAL 2555000e-4
+I8 0 = I1 0, UI1 0, I2 0, UI2 0, I4 0, UI4 0, I8 0, UI8 0, INT 0, UINT 0, CY 0, DECIMAL 0e-0, BOOL false
+I8 1 = I1 1, UI1 1, I2 1, UI2 1, I4 1, UI4 1, I8 1, UI8 1, INT 1, UINT 1, CY 10000, DECIMAL 1e-0, BOOL true
+I8 -1 = I1 -1, UI1 OVERFLOW, I2 -1, UI2 OVERFLOW, I4 -1, UI4 OVERFLOW, I8 -1, INT -1, UINT OVERFLOW, CY -10000, DECIMAL -1e-0, BOOL true
+I8 127 = I1 127, UI1 127, I2 127, UI2 127, I4 127, UI4 127, I8 127, UI8 127, INT 127, UINT 127, CY 1270000, DECIMAL 127e-0, BOOL true
+I8 128 = I1 OVERFLOW, UI1 128, I2 128, UI2 128, I4 128, UI4 128, I8 128, UI8 128, INT 128, UINT 128, CY 1280000, DECIMAL 128e-0
+I8 128 = BOOL true
+I8 -128 = I1 -128, UI1 OVERFLOW, I2 -128, UI2 OVERFLOW, I4 -128, UI4 OVERFLOW, I8 -128, INT -128, UINT OVERFLOW, CY -1280000
+I8 -128 = DECIMAL -128e-0, BOOL true
+I8 -129 = I1 OVERFLOW, UI1 OVERFLOW, I2 -129, UI2 OVERFLOW, I4 -129, UI4 OVERFLOW, I8 -129, INT -129, UINT OVERFLOW, CY -1290000
+I8 -129 = DECIMAL -129e-0, BOOL true
+I8 255 = I1 OVERFLOW, UI1 255, I2 255, UI2 255, I4 255, UI4 255, I8 255, UI8 255, INT 255, UINT 255, CY 2550000, DECIMAL 255e-0
+I8 255 = BOOL true
+I8 256 = I1 OVERFLOW, UI1 OVERFLOW, I2 256, UI2 256, I4 256, UI4 256, I8 256, UI8 256, INT 256, UINT 256, CY 2560000, DECIMAL 256e-0
+I8 256 = BOOL true
+I8 32767 = I1 OVERFLOW, UI1 OVERFLOW, I2 32767, UI2 32767, I4 32767, UI4 32767, I8 32767, UI8 32767, INT 32767, UINT 32767, CY 327670000
+I8 32767 = DECIMAL 32767e-0, BOOL true
+I8 32768 = I1 OVERFLOW, UI1 OVERFLOW, I2 OVERFLOW, UI2 32768, I4 32768, UI4 32768, I8 32768, UI8 32768, INT 32768, UINT 32768
+I8 32768 = CY 327680000, DECIMAL 32768e-0, BOOL true
+I8 -32768 = I1 OVERFLOW, UI1 OVERFLOW, I2 -32768, UI2 OVERFLOW, I4 -32768, UI4 OVERFLOW, I8 -32768, INT -32768, UINT OVERFLOW
+I8 -32768 = CY -327680000, DECIMAL -32768e-0, BOOL true
+I8 65535 = I1 OVERFLOW, UI1 OVERFLOW, I2 OVERFLOW, UI2 65535, I4 65535, UI4 65535, I8 65535, UI8 65535, INT 65535, UINT 65535
+I8 65535 = CY 655350000, DECIMAL 65535e-0, BOOL true
+I8 65536 = I1 OVERFLOW, UI1 OVERFLOW, I2 OVERFLOW, I4 65536, UI4 65536, I8 65536, UI8 65536, INT 65536, UINT 65536, CY 655360000
+I8 65536 = DECIMAL 65536e-0, BOOL true
+I8 2147483647 = I1 OVERFLOW, UI1 OVERFLOW, I2 OVERFLOW, I4 2147483647, UI4 2147483647, I8 2147483647, UI8 2147483647, INT 2147483647
+I8 2147483647 = UINT 2147483647, CY 21474836470000, DECIMAL 2147483647e-0, BOOL true
+I8 2147483648 = I1 OVERFLOW, UI1 OVERFLOW, I2 OVERFLOW, I4 OVERFLOW, UI4 2147483648, I8 2147483648, UI8 2147483648, INT OVERFLOW
+I8 2147483648 = UINT 2147483648, CY 21474836480000, DECIMAL 2147483648e-0, BOOL true
+I8 -2147483648 = I1 OVERFLOW, UI1 OVERFLOW, I2 OVERFLOW, UI2 OVERFLOW, I4 -2147483648, UI4 OVERFLOW, I8 -2147483648, INT -2147483648
+I8 -2147483648 = UINT OVERFLOW, CY -21474836480000, DECIMAL -2147483648e-0, BOOL true
+I8 -2147483649 = I1 OVERFLOW, UI1 OVERFLOW, I2 OVERFLOW, UI2 OVERFLOW, I4 OVERFLOW, UI4 OVERFLOW, I8 -2147483649, INT OVERFLOW
+I8 -2147483649 = UINT OVERFLOW, CY -21474836490000, DECIMAL -2147483649e-0, BOOL true
+I8 4294967295 = I1 OVERFLOW, UI1 OVERFLOW, I2 OVERFLOW, I4 OVERFLOW, UI4 4294967295, I8 4294967295, UI8 4294967295, INT OVERFLOW
+I8 4294967295 = UINT 4294967295, CY 42949672950000, DECIMAL 4294967295e-0, BOOL true
+I8 4294967296 = I1 OVERFLOW, UI1 OVERFLOW, I2 OVERFLOW, UI2 OVERFLOW, I4 OVERFLOW, UI4 OVERFLOW, I8 4294967296, UI8 4294967296
+I8 4294967296 = INT OVERFLOW, UINT OVERFLOW, CY 42949672960000, DECIMAL 4294967296e-0, BOOL true
+I8 922337203685477 = I1 OVERFLOW, UI1 OVERFLOW, I2 OVERFLOW, UI2 OVERFLOW, I4 OVERFLOW, UI4 OVERFLOW, I8 922337203685477
+I8 922337203685477 = UI8 922337203685477, INT OVERFLOW, UINT OVERFLOW, DECIMAL 922337203685477e-0, BOOL true
+I8 922337203685478 = I1 OVERFLOW, UI1 OVERFLOW, I2 OVERFLOW, UI2 OVERFLOW, I4 OVERFLOW, UI4 OVERFLOW, I8 922337203685478
+I8 922337203685478 = UI8 922337203685478, INT OVERFLOW, UINT OVERFLOW, CY OVERFLOW, DECIMAL 922337203685478e-0, BOOL true
+I8 -922337203685477 = I1 OVERFLOW, UI1 OVERFLOW, I2 OVERFLOW, UI2 OVERFLOW, I4 OVERFLOW, UI4 OVERFLOW, I8 -922337203685477, INT OVERFLOW
+I8 -922337203685477 = UINT OVERFLOW, DECIMAL -922337203685477e-0, BOOL true
+I8 -922337203685478 = I1 OVERFLOW, UI1 OVERFLOW, I2 OVERFLOW, UI2 OVERFLOW, I4 OVERFLOW, UI4 OVERFLOW, I8 -922337203685478, INT OVERFLOW
+I8 -922337203685478 = UINT OVERFLOW, CY OVERFLOW, DECIMAL -922337203685478e-0, BOOL true
+I8 9223372036854775807 = I1 OVERFLOW, UI1 OVERFLOW, I2 OVERFLOW, UI2 OVERFLOW, I4 OVERFLOW, UI4 OVERFLOW, I8 9223372036854775807
+I8 9223372036854775807 = UI8 9223372036854775807, INT OVERFLOW, UINT OVERFLOW, CY OVERFLOW, DECIMAL 9223372036854775807e-0, BOOL true
+UI8 18446744073709551615 = I1 OVERFLOW, UI1 OVERFLOW, I2 OVERFLOW, UI2 OVERFLOW, I4 OVERFLOW, UI4 OVERFLOW, UI8 18446744073709551615
+UI8 18446744073709551615 = INT OVERFLOW, UINT OVERFLOW, CY OVERFLOW, DECIMAL 18446744073709551615e-0
+UI4 4294967295 = I1 OVERFLOW, UI1 OVERFLOW, I2 OVERFLOW, UI2 OVERFLOW, UI4 4294967295, I8 4294967295, UI8 4294967295, UINT 4294967295
+UI4 4294967295 = CY 42949672950000, DECIMAL 4294967295e-0
+I1 -5 = I1 -5, I2 -5, UI2 OVERFLOW, I4 -5, UI4 OVERFLOW, I8 -5, UI8 OVERFLOW, INT -5, UINT OVERFLOW, CY -50000, DECIMAL -5e-0, BOOL true
+INT -7 = I1 -7, UI1 OVERFLOW, I2 -7, UI2 OVERFLOW, I4 -7, I8 -7, UI8 OVERFLOW, INT -7, CY -70000, DECIMAL -7e-0, BOOL true
+UINT 4000000000 = I1 OVERFLOW, UI1 OVERFLOW, I2 OVERFLOW, UI2 OVERFLOW, UI4 4000000000, I8 4000000000, UI8 4000000000, UINT 4000000000
+UINT 4000000000 = CY 40000000000000, DECIMAL 4000000000e-0
+BOOL true = I1 -1, I2 -1, I4 -1, I8 -1, INT -1, BOOL true
+BOOL false = I1 0, I2 0, I4 0, I8 0, INT 0, BOOL false
+DECIMAL 12345e-5 = I1 0, UI1 0, I2 0, UI2 0, I4 0, UI4 0, I8 0, UI8 0, INT 0, UINT 0, DECIMAL 12345e-5
+DECIMAL 25e-1 = I1 2, UI1 2, I2 2, UI2 2, I4 2, UI4 2, I8 2, UI8 2, INT 2, UINT 2, CY 25000, DECIMAL 25e-1
+DECIMAL 35e-1 = I1 4, UI1 4, I2 4, UI2 4, I4 4, UI4 4, I8 4, UI8 4, INT 4, UINT 4, CY 35000, DECIMAL 35e-1
+DECIMAL -25e-1 = I1 -2, UI1 OVERFLOW, I2 -2, UI2 OVERFLOW, I4 -2, UI4 OVERFLOW, I8 -2, UI8 OVERFLOW, INT -2, UINT OVERFLOW, CY -25000
+DECIMAL -25e-1 = DECIMAL -25e-1
+DECIMAL -5e-1 = I1 0, UI1 0, I2 0, UI2 0, I4 0, UI4 0, I8 0, UI8 0, INT 0, UINT 0, CY -5000, DECIMAL -5e-1
+DECIMAL 5e-1 = I1 0, UI1 0, I2 0, UI2 0, I4 0, UI4 0, I8 0, UI8 0, INT 0, UINT 0, CY 5000, DECIMAL 5e-1
+DECIMAL 15e-1 = I1 2, UI1 2, I2 2, UI2 2, I4 2, UI4 2, I8 2, UI8 2, INT 2, UINT 2, CY 15000, DECIMAL 15e-1
+DECIMAL 79228162514264337593543950335e-28 = I1 8, UI1 8, I2 8, UI2 8, I4 8, UI4 8, I8 8, UI8 8, INT 8, UINT 8
+DECIMAL 79228162514264337593543950335e-28 = DECIMAL 79228162514264337593543950335e-28
+DECIMAL 79228162514264337593543950335e-0 = I1 OVERFLOW, UI1 OVERFLOW, I2 OVERFLOW, UI2 OVERFLOW, I4 OVERFLOW, UI4 OVERFLOW, I8 OVERFLOW
+DECIMAL 79228162514264337593543950335e-0 = UI8 OVERFLOW, INT OVERFLOW, UINT OVERFLOW, CY OVERFLOW
+DECIMAL 79228162514264337593543950335e-0 = DECIMAL 79228162514264337593543950335e-0
+DECIMAL 9223372036854775807e-4 = I1 OVERFLOW, UI1 OVERFLOW, I2 OVERFLOW, UI2 OVERFLOW, I4 OVERFLOW, UI4 OVERFLOW, I8 922337203685478
+DECIMAL 9223372036854775807e-4 = UI8 922337203685478, INT OVERFLOW, UINT OVERFLOW, DECIMAL 9223372036854775807e-4
+DECIMAL 9223372036854775808e-4 = I1 OVERFLOW, UI1 OVERFLOW, I2 OVERFLOW, UI2 OVERFLOW, I4 OVERFLOW, UI4 OVERFLOW, I8 922337203685478
+DECIMAL 9223372036854775808e-4 = UI8 922337203685478, INT OVERFLOW, UINT OVERFLOW, CY OVERFLOW, DECIMAL 9223372036854775808e-4
+DECIMAL -9223372036854775808e-4 = I1 OVERFLOW, UI1 OVERFLOW, I2 OVERFLOW, UI2 OVERFLOW, I4 OVERFLOW, UI4 OVERFLOW, I8 -922337203685478
+DECIMAL -9223372036854775808e-4 = UI8 OVERFLOW, INT OVERFLOW, UINT OVERFLOW, DECIMAL -9223372036854775808e-4
+DECIMAL 12345678905e-5 = I1 OVERFLOW, UI1 OVERFLOW, I2 OVERFLOW, UI2 OVERFLOW, I4 123457, UI4 123457, I8 123457, UI8 123457, INT 123457
+DECIMAL 12345678905e-5 = UINT 123457, DECIMAL 12345678905e-5
+DECIMAL 21474836475e-1 = I1 OVERFLOW, UI1 OVERFLOW, I2 OVERFLOW, UI2 OVERFLOW, I4 OVERFLOW, UI4 2147483648, I8 2147483648
+DECIMAL 21474836475e-1 = UI8 2147483648, INT OVERFLOW, UINT 2147483648, CY 21474836475000, DECIMAL 21474836475e-1
+DECIMAL 1275e-1 = I1 OVERFLOW, UI1 128, I2 128, UI2 128, I4 128, UI4 128, I8 128, UI8 128, INT 128, UINT 128, CY 1275000
+DECIMAL 1275e-1 = DECIMAL 1275e-1
+DECIMAL 2555e-1 = I1 OVERFLOW, UI1 OVERFLOW, I2 256, UI2 256, I4 256, UI4 256, I8 256, UI8 256, INT 256, UINT 256, CY 2555000
+DECIMAL 2555e-1 = DECIMAL 2555e-1
+DECIMAL -0e-0 = I1 0, UI1 0, I2 0, UI2 0, I4 0, UI4 0, I8 0, INT 0, UINT 0, CY 0, DECIMAL -0e-0
+DECIMAL 18446744073709551615e-0 = I1 OVERFLOW, UI1 OVERFLOW, I2 OVERFLOW, UI2 OVERFLOW, I4 OVERFLOW, UI4 OVERFLOW, I8 OVERFLOW
+DECIMAL 18446744073709551615e-0 = UI8 18446744073709551615, INT OVERFLOW, UINT OVERFLOW, CY OVERFLOW, DECIMAL 18446744073709551615e-0
+DECIMAL 25000000000e-10 = I1 2, UI1 2, I2 2, UI2 2, I4 2, UI4 2, I8 2, UI8 2, INT 2, UINT 2, CY 25000, DECIMAL 25000000000e-10
+DECIMAL 25000000001e-10 = I1 3, UI1 3, I2 3, UI2 3, I4 3, UI4 3, I8 3, UI8 3, INT 3, UINT 3, CY 25000, DECIMAL 25000000001e-10"#;

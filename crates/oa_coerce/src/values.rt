@@ -1,0 +1,96 @@
+//! Coercion of scalars and of values.
+ghost use Rattle.std.specs.Prelude.{◌≡◌, IfOk, IfErr};
+ghost use Rattle.oa_variant.specs.Variants.{HasZero};
+ghost use Rattle.oa_coerce.specs.Coercions.{CoercesScalar, Coerces};
+ghost use Rattle.oa_coerce.specs.Refusals.{RefusesScalar, Refuses};
+ghost use Rattle.oa_coerce.specs.Answers.{coerced_scalar, coerced, IsScalarAnswer, IsAnswer};
+
+use crate::CoerceFault;
+use crate::number::{nearest, number_in, with_count};
+use crate::rule::{Rule, places, rule_for};
+use oa_array::Cell;
+use oa_model::{ValueType, VarType};
+use oa_variant::{Decimal, Scalar, Variant};
+use std::alloc::Global;
+
+/// What a scalar becomes as one of a type; VARIANT takes any. Err hands the scalar back: TypeMismatch exactly where no rule is for the two
+/// types, Overflow exactly where its number, rounded to the type's unit, is none of the type's numbers. Takes no memory.
+pub fn coerce_scalar(value: Scalar, to: VarType) -> Result<Scalar, (Scalar, CoerceFault)>
+    ensures made { IfOk result (λ made. CoercesScalar value to made) }
+    ensures refused { IfErr result (λ e. (e.0 ≡ value) × RefusesScalar value to e.1) }
+    ensures answer { IsScalarAnswer (coerced_scalar value to) result }
+{
+    scalar_by_rule(value, to)
+}
+
+// The same against the relation alone.
+fn scalar_by_rule(value: Scalar, to: VarType) -> Result<Scalar, (Scalar, CoerceFault)>
+    ensures made { IfOk result (λ made. CoercesScalar value to made) }
+    ensures refused { IfErr result (λ e. (e.0 ≡ value) × RefusesScalar value to e.1) }
+{
+    match rule_for(value.var_type(), to) {
+        Rule::Unchanged => Ok(value),
+        Rule::Zero => Ok(Scalar::zero(to)),
+        Rule::Nearest => match with_count(to, nearest(number_in(&value), places(to))) {
+            Some(made) => Ok(made),
+            None => Err((value, CoerceFault::Overflow)),
+        },
+        Rule::Exact => {
+            let number = number_in(&value);
+            let is_negative = number.count < 0;
+            let magnitude = number.count.unsigned_abs();
+            Ok(Scalar::Decimal(Decimal::new(is_negative, number.scale, magnitude)))
+        }
+        Rule::ToTruth => Ok(Scalar::Bool(number_in(&value).count != 0)),
+        Rule::NoRule => Err((value, CoerceFault::TypeMismatch)),
+    }
+}
+
+/// What a value becomes as one of a declared type; VARIANT takes any. Err hands the value back: TypeMismatch exactly where no rule is for
+/// the two types, Overflow exactly where its number, rounded to the type's unit, is none of the type's numbers, Memory only where EMPTY
+/// was to become an array and memory was refused.
+pub fn coerce(
+    alloc: Global,
+    value: Variant,
+    declared: ValueType,
+) -> Result<Variant, (Variant, CoerceFault)>
+    requires { HasZero declared }
+    ensures made { IfOk result (λ made. Coerces value declared made) }
+    ensures refused { IfErr result (λ e. (e.0 ≡ value) × Refuses value declared e.1) }
+    ensures answer { IsAnswer (coerced value declared) result }
+{
+    value_by_rule(alloc, value, declared)
+}
+
+// The same against the relation alone.
+fn value_by_rule(
+    alloc: Global,
+    value: Variant,
+    declared: ValueType,
+) -> Result<Variant, (Variant, CoerceFault)>
+    requires { HasZero declared }
+    ensures made { IfOk result (λ made. Coerces value declared made) }
+    ensures refused { IfErr result (λ e. (e.0 ≡ value) × Refuses value declared e.1) }
+{
+    if value.fits(declared) {
+        return Ok(value);
+    }
+    match value {
+        Variant::One(scalar) => match declared {
+            ValueType::One(to) => match scalar_by_rule(scalar, to) {
+                Ok(made) => Ok(Variant::One(made)),
+                Err((scalar, fault)) => Err((Variant::One(scalar), fault)),
+            },
+            ValueType::Array(_) => {
+                if scalar.var_type() != VarType::Empty {
+                    return Err((Variant::One(scalar), CoerceFault::TypeMismatch));
+                }
+                match Variant::zero(alloc, declared) {
+                    Ok(made) => Ok(made),
+                    Err(_) => Err((Variant::One(scalar), CoerceFault::Memory)),
+                }
+            }
+        },
+        Variant::Array(array) => Err((Variant::Array(array), CoerceFault::TypeMismatch)),
+    }
+}

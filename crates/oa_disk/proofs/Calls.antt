@@ -1,11 +1,10 @@
 -- Facts on lists of calls.
-use Rattle.std.proofs.Common.{inl, ◌≡◌, ⊎_elim, ℕ, zero, suc, ◌+◌, ◌*◌, ◌-◌, ◌≤◌, List, [], ◌∷◌, ◌++◌, length, take, drop, Some, slice_get, refl, sym, ◌∙◌, ap, subst, arith}
-use Rattle.std.proofs.lemmas.List.{drop-drop, take_rest, take-append-drop}
-use Rattle.oa_disk.specs.Disk.{Torn}
+use Rattle.std.proofs.Common.{inl, ◌≡◌, ⊎_elim, ℕ, zero, suc, ◌+◌, ◌*◌, ◌<◌, ◌≤◌, List, [], ◌∷◌, ◌++◌, length, take, drop, get_or, Some, slice_get, refl, sym, ◌∙◌, ap, subst, arith}
+use Rattle.std.proofs.lemmas.List.{drop-drop, take-append-drop}
 use Rattle.oa_disk.specs.declared.call.Call.{Call}
 use Rattle.oa_disk.specs.declared.call.Call.TheVariants.{Read, Write, Sync}
-use Rattle.oa_disk.specs.Replay.{State, IsImage, IsImageOfSome, AllInside, OneInside, NoSync, within, after, last_state, states, count_of, count_all, overwritten}
-use Rattle.oa_disk.proofs.Overwritten.{length-overwritten, overwritten_below, overwritten_above}
+use Rattle.oa_disk.specs.Replay.{State, IsImage, IsImageOfSome, IsOutside, AllInside, OneInside, NoSync, within, after, last_state, states, count_of, count_all, overwritten}
+use Rattle.oa_disk.specs.Overwritten.{length-overwritten, overwritten_below, overwritten_above}
 
 one_inside : (size : ℕ) (call : Call) (at count : ℕ) → OneInside size call → Some call ≡ Some (Write at count) → at + count ≤ size
 one_inside size Read at count fits is = absurd (cc)
@@ -18,9 +17,9 @@ inside_push size [] call all one (suc k) at count is = absurd (cc)
 inside_push size (first ∷ calls) call all one zero at count is = all zero at count is
 inside_push size (first ∷ calls) call all one (suc k) at count is = inside_push size calls call (λ j. all (suc j)) one k at count is
 
-pub inside_by : (size now : ℕ) (calls later : List Call) (call : Call) → now ≡ size → AllInside size calls → OneInside size call → later ≡ calls ++ call ∷ [] → AllInside now later
-inside_by size now calls later call same all one is =
-    subst (λ (n : ℕ). AllInside n later) (sym same) (subst (λ (l : List Call). AllInside size l) (sym is) (inside_push size calls call all one))
+-- so is a larger disk
+pub inside_more : (size more : ℕ) (calls : List Call) → size ≤ more → AllInside size calls → AllInside more calls
+inside_more size more calls le all k at count is = omega (arith, all k at count is)
 
 get_drop : (calls : List Call) (n k : ℕ) (call : Call) → slice_get (drop n calls) k ≡ Some call → slice_get calls (n + k) ≡ Some call
 get_drop calls zero k call is = let same : k ≡ 0 + k = omega arith in subst (λ (j : ℕ). slice_get calls j ≡ Some call) same is
@@ -61,14 +60,25 @@ same_contents (Write at count ∷ calls) one other bytes is =
     same_contents calls (after one (Write at count) (take count bytes)) (after other (Write at count) (take count bytes)) (drop count bytes) (ap (λ (l : List ℕ). overwritten l at (take count bytes)) is)
 same_contents (Sync ∷ calls) one other bytes is = same_contents calls (after one Sync (take 0 bytes)) (after other Sync (take 0 bytes)) (drop 0 bytes) is
 
--- a torn write leaves an image of the state within it and of the state after it
-pub torn_within : (state : State) (at count : ℕ) (old new : List ℕ) → Torn at count old new → IsImage state old → IsImage (within state (Write at count)) new
+-- the same outside the pending ranges
+pub record Lies (state : State) (image : List ℕ) : Type 0 where
+  pub size : length image ≡ length state.contents
+  pub outside : (i : ℕ) → IsOutside state.pending i → get_or image i 0 ≡ get_or state.contents i 0
+
+-- the same outside one range
+pub record Keeps (at n : ℕ) (old new : List ℕ) : Type 0 where
+  pub size : length new ≡ length old
+  pub below : (i : ℕ) → i < at → get_or new i 0 ≡ get_or old i 0
+  pub above : (i : ℕ) → at + n ≤ i → get_or new i 0 ≡ get_or old i 0
+
+-- a torn write leaves what lies in the state within it and in the state after it
+pub torn_within : (state : State) (at count : ℕ) (old new : List ℕ) → Keeps at count old new → Lies state old → Lies (within state (Write at count)) new
 torn_within state at count old new torn is = record {
   size = torn.size ∙ is.size;
   outside = λ i out. ⊎_elim (torn.below i) (torn.above i) out.0 ∙ is.outside i out.1;
 }
 
-pub torn_after : (state : State) (at count : ℕ) (bytes old new : List ℕ) → count ≡ length bytes → at + count ≤ length old → Torn at count old new → IsImage state old → IsImage (after state (Write at count) bytes) new
+pub torn_after : (state : State) (at count : ℕ) (bytes old new : List ℕ) → count ≡ length bytes → at + count ≤ length old → Keeps at count old new → Lies state old → Lies (after state (Write at count) bytes) new
 torn_after state at count bytes old new same inside torn is =
     let fits : at + length bytes ≤ length state.contents = omega (arith, is.size) in
     record {
@@ -101,27 +111,6 @@ odd_state (first ∷ calls) state bytes (suc n) (suc (suc moment)) call is there
 -- the calls in two parts
 pub count_parts : (calls : List Call) (n : ℕ) → count_all (take n calls) + count_all (drop n calls) ≡ count_all calls
 count_parts calls n = sym (count_all-append (take n calls) (drop n calls)) ∙ ap count_all (take-append-drop n calls)
-
-pub state_parts : (calls : List Call) (n from : ℕ) (state : State) (bytes : List ℕ) → from ≡ count_all (take n calls)
-    → last_state (last_state state (take n calls) bytes) (take (length calls - n) (drop n calls)) (take (length bytes - from) (drop from bytes)) ≡ last_state state calls bytes
-state_parts calls n from state bytes is =
-    ap (λ (l : List Call). last_state (last_state state (take n calls) bytes) l (take (length bytes - from) (drop from bytes))) (take_rest calls n)
-    ∙ ap (λ (w : List ℕ). last_state (last_state state (take n calls) bytes) (drop n calls) w) (take_rest bytes from ∙ ap (λ (k : ℕ). drop k bytes) is)
-    ∙ sym (last_state-append (take n calls) (drop n calls) state bytes)
-    ∙ ap (λ (l : List Call). last_state state l bytes) (take-append-drop n calls)
-
-pub count_one : (calls : List Call) (n : ℕ) (call : Call) → slice_get calls n ≡ Some call → count_all (take n calls) + count_of call ≤ count_all calls
-count_one [] n call is = absurd (cc)
-count_one (first ∷ calls) zero call is = let same : count_of first ≡ count_of call = ap count_of (some_is first call is) in omega arith
-  where
-    some_is : (x y : Call) → Some x ≡ Some y → x ≡ y
-    some_is x y e = cc
-count_one (first ∷ calls) (suc n) call is = omega (arith, count_one calls n call is)
-
-pub one_at : (size : ℕ) (calls : List Call) (n : ℕ) (call : Call) → AllInside size calls → slice_get calls n ≡ Some call → OneInside size call
-one_at size calls n Read all is = tt
-one_at size calls n (Write at count) all is = all n at count is
-one_at size calls n Sync all is = tt
 
 -- the state at a moment is one of those from then on
 pub since_state : (all : List State) (t : ℕ) (state : State) (c : List ℕ) → slice_get all t ≡ Some state → IsImage state c → IsImageOfSome (drop t all) c

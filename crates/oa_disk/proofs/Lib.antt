@@ -1,7 +1,8 @@
 mod Calls
-mod Filled
+mod Entered
+mod Laid
 mod Noted
-mod Overwritten
 mod Recorded
+mod Shown
 mod Steps
 mod Tearing

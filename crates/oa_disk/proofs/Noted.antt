@@ -1,38 +1,17 @@
 -- A record with one call more.
-use Rattle.std.proofs.Common.{◌≡◌, ◌⊎◌, ℕ, ◌+◌, ◌*◌, ◌≤◌, ◌&&◌, Bool, true, false, true≢false, IsTrue, Result, Ok, Err, OnOk, OnErr, MatchResult, inl, inr, List, [], length, take, drop, get_or, refl, sym, ◌∙◌, ap, subst, arith, length-drop}
+use Rattle.std.proofs.Common.{◌≡◌, ◌⊎◌, ℕ, zero, suc, ◌+◌, ◌%◌, ◌≤◌, ◌&&◌, Bool, true, false, true≢false, IsTrue, Result, Ok, Err, OnOk, OnErr, MatchResult, inl, inr, List, [], ◌∷◌, map, length, take, drop, get_or, refl, sym, ◌∙◌, ap, subst, arith, length-drop}
 use Rattle.std.proofs.lemmas.Bool.{and_parts}
 use Rattle.std.proofs.lemmas.Slice.Eq.{bytes_eq-Decides}
 use Rattle.std.proofs.lemmas.List.{get_or-take, get_or-drop, length-take-le, ext_get_or}
-use Rattle.oa_disk.specs.Disk.{Holds, Elapses}
-use Rattle.oa_disk.specs.declared.call.Call.{Call}
-use Rattle.oa_disk.specs.declared.call.Call.TheVariants.{Read, Write, Sync}
+use Rattle.std.proofs.lemmas.List.FromFn.{length-map-range_with_len}
+use Rattle.std.proofs.lemmas.Nat.{mod_below}
+use Rattle.std.specs.List.{range_with_len}
+use Rattle.oa_disk.specs.Disk.{Holds, AllBytes, Only}
+use Rattle.oa_disk.specs.History.{IsWhole, contents_of, image_of}
+use Rattle.oa_disk.specs.declared.call.Call.TheVariants.{Read}
 use Rattle.oa_disk.specs.declared.record.Record.{Record}
-use Rattle.oa_disk.specs.Record.{noted}
-use Rattle.oa_disk.specs.Replay.{State, IsImage, last_state, after, synced, contents_after, count_all, agrees}
-use Rattle.oa_disk.proofs.Overwritten.{length-overwritten}
-use Rattle.oa_disk.proofs.Recorded.{Fits, Since, elapses_by, last_by, count_by}
-
-size_kept : (state : State) (call : Call) (more : List ℕ) → Fits state call more → length (after state call more).contents ≡ length state.contents
-size_kept state Read more fits = refl
-size_kept state (Write at count) more fits = length-overwritten state.contents more at fits.1
-size_kept state Sync more fits = refl
-
-module _ (r : Record) (call : Call) (more : List ℕ) (at : ℕ) (given : List ℕ) (recorded : count_all r.calls ≡ length r.written) (fits : Fits (last_state (synced r.first) r.calls r.written) call more)
-    (later : Record) (is : later ≡ noted r call more at given) where
-  pub state_is : last_state (synced later.first) later.calls later.written ≡ after (last_state (synced r.first) r.calls r.written) call more
-  state_is = ap (λ (x : Record). last_state (synced x.first) x.calls x.written) is ∙ last_by (synced r.first) r.calls r.written call more recorded fits _ _ refl refl
-
-  pub count_is : count_all later.calls ≡ length later.written
-  count_is = count_by (synced r.first) r.calls r.written call more recorded fits _ _ (ap (λ (x : Record). x.calls) is) (ap (λ (x : Record). x.written) is)
-
-  pub size_is : (size : ℕ) → length (contents_after r.first r.calls r.written) ≡ size → length (contents_after later.first later.calls later.written) ≡ size
-  size_is size was = ap (λ (s : State). length s.contents) state_is ∙ size_kept (last_state (synced r.first) r.calls r.written) call more fits ∙ was
-
-  pub time_is : Elapses (2 * length r.calls) (2 * length later.calls) (Since (synced r.first) r.calls r.written) (Since (synced later.first) later.calls later.written)
-      (IsImage (last_state (synced later.first) later.calls later.written))
-  time_is =
-      subst (λ (x : Record). Elapses (2 * length r.calls) (2 * length x.calls) (Since (synced r.first) r.calls r.written) (Since (synced x.first) x.calls x.written) (IsImage (last_state (synced x.first) x.calls x.written))) (sym is)
-      (elapses_by (synced r.first) r.calls r.written call more recorded fits _ _ refl refl)
+use Rattle.oa_disk.specs.Record.{noted, beginning, bytes_of, history_of}
+use Rattle.oa_disk.specs.Replay.{IsImage, AllInside, synced, agrees}
 
 -- the parts of what a call has noted
 module _ {E : Type 0} where
@@ -88,3 +67,29 @@ holds_agrees disk at bytes true is holds = (bytes_eq-Decides (take (length bytes
     same = ext_get_or 0 (take (length bytes) (drop at disk)) bytes count
         (λ i lt. get_or-take (length bytes) (drop at disk) i 0 (omega (arith, count)) ∙ get_or-drop at disk i 0 ∙ holds.each i (omega (arith, count)))
 holds_agrees disk at bytes false is holds = absurd (true≢false (sym is))
+
+-- before the first call nothing is pending
+pub first_only : (first : List ℕ) → Only first (IsImage (synced first))
+first_only first c image = ext_get_or 0 c first image.size (λ i lt. image.outside i tt)
+
+-- a file of which this is the beginning
+module _ (held : ℕ → ℕ) (size : ℕ) where
+  all_bytes : (places : List ℕ) → AllBytes (map (λ i. held i % 256) places)
+  all_bytes [] i = omega arith
+  all_bytes (place ∷ places) zero = mod_below (held place) 256 (omega arith)
+  all_bytes (place ∷ places) (suc i) = all_bytes places i
+
+  no_call : AllInside size []
+  no_call k at count is = absurd (cc)
+
+  pub beginning_whole : IsWhole size (history_of (beginning held size))
+  beginning_whole = record {
+    bytes_of_first = all_bytes (range_with_len 0 size);
+    size_of_first = length-map-range_with_len (λ i. held i % 256) 0 size;
+    bytes_of_all = λ i. omega arith;
+    count_of_all = refl;
+    inside = no_call;
+  }
+
+  pub beginning_settled : (r : Record) → r ≡ beginning held size → Only (contents_of (history_of r)) (image_of (history_of r))
+  beginning_settled r is = subst (λ (x : Record). Only (contents_of (history_of x)) (image_of (history_of x))) (sym is) (first_only (bytes_of held size))

@@ -1,14 +1,16 @@
--- One more call joins those that are recorded.
-use Rattle.std.proofs.Common.{◌≡◌, ◌⊎◌, inl, inr, ⊎_elim, ℕ, ◌+◌, ◌*◌, ◌-◌, ◌<◌, ◌≤◌, List, [], ◌∷◌, ◌++◌, length, take, drop, get_or, sym, ◌∙◌, ap, subst, arith, length-append, length-drop}
+-- One more call joins a history.
+use Rattle.std.proofs.Common.{◌≡◌, ◌⊎◌, inl, inr, ⊎_elim, ℕ, ◌+◌, ◌*◌, ◌-◌, ◌<◌, ◌≤◌, List, [], ◌∷◌, ◌++◌, length, take, drop, get_or, refl, sym, ◌∙◌, ap, subst, arith, length-append, length-drop}
 use Rattle.std.proofs.lemmas.List.{take_all, take-append-le, drop-append-le, length-take-le, get_or-take, get_or-drop, ext_get_or}
 use Rattle.std.proofs.lemmas.Bool.{cases_lt}
-use Rattle.oa_disk.specs.Disk.{Torn, Follows, Reaches, Elapses}
+use Rattle.oa_disk.specs.Disk.{Holds, Torn, Follows, Reaches, AllBytes, Stays, Writes, Syncs, Elapses}
 use Rattle.oa_disk.specs.declared.call.Call.{Call}
 use Rattle.oa_disk.specs.declared.call.Call.TheVariants.{Read, Write, Sync}
-use Rattle.oa_disk.specs.Replay.{State, IsImage, IsImageOfSome, IsOutside, states, last_state, within, after, count_of, count_all, overwritten}
+use Rattle.oa_disk.specs.Replay.{State, IsImage, IsImageOfSome, IsOutside, OneInside, states, last_state, synced, within, after, count_of, count_all, overwritten}
+use Rattle.oa_disk.specs.History.{History, IsWhole, Fits, with_call, state_of, contents_of, image_of, moment_of, image_since_of}
+use Rattle.oa_disk.specs.Overwritten.{take_bytes, drop_bytes, append_bytes, overwritten_bytes, length-overwritten, overwritten_below, overwritten_in, overwritten_above, overwritten_holds, overwritten_torn, torn_from}
 use Rattle.oa_disk.specs.Ranges.{Torn_refl}
-use Rattle.oa_disk.specs.Replaying.{length-states, counts_last}
-use Rattle.oa_disk.proofs.Overwritten.{length-overwritten, overwritten_below, overwritten_in, overwritten_above, torn_from}
+use Rattle.oa_disk.specs.Replaying.{length-states, counts_last, contents_size, contents_bytes}
+use Rattle.oa_disk.proofs.Calls.{inside_push}
 
 pub last_push : (calls : List Call) (state : State) (bytes : List ℕ) (call : Call) (more : List ℕ) → count_all calls ≡ length bytes → count_of call ≡ length more
     → last_state state (calls ++ call ∷ []) (bytes ++ more) ≡ after (last_state state calls bytes) call more
@@ -40,87 +42,124 @@ some_left [] ys c none = absurd none
 some_left (x ∷ xs) ys c (inl is) = inl is
 some_left (x ∷ xs) ys c (inr some) = inr (some_left xs ys c some)
 
--- a write lies inside, and its bytes are these
-abbrev pub Fits : State → Call → List ℕ → Type 0
-Fits state Read more = more ≡ []
-Fits state (Write at count) more = (count ≡ length more) × (at + length more ≤ length state.contents)
-Fits state Sync more = more ≡ []
+-- facts on a call that fits
+count_of_is : (size : ℕ) (call : Call) (more : List ℕ) → Fits size call more → count_of call ≡ length more
+count_of_is size Read more fits = sym (ap length fits)
+count_of_is size (Write at count) more fits = fits.0
+count_of_is size Sync more fits = sym (ap length fits)
 
-count_of_is : (state : State) (call : Call) (more : List ℕ) → Fits state call more → count_of call ≡ length more
-count_of_is state Read more fits = sym (ap length fits)
-count_of_is state (Write at count) more fits = fits.0
-count_of_is state Sync more fits = sym (ap length fits)
+no_bytes : AllBytes []
+no_bytes i = omega arith
+
+bytes_are : (size : ℕ) (call : Call) (more : List ℕ) → Fits size call more → AllBytes more
+bytes_are size Read more fits = subst AllBytes (sym fits) no_bytes
+bytes_are size (Write at count) more fits = fits.2
+bytes_are size Sync more fits = subst AllBytes (sym fits) no_bytes
+
+is_inside : (size : ℕ) (call : Call) (more : List ℕ) → Fits size call more → OneInside size call
+is_inside size Read more fits = tt
+is_inside size (Write at count) more fits = fits.1
+is_inside size Sync more fits = tt
 
 -- the write's range takes any bytes, so the new contents serve as well as the old
 written_image : (state : State) (at count : ℕ) (more c : List ℕ) → count ≡ length more → at + length more ≤ length state.contents → IsImage (within state (Write at count)) c → IsImage (after state (Write at count) more) c
 written_image state at count more c same inside is = record {
   size = is.size ∙ sym (length-overwritten state.contents more at inside);
   outside = λ i out. is.outside i out ∙ sym (⊎_elim (overwritten_below state.contents more at inside i) (λ le. overwritten_above state.contents more at inside i (omega arith)) out.0);
+  bytes = is.bytes;
 }
 
-in_call : (state : State) (call : Call) (more c : List ℕ) → Fits state call more → IsImage (within state call) c → IsImage state c ⊎ IsImage (after state call more) c
-in_call state Read more c fits is = inl is
-in_call state (Write at count) more c fits is = inr (written_image state at count more c fits.0 fits.1 is)
-in_call state Sync more c fits is = inl is
+in_call : (size : ℕ) (state : State) (call : Call) (more c : List ℕ) → length state.contents ≡ size → Fits size call more → IsImage (within state call) c → IsImage state c ⊎ IsImage (after state call more) c
+in_call size state Read more c long fits is = inl is
+in_call size state (Write at count) more c long fits is = inr (written_image state at count more c fits.0 (omega (arith, fits.0, fits.1, long)) is)
+in_call size state Sync more c long fits is = inl is
 
--- what a crash since t may have left
-abbrev pub Since : State → List Call → List ℕ → ℕ → List ℕ → Type 0
-Since first calls bytes t c = IsImageOfSome (drop t (first ∷ states first calls bytes)) c
+count_push : (before : List Call) (call : Call) → count_all (before ++ call ∷ []) ≡ count_all before + count_of call
+count_push [] call = omega arith
+count_push (c ∷ before) call = omega (arith, count_push before call)
 
-module _ (first : State) (calls : List Call) (bytes : List ℕ) (call : Call) (more : List ℕ) (all : count_all calls ≡ length bytes) (fits : Fits (last_state first calls bytes) call more) where
-  last : State
-  last = last_state first calls bytes
-
-  new_states : List State
-  new_states = within (last_state first calls bytes) call ∷ after (last_state first calls bytes) call more ∷ []
-
+module _ (size : ℕ) (h : History) (whole : IsWhole size h) (call : Call) (more : List ℕ) (fits : Fits size call more) where
   one : count_of call ≡ length more
-  one = count_of_is (last_state first calls bytes) call more fits
+  one = count_of_is size call more fits
 
-  all_states : (t : ℕ) → t ≤ 2 * length calls → drop t (first ∷ states first (calls ++ call ∷ []) (bytes ++ more)) ≡ drop t (first ∷ states first calls bytes) ++ (within (last_state first calls bytes) call ∷ after (last_state first calls bytes) call more ∷ [])
+  joined : state_of (with_call h call more) ≡ after (state_of h) call more
+  joined = last_push h.calls (synced h.first) h.written call more whole.count_of_all one
+
+  all_states : (t : ℕ) → t ≤ 2 * length h.calls → drop t (synced h.first ∷ states (synced h.first) (h.calls ++ call ∷ []) (h.written ++ more))
+      ≡ drop t (synced h.first ∷ states (synced h.first) h.calls h.written) ++ (within (state_of h) call ∷ after (state_of h) call more ∷ [])
   all_states t le =
-      ap (λ (l : List State). drop t (first ∷ l)) (states_push calls first bytes call more all one)
-      ∙ drop-append-le t (first ∷ states first calls bytes) (within (last_state first calls bytes) call ∷ after (last_state first calls bytes) call more ∷ []) (omega (arith, length-states calls first bytes))
+      ap (λ (l : List State). drop t (synced h.first ∷ l)) (states_push h.calls (synced h.first) h.written call more whole.count_of_all one)
+      ∙ drop-append-le t (synced h.first ∷ states (synced h.first) h.calls h.written) (within (state_of h) call ∷ after (state_of h) call more ∷ []) (omega (arith, length-states h.calls (synced h.first) h.written))
 
-  new_or_past : (t : ℕ) (c : List ℕ) → t ≤ 2 * length calls → IsImageOfSome (within (last_state first calls bytes) call ∷ after (last_state first calls bytes) call more ∷ []) c
-      → Since first calls bytes t c ⊎ IsImage (after (last_state first calls bytes) call more) c
-  new_or_past t c le (inl is) = ⊎_elim (λ past. inl (counts_last calls first bytes c t le past)) (λ now. inr now) (in_call (last_state first calls bytes) call more c fits is)
+  new_or_past : (t : ℕ) (c : List ℕ) → t ≤ 2 * length h.calls → IsImageOfSome (within (state_of h) call ∷ after (state_of h) call more ∷ []) c
+      → image_since_of h t c ⊎ IsImage (after (state_of h) call more) c
+  new_or_past t c le (inl is) = ⊎_elim (λ past. inl (counts_last h.calls (synced h.first) h.written c t le past)) (λ now. inr now) (in_call size (state_of h) call more c (contents_size size h whole) fits is)
   new_or_past t c le (inr (inl is)) = inr is
   new_or_past t c le (inr (inr none)) = absurd none
 
-  elapses : Elapses (2 * length calls) (2 * length (calls ++ call ∷ [])) (Since first calls bytes) (Since first (calls ++ call ∷ []) (bytes ++ more)) (IsImage (last_state first (calls ++ call ∷ []) (bytes ++ more)))
+  elapses : Elapses (moment_of h) (moment_of (with_call h call more)) (image_since_of h) (image_since_of (with_call h call more)) (image_of (with_call h call more))
   elapses = record {
-    later = omega (arith, length-append calls (call ∷ []));
+    later = omega (arith, length-append h.calls (call ∷ []));
+    soon = omega (arith, length-append h.calls (call ∷ []));
     nothing_else = λ t c le since. ⊎_elim (λ past. inl past)
-        (λ new. ⊎_elim (λ past. inl past) (λ now. inr (subst (λ (s : State). IsImage s c) (sym (last_push calls first bytes call more all one)) now)) (new_or_past t c le new))
-        (some_split (drop t (first ∷ states first calls bytes)) (within (last_state first calls bytes) call ∷ after (last_state first calls bytes) call more ∷ []) c
+        (λ new. ⊎_elim (λ past. inl past) (λ now. inr (subst (λ (s : State). IsImage s c) (sym joined) now)) (new_or_past t c le new))
+        (some_split (drop t (synced h.first ∷ states (synced h.first) h.calls h.written)) (within (state_of h) call ∷ after (state_of h) call more ∷ []) c
         (subst (λ (l : List State). IsImageOfSome l c) (all_states t le) since));
     keeps = λ t c le past. subst (λ (l : List State). IsImageOfSome l c) (sym (all_states t le))
-        (some_left (drop t (first ∷ states first calls bytes)) (within (last_state first calls bytes) call ∷ after (last_state first calls bytes) call more ∷ []) c past);
+        (some_left (drop t (synced h.first ∷ states (synced h.first) h.calls h.written)) (within (state_of h) call ∷ after (state_of h) call more ∷ []) c past);
   }
 
-  -- time goes on by one call
-  pub elapses_by : (later : List Call) (written : List ℕ) → later ≡ calls ++ call ∷ [] → written ≡ bytes ++ more
-      → Elapses (2 * length calls) (2 * length later) (Since first calls bytes) (Since first later written) (IsImage (last_state first later written))
-  elapses_by later written is_later is_written =
-      subst (λ (l : List Call). Elapses (2 * length calls) (2 * length l) (Since first calls bytes) (Since first l written) (IsImage (last_state first l written))) (sym is_later)
-      (subst (λ (w : List ℕ). Elapses (2 * length calls) (2 * length (calls ++ call ∷ [])) (Since first calls bytes) (Since first (calls ++ call ∷ []) w) (IsImage (last_state first (calls ++ call ∷ []) w))) (sym is_written) elapses)
+  still_whole : IsWhole size (with_call h call more)
+  still_whole = record {
+    bytes_of_first = whole.bytes_of_first;
+    size_of_first = whole.size_of_first;
+    bytes_of_all = append_bytes h.written more whole.bytes_of_all (bytes_are size call more fits);
+    count_of_all = omega (arith, count_push h.calls call, whole.count_of_all, one, length-append h.written more);
+    inside = inside_push size h.calls call whole.inside (is_inside size call more fits);
+  }
 
-  pub last_by : (later : List Call) (written : List ℕ) → later ≡ calls ++ call ∷ [] → written ≡ bytes ++ more → last_state first later written ≡ after (last_state first calls bytes) call more
-  last_by later written is_later is_written =
-      ap (λ (l : List Call). last_state first l written) is_later ∙ ap (λ (w : List ℕ). last_state first (calls ++ call ∷ []) w) is_written ∙ last_push calls first bytes call more all one
+  module _ (new : History) (is : new ≡ with_call h call more) where
+    pub state_is : state_of new ≡ after (state_of h) call more
+    state_is = ap (λ (x : History). state_of x) is ∙ joined
 
-  pub count_by : (later : List Call) (written : List ℕ) → later ≡ calls ++ call ∷ [] → written ≡ bytes ++ more → count_all later ≡ length written
-  count_by later written is_later is_written = ap count_all is_later ∙ omega (arith, count_push calls, all, one, length-append bytes more) ∙ ap length (sym is_written)
-    where
-      count_push : (before : List Call) → count_all (before ++ call ∷ []) ≡ count_all before + count_of call
-      count_push [] = omega arith
-      count_push (c ∷ before) = omega (arith, count_push before)
+    -- time goes on by one call
+    pub time_is : Elapses (moment_of h) (moment_of new) (image_since_of h) (image_since_of new) (image_of new)
+    time_is = subst (λ (x : History). Elapses (moment_of h) (moment_of x) (image_since_of h) (image_since_of x) (image_of x)) (sym is) elapses
+
+    pub whole_is : IsWhole size new
+    whole_is = subst (λ (x : History). IsWhole size x) (sym is) still_whole
+
+-- no call was made
+module _ (size : ℕ) (h new : History) (is : new ≡ h) where
+  pub same_whole : IsWhole size h → IsWhole size new
+  same_whole whole = subst (λ (x : History). IsWhole size x) (sym is) whole
+
+  pub same_stays : Stays (contents_of h) (contents_of new) (image_of h) (image_of new)
+  same_stays = record {
+    contents = ap (λ (x : History). contents_of x) is;
+    images = λ c left. subst (λ (x : History). image_of x c) is left;
+    stay = λ c left. subst (λ (x : History). image_of x c) (sym is) left;
+  }
+
+  pub same_writes : (at n : ℕ) → Writes at n (contents_of h) (contents_of new) (image_of h) (image_of new)
+  same_writes at n = record {
+    others = subst (λ (x : History). Torn at n (contents_of h) (contents_of x)) (sym is) (Torn_refl at n (contents_of h));
+    images = λ c left. (c, subst (λ (x : History). image_of x c) is left, Torn_refl at n c);
+    stay = λ c left. subst (λ (x : History). image_of x c) (sym is) left;
+  }
+
+  pub same_time : Elapses (moment_of h) (moment_of new) (image_since_of h) (image_since_of new) (image_of new)
+  same_time = record {
+    later = omega (arith, ap (λ (x : History). moment_of x) is);
+    soon = omega (arith, ap (λ (x : History). moment_of x) is);
+    nothing_else = λ t c le left. inl (subst (λ (x : History). image_since_of x t c) is left);
+    keeps = λ t c le left. subst (λ (x : History). image_since_of x t c) (sym is) left;
+  }
 
 -- each image after a write is an image before it, with any bytes in the range
-pub write_follows : (state : State) (at count : ℕ) (more : List ℕ) → count ≡ length more → at + length more ≤ length state.contents
+write_follows : (state : State) (at count : ℕ) (more : List ℕ) → AllBytes state.contents → count ≡ length more → at + length more ≤ length state.contents
     → Follows (Torn at (length more)) (IsImage state) (IsImage (after state (Write at count) more))
-write_follows state at count more same inside c is = (older, older_is, subst (λ (n : ℕ). Torn at n older c) length_old (torn_from c old_bytes at fits_c))
+write_follows state at count more all same inside c is = (older, older_is, subst (λ (n : ℕ). Torn at n older c) length_old (torn_from c old_bytes at fits_c is.bytes))
   where
     size_is : length c ≡ length state.contents
     size_is = is.size ∙ length-overwritten state.contents more at inside
@@ -156,10 +195,11 @@ write_follows state at count more same inside c is = (older, older_is, subst (λ
     older_is = record {
       size = length-overwritten c (take (length more) (drop at state.contents)) at fits_c ∙ size_is;
       outside = λ i out. at_each i out (cases_lt i at) (cases_lt i (at + count));
+      bytes = overwritten_bytes c at (take (length more) (drop at state.contents)) is.bytes (take_bytes (length more) (drop at state.contents) (drop_bytes at state.contents all));
     }
 
 -- any bytes in the range of a write are left by an image after it
-pub write_reaches : (state : State) (at count : ℕ) (more : List ℕ) → count ≡ length more → at + length more ≤ length state.contents
+write_reaches : (state : State) (at count : ℕ) (more : List ℕ) → count ≡ length more → at + length more ≤ length state.contents
     → Reaches (Torn at (length more)) (IsImage state) (IsImage (after state (Write at count) more))
 write_reaches state at count more same inside d c was torn = record {
   size = torn.size ∙ was.size ∙ sym (length-overwritten state.contents more at inside);
@@ -167,15 +207,53 @@ write_reaches state at count more same inside d c was torn = record {
       (λ lt. torn.below i lt ∙ was.outside i out.1 ∙ sym (overwritten_below state.contents more at inside i lt))
       (λ le. torn.above i (omega arith) ∙ was.outside i out.1 ∙ sym (overwritten_above state.contents more at inside i (omega arith)))
       out.0;
+  bytes = λ i. ⊎_elim (λ unchanged. omega (arith, unchanged, was.bytes i)) (λ lt. lt) (torn.bytes i);
 }
 
 -- an image before a write is one after it
-pub write_stays : (state : State) (at count : ℕ) (more c : List ℕ) → count ≡ length more → at + length more ≤ length state.contents → IsImage state c → IsImage (after state (Write at count) more) c
+write_stays : (state : State) (at count : ℕ) (more c : List ℕ) → count ≡ length more → at + length more ≤ length state.contents → IsImage state c → IsImage (after state (Write at count) more) c
 write_stays state at count more c same inside was = write_reaches state at count more same inside c c was (Torn_refl at (length more) c)
 
 -- a sync drops what is pending
-pub synced_image : (state : State) (c : List ℕ) → IsImage (after state Sync []) c → IsImage state c
-synced_image state c is = record { size = is.size; outside = λ i out. is.outside i tt }
+synced_image : (state : State) (c : List ℕ) → IsImage (after state Sync []) c → IsImage state c
+synced_image state c is = record { size = is.size; outside = λ i out. is.outside i tt; bytes = is.bytes }
 
-pub synced_only : (state : State) (contents c : List ℕ) → contents ≡ state.contents → IsImage (after state Sync []) c → c ≡ contents
-synced_only state contents c same is = ext_get_or 0 c state.contents is.size (λ i lt. is.outside i tt) ∙ sym same
+module _ (size : ℕ) (h : History) (whole : IsWhole size h) (new : History) where
+  pub read_stays : new ≡ with_call h Read [] → Stays (contents_of h) (contents_of new) (image_of h) (image_of new)
+  read_stays is = let now = state_is size h whole Read [] refl new is in record {
+    contents = ap (λ (s : State). s.contents) now;
+    images = λ c left. subst (λ (s : State). IsImage s c) now left;
+    stay = λ c left. subst (λ (s : State). IsImage s c) (sym now) left;
+  }
+
+  pub sync_syncs : new ≡ with_call h Sync [] → Syncs (contents_of h) (contents_of new) (image_of new)
+  sync_syncs is = let now = state_is size h whole Sync [] refl new is in record {
+    contents = ap (λ (s : State). s.contents) now;
+    durable = λ c left. let image = subst (λ (s : State). IsImage s c) now left in ext_get_or 0 c (contents_of h) image.size (λ i lt. image.outside i tt);
+  }
+
+  pub sync_images : new ≡ with_call h Sync [] → (c : List ℕ) → image_of new c → image_of h c
+  sync_images is c left = synced_image (state_of h) c (subst (λ (s : State). IsImage s c) (state_is size h whole Sync [] refl new is) left)
+
+  module _ (at : ℕ) (bytes : List ℕ) (fits : at + length bytes ≤ size) (all : AllBytes bytes) (is : new ≡ with_call h (Write at (length bytes)) bytes) where
+    now : state_of new ≡ after (state_of h) (Write at (length bytes)) bytes
+    now = state_is size h whole (Write at (length bytes)) bytes (refl, fits, all) new is
+
+    inside : at + length bytes ≤ length (contents_of h)
+    inside = omega (arith, fits, contents_size size h whole)
+
+    contents_are : contents_of new ≡ overwritten (contents_of h) at bytes
+    contents_are = ap (λ (s : State). s.contents) now
+
+    pub write_holds : Holds (contents_of new) at bytes
+    write_holds = subst (λ (l : List ℕ). Holds l at bytes) (sym contents_are) (overwritten_holds (contents_of h) bytes at inside)
+
+    pub write_writes : Writes at (length bytes) (contents_of h) (contents_of new) (image_of h) (image_of new)
+    write_writes = record {
+      others = subst (λ (l : List ℕ). Torn at (length bytes) (contents_of h) l) (sym contents_are) (overwritten_torn (contents_of h) bytes at inside all);
+      images = λ c left. write_follows (state_of h) at (length bytes) bytes (contents_bytes size h whole) refl inside c (subst (λ (s : State). IsImage s c) now left);
+      stay = λ c was. subst (λ (s : State). IsImage s c) (sym now) (write_stays (state_of h) at (length bytes) bytes c refl inside was);
+    }
+
+    pub write_all : Reaches (Torn at (length bytes)) (image_of h) (image_of new)
+    write_all d c was torn = subst (λ (s : State). IsImage s c) (sym now) (write_reaches (state_of h) at (length bytes) bytes refl inside d c was torn)

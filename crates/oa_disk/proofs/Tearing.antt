@@ -2,29 +2,31 @@
 use Rattle.std.proofs.Common.{inl, inr, ◌≡◌, ℕ, suc, ◌+◌, ◌*◌, ◌-◌, ◌/◌, ◌<◌, ◌≤◌, List, [], ◌∷◌, ◌++◌, length, take, drop, get_or, replicate, Some, slice_get, refl, sym, ◌∙◌, ap, subst, arith, length-drop, length-take}
 use Rattle.std.proofs.lemmas.Bool.{cases_eq}
 use Rattle.std.proofs.lemmas.List.{length-replicate, length-take-le, take-append-drop, drop-take, take-take, take_more, get_or-drop}
-use Rattle.oa_disk.specs.Disk.{Torn}
+use Rattle.oa_disk.specs.Disk.{AllBytes}
 use Rattle.oa_disk.specs.declared.call.Call.{Call}
 use Rattle.oa_disk.specs.declared.call.Call.TheVariants.{Read, Write, Sync}
 use Rattle.oa_disk.specs.declared.crash.Tear.{Tear}
 use Rattle.oa_disk.specs.declared.crash.Tear.TheVariants.{Lost, Kept, Filled, Cut}
-use Rattle.oa_disk.specs.Ranges.{Torn_refl, Torn_within}
-use Rattle.oa_disk.specs.Replay.{State, IsImage, AllInside, NoSync, within, after, last_state, states, synced, contents_after, count_all}
-use Rattle.oa_disk.specs.Replaying.{contents_is_image}
+use Rattle.oa_disk.specs.Overwritten.{length-overwritten, overwritten_below, overwritten_above}
+use Rattle.oa_disk.specs.Replay.{State, IsImage, AllInside, NoSync, within, after, last_state, states, synced, contents_after, overwritten, count_all}
+use Rattle.oa_disk.specs.Replaying.{state_size}
 use Rattle.oa_disk.specs.Tear.{torn, rest_of, torn_all, IsTorn}
-use Rattle.oa_disk.proofs.Overwritten.{length-overwritten, overwritten_torn}
-use Rattle.oa_disk.proofs.Calls.{last_state-append, torn_within, torn_after, even_state, odd_state, no_sync_drop, inside_drop, inside_take, count_parts}
+use Rattle.oa_disk.proofs.Calls.{Lies, Keeps, last_state-append, torn_within, torn_after, even_state, odd_state, no_sync_drop, inside_drop, inside_take, count_parts}
 use Rattle.oa_disk.proofs.Steps.{get_at}
 
+overwritten_keeps : (disk bytes : List ℕ) (at n : ℕ) → length bytes ≤ n → at + n ≤ length disk → Keeps at n disk (overwritten disk at bytes)
+overwritten_keeps disk bytes at n le inside = record {
+  size = length-overwritten disk bytes at (omega arith);
+  below = λ i lt. overwritten_below disk bytes at (omega arith) i lt;
+  above = λ i past. overwritten_above disk bytes at (omega arith) i (omega arith);
+}
+
 -- one write tears its range alone
-range_torn : (tear : Tear) (disk : List ℕ) (at n : ℕ) (bytes : List ℕ) → length bytes ≡ n → at + n ≤ length disk → Torn at n disk (torn tear disk at bytes)
-range_torn Lost disk at n bytes is inside = Torn_refl at n disk
-range_torn Kept disk at n bytes is inside = subst (λ (k : ℕ). Torn at k disk (torn Kept disk at bytes)) is (overwritten_torn disk bytes at (omega (arith, is)))
-range_torn (Filled byte) disk at n bytes is inside =
-    let long = length-replicate (length bytes) byte ∙ is in
-    subst (λ (k : ℕ). Torn at k disk (torn (Filled byte) disk at bytes)) long (overwritten_torn disk (replicate (length bytes) byte) at (omega (arith, long)))
-range_torn (Cut m) disk at n bytes is inside =
-    let short : length (take m bytes) ≤ n = omega (arith, length-take m bytes, is) in
-    Torn_within at (length (take m bytes)) at n disk (torn (Cut m) disk at bytes) (omega arith) (omega arith) (overwritten_torn disk (take m bytes) at (omega arith))
+range_torn : (tear : Tear) (disk : List ℕ) (at n : ℕ) (bytes : List ℕ) → length bytes ≡ n → at + n ≤ length disk → Keeps at n disk (torn tear disk at bytes)
+range_torn Lost disk at n bytes is inside = record { size = refl; below = λ i lt. refl; above = λ i le. refl }
+range_torn Kept disk at n bytes is inside = overwritten_keeps disk bytes at n (omega (arith, is)) inside
+range_torn (Filled byte) disk at n bytes is inside = overwritten_keeps disk (replicate (length bytes) byte) at n (omega (arith, length-replicate (length bytes) byte, is)) inside
+range_torn (Cut m) disk at n bytes is inside = overwritten_keeps disk (take m bytes) at n (omega (arith, length-take m bytes, is)) inside
 
 inside_of : (disk new : List ℕ) (call : Call) (calls : List Call) → length new ≡ length disk → AllInside (length disk) (call ∷ calls) → AllInside (length new) calls
 inside_of disk new call calls same all k at count is = omega (arith, all (suc k) at count is, same)
@@ -34,7 +36,7 @@ some_same x y e = cc
 
 -- the calls that have ended, none of them a sync
 pub ended_image : (tear : Tear) (calls : List Call) (s : State) (disk written : List ℕ) → AllInside (length disk) calls → NoSync calls → count_all calls ≤ length written
-    → IsImage s disk → IsImage (last_state s calls written) (torn_all tear disk calls written)
+    → Lies s disk → Lies (last_state s calls written) (torn_all tear disk calls written)
 ended_image tear [] s disk written inside none fits is = is
 ended_image tear (Read ∷ calls) s disk written inside none fits is = ended_image (rest_of tear 0) calls s disk (drop 0 written) (λ k. inside (suc k)) (λ k. none (suc k)) (omega arith) is
 ended_image tear (Sync ∷ calls) s disk written inside none fits is = absurd (none 0 refl)
@@ -47,7 +49,7 @@ ended_image tear (Write at n ∷ calls) s disk written inside none fits is =
 
 -- and one that has only begun
 pub begun_image : (tear : Tear) (calls : List Call) (last : Call) (s : State) (disk written : List ℕ) → AllInside (length disk) (calls ++ last ∷ []) → NoSync calls → count_all (calls ++ last ∷ []) ≤ length written
-    → IsImage s disk → IsImage (within (last_state s calls written) last) (torn_all tear disk (calls ++ last ∷ []) written)
+    → Lies s disk → Lies (within (last_state s calls written) last) (torn_all tear disk (calls ++ last ∷ []) written)
 begun_image tear [] Read s disk written inside none fits is = is
 begun_image tear [] Sync s disk written inside none fits is = is
 begun_image tear [] (Write at n) s disk written inside none fits is =
@@ -61,18 +63,8 @@ begun_image tear (Write at n ∷ calls) last s disk written inside none fits is 
     (inside_of disk (torn tear disk at (take n written)) (Write at n) (calls ++ last ∷ []) here.size inside) (λ k. none (suc k)) (omega (arith, length-drop n written))
     (torn_after s at n (take n written) disk (torn tear disk at (take n written)) (sym long) (inside 0 at n refl) here is)
 
--- calls keep the size
-size_after_calls : (calls : List Call) (s : State) (written : List ℕ) → AllInside (length s.contents) calls → count_all calls ≤ length written → length (last_state s calls written).contents ≡ length s.contents
-size_after_calls [] s written inside fits = refl
-size_after_calls (Read ∷ calls) s written inside fits = size_after_calls calls s (drop 0 written) (λ k. inside (suc k)) (omega arith)
-size_after_calls (Sync ∷ calls) s written inside fits = size_after_calls calls (after s Sync (take 0 written)) (drop 0 written) (λ k. inside (suc k)) (omega arith)
-size_after_calls (Write at n ∷ calls) s written inside fits =
-    let long : length (take n written) ≡ n = length-take-le n written (omega arith) in
-    let same = length-overwritten s.contents (take n written) at (omega (arith, long, inside 0 at n refl)) in
-    size_after_calls calls (after s (Write at n) (take n written)) (drop n written) (inside_of s.contents (after s (Write at n) (take n written)).contents (Write at n) calls same inside) (omega (arith, length-drop n written)) ∙ same
-
 module _ (tear : Tear) (first : List ℕ) (calls : List Call) (written : List ℕ) (moment : ℕ) (image : List ℕ)
-    (among : moment ≤ 2 * length calls) (inside : AllInside (length first) calls) (fits : count_all calls ≤ length written) (is : IsTorn tear first calls written moment image) where
+    (among : moment ≤ 2 * length calls) (inside : AllInside (length first) calls) (fits : count_all calls ≤ length written) (is : IsTorn tear first calls written moment image) (all : AllBytes image) where
   n : ℕ
   n = moment / 2
 
@@ -106,13 +98,16 @@ module _ (tear : Tear) (first : List ℕ) (calls : List Call) (written : List �
       (no_sync_drop (take (moment / 2) calls) is.synced is.last.none_later)
 
   base_size : length (contents_after first (take is.synced calls) written) ≡ length first
-  base_size = size_after_calls (take is.synced calls) (synced first) written (inside_take (length first) calls is.synced inside) (omega (arith, count_parts calls is.synced))
+  base_size = state_size (take is.synced calls) (synced first) written (length first) refl (inside_take (length first) calls is.synced inside) (omega (arith, count_parts calls is.synced))
 
   inside_rest : AllInside (length (contents_after first (take is.synced calls) written)) (drop is.synced calls)
   inside_rest = subst (λ (k : ℕ). AllInside k (drop is.synced calls)) (sym base_size) (inside_drop (length first) calls is.synced inside)
 
-  base_image : IsImage (last_state (synced first) (take is.synced calls) written) (contents_after first (take is.synced calls) written)
-  base_image = contents_is_image (last_state (synced first) (take is.synced calls) written) (contents_after first (take is.synced calls) written) refl
+  base_image : Lies (last_state (synced first) (take is.synced calls) written) (contents_after first (take is.synced calls) written)
+  base_image = record { size = refl; outside = λ i out. refl }
+
+  with_bytes : (state : State) → Lies state image → IsImage state image
+  with_bytes state lies = record { size = lies.size; outside = lies.outside; bytes = all }
 
   state_is : last_state (last_state (synced first) (take is.synced calls) written) (take (moment / 2 - is.synced) (drop is.synced calls)) (drop (count_all (take is.synced calls)) written) ≡ last_state (synced first) (take (moment / 2) calls) written
   state_is = sym (ap (λ (l : List Call). last_state (synced first) l written) front ∙ last_state-append (take is.synced calls) (take (moment / 2 - is.synced) (drop is.synced calls)) (synced first) written)
@@ -129,8 +124,8 @@ module _ (tear : Tear) (first : List ℕ) (calls : List Call) (written : List �
       (omega (arith, fits_rest, count_parts (drop is.synced calls) (moment / 2 - is.synced))) base_image in (
         last_state (synced first) (take (moment / 2) calls) written,
         even_state calls (synced first) written (moment / 2) moment e (omega (arith, among)),
-        subst (λ (c : List ℕ). IsImage (last_state (synced first) (take (moment / 2) calls) written) c) (sym torn_is)
-            (subst (λ (s : State). IsImage s (torn_all tear (contents_after first (take is.synced calls) written) (take (moment / 2 - is.synced) (drop is.synced calls)) (drop (count_all (take is.synced calls)) written))) state_is made),
+        with_bytes (last_state (synced first) (take (moment / 2) calls) written) (subst (λ (c : List ℕ). Lies (last_state (synced first) (take (moment / 2) calls) written) c) (sym torn_is)
+            (subst (λ (s : State). Lies s (torn_all tear (contents_after first (take is.synced calls) written) (take (moment / 2 - is.synced) (drop is.synced calls)) (drop (count_all (take is.synced calls)) written))) state_is made)),
       )
 
   odd : moment ≡ 2 * (moment / 2) + 1 → (state : State) × (slice_get (synced first ∷ states (synced first) calls written) moment ≡ Some state) × IsImage state image
@@ -154,8 +149,9 @@ module _ (tear : Tear) (first : List ℕ) (calls : List Call) (written : List �
       let image_is = torn_all tear (contents_after first (take is.synced calls) written) (take (moment / 2 - is.synced) (drop is.synced calls) ++ get_or calls (moment / 2) Read ∷ []) (drop (count_all (take is.synced calls)) written) in (
         within (last_state (synced first) (take (moment / 2) calls) written) (get_or calls (moment / 2) Read),
         odd_state calls (synced first) written (moment / 2) moment (get_or calls (moment / 2) Read) o (get_at calls (moment / 2) (get_or calls (moment / 2) Read) lt refl),
-        subst (λ (c : List ℕ). IsImage (within (last_state (synced first) (take (moment / 2) calls) written) (get_or calls (moment / 2) Read)) c) (sym torn_is)
-            (subst (λ (s : State). IsImage (within s (get_or calls (moment / 2) Read)) image_is) state_is made),
+        with_bytes (within (last_state (synced first) (take (moment / 2) calls) written) (get_or calls (moment / 2) Read))
+            (subst (λ (c : List ℕ). Lies (within (last_state (synced first) (take (moment / 2) calls) written) (get_or calls (moment / 2) Read)) c) (sym torn_is)
+            (subst (λ (s : State). Lies (within s (get_or calls (moment / 2) Read)) image_is) state_is made)),
       )
 
   -- the image of that moment

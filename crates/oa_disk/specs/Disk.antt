@@ -6,11 +6,16 @@ pub record Holds (disk : List ℕ) (at : ℕ) (bytes : List ℕ) : Type 0 where
   pub within : at + length bytes ≤ length disk
   pub each : (i : ℕ) → i < length bytes → slice_index disk (at + i) ≡ slice_index bytes i
 
+-- each is a byte
+abbrev pub AllBytes : List ℕ → Type 0
+AllBytes numbers = (i : ℕ) → slice_index numbers i < 256
+
 -- any bytes in the n places from `at` on, the same outside
 pub record Torn (at n : ℕ) (old new : List ℕ) : Type 0 where
   pub size : length new ≡ length old
   pub below : (i : ℕ) → i < at → slice_index new i ≡ slice_index old i
   pub above : (i : ℕ) → at + n ≤ i → slice_index new i ≡ slice_index old i
+  pub bytes : (i : ℕ) → (slice_index new i ≡ slice_index old i) ⊎ (slice_index new i < 256)
 
 -- each new image is an old image after a step
 abbrev pub Follows : (List ℕ → List ℕ → Type 0) → (List ℕ → Type 0) → (List ℕ → Type 0) → Type 0
@@ -24,9 +29,32 @@ Reaches step old new = (d c : List ℕ) → old d → step d c → new c
 abbrev pub Only : List ℕ → (List ℕ → Type 0) → Type 0
 Only disk images = (c : List ℕ) → images c → c ≡ disk
 
--- Time goes on: a crash since t might have left what it might have left before, or what it may leave now.
+-- a crash leaves what a read gives
+abbrev pub NothingPending : {D : Type 0} → (D → List ℕ) → (D → List ℕ → Type 0) → D → Type 0
+NothingPending contents image disk = Only (contents disk) (image disk)
+
+-- contents and images are as they were
+pub record Stays (old new : List ℕ) (before after : List ℕ → Type 0) : Type 0 where
+  pub contents : new ≡ old
+  pub images : (c : List ℕ) → after c → before c
+  pub stay : (c : List ℕ) → before c → after c
+
+-- an unsynced write of n bytes, whole or in part: no image falls away
+pub record Writes (at n : ℕ) (old new : List ℕ) (before after : List ℕ → Type 0) : Type 0 where
+  pub others : Torn at n old new
+  pub images : Follows (Torn at n) before after
+  pub stay : (c : List ℕ) → before c → after c
+
+-- the contents are as they were, and all of them on the device
+pub record Syncs (old new : List ℕ) (after : List ℕ → Type 0) : Type 0 where
+  pub contents : new ≡ old
+  pub durable : Only old after
+
+-- Time goes on by a call, within which there is one moment and after it another: a crash since t might have left what it
+-- might have left before, or what it may leave now.
 pub record Elapses (before now : ℕ) (past since : ℕ → List ℕ → Type 0) (image : List ℕ → Type 0) : Type 0 where
   pub later : before ≤ now
+  pub soon : now ≤ before + 2
   pub nothing_else : (t : ℕ) (c : List ℕ) → t ≤ before → since t c → past t c ⊎ image c
   pub keeps : (t : ℕ) (c : List ℕ) → t ≤ before → past t c → since t c
 
@@ -42,7 +70,9 @@ pub record HasCause {T E : Type 0} (before now : ℕ) (result : Result T E) : Ty
   pub later : before ≤ now
   pub failed : IsErr result → now < 2 ^ 64 - 1 → before < now
 
--- a failure counts once, and without one nothing counts
-pub record CountsOnce {T E : Type 0} (before now : ℕ) (result : Result T E) : Type 0 where
+-- one call: a failure counts once, and without one nothing counts
+pub record Counts {T E : Type 0} (before now : ℕ) (result : Result T E) : Type 0 where
+  pub later : before ≤ now
+  pub failed : IsErr result → now < 2 ^ 64 - 1 → before < now
   pub once : now ≤ before + 1
   pub none : IsOk result → now ≡ before

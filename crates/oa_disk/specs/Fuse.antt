@@ -1,5 +1,5 @@
 -- What a FuseDisk shows.
-use Rattle.std.specs.Prelude.{◌≡◌, ℕ, ◌-◌, ◌<◌, Result, IsErr}
+use Rattle.std.specs.Prelude.{◌≡◌, ℕ, ◌+◌, ◌-◌, ◌^◌, ◌<◌, min, Result, IsErr}
 use Rattle.oa_disk.specs.declared.fuse.FuseDisk.{FuseDisk}
 
 -- the disk that it passes calls on to
@@ -13,6 +13,10 @@ calls_left_of f = f.calls_left
 -- how many calls it has refused
 abbrev pub refused_of : {D : Type 0} → FuseDisk D → ℕ
 refused_of f = f.refused
+
+-- the failures of the disk within and its own, up to the greatest u64
+abbrev pub failures_with : {D : Type 0} → (D → ℕ) → FuseDisk D → ℕ
+failures_with failures f = min (failures f.disk + f.refused) (2 ^ 64 - 1)
 
 -- A call takes one of those that are left, and the fuse itself refuses none. With none left it fails, and the disk within
 -- is as it was.

@@ -1,11 +1,16 @@
+pub mod Counting
 pub mod Disk
 pub mod File
 pub mod Fuse
-pub mod Gate
+pub mod History
+pub mod Layered
+pub mod Ledger
 pub mod Memory
 pub mod Moments
+pub mod Overwritten
 pub mod Ranges
 pub mod Record
 pub mod Replay
 pub mod Replaying
+pub mod Switch
 pub mod Tear

@@ -1,51 +1,50 @@
 -- What a MemoryDisk shows.
-use Rattle.std.specs.Prelude.{◌≡◌, ℕ, ◌*◌, ◌+◌, ◌<◌, ◌≤◌, ◌↔◌, List, [], ◌∷◌, ◌++◌, length, drop, Option, slice_get, Result, IsOk, OnOk, OnErr}
+use Rattle.std.specs.Prelude.{◌≡◌, ℕ, ◌+◌, ◌<◌, ◌≤◌, ◌↔◌, List, length, Option, Result, IsOk, OnOk, OnErr}
 use Rattle.oa_disk.specs.declared.memory.MemoryDisk.{MemoryDisk}
 use Rattle.oa_disk.specs.declared.call.Call.{Call}
 use Rattle.oa_disk.specs.declared.crash.Tear.{Tear}
-use Rattle.oa_disk.specs.Replay.{State, IsImage, IsImageOfSome, states, last_state, synced}
+use Rattle.oa_disk.specs.Replay.{State}
+use Rattle.oa_disk.specs.History.{History, with_call}
+use Rattle.oa_disk.specs.History as known
+use Rattle.oa_disk.specs.Ledger.{laid, history, IsEmpty}
 use Rattle.oa_disk.specs.Tear.{IsTorn}
 
+-- what it held at first, and the calls that it has served since
+abbrev pub history_of : MemoryDisk → History
+history_of disk = history disk.first disk.ledger
+
 abbrev pub contents_of : MemoryDisk → List ℕ
-contents_of disk = disk.bytes.items
+contents_of disk = known.contents_of (history_of disk)
 
 -- the contents at this moment, and the ranges that are pending
 abbrev pub state_at : MemoryDisk → ℕ → Option State
-state_at disk moment = slice_get (synced disk.first.items ∷ states (synced disk.first.items) disk.calls.items disk.written.items) moment
+state_at disk moment = known.state_at (history_of disk) moment
 
 -- the last moment
 abbrev pub moments_of : MemoryDisk → ℕ
-moments_of disk = 2 * length disk.calls.items
+moments_of disk = known.moment_of (history_of disk)
 
 -- what a crash may leave now
 abbrev pub image_of : MemoryDisk → List ℕ → Type 0
-image_of disk = IsImage (last_state (synced disk.first.items) disk.calls.items disk.written.items)
+image_of disk = known.image_of (history_of disk)
 
 -- what a crash at some moment from t on might have left
 abbrev pub image_since_of : MemoryDisk → ℕ → List ℕ → Type 0
-image_since_of disk t = IsImageOfSome (drop t (synced disk.first.items ∷ states (synced disk.first.items) disk.calls.items disk.written.items))
+image_since_of disk t = known.image_since_of (history_of disk) t
 
 -- The call is served exactly where there is room for it and for the bytes that it writes. Then it is the last of the
--- record, else the record and the contents are as before.
+-- record, else the record is as before, and with it the contents.
 pub record IsRecorded {E : Type 0} (call : Call) (bytes : List ℕ) (old new : MemoryDisk) (result : Result (Unit {0}) E) : Type 0 where
-  pub serves : IsOk result ↔ ((length old.calls.items < old.most_calls) × (length old.written.items + length bytes ≤ old.most_bytes))
-  pub calls : OnOk result (new.calls.items ≡ old.calls.items ++ call ∷ [])
-  pub written : OnOk result (new.written.items ≡ old.written.items ++ bytes)
-  pub calls_err : OnErr result (new.calls.items ≡ old.calls.items)
-  pub written_err : OnErr result (new.written.items ≡ old.written.items)
-  pub bytes_err : OnErr result (new.bytes.items ≡ old.bytes.items)
-  pub first : new.first.items ≡ old.first.items
-  pub calls_room : new.most_calls ≡ old.most_calls
-  pub bytes_room : new.most_bytes ≡ old.most_bytes
+  pub serves : IsOk result ↔ ((length old.ledger.calls.items < old.ledger.most_calls) × (length old.ledger.written.items + length bytes ≤ old.ledger.most_bytes))
+  pub recorded : OnOk result (history_of new ≡ with_call (history_of old) call bytes)
+  pub refused : OnErr result (history_of new ≡ history_of old)
+  pub calls_room : new.ledger.most_calls ≡ old.ledger.most_calls
+  pub bytes_room : new.ledger.most_bytes ≡ old.ledger.most_bytes
 
 -- it has met no call, and has room for so many calls and so many written bytes
-pub record IsFresh (calls bytes : ℕ) (disk : MemoryDisk) : Type 0 where
-  pub calls_none : disk.calls.items ≡ []
-  pub written_none : disk.written.items ≡ []
-  pub failures_none : disk.failures ≡ 0
-  pub calls_room : disk.most_calls ≡ calls
-  pub bytes_room : disk.most_bytes ≡ bytes
+abbrev pub IsFresh : ℕ → ℕ → MemoryDisk → Type 0
+IsFresh calls bytes disk = IsEmpty calls bytes disk.ledger
 
 -- what a crash at this moment leaves under this tear
 abbrev pub IsTornAt : MemoryDisk → Tear → ℕ → List ℕ → Type 0
-IsTornAt disk tear moment image = IsTorn tear disk.first.items disk.calls.items disk.written.items moment image
+IsTornAt disk tear moment image = IsTorn tear (laid disk.first) disk.ledger.calls.items disk.ledger.written.items moment image

@@ -1,5 +1,6 @@
 -- What a crash may have left at each moment, from the calls and the bytes that were written.
-use Rattle.std.specs.Prelude.{◌≡◌, ◌⊎◌, ℕ, ◌+◌, ◌<◌, ◌≤◌, Bool, bytes_eq, List, [], ◌∷◌, ◌++◌, length, take, drop, slice_index, slice_get, Some}
+use Rattle.std.specs.Prelude.{◌≡◌, ◌⊎◌, ℕ, ◌+◌, ◌<◌, ◌≤◌, Bool, bytes_eq, List, [], ◌∷◌, ◌++◌, length, take, drop, replicate, slice_index, slice_get, Some}
+use Rattle.oa_disk.specs.Disk.{AllBytes}
 use Rattle.oa_disk.specs.declared.call.Call.{Call}
 use Rattle.oa_disk.specs.declared.call.Call.TheVariants.{Read, Write, Sync}
 
@@ -21,6 +22,7 @@ IsOutside (range ∷ ranges) i = ((i < range.0) ⊎ (range.0 + range.1 ≤ i)) �
 pub record IsImage (state : State) (image : List ℕ) : Type 0 where
   pub size : length image ≡ length state.contents
   pub outside : (i : ℕ) → IsOutside state.pending i → slice_index image i ≡ slice_index state.contents i
+  pub bytes : AllBytes image
 
 -- how many bytes the call has written
 abbrev pub count_of : Call → ℕ
@@ -82,3 +84,7 @@ contents_after first calls written = (last_state (synced first) calls written).c
 -- the disk has these bytes there
 unfoldable pub agrees : List ℕ → ℕ → List ℕ → Bool
 agrees disk at bytes = bytes_eq (take (length bytes) (drop at disk)) bytes
+
+-- so many zeros
+unfoldable pub zeros : ℕ → List ℕ
+zeros size = replicate size 0

@@ -1,10 +1,12 @@
--- Laws of replaying calls.
-use Rattle.std.proofs.Common.{◌≡◌, inl, inr, ℕ, zero, suc, ◌*◌, ◌≤◌, List, [], ◌∷◌, length, take, drop, get_or, refl, sym, ◌∙◌, ap, subst, arith}
+-- Laws of a history.
+use Rattle.std.proofs.Common.{◌≡◌, inl, inr, ℕ, zero, suc, ◌*◌, ◌≤◌, List, [], ◌∷◌, length, take, drop, refl, sym, ◌∙◌, ap, subst, arith, length-drop}
+use Rattle.std.proofs.lemmas.List.{length-take-le}
+use Rattle.oa_disk.specs.Disk.{AllBytes}
 use Rattle.oa_disk.specs.declared.call.Call.{Call}
-use Rattle.oa_disk.specs.Replay.{State, IsImage, IsImageOfSome, states, last_state, after, count_of}
-
-pub contents_is_image : (state : State) (c : List ℕ) → c ≡ state.contents → IsImage state c
-contents_is_image state c is = record { size = ap length is; outside = λ i out. ap (λ (l : List ℕ). get_or l i 0) is }
+use Rattle.oa_disk.specs.declared.call.Call.TheVariants.{Read, Write, Sync}
+use Rattle.oa_disk.specs.Replay.{State, IsImage, IsImageOfSome, AllInside, states, last_state, within, after, synced, count_of, count_all}
+use Rattle.oa_disk.specs.History.{History, IsWhole, contents_of, image_of, moment_of, image_since_of}
+use Rattle.oa_disk.specs.Overwritten.{take_bytes, drop_bytes, overwritten_bytes, length-overwritten}
 
 pub length-states : (calls : List Call) (state : State) (bytes : List ℕ) → length (states state calls bytes) ≡ 2 * length calls
 length-states [] state bytes = refl
@@ -25,17 +27,85 @@ only_at_length [] state bytes c (inl is) = is
 only_at_length [] state bytes c (inr none) = absurd none
 only_at_length (call ∷ calls) state bytes c left = only_at_length calls (after state call (take (count_of call) bytes)) (drop (count_of call) bytes) c left
 
-pub only_last : (calls : List Call) (state : State) (bytes c : List ℕ) → IsImageOfSome (drop (2 * length calls) (state ∷ states state calls bytes)) c → IsImage (last_state state calls bytes) c
-only_last calls state bytes c left =
-    only_at_length calls state bytes c (subst (λ (n : ℕ). IsImageOfSome (drop n (state ∷ states state calls bytes)) c) (sym (length-states calls state bytes)) left)
+-- what is left since a later moment is left since the first
+since_first : (all : List State) (c : List ℕ) (t : ℕ) → IsImageOfSome (drop t all) c → IsImageOfSome all c
+since_first all c zero is = is
+since_first [] c (suc t) is = is
+since_first (state ∷ rest) c (suc t) is = inr (since_first rest c t is)
 
-pub image_size : (state : State) (contents c : List ℕ) → contents ≡ state.contents → IsImage state c → length c ≡ length contents
-image_size state contents c is image = image.size ∙ sym (ap length is)
+earlier : (all : List State) (c : List ℕ) (s t : ℕ) → s ≤ t → IsImageOfSome (drop t all) c → IsImageOfSome (drop s all) c
+earlier all c zero t le is = since_first all c t is
+earlier all c (suc s) zero le is = absurd (omega arith)
+earlier [] c (suc s) (suc t) le is = is
+earlier (state ∷ rest) c (suc s) (suc t) le is = earlier rest c s t (omega arith) is
+
+pub after_bytes : (state : State) (call : Call) (more : List ℕ) → AllBytes state.contents → AllBytes more → AllBytes (after state call more).contents
+after_bytes state Read more old new = old
+after_bytes state (Write at count) more old new = overwritten_bytes state.contents at more old new
+after_bytes state Sync more old new = old
+
+-- calls leave bytes
+pub state_bytes : (calls : List Call) (state : State) (bytes : List ℕ) → AllBytes state.contents → AllBytes bytes → AllBytes (last_state state calls bytes).contents
+state_bytes [] state bytes old new = old
+state_bytes (call ∷ calls) state bytes old new =
+    state_bytes calls (after state call (take (count_of call) bytes)) (drop (count_of call) bytes) (after_bytes state call (take (count_of call) bytes) old (take_bytes (count_of call) bytes new)) (drop_bytes (count_of call) bytes new)
+
+within_contents : (state : State) (call : Call) → (within state call).contents ≡ state.contents
+within_contents state Read = refl
+within_contents state (Write at count) = refl
+within_contents state Sync = refl
+
+one_size : (state : State) (call : Call) (calls : List Call) (bytes : List ℕ) (size : ℕ) → length state.contents ≡ size → AllInside size (call ∷ calls) → count_all (call ∷ calls) ≤ length bytes
+    → length (after state call (take (count_of call) bytes)).contents ≡ size
+one_size state Read calls bytes size is inside fits = is
+one_size state (Write at n) calls bytes size is inside fits =
+    let long : length (take n bytes) ≡ n = length-take-le n bytes (omega arith) in
+    length-overwritten state.contents (take n bytes) at (omega (arith, long, inside 0 at n refl, is)) ∙ is
+one_size state Sync calls bytes size is inside fits = is
+
+-- calls keep the size
+pub state_size : (calls : List Call) (state : State) (bytes : List ℕ) (size : ℕ) → length state.contents ≡ size → AllInside size calls → count_all calls ≤ length bytes → length (last_state state calls bytes).contents ≡ size
+state_size [] state bytes size is inside fits = is
+state_size (call ∷ calls) state bytes size is inside fits =
+    state_size calls (after state call (take (count_of call) bytes)) (drop (count_of call) bytes) size (one_size state call calls bytes size is inside fits) (λ k. inside (suc k)) (omega (arith, length-drop (count_of call) bytes))
+
+some_size : (calls : List Call) (state : State) (bytes c : List ℕ) (size : ℕ) → length state.contents ≡ size → AllInside size calls → count_all calls ≤ length bytes → IsImageOfSome (state ∷ states state calls bytes) c → length c ≡ size
+some_size calls state bytes c size is inside fits (inl image) = image.size ∙ is
+some_size [] state bytes c size is inside fits (inr none) = absurd none
+some_size (call ∷ calls) state bytes c size is inside fits (inr (inl image)) = image.size ∙ ap length (within_contents state call) ∙ is
+some_size (call ∷ calls) state bytes c size is inside fits (inr (inr some)) =
+    some_size calls (after state call (take (count_of call) bytes)) (drop (count_of call) bytes) c size (one_size state call calls bytes size is inside fits) (λ k. inside (suc k)) (omega (arith, length-drop (count_of call) bytes)) some
+
+module _ (size : ℕ) (h : History) (whole : IsWhole size h) where
+  pub contents_size : length (contents_of h) ≡ size
+  contents_size = state_size h.calls (synced h.first) h.written size whole.size_of_first whole.inside (omega (arith, whole.count_of_all))
+
+  pub contents_bytes : AllBytes (contents_of h)
+  contents_bytes = state_bytes h.calls (synced h.first) h.written whole.bytes_of_first whole.bytes_of_all
+
+  pub contents_is_image : image_of h (contents_of h)
+  contents_is_image = record { size = refl; outside = λ i out. refl; bytes = contents_bytes }
+
+  pub images_have_size : (c : List ℕ) → image_of h c → length c ≡ size
+  images_have_size c is = is.size ∙ contents_size
+
+  pub since_have_size : (t : ℕ) (c : List ℕ) → image_since_of h t c → length c ≡ size
+  since_have_size t c left =
+      some_size h.calls (synced h.first) h.written c size whole.size_of_first whole.inside (omega (arith, whole.count_of_all))
+      (since_first (synced h.first ∷ states (synced h.first) h.calls h.written) c t left)
+
+module _ (h : History) where
+  pub counts_now : (t : ℕ) (c : List ℕ) → t ≤ moment_of h → image_of h c → image_since_of h t c
+  counts_now t c le is = counts_last h.calls (synced h.first) h.written c t le is
+
+  pub since_falls : (s t : ℕ) (c : List ℕ) → s ≤ t → image_since_of h t c → image_since_of h s c
+  since_falls s t c le left = earlier (synced h.first ∷ states (synced h.first) h.calls h.written) c s t le left
+
+  pub only_now : (c : List ℕ) → image_since_of h (moment_of h) c → image_of h c
+  only_now c left =
+      only_at_length h.calls (synced h.first) h.written c
+      (subst (λ (n : ℕ). IsImageOfSome (drop n (synced h.first ∷ states (synced h.first) h.calls h.written)) c) (sym (length-states h.calls (synced h.first) h.written)) left)
 
 -- a disk of no bytes has images of that size alone
 pub no_bytes : (c : List ℕ) → c ≡ [] → length c ≡ 0
 no_bytes c is = ap length is
-
--- after these calls, so a file's law has no more to show
-pub size_after : (state : State) (size : ℕ) (c : List ℕ) → length state.contents ≡ size → IsImage state c → length c ≡ size
-size_after state size c is image = image.size ∙ is

@@ -1,9 +1,12 @@
 //! What a crash leaves, made from the calls and the bytes that were written.
-ghost use Rattle.std.specs.Prelude.{◌≡◌, ℕ, ◌+◌, ◌*◌, ◌<◌, ◌≤◌, ◌∷◌, length, drop, Some, slice_get, replicate};
+ghost use Rattle.std.specs.Prelude.{◌≡◌, ℕ, ◌+◌, ◌*◌, ◌<◌, ◌≤◌, ◌∷◌, length, drop, Some, slice_get, replicate, OnOk, IfOk};
+ghost use Rattle.oa_disk.specs.Ledger.{laid};
 ghost use Rattle.oa_disk.specs.Replay.{AllInside, contents_after, count_all, overwritten};
 ghost use Rattle.oa_disk.specs.Tear.{torn, rest_of, torn_all, IsLastSync, IsTorn};
 
 use crate::Call;
+use crate::layers::Layers;
+use std::alloc::{AllocError, Global};
 
 /// What becomes of the ranges that were written and have not been brought to the device.
 #[derive(Clone, Copy, Debug, PartialEq, Eq)]
@@ -18,41 +21,30 @@ pub enum Tear {
     Cut(u64),
 }
 
-/// Puts the bytes at that place.
-pub(crate) fn overwrite(disk: &mut Vec<u8>, at: usize, bytes: &[u8])
-    requires { at + length bytes.now ≤ length disk.old.items }
-    ensures bytes { disk.new.items ≡ overwritten disk.old.items at bytes.now }
-    ensures size { length disk.new.items ≡ length disk.old.items }
-{
-    disk[at..at + bytes.len()].copy_from_slice(bytes);
-}
-
-/// Puts one byte in so many places.
-fn fill(disk: &mut Vec<u8>, at: usize, count: usize, byte: u8)
-    requires { at + count ≤ length disk.old.items }
-    ensures bytes { disk.new.items ≡ overwritten disk.old.items at (replicate count byte) }
-    ensures size { length disk.new.items ≡ length disk.old.items }
-{
-    for i in at..at + count {
-        disk[i] = byte;
-    }
-}
-
 /// One write's range, as the tear has it. What is left of a cut is for the writes behind it.
-fn tear_range(disk: &mut Vec<u8>, at: usize, bytes: &[u8], tear: &mut Tear)
-    requires { at + length bytes.now ≤ length disk.old.items }
-    ensures bytes { disk.new.items ≡ torn tear.old disk.old.items at bytes.now }
-    ensures rest { tear.new ≡ rest_of tear.old (length bytes.now) }
-    ensures size { length disk.new.items ≡ length disk.old.items }
+fn tear_range(
+    alloc: Global,
+    disk: &mut Layers,
+    at: usize,
+    bytes: &[u8],
+    tear: &mut Tear,
+) -> Result<(), AllocError>
+    requires { at + length bytes.now ≤ disk.old.size }
+    ensures bytes { OnOk result (laid disk.new ≡ torn tear.old (laid disk.old) at bytes.now) }
+    ensures rest { OnOk result (tear.new ≡ rest_of tear.old (length bytes.now)) }
+    ensures size { disk.new.size ≡ disk.old.size }
 {
     match *tear {
-        Tear::Lost => {}
-        Tear::Kept => overwrite(disk, at, bytes),
-        Tear::Filled(byte) => fill(disk, at, bytes.len(), byte),
+        Tear::Lost => Ok(()),
+        Tear::Kept => disk.put(at, bytes),
+        Tear::Filled(byte) => {
+            let filled = vec![in alloc; byte; bytes.len()]?;
+            disk.put(at, &filled)
+        }
         Tear::Cut(left) => {
             let count = (bytes.len() as u64).min(left);
-            overwrite(disk, at, &bytes[..count as usize]);
             *tear = Tear::Cut(left - count);
+            disk.put(at, &bytes[..count as usize])
         }
     }
 }
@@ -71,49 +63,65 @@ fn last_sync(calls: &[Call]) -> usize
 }
 
 /// Makes the calls again, and says how many bytes they wrote.
-fn replay(disk: &mut Vec<u8>, calls: &[Call], written: &[u8]) -> usize
-    requires inside { AllInside (length disk.old.items) calls.now }
+fn replay(disk: &mut Layers, calls: &[Call], written: &[u8]) -> Result<usize, AllocError>
+    requires inside { AllInside disk.old.size calls.now }
     requires written { count_all calls.now ≤ length written.now }
-    ensures contents { disk.new.items ≡ contents_after disk.old.items calls.now written.now }
-    ensures size { length disk.new.items ≡ length disk.old.items }
-    ensures count { result ≡ count_all calls.now }
+    ensures contents { OnOk result (laid disk.new ≡ contents_after (laid disk.old) calls.now written.now) }
+    ensures size { disk.new.size ≡ disk.old.size }
+    ensures count { IfOk result (λ count. count ≡ count_all calls.now) }
 {
     let mut from = 0;
     for call in calls {
         if let Call::Write(at, count) = *call {
-            overwrite(disk, at, &written[from..from + count]);
+            disk.put(at, &written[from..from + count])?;
             from += count;
         }
     }
-    from
+    Ok(from)
 }
 
 /// Makes the calls again, with their writes torn.
-fn tear_all(disk: &mut Vec<u8>, calls: &[Call], written: &[u8], tear: Tear)
-    requires inside { AllInside (length disk.old.items) calls.now }
+fn tear_all(
+    alloc: Global,
+    disk: &mut Layers,
+    calls: &[Call],
+    written: &[u8],
+    tear: Tear,
+) -> Result<(), AllocError>
+    requires inside { AllInside disk.old.size calls.now }
     requires written { count_all calls.now ≤ length written.now }
-    ensures { disk.new.items ≡ torn_all tear disk.old.items calls.now written.now }
+    ensures torn { OnOk result (laid disk.new ≡ torn_all tear (laid disk.old) calls.now written.now) }
+    ensures size { disk.new.size ≡ disk.old.size }
 {
     let mut tear = tear;
     let mut from = 0;
     for call in calls {
         if let Call::Write(at, count) = *call {
-            tear_range(disk, at, &written[from..from + count], &mut tear);
+            tear_range(alloc, disk, at, &written[from..from + count], &mut tear)?;
             from += count;
         }
     }
+    Ok(())
 }
 
 /// Makes the calls again, as a crash at that moment may leave the disk.
-pub(crate) fn leave_at(disk: &mut Vec<u8>, calls: &[Call], written: &[u8], moment: u64, tear: Tear)
+pub(crate) fn leave_at(
+    alloc: Global,
+    disk: &mut Layers,
+    calls: &[Call],
+    written: &[u8],
+    moment: u64,
+    tear: Tear,
+) -> Result<(), AllocError>
     requires among { moment ≤ 2 * length calls.now }
-    requires inside { AllInside (length disk.old.items) calls.now }
+    requires inside { AllInside disk.old.size calls.now }
     requires written { count_all calls.now ≤ length written.now }
-    ensures { IsTorn tear disk.old.items calls.now written.now moment disk.new.items }
+    ensures torn { OnOk result (IsTorn tear (laid disk.old) calls.now written.now moment (laid disk.new)) }
+    ensures size { disk.new.size ≡ disk.old.size }
 {
     let ended = (moment / 2) as usize;
     let begun = moment.div_ceil(2) as usize;
     let synced = last_sync(&calls[..ended]);
-    let from = replay(disk, &calls[..synced], written);
-    tear_all(disk, &calls[synced..begun], &written[from..], tear);
+    let from = replay(disk, &calls[..synced], written)?;
+    tear_all(alloc, disk, &calls[synced..begun], &written[from..], tear)
 }

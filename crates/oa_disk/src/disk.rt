@@ -1,6 +1,6 @@
 //! A disk as a store sees it: what a read gives, and what a crash may leave.
-ghost use Rattle.std.specs.Prelude.{◌≡◌, ◌+◌, ◌≤◌, List, ℕ, Bool, IsTrue, length, OnOk, OnErr, IfErr};
-ghost use Rattle.oa_disk.specs.Disk.{Holds, Torn, Follows, Reaches, Only, Elapses, HasCause, CountsOnce};
+ghost use Rattle.std.specs.Prelude.{◌≡◌, ◌+◌, ◌-◌, ◌^◌, ◌≤◌, List, ℕ, Bool, IsTrue, length, OnOk, OnErr, IfErr};
+ghost use Rattle.oa_disk.specs.Disk.{Holds, Torn, Reaches, Stays, Writes, Syncs, Elapses, Counts};
 
 use thiserror::Error;
 
@@ -36,7 +36,7 @@ pub trait Disk {
     /// What a crash at this moment may leave.
     ghost image: { Self → List ℕ → Type 0 };
 
-    /// The time, which doesn't fall.
+    /// The time, which doesn't fall. A call takes two moments at most, one within it and one after it.
     ghost moment: { Self → ℕ };
 
     /// What a crash at some moment from that one on might have left, within a call or between two.
@@ -54,16 +54,13 @@ pub trait Disk {
     fn read_at(&mut self, at: u64, bytes: &mut [u8]) -> Result<(), DeviceFault>
         requires { at + length bytes.old ≤ size_of self.old }
         ensures read { OnOk result (IsTrue (is_honest self.new) → Holds (contents self.old) at bytes.new) }
-        ensures contents { IsTrue (is_honest self.old) → contents self.new ≡ contents self.old }
-        ensures images { IsTrue (is_honest self.old) → (c : List ℕ) → image self.new c → image self.old c }
-        ensures stay { IsTrue (is_honest self.old) → (c : List ℕ) → image self.old c → image self.new c }
+        ensures stays { IsTrue (is_honest self.old) → Stays (contents self.old) (contents self.new) (image self.old) (image self.new) }
         ensures time { IsTrue (is_honest self.old) → Elapses (moment self.old) (moment self.new) (image_since self.old) (image_since self.new) (image self.new) }
         ensures size { size_of self.new ≡ size_of self.old }
         ensures honest { IsTrue (is_honest self.new) → IsTrue (is_honest self.old) }
         ensures kept { OnOk result (IsTrue (is_honest self.old) → Holds (contents self.old) at bytes.new → IsTrue (is_honest self.new)) }
         ensures honest_err { OnErr result (is_honest self.new ≡ is_honest self.old) }
-        ensures cause { HasCause (failures_of self.old) (failures_of self.new) result }
-        ensures once { CountsOnce (failures_of self.old) (failures_of self.new) result }
+        ensures counts { Counts (failures_of self.old) (failures_of self.new) result }
         ensures fault { IfErr result (λ e. e ≡ DeviceFault.Read) };
 
     /// Writes the bytes from that place on. Until a sync that succeeds, a crash may leave any bytes in that range,
@@ -71,29 +68,28 @@ pub trait Disk {
     fn write_at(&mut self, at: u64, bytes: &[u8]) -> Result<(), DeviceFault>
         requires { at + length bytes.now ≤ size_of self.old }
         ensures written { OnOk result (IsTrue (is_honest self.old) → Holds (contents self.new) at bytes.now) }
-        ensures others { IsTrue (is_honest self.old) → Torn at (length bytes.now) (contents self.old) (contents self.new) }
-        ensures images { IsTrue (is_honest self.old) → Follows (Torn at (length bytes.now)) (image self.old) (image self.new) }
+        ensures writes { IsTrue (is_honest self.old) → Writes at (length bytes.now) (contents self.old) (contents self.new) (image self.old) (image self.new) }
         ensures any_bytes { OnOk result (IsTrue (is_honest self.old) → Reaches (Torn at (length bytes.now)) (image self.old) (image self.new)) }
-        ensures stay { IsTrue (is_honest self.old) → (c : List ℕ) → image self.old c → image self.new c }
         ensures time { IsTrue (is_honest self.old) → Elapses (moment self.old) (moment self.new) (image_since self.old) (image_since self.new) (image self.new) }
         ensures size { size_of self.new ≡ size_of self.old }
         ensures honest { is_honest self.new ≡ is_honest self.old }
-        ensures cause { HasCause (failures_of self.old) (failures_of self.new) result }
-        ensures once { CountsOnce (failures_of self.old) (failures_of self.new) result }
+        ensures counts { Counts (failures_of self.old) (failures_of self.new) result }
         ensures fault { IfErr result (λ e. e ≡ DeviceFault.Write) };
 
-    /// Brings all that was written to the device. At `Ok` a crash leaves what a read gives.
+    /// Brings all that was written to the device. At `Ok` a crash leaves what a read gives. After an `Err` what a read gives is
+    /// one of the images, and no more is known of it.
     fn sync(&mut self) -> Result<(), DeviceFault>
-        ensures durable { OnOk result (IsTrue (is_honest self.old) → Only (contents self.old) (image self.new)) }
-        ensures contents { IsTrue (is_honest self.old) → contents self.new ≡ contents self.old }
+        ensures syncs { OnOk result (IsTrue (is_honest self.old) → Syncs (contents self.old) (contents self.new) (image self.new)) }
         ensures images { IsTrue (is_honest self.old) → (c : List ℕ) → image self.new c → image self.old c }
         ensures stay { OnErr result (IsTrue (is_honest self.old) → (c : List ℕ) → image self.old c → image self.new c) }
         ensures time { IsTrue (is_honest self.old) → Elapses (moment self.old) (moment self.new) (image_since self.old) (image_since self.new) (image self.new) }
         ensures size { size_of self.new ≡ size_of self.old }
         ensures honest { is_honest self.new ≡ is_honest self.old }
-        ensures cause { HasCause (failures_of self.old) (failures_of self.new) result }
-        ensures once { CountsOnce (failures_of self.old) (failures_of self.new) result }
+        ensures counts { Counts (failures_of self.old) (failures_of self.new) result }
         ensures fault { IfErr result (λ e. e ≡ DeviceFault.Write) };
+
+    /// The count of failures is a u64.
+    ghost failures_fit: { (disk : Self) → failures_of disk ≤ 2 ^ 64 - 1 };
 
     /// What a read gives is one of the images.
     ghost contents_is_image: { (disk : Self) → IsTrue (is_honest disk) → image disk (contents disk) };
@@ -101,8 +97,14 @@ pub trait Disk {
     /// Each image has the disk's size.
     ghost images_have_size: { (disk : Self) (c : List ℕ) → IsTrue (is_honest disk) → image disk c → length c ≡ size_of disk };
 
+    /// So has each that might have been left.
+    ghost since_have_size: { (disk : Self) (t : ℕ) (c : List ℕ) → IsTrue (is_honest disk) → image_since disk t c → length c ≡ size_of disk };
+
     /// This moment is one of those since an earlier one.
     ghost counts_now: { (disk : Self) (t : ℕ) (c : List ℕ) → IsTrue (is_honest disk) → t ≤ moment disk → image disk c → image_since disk t c };
+
+    /// What might have been left since a later moment might have been left since an earlier one.
+    ghost since_falls: { (disk : Self) (s t : ℕ) (c : List ℕ) → IsTrue (is_honest disk) → s ≤ t → image_since disk t c → image_since disk s c };
 
     /// Since this moment there is no other.
     ghost only_now: { (disk : Self) (c : List ℕ) → IsTrue (is_honest disk) → image_since disk (moment disk) c → image disk c };

@@ -1,12 +1,12 @@
 //! A file of the operating system as a disk.
-ghost use Rattle.std.specs.Prelude.{◌≡◌, ◌+◌, ◌*◌, ◌-◌, ◌^◌, ◌<◌, ◌≤◌, ◌∷◌, [], ℕ, List, length, drop, refl, OnOk, IfOk, IfErr, IsErr, IsTrue};
-ghost use Rattle.oa_disk.specs.Disk.{HasCause, CountsOnce};
-ghost use Rattle.oa_disk.specs.Replay.{IsImage, IsImageOfSome, states, last_state, synced, contents_after, count_all};
-ghost use Rattle.oa_disk.specs.Replaying.{contents_is_image, size_after, counts_last, only_last};
+ghost use Rattle.std.specs.Prelude.{◌≡◌, ◌+◌, ◌-◌, ◌^◌, ◌<◌, ◌≤◌, [], ℕ, List, length, OnOk, IfOk, IfErr, IsTrue};
+ghost use Rattle.oa_disk.specs.Disk.{NothingPending, Counts};
+ghost use Rattle.oa_disk.specs.History.{IsWhole};
+ghost use Rattle.oa_disk.specs.Record.{history_of};
 
 use crate::record::Record;
 use crate::{Call, DeviceFault, Disk};
-use std::fs::{File, OpenFile};
+use std::fs::{File, OpenFile, OpenOptions};
 use std::io;
 use std::os::unix::fs::FileExt;
 use std::rt::Files;
@@ -21,20 +21,45 @@ pub struct FileDisk {
     size: u64,
     failures: u64,
     history: Record,
-    ghost whole: { length (contents_after history.first history.calls history.written) ≡ size },
-    ghost recorded: { count_all history.calls ≡ length history.written },
+    ghost counted: { failures < 2 ^ 64 },
+    ghost whole: { IsWhole size (history_of history) },
 }
 
 impl FileDisk {
     ghost use Rattle.oa_disk.specs.File.{size_of, failures_of, record_of, IsHeld, IsZeros};
 
-    /// Takes an open file as a disk of its own length, and brings to the device what was written to it before. It has to
-    /// be open for reading and writing, else those calls fail. Anything but a regular file is std's error `Unsupported`.
-    /// The clause holds for all bytes `held` that the record may begin with: a caller picks them, and what it then proves
-    /// is of use where the file held those.
-    pub fn over(file: File) -> io::Result<FileDisk>
+    /// Opens a file that is there, as a disk of its own length, and brings to the device what was written to it before. It is
+    /// opened for reading and writing, and not for appending. Anything but a regular file is std's error `Unsupported`, and each
+    /// other refusal is the system's. There is a beginning from which all that is said of the disk is true: what the file held.
+    pub fn open<R: Files<File = File>>(rt: &R, path: &str) -> io::Result<FileDisk>
+        ensures held { IfOk result (λ disk. (held : ℕ → ℕ) × IsHeld held disk) }
+        ensures honest { IfOk result (λ disk. IsTrue (⟦<FileDisk as Disk>⟧.is_honest disk)) }
+        ensures settled { IfOk result (NothingPending ⟦<FileDisk as Disk>⟧.contents ⟦<FileDisk as Disk>⟧.image) }
+    {
+        FileDisk::over(OpenOptions::new().read(true).write(true).open(rt, path)?)
+    }
+
+    /// Makes a file of so many zeros and brings it to the device, with its name in its folder. Where something has the
+    /// name, it is std's error `AlreadyExists`.
+    pub fn create<R: Files<File = File>>(rt: &R, path: &str, size: u64) -> io::Result<FileDisk>
+        ensures zeros { IfOk result (IsZeros size) }
+        ensures honest { IfOk result (λ disk. IsTrue (⟦<FileDisk as Disk>⟧.is_honest disk)) }
+        ensures settled { IfOk result (NothingPending ⟦<FileDisk as Disk>⟧.contents ⟦<FileDisk as Disk>⟧.image) }
+    {
+        let file = File::create_new(rt, path)?;
+        file.set_len(size)?;
+        file.sync_all()?;
+        File::open(rt, folder_of(path))?.sync_all()?;
+        Ok(FileDisk::begin(file, size))
+    }
+
+    /// Takes an open file, and brings to the device what was written to it before. A file that is open for appending writes
+    /// elsewhere than it is told, so this is for files that `open` and the tests have opened.
+    pub(crate) fn over(file: File) -> io::Result<FileDisk>
         ghost held: { ℕ → ℕ }
-        ensures { IfOk result (IsHeld held) }
+        ensures held { IfOk result (IsHeld held) }
+        ensures honest { IfOk result (λ disk. IsTrue (⟦<FileDisk as Disk>⟧.is_honest disk)) }
+        ensures settled { IfOk result (NothingPending ⟦<FileDisk as Disk>⟧.contents ⟦<FileDisk as Disk>⟧.image) }
     {
         let found = file.metadata()?;
         if !found.is_file() {
@@ -44,22 +69,13 @@ impl FileDisk {
         Ok(FileDisk::begin(file, found.len()))
     }
 
-    /// Makes a file of so many zeros and brings it to the device, with its name in its folder. Where something has the
-    /// name, it is std's error `AlreadyExists`.
-    pub fn create<R: Files<File = File>>(rt: &R, path: &str, size: u64) -> io::Result<FileDisk>
-        ensures { IfOk result (IsZeros size) }
-    {
-        let file = File::create_new(rt, path)?;
-        file.set_len(size)?;
-        file.sync_all()?;
-        File::open(rt, folder_of(path))?.sync_all()?;
-        Ok(FileDisk::begin(file, size))
-    }
-
-    fn begin(file: File, size: u64) -> FileDisk
+    /// A file of which this is the beginning.
+    pub(crate) fn begin(file: File, size: u64) -> FileDisk
         ghost held: { ℕ → ℕ }
         ensures size { size_of result ≡ size }
         ensures held { IsHeld held result }
+        ensures honest { IsTrue (⟦<FileDisk as Disk>⟧.is_honest result) }
+        ensures settled { NothingPending ⟦<FileDisk as Disk>⟧.contents ⟦<FileDisk as Disk>⟧.image result }
     {
         let history = Record::beginning(&size);
         FileDisk {
@@ -84,8 +100,7 @@ impl FileDisk {
             (λ _. record_of self.new ≡ noted (record_of self.old) Read [] at bytes.new)
             (λ e. (record_of self.new ≡ noted (record_of self.old) Read [] at []) × (e ≡ DeviceFault.Read)) }
         ensures size { size_of self.new ≡ size_of self.old }
-        ensures cause { HasCause (failures_of self.old) (failures_of self.new) result }
-        ensures once { CountsOnce (failures_of self.old) (failures_of self.new) result }
+        ensures counts { Counts (failures_of self.old) (failures_of self.new) result }
     {
         if self.file.read_exact_at(bytes, at).is_err() {
             self.history = self.history.with(&Call::Read, &[], &at, &[]);
@@ -101,8 +116,7 @@ impl FileDisk {
         requires { at + length bytes.now ≤ size_of self.old }
         ensures noted { record_of self.new ≡ noted (record_of self.old) (Write at (length bytes.now)) bytes.now 0 [] }
         ensures size { size_of self.new ≡ size_of self.old }
-        ensures cause { HasCause (failures_of self.old) (failures_of self.new) result }
-        ensures once { CountsOnce (failures_of self.old) (failures_of self.new) result }
+        ensures counts { Counts (failures_of self.old) (failures_of self.new) result }
         ensures fault { IfErr result (λ e. e ≡ DeviceFault.Write) }
     {
         let answer = self.file.write_all_at(bytes, at);
@@ -121,8 +135,7 @@ impl FileDisk {
             (λ _. record_of self.new ≡ noted (record_of self.old) Sync [] 0 [])
             (λ e. (record_of self.new ≡ noted (record_of self.old) Read [] 0 []) × (e ≡ DeviceFault.Write)) }
         ensures size { size_of self.new ≡ size_of self.old }
-        ensures cause { HasCause (failures_of self.old) (failures_of self.new) result }
-        ensures once { CountsOnce (failures_of self.old) (failures_of self.new) result }
+        ensures counts { Counts (failures_of self.old) (failures_of self.new) result }
     {
         if self.file.sync_all().is_err() {
             self.history = self.history.with(&Call::Read, &[], &0, &[]);
@@ -135,27 +148,37 @@ impl FileDisk {
 }
 
 impl Disk for FileDisk {
+    ghost use Rattle.oa_disk.specs.Counting.{below_all};
+    ghost use Rattle.oa_disk.specs.History.{contents_of, image_of, moment_of, image_since_of};
+    ghost use Rattle.oa_disk.specs.Replaying.{contents_is_image, images_have_size, since_have_size, counts_now, since_falls, only_now};
+
     ghost size_of = { λ f. f.size };
 
     ghost failures_of = { λ f. f.failures };
 
     ghost is_honest = { λ f. f.history.honest };
 
-    ghost contents = { λ f. contents_after f.history.first f.history.calls f.history.written };
+    ghost contents = { λ f. contents_of (history_of f.history) };
 
-    ghost image = { λ f. IsImage (last_state (synced f.history.first) f.history.calls f.history.written) };
+    ghost image = { λ f. image_of (history_of f.history) };
 
-    ghost moment = { λ f. 2 * length f.history.calls };
+    ghost moment = { λ f. moment_of (history_of f.history) };
 
-    ghost image_since = { λ f t. IsImageOfSome (drop t (synced f.history.first ∷ states (synced f.history.first) f.history.calls f.history.written)) };
+    ghost image_since = { λ f. image_since_of (history_of f.history) };
 
-    ghost contents_is_image = { λ f _. contents_is_image (last_state (synced f.history.first) f.history.calls f.history.written) (contents_after f.history.first f.history.calls f.history.written) refl };
+    ghost failures_fit = { λ f. below_all f.failures f.counted };
 
-    ghost images_have_size = { λ f c _ is. size_after (last_state (synced f.history.first) f.history.calls f.history.written) f.size c f.whole is };
+    ghost contents_is_image = { λ f _. contents_is_image f.size (history_of f.history) f.whole };
 
-    ghost counts_now = { λ f t c _ le is. counts_last f.history.calls (synced f.history.first) f.history.written c t le is };
+    ghost images_have_size = { λ f c _ is. images_have_size f.size (history_of f.history) f.whole c is };
 
-    ghost only_now = { λ f c _ left. only_last f.history.calls (synced f.history.first) f.history.written c left };
+    ghost since_have_size = { λ f t c _ left. since_have_size f.size (history_of f.history) f.whole t c left };
+
+    ghost counts_now = { λ f t c _ le is. counts_now (history_of f.history) t c le is };
+
+    ghost since_falls = { λ f s t c _ le left. since_falls (history_of f.history) s t c le left };
+
+    ghost only_now = { λ f c _ left. only_now (history_of f.history) c left };
 
     fn size(&self) -> u64 {
         self.size

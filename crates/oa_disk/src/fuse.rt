@@ -1,6 +1,8 @@
 //! A disk that fails from some call on.
-ghost use Rattle.std.specs.Prelude.{◌≡◌, ◌+◌, ◌-◌, ◌^◌, ◌<◌, ◌≤◌, ◌↔◌, List, ℕ, length, min, IsTrue, OnOk, OnErr, IfErr, IsErr};
-ghost use Rattle.oa_disk.specs.Disk.{Holds, Torn, Follows, Reaches, Only, Elapses, HasCause, CountsOnce};
+ghost use Rattle.std.specs.Prelude.{◌≡◌, ◌+◌, ◌-◌, ◌^◌, ◌<◌, ◌≤◌, ◌↔◌, List, ℕ, length, IsTrue, OnOk, OnErr, IfErr, IsErr};
+ghost use Rattle.oa_disk.specs.Counting.{min_below};
+ghost use Rattle.oa_disk.specs.Disk.{Holds, Torn, Reaches, Stays, Writes, Syncs, Elapses, Counts};
+ghost use Rattle.oa_disk.specs.Fuse.{failures_with};
 
 use crate::{DeviceFault, Disk};
 
@@ -17,8 +19,7 @@ fn spend(calls_left: &mut u64, refused: &mut u64, fault: DeviceFault) -> Result<
     ensures spent { calls_left.new ≡ calls_left.old - 1 }
     ensures kind { IfErr result (λ e. e ≡ fault) }
     ensures same { OnOk result (refused.new ≡ refused.old) }
-    ensures cause { HasCause refused.old refused.new result }
-    ensures once { CountsOnce refused.old refused.new result }
+    ensures counts { Counts refused.old refused.new result }
 {
     if *calls_left == 0 {
         *refused = refused.saturating_add(1);
@@ -32,11 +33,14 @@ impl<D: Disk> FuseDisk<D> {
     ghost use Rattle.oa_disk.specs.Fuse.{inner_of, calls_left_of, refused_of};
 
     /// Passes the calls before call number `first_failing` on, and fails each one from there on. Reads, writes and syncs
-    /// are its calls, numbered from 1.
+    /// are its calls, numbered from 1. It is honest as the disk within is, and shows what that shows.
     pub fn new(disk: D, first_failing: u64) -> FuseDisk<D>
         ensures disk { inner_of result ≡ disk }
         ensures calls { calls_left_of result ≡ first_failing - 1 }
         ensures refused { refused_of result ≡ 0 }
+        ensures honest { ⟦<FuseDisk<D> as Disk>⟧.is_honest result ≡ D.is_honest disk }
+        ensures contents { ⟦<FuseDisk<D> as Disk>⟧.contents result ≡ D.contents disk }
+        ensures image { (c : List ℕ) → ⟦<FuseDisk<D> as Disk>⟧.image result c ↔ D.image disk c }
     {
         FuseDisk {
             disk,
@@ -58,14 +62,15 @@ impl<D: Disk> FuseDisk<D> {
     }
 }
 
-/// Each call has the clauses of the trait, and two more: after the last call that is left the disk within stays as it is
-/// and the call fails, and each call takes one of those that are left.
+/// Each call has the clauses of the trait, and one more: after the last call that is left the disk within stays as it is
+/// and the call fails, and each call takes one of those that are left. A call that is passed on is made once: the time of the
+/// disk within goes on by two moments at most.
 impl<D: Disk> Disk for FuseDisk<D> {
     ghost use Rattle.oa_disk.specs.Fuse.{Spends};
 
     ghost size_of = { λ f. D.size_of f.disk };
 
-    ghost failures_of = { λ f. min (D.failures_of f.disk + f.refused) (2 ^ 64 - 1) };
+    ghost failures_of = { failures_with D.failures_of };
 
     ghost is_honest = { λ f. D.is_honest f.disk };
 
@@ -77,11 +82,17 @@ impl<D: Disk> Disk for FuseDisk<D> {
 
     ghost image_since = { λ f. D.image_since f.disk };
 
+    ghost failures_fit = { λ f. min_below (D.failures_of f.disk + f.refused) (2 ^ 64 - 1) };
+
     ghost contents_is_image = { λ f. D.contents_is_image f.disk };
 
     ghost images_have_size = { λ f. D.images_have_size f.disk };
 
+    ghost since_have_size = { λ f. D.since_have_size f.disk };
+
     ghost counts_now = { λ f. D.counts_now f.disk };
+
+    ghost since_falls = { λ f. D.since_falls f.disk };
 
     ghost only_now = { λ f. D.only_now f.disk };
 
@@ -97,16 +108,13 @@ impl<D: Disk> Disk for FuseDisk<D> {
         requires { at + length bytes.old ≤ D.size_of self.old.disk }
         ensures spends { Spends self.old self.new result }
         ensures read { OnOk result (IsTrue (D.is_honest self.new.disk) → Holds (D.contents self.old.disk) at bytes.new) }
-        ensures contents { IsTrue (D.is_honest self.old.disk) → D.contents self.new.disk ≡ D.contents self.old.disk }
-        ensures images { IsTrue (D.is_honest self.old.disk) → (c : List ℕ) → D.image self.new.disk c → D.image self.old.disk c }
-        ensures stay { IsTrue (D.is_honest self.old.disk) → (c : List ℕ) → D.image self.old.disk c → D.image self.new.disk c }
+        ensures stays { IsTrue (D.is_honest self.old.disk) → Stays (D.contents self.old.disk) (D.contents self.new.disk) (D.image self.old.disk) (D.image self.new.disk) }
         ensures time { IsTrue (D.is_honest self.old.disk) → Elapses (D.moment self.old.disk) (D.moment self.new.disk) (D.image_since self.old.disk) (D.image_since self.new.disk) (D.image self.new.disk) }
         ensures size { D.size_of self.new.disk ≡ D.size_of self.old.disk }
         ensures honest { IsTrue (D.is_honest self.new.disk) → IsTrue (D.is_honest self.old.disk) }
         ensures kept { OnOk result (IsTrue (D.is_honest self.old.disk) → Holds (D.contents self.old.disk) at bytes.new → IsTrue (D.is_honest self.new.disk)) }
         ensures honest_err { OnErr result (D.is_honest self.new.disk ≡ D.is_honest self.old.disk) }
-        ensures cause { HasCause (min (D.failures_of self.old.disk + self.old.refused) (2 ^ 64 - 1)) (min (D.failures_of self.new.disk + self.new.refused) (2 ^ 64 - 1)) result }
-        ensures once { CountsOnce (min (D.failures_of self.old.disk + self.old.refused) (2 ^ 64 - 1)) (min (D.failures_of self.new.disk + self.new.refused) (2 ^ 64 - 1)) result }
+        ensures counts { Counts (failures_with D.failures_of self.old) (failures_with D.failures_of self.new) result }
         ensures fault { IfErr result (λ e. e ≡ DeviceFault.Read) }
     {
         spend(&mut self.calls_left, &mut self.refused, DeviceFault::Read)?;
@@ -117,15 +125,12 @@ impl<D: Disk> Disk for FuseDisk<D> {
         requires { at + length bytes.now ≤ D.size_of self.old.disk }
         ensures spends { Spends self.old self.new result }
         ensures written { OnOk result (IsTrue (D.is_honest self.old.disk) → Holds (D.contents self.new.disk) at bytes.now) }
-        ensures others { IsTrue (D.is_honest self.old.disk) → Torn at (length bytes.now) (D.contents self.old.disk) (D.contents self.new.disk) }
-        ensures images { IsTrue (D.is_honest self.old.disk) → Follows (Torn at (length bytes.now)) (D.image self.old.disk) (D.image self.new.disk) }
+        ensures writes { IsTrue (D.is_honest self.old.disk) → Writes at (length bytes.now) (D.contents self.old.disk) (D.contents self.new.disk) (D.image self.old.disk) (D.image self.new.disk) }
         ensures any_bytes { OnOk result (IsTrue (D.is_honest self.old.disk) → Reaches (Torn at (length bytes.now)) (D.image self.old.disk) (D.image self.new.disk)) }
-        ensures stay { IsTrue (D.is_honest self.old.disk) → (c : List ℕ) → D.image self.old.disk c → D.image self.new.disk c }
         ensures time { IsTrue (D.is_honest self.old.disk) → Elapses (D.moment self.old.disk) (D.moment self.new.disk) (D.image_since self.old.disk) (D.image_since self.new.disk) (D.image self.new.disk) }
         ensures size { D.size_of self.new.disk ≡ D.size_of self.old.disk }
         ensures honest { D.is_honest self.new.disk ≡ D.is_honest self.old.disk }
-        ensures cause { HasCause (min (D.failures_of self.old.disk + self.old.refused) (2 ^ 64 - 1)) (min (D.failures_of self.new.disk + self.new.refused) (2 ^ 64 - 1)) result }
-        ensures once { CountsOnce (min (D.failures_of self.old.disk + self.old.refused) (2 ^ 64 - 1)) (min (D.failures_of self.new.disk + self.new.refused) (2 ^ 64 - 1)) result }
+        ensures counts { Counts (failures_with D.failures_of self.old) (failures_with D.failures_of self.new) result }
         ensures fault { IfErr result (λ e. e ≡ DeviceFault.Write) }
     {
         spend(&mut self.calls_left, &mut self.refused, DeviceFault::Write)?;
@@ -134,15 +139,13 @@ impl<D: Disk> Disk for FuseDisk<D> {
 
     fn sync(&mut self) -> Result<(), DeviceFault>
         ensures spends { Spends self.old self.new result }
-        ensures durable { OnOk result (IsTrue (D.is_honest self.old.disk) → Only (D.contents self.old.disk) (D.image self.new.disk)) }
-        ensures contents { IsTrue (D.is_honest self.old.disk) → D.contents self.new.disk ≡ D.contents self.old.disk }
+        ensures syncs { OnOk result (IsTrue (D.is_honest self.old.disk) → Syncs (D.contents self.old.disk) (D.contents self.new.disk) (D.image self.new.disk)) }
         ensures images { IsTrue (D.is_honest self.old.disk) → (c : List ℕ) → D.image self.new.disk c → D.image self.old.disk c }
         ensures stay { OnErr result (IsTrue (D.is_honest self.old.disk) → (c : List ℕ) → D.image self.old.disk c → D.image self.new.disk c) }
         ensures time { IsTrue (D.is_honest self.old.disk) → Elapses (D.moment self.old.disk) (D.moment self.new.disk) (D.image_since self.old.disk) (D.image_since self.new.disk) (D.image self.new.disk) }
         ensures size { D.size_of self.new.disk ≡ D.size_of self.old.disk }
         ensures honest { D.is_honest self.new.disk ≡ D.is_honest self.old.disk }
-        ensures cause { HasCause (min (D.failures_of self.old.disk + self.old.refused) (2 ^ 64 - 1)) (min (D.failures_of self.new.disk + self.new.refused) (2 ^ 64 - 1)) result }
-        ensures once { CountsOnce (min (D.failures_of self.old.disk + self.old.refused) (2 ^ 64 - 1)) (min (D.failures_of self.new.disk + self.new.refused) (2 ^ 64 - 1)) result }
+        ensures counts { Counts (failures_with D.failures_of self.old) (failures_with D.failures_of self.new) result }
         ensures fault { IfErr result (λ e. e ≡ DeviceFault.Write) }
     {
         spend(&mut self.calls_left, &mut self.refused, DeviceFault::Write)?;

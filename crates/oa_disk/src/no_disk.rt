@@ -1,5 +1,7 @@
 //! The disk of a server that keeps nothing.
-ghost use Rattle.std.specs.Prelude.{◌≡◌, [], true, refl};
+ghost use Rattle.std.specs.Prelude.{◌≡◌, [], true, refl, IsTrue};
+ghost use Rattle.oa_disk.specs.Counting.{none_below};
+ghost use Rattle.oa_disk.specs.Disk.{NothingPending};
 ghost use Rattle.oa_disk.specs.Replaying.{no_bytes};
 
 use crate::{DeviceFault, Disk};
@@ -7,6 +9,17 @@ use crate::{DeviceFault, Disk};
 /// A disk of no bytes. Each call succeeds, and does nothing.
 #[derive(Clone, Copy, Debug, PartialEq, Eq)]
 pub struct NoDisk;
+
+impl NoDisk {
+    /// The disk of no bytes, which is honest. There is one alone.
+    pub fn new() -> NoDisk
+        ensures size { ⟦<NoDisk as Disk>⟧.size_of result ≡ 0 }
+        ensures honest { IsTrue (⟦<NoDisk as Disk>⟧.is_honest result) }
+        ensures settled { NothingPending ⟦<NoDisk as Disk>⟧.contents ⟦<NoDisk as Disk>⟧.image result }
+    {
+        NoDisk
+    }
+}
 
 impl Disk for NoDisk {
     ghost size_of = { λ _. 0 };
@@ -23,11 +36,17 @@ impl Disk for NoDisk {
 
     ghost image_since = { λ _ _ c. c ≡ [] };
 
+    ghost failures_fit = { λ _. none_below };
+
     ghost contents_is_image = { λ _ _. refl };
 
     ghost images_have_size = { λ _ c _ is. no_bytes c is };
 
+    ghost since_have_size = { λ _ _ c _ is. no_bytes c is };
+
     ghost counts_now = { λ _ _ _ _ _ is. is };
+
+    ghost since_falls = { λ _ _ _ _ _ _ is. is };
 
     ghost only_now = { λ _ _ _ is. is };
 

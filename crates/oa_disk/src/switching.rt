@@ -1,7 +1,7 @@
 //! One byte decides: what was written before is on the device first.
 ghost use Rattle.std.specs.Prelude.{◌≡◌, ◌⊎◌, ◌+◌, ◌<◌, ◌≤◌, List, ℕ, IsTrue, OnOk, IfErr, length, slice_index};
-ghost use Rattle.oa_disk.specs.Disk.{LeavesOnly, HasCause, Torn};
-ghost use Rattle.oa_disk.specs.Gate.{IsBefore, IsAfter, IsBeforeOrAfter};
+ghost use Rattle.oa_disk.specs.Disk.{LeavesOnly, Follows, HasCause, Torn};
+ghost use Rattle.oa_disk.specs.Switch.{MaySwitch, HasSwitched};
 
 use crate::{DeviceFault, Disk};
 
@@ -26,16 +26,23 @@ pub fn flip<D: Disk>(disk: &mut D, at: u64, value: u8) -> Result<(), DeviceFault
     disk.sync()
 }
 
-/// Writes the bytes behind a gate, the byte before them, and then opens it by a 1: a write, a sync, a write and a sync.
-/// Where the gate was closed in every image, a crash at any moment leaves it closed, or open with the bytes behind it,
-/// never open before they are whole.
-pub fn write_behind_gate<D: Disk>(disk: &mut D, at: u64, bytes: &[u8]) -> Result<(), DeviceFault>
-    requires gate { 0 < at }
+/// Writes the bytes from that place on, and sets one byte, the switch, once they are on the device: a write, a sync, a write
+/// and a sync. A failure is that of a write.
+pub fn write_then_flip<D: Disk>(
+    disk: &mut D,
+    at: u64,
+    bytes: &[u8],
+    switch: u64,
+    value: u8,
+) -> Result<(), DeviceFault>
     requires inside { at + length bytes.now ≤ D.size_of disk.old }
+    requires switch { switch < D.size_of disk.old }
 
-    ensures any_moment { IsTrue (D.is_honest disk.old) → ((c : List ℕ) → D.image disk.old c → IsBefore at c)
-        → LeavesOnly D.moment D.image_since disk.old disk.new (IsBeforeOrAfter at bytes.now) }
-    ensures done { OnOk result (IsTrue (D.is_honest disk.old) → (c : List ℕ) → D.image disk.new c → IsAfter at bytes.now c) }
+    // A crash at any moment leaves what it might have left with any bytes in the range, or with these bytes and any switch.
+    ensures any_moment { IsTrue (D.is_honest disk.old)
+        → LeavesOnly D.moment D.image_since disk.old disk.new (λ c. (d : List ℕ) × D.image disk.old d × MaySwitch at bytes.now switch d c) }
+    // And at `Ok` with these bytes and the switch set.
+    ensures done { OnOk result (IsTrue (D.is_honest disk.old) → Follows (HasSwitched at bytes.now switch value) (D.image disk.old) (D.image disk.new)) }
 
     ensures size { D.size_of disk.new ≡ D.size_of disk.old }
     ensures honest { D.is_honest disk.new ≡ D.is_honest disk.old }
@@ -43,5 +50,5 @@ pub fn write_behind_gate<D: Disk>(disk: &mut D, at: u64, bytes: &[u8]) -> Result
     ensures fault { IfErr result (λ e. e ≡ DeviceFault.Write) }
 {
     disk.write_at(at, bytes)?;
-    flip(disk, at - 1, 1)
+    flip(disk, switch, value)
 }

@@ -1,8 +1,8 @@
 use crate::{
-    DeviceFault, Disk, FileDisk, FuseDisk, MemoryDisk, NoDisk, Tear, flip, write_behind_gate,
+    DeviceFault, Disk, FileDisk, FuseDisk, MemoryDisk, NoDisk, Tear, flip, write_then_flip,
 };
 use std::alloc::{AllocError, Global};
-use std::fs::{self, File, OpenOptions, Permissions};
+use std::fs::{self, File, OpenFile, OpenOptions, Permissions};
 use std::io::{self, ErrorKind};
 use std::os::unix::fs::PermissionsExt;
 use std::rt::Files;
@@ -190,13 +190,19 @@ fn image_left(moment: u64, tear: Tear) -> [u8; SIZE] {
     image
 }
 
+/// Whether the disk holds those bytes.
+fn holds(disk: &MemoryDisk, wanted: &[u8]) -> Result<bool, AllocError> {
+    let bytes = disk.bytes()?;
+    Ok(bytes.as_slice() == wanted)
+}
+
 /// Whether the disk, crashed at that moment, holds those bytes.
 fn leaves(disk: &MemoryDisk, moment: u64, tear: Tear, wanted: &[u8]) -> Result<bool, AllocError> {
     if moment > disk.moments() {
         return Ok(false);
     }
     let left = disk.crash(moment, tear)?;
-    Ok(left.bytes() == wanted)
+    holds(&left, wanted)
 }
 
 #[test]
@@ -252,7 +258,7 @@ fn starts_again(alloc: Global) -> Result<bool, AllocError> {
     play(&mut disk, &SCRIPT);
     let mut left = disk.crash(before, Tear::Kept)?;
     let fresh = left.moments() == 0 && left.failures() == 0;
-    Ok(fresh && play(&mut left, &SCRIPT) == 12 && left.bytes() == LAST.as_slice())
+    Ok(fresh && play(&mut left, &SCRIPT) == 12 && holds(&left, &LAST)?)
 }
 
 const PAST_THE_ROOM: [Row; 7] = [
@@ -270,7 +276,7 @@ fn a_call_past_the_room_is_a_counted_failure(rt: HostRuntime) -> Result<(), Fail
     assert!(rt; starts_again(rt.alloc())?);
     let mut disk = MemoryDisk::new(rt.alloc(), 8, 3, 5)?;
     assert!(rt; answers(&mut disk, &PAST_THE_ROOM));
-    assert_eq!(rt; disk.bytes(), [1, 2, 3, 0, 4, 5, 0, 0].as_slice());
+    assert!(rt; holds(&disk, &[1, 2, 3, 0, 4, 5, 0, 0])?);
     assert_eq!(rt; disk.moments(), 6);
     Ok(())
 }
@@ -309,7 +315,7 @@ fn a_fuse_passes_the_calls_before_it_on(rt: HostRuntime) -> Result<(), Fail> {
 
 #[test]
 fn a_disk_of_no_bytes(rt: HostRuntime) -> Result<(), Fail> {
-    let mut disk = NoDisk;
+    let mut disk = NoDisk::new();
     assert_eq!(rt; disk.read_at(0, &mut []), Ok(()));
     assert_eq!(rt; disk.write_at(0, &[]), Ok(()));
     assert_eq!(rt; disk.sync(), Ok(()));
@@ -322,16 +328,18 @@ fn is_before_or_after(disk: &MemoryDisk, moment: u64, tear: Tear) -> Result<bool
     if moment > disk.moments() {
         return Ok(false);
     }
-    let left = disk.crash(moment, tear)?;
-    let is_open = left.bytes().get(4) == Some(&1);
-    let is_whole = left.bytes().get(5..8) == Some([7, 8, 9].as_slice());
-    Ok(is_open && is_whole || !is_open && moment < 8)
+    let left = disk.crash(moment, tear)?.bytes()?;
+    let is_open = left.get(4) == Some(&1);
+    let is_whole = left.get(5..8) == Some([7, 8, 9].as_slice());
+    let others = left.get(..4) == Some([0; 4].as_slice())
+        && left.get(8..) == Some([0; 8].as_slice());
+    Ok(others && (is_open && is_whole || !is_open && moment < 8))
 }
 
 #[test]
 fn a_gate_is_open_once_the_bytes_are_whole(rt: HostRuntime) -> Result<(), Fail> {
     let mut disk = MemoryDisk::new(rt.alloc(), SIZE, 7, 16)?;
-    assert_eq!(rt; write_behind_gate(&mut disk, 5, &[7, 8, 9]), Ok(()));
+    assert_eq!(rt; write_then_flip(&mut disk, 5, &[7, 8, 9], 4, 1), Ok(()));
     assert_eq!(rt; disk.moments(), 8);
     for moment in 0..9 {
         for tear in TEARS {
@@ -344,7 +352,29 @@ fn a_gate_is_open_once_the_bytes_are_whole(rt: HostRuntime) -> Result<(), Fail> 
     assert_eq!(rt; flip(&mut disk, 4, 0), Ok(()));
     // The room of the record is used up.
     assert_eq!(rt; flip(&mut disk, 4, 1), Err(DeviceFault::Write));
-    assert_eq!(rt; disk.bytes().get(4), Some(&0));
+    assert!(rt; holds(&disk, &[0, 0, 0, 0, 0, 7, 8, 9, 0, 0, 0, 0, 0, 0, 0, 0])?);
+    Ok(())
+}
+
+/// How many of so many crashes of a disk of that size leave its last byte, which was written and not brought to the device.
+fn crashes(alloc: Global, size: usize, count: u64) -> Result<u64, AllocError> {
+    let mut disk = MemoryDisk::new(alloc, size, 8, 16)?;
+    let last = disk.size().saturating_sub(1);
+    let _ = puts(&mut disk, last, &[7]);
+    let mut kept = 0u64;
+    for _ in 0..count {
+        let mut left = disk.crash(disk.moments(), Tear::Kept)?;
+        if gives_byte(&mut left, last, &[7]).is_ok() {
+            kept = kept.saturating_add(1);
+        }
+    }
+    Ok(kept)
+}
+
+/// A crash costs a copy of what was written: by two copies of the disk these would take some minutes.
+#[test]
+fn thousands_of_crashes_of_a_large_disk(rt: HostRuntime) -> Result<(), Fail> {
+    assert_eq!(rt; crashes(rt.alloc(), 33_562_624, 5000)?, 5000);
     Ok(())
 }
 
@@ -381,18 +411,13 @@ const CUT_AT_8: [Row; 4] = [
     ((Read, 8, &[21]), Err(DeviceFault::Read), 2),
 ];
 
-/// A file that is there.
-fn opened<R: Files<File = File>>(rt: &R, path: &str) -> io::Result<FileDisk> {
-    FileDisk::over(OpenOptions::new().read(true).write(true).open(rt, path)?)
-}
-
 #[test]
 fn a_file_keeps_what_was_synced(rt: HostRuntime) -> Result<(), Fail> {
     let _ = fs::remove_file(&rt, PATH);
     assert!(rt; is_written(FileDisk::create(&rt, PATH, 16)));
-    assert!(rt; meets(opened(&rt, PATH), 16, &WHOLE));
+    assert!(rt; meets(FileDisk::open(&rt, PATH), 16, &WHOLE));
     // A file that is made shorter by another.
-    let disk = opened(&rt, PATH);
+    let disk = FileDisk::open(&rt, PATH);
     OpenOptions::new().write(true).open(&rt, PATH)?.set_len(8)?;
     assert!(rt; meets(disk, 16, &CUT_AT_8));
     fs::remove_file(&rt, PATH)?;
@@ -406,12 +431,16 @@ fn refusal(disk: io::Result<FileDisk>) -> Option<ErrorKind> {
 
 const THERE: &str = "oa_disk_there";
 
-const NO_DISKS: [(&str, ErrorKind); 5] = [
+const UNSYNCED: &str = "/proc/self/comm";
+
+/// The last is a regular file to which nothing can be brought: its sync is an error.
+const NO_DISKS: [(&str, ErrorKind); 6] = [
     ("oa_disk_missing", ErrorKind::NotFound),
     ("oa_disk_there/below", ErrorKind::NotADirectory),
     (".", ErrorKind::IsADirectory),
     ("/dev/null", ErrorKind::Unsupported),
     ("a\0b", ErrorKind::InvalidInput),
+    (UNSYNCED, ErrorKind::InvalidInput),
 ];
 
 const NOT_MADE: [(&str, u64, ErrorKind); 4] = [
@@ -426,7 +455,10 @@ fn a_path_that_is_no_disk(rt: HostRuntime) -> Result<(), Fail> {
     let _ = fs::remove_file(&rt, THERE);
     fs::write(&rt, THERE, b"abc".as_slice())?;
     for (path, wanted) in NO_DISKS {
-        assert!(rt; refusal(opened(&rt, path)) == Some(wanted), "{path}");
+        assert!(rt;
+            refusal(FileDisk::open(&rt, path)) == Some(wanted),
+            "{path}"
+        );
     }
     for (path, size, wanted) in NOT_MADE {
         assert!(rt;
@@ -437,8 +469,46 @@ fn a_path_that_is_no_disk(rt: HostRuntime) -> Result<(), Fail> {
     let _ = fs::remove_file(&rt, "oa_disk_large");
     // A user who may do anything opens a file that is only to be read all the same.
     fs::set_permissions(&rt, THERE, Permissions::from_mode(0o444))?;
-    let found = refusal(opened(&rt, THERE));
+    let found = refusal(FileDisk::open(&rt, THERE));
     assert!(rt; found.is_none() || found == Some(ErrorKind::PermissionDenied));
     fs::remove_file(&rt, THERE)?;
+    Ok(())
+}
+
+/// A file that is open for reading alone, as `FileDisk::open` never opens one.
+fn read_only<R: Files<File = File>>(rt: &R, path: &str) -> io::Result<FileDisk> {
+    FileDisk::over(File::open(rt, path)?)
+}
+
+/// A read and a sync pass, and a write is a counted failure.
+const READ_ONLY: [Row; 4] = [
+    ((Read, 0, b"a"), Ok(()), 0),
+    ((Write, 0, &[1]), Err(DeviceFault::Write), 1),
+    ((Read, 0, b"a"), Ok(()), 1),
+    ((Sync, 0, &[]), Ok(()), 1),
+];
+
+/// A file that is taken without the first sync.
+fn unsynced<R: Files<File = File>>(rt: &R) -> io::Result<FileDisk> {
+    let file = OpenOptions::new()
+        .read(true)
+        .write(true)
+        .open(rt, UNSYNCED)?;
+    Ok(FileDisk::begin(file, 1))
+}
+
+/// Each sync is a counted failure.
+const SYNC_FAILS: [Row; 2] = [
+    ((Sync, 0, &[]), Err(DeviceFault::Write), 1),
+    ((Sync, 0, &[]), Err(DeviceFault::Write), 2),
+];
+
+#[test]
+fn an_error_of_the_system_is_answered(rt: HostRuntime) -> Result<(), Fail> {
+    fs::write(&rt, "oa_disk_read_only", b"abc".as_slice())?;
+    let disk = read_only(&rt, "oa_disk_read_only");
+    fs::remove_file(&rt, "oa_disk_read_only")?;
+    assert!(rt; meets(disk, 3, &READ_ONLY));
+    assert!(rt; meets(unsynced(&rt), 1, &SYNC_FAILS));
     Ok(())
 }

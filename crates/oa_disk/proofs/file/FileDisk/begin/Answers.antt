@@ -1,14 +1,12 @@
-use Rattle.std.proofs.Common.{◌∙◌, sym, ap, length}
-use Rattle.std.proofs.lemmas.List.FromFn.{length-map-range_with_len}
+use Rattle.std.proofs.Common.{sym, subst}
 use Rattle.oa_disk.specs.declared.record.Record.{Record}
-use Rattle.oa_disk.specs.Replay.{contents_after, count_all}
+use Rattle.oa_disk.specs.Record.{history_of}
+use Rattle.oa_disk.specs.History.{IsWhole}
+use Rattle.oa_disk.proofs.Noted.{beginning_whole, beginning_settled}
 use Rattle.oa_disk.proofs.file.FileDisk.begin.Goals as goal
 
--- src/file.rt:58:5
-pub invariant_of-result : goal.invariant_of-result
-invariant_of-result g c =
-    let made = c.beginning-history.ensures in
-    record {
-      whole = ap (λ (r : Record). length (contents_after r.first r.calls r.written)) made ∙ length-map-range_with_len g.held 0 c.args.size;
-      recorded = ap (λ (r : Record). count_all r.calls) made ∙ sym (ap (λ (r : Record). length r.written) made);
-    }
+pub invariant_of-result-clause-whole : goal.invariant_of-result-clause-whole
+invariant_of-result-clause-whole g c = subst (λ (r : Record). IsWhole c.args.size (history_of r)) (sym c.beginning-history.ensures) (beginning_whole g.held c.args.size)
+
+pub returns-clause-settled : goal.returns-clause-settled
+returns-clause-settled g c = beginning_settled g.held c.args.size _ c.beginning-history.ensures

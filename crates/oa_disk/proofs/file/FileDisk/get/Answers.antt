@@ -1,20 +1,16 @@
-use Rattle.std.proofs.Common.{[], refl}
+use Rattle.std.proofs.Common.{[], refl, ap}
 use Rattle.oa_disk.specs.declared.call.Call.TheVariants.{Read}
-use Rattle.oa_disk.proofs.Noted.{count_is, size_is}
+use Rattle.oa_disk.specs.declared.record.Record.{Record}
+use Rattle.oa_disk.specs.Record.{history_of}
+use Rattle.oa_disk.proofs.Recorded.{whole_is}
 use Rattle.oa_disk.proofs.file.FileDisk.get.Goals as goal
 
-pub invariant_of-self : goal.invariant_of-self
-invariant_of-self c =
+pub invariant_of-self-clause-whole : goal.invariant_of-self-clause-whole
+invariant_of-self-clause-whole c =
     let self = c.args.self.now in
-    record {
-      whole = size_is self.history Read [] c.args.at [] self.recorded refl _ c.with-self.ensures self.size self.whole;
-      recorded = count_is self.history Read [] c.args.at [] self.recorded refl _ c.with-self.ensures;
-    }
+    whole_is self.size (history_of self.history) self.whole Read [] refl _ (ap (λ (r : Record). history_of r) c.with-self.ensures)
 
-pub invariant_of-self-2 : goal.invariant_of-self-2
-invariant_of-self-2 c =
+pub invariant_of-self-2-clause-whole : goal.invariant_of-self-2-clause-whole
+invariant_of-self-2-clause-whole c =
     let self = c.args.self.now in
-    record {
-      whole = size_is self.history Read [] c.args.at _ self.recorded refl _ c.with-self-2.ensures self.size self.whole;
-      recorded = count_is self.history Read [] c.args.at _ self.recorded refl _ c.with-self-2.ensures;
-    }
+    whole_is self.size (history_of self.history) self.whole Read [] refl _ (ap (λ (r : Record). history_of r) c.with-self-2.ensures)

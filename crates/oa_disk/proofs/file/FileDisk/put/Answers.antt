@@ -1,25 +1,16 @@
-use Rattle.std.proofs.Common.{◌+◌, ◌≤◌, [], length, refl, arith}
+use Rattle.std.proofs.Common.{refl, ap}
 use Rattle.oa_disk.specs.declared.call.Call.TheVariants.{Write}
-use Rattle.oa_disk.specs.Replay.{contents_after}
-use Rattle.oa_disk.proofs.Noted.{count_is, size_is}
+use Rattle.oa_disk.specs.declared.record.Record.{Record}
+use Rattle.oa_disk.specs.Record.{history_of}
+use Rattle.oa_disk.proofs.Recorded.{whole_is}
 use Rattle.oa_disk.proofs.file.FileDisk.put.Goals as goal
 
-pub invariant_of-self : goal.invariant_of-self
-invariant_of-self c =
+pub invariant_of-self-clause-whole : goal.invariant_of-self-clause-whole
+invariant_of-self-clause-whole c =
     let self = c.args.self.now in
-    let bytes = c.args.bytes.now in
-    let inside : c.args.at + length bytes ≤ length (contents_after self.history.first self.history.calls self.history.written) = omega (arith, c.requires, self.whole) in
-    record {
-      whole = size_is self.history (Write c.args.at (length bytes)) bytes 0 [] self.recorded (refl, inside) _ c.with-self.ensures self.size self.whole;
-      recorded = count_is self.history (Write c.args.at (length bytes)) bytes 0 [] self.recorded (refl, inside) _ c.with-self.ensures;
-    }
+    whole_is self.size (history_of self.history) self.whole (Write c.args.at _) c.args.bytes.now (refl, c.requires, (λ i. (c.type_inv.bytes i).fits)) _ (ap (λ (r : Record). history_of r) c.with-self.ensures)
 
-pub invariant_of-self-else-is_err : goal.invariant_of-self-else-is_err
-invariant_of-self-else-is_err c =
+pub invariant_of-self-else-is_err-clause-whole : goal.invariant_of-self-else-is_err-clause-whole
+invariant_of-self-else-is_err-clause-whole c =
     let self = c.args.self.now in
-    let bytes = c.args.bytes.now in
-    let inside : c.args.at + length bytes ≤ length (contents_after self.history.first self.history.calls self.history.written) = omega (arith, c.requires, self.whole) in
-    record {
-      whole = size_is self.history (Write c.args.at (length bytes)) bytes 0 [] self.recorded (refl, inside) _ c.with-self.ensures self.size self.whole;
-      recorded = count_is self.history (Write c.args.at (length bytes)) bytes 0 [] self.recorded (refl, inside) _ c.with-self.ensures;
-    }
+    whole_is self.size (history_of self.history) self.whole (Write c.args.at _) c.args.bytes.now (refl, c.requires, (λ i. (c.type_inv.bytes i).fits)) _ (ap (λ (r : Record). history_of r) c.with-self.ensures)

@@ -2,8 +2,11 @@ use Rattle.std.proofs.Common.{◌+◌, ◌≤◌, Bool, IsTrue, [], length, refl
 use Rattle.std.proofs.lemmas.Result.{on_ok_weaker}
 use Rattle.oa_disk.specs.declared.call.Call.TheVariants.{Read}
 use Rattle.oa_disk.specs.declared.record.Record.{Record}
-use Rattle.oa_disk.specs.Replay.{State, IsImage, contents_after}
-use Rattle.oa_disk.proofs.Noted.{state_is, time_is, at_ok, at_err, some_read, agrees_none, agrees_holds, holds_agrees}
+use Rattle.oa_disk.specs.Record.{history_of}
+use Rattle.oa_disk.specs.Replay.{contents_after}
+use Rattle.oa_disk.specs.Replaying.{contents_size}
+use Rattle.oa_disk.proofs.Recorded.{time_is, read_stays}
+use Rattle.oa_disk.proofs.Noted.{at_ok, at_err, some_read, agrees_none, agrees_holds, holds_agrees}
 use Rattle.oa_disk.proofs.file.FileDiskDisk.read_at.Goals as goal
 
 pub returns-clause-read : goal.returns-clause-read
@@ -11,26 +14,14 @@ returns-clause-read c =
     let self = c.args.self.now in
     let old = self.history in
     let bytes = c.get.new.bytes in
-    let inside : c.args.at + length bytes ≤ length (contents_after old.first old.calls old.written) = omega (arith, c.requires, self.whole) in
+    let inside : c.args.at + length bytes ≤ length (contents_after old.first old.calls old.written) = omega (arith, c.requires, contents_size self.size (history_of old) self.whole) in
     on_ok_weaker c.get.result (λ is h. agrees_holds (contents_after old.first old.calls old.written) c.args.at bytes old.honest inside (subst (λ (b : Bool). IsTrue b) (ap (λ (r : Record). r.honest) is) h)) (at_ok _ _ c.get.result c.get.ensures.noted)
 
-pub returns-clause-contents : goal.returns-clause-contents
-returns-clause-contents c h =
+pub returns-clause-stays : goal.returns-clause-stays
+returns-clause-stays c h =
     let self = c.args.self.now in
     let some = some_read _ c.get.result self.history _ _ _ c.get.ensures.noted in
-    ap (λ (s : State). s.contents) (state_is self.history Read [] c.args.at some.0 self.recorded refl _ some.1)
-
-pub returns-clause-images : goal.returns-clause-images
-returns-clause-images c h image is =
-    let self = c.args.self.now in
-    let some = some_read _ c.get.result self.history _ _ _ c.get.ensures.noted in
-    subst (λ (s : State). IsImage s image) (state_is self.history Read [] c.args.at some.0 self.recorded refl _ some.1) is
-
-pub returns-clause-stay : goal.returns-clause-stay
-returns-clause-stay c h image was =
-    let self = c.args.self.now in
-    let some = some_read _ c.get.result self.history _ _ _ c.get.ensures.noted in
-    subst (λ (s : State). IsImage s image) (sym (state_is self.history Read [] c.args.at some.0 self.recorded refl _ some.1)) was
+    read_stays self.size (history_of self.history) self.whole _ (ap (λ (r : Record). history_of r) some.1)
 
 pub returns-clause-kept : goal.returns-clause-kept
 returns-clause-kept c =
@@ -41,7 +32,7 @@ pub returns-clause-time : goal.returns-clause-time
 returns-clause-time c h =
     let self = c.args.self.now in
     let some = some_read _ c.get.result self.history _ _ _ c.get.ensures.noted in
-    time_is self.history Read [] c.args.at some.0 self.recorded refl _ some.1
+    time_is self.size (history_of self.history) self.whole Read [] refl _ (ap (λ (r : Record). history_of r) some.1)
 
 pub returns-clause-honest_err : goal.returns-clause-honest_err
 returns-clause-honest_err c =

@@ -1,65 +1,34 @@
-use Rattle.std.proofs.Common.{◌+◌, ◌≤◌, List, ℕ, [], length, refl, sym, ◌∙◌, ap, subst, arith}
-use Rattle.oa_disk.specs.Disk.{Holds, Torn}
+use Rattle.std.proofs.Common.{ap, refl, ◌∙◌}
 use Rattle.oa_disk.specs.declared.call.Call.TheVariants.{Write}
 use Rattle.oa_disk.specs.declared.record.Record.{Record}
-use Rattle.oa_disk.specs.Replay.{State, IsImage, last_state, synced, contents_after}
-use Rattle.oa_disk.proofs.Overwritten.{overwritten_holds, overwritten_torn}
-use Rattle.oa_disk.proofs.Recorded.{write_follows, write_reaches, write_stays}
-use Rattle.oa_disk.proofs.Noted.{state_is, time_is, agrees_none, on_ok}
+use Rattle.oa_disk.specs.Record.{history_of}
+use Rattle.oa_disk.specs.Replay.{contents_after}
+use Rattle.oa_disk.proofs.Recorded.{time_is, write_holds, write_writes, write_all}
+use Rattle.oa_disk.proofs.Noted.{agrees_none, on_ok}
 use Rattle.oa_disk.proofs.file.FileDiskDisk.write_at.Goals as goal
 
 pub returns-clause-written : goal.returns-clause-written
 returns-clause-written c =
     let self = c.args.self.now in
-    let old = self.history in
-    let bytes = c.args.bytes.now in
-    let inside : c.args.at + length bytes ≤ length (contents_after old.first old.calls old.written) = omega (arith, c.requires, self.whole) in
-    let now = ap (λ (s : State). s.contents) (state_is old (Write c.args.at (length bytes)) bytes 0 [] self.recorded (refl, inside) _ c.put.ensures.noted) in
-    on_ok c.put.result (λ h. subst (λ (l : List ℕ). Holds l c.args.at bytes) (sym now) (overwritten_holds (contents_after old.first old.calls old.written) bytes c.args.at inside))
+    let is = ap (λ (r : Record). history_of r) c.put.ensures.noted in
+    on_ok c.put.result (λ h. write_holds self.size (history_of self.history) self.whole _ c.args.at c.args.bytes.now c.requires (λ i. (c.type_inv.bytes i).fits) is)
 
-pub returns-clause-others : goal.returns-clause-others
-returns-clause-others c h =
+pub returns-clause-writes : goal.returns-clause-writes
+returns-clause-writes c h =
     let self = c.args.self.now in
-    let old = self.history in
-    let bytes = c.args.bytes.now in
-    let inside : c.args.at + length bytes ≤ length (contents_after old.first old.calls old.written) = omega (arith, c.requires, self.whole) in
-    subst (λ (l : List ℕ). Torn c.args.at (length bytes) (contents_after old.first old.calls old.written) l)
-    (sym (ap (λ (s : State). s.contents) (state_is old (Write c.args.at (length bytes)) bytes 0 [] self.recorded (refl, inside) _ c.put.ensures.noted))) (overwritten_torn (contents_after old.first old.calls old.written) bytes c.args.at inside)
-
-pub returns-clause-images : goal.returns-clause-images
-returns-clause-images c h image is =
-    let self = c.args.self.now in
-    let old = self.history in
-    let bytes = c.args.bytes.now in
-    let inside : c.args.at + length bytes ≤ length (contents_after old.first old.calls old.written) = omega (arith, c.requires, self.whole) in
-    write_follows (last_state (synced old.first) old.calls old.written) c.args.at (length bytes) bytes refl inside image
-    (subst (λ (s : State). IsImage s image) (state_is old (Write c.args.at (length bytes)) bytes 0 [] self.recorded (refl, inside) _ c.put.ensures.noted) is)
+    let is = ap (λ (r : Record). history_of r) c.put.ensures.noted in
+    write_writes self.size (history_of self.history) self.whole _ c.args.at c.args.bytes.now c.requires (λ i. (c.type_inv.bytes i).fits) is
 
 pub returns-clause-any_bytes : goal.returns-clause-any_bytes
 returns-clause-any_bytes c =
     let self = c.args.self.now in
-    let old = self.history in
-    let bytes = c.args.bytes.now in
-    let inside : c.args.at + length bytes ≤ length (contents_after old.first old.calls old.written) = omega (arith, c.requires, self.whole) in
-    let now = state_is old (Write c.args.at (length bytes)) bytes 0 [] self.recorded (refl, inside) _ c.put.ensures.noted in
-    on_ok c.put.result (λ h older image was torn. subst (λ (s : State). IsImage s image) (sym now) (write_reaches (last_state (synced old.first) old.calls old.written) c.args.at (length bytes) bytes refl inside older image was torn))
-
-pub returns-clause-stay : goal.returns-clause-stay
-returns-clause-stay c h image was =
-    let self = c.args.self.now in
-    let old = self.history in
-    let bytes = c.args.bytes.now in
-    let inside : c.args.at + length bytes ≤ length (contents_after old.first old.calls old.written) = omega (arith, c.requires, self.whole) in
-    let now = state_is old (Write c.args.at (length bytes)) bytes 0 [] self.recorded (refl, inside) _ c.put.ensures.noted in
-    subst (λ (s : State). IsImage s image) (sym now) (write_stays (last_state (synced old.first) old.calls old.written) c.args.at (length bytes) bytes image refl inside was)
+    let is = ap (λ (r : Record). history_of r) c.put.ensures.noted in
+    on_ok c.put.result (λ h. write_all self.size (history_of self.history) self.whole _ c.args.at c.args.bytes.now c.requires (λ i. (c.type_inv.bytes i).fits) is)
 
 pub returns-clause-time : goal.returns-clause-time
 returns-clause-time c h =
     let self = c.args.self.now in
-    let old = self.history in
-    let bytes = c.args.bytes.now in
-    let inside : c.args.at + length bytes ≤ length (contents_after old.first old.calls old.written) = omega (arith, c.requires, self.whole) in
-    time_is old (Write c.args.at (length bytes)) bytes 0 [] self.recorded (refl, inside) _ c.put.ensures.noted
+    time_is self.size (history_of self.history) self.whole (Write c.args.at _) c.args.bytes.now (refl, c.requires, (λ i. (c.type_inv.bytes i).fits)) _ (ap (λ (r : Record). history_of r) c.put.ensures.noted)
 
 pub returns-clause-honest : goal.returns-clause-honest
 returns-clause-honest c =

@@ -1,36 +1,38 @@
-use Rattle.std.proofs.Common.{[], length, refl, sym, ◌∙◌, ap, subst}
+use Rattle.std.proofs.Common.{List, ℕ, [], refl, subst}
 use Rattle.oa_disk.specs.declared.call.Call.TheVariants.{Read}
-use Rattle.oa_disk.specs.Replay.{State, IsImage, synced}
-use Rattle.oa_disk.proofs.Calls.{inside_by}
-use Rattle.oa_disk.proofs.Recorded.{elapses_by, last_by, count_by}
+use Rattle.oa_disk.specs.Disk.{Holds}
+use Rattle.oa_disk.specs.History.{with_call}
+use Rattle.oa_disk.specs.Ledger.{history}
+use Rattle.oa_disk.specs.declared.disk.DeviceFault.TheVariants as faults
+use Rattle.oa_disk.proofs.Entered.{is_history, recorded, refused, either_of}
+use Rattle.oa_disk.proofs.Recorded.{whole_is, same_whole, time_is, read_stays}
 use Rattle.oa_disk.proofs.memory.MemoryDiskDisk.read_at.Goals as goal
 
-pub invariant_of-self-clause-replayed : goal.invariant_of-self-clause-replayed
-invariant_of-self-clause-replayed c =
+pub invariant_of-self : goal.invariant_of-self
+invariant_of-self c =
     let self = c.args.self.now in
-    self.replayed ∙ sym (ap (λ (s : State). s.contents) (last_by (synced self.first.items) self.calls.items self.written.items Read [] self.recorded refl _ _ c.in-Ok.ensures.calls c.in-Ok.ensures.written))
+    let h = history self.first self.ledger in
+    let ok = recorded self.first Read [] faults.Read self.ledger c.enter.new.self c.enter.result c.enter.ensures in
+    let err = refused self.first Read [] faults.Read self.ledger c.enter.new.self c.enter.result c.enter.ensures in
+    record { whole = either_of c.enter.result (λ is. whole_is self.first.size h self.whole Read [] refl _ is) (λ is. same_whole self.first.size h _ is self.whole) ok err }
 
-pub invariant_of-self-clause-recorded : goal.invariant_of-self-clause-recorded
-invariant_of-self-clause-recorded c =
+pub returns-clause-read : goal.returns-clause-read
+returns-clause-read c =
     let self = c.args.self.now in
-    count_by (synced self.first.items) self.calls.items self.written.items Read [] self.recorded refl _ _ c.in-Ok.ensures.calls c.in-Ok.ensures.written
+    let h = history self.first self.ledger in
+    let is = is_history self.first self.ledger c.enter.new.self (with_call h Read []) refl c.in_ok-enter.ensures.calls c.in_ok-enter.ensures.written in
+    subst (λ (l : List ℕ). Holds l c.args.at c.show.new.bytes) (read_stays self.first.size h self.whole _ is).contents c.show.ensures.bytes
 
-pub returns-clause-images : goal.returns-clause-images
-returns-clause-images c image is =
+pub returns-clause-stays : goal.returns-clause-stays
+returns-clause-stays c =
     let self = c.args.self.now in
-    subst (λ (s : State). IsImage s image) (last_by (synced self.first.items) self.calls.items self.written.items Read [] self.recorded refl _ _ c.in-Ok.ensures.calls c.in-Ok.ensures.written) is
-
-pub returns-clause-stay : goal.returns-clause-stay
-returns-clause-stay c image was =
-    let self = c.args.self.now in
-    subst (λ (s : State). IsImage s image) (sym (last_by (synced self.first.items) self.calls.items self.written.items Read [] self.recorded refl _ _ c.in-Ok.ensures.calls c.in-Ok.ensures.written)) was
+    let h = history self.first self.ledger in
+    let is = is_history self.first self.ledger c.enter.new.self (with_call h Read []) refl c.in_ok-enter.ensures.calls c.in_ok-enter.ensures.written in
+    read_stays self.first.size h self.whole _ is
 
 pub returns-clause-time : goal.returns-clause-time
 returns-clause-time c =
     let self = c.args.self.now in
-    elapses_by (synced self.first.items) self.calls.items self.written.items Read [] self.recorded refl _ _ c.in-Ok.ensures.calls c.in-Ok.ensures.written
-
-pub invariant_of-self-clause-inside : goal.invariant_of-self-clause-inside
-invariant_of-self-clause-inside c =
-    let self = c.args.self.now in
-    inside_by (length self.bytes.items) _ self.calls.items _ Read refl self.inside tt c.in-Ok.ensures.calls
+    let h = history self.first self.ledger in
+    let is = is_history self.first self.ledger c.enter.new.self (with_call h Read []) refl c.in_ok-enter.ensures.calls c.in_ok-enter.ensures.written in
+    time_is self.first.size h self.whole Read [] refl _ is

@@ -1,68 +1,56 @@
-use Rattle.std.proofs.Common.{◌+◌, ◌≤◌, List, ℕ, length, refl, sym, ◌∙◌, ap, subst, arith}
+use Rattle.std.proofs.Common.{length, refl}
+use Rattle.std.proofs.lemmas.Result.{on_ok_weaker}
 use Rattle.oa_disk.specs.declared.call.Call.TheVariants.{Write}
-use Rattle.oa_disk.specs.Replay.{State, IsImage, last_state, synced, overwritten}
-use Rattle.oa_disk.specs.Disk.{Holds, Torn}
-use Rattle.oa_disk.proofs.Overwritten.{length-overwritten, overwritten_holds, overwritten_torn}
-use Rattle.oa_disk.proofs.Calls.{inside_by}
-use Rattle.oa_disk.proofs.Recorded.{elapses_by, last_by, count_by, write_follows, write_reaches, write_stays}
+use Rattle.oa_disk.specs.declared.disk.DeviceFault.TheVariants as faults
+use Rattle.oa_disk.specs.Ledger.{history}
+use Rattle.oa_disk.proofs.Entered.{recorded, refused, either_of}
+use Rattle.oa_disk.proofs.Recorded.{whole_is, time_is, same_whole, same_time, same_writes, write_holds, write_writes, write_all}
 use Rattle.oa_disk.proofs.memory.MemoryDiskDisk.write_at.Goals as goal
 
-pub invariant_of-self-2-clause-recorded : goal.invariant_of-self-2-clause-recorded
-invariant_of-self-2-clause-recorded c =
+pub invariant_of-self : goal.invariant_of-self
+invariant_of-self c =
     let self = c.args.self.now in
-    let inside : c.args.at + length c.args.bytes.now ≤ length (last_state (synced self.first.items) self.calls.items self.written.items).contents = omega (arith, c.requires, ap length self.replayed) in
-    count_by (synced self.first.items) self.calls.items self.written.items (Write c.args.at (length c.args.bytes.now)) c.args.bytes.now self.recorded (refl, inside) _ _ c.in-Ok.ensures.calls c.in-Ok.ensures.written
+    let h = history self.first self.ledger in
+    let ok = recorded self.first (Write c.args.at (length c.args.bytes.now)) c.args.bytes.now faults.Write self.ledger c.enter.new.self c.enter.result c.enter.ensures in
+    let err = refused self.first (Write c.args.at (length c.args.bytes.now)) c.args.bytes.now faults.Write self.ledger c.enter.new.self c.enter.result c.enter.ensures in
+    record { whole = either_of c.enter.result (λ is. whole_is self.first.size h self.whole (Write c.args.at (length c.args.bytes.now)) c.args.bytes.now (refl, c.requires, (λ i. (c.type_inv.bytes i).fits)) _ is) (λ is. same_whole self.first.size h _ is self.whole) ok err }
 
-pub invariant_of-self-2-clause-replayed : goal.invariant_of-self-2-clause-replayed
-invariant_of-self-2-clause-replayed c =
+pub returns-clause-recorded : goal.returns-clause-recorded
+returns-clause-recorded c =
     let self = c.args.self.now in
-    let inside : c.args.at + length c.args.bytes.now ≤ length (last_state (synced self.first.items) self.calls.items self.written.items).contents = omega (arith, c.requires, ap length self.replayed) in
-    let now = last_by (synced self.first.items) self.calls.items self.written.items (Write c.args.at (length c.args.bytes.now)) c.args.bytes.now self.recorded (refl, inside) _ _ c.in-Ok.ensures.calls c.in-Ok.ensures.written in
-    c.overwrite.ensures.bytes ∙ ap (λ (l : List ℕ). overwritten l c.args.at c.args.bytes.now) self.replayed ∙ sym (ap (λ (s : State). s.contents) now)
-
-pub invariant_of-self-2-clause-same_size : goal.invariant_of-self-2-clause-same_size
-invariant_of-self-2-clause-same_size c =
-    let self = c.args.self.now in
-    ap length c.overwrite.ensures.bytes ∙ length-overwritten self.bytes.items c.args.bytes.now c.args.at c.requires ∙ self.same_size
-
-pub returns-clause-written : goal.returns-clause-written
-returns-clause-written c =
-    let self = c.args.self.now in
-    subst (λ (l : List ℕ). Holds l c.args.at c.args.bytes.now) (sym c.overwrite.ensures.bytes) (overwritten_holds self.bytes.items c.args.bytes.now c.args.at c.requires)
-
-pub returns-clause-others : goal.returns-clause-others
-returns-clause-others c =
-    let self = c.args.self.now in
-    subst (λ (l : List ℕ). Torn c.args.at (length c.args.bytes.now) self.bytes.items l) (sym c.overwrite.ensures.bytes) (overwritten_torn self.bytes.items c.args.bytes.now c.args.at c.requires)
-
-pub returns-clause-images : goal.returns-clause-images
-returns-clause-images c image is =
-    let self = c.args.self.now in
-    let inside : c.args.at + length c.args.bytes.now ≤ length (last_state (synced self.first.items) self.calls.items self.written.items).contents = omega (arith, c.requires, ap length self.replayed) in
-    let now = last_by (synced self.first.items) self.calls.items self.written.items (Write c.args.at (length c.args.bytes.now)) c.args.bytes.now self.recorded (refl, inside) _ _ c.in-Ok.ensures.calls c.in-Ok.ensures.written in
-    write_follows (last_state (synced self.first.items) self.calls.items self.written.items) c.args.at (length c.args.bytes.now) c.args.bytes.now refl inside image (subst (λ (s : State). IsImage s image) now is)
-
-pub returns-clause-any_bytes : goal.returns-clause-any_bytes
-returns-clause-any_bytes c older image was torn =
-    let self = c.args.self.now in
-    let inside : c.args.at + length c.args.bytes.now ≤ length (last_state (synced self.first.items) self.calls.items self.written.items).contents = omega (arith, c.requires, ap length self.replayed) in
-    let now = last_by (synced self.first.items) self.calls.items self.written.items (Write c.args.at (length c.args.bytes.now)) c.args.bytes.now self.recorded (refl, inside) _ _ c.in-Ok.ensures.calls c.in-Ok.ensures.written in
-    subst (λ (s : State). IsImage s image) (sym now) (write_reaches (last_state (synced self.first.items) self.calls.items self.written.items) c.args.at (length c.args.bytes.now) c.args.bytes.now refl inside older image was torn)
-
-pub returns-clause-stay : goal.returns-clause-stay
-returns-clause-stay c image was =
-    let self = c.args.self.now in
-    let inside : c.args.at + length c.args.bytes.now ≤ length (last_state (synced self.first.items) self.calls.items self.written.items).contents = omega (arith, c.requires, ap length self.replayed) in
-    let now = last_by (synced self.first.items) self.calls.items self.written.items (Write c.args.at (length c.args.bytes.now)) c.args.bytes.now self.recorded (refl, inside) _ _ c.in-Ok.ensures.calls c.in-Ok.ensures.written in
-    subst (λ (s : State). IsImage s image) (sym now) (write_stays (last_state (synced self.first.items) self.calls.items self.written.items) c.args.at (length c.args.bytes.now) c.args.bytes.now image refl inside was)
+    let h = history self.first self.ledger in
+    let ok = recorded self.first (Write c.args.at (length c.args.bytes.now)) c.args.bytes.now faults.Write self.ledger c.enter.new.self c.enter.result c.enter.ensures in
+    let err = refused self.first (Write c.args.at (length c.args.bytes.now)) c.args.bytes.now faults.Write self.ledger c.enter.new.self c.enter.result c.enter.ensures in
+    record { serves = c.enter.ensures.serves; recorded = ok; refused = err; calls_room = c.enter.ensures.calls_room; bytes_room = c.enter.ensures.bytes_room }
 
 pub returns-clause-time : goal.returns-clause-time
 returns-clause-time c =
     let self = c.args.self.now in
-    let inside : c.args.at + length c.args.bytes.now ≤ length (last_state (synced self.first.items) self.calls.items self.written.items).contents = omega (arith, c.requires, ap length self.replayed) in
-    elapses_by (synced self.first.items) self.calls.items self.written.items (Write c.args.at (length c.args.bytes.now)) c.args.bytes.now self.recorded (refl, inside) _ _ c.in-Ok.ensures.calls c.in-Ok.ensures.written
+    let h = history self.first self.ledger in
+    let ok = recorded self.first (Write c.args.at (length c.args.bytes.now)) c.args.bytes.now faults.Write self.ledger c.enter.new.self c.enter.result c.enter.ensures in
+    let err = refused self.first (Write c.args.at (length c.args.bytes.now)) c.args.bytes.now faults.Write self.ledger c.enter.new.self c.enter.result c.enter.ensures in
+    either_of c.enter.result (λ is. time_is self.first.size h self.whole (Write c.args.at (length c.args.bytes.now)) c.args.bytes.now (refl, c.requires, (λ i. (c.type_inv.bytes i).fits)) _ is) (λ is. same_time self.first.size h _ is) ok err
 
-pub invariant_of-self-2-clause-inside : goal.invariant_of-self-2-clause-inside
-invariant_of-self-2-clause-inside c =
+pub returns-clause-written : goal.returns-clause-written
+returns-clause-written c =
     let self = c.args.self.now in
-    inside_by (length self.bytes.items) _ self.calls.items _ (Write c.args.at (length c.args.bytes.now)) (ap length c.overwrite.ensures.bytes ∙ length-overwritten self.bytes.items c.args.bytes.now c.args.at c.requires) self.inside c.requires c.in-Ok.ensures.calls
+    let h = history self.first self.ledger in
+    let ok = recorded self.first (Write c.args.at (length c.args.bytes.now)) c.args.bytes.now faults.Write self.ledger c.enter.new.self c.enter.result c.enter.ensures in
+    let err = refused self.first (Write c.args.at (length c.args.bytes.now)) c.args.bytes.now faults.Write self.ledger c.enter.new.self c.enter.result c.enter.ensures in
+    on_ok_weaker c.enter.result (λ is. write_holds self.first.size h self.whole _ c.args.at c.args.bytes.now c.requires (λ i. (c.type_inv.bytes i).fits) is) ok
+
+pub returns-clause-writes : goal.returns-clause-writes
+returns-clause-writes c =
+    let self = c.args.self.now in
+    let h = history self.first self.ledger in
+    let ok = recorded self.first (Write c.args.at (length c.args.bytes.now)) c.args.bytes.now faults.Write self.ledger c.enter.new.self c.enter.result c.enter.ensures in
+    let err = refused self.first (Write c.args.at (length c.args.bytes.now)) c.args.bytes.now faults.Write self.ledger c.enter.new.self c.enter.result c.enter.ensures in
+    either_of c.enter.result (λ is. write_writes self.first.size h self.whole _ c.args.at c.args.bytes.now c.requires (λ i. (c.type_inv.bytes i).fits) is) (λ is. same_writes self.first.size h _ is c.args.at (length c.args.bytes.now)) ok err
+
+pub returns-clause-any_bytes : goal.returns-clause-any_bytes
+returns-clause-any_bytes c =
+    let self = c.args.self.now in
+    let h = history self.first self.ledger in
+    let ok = recorded self.first (Write c.args.at (length c.args.bytes.now)) c.args.bytes.now faults.Write self.ledger c.enter.new.self c.enter.result c.enter.ensures in
+    let err = refused self.first (Write c.args.at (length c.args.bytes.now)) c.args.bytes.now faults.Write self.ledger c.enter.new.self c.enter.result c.enter.ensures in
+    on_ok_weaker c.enter.result (λ is. write_all self.first.size h self.whole _ c.args.at c.args.bytes.now c.requires (λ i. (c.type_inv.bytes i).fits) is) ok

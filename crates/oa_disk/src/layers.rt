@@ -1,0 +1,116 @@
+//! A row of bytes that takes memory for what was written alone.
+ghost use Rattle.std.specs.Prelude.{◌≡◌, ℕ, ◌+◌, ◌-◌, ◌^◌, ◌<◌, ◌≤◌, List, length, replicate, OnOk, IfOk};
+ghost use Rattle.oa_disk.specs.Disk.{Holds};
+ghost use Rattle.oa_disk.specs.History.{IsWhole};
+ghost use Rattle.oa_disk.specs.Layered.{layered};
+ghost use Rattle.oa_disk.specs.Replay.{AllInside, contents_after, count_all, overwritten, zeros};
+
+use crate::Call;
+use std::alloc::{AllocError, Global};
+
+/// So many zeros, and over them writes, each over those before it.
+#[derive(Drop)]
+pub struct Layers {
+    pub size: usize,
+    /// The writes.
+    pub calls: Vec<Call>,
+    /// Their bytes, one behind the other.
+    pub written: Vec<u8>,
+    pub ghost fits: { size < 2 ^ 64 },
+    pub ghost whole: { IsWhole size (layered size calls.items written.items) },
+}
+
+impl Layers {
+    ghost use Rattle.oa_disk.specs.Ledger.{laid};
+
+    /// So many zeros, which take no memory.
+    pub(crate) fn new(alloc: Global, size: usize) -> Layers
+        ensures bytes { laid result ≡ zeros size }
+        ensures size { result.size ≡ size }
+    {
+        Layers {
+            size,
+            calls: Vec::new(alloc),
+            written: Vec::new(alloc),
+        }
+    }
+
+    pub(crate) fn copy(&self, alloc: Global) -> Result<Layers, AllocError>
+        ensures bytes { IfOk result (λ copy. laid copy ≡ laid self.now) }
+        ensures size { IfOk result (λ copy. copy.size ≡ self.now.size) }
+    {
+        Ok(Layers {
+            size: self.size,
+            calls: self.calls.to_vec(alloc)?,
+            written: self.written.to_vec(alloc)?,
+        })
+    }
+
+    /// Puts the bytes at that place.
+    pub(crate) fn put(&mut self, at: usize, bytes: &[u8]) -> Result<(), AllocError>
+        requires { at + length bytes.now ≤ self.old.size }
+        ensures bytes { OnOk result (laid self.new ≡ overwritten (laid self.old) at bytes.now) }
+        ensures size { self.new.size ≡ self.old.size }
+    {
+        self.calls.reserve(1)?;
+        self.written.extend_from_slice(bytes)?;
+        self.calls.push_reserved(Call::Write(at, bytes.len()));
+        Ok(())
+    }
+
+    /// Fills the buffer with the bytes from that place on.
+    pub(crate) fn give(&self, at: usize, bytes: &mut [u8])
+        requires { at + length bytes.old ≤ self.now.size }
+        ensures bytes { Holds (laid self.now) at bytes.new }
+        ensures len { length bytes.new ≡ length bytes.old }
+    {
+        clear(bytes);
+        overlay(bytes, at, &self.calls, &self.written);
+    }
+}
+
+fn clear(bytes: &mut [u8])
+    ensures { bytes.new ≡ replicate (length bytes.old) 0 }
+{
+    bytes.fill(0);
+}
+
+/// Puts the bytes at that place of the window.
+fn put(window: &mut [u8], at: usize, bytes: &[u8])
+    requires { at + length bytes.now ≤ length window.old }
+    ensures bytes { window.new ≡ overwritten window.old at bytes.now }
+    ensures len { length window.new ≡ length window.old }
+{
+    window[at..at + bytes.len()].copy_from_slice(bytes);
+}
+
+/// Shows a write of these bytes in the window, which begins at that place of a disk.
+fn show(window: &mut [u8], at: usize, to: usize, bytes: &[u8])
+    requires window { at + length window.old < 2 ^ 64 }
+    requires bytes { to + length bytes.now < 2 ^ 64 }
+    ensures shown { (disk : List ℕ) → to + length bytes.now ≤ length disk → Holds disk at window.old → Holds (overwritten disk to bytes.now) at window.new }
+    ensures len { length window.new ≡ length window.old }
+{
+    let low = to.max(at);
+    let high = (to + bytes.len()).min(at + window.len());
+    if low < high {
+        put(window, low - at, &bytes[low - to..high - to]);
+    }
+}
+
+/// Makes the calls in the window, which begins at that place of a disk.
+pub(crate) fn overlay(window: &mut [u8], at: usize, calls: &[Call], written: &[u8])
+    requires window { at + length window.old < 2 ^ 64 }
+    requires inside { AllInside (2 ^ 64 - 1) calls.now }
+    requires written { count_all calls.now ≤ length written.now }
+    ensures shown { (disk : List ℕ) → AllInside (length disk) calls.now → Holds disk at window.old → Holds (contents_after disk calls.now written.now) at window.new }
+    ensures len { length window.new ≡ length window.old }
+{
+    let mut from = 0;
+    for call in calls {
+        if let Call::Write(to, count) = *call {
+            show(window, at, to, &written[from..from + count]);
+            from += count;
+        }
+    }
+}

@@ -1,0 +1,62 @@
+//! A record of the calls that a disk in memory has served.
+ghost use Rattle.std.specs.Prelude.{◌≡◌, ◌≤◌, length, vec_capacity, IfOk, ◌^◌, ◌<◌};
+
+use crate::{Call, DeviceFault};
+use std::alloc::{AllocError, Global};
+
+/// So many calls at most, whose writes have so many bytes at most in all, and a count of the calls past that.
+#[derive(Drop)]
+pub struct Ledger {
+    pub calls: Vec<Call>,
+    /// The bytes of all writes, one behind the other.
+    pub written: Vec<u8>,
+    pub most_calls: usize,
+    pub most_bytes: usize,
+    pub failures: u64,
+    pub ghost room_for_calls: { most_calls ≤ vec_capacity calls },
+    pub ghost room_for_bytes: { most_bytes ≤ vec_capacity written },
+    pub ghost few_calls: { length calls.items ≤ most_calls },
+    pub ghost few_bytes: { length written.items ≤ most_bytes },
+    pub ghost counted: { failures < 2 ^ 64 },
+}
+
+impl Ledger {
+    ghost use Rattle.oa_disk.specs.Ledger.{Enters, IsEmpty};
+
+    /// Reserves the room.
+    pub(crate) fn new(
+        alloc: Global,
+        most_calls: usize,
+        most_bytes: usize,
+    ) -> Result<Ledger, AllocError>
+        ensures { IfOk result (IsEmpty most_calls most_bytes) }
+    {
+        Ok(Ledger {
+            calls: Vec::with_capacity(alloc, most_calls)?,
+            written: Vec::with_capacity(alloc, most_bytes)?,
+            most_calls,
+            most_bytes,
+            failures: 0,
+        })
+    }
+
+    /// Records a call and the bytes that it writes, where there is room. It takes no memory. A call past the room is
+    /// that fault, and is counted.
+    pub(crate) fn enter(
+        &mut self,
+        call: Call,
+        bytes: &[u8],
+        fault: DeviceFault,
+    ) -> Result<(), DeviceFault>
+        ensures { Enters call bytes.now fault self.old self.new result }
+    {
+        let room = self.most_bytes - self.written.len();
+        if self.calls.len() == self.most_calls || bytes.len() > room {
+            self.failures = self.failures.saturating_add(1);
+            return Err(fault);
+        }
+        self.calls.push_reserved(call);
+        self.written.extend_from_slice(bytes).unwrap();
+        Ok(())
+    }
+}

@@ -1,0 +1,36 @@
+use Rattle.std.proofs.Common.{◌+◌, ◌<◌, length, List, ℕ, arith, subst, ap}
+use Rattle.std.proofs.lemmas.Result.{on_ok_weaker}
+use Rattle.oa_disk.specs.Moments.{weakened}
+use Rattle.oa_disk.specs.Switch.{MaySwitch, HasSwitched}
+use Rattle.oa_journal.specs.Bank.{bank_bytes}
+use Rattle.oa_journal.specs.Append.{group_of}
+use Rattle.oa_journal.proofs.Sealing.{length-group_of, length-sealed}
+use Rattle.oa_journal.proofs.Appended.{from_step, from_done}
+use Rattle.oa_journal.proofs.frame.append_group.Goals as goal
+
+pub returns-clause-any_moment : goal.returns-clause-any_moment
+returns-clause-any_moment g c h =
+    let place = c.args.place in
+    let gate = c.args.gate in
+    let group = group_of c.args.frame.now in
+    let long = length-group_of c.args.frame.now c.requires.some in
+    let some : 0 < length group = omega (arith, c.requires.some, long) in
+    let fits : gate + (5 + length group) < bank_bytes = omega (arith, c.requires.some, c.requires.fits, long) in
+    weakened g.D.Disk.moment g.D.Disk.image_since _ _ _ _ (c.write_then_flip.ensures.any_moment h)
+    (λ f step. (step.0, step.1, from_step place gate group step.0 f some fits (subst (λ (x : List ℕ). MaySwitch (place + gate + 1) x (place + gate) step.0 f) c.seal.ensures step.2)))
+
+pub returns-clause-done : goal.returns-clause-done
+returns-clause-done g c = on_ok_weaker c.write_then_flip.result (λ done h f now.
+    let place = c.args.place in
+    let gate = c.args.gate in
+    let group = group_of c.args.frame.now in
+    let long = length-group_of c.args.frame.now c.requires.some in
+    let some : 0 < length group = omega (arith, c.requires.some, long) in
+    let fits : gate + (5 + length group) < bank_bytes = omega (arith, c.requires.some, c.requires.fits, long) in
+    let from = done h f now in
+    (from.0, from.1, from_done place gate group from.0 f some fits (subst (λ (x : List ℕ). HasSwitched (place + gate + 1) x (place + gate) 1 from.0 f) c.seal.ensures from.2))) c.write_then_flip.ensures.done
+
+pub returns-clause-long : goal.returns-clause-long
+returns-clause-long g c =
+    let group = group_of c.args.frame.now in
+    omega (arith, ap length c.seal.ensures, length-sealed group, length-group_of c.args.frame.now c.requires.some, c.requires.some)

@@ -1,0 +1,5 @@
+pub mod Append
+pub mod Bank
+pub mod Banks
+pub mod Fronts
+pub mod Unique

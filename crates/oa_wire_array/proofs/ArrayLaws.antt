@@ -4,6 +4,7 @@ use Rattle.std.specs.Int.{w32}
 use Rattle.std.specs.List.{AllByRecursion}
 use Rattle.std.proofs.lemmas.Bool.{eqb-true, eq-eqb, leb-true, le-leb, ltb-true, lt-ltb, and_parts, and_from, true≢false, false_from_ne_true}
 use Rattle.std.proofs.lemmas.List.Elements.{All-from_recursion, All-head, All-tail}
+use Rattle.oa_model.specs.Limits.{max_dimensions, max_cells}
 use Rattle.oa_ndr.specs.Forms.{◌▸◌, unit, referent, each, given, made}
 use Rattle.oa_ndr.specs.Reading.{Cursor, Reading, many}
 use Rattle.oa_ndr.proofs.Laws.{Reads, Always, all_always, give_reads, fail_reads, choose_reads, unit_reads, referent_reads, bind_reads, with_reads, ignored_then, same_values, made_reads, made_from, many_reads, pairwise_reads, pairwise_length}
@@ -104,9 +105,9 @@ elements_reads t n = plain_reads t (λ e. absurd cc) n
 pub counted : (t : VarType) (bounds : List Bound) (n : ℕ) → is_count t bounds n ≡ true → IsShape t bounds × (box_size bounds ≡ n)
 unfolding is_count
 counted t bounds n e =
-    let a4 = and_parts (is_some (sf_type_of t) && ltb 0 (length bounds) && leb (length bounds) 16 && leb (box_size bounds) 65536) (eqb (box_size bounds) n) e in
-    let a3 = and_parts (is_some (sf_type_of t) && ltb 0 (length bounds) && leb (length bounds) 16) (leb (box_size bounds) 65536) a4.0 in
-    let a2 = and_parts (is_some (sf_type_of t) && ltb 0 (length bounds)) (leb (length bounds) 16) a3.0 in
+    let a4 = and_parts (is_some (sf_type_of t) && ltb 0 (length bounds) && leb (length bounds) max_dimensions && leb (box_size bounds) max_cells) (eqb (box_size bounds) n) e in
+    let a3 = and_parts (is_some (sf_type_of t) && ltb 0 (length bounds) && leb (length bounds) max_dimensions) (leb (box_size bounds) max_cells) a4.0 in
+    let a2 = and_parts (is_some (sf_type_of t) && ltb 0 (length bounds)) (leb (length bounds) max_dimensions) a3.0 in
     let a1 = and_parts (is_some (sf_type_of t)) (ltb 0 (length bounds)) a2.0 in
     (record { typed = a1.0; some = ltb-true _ _ a1.1; few = leb-true _ _ a2.1; small = leb-true _ _ a3.1 }, eqb-true _ _ a4.1)
 
@@ -181,18 +182,18 @@ header_reads t =
     ignored_then 2 (ignored_then 4 (ignored_then 4 (with_reads (unit_reads 4) (λ _ _ _ _ _ _. tt) (λ sf _.
     given_part (λ (a : ArrayValue Scalar). sf_type_of a.elem ≡ Some sf)
     (bind_reads (unit 4) (λ (a : ArrayValue Scalar). length a.cells) (unit_reads 4) (λ _ _. tt) (λ size _.
-    ignored_then 4 (choose_reads (eqb maximum dims && leb dims 16 && has_sf_type t sf)
+    ignored_then 4 (choose_reads (eqb maximum dims && leb dims max_dimensions && has_sf_type t sf)
     (λ ok.
-    let a2 = and_parts (eqb maximum dims && leb dims 16) (has_sf_type t sf) ok in
-    let a1 = and_parts (eqb maximum dims) (leb dims 16) a2.0 in
+    let a2 = and_parts (eqb maximum dims && leb dims max_dimensions) (has_sf_type t sf) ok in
+    let a1 = and_parts (eqb maximum dims) (leb dims max_dimensions) a2.0 in
     same_values (data_reads t dims size)
     (λ a h. ((((h.0.0, h.0.1 ∙ sym (eqb-true _ _ a1.0)), h.0.1), ap sf_type_of h.0.0.1 ∙ some_number (sf_type_of t) sf a2.1), h.1))
     (λ a h. ((h.0.0.0.0, h.0.0.1), h.1)))
     (λ no. fail_reads (λ a p text h form.
     let same : eqb maximum dims ≡ true = eq-eqb _ _ (sym h.0.0.0.1 ∙ h.0.0.1) in
-    let few : leb dims 16 ≡ true = le-leb _ _ (omega (arith, h.0.0.0.0.0.0.shape.few, h.0.0.1)) in
+    let few : leb dims max_dimensions ≡ true = le-leb _ _ (omega (arith, h.0.0.0.0.0.0.shape.few, h.0.0.1)) in
     let own : has_sf_type t sf ≡ true = is_that_number (sf_type_of t) sf (ap sf_type_of (sym h.0.0.0.0.1) ∙ h.0.1) in
-    let all : (eqb maximum dims && leb dims 16 && has_sf_type t sf) ≡ true = rw (same, few, own) refl in
+    let all : (eqb maximum dims && leb dims max_dimensions && has_sf_type t sf) ≡ true = rw (same, few, own) refl in
     absurd cc)))))))))))
 
 pub array_reads : (t : VarType) → Reads (λ a. a.elem ≡ t) array (array_at t)

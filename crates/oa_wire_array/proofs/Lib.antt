@@ -1,4 +1,5 @@
 mod TextLaws
+mod Ahead
 pub mod ScalarLaws
 pub mod ArrayLaws
 pub mod Fronts

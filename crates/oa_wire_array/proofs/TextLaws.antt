@@ -4,7 +4,7 @@ use Rattle.std.proofs.lemmas.Bool.{eqb-true, eqb-false, eq-eqb, le-leb, leb-true
 use Rattle.oa_ndr.specs.Forms.{unit, exactly}
 use Rattle.oa_ndr.specs.Reading.{give, choose}
 use Rattle.oa_ndr.proofs.Laws.{Reads, Always, give_reads, none_reads, fail_reads, choose_reads, unit_reads, bytes_reads, referent_reads, bind_reads, with_reads, any_then, made_reads}
-use Rattle.oa_bstr.specs.Text.{max_text_bytes}
+use Rattle.oa_model.specs.Limits.{max_text_bytes}
 use Rattle.oa_wire_array.specs.Texts.{units, text_len, text_units, body, text_bytes, blob, pointee, bstr}
 use Rattle.oa_wire_array.specs.Reading.{body_at, text_at, blob_at, bstr_at}
 

@@ -8,7 +8,8 @@ use Rattle.oa_ndr.proofs.Laws.{Writes, then_writes, with_writes, unit_writes, ig
 use Rattle.oa_model.specs.Types.{vt_of}
 use Rattle.oa_model.specs.declared.var_type.VarType.{VarType}
 use Rattle.oa_model.specs.declared.var_type.VarType.TheVariants as types
-use Rattle.oa_bstr.specs.Text.{bytes_of, max_text_bytes}
+use Rattle.oa_model.specs.Limits.{max_text_bytes}
+use Rattle.oa_bstr.specs.Text.{bytes_of}
 use Rattle.oa_variant.specs.Decimals.{DecimalValue}
 use Rattle.oa_variant.specs.Scalars.{type_of, IsScalar}
 use Rattle.oa_variant.specs.declared.scalar.Scalar.{Scalar}

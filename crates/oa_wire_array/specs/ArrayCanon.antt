@@ -1,5 +1,5 @@
 -- How arrays are written (this project's choice).
-use Rattle.std.specs.Prelude.{ℕ, ◌*◌, Bool, true, false, is_some, List, length, Option, Some, None}
+use Rattle.std.specs.Prelude.{ℕ, ◌*◌, Bool, true, false, if◌then◌else◌, is_some, List, length, Option, Some, None}
 use Rattle.std.specs.Int.{w32, cast_unsigned}
 use Rattle.std.specs.Option.{unwrap_or}
 use Rattle.oa_ndr.specs.Writing.{put_unit, put_referent, put_all}
@@ -39,6 +39,10 @@ abbrev pub is_pointed : VarType → Bool
 is_pointed types.Bstr = true
 is_pointed types.Variant = true
 is_pointed t = false
+
+-- the bytes of a cell without a pointee; 0 where there is no such cell
+abbrev pub plain_width : VarType → ℕ
+plain_width t = if is_pointed t then 0 else unwrap_or (element_size_of t) 0
 
 abbrev pub put_elements : VarType → List Scalar → List ℕ → List ℕ
 put_elements types.Bstr cells out = put_pointed types.Bstr cells out

@@ -1,6 +1,7 @@
 -- Reading arrays as functions on lists, which say the same as their forms (proofs/ArrayLaws has the laws).
 use Rattle.std.specs.Prelude.{◌≡◌, ℕ, ◌==◌, ◌&&◌, nat_lt, nat_le, is_some, Bool, false, List, length, Option, Some, None, Result, Ok, Err}
 use Rattle.std.specs.Int.{w32}
+use Rattle.oa_model.specs.Limits.{max_dimensions, max_cells}
 use Rattle.oa_ndr.specs.Reading.{Cursor, Reading, ◌>>=◌, give, fail, choose, unit_at, referent_at, many, map_at}
 use Rattle.oa_model.specs.declared.bound.Bound.{Bound}
 use Rattle.oa_model.specs.declared.var_type.VarType.{VarType}
@@ -61,7 +62,7 @@ has_sf_type t sf = is_number (sf_type_of t) sf
 -- whether there is an array of these bounds, and has n cells
 unfoldable pub is_count : VarType → List Bound → ℕ → Bool
 is_count t bounds n =
-    is_some (sf_type_of t) && nat_lt 0 (length bounds) && nat_le (length bounds) 16 && nat_le (box_size bounds) 65536 && (box_size bounds == n)
+    is_some (sf_type_of t) && nat_lt 0 (length bounds) && nat_le (length bounds) max_dimensions && nat_le (box_size bounds) max_cells && (box_size bounds == n)
 
 abbrev pub array_of : VarType → List Bound → List Scalar → ArrayValue Scalar
 array_of t bounds cells = record { elem = t; bounds = bounds; cells = cells; locks = 0 }
@@ -88,7 +89,7 @@ header_at t = do
   sf ← unit_at 4
   size ← unit_at 4
   _ ← unit_at 4
-  choose ((maximum == dims) && nat_le dims 16 && has_sf_type t sf) (data_at t dims size) fail
+  choose ((maximum == dims) && nat_le dims max_dimensions && has_sf_type t sf) (data_at t dims size) fail
 
 unfoldable pub array_at : VarType → Reading (ArrayValue Scalar)
 array_at t = do

@@ -3,7 +3,7 @@ use Rattle.std.specs.Prelude.{◌≡◌, ℕ, ℤ, ◌+◌, ◌*◌, ◌%◌, �
 use Rattle.std.specs.Int.{Width, w8, w16, w32, w64, cast_signed}
 use Rattle.oa_ndr.specs.Forms.{padding}
 use Rattle.oa_ndr.specs.Reading.{Cursor, Reading, ◌>>=◌, give, fail, choose, bytes_at, align_at, unit_at, referent_at}
-use Rattle.oa_bstr.specs.Text.{max_text_bytes}
+use Rattle.oa_model.specs.Limits.{max_text_bytes}
 use Rattle.oa_model.specs.Types.{type_at}
 use Rattle.oa_model.specs.declared.var_type.VarType.{VarType}
 use Rattle.oa_model.specs.declared.var_type.VarType.TheVariants as types

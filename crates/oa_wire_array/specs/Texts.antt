@@ -1,7 +1,7 @@
 -- How a text lies in bytes, as the pointee of a referent: FLAGGED_WORD_BLOB (MS-OAUT 2.2.23).
 use Rattle.std.specs.Prelude.{◌≡◌, ℕ, ◌+◌, ◌/◌, ◌%◌, ◌≤◌, Bool, true, false, List, length, Option, Some, None}
 use Rattle.oa_ndr.specs.Forms.{Form, ◌▸◌, nothing, unit, exactly, any, with, given, referent}
-use Rattle.oa_bstr.specs.Text.{max_text_bytes}
+use Rattle.oa_model.specs.Limits.{max_text_bytes}
 
 -- how many 16-bit units n bytes take, an odd last byte taking one of its own
 abbrev pub units : ℕ → ℕ

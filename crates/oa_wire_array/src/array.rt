@@ -1,10 +1,11 @@
 //! Arrays.
 
-ghost use Rattle.std.specs.Prelude.{◌≡◌, ◌≤◌, ◌<◌, true, IfOk, OnOk, OnErr, length, List, ℕ};
+ghost use Rattle.std.specs.Prelude.{◌≡◌, ◌*◌, ◌≤◌, ◌<◌, true, IfOk, OnOk, OnErr, length, List, nat_le, ℕ};
 ghost use Rattle.oa_ndr.specs.Reading.{many, map_at, referent_at};
 ghost use Rattle.oa_ndr.specs.Writing.{within, put_all};
 ghost use Rattle.oa_wire_array.specs.Reading.{Answers, OnMemory, arm_at};
 ghost use Rattle.oa_wire_array.specs.Arrays.{IsArrayFront};
+ghost use Rattle.oa_wire_array.specs.ArrayCanon.{plain_width};
 ghost use Rattle.oa_wire_array.specs.ArrayReading.{
   AnswersBy,
   bound_at,
@@ -21,6 +22,7 @@ ghost use Rattle.oa_wire_array.specs.ArrayReading.{
   array_at,
 };
 
+use crate::array_len::is_pointed;
 use crate::fault::{ReadFault, WireFault};
 use crate::scalar::{arm, scalar};
 use crate::text::blob;
@@ -127,7 +129,19 @@ fn pointees(
     Ok(cells)
 }
 
-// Cells without pointees.
+// Whether as many bytes are left as so many cells without pointees take at least.
+fn are_there(elem: VarType, count: u32, r: &Ndr<'_>) -> bool
+    ensures { result ≡ nat_le (count * plain_width elem) (length r.now.rest) }
+{
+    let width = if is_pointed(elem) {
+        0
+    } else {
+        elem.element_size().unwrap_or(0)
+    };
+    count as u64 * width as u64 <= r.rest().len() as u64
+}
+
+// Cells without pointees. No block is asked for where the bytes are not there.
 #[tactic(auto, using(crate::proofs::Loops::cells_full, crate::proofs::Loops::cells_put, crate::proofs::Loops::cells_err))]
 fn plain(
     alloc: Global,
@@ -137,6 +151,9 @@ fn plain(
 ) -> Result<Cells<Scalar>, ReadFault>
     ensures { Answers result r.new (many (arm_at elem) count r.old) }
 {
+    if !are_there(elem, count, r) {
+        return Err(ReadFault::BadStub);
+    }
     let mut cells = blank(alloc, count as usize)?;
     for i in 0..count as usize {
         let next = arm(alloc, elem, r)?;

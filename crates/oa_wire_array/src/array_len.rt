@@ -6,6 +6,7 @@ ghost use Rattle.oa_ndr.specs.Writing.{put_all};
 ghost use Rattle.oa_variant.specs.Scalars.{text_of, FitsType};
 ghost use Rattle.std.specs.Option.{IsSome};
 ghost use Rattle.std.specs.Prelude.{true, false, Some, ◌⊎◌};
+ghost use Rattle.oa_model.specs.Limits.{max_cells};
 ghost use Rattle.oa_model.specs.Types.{sf_type_of, element_size_of};
 ghost use Rattle.oa_wire_array.specs.Canon.{put_arm};
 ghost use Rattle.oa_wire_array.specs.ArrayCanon.{is_pointed, put_text, put_pointee, put_elements, put_array};
@@ -58,7 +59,7 @@ fn pointee_end(elem: VarType, cell: &Scalar, place: usize) -> usize
 }
 
 fn pointees_end(elem: VarType, cells: &[Scalar], place: usize) -> usize
-    requires few { length cells.now ≤ 65536 }
+    requires few { length cells.now ≤ max_cells }
     requires room { place < 2 ^ 58 }
     ensures value { (out : List ℕ) → length out ≡ place → length (put_all (put_pointee elem) cells.now out) ≡ result }
     ensures near { result ≤ place + 262200 * length cells.now }
@@ -71,7 +72,7 @@ fn pointees_end(elem: VarType, cells: &[Scalar], place: usize) -> usize
 }
 
 // Whether the cells of a type have referents and pointees.
-fn is_pointed(elem: VarType) -> bool
+pub(crate) fn is_pointed(elem: VarType) -> bool
     ensures { result ≡ is_pointed elem }
 {
     matches!(elem, VarType::Bstr | VarType::Variant)
@@ -94,7 +95,7 @@ fn plain_end(elem: VarType, cells: &[Scalar], place: usize) -> usize
     requires plain { is_pointed elem ≡ false }
     requires typed { IsSome (sf_type_of elem) }
     requires fits { All (λ cell. FitsType cell elem) cells.now }
-    requires few { length cells.now ≤ 65536 }
+    requires few { length cells.now ≤ max_cells }
     requires room { place < 2 ^ 57 }
     ensures value { (out : List ℕ) → length out ≡ place → length (put_all put_arm cells.now out) ≡ result }
     ensures near { result ≤ place + 262300 * length cells.now }
@@ -110,7 +111,7 @@ fn plain_end(elem: VarType, cells: &[Scalar], place: usize) -> usize
 fn elements_end(elem: VarType, cells: &[Scalar], place: usize) -> usize
     requires typed { IsSome (sf_type_of elem) }
     requires fits { All (λ cell. FitsType cell elem) cells.now }
-    requires few { length cells.now ≤ 65536 }
+    requires few { length cells.now ≤ max_cells }
     requires place { place % 4 ≡ 0 }
     requires room { place < 2 ^ 57 }
     ensures value { (out : List ℕ) → length out ≡ place → length (put_elements elem cells.now out) ≡ result }

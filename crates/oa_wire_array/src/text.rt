@@ -1,7 +1,7 @@
 //! Texts as pointees.
 
 ghost use Rattle.std.specs.Prelude.{◌≡◌, ◌≤◌, ◌<◌, ◌++◌, OnOk, OnErr, length};
-ghost use Rattle.oa_bstr.specs.Text.{max_text_bytes};
+ghost use Rattle.oa_model.specs.Limits.{max_text_bytes};
 ghost use Rattle.oa_ndr.specs.Writing.{Keeps, within};
 ghost use Rattle.oa_wire_array.specs.Texts.{units, blob};
 ghost use Rattle.oa_wire_array.specs.Reading.{Answers, IsFront, OnMemory, text_at, blob_at, bstr_at};

@@ -1,0 +1,10 @@
+pub mod HexDigits
+pub mod Goes
+pub mod Splits
+pub mod Seeks
+pub mod Judged
+pub mod Raws
+mod OneSplit
+mod OneReading
+mod OneLines
+mod OneRecords

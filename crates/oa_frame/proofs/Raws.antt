@@ -1,0 +1,61 @@
+-- Records of a length and that many bytes.
+use Rattle.std.proofs.Common.{◌≡◌, ℕ, ◌+◌, ◌-◌, ◌≤◌, ◌<◌, Bool, false, List, ◌++◌, Option, Some, None, take, drop, length, slice_range, inr, sym, ap, ◌∙◌, append_assoc, length-take-le, arith}
+use Rattle.std.proofs.lemmas.List.{append-nil, length-append, length-drop}
+use lib.Seq.{take-add}
+use Rattle.std.specs.Io.KnownBytes.{Consumes, IsAtEnd}
+use Rattle.oa_stream.specs.Source.{Input, later}
+use Rattle.oa_frame.specs.declared.ends.End.TheVariants.{Cut, ReadFault}
+use Rattle.oa_frame.specs.Known.{Known}
+use Rattle.oa_frame.specs.Framings.{records, Says}
+use Rattle.oa_frame.specs.Records.{Spends}
+use Rattle.oa_frame.specs.Paces.{Paced}
+
+later_sum : (m k x : ℕ) → m ≤ k → later (k - m) (later (m - 0) x) ≡ later k x
+later_sum m k x h = omega (arith, h)
+
+pub two_paced : (fault : Bool) (four n m k : ℕ) (a b c : Input) → four ≡ 4 → n ≤ 1048576 → Spends false four 0 m a b → Spends fault n m k b c → Paced fault a c
+two_paced fault four n m k a b c f h p q = record {
+  tries = k;
+  most = q.high;
+  clock = q.clock ∙ ap (later (k - m)) p.clock ∙ later_sum m k a.calls q.low;
+  cause = q.cause;
+  on = λ s. let e = p.pace s in (q.on (p.steady s) (omega (arith, e, f, h)), q.steady (p.steady s));
+}
+
+pub known_cut : (a b c : Option (List ℕ)) (head part : List ℕ) (n : ℕ) → Says head n → 0 < n → n ≤ 1048576 → length part < n → Consumes a b head → Consumes b c part → IsAtEnd c → Known (records.Stop Cut) a c
+known_cut None b c head part n s some short few p q e = tt
+known_cut (Some x) None c head part n s some short few p q e = absurd p
+known_cut (Some x) (Some y) None head part n s some short few p q e = absurd q
+known_cut (Some x) (Some y) (Some z) head part n s some short few p q e =
+    let all : y ≡ part = q ∙ ap (λ l. part ++ l) e ∙ append-nil part in
+    let four = s.four in
+    record {
+      nothing = e;
+      some = rw (p, length-append head y) (omega (arith, four));
+      few = inr (y, record { head = head; n = n; says = s; is = (some, short, rw all few); whole = p });
+    }
+
+pub known_lost : (a b c : Option (List ℕ)) (head part : List ℕ) → Consumes a b head → Consumes b c part → Known (records.Stop ReadFault) a c
+known_lost None b c head part p q = tt
+known_lost (Some x) None c head part p q = absurd p
+known_lost (Some x) (Some y) None head part p q = absurd q
+known_lost (Some x) (Some y) (Some z) head part p q = (head ++ part, p ∙ ap (λ l. head ++ l) q ∙ sym (append_assoc head part z))
+
+-- a record that was read ahead whole
+pub record_ahead : (a c : Option (List ℕ)) (front body bytes : List ℕ) (n : ℕ) → Says (take 4 front) n → 0 < n → n ≤ 1048576 → 4 + n ≤ length front
+    → take (length bytes) body ≡ bytes → bytes ≡ slice_range front 4 (4 + n) → Consumes a c (take (4 + n) front) → Known (λ x rest. records.Next x (take n body) rest) a c
+record_ahead None c front body bytes n s some short within e f p = tt
+record_ahead (Some x) None front body bytes n s some short within e f p = absurd p
+record_ahead (Some x) (Some y) front body bytes n s some short within e f p =
+    let back = drop 4 front in
+    let same : 4 + n - 4 ≡ n = omega arith in
+    let is : bytes ≡ take n back = f ∙ ap (λ k. take k back) same in
+    let len : length bytes ≡ n = ap length is ∙ length-take-le n back (rw (length-drop 4 front) (omega (arith, within))) in
+    let got : take n body ≡ bytes = ap (λ k. take k body) (sym len) ∙ e in
+    record {
+      head = take 4 front;
+      says = rw (got, len) s;
+      some = rw (got, len) some;
+      short = rw (got, len) short;
+      whole = p ∙ ap (λ l. l ++ y) (take-add 4 n front ∙ ap (λ l. take 4 front ++ l) (sym is ∙ sym got)) ∙ append_assoc (take 4 front) (take n body) y;
+    }

@@ -1,0 +1,17 @@
+use Rattle.std.proofs.Common.{◌≡◌, ◌≤◌, true, false, length}
+use Rattle.std.specs.Prelude.{vec_capacity}
+use Rattle.oa_stream.specs.Ahead.{ahead}
+use Rattle.oa_frame.specs.Framings.{frames}
+use Rattle.oa_frame.specs.Sessions.{Going}
+use Rattle.oa_frame.proofs.session.serve.Given as goal
+
+abbrev pub invariant-turns : goal.invariant-turns
+invariant-turns g l = record {
+  room : 2097153 ≤ vec_capacity l.line;
+  buffer : length l.body ≡ 1048576;
+  count : l.requests ≡ l.counter;
+  unbroken : (ahead g.R.Source.input l.reader).faulted ≡ false;
+  unbroken_writer : (g.W.Sink.out l.writer).broken ≡ false;
+  steady : (ahead g.R.Source.input l.fn.reader).steady ≡ true → (ahead g.R.Source.input l.reader).steady ≡ true;
+  going : Going (frames l.framing) g.S.Responder.turn (ahead g.R.Source.input l.fn.reader) (ahead g.R.Source.input l.reader) (g.W.Sink.out l.fn.writer) (g.W.Sink.out l.writer) l.fn.server l.server l.requests;
+}

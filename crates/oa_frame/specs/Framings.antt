@@ -1,0 +1,146 @@
+-- Framings: how bodies stand in bytes, what ends them, and how replies are spelled (this project's choice).
+use Rattle.std.specs.Prelude.{◌≡◌, ◌⊎◌, ℕ, ◌<◌, ◌≤◌, Bool, true, false, List, [], ◌∷◌, ◌++◌, length, take, Option, IsErr, Ok, ⊤}
+use Rattle.std.specs.Io.KnownBytes as known
+use Rattle.std.specs.Int.{w32, from_le_bytes, to_le_bytes}
+use Rattle.hex.specs.Hex.{decode_of, encode_lower}
+use Rattle.oa_stream.specs.Sink.{Output, Writes, Breaks}
+use Rattle.oa_frame.specs.declared.ends.End.{End}
+use Rattle.oa_frame.specs.declared.ends.End.TheVariants as end
+use Rattle.oa_frame.specs.declared.framing.Framing.{Framing}
+use Rattle.oa_frame.specs.declared.framing.Framing.TheVariants.{HexLines, Records}
+use Rattle.oa_frame.specs.declared.framing.Read.{Read}
+use Rattle.oa_frame.specs.declared.framing.Read.TheVariants as read
+use Rattle.oa_frame.specs.Known.{Known}
+use Rattle.oa_frame.specs.Lines.{FirstLine, IsLong, IsPart, line_limit}
+
+-- A framing. Next: the bytes begin with this body, and the rest follows it. Stop: this ends the bodies where these bytes are left, of which the
+-- others are left after it was read. Can: this may end them at the body with this number, whatever the reader gives. spelled: how a reply stands
+-- on the writer.
+pub record Frames : Type 1 where
+  pub Next : List ℕ → List ℕ → List ℕ → Type 0
+  pub Stop : End → List ℕ → List ℕ → Type 0
+  pub Can : ℕ → End → Type 0
+  pub spelled : List ℕ → List ℕ
+
+-- the first line is the digits of this body
+pub record NextLine (bytes body rest : List ℕ) : Type 0 where
+  pub line : List ℕ
+  pub first : FirstLine bytes line rest
+  pub some : 0 < length line
+  pub short : length line ≤ line_limit
+  pub digits : decode_of line ≡ Ok body
+
+-- the first line is the digits of no body
+pub record IsBad (bytes rest : List ℕ) : Type 0 where
+  pub line : List ℕ
+  pub first : FirstLine bytes line rest
+  pub short : length line ≤ line_limit
+  pub digits : IsErr (decode_of line)
+
+abbrev pub LineStop : End → List ℕ → List ℕ → Type 0
+LineStop end.Closed bytes rest = ((bytes ≡ []) × (rest ≡ [])) ⊎ FirstLine bytes [] rest
+LineStop end.Cut bytes rest = ⊥
+LineStop end.TooLong bytes rest = IsLong bytes rest
+LineStop (end.BadHex line) bytes rest = IsBad bytes rest
+LineStop end.ReadFault bytes rest = IsPart bytes rest
+LineStop end.WriteFault bytes rest = ⊥
+
+abbrev pub LineCan : ℕ → End → Type 0
+LineCan number end.Closed = ⊤
+LineCan number end.Cut = ⊥
+LineCan number end.TooLong = ⊤
+LineCan number (end.BadHex line) = line ≡ number
+LineCan number end.ReadFault = ⊤
+LineCan number end.WriteFault = ⊥
+
+-- a line of hexadecimal digits each; replies in lower case
+abbrev pub hex_lines : Frames
+hex_lines = record { Next = NextLine; Stop = LineStop; Can = LineCan; spelled = λ reply. encode_lower reply ++ 10 ∷ [] }
+
+-- four bytes that say this number, the lowest first
+pub record Says (head : List ℕ) (n : ℕ) : Type 0 where
+  pub four : length head ≡ 4
+  pub says : from_le_bytes w32 head ≡ n
+
+-- a length above 0, and so many bytes
+pub record NextRecord (bytes body rest : List ℕ) : Type 0 where
+  pub head : List ℕ
+  pub says : Says head (length body)
+  pub some : 0 < length body
+  pub short : length body ≤ 1048576
+  pub whole : bytes ≡ head ++ (body ++ rest)
+
+-- a length with this fact, and nothing more was read
+pub record Length (fact : ℕ → Type 0) (bytes rest : List ℕ) : Type 0 where
+  pub head : List ℕ
+  pub n : ℕ
+  pub says : Says head n
+  pub is : fact n
+  pub whole : bytes ≡ head ++ rest
+
+-- the input ends inside a record
+pub record IsCut (bytes rest : List ℕ) : Type 0 where
+  pub nothing : rest ≡ []
+  pub some : 0 < length bytes
+  pub few : (length bytes < 4) ⊎ ((more : List ℕ) × Length (λ n. (0 < n) × (n ≤ 1048576) × (length more < n)) bytes more)
+
+abbrev pub RecordStop : End → List ℕ → List ℕ → Type 0
+RecordStop end.Closed bytes rest = ((bytes ≡ []) × (rest ≡ [])) ⊎ Length (λ n. n ≡ 0) bytes rest
+RecordStop end.Cut bytes rest = IsCut bytes rest
+RecordStop end.TooLong bytes rest = Length (λ n. 1048576 < n) bytes rest
+RecordStop (end.BadHex line) bytes rest = ⊥
+RecordStop end.ReadFault bytes rest = (part : List ℕ) × (bytes ≡ part ++ rest)
+RecordStop end.WriteFault bytes rest = ⊥
+
+abbrev pub RecordCan : ℕ → End → Type 0
+RecordCan number end.Closed = ⊤
+RecordCan number end.Cut = ⊤
+RecordCan number end.TooLong = ⊤
+RecordCan number (end.BadHex line) = ⊥
+RecordCan number end.ReadFault = ⊤
+RecordCan number end.WriteFault = ⊥
+
+-- a length and as many bytes each
+abbrev pub records : Frames
+records = record { Next = NextRecord; Stop = RecordStop; Can = RecordCan; spelled = λ reply. to_le_bytes w32 (length reply) ++ reply }
+
+abbrev pub frames : Framing → Frames
+frames HexLines = hex_lines
+frames Records = records
+
+-- what was read at the record of this number; where the writer failed, nothing
+abbrev pub Inputs : Frames → Read → ℕ → List ℕ → Option (List ℕ) → Option (List ℕ) → Type 0
+Inputs f (read.Body n) number body old new = Known (λ bytes rest. f.Next bytes (take n body) rest) old new
+Inputs f (read.Ends why) number body old new = f.Can number why × Known (f.Stop why) old new
+Inputs f read.Unwritten number body old new = known.Keeps old new
+
+-- all that was put before was put still, or the writer failed
+abbrev pub Hands : Read → Output → Output → Type 0
+Hands (read.Body n) old new = Writes old new []
+Hands (read.Ends why) old new = Writes old new []
+Hands read.Unwritten old new = Breaks old new []
+
+-- a body has at most 1,048,576 bytes
+abbrev pub IsWithin : Read → Type 0
+IsWithin (read.Body n) = n ≤ 1048576
+IsWithin (read.Ends why) = ⊤
+IsWithin read.Unwritten = ⊤
+
+abbrev pub is_read_fault : End → Bool
+is_read_fault end.Closed = false
+is_read_fault end.Cut = false
+is_read_fault end.TooLong = false
+is_read_fault (end.BadHex line) = false
+is_read_fault end.ReadFault = true
+is_read_fault end.WriteFault = false
+
+abbrev pub is_fault : Read → Bool
+is_fault (read.Body n) = false
+is_fault (read.Ends why) = is_read_fault why
+is_fault read.Unwritten = false
+
+-- the writer did not fail
+abbrev pub IsRead : Read → Type 0
+IsRead (read.Body n) = ⊤
+IsRead (read.Ends why) = ⊤
+IsRead read.Unwritten = ⊥

@@ -1,0 +1,18 @@
+//! How a session ends.
+
+/// Why a session ended.
+#[derive(Clone, Copy, Debug, PartialEq, Eq)]
+pub enum End {
+    /// The input ended between two bodies, or an empty line or a length of 0 was read.
+    Closed,
+    /// The input ended inside a record.
+    Cut,
+    /// A line has more than 2,097,152 characters, or a record's length is above 1,048,576.
+    TooLong,
+    /// The line of this number, counted from 1, is the digits of no bytes.
+    BadHex(u64),
+    /// The reader failed, or was called 4,194,304 times for one body; or 18,446,744,073,709,551,615 bodies were answered.
+    ReadFault,
+    /// The writer failed.
+    WriteFault,
+}

@@ -1,0 +1,60 @@
+//! How bodies stand in bytes.
+ghost use Rattle.std.specs.Prelude.{◌≡◌, ◌≤◌, false, length, vec_capacity};
+ghost use Rattle.oa_stream.specs.Ahead.{ahead};
+ghost use Rattle.oa_frame.specs.Framings.{Hands, Inputs, IsWithin, frames, is_fault};
+ghost use Rattle.oa_frame.specs.Paces.{Paced};
+
+use crate::End;
+use crate::hex_lines::read_hex;
+use crate::records::read_record;
+use oa_stream::{Ahead, Sink, Source};
+
+/// How bodies and replies are told apart on a stream (this project's choice).
+#[derive(Clone, Copy, Debug, PartialEq, Eq)]
+pub enum Framing {
+    /// A line of hexadecimal digits each.
+    HexLines,
+    /// A length of 4 bytes and as many bytes each.
+    Records,
+}
+
+/// What stands next in the input.
+#[derive(Clone, Copy, Debug, PartialEq, Eq)]
+pub enum Read {
+    /// A body of so many bytes.
+    Body(usize),
+    /// What ends the session.
+    Ends(End),
+    /// Nothing was taken, since the writer failed before a wait for more input.
+    Unwritten,
+}
+
+/// Reads the body with this number, counted from 1, into the start of `body`, and takes nothing past it.
+///
+/// Where all of it was read ahead, neither reader nor writer is called. Else what the writer keeps back is handed on before the first of its
+/// bytes is taken, and the reader is called at most 4,194,304 times. Takes no memory: `line` has room for the longest line, which the records'
+/// framing leaves alone.
+pub fn read_body<R: Source + Drop, W: Sink>(
+    framing: Framing,
+    reader: &mut Ahead<R>,
+    writer: &mut W,
+    line: &mut Vec<u8>,
+    body: &mut [u8],
+    number: u64,
+) -> Read
+    requires room { 2097153 ≤ vec_capacity line.now }
+    requires buffer { length body.now ≡ 1048576 }
+    requires unbroken { (ahead R.input reader.old).faulted ≡ false }
+    requires unbroken_writer { (W.out writer.old).broken ≡ false }
+    ensures capacity { vec_capacity line.old ≤ vec_capacity line.new }
+    ensures len { length body.new ≡ 1048576 }
+    ensures within { IsWithin result }
+    ensures input { Inputs (frames framing) result number body.new (ahead R.input reader.old).left (ahead R.input reader.new).left }
+    ensures paced { Paced (is_fault result) (ahead R.input reader.old) (ahead R.input reader.new) }
+    ensures output { Hands result (W.out writer.old) (W.out writer.new) }
+{
+    match framing {
+        Framing::HexLines => read_hex(reader, writer, line, body, number),
+        Framing::Records => read_record(reader, writer, body, number),
+    }
+}

@@ -1,0 +1,92 @@
+//! Bodies as lines of hexadecimal digits.
+ghost use Rattle.std.specs.Prelude.{◌≡◌, ◌≤◌, ◌*◌, [], false, length, take, vec_capacity, Ok, IfSome, IsErr, IsNone};
+ghost use Rattle.hex.specs.Hex.{decode_of};
+ghost use Rattle.oa_stream.specs.Ahead.{ahead};
+ghost use Rattle.oa_frame.specs.Lines.{Judges, without_return};
+ghost use Rattle.oa_frame.specs.Framings.{Hands, Inputs, IsWithin, hex_lines, is_fault};
+ghost use Rattle.oa_frame.specs.Paces.{Paced};
+
+use crate::lines::{Found, LINE_LIMIT, read_line};
+use crate::{End, Read};
+use memchr::memchr;
+use oa_stream::{Ahead, Sink, Source, Unwritten};
+
+/// Reads the body of the line with this number. A line that was read ahead whole is decoded from where it stands.
+pub(crate) fn read_hex<R: Source + Drop, W: Sink>(
+    reader: &mut Ahead<R>,
+    writer: &mut W,
+    line: &mut Vec<u8>,
+    body: &mut [u8],
+    number: u64,
+) -> Read
+    requires room { 2097153 ≤ vec_capacity line.now }
+    requires buffer { length body.now ≡ 1048576 }
+    requires unbroken { (ahead R.input reader.old).faulted ≡ false }
+    requires unbroken_writer { (W.out writer.old).broken ≡ false }
+    ensures capacity { vec_capacity line.old ≤ vec_capacity line.new }
+    ensures len { length body.new ≡ 1048576 }
+    ensures within { IsWithin result }
+    ensures input { Inputs hex_lines result number body.new (ahead R.input reader.old).left (ahead R.input reader.new).left }
+    ensures paced { Paced (is_fault result) (ahead R.input reader.old) (ahead R.input reader.new) }
+    ensures output { Hands result (W.out writer.old) (W.out writer.new) }
+{
+    if let Some(place) = memchr(b'\n', reader.buffered()) {
+        let raw = &reader.buffered()[..place];
+        let read = judge(trimmed(raw), body, number);
+        reader.advance(place + 1);
+        return read;
+    }
+    match writer.deliver() {
+        Err(Unwritten) => Read::Unwritten,
+        Ok(()) => match read_line(reader, writer, line) {
+            Found::Line => judge(line, body, number),
+            Found::End => Read::Ends(End::Closed),
+            Found::TooLong => Read::Ends(End::TooLong),
+            Found::Fault => Read::Ends(End::ReadFault),
+        },
+    }
+}
+
+/// Without a carriage return at the end.
+fn trimmed(raw: &[u8]) -> &[u8]
+    ensures { result.now ≡ without_return raw.now }
+{
+    let len = raw.len();
+    if len > 0 && raw[len - 1] == b'\r' {
+        return &raw[..len - 1];
+    }
+    raw
+}
+
+/// What a line says.
+fn judge(line: &[u8], body: &mut [u8], number: u64) -> Read
+    requires { length body.now ≡ 1048576 }
+    ensures len { length body.new ≡ 1048576 }
+    ensures says { Judges result number line.now body.new }
+{
+    if line.is_empty() {
+        return Read::Ends(End::Closed);
+    }
+    if line.len() > LINE_LIMIT {
+        return Read::Ends(End::TooLong);
+    }
+    match decode(line, body) {
+        Some(count) => Read::Body(count),
+        None => Read::Ends(End::BadHex(number)),
+    }
+}
+
+/// Decodes digits into the front of a buffer, and answers how many bytes they are.
+fn decode(line: &[u8], buffer: &mut [u8]) -> Option<usize>
+    requires { length line.now ≤ 2 * length buffer.old }
+    ensures len { length buffer.new ≡ length buffer.old }
+    ensures within { IfSome result (λ n. n ≤ length buffer.new) }
+    ensures some { IfSome result (λ n. decode_of line.now ≡ Ok (take n buffer.new)) }
+    ensures none { IsNone result → IsErr (decode_of line.now) }
+{
+    let count = line.len() / 2;
+    match hex::decode_to_slice(line, &mut buffer[..count]) {
+        Ok(()) => Some(count),
+        Err(_) => None,
+    }
+}

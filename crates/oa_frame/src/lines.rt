@@ -1,0 +1,141 @@
+//! Lines of a reader.
+ghost use Rattle.std.specs.Prelude.{◌≡◌, ◌≤◌, ◌+◌, ◌++◌, [], false, length, vec_capacity};
+ghost use Rattle.oa_stream.specs.Ahead.{ahead, held};
+ghost use Rattle.oa_stream.specs.Sink.{IsHandedOn};
+ghost use Rattle.oa_frame.specs.Known.{Known};
+ghost use Rattle.oa_frame.specs.Lines.{Finds, Keeps, Pieces, is_lost, without_return};
+ghost use Rattle.oa_frame.specs.Paces.{Paced};
+ghost use Rattle.oa_frame.specs.declared.lines.Found.TheVariants as Found;
+
+use memchr::memchr;
+use oa_stream::{Ahead, More, Sink, Source};
+
+/// The most characters of a line, its end not counted.
+pub(crate) const LINE_LIMIT: usize = 2_097_152;
+
+/// The most read calls for one body.
+pub(crate) const MAX_READ_CALLS: u32 = 4_194_304;
+
+/// What was found at the reader's place.
+#[derive(Clone, Copy, Debug, PartialEq, Eq)]
+pub(crate) enum Found {
+    /// A line, with its line feed or at the end of the input.
+    Line,
+    /// The end of the input.
+    End,
+    /// A line above the limit.
+    TooLong,
+    /// Nothing whole: the reader failed, or was called too often.
+    Fault,
+}
+
+/// What was taken of a line.
+#[derive(Clone, Copy, Debug, PartialEq, Eq)]
+pub(crate) enum Piece {
+    /// All up to its line feed.
+    Whole,
+    /// More than the limit allows.
+    TooLong,
+    /// All that was read ahead.
+    Part,
+}
+
+/// Reads one line into `line`, which has room for the longest, without its line feed and a carriage return before that, and takes nothing past
+/// the line feed. All that was put was handed on, so that whoever sends the line has all replies.
+pub(crate) fn read_line<R: Source + Drop, W: Sink>(
+    reader: &mut Ahead<R>,
+    writer: &W,
+    line: &mut Vec<u8>,
+) -> Found
+    requires room { 2097153 ≤ vec_capacity line.now }
+    requires unbroken { (ahead R.input reader.old).faulted ≡ false }
+    requires quiet { IsHandedOn (W.out writer.now) }
+    ensures capacity { vec_capacity line.old ≤ vec_capacity line.new }
+    ensures found { Known (λ bytes rest. Finds result bytes line.new.items rest) (ahead R.input reader.old).left (ahead R.input reader.new).left }
+    ensures paced { Paced (is_lost result) (ahead R.input reader.old) (ahead R.input reader.new) }
+{
+    line.clear();
+    match take_piece(reader, line) {
+        Piece::Whole => return whole(line),
+        Piece::TooLong => return Found::TooLong,
+        Piece::Part => {}
+    }
+    'calls: for _ in 0..MAX_READ_CALLS {
+        match reader.more(writer) {
+            More::Some => match take_piece(reader, line) {
+                Piece::Whole => return whole(line),
+                Piece::TooLong => return Found::TooLong,
+                Piece::Part => {}
+            },
+            More::Again => {}
+            More::End => return ended(line),
+            More::Fault => return Found::Fault,
+        }
+    }
+    Found::Fault
+}
+
+/// Takes of what was read ahead what belongs to the line.
+fn take_piece<R: Source + Drop>(reader: &mut Ahead<R>, line: &mut Vec<u8>) -> Piece
+    requires room { 2097153 ≤ vec_capacity line.now }
+    requires short { length line.old.items ≤ 2097153 }
+    ensures capacity { vec_capacity line.old ≤ vec_capacity line.new }
+    ensures short { length line.new.items ≤ 2097153 }
+    ensures piece { Pieces result (held reader.old) (ahead R.input reader.old) (ahead R.input reader.new) line.old.items line.new.items (held reader.new) }
+{
+    let front = reader.buffered();
+    match memchr(b'\n', front) {
+        Some(place) => {
+            if place > LINE_LIMIT + 1 - line.len() {
+                reader.advance(place);
+                return Piece::TooLong;
+            }
+            push(line, &front[..place]);
+            reader.advance(place + 1);
+            Piece::Whole
+        }
+        None => {
+            let len = front.len();
+            if len > LINE_LIMIT + 1 - line.len() {
+                reader.advance(len);
+                return Piece::TooLong;
+            }
+            push(line, front);
+            reader.advance(len);
+            Piece::Part
+        }
+    }
+}
+
+/// Adds characters, for which there is room.
+fn push(line: &mut Vec<u8>, bytes: &[u8])
+    requires { length line.old.items + length bytes.now ≤ vec_capacity line.old }
+    ensures items { line.new.items ≡ line.old.items ++ bytes.now }
+    ensures capacity { vec_capacity line.old ≤ vec_capacity line.new }
+{
+    line.extend_from_slice(bytes).unwrap();
+}
+
+/// A line feed came: drops the carriage return before it.
+fn whole(line: &mut Vec<u8>) -> Found
+    ensures capacity { vec_capacity line.old ≤ vec_capacity line.new }
+    ensures line { line.new.items ≡ without_return line.old.items }
+    ensures found { result ≡ Found.Line }
+{
+    let len = line.len();
+    if len > 0 && line[len - 1] == b'\r' {
+        line.truncate(len - 1);
+    }
+    Found::Line
+}
+
+/// The input ended.
+fn ended(line: &[u8]) -> Found
+    ensures { Keeps result line.now }
+{
+    if line.is_empty() {
+        Found::End
+    } else {
+        Found::Line
+    }
+}

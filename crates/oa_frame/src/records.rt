@@ -1,0 +1,159 @@
+//! Bodies as records of a length and that many bytes.
+ghost use Rattle.std.specs.Prelude.{◌≡◌, ◌≤◌, ◌<◌, ◌+◌, [], false, length, take, IfSome};
+ghost use Rattle.oa_stream.specs.Ahead.{ahead, held};
+ghost use Rattle.oa_stream.specs.Sink.{IsHandedOn};
+ghost use Rattle.oa_frame.specs.Framings.{Hands, Inputs, IsRead, IsWithin, Says, is_fault, records};
+ghost use Rattle.oa_frame.specs.Paces.{Paced};
+ghost use Rattle.oa_frame.specs.Records.{Fetches, Gets, Spends, is_gone};
+
+use crate::lines::MAX_READ_CALLS;
+use crate::{End, Read};
+use oa_stream::{Ahead, More, Sink, Source};
+
+/// The most bytes of a body.
+const BODY_LIMIT: usize = 1_048_576;
+
+/// How filling a buffer ended.
+#[derive(Clone, Copy, Debug, PartialEq, Eq)]
+pub(crate) enum Got {
+    /// It is full.
+    All,
+    /// The input ended after so many bytes.
+    End(usize),
+    /// The reader failed, or was called too often.
+    Fault,
+}
+
+/// Reads the body of one record. One that was read ahead whole is copied from where it stands.
+pub(crate) fn read_record<R: Source + Drop, W: Sink>(
+    reader: &mut Ahead<R>,
+    writer: &mut W,
+    body: &mut [u8],
+    number: u64,
+) -> Read
+    requires buffer { length body.now ≡ 1048576 }
+    requires unbroken { (ahead R.input reader.old).faulted ≡ false }
+    requires unbroken_writer { (W.out writer.old).broken ≡ false }
+    ensures len { length body.new ≡ 1048576 }
+    ensures within { IsWithin result }
+    ensures input { Inputs records result number body.new (ahead R.input reader.old).left (ahead R.input reader.new).left }
+    ensures paced { Paced (is_fault result) (ahead R.input reader.old) (ahead R.input reader.new) }
+    ensures output { Hands result (W.out writer.old) (W.out writer.new) }
+{
+    if let Some(n) = whole_record(reader.buffered()) {
+        copy_front(body, &reader.buffered()[4..4 + n]);
+        reader.advance(4 + n);
+        return Read::Body(n);
+    }
+    match writer.deliver() {
+        Err(_) => Read::Unwritten,
+        Ok(()) => read_waiting(reader, writer, body, number),
+    }
+}
+
+/// Copies bytes to the start of a buffer.
+fn copy_front(body: &mut [u8], bytes: &[u8])
+    requires { length bytes.now ≤ length body.old }
+    ensures len { length body.new ≡ length body.old }
+    ensures front { take (length bytes.now) body.new ≡ bytes.now }
+{
+    let n = bytes.len();
+    body[..n].copy_from_slice(bytes);
+}
+
+/// How many bytes the body of the first record has, where all of it stands here and it is no end.
+fn whole_record(front: &[u8]) -> Option<usize>
+    ensures within { IfSome result (λ n. (0 < n) × (n ≤ 1048576) × (4 + n ≤ length front.now)) }
+    ensures says { IfSome result (λ n. Says (take 4 front.now) n) }
+{
+    match front.split_first_chunk::<4>() {
+        None => None,
+        Some((head, rest)) => {
+            let n = u32::from_le_bytes(*head) as usize;
+            if 0 < n && n <= BODY_LIMIT && n <= rest.len() {
+                Some(n)
+            } else {
+                None
+            }
+        }
+    }
+}
+
+/// Reads one record. All that was put was handed on, so that whoever sends the record has all replies.
+fn read_waiting<R: Source + Drop, W: Sink>(
+    reader: &mut Ahead<R>,
+    writer: &W,
+    body: &mut [u8],
+    number: u64,
+) -> Read
+    requires buffer { length body.now ≡ 1048576 }
+    requires unbroken { (ahead R.input reader.old).faulted ≡ false }
+    requires quiet { IsHandedOn (W.out writer.now) }
+    ensures len { length body.new ≡ 1048576 }
+    ensures within { IsWithin result }
+    ensures input { Inputs records result number body.new (ahead R.input reader.old).left (ahead R.input reader.new).left }
+    ensures paced { Paced (is_fault result) (ahead R.input reader.old) (ahead R.input reader.new) }
+    ensures read { IsRead result }
+{
+    let _ = number; // only the contract speaks of it
+    let mut head = [0u8; 4];
+    let mut calls = 0u32;
+    match fill_up(reader, writer, &mut head, &mut calls) {
+        Got::All => {}
+        Got::End(0) => return Read::Ends(End::Closed),
+        Got::End(_) => return Read::Ends(End::Cut),
+        Got::Fault => return Read::Ends(End::ReadFault),
+    }
+    let n = u32::from_le_bytes(head) as usize;
+    if n == 0 {
+        return Read::Ends(End::Closed);
+    }
+    if n > BODY_LIMIT {
+        return Read::Ends(End::TooLong);
+    }
+    match fill_up(reader, writer, &mut body[..n], &mut calls) {
+        Got::All => Read::Body(n),
+        Got::End(_) => Read::Ends(End::Cut),
+        Got::Fault => Read::Ends(End::ReadFault),
+    }
+}
+
+/// Reads until a buffer is full; `calls` counts those made for the record, 4,194,304 at most.
+fn fill_up<R: Source + Drop, W: Sink>(
+    reader: &mut Ahead<R>,
+    writer: &W,
+    out: &mut [u8],
+    calls: &mut u32,
+) -> Got
+    requires unbroken { (ahead R.input reader.old).faulted ≡ false }
+    requires quiet { IsHandedOn (W.out writer.now) }
+    requires few { calls.old ≤ 4194304 }
+    ensures len { length out.new ≡ length out.old }
+    ensures gets { Gets result (ahead R.input reader.old).left (ahead R.input reader.new).left out.new }
+    ensures spends { Spends (is_gone result) (length out.new) calls.old calls.new (ahead R.input reader.old) (ahead R.input reader.new) }
+{
+    let mut at = fetch(reader, out, 0);
+    'calls: while at < out.len() && *calls < MAX_READ_CALLS {
+        *calls += 1;
+        match reader.more(writer) {
+            More::Some => at = fetch(reader, out, at),
+            More::Again => {}
+            More::End => return Got::End(at),
+            More::Fault => return Got::Fault,
+        }
+    }
+    if at < out.len() { Got::Fault } else { Got::All }
+}
+
+/// Takes what was read ahead of the rest of a buffer, and answers how much of it is filled.
+fn fetch<R: Source + Drop>(reader: &mut Ahead<R>, out: &mut [u8], at: usize) -> usize
+    requires { at ≤ length out.old }
+    ensures len { length out.new ≡ length out.old }
+    ensures fetches { Fetches result at (held reader.old) (held reader.new) (ahead R.input reader.old) (ahead R.input reader.new) out.old out.new }
+{
+    let front = reader.buffered();
+    let n = front.len().min(out.len() - at);
+    out[at..at + n].copy_from_slice(&front[..n]);
+    reader.advance(n);
+    at + n
+}

@@ -1,0 +1,129 @@
+//! Sessions over a reader and a writer.
+ghost use Rattle.std.specs.Prelude.{◌≡◌, ◌≤◌, ℕ, List, false, length, vec_capacity};
+ghost use Rattle.oa_stream.specs.Ahead.{ahead};
+ghost use Rattle.oa_stream.specs.Sink.{Puts};
+ghost use Rattle.oa_frame.specs.Framings.{frames};
+ghost use Rattle.oa_frame.specs.Sessions.{Answers, Closes, Session, is_answered, last_reply, spelled_all};
+
+use crate::writing::put_reply;
+use crate::{End, Framing, Read, read_body};
+use oa_stream::{Ahead, Sink, Source, Unwritten};
+
+/// What answers bodies.
+///
+/// Contracts see the reply to a body as its bytes without a length.
+pub trait Responder {
+    ghost turn: { Self → List ℕ → List ℕ → Self → Type 0 };
+
+    /// Answers one body, and writes the reply in this framing.
+    fn respond<W: Sink>(
+        &mut self,
+        framing: Framing,
+        body: &[u8],
+        writer: &mut W,
+    ) -> Result<(), Unwritten>
+        requires unbroken { (W.out writer.old).broken ≡ false }
+        ensures { Answers (frames framing) turn result body.now (W.out writer.old) (W.out writer.new) self.old self.new };
+}
+
+/// How a session went.
+#[derive(Clone, Copy, Debug, PartialEq, Eq)]
+pub struct Served {
+    /// How many bodies were read whole.
+    pub requests: u64,
+    /// Why it ended.
+    pub why: End,
+}
+
+/// Answers the bodies of a reader on a writer, one after another, and hands all replies on before each wait for more input and at the end.
+///
+/// `last` is the reply to a record that is cut or too long, without a length. `line` has room for the longest line, and `body`
+/// for the longest body: no memory is taken here.
+pub fn serve<S: Responder, R: Source + Drop, W: Sink>(
+    server: &mut S,
+    framing: Framing,
+    last: &[u8],
+    reader: &mut Ahead<R>,
+    writer: &mut W,
+    line: &mut Vec<u8>,
+    body: &mut [u8],
+) -> Served
+    requires last { length last.now ≤ 4294967295 }
+    requires room { 2097153 ≤ vec_capacity line.now }
+    requires buffer { length body.now ≡ 1048576 }
+    requires unbroken { (ahead R.input reader.old).faulted ≡ false }
+    requires unbroken_writer { (W.out writer.old).broken ≡ false }
+    ensures { Session (frames framing) S.turn last.now (ahead R.input reader.old) (ahead R.input reader.new) (W.out writer.old) (W.out writer.new) server.old server.new result }
+{
+    let mut requests = 0u64;
+    'turns: for _ in 0..u64::MAX {
+        match read_body(framing, reader, writer, line, body, requests + 1) {
+            Read::Body(count) => {
+                requests += 1;
+                match server.respond(framing, &body[..count], writer) {
+                    Ok(()) => {}
+                    Err(_) => {
+                        return Served {
+                            requests,
+                            why: End::WriteFault,
+                        };
+                    }
+                }
+            }
+            Read::Ends(end) => {
+                let why = close(framing, last, writer, end);
+                return Served { requests, why };
+            }
+            Read::Unwritten => {
+                return Served {
+                    requests,
+                    why: End::WriteFault,
+                };
+            }
+        }
+    }
+    let why = close(framing, last, writer, End::ReadFault);
+    Served { requests, why }
+}
+
+// Writes the reply to what is no body.
+fn put_last<W: Sink>(
+    framing: Framing,
+    last: &[u8],
+    writer: &mut W,
+    why: End,
+) -> Result<(), Unwritten>
+    requires short { length last.now ≤ 4294967295 }
+    requires unbroken { (W.out writer.old).broken ≡ false }
+    ensures { Puts result (W.out writer.old) (W.out writer.new) (spelled_all (frames framing).spelled (last_reply last.now why)) }
+{
+    if has_reply(why) {
+        return put_reply(framing, writer, &[], last);
+    }
+    Ok(())
+}
+
+// Whether what is no body is answered.
+fn has_reply(why: End) -> bool
+    ensures { result ≡ is_answered why }
+{
+    match why {
+        End::Cut | End::TooLong => true,
+        End::Closed | End::BadHex(_) | End::ReadFault | End::WriteFault => false,
+    }
+}
+
+// Writes what is left to write, hands all on, and says why the session ended.
+fn close<W: Sink>(framing: Framing, last: &[u8], writer: &mut W, why: End) -> End
+    requires short { length last.now ≤ 4294967295 }
+    requires unbroken { (W.out writer.old).broken ≡ false }
+    ensures { Closes (frames framing) last.now result why (W.out writer.old) (W.out writer.new) }
+{
+    match put_last(framing, last, writer, why) {
+        Ok(()) => match writer.deliver() {
+            Ok(()) => why,
+            Err(_) => End::WriteFault,
+        },
+        Err(_) => End::WriteFault,
+    }
+}

@@ -1,0 +1,93 @@
+//! Replies on a writer.
+ghost use Rattle.std.specs.Prelude.{◌≡◌, ◌≤◌, ◌+◌, ◌++◌, ◌∷◌, [], false, length};
+ghost use Rattle.std.specs.Int.{to_le_bytes, w32};
+ghost use Rattle.hex.specs.Hex.{encode_lower};
+ghost use Rattle.oa_stream.specs.Sink.{Puts};
+ghost use Rattle.oa_frame.specs.Framings.{frames};
+
+use crate::Framing;
+use oa_stream::{Sink, Unwritten};
+
+/// How many bytes are turned into digits at a time, so that writing takes no memory.
+const PIECE: usize = 32;
+
+/// Writes a reply that stands in two stretches: as a line of lower-case digits, or with its length before it.
+pub fn put_reply<W: Sink>(
+    framing: Framing,
+    writer: &mut W,
+    head: &[u8],
+    fields: &[u8],
+) -> Result<(), Unwritten>
+    requires short { length head.now + length fields.now ≤ 4294967295 }
+    requires unbroken { (W.out writer.old).broken ≡ false }
+    ensures { Puts result (W.out writer.old) (W.out writer.new) ((frames framing).spelled (head.now ++ fields.now)) }
+{
+    match framing {
+        Framing::HexLines => put_line(writer, head, fields),
+        Framing::Records => put_record(writer, head, fields),
+    }
+}
+
+// Writes two stretches as one line of digits.
+fn put_line<W: Sink>(writer: &mut W, head: &[u8], fields: &[u8]) -> Result<(), Unwritten>
+    requires unbroken { (W.out writer.old).broken ≡ false }
+    ensures { Puts result (W.out writer.old) (W.out writer.new) (encode_lower (head.now ++ fields.now) ++ 10 ∷ []) }
+{
+    put_hex(writer, head)?;
+    put_hex(writer, fields)?;
+    writer.put(b"\n")
+}
+
+// Writes the length of two stretches, and them.
+fn put_record<W: Sink>(writer: &mut W, head: &[u8], fields: &[u8]) -> Result<(), Unwritten>
+    requires short { length head.now + length fields.now ≤ 4294967295 }
+    requires unbroken { (W.out writer.old).broken ≡ false }
+    ensures { Puts result (W.out writer.old) (W.out writer.new) (to_le_bytes w32 (length (head.now ++ fields.now)) ++ (head.now ++ fields.now)) }
+{
+    writer.put(&length_bytes(head, fields))?;
+    writer.put(head)?;
+    writer.put(fields)
+}
+
+// How many bytes two stretches have.
+fn length_bytes(head: &[u8], fields: &[u8]) -> [u8; 4]
+    requires { length head.now + length fields.now ≤ 4294967295 }
+    ensures { result ≡ to_le_bytes w32 (length (head.now ++ fields.now)) }
+{
+    ((head.len() + fields.len()) as u32).to_le_bytes()
+}
+
+// Writes bytes as lower-case hexadecimal digits.
+fn put_hex<W: Sink>(writer: &mut W, bytes: &[u8]) -> Result<(), Unwritten>
+    requires unbroken { (W.out writer.old).broken ≡ false }
+    ensures { Puts result (W.out writer.old) (W.out writer.new) (encode_lower bytes.now) }
+{
+    let mut at = 0;
+    'pieces: while at < bytes.len() {
+        let end = at + PIECE.min(bytes.len() - at);
+        put_piece(writer, &bytes[at..end])?;
+        at = end;
+    }
+    Ok(())
+}
+
+// Writes at most 32 bytes as digits.
+fn put_piece<W: Sink>(writer: &mut W, piece: &[u8]) -> Result<(), Unwritten>
+    requires short { length piece.now ≤ 32 }
+    requires unbroken { (W.out writer.old).broken ≡ false }
+    ensures { Puts result (W.out writer.old) (W.out writer.new) (encode_lower piece.now) }
+{
+    let mut digits = [0u8; 64];
+    let written = encode(piece, &mut digits);
+    writer.put(written)
+}
+
+// The digits of at most 32 bytes, at the start of a buffer.
+fn encode<'a>(piece: &[u8], digits: &'a mut [u8; 64]) -> &'a [u8]
+    requires { length piece.now ≤ 32 }
+    ensures { result.now ≡ encode_lower piece.now }
+{
+    let front = &mut digits[..2 * piece.len()];
+    hex::encode_to_slice(piece, front).unwrap();
+    front
+}

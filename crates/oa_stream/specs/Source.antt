@@ -1,0 +1,69 @@
+-- Readers as contracts see them, and what one call does (this project's choice).
+use Rattle.std.specs.Prelude.{◌≡◌, ℕ, ◌+◌, ◌<◌, ◌≤◌, min, max, Bool, true, false, List, length, [], take, Option, Some, ⊤}
+use Rattle.std.specs.Io.KnownBytes.{Consumes, Keeps, IsAtEnd, prepend_known}
+use Rattle.oa_stream.specs.declared.source.Next.{Next}
+use Rattle.oa_stream.specs.declared.source.Next.TheVariants.{Bytes, End, Again, Fault}
+
+-- A reader: the bytes that are still to come, where they are known; how often it was called, up to 2^64 - 1; whether it failed; whether it
+-- promises that from here on no call fails or is interrupted.
+pub record Input : Type 0 where
+  pub left : Option (List ℕ)
+  pub calls : ℕ
+  pub faulted : Bool
+  pub steady : Bool
+
+-- the count where it stops, which is also that of a reader that does not count
+abbrev pub most_calls : ℕ
+most_calls = 18446744073709551615
+
+-- a count of calls after n more
+abbrev pub later : ℕ → ℕ → ℕ
+later n calls = max calls (min (calls + n) most_calls)
+
+-- bytes in memory
+abbrev pub in_memory : List ℕ → Input
+in_memory bytes = record { left = Some bytes; calls = most_calls; faulted = false; steady = true }
+
+-- the first of the bytes to come are at the start of the buffer, or there are none, or nothing came
+abbrev pub Gives : Next → Option (List ℕ) → Option (List ℕ) → List ℕ → Type 0
+Gives (Bytes n) old new buffer = (0 < n) × (n ≤ length buffer) × Consumes old new (take n buffer)
+Gives End old new buffer = Keeps old new × IsAtEnd new
+Gives Again old new buffer = Keeps old new
+Gives Fault old new buffer = Keeps old new
+
+abbrev pub is_fault : Next → Bool
+is_fault (Bytes n) = false
+is_fault End = false
+is_fault Again = false
+is_fault Fault = true
+
+-- neither a failure nor an interruption
+abbrev pub IsOn : Next → Type 0
+IsOn (Bytes n) = ⊤
+IsOn End = ⊤
+IsOn Again = ⊥
+IsOn Fault = ⊥
+
+-- one call into a buffer
+pub record Fills (result : Next) (old new : Input) (buffer : List ℕ) : Type 0 where
+  pub bytes : Gives result old.left new.left buffer
+  pub clock : new.calls ≡ later 1 old.calls
+  pub fault : new.faulted ≡ is_fault result
+  pub on : old.steady ≡ true → IsOn result
+  pub steady : old.steady ≡ true → new.steady ≡ true
+
+-- what stands in a buffer that one call filled anew
+abbrev pub Holds : Next → Option (List ℕ) → List ℕ → Type 0
+Holds (Bytes n) left front = 0 < length front
+Holds End left front = (front ≡ []) × IsAtEnd left
+Holds Again left front = front ≡ []
+Holds Fault left front = front ≡ []
+
+-- one call into a buffer, of which these bytes are not taken yet
+pub record Loads (result : Next) (old new : Input) (front : List ℕ) : Type 0 where
+  pub kept : Keeps old.left (prepend_known front new.left)
+  pub holds : Holds result new.left front
+  pub clock : new.calls ≡ later 1 old.calls
+  pub fault : new.faulted ≡ is_fault result
+  pub on : old.steady ≡ true → IsOn result
+  pub steady : old.steady ≡ true → new.steady ≡ true

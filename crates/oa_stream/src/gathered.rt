@@ -1,0 +1,50 @@
+//! A writer in memory.
+ghost use Rattle.std.specs.Prelude.{◌≡◌, false};
+ghost use Rattle.oa_stream.specs.Memory.{gathered};
+
+use crate::{Sink, Unwritten};
+
+/// A vector that takes what it has the memory for, and more while memory is found. It keeps nothing back, and remembers that it failed.
+#[derive(Drop)]
+pub struct Gathered {
+    bytes: Vec<u8>,
+    broken: bool,
+}
+
+impl Gathered {
+    /// A writer at the end of `bytes`.
+    pub fn new(bytes: Vec<u8>) -> Gathered
+        ensures bytes { result.bytes ≡ bytes }
+        ensures unbroken { result.broken ≡ false }
+    {
+        Gathered {
+            bytes,
+            broken: false,
+        }
+    }
+
+    /// All bytes that it has.
+    pub fn bytes(&self) -> &[u8]
+        ensures { result.now ≡ self.now.bytes.items }
+    {
+        &self.bytes
+    }
+}
+
+impl Sink for Gathered {
+    ghost out = { gathered };
+
+    fn put(&mut self, bytes: &[u8]) -> Result<(), Unwritten> {
+        match self.bytes.extend_from_slice(bytes) {
+            Ok(()) => Ok(()),
+            Err(_) => {
+                self.broken = true;
+                Err(Unwritten)
+            }
+        }
+    }
+
+    fn deliver(&mut self) -> Result<(), Unwritten> {
+        Ok(())
+    }
+}

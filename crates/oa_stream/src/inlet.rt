@@ -1,0 +1,48 @@
+//! Readers of the standard library.
+ghost use Rattle.std.specs.Prelude.{◌≡◌, false};
+ghost use Rattle.oa_stream.specs.Inlet.{inlet};
+
+use crate::{Next, Source};
+use std::io::{ErrorKind, Read};
+
+/// A reader of the standard library. It promises nothing, counts its calls, and keeps that it failed.
+#[derive(Drop)]
+pub struct Inlet<R> {
+    reader: R,
+    calls: u64,
+    faulted: bool,
+}
+
+impl<R: Read> Inlet<R> {
+    /// A reader that was not called yet.
+    pub fn new(reader: R) -> Inlet<R>
+        ensures { inlet R.remaining result ≡ record { left = R.remaining reader; calls = 0; faulted = false; steady = false } }
+    {
+        Inlet {
+            reader,
+            calls: 0,
+            faulted: false,
+        }
+    }
+}
+
+// What tells an interrupted call from a failure is `ErrorKind::Interrupted` alone: the standard library's word, of which no contract speaks.
+impl<R: Read> Source for Inlet<R> {
+    ghost input = { inlet R.remaining };
+
+    fn fill(&mut self, buffer: &mut [u8]) -> Next {
+        self.calls = self.calls.saturating_add(1);
+        match self.reader.read(buffer) {
+            Ok(0) => Next::End,
+            Ok(count) => Next::Bytes(count),
+            Err(error) => {
+                if error.kind() == ErrorKind::Interrupted {
+                    Next::Again
+                } else {
+                    self.faulted = true;
+                    Next::Fault
+                }
+            }
+        }
+    }
+}

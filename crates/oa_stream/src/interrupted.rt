@@ -1,0 +1,48 @@
+//! A reader that is interrupted.
+ghost use Rattle.std.specs.Prelude.{◌≡◌};
+ghost use Rattle.oa_stream.specs.Memory.{interrupted};
+
+use crate::{Next, Source};
+
+/// A reader whose first calls are interrupted. It counts all calls.
+#[derive(Drop)]
+pub struct Interrupted<R> {
+    reader: R,
+    times: u64,
+    calls: u64,
+}
+
+impl<R: Source> Interrupted<R> {
+    /// A reader of which the next `times` calls are interrupted.
+    pub fn new(reader: R, times: u64) -> Interrupted<R>
+        ensures reader { result.reader ≡ reader }
+        ensures times { result.times ≡ times }
+        ensures calls { result.calls ≡ 0 }
+    {
+        Interrupted {
+            reader,
+            times,
+            calls: 0,
+        }
+    }
+
+    /// How often it was called.
+    pub fn calls(&self) -> u64
+        ensures { result ≡ self.now.calls }
+    {
+        self.calls
+    }
+}
+
+impl<R: Source> Source for Interrupted<R> {
+    ghost input = { interrupted R.input };
+
+    fn fill(&mut self, buffer: &mut [u8]) -> Next {
+        self.calls = self.calls.saturating_add(1);
+        if self.times > 0 {
+            self.times -= 1;
+            return Next::Again;
+        }
+        self.reader.fill(buffer)
+    }
+}

@@ -1,0 +1,46 @@
+//! Readers that give some bytes a call.
+ghost use Rattle.std.specs.Prelude.{◌≡◌, ◌<◌, true, false, length};
+ghost use Rattle.oa_stream.specs.Source.{Fills, Input, in_memory};
+
+/// What one read call gave.
+#[derive(Clone, Copy, Debug, PartialEq, Eq)]
+pub enum Next {
+    /// So many bytes, at least one, at the start of the buffer.
+    Bytes(usize),
+    /// The end of the input.
+    End,
+    /// Nothing, since the call was interrupted: it may be made again.
+    Again,
+    /// Nothing, since the reader failed.
+    Fault,
+}
+
+/// A reader of some bytes a call.
+///
+/// Contracts see one as an `Input`: what is still to come, how often it was called, whether it failed, and whether it promises that no call
+/// fails or is interrupted.
+pub trait Source {
+    ghost input: { Self → Input };
+
+    /// One read call into the start of `buffer`, which has room for a byte at least. A reader that failed is never called again.
+    fn fill(&mut self, buffer: &mut [u8]) -> Next
+        requires room { 0 < length buffer.old }
+        requires unbroken { (input self.old).faulted ≡ false }
+        ensures { Fills result (input self.old) (input self.new) buffer.new };
+}
+
+/// Bytes in memory never fail, are never interrupted, and their calls are not counted.
+impl Source for &[u8] {
+    ghost input = { λ s. in_memory s.now };
+
+    fn fill(&mut self, buffer: &mut [u8]) -> Next {
+        if self.is_empty() {
+            return Next::End;
+        }
+        let count = self.len().min(buffer.len());
+        let (front, rest) = self.split_at(count);
+        buffer[..count].copy_from_slice(front);
+        *self = rest;
+        Next::Bytes(count)
+    }
+}

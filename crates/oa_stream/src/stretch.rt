@@ -1,0 +1,113 @@
+//! The memory of the buffers: a stretch that was read ahead, and one that waits to be written.
+ghost use Rattle.std.specs.Prelude.{◌≡◌, ◌≤◌, ◌<◌, ◌+◌, ◌++◌, [], length, drop, slice_range, vec_len, vec_capacity, false, IfOk};
+ghost use Rattle.oa_stream.specs.Source.{Loads};
+
+use crate::{Next, Source};
+use std::alloc::{AllocError, Global};
+
+/// How many bytes a buffer has room for.
+pub(crate) const SIZE: usize = 8192;
+
+/// Bytes that were read and are not taken yet: those from `from` up to `to`.
+#[derive(Drop)]
+pub struct Front {
+    bytes: Vec<u8>,
+    from: usize,
+    to: usize,
+    ghost ordered: { from ≤ to },
+    ghost within: { to ≤ vec_len bytes },
+    ghost some: { 0 < vec_len bytes },
+}
+
+impl Front {
+    /// No bytes, with the memory for `SIZE`.
+    pub(crate) fn new(alloc: Global) -> Result<Front, AllocError>
+        ensures { IfOk result (λ f. slice_range f.bytes.items f.from f.to ≡ []) }
+    {
+        let mut bytes = Vec::with_capacity(alloc, SIZE)?;
+        bytes.resize(SIZE, 0)?;
+        Ok(Front {
+            bytes,
+            from: 0,
+            to: 0,
+        })
+    }
+
+    /// The bytes.
+    pub(crate) fn held(&self) -> &[u8]
+        ensures { result.now ≡ slice_range self.now.bytes.items self.now.from self.now.to }
+    {
+        let (from, to) = (self.from, self.to);
+        let all = self.bytes.as_slice();
+        &all[from..to]
+    }
+
+    /// Takes the first of them.
+    pub(crate) fn advance(&mut self, count: usize)
+        requires { count ≤ length (slice_range self.old.bytes.items self.old.from self.old.to) }
+        ensures { slice_range self.new.bytes.items self.new.from self.new.to ≡ drop count (slice_range self.old.bytes.items self.old.from self.old.to) }
+    {
+        self.from += count;
+    }
+
+    /// Forgets them all, and holds what one read call gives.
+    pub(crate) fn load<S: Source>(&mut self, source: &mut S) -> Next
+        requires unbroken { (S.input source.old).faulted ≡ false }
+        ensures { Loads result (S.input source.old) (S.input source.new) (slice_range self.new.bytes.items self.new.from self.new.to) }
+    {
+        self.from = 0;
+        self.to = 0;
+        let next = source.fill(&mut self.bytes);
+        if let Next::Bytes(count) = next {
+            self.to = count;
+        }
+        next
+    }
+}
+
+/// Bytes that were put and are kept back, at most `SIZE`, with the memory for as many.
+#[derive(Drop)]
+pub struct Back {
+    bytes: Vec<u8>,
+    ghost within: { vec_len bytes ≤ 8192 },
+    ghost places: { 8192 ≤ vec_capacity bytes },
+}
+
+impl Back {
+    /// No bytes.
+    pub(crate) fn new(alloc: Global) -> Result<Back, AllocError>
+        ensures { IfOk result (λ b. b.bytes.items ≡ []) }
+    {
+        let bytes = Vec::with_capacity(alloc, SIZE)?;
+        Ok(Back { bytes })
+    }
+
+    /// How many more there is room for.
+    pub(crate) fn room(&self) -> usize
+        ensures { result + length self.now.bytes.items ≡ 8192 }
+    {
+        SIZE - self.bytes.len()
+    }
+
+    /// The bytes.
+    pub(crate) fn bytes(&self) -> &[u8]
+        ensures { result.now ≡ self.now.bytes.items }
+    {
+        &self.bytes
+    }
+
+    /// Adds bytes at the end, for which there is room.
+    pub(crate) fn push(&mut self, bytes: &[u8])
+        requires { length bytes.now + length self.old.bytes.items ≤ 8192 }
+        ensures { self.new.bytes.items ≡ self.old.bytes.items ++ bytes.now }
+    {
+        self.bytes.extend_from_slice(bytes).unwrap();
+    }
+
+    /// Forgets them all.
+    pub(crate) fn clear(&mut self)
+        ensures { self.new.bytes.items ≡ [] }
+    {
+        self.bytes.clear();
+    }
+}

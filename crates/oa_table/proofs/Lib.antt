@@ -1,0 +1,4 @@
+pub mod Arrays
+pub mod Through
+pub mod Ordered
+pub mod Unlocked

@@ -1,0 +1,56 @@
+-- Changes of a cell's value, or why there is none. The order of the refusals is this project's choice.
+use Rattle.std.specs.Prelude.{◌≡◌, ℕ, ◌+◌, ◌-◌, ◌==◌, nat_lt, ℤ, Bool, not, if◌then◌else◌, List, Option, Some, None, Result, Ok, Err}
+use Rattle.oa_model.specs.declared.bound.Bound.{Bound}
+use Rattle.oa_array.specs.Arrays.{redimensioned, with_cell, with_first, with_locks}
+use Rattle.oa_array.specs.Boxes.{box_size}
+use Rattle.oa_array.specs.Within.{in_bounds}
+use Rattle.oa_array.specs.declared.fault.ArrayFault.{ArrayFault}
+use Rattle.oa_array.specs.declared.fault.ArrayFault.TheVariants as arrays
+use Rattle.oa_variant.specs.Scalars.{fits_type, zero_of}
+use Rattle.oa_variant.specs.declared.scalar.Scalar.{Scalar}
+use Rattle.oa_variant.specs.declared.variant.Variant.{Variant}
+use Rattle.oa_variant.specs.declared.variant.Variant.TheVariants.{One, Array as AnArray}
+use Rattle.oa_table.specs.declared.fault.TableFault.{TableFault}
+use Rattle.oa_table.specs.declared.fault.TableFault.TheVariants.{NotArray, Array, Memory}
+
+-- how many locks the array in a cell has; 0 where there is none
+abbrev pub locks_of : Variant → ℕ
+locks_of (One s) = 0
+locks_of (AnArray a) = a.locks
+
+abbrev pub locks_in : Option Variant → ℕ
+locks_in None = 0
+locks_in (Some value) = locks_of value
+
+abbrev pub is_locked : Variant → Bool
+is_locked value = not (locks_of value == 0)
+
+-- an element is set: the index list has to lie in the bounds, and then the element to be of the array's type
+abbrev pub element_put : List ℤ → Scalar → Variant → Result Variant TableFault
+element_put index element (One s) = Err NotArray
+element_put index element (AnArray a) =
+    if in_bounds a.bounds index then (if fits_type element a.elem then Ok (AnArray (with_cell a index element)) else Err (Array arrays.TypeMismatch))
+    else Err (Array arrays.BadIndex)
+
+-- the first bound is replaced: there must be no lock, and then not too many cells
+abbrev pub redimensioned_value : Bound → Variant → Result Variant TableFault
+redimensioned_value bound (One s) = Err NotArray
+redimensioned_value bound (AnArray a) =
+    if nat_lt 0 a.locks then Err (Array arrays.IsLocked)
+    else if nat_lt 65536 (box_size (with_first bound a.bounds)) then Err (Array arrays.InvalidArgument)
+    else Ok (AnArray (redimensioned (zero_of a.elem) bound a))
+
+-- one lock more
+abbrev pub locked_value : Variant → Result Variant TableFault
+locked_value (One s) = Err NotArray
+locked_value (AnArray a) = if a.locks == 65535 then Err (Array arrays.Unexpected) else Ok (AnArray (with_locks a (a.locks + 1)))
+
+-- one lock less
+abbrev pub released_value : Variant → Result Variant TableFault
+released_value (One s) = Err NotArray
+released_value (AnArray a) = if a.locks == 0 then Err (Array arrays.Unexpected) else Ok (AnArray (with_locks a (a.locks - 1)))
+
+-- what an array refuses, as the refusal of a change of a table
+abbrev pub of_array : ArrayFault → TableFault
+of_array arrays.Memory = Memory
+of_array fault = Array fault

@@ -1,0 +1,9 @@
+pub mod Places
+pub mod Tables
+pub mod Faults
+pub mod Outcomes
+pub mod Elements
+pub mod Objects
+pub mod Events
+pub mod Locks
+pub mod Parts

@@ -1,0 +1,162 @@
+//! The objects of a table.
+ghost use Rattle.std.specs.Prelude.{◌≡◌, []};
+ghost use Rattle.std.specs.Option.{option_map};
+ghost use Rattle.oa_table.specs.Elements.{element_put, locked_value, locks_in, redimensioned_value, released_value};
+ghost use Rattle.oa_table.specs.Objects.{any_locked, locks_of_cell, with_change, with_put};
+ghost use Rattle.oa_table.specs.Outcomes.{Counts, Does};
+ghost use Rattle.oa_table.specs.Tables.{cell_at};
+
+use crate::value::{lock, locks_of, put_element, redim, unlock};
+use crate::{Place, TableFault};
+use oa_array::ArrayFault;
+use oa_model::Bound;
+use oa_variant::{Scalar, Variant};
+use std::alloc::Global;
+use std::collections::BTreeMap;
+use std::collections::btree_map::Iter;
+use std::marker::Model;
+use uuid::Uuid;
+
+/// An object of a table: its coclass, and the cells that were put, by their places.
+#[derive(Drop)]
+pub struct LiveObject {
+    class: Uuid,
+    cells: BTreeMap<Place, Variant>,
+}
+
+impl Model for LiveObject {
+    ghost use Rattle.oa_table.specs.Tables.{ObjectValue};
+
+    ghost Value = { ObjectValue };
+
+    ghost view = { λ o. record { class = o.class; cells = o.cells.entries } };
+}
+
+impl LiveObject {
+    /// An object of a coclass, without cells.
+    pub(crate) fn new(alloc: Global, class: Uuid) -> LiveObject
+        ensures { result ≡ record { class = class; cells = [] } }
+    {
+        LiveObject {
+            class,
+            cells: BTreeMap::new(alloc),
+        }
+    }
+
+    /// An object of a coclass with these cells.
+    pub(crate) fn of_cells(class: Uuid, cells: BTreeMap<Place, Variant>) -> LiveObject
+        ensures { result ≡ record { class = class; cells = cells.entries } }
+    {
+        LiveObject { class, cells }
+    }
+
+    /// The GUID of its coclass.
+    pub fn class(&self) -> Uuid
+        ensures { result ≡ self.now.class }
+    {
+        self.class
+    }
+
+    /// The value that was put last at a place; None where none was.
+    pub fn get(&self, place: &Place) -> Option<&Variant>
+        ensures { option_map (λ x. x.now) result ≡ cell_at place.now self.now.cells }
+    {
+        self.cells.get(place)
+    }
+
+    /// The cells that were put, in the order of their places. Takes no memory.
+    pub fn cells(&self) -> Iter<'_, Place, Variant>
+        ensures { result ≡ self.now.cells }
+    {
+        self.cells.iter()
+    }
+
+    /// Whether the array in some cell is locked. Looks at each cell of the object.
+    pub(crate) fn is_locked(&self) -> bool
+        ensures { result ≡ any_locked self.now.cells }
+    {
+        'cells: for (_place, value) in &self.cells {
+            if locks_of(value) != 0 {
+                return true;
+            }
+        }
+        false
+    }
+
+    /// Sets a cell, unless its array is locked.
+    pub(crate) fn put(
+        &mut self,
+        place: Place,
+        value: Variant,
+    ) -> Result<(), ((Place, Variant), TableFault)>
+        ensures { Does (place, value) (with_put place value self.old) self.old self.new result }
+    {
+        if locks_at(&self.cells, &place) != 0 {
+            return Err(((place, value), TableFault::Array(ArrayFault::IsLocked)));
+        }
+        match self.cells.insert(place, value) {
+            Ok(_) => Ok(()),
+            Err(failed) => Err((failed.value, TableFault::Memory)),
+        }
+    }
+
+    /// Sets an element of the array in a cell.
+    pub(crate) fn put_element(
+        &mut self,
+        place: &Place,
+        index: &[i32],
+        element: Scalar,
+    ) -> Result<(), (Scalar, TableFault)>
+        ensures { Does element (with_change place.now (element_put index.now element) self.old) self.old self.new result }
+    {
+        let Some(value) = self.cells.get_mut(place) else {
+            return Err((element, TableFault::NotArray));
+        };
+        put_element(value, index, element)
+    }
+
+    /// Replaces the first bound of the array in a cell.
+    pub(crate) fn redim(
+        &mut self,
+        alloc: Global,
+        place: &Place,
+        bound: Bound,
+    ) -> Result<(), (Bound, TableFault)>
+        ensures { Does bound (with_change place.now (redimensioned_value bound) self.old) self.old self.new result }
+    {
+        let Some(value) = self.cells.get_mut(place) else {
+            return Err((bound, TableFault::NotArray));
+        };
+        redim(alloc, value, bound)
+    }
+
+    /// Adds a lock of the array in a cell, and answers the new count.
+    pub(crate) fn lock(&mut self, place: &Place) -> Result<u16, TableFault>
+        ensures { Counts (with_change place.now locked_value self.old) (locks_of_cell place.now) self.old self.new result }
+    {
+        let Some(value) = self.cells.get_mut(place) else {
+            return Err(TableFault::NotArray);
+        };
+        lock(value)
+    }
+
+    /// Takes a lock of the array in a cell away, and answers the new count.
+    pub(crate) fn unlock(&mut self, place: &Place) -> Result<u16, TableFault>
+        ensures { Counts (with_change place.now released_value self.old) (locks_of_cell place.now) self.old self.new result }
+    {
+        let Some(value) = self.cells.get_mut(place) else {
+            return Err(TableFault::NotArray);
+        };
+        unlock(value)
+    }
+}
+
+/// How many locks the array in a cell has; 0 where there is none.
+fn locks_at(cells: &BTreeMap<Place, Variant>, place: &Place) -> u16
+    ensures { result ≡ locks_in (cell_at place.now cells.now.entries) }
+{
+    match cells.get(place) {
+        Some(value) => locks_of(value),
+        None => 0,
+    }
+}

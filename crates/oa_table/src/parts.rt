@@ -1,0 +1,40 @@
+//! Tables of given objects.
+ghost use Rattle.std.specs.Prelude.{◌≡◌, IfOk, map};
+ghost use Rattle.std.specs.Ordering.{nat_cmp};
+ghost use Rattle.oa_table.specs.Parts.{in_order, ordered_object};
+ghost use Rattle.oa_table.specs.Places.{place_cmp};
+
+use crate::{LiveObject, Object, Place};
+use oa_variant::Variant;
+use std::alloc::{AllocError, Global};
+use std::collections::BTreeMap;
+
+/// Cells in the order of their places.
+fn ordered_cells(
+    alloc: Global,
+    cells: Vec<(Place, Variant)>,
+) -> Result<BTreeMap<Place, Variant>, AllocError>
+    ensures { IfOk result (λ ordered. ordered.entries ≡ in_order place_cmp cells.items) }
+{
+    let mut ordered = BTreeMap::new(alloc);
+    'cells: for (place, value) in cells {
+        ordered.insert(place, value)?;
+    }
+    Ok(ordered)
+}
+
+/// Objects in the order of their numbers, each with its cells in the order of their places.
+pub(crate) fn ordered_objects(
+    alloc: Global,
+    objects: Vec<Object>,
+) -> Result<BTreeMap<u32, LiveObject>, AllocError>
+    ensures { IfOk result (λ ordered. ordered.entries ≡ in_order nat_cmp (map ordered_object objects.items)) }
+{
+    let mut ordered = BTreeMap::new(alloc);
+    'objects: for object in objects {
+        let (number, class, cells) = object.into_parts();
+        let cells = ordered_cells(alloc, cells)?;
+        ordered.insert(number, LiveObject::of_cells(class, cells))?;
+    }
+    Ok(ordered)
+}

@@ -1,0 +1,109 @@
+//! Places of cells in an object, and their order.
+ghost use Rattle.std.specs.Prelude.{◌≡◌, ◌≤◌, length};
+ghost use Rattle.std.specs.Cmp.{partial_order_from_total, partial_equiv_from_equiv, eq_by_cmp_equiv};
+ghost use Rattle.std.specs.Cmp.Rules.{comparing};
+ghost use Rattle.std.specs.Ordering.{as_partial_cmp, eq_by_cmp};
+ghost use Rattle.std.proofs.Common.{rules};
+ghost use Rattle.oa_table.specs.Places.{IsPlace, place_cmp, places_total};
+
+use oa_variant::Scalar;
+use std::cmp::Ordering;
+use std::marker::Model;
+use uuid::Uuid;
+
+/// Where a cell stands in its object: the member of an interface that it belongs to, and the arguments that this was called with. A
+/// key has at most 65,535 arguments.
+#[derive(Drop)]
+pub struct Place {
+    interface: Uuid,
+    dispid: i32,
+    key: Vec<Scalar>,
+}
+
+impl Model for Place {
+    ghost use Rattle.oa_table.specs.Places.{IsPlace, PlaceValue};
+
+    ghost Value = { PlaceValue };
+
+    ghost view = { λ p. record { interface = p.interface; dispid = p.dispid; key = p.key.items } };
+
+    ghost invariant = { λ p. IsPlace (record { interface = p.interface; dispid = p.dispid; key = p.key.items }) };
+}
+
+impl Place {
+    /// The place of a member of an interface, by its DISPID, for a list of arguments.
+    pub fn new(interface: Uuid, dispid: i32, key: Vec<Scalar>) -> Place
+        requires { length key.items ≤ 65535 }
+        ensures { result ≡ record { interface = interface; dispid = dispid; key = key.items } }
+    {
+        let _ = interface.as_bytes();
+        Place {
+            interface,
+            dispid,
+            key,
+        }
+    }
+
+    /// The GUID of the interface.
+    pub fn interface(&self) -> Uuid
+        ensures { result ≡ self.now.interface }
+    {
+        self.interface
+    }
+
+    /// The DISPID of the member.
+    pub fn dispid(&self) -> i32
+        ensures { result ≡ self.now.dispid }
+    {
+        self.dispid
+    }
+
+    /// The arguments, in the order of the parameters.
+    pub fn key(&self) -> &[Scalar]
+        ensures value { result.now ≡ self.now.key }
+        ensures place { IsPlace self.now }
+    {
+        self.key.as_slice()
+    }
+}
+
+impl PartialEq for Place {
+    ghost eq = { eq_by_cmp place_cmp };
+
+    ghost laws = { partial_equiv_from_equiv (eq_by_cmp_equiv places_total) };
+
+    fn eq(&self, other: &Place) -> bool {
+        self.cmp(other) == Ordering::Equal
+    }
+}
+
+impl Eq for Place {
+    ghost laws = { eq_by_cmp_equiv places_total };
+}
+
+impl PartialOrd for Place {
+    ghost partial_cmp = { as_partial_cmp place_cmp };
+
+    ghost laws = { partial_order_from_total places_total };
+
+    fn partial_cmp(&self, other: &Place) -> Option<Ordering> {
+        Some(self.cmp(other))
+    }
+}
+
+/// By interface, then by DISPID, then by key. See the definition `place_cmp`.
+impl Ord for Place {
+    ghost cmp = { place_cmp };
+
+    ghost total = { places_total };
+
+    ghost matches_partial_cmp = { Prim.search (comparing, rules) };
+
+    ghost matches_eq = { Prim.search (comparing, rules) };
+
+    fn cmp(&self, other: &Place) -> Ordering {
+        let by_key = self.key.cmp(&other.key);
+        let by_member = self.dispid.cmp(&other.dispid).then(by_key);
+        self.interface.cmp(&other.interface).then(by_member)
+    }
+}

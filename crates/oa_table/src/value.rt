@@ -1,0 +1,102 @@
+//! Changes of the value in a cell.
+ghost use Rattle.std.specs.Prelude.{◌≡◌};
+ghost use Rattle.oa_variant.specs.declared.variant.Variant.TheVariants as variants;
+ghost use Rattle.oa_table.specs.Elements.{element_put, locked_value, locks_of, of_array, redimensioned_value, released_value};
+ghost use Rattle.oa_table.specs.Outcomes.{Counts, Does};
+
+use crate::TableFault;
+use oa_array::{ArrayFault, Cell, SafeArray};
+use oa_model::Bound;
+use oa_variant::{Scalar, Variant};
+use std::alloc::Global;
+
+/// How many locks the array of a value has; 0 for another value.
+pub(crate) fn locks_of(value: &Variant) -> u16
+    ensures { result ≡ locks_of value.now }
+{
+    match value {
+        Variant::One(_) => 0,
+        Variant::Array(array) => array.locks(),
+    }
+}
+
+/// Sets an element of the array.
+pub(crate) fn put_element(
+    value: &mut Variant,
+    index: &[i32],
+    element: Scalar,
+) -> Result<(), (Scalar, TableFault)>
+    ensures { Does element (element_put index.now element value.old) value.old value.new result }
+{
+    match value {
+        Variant::One(_) => Err((element, TableFault::NotArray)),
+        Variant::Array(array) => put_into(array, index, element),
+    }
+}
+
+fn put_into(
+    array: &mut SafeArray<Scalar>,
+    index: &[i32],
+    element: Scalar,
+) -> Result<(), (Scalar, TableFault)>
+    ensures { Does element (element_put index.now element (variants.Array array.old)) (variants.Array array.old) (variants.Array array.new) result }
+{
+    let _fits = element.fits(array.elem());
+    match array.put_element(index, element) {
+        Ok(_) => Ok(()),
+        Err((element, fault)) => Err((element, TableFault::Array(fault))),
+    }
+}
+
+/// Replaces the first bound of the array.
+pub(crate) fn redim(
+    alloc: Global,
+    value: &mut Variant,
+    bound: Bound,
+) -> Result<(), (Bound, TableFault)>
+    ensures { Does bound (redimensioned_value bound value.old) value.old value.new result }
+{
+    match value {
+        Variant::One(_) => Err((bound, TableFault::NotArray)),
+        Variant::Array(array) => match array.redim(alloc, bound) {
+            Ok(()) => Ok(()),
+            Err(fault) => Err((bound, of_array(fault))),
+        },
+    }
+}
+
+/// What an array refuses, as the refusal of a change.
+fn of_array(fault: ArrayFault) -> TableFault
+    ensures { result ≡ of_array fault }
+{
+    match fault {
+        ArrayFault::Memory => TableFault::Memory,
+        _ => TableFault::Array(fault),
+    }
+}
+
+/// Adds a lock of the array, and answers the new count.
+pub(crate) fn lock(value: &mut Variant) -> Result<u16, TableFault>
+    ensures { Counts (locked_value value.old) locks_of value.old value.new result }
+{
+    match value {
+        Variant::One(_) => Err(TableFault::NotArray),
+        Variant::Array(array) => match array.lock() {
+            Ok(count) => Ok(count),
+            Err(fault) => Err(TableFault::Array(fault)),
+        },
+    }
+}
+
+/// Takes a lock of the array away, and answers the new count.
+pub(crate) fn unlock(value: &mut Variant) -> Result<u16, TableFault>
+    ensures { Counts (released_value value.old) locks_of value.old value.new result }
+{
+    match value {
+        Variant::One(_) => Err(TableFault::NotArray),
+        Variant::Array(array) => match array.unlock() {
+            Ok(count) => Ok(count),
+            Err(fault) => Err(TableFault::Array(fault)),
+        },
+    }
+}

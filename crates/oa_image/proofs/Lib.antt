@@ -1,0 +1,5 @@
+pub mod Rising
+mod Lengths
+pub mod Whole
+mod Written
+mod Members

@@ -1,0 +1,108 @@
+//! The images of names of cells.
+ghost use Rattle.std.specs.Prelude.{◌≡◌, ◌≤◌, ◌*◌, ◌++◌, OnOk, IfOk, length};
+ghost use Rattle.std.specs.List.{flat_map};
+ghost use Rattle.oa_layout.specs.Answers.{Answers, AnswersBy, Keeps};
+ghost use Rattle.oa_layout.specs.Values.{scalar as a_scalar};
+ghost use Rattle.oa_image.specs.Names as names;
+
+use oa_layout::{
+    PutImage, ReadFault, ReadImage, ScalarFormat, put_each, put_guid, put_i32, put_u16, put_u32,
+    read_guid, read_i32, read_times, read_u16, read_u32, scalar_image_len,
+};
+use oa_ndr::Ndr;
+use oa_table::{CellName, Place};
+use oa_variant::Scalar;
+use std::alloc::{AllocError, Global};
+
+#[tactic(auto, unfolding(oa_ndr::specs::Reading::bind, oa_ndr::specs::Reading::give, oa_layout::specs::Formats::made_where, oa_layout::specs::Formats::next_by, oa_layout::specs::Formats::counted, crate::specs::Names::key))]
+fn read_key(alloc: Global, r: &mut Ndr<'_>) -> Result<Vec<Scalar>, ReadFault>
+    ensures read { AnswersBy (λ v. v.items) result r.new (names.key.read r.old) }
+    ensures few { IfOk result (λ v. length v.items ≤ 65535) }
+{
+    let count = read_u16(r)?;
+    read_times::<ScalarFormat>(alloc, count as usize, r)
+}
+
+#[tactic(auto, unfolding(oa_layout::specs::Formats::made_where, oa_layout::specs::Formats::next_by, oa_layout::specs::Formats::times, oa_layout::specs::Formats::counted, crate::specs::Names::key))]
+fn put_key(key: &[Scalar], out: &mut Vec<u8>) -> Result<(), AllocError>
+    requires { length key.now ≤ 65535 }
+    ensures ok { OnOk result (out.new.items ≡ out.old.items ++ names.key.image key.now) }
+    ensures kept { Keeps out.old.items out.new.items }
+{
+    put_u16(key.len() as u16, out)?;
+    put_each::<ScalarFormat>(key, out)
+}
+
+/// The format of places: the interface in wire order, the DISPID as i32, how many scalars the key has as u16, the scalars.
+pub(crate) struct PlaceFormat;
+
+impl ReadImage for PlaceFormat {
+    type Value = Place;
+
+    ghost format = { names.place };
+
+    #[tactic(auto, unfolding(oa_ndr::specs::Reading::bind, oa_ndr::specs::Reading::give, oa_layout::specs::Formats::made_where, oa_layout::specs::Formats::next_by, crate::specs::Names::place))]
+    fn read(alloc: Global, r: &mut Ndr<'_>) -> Result<Place, ReadFault> {
+        let interface = read_guid(r)?;
+        let dispid = read_i32(r)?;
+        let key = read_key(alloc, r)?;
+        Ok(Place::new(interface, dispid, key))
+    }
+}
+
+impl PutImage for PlaceFormat {
+    #[tactic(auto, unfolding(oa_layout::specs::Formats::made_where, oa_layout::specs::Formats::next_by, crate::specs::Names::place))]
+    fn put(value: &Place, out: &mut Vec<u8>) -> Result<(), AllocError> {
+        let key = value.key();
+        put_guid(&value.interface(), out)?;
+        put_i32(value.dispid(), out)?;
+        put_key(key, out)
+    }
+}
+
+/// The format of names of cells: the object as u32, and the place.
+pub(crate) struct NameFormat;
+
+impl ReadImage for NameFormat {
+    type Value = CellName;
+
+    ghost format = { names.name };
+
+    #[tactic(auto, unfolding(oa_ndr::specs::Reading::bind, oa_ndr::specs::Reading::give, oa_layout::specs::Formats::made_where, oa_layout::specs::Formats::next_by, crate::specs::Names::name))]
+    fn read(alloc: Global, r: &mut Ndr<'_>) -> Result<CellName, ReadFault> {
+        let object = read_u32(r)?;
+        let place = PlaceFormat::read(alloc, r)?;
+        Ok(CellName { object, place })
+    }
+}
+
+impl PutImage for NameFormat {
+    #[tactic(auto, unfolding(oa_layout::specs::Formats::made_where, oa_layout::specs::Formats::next_by, crate::specs::Names::name))]
+    fn put(value: &CellName, out: &mut Vec<u8>) -> Result<(), AllocError> {
+        put_u32(value.object, out)?;
+        PlaceFormat::put(&value.place, out)
+    }
+}
+
+// How many bytes the images of scalars have, one behind the other.
+fn scalars_len(scalars: &[Scalar]) -> usize
+    requires few { length scalars.now ≤ 65535 }
+    ensures value { result ≡ length (flat_map a_scalar.image scalars.now) }
+    ensures small { result ≤ 262150 * length scalars.now }
+{
+    let mut len = 0;
+    'scalars: for scalar in scalars {
+        len += scalar_image_len(scalar);
+    }
+    len
+}
+
+// How many bytes the image of a name has.
+#[tactic(auto, unfolding(oa_layout::specs::Formats::raw, oa_layout::specs::Formats::made_where, oa_layout::specs::Formats::next_by, oa_layout::specs::Formats::times, oa_layout::specs::Formats::counted, oa_layout::specs::Numbers::u16, oa_layout::specs::Numbers::u32, oa_layout::specs::Numbers::i32, oa_layout::specs::Numbers::guid, crate::specs::Names::key, crate::specs::Names::place, crate::specs::Names::name))]
+pub(crate) fn name_len(name: &CellName) -> usize
+    ensures value { result ≡ length (names.name.image name.now) }
+    ensures small { result ≤ 17200000000 }
+{
+    let key = name.place.key();
+    26 + scalars_len(key)
+}

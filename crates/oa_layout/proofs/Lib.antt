@@ -1,0 +1,6 @@
+pub mod Keeping
+pub mod Exact
+pub mod Rows
+mod Loops
+mod Lengths
+pub mod Conditions

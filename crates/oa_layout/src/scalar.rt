@@ -1,0 +1,237 @@
+//! The images of texts, DECIMAL and scalars.
+ghost use Rattle.std.specs.Prelude.{◌≡◌, ◌≤◌, ◌++◌, length, OnOk, IfOk};
+ghost use Rattle.oa_variant.specs.Scalars.{type_of};
+ghost use Rattle.oa_layout.specs.Answers.{Answers, Keeps};
+ghost use Rattle.oa_layout.specs.Values as values;
+
+use crate::ReadFault;
+use crate::image::{PutImage, ReadImage};
+use crate::reading::{
+    read_bytes, read_i8, read_i16, read_i32, read_i64, read_truth, read_u8, read_u16, read_u32,
+    read_u64,
+};
+use crate::writing::{
+    put_bytes, put_i8, put_i16, put_i32, put_i64, put_truth, put_u8, put_u16, put_u32, put_u64,
+};
+use oa_bstr::Bstr;
+use oa_model::{MAX_TEXT_BYTES, VarType};
+use oa_ndr::Ndr;
+use oa_variant::{Decimal, Scalar};
+use std::alloc::{AllocError, Global};
+
+/// What stands in place of the number of bytes of the null text.
+const NULL_TEXT: u32 = 0xFFFF_FFFF;
+
+/// The greatest scale of a DECIMAL.
+const MAX_SCALE: u8 = 28;
+
+/// How far the high bits of a magnitude stand above the low ones: 2^64.
+const ABOVE_LOW: u128 = 0x1_0000_0000_0000_0000;
+
+// How many bytes a text has; None for null.
+#[tactic(auto, unfolding(oa_ndr::specs::Reading::bind, crate::specs::Formats::coded, crate::specs::Values::text_header))]
+fn read_text_header(r: &mut Ndr<'_>) -> Result<Option<u32>, ReadFault>
+    ensures { Answers result r.new (values.text_header.read r.old) }
+{
+    let n = read_u32(r)?;
+    if n == NULL_TEXT {
+        return Ok(None);
+    }
+    if n <= MAX_TEXT_BYTES {
+        return Ok(Some(n));
+    }
+    Err(ReadFault::Broken)
+}
+
+#[tactic(auto, unfolding(oa_ndr::specs::Reading::bind, oa_ndr::specs::Reading::give, crate::specs::Formats::tagged, crate::specs::Formats::nothing, crate::specs::Formats::case, crate::specs::Values::text_of_size, crate::specs::Values::text))]
+fn read_text(alloc: Global, r: &mut Ndr<'_>) -> Result<Bstr, ReadFault>
+    ensures { Answers result r.new (values.text.read r.old) }
+{
+    match read_text_header(r)? {
+        None => Ok(Bstr::null()),
+        Some(n) => {
+            let bytes = read_bytes(n as usize, r)?;
+            match Bstr::from_bytes(alloc, bytes) {
+                Ok(text) => Ok(text),
+                Err(_) => Err(ReadFault::Memory),
+            }
+        }
+    }
+}
+
+#[tactic(auto, unfolding(oa_ndr::specs::Reading::bind, oa_ndr::specs::Reading::give, crate::specs::Formats::coded, crate::specs::Formats::next_by, crate::specs::Values::decimal))]
+fn read_decimal(r: &mut Ndr<'_>) -> Result<Decimal, ReadFault>
+    ensures { Answers result r.new (values.decimal.read r.old) }
+{
+    let scale = read_u8(r)?;
+    let negative = read_truth(r)?;
+    let high = read_u32(r)?;
+    let low = read_u64(r)?;
+    if scale <= MAX_SCALE {
+        let magnitude = high as u128 * ABOVE_LOW + low as u128;
+        return Ok(Decimal::new(negative, scale, magnitude));
+    }
+    Err(ReadFault::Broken)
+}
+
+#[tactic(auto, unfolding(oa_ndr::specs::Reading::bind, crate::specs::Formats::coded, crate::specs::Values::vt))]
+fn read_vt(r: &mut Ndr<'_>) -> Result<VarType, ReadFault>
+    ensures { Answers result r.new (values.vt.read r.old) }
+{
+    match VarType::from_vt(read_u16(r)?) {
+        Some(var_type) => Ok(var_type),
+        None => Err(ReadFault::Broken),
+    }
+}
+
+// What stands behind the number of the type.
+#[tactic(auto, unfolding(oa_ndr::specs::Reading::bind, oa_ndr::specs::Reading::give, oa_ndr::specs::Reading::fail, crate::specs::Formats::nothing, crate::specs::Formats::never, crate::specs::Formats::case, crate::specs::Values::of_type))]
+pub(crate) fn read_content(
+    alloc: Global,
+    var_type: VarType,
+    r: &mut Ndr<'_>,
+) -> Result<Scalar, ReadFault>
+    ensures read { Answers result r.new ((values.of_type var_type).read r.old) }
+    ensures fits { IfOk result (λ s. type_of s ≡ var_type) }
+{
+    Ok(match var_type {
+        VarType::Empty => Scalar::Empty,
+        VarType::Null => Scalar::Null,
+        VarType::I1 => Scalar::I1(read_i8(r)?),
+        VarType::I2 => Scalar::I2(read_i16(r)?),
+        VarType::I4 => Scalar::I4(read_i32(r)?),
+        VarType::I8 => Scalar::I8(read_i64(r)?),
+        VarType::Int => Scalar::Int(read_i32(r)?),
+        VarType::Ui1 => Scalar::Ui1(read_u8(r)?),
+        VarType::Ui2 => Scalar::Ui2(read_u16(r)?),
+        VarType::Ui4 => Scalar::Ui4(read_u32(r)?),
+        VarType::Ui8 => Scalar::Ui8(read_u64(r)?),
+        VarType::Uint => Scalar::Uint(read_u32(r)?),
+        VarType::Cy => Scalar::Cy(read_i64(r)?),
+        VarType::Bool => Scalar::Bool(read_truth(r)?),
+        VarType::Error => Scalar::Error(read_u32(r)?),
+        VarType::Bstr => Scalar::Bstr(read_text(alloc, r)?),
+        VarType::Decimal => Scalar::Decimal(read_decimal(r)?),
+        VarType::Variant => return Err(ReadFault::Broken),
+    })
+}
+
+#[tactic(auto, unfolding(crate::specs::Formats::tagged, crate::specs::Formats::coded, crate::specs::Formats::raw, crate::specs::Formats::nothing, crate::specs::Formats::case, crate::specs::Values::text_header, crate::specs::Values::text_of_size, crate::specs::Values::text))]
+fn put_text(text: &Bstr, out: &mut Vec<u8>) -> Result<(), AllocError>
+    ensures ok { OnOk result (out.new.items ≡ out.old.items ++ values.text.image text.now) }
+    ensures kept { Keeps out.old.items out.new.items }
+{
+    if text.is_null() {
+        return put_u32(NULL_TEXT, out);
+    }
+    put_u32(text.byte_len(), out)?;
+    put_bytes(text.as_bytes(), out)
+}
+
+#[tactic(auto, unfolding(crate::specs::Formats::coded, crate::specs::Formats::next_by, crate::specs::Values::decimal))]
+fn put_decimal(d: &Decimal, out: &mut Vec<u8>) -> Result<(), AllocError>
+    ensures ok { OnOk result (out.new.items ≡ out.old.items ++ values.decimal.image d.now) }
+    ensures kept { Keeps out.old.items out.new.items }
+{
+    let magnitude = d.magnitude();
+    put_u8(d.scale(), out)?;
+    put_truth(d.is_negative(), out)?;
+    put_u32((magnitude / ABOVE_LOW) as u32, out)?;
+    put_u64((magnitude % ABOVE_LOW) as u64, out)
+}
+
+// What stands behind the number of the type.
+#[tactic(auto, unfolding(crate::specs::Formats::nothing, crate::specs::Formats::case, crate::specs::Values::of_type))]
+pub(crate) fn put_content(s: &Scalar, out: &mut Vec<u8>) -> Result<(), AllocError>
+    ensures ok { OnOk result (out.new.items ≡ out.old.items ++ (values.of_type (type_of s.now)).image s.now) }
+    ensures kept { Keeps out.old.items out.new.items }
+{
+    match s {
+        Scalar::Empty => Ok(()),
+        Scalar::Null => Ok(()),
+        Scalar::I1(x) => put_i8(*x, out),
+        Scalar::I2(x) => put_i16(*x, out),
+        Scalar::I4(x) => put_i32(*x, out),
+        Scalar::I8(x) => put_i64(*x, out),
+        Scalar::Int(x) => put_i32(*x, out),
+        Scalar::Ui1(x) => put_u8(*x, out),
+        Scalar::Ui2(x) => put_u16(*x, out),
+        Scalar::Ui4(x) => put_u32(*x, out),
+        Scalar::Ui8(x) => put_u64(*x, out),
+        Scalar::Uint(x) => put_u32(*x, out),
+        Scalar::Cy(x) => put_i64(*x, out),
+        Scalar::Bool(x) => put_truth(*x, out),
+        Scalar::Error(x) => put_u32(*x, out),
+        Scalar::Bstr(text) => put_text(text, out),
+        Scalar::Decimal(d) => put_decimal(d, out),
+    }
+}
+
+/// The format of scalars: the number of the type as u16, and the content.
+pub struct ScalarFormat;
+
+impl ReadImage for ScalarFormat {
+    type Value = Scalar;
+
+    ghost format = { values.scalar };
+
+    #[tactic(auto, unfolding(oa_ndr::specs::Reading::bind, crate::specs::Formats::tagged, crate::specs::Values::scalar))]
+    fn read(alloc: Global, r: &mut Ndr<'_>) -> Result<Scalar, ReadFault> {
+        let var_type = read_vt(r)?;
+        read_content(alloc, var_type, r)
+    }
+}
+
+impl PutImage for ScalarFormat {
+    #[tactic(auto, unfolding(crate::specs::Formats::tagged, crate::specs::Formats::coded, crate::specs::Values::vt, crate::specs::Values::scalar))]
+    fn put(value: &Scalar, out: &mut Vec<u8>) -> Result<(), AllocError> {
+        put_u16(value.var_type().vt(), out)?;
+        put_content(value, out)
+    }
+}
+
+#[tactic(auto, unfolding(crate::specs::Formats::tagged, crate::specs::Formats::coded, crate::specs::Formats::raw, crate::specs::Formats::nothing, crate::specs::Formats::made_where, crate::specs::Formats::case, crate::specs::Numbers::u32, crate::specs::Values::text_header, crate::specs::Values::text_of_size, crate::specs::Values::text))]
+fn text_len(text: &Bstr) -> usize
+    ensures value { result ≡ length (values.text.image text.now) }
+    ensures small { result ≤ 262148 }
+{
+    if text.is_null() {
+        return 4;
+    }
+    4 + text.as_bytes().len()
+}
+
+// The bytes behind the number of the type.
+#[tactic(auto, unfolding(crate::specs::Formats::coded, crate::specs::Formats::raw, crate::specs::Formats::nothing, crate::specs::Formats::made_where, crate::specs::Formats::next_by, crate::specs::Formats::case, crate::specs::Values::of_type, crate::specs::Values::decimal, crate::specs::Numbers::u8, crate::specs::Numbers::u16, crate::specs::Numbers::u32, crate::specs::Numbers::u64, crate::specs::Numbers::i8, crate::specs::Numbers::i16, crate::specs::Numbers::i32, crate::specs::Numbers::i64, crate::specs::Numbers::truth))]
+pub(crate) fn content_len(s: &Scalar) -> usize
+    ensures value { result ≡ length ((values.of_type (type_of s.now)).image s.now) }
+    ensures small { result ≤ 262148 }
+{
+    match s {
+        Scalar::Empty | Scalar::Null => 0,
+        Scalar::I1(_) => 1,
+        Scalar::I2(_) => 2,
+        Scalar::I4(_) => 4,
+        Scalar::I8(_) => 8,
+        Scalar::Int(_) => 4,
+        Scalar::Ui1(_) => 1,
+        Scalar::Ui2(_) => 2,
+        Scalar::Ui4(_) => 4,
+        Scalar::Ui8(_) => 8,
+        Scalar::Uint(_) => 4,
+        Scalar::Cy(_) => 8,
+        Scalar::Bool(_) => 1,
+        Scalar::Error(_) => 4,
+        Scalar::Bstr(text) => text_len(text),
+        Scalar::Decimal(_) => 14,
+    }
+}
+
+/// How many bytes the image of a scalar has: at most 262,150.
+#[tactic(auto, unfolding(crate::specs::Formats::tagged, crate::specs::Formats::coded, crate::specs::Formats::made_where, crate::specs::Numbers::u16, crate::specs::Values::vt, crate::specs::Values::scalar))]
+pub fn scalar_image_len(s: &Scalar) -> usize
+    ensures value { result ≡ length (values.scalar.image s.now) }
+    ensures small { result ≤ 262150 }
+{
+    2 + content_len(s)
+}

@@ -1,5 +1,6 @@
 -- The grammar as functions that read.
 use Rattle.std.specs.Prelude.{ℕ, ◌&&◌, ◌||◌, ◌==◌, Bool, true, false, not, List, [], length, Option, Some, None, ℤ, is_some}
+use Rattle.oa_model.specs.Limits.{max_interfaces, max_coclasses, max_members, max_parameters}
 use Rattle.oa_model.specs.declared.var_type.VarType.{VarType}
 use Rattle.oa_model.specs.declared.var_type.ValueType.{ValueType}
 use Rattle.oa_model.specs.declared.var_type.ValueType.TheVariants as values
@@ -124,7 +125,7 @@ property_head_at = attributes_at property_attribute_at property_grow property_fu
 
 -- a property after n members of its interface
 unfoldable pub property_at : ℕ → Reading Property
-property_at n = property_head_at >>= λ h. value_type_at >>= λ t. one_at name_of (over limits.Members 512 n) >>= λ name. sign_at signs.Semicolon >>= λ _.
+property_at n = property_head_at >>= λ h. value_type_at >>= λ t. one_at name_of (over limits.Members max_members n) >>= λ name. sign_at signs.Semicolon >>= λ _.
     give (record { id = h.id; readonly = h.readonly; value_type = t; name = name })
 
 abbrev pub closing_at : {S : Type 0} → S → Reading (Unit {0})
@@ -159,7 +160,7 @@ parameter_head_at = attributes_at parameter_attribute_at parameter_grow paramete
 
 -- the type and name of a parameter after n others
 unfoldable pub typed_at : ℕ → ParameterSeen → Reading Parameter
-typed_at n h = value_type_at >>= λ t. one_at name_of (over limits.Params 16 n) >>= λ name.
+typed_at n h = value_type_at >>= λ t. one_at name_of (over limits.Params max_parameters n) >>= λ name.
     give (record { is_in = h.is_in; is_optional = h.is_optional; default = h.default; value_type = t; name = name })
 
 unfoldable pub parameter_at : ℕ → Reading Parameter
@@ -202,7 +203,7 @@ result_type_at k = choose (passes signs.Void) (require (may_be_void k) (sign_at 
 
 -- what follows the attributes of a method after n members of its interface
 unfoldable pub method_body_at : ℕ → MethodHead → Reading MethodValue
-method_body_at n h = result_type_at h.kind >>= λ t. one_at name_of (over limits.Members 512 n) >>= λ name. sign_at signs.Left >>= λ _. parameters_at h.kind >>= λ ps. sign_at signs.Semicolon >>= λ _.
+method_body_at n h = result_type_at h.kind >>= λ t. one_at name_of (over limits.Members max_members n) >>= λ name. sign_at signs.Left >>= λ _. parameters_at h.kind >>= λ ps. sign_at signs.Semicolon >>= λ _.
     give (record { id = h.id; kind = h.kind; value_type = t; name = name; parameters = ps.0 })
 
 unfoldable pub method_at : ℕ → Reading MethodValue
@@ -225,7 +226,7 @@ members_at = choose (passes signs.Properties)
     (methods_at 0 >>= λ ms. give ([], ms))
 
 unfoldable pub interface_at : ItemsSeen → List ℕ → Reading Item
-interface_at s guid = sign_at signs.Dispinterface >>= λ _. one_at name_of (over limits.Interfaces 256 s.interfaces) >>= λ name. sign_at signs.Begin >>= λ _. members_at >>= λ all.
+interface_at s guid = sign_at signs.Dispinterface >>= λ _. one_at name_of (over limits.Interfaces max_interfaces s.interfaces) >>= λ name. sign_at signs.Begin >>= λ _. members_at >>= λ all.
     give (items.Interface (record { guid = guid; name = name; properties = all.0; methods = all.1 }))
 
 -- ---- coclasses
@@ -245,7 +246,7 @@ unfoldable pub entries_at : Reading (List Entry × Unit {0})
 entries_at = list_at (passes signs.Finish) nowhere entry_at entry_grow last_entry_at no_entry
 
 unfoldable pub coclass_at : ItemsSeen → List ℕ → Reading Item
-coclass_at s guid = sign_at signs.Coclass >>= λ _. one_at name_of (over limits.Coclasses 256 s.coclasses) >>= λ name. sign_at signs.Begin >>= λ _. entries_at >>= λ es.
+coclass_at s guid = sign_at signs.Coclass >>= λ _. one_at name_of (over limits.Coclasses max_coclasses s.coclasses) >>= λ name. sign_at signs.Begin >>= λ _. entries_at >>= λ es.
     give (items.Coclass (record { guid = guid; name = name; entries = es.0 }))
 
 -- ---- a text

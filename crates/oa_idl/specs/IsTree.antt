@@ -1,5 +1,6 @@
 -- What parsing answers.
 use Rattle.std.specs.Prelude.{◌≡◌, ℕ, ◌<◌, ◌≤◌, slice_get, Option, Some, None, List, ◌∷◌, ◌++◌, length, Result, Ok, Err}
+use Rattle.oa_model.specs.Limits.{max_library_bytes}
 use Rattle.oa_idl.specs.declared.lexer.Token.{Token}
 use Rattle.oa_idl.specs.declared.stop.TreeLimit.{TreeLimit}
 use Rattle.oa_idl.specs.declared.stop.TreeLimit.TheVariants as limits
@@ -13,9 +14,9 @@ use Rattle.oa_idl.specs.Words.{words_of, NamedAt}
 use Rattle.oa_idl.specs.Grammar.{library}
 use Rattle.oa_idl.specs.Limits.{Keeps}
 
--- a text has at most 262,144 bytes
+-- a text is not too long
 abbrev pub MayBeText : List ℕ → Type 0
-MayBeText text = length text ≤ 262144
+MayBeText text = length text ≤ max_library_bytes
 
 -- the tree that a text stands for: its tokens are in the grammar with that tree, and all limits are kept
 pub record IsTree (text : List ℕ) (t : TreeValue) : Type 0 where
@@ -63,7 +64,7 @@ IsOver l text = MayBeText text × BrokenAt l text
 abbrev pub IsAnswer : List ℕ → Result TreeValue ParseError → Type 0
 IsAnswer text (Ok t) = IsTree text t
 IsAnswer text (Err (errors.Syntax place)) = MayBeText text × Refused AnyTree text place
-IsAnswer text (Err (errors.Limit texts.Text)) = 262144 < length text
+IsAnswer text (Err (errors.Limit texts.Text)) = max_library_bytes < length text
 IsAnswer text (Err (errors.Limit texts.Name)) = IsOver limits.Name text
 IsAnswer text (Err (errors.Limit texts.Interfaces)) = IsOver limits.Interfaces text
 IsAnswer text (Err (errors.Limit texts.Coclasses)) = IsOver limits.Coclasses text

@@ -1,6 +1,7 @@
 -- Which trees keep the limits. The limits are this project's choice.
 use Rattle.std.specs.Prelude.{ℕ, ◌+◌, ◌≤◌, List, [], ◌∷◌, length}
 use Rattle.std.specs.List.{AllByRecursion}
+use Rattle.oa_model.specs.Limits.{max_name_characters, max_interfaces, max_coclasses, max_members, max_parameters}
 use Rattle.oa_idl.specs.declared.stop.TreeLimit.{TreeLimit}
 use Rattle.oa_idl.specs.declared.stop.TreeLimit.TheVariants as limits
 use Rattle.oa_idl.specs.declared.parts.Property.{Property}
@@ -12,12 +13,12 @@ use Rattle.oa_idl.specs.declared.items.Item.TheVariants as items
 use Rattle.oa_idl.specs.Trees.{TreeValue}
 
 abbrev pub IsShort : List ℕ → Type 0
-IsShort name = length name ≤ 64
+IsShort name = length name ≤ max_name_characters
 
 abbrev pub HasShortParameters : MethodValue → Type 0
 HasShortParameters m = IsShort m.name × AllByRecursion (λ (p : Parameter). IsShort p.name) m.parameters
 
--- each name of an item has at most 64 bytes
+-- each name of an item is short
 abbrev pub HasShortNames : Item → Type 0
 HasShortNames (items.Interface d) = IsShort d.name × AllByRecursion (λ (p : Property). IsShort p.name) d.properties × AllByRecursion HasShortParameters d.methods
 HasShortNames (items.Coclass c) = IsShort c.name × AllByRecursion (λ (e : Entry). IsShort e.interface) c.entries
@@ -35,20 +36,20 @@ abbrev pub how_many : (Item → ℕ) → List Item → ℕ
 how_many weight [] = 0
 how_many weight (x ∷ xs) = weight x + how_many weight xs
 
--- an interface has at most 512 members, a get and a put counting as two
+-- an interface has not too many members, a get and a put counting as two
 abbrev pub HasFewMembers : Item → Type 0
-HasFewMembers (items.Interface d) = length d.properties + length d.methods ≤ 512
+HasFewMembers (items.Interface d) = length d.properties + length d.methods ≤ max_members
 HasFewMembers (items.Coclass c) = Unit {0}
 
--- a member has at most 16 parameters, the new value of a put being one
+-- a member has not too many parameters, the new value of a put being one
 abbrev pub HasFewParameters : Item → Type 0
-HasFewParameters (items.Interface d) = AllByRecursion (λ (m : MethodValue). length m.parameters ≤ 16) d.methods
+HasFewParameters (items.Interface d) = AllByRecursion (λ (m : MethodValue). length m.parameters ≤ max_parameters) d.methods
 HasFewParameters (items.Coclass c) = Unit {0}
 
 -- a tree keeps one of the limits
 abbrev pub Keeps : TreeLimit → TreeValue → Type 0
 Keeps limits.Name t = IsShort t.name × AllByRecursion HasShortNames t.items
-Keeps limits.Interfaces t = how_many one_interface t.items ≤ 256
-Keeps limits.Coclasses t = how_many one_coclass t.items ≤ 256
+Keeps limits.Interfaces t = how_many one_interface t.items ≤ max_interfaces
+Keeps limits.Coclasses t = how_many one_coclass t.items ≤ max_coclasses
 Keeps limits.Members t = AllByRecursion HasFewMembers t.items
 Keeps limits.Params t = AllByRecursion HasFewParameters t.items

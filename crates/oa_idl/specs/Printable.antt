@@ -5,6 +5,7 @@ use Rattle.oa_model.specs.declared.var_type.VarType.{VarType}
 use Rattle.oa_model.specs.declared.var_type.VarType.TheVariants as types
 use Rattle.oa_model.specs.declared.var_type.ValueType.{ValueType}
 use Rattle.oa_model.specs.declared.var_type.ValueType.TheVariants as values
+use Rattle.oa_model.specs.Limits.{max_interfaces, max_coclasses}
 use Rattle.oa_model.specs.Types.{sf_type_of}
 use Rattle.oa_idl.specs.declared.scan.Class.TheVariants.{Letter, Named}
 use Rattle.oa_idl.specs.declared.parts.Version.{Version}
@@ -101,7 +102,7 @@ pub record IsPrintable (t : TreeValue) : Type 0 where
   pub name : IsName t.name
   pub items : AllByRecursion IsItem t.items
   pub short : IsShort t.name × AllByRecursion HasShortNames t.items
-  pub interfaces : how_many one_interface t.items ≤ 256
-  pub coclasses : how_many one_coclass t.items ≤ 256
+  pub interfaces : how_many one_interface t.items ≤ max_interfaces
+  pub coclasses : how_many one_coclass t.items ≤ max_coclasses
   pub members : AllByRecursion HasFewMembers t.items
   pub parameters : AllByRecursion HasFewParameters t.items

@@ -5,6 +5,7 @@ use Rattle.std.specs.Str.{bytes_eq}
 use Rattle.uuid.specs.Text.{parsed_hyphenated}
 use Rattle.oa_model.specs.declared.var_type.VarType.{VarType}
 use Rattle.oa_model.specs.declared.var_type.VarType.TheVariants as types
+use Rattle.oa_model.specs.Limits.{max_name_characters}
 use Rattle.oa_model.specs.Types.{sf_type_of}
 use Rattle.oa_idl.specs.declared.lexer.Kind.{Kind}
 use Rattle.oa_idl.specs.declared.lexer.Kind.TheVariants as kinds
@@ -188,7 +189,7 @@ name_of w = if same_kind w.kind kinds.Name && not (is_reserved w.text) then Some
 
 -- the limit that a name breaks: it is too long, or it is that of one item too many
 abbrev pub over : TreeLimit → ℕ → ℕ → List ℕ → Option TreeLimit
-over l bound count name = if nat_lt 64 (length name) then Some limits.Name else if nat_le bound count then Some l else None
+over l bound count name = if nat_lt max_name_characters (length name) then Some limits.Name else if nat_le bound count then Some l else None
 
 abbrev pub too_long : List ℕ → Option TreeLimit
 too_long name = over limits.Name 1 0 name
@@ -196,9 +197,9 @@ too_long name = over limits.Name 1 0 name
 abbrev pub never_over : {A : Type 0} → A → Option TreeLimit
 never_over x = None
 
--- a name of more than 64 bytes, where that limit is meant
+-- a name that is too long, where that limit is meant
 abbrev pub TooLong : TreeLimit → List ℕ → Type 0
-TooLong limits.Name name = 64 < length name
+TooLong limits.Name name = max_name_characters < length name
 TooLong limits.Interfaces name = Unit {0}
 TooLong limits.Coclasses name = Unit {0}
 TooLong limits.Members name = Unit {0}

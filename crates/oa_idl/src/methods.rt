@@ -1,5 +1,6 @@
 // The section `methods:`.
 ghost use Rattle.std.specs.Prelude.{◌≡◌, ◌<◌, IfOk};
+ghost use Rattle.oa_model.specs.Limits.{max_members};
 ghost use Rattle.oa_idl.specs.declared.sign.Sign.TheVariants as signs;
 ghost use Rattle.oa_idl.specs.Forms.{nowhere};
 ghost use Rattle.oa_idl.specs.Words.{passes};
@@ -188,7 +189,7 @@ fn method_body(
     head: MethodHead,
 ) -> Result<Method, Stop>
     ensures value { Answers (λ m. m) result r.new (method_body_at count head r.old) }
-    ensures few { IfOk result (λ _. count < 512) }
+    ensures few { IfOk result (λ _. count < max_members) }
 {
     let value_type = result_type(r, head.kind)?;
     let name = r.name(alloc, TreeLimit::Members, MAX_MEMBERS, count)?;
@@ -208,7 +209,7 @@ fn method_body(
 #[tactic(auto, unfolding(crate::specs::Reading::bind, crate::specs::GrammarReading::method_at))]
 fn method(alloc: Global, r: &mut Reader<'_>, count: usize) -> Result<Method, Stop>
     ensures value { Answers (λ m. m) result r.new (method_at count r.old) }
-    ensures few { IfOk result (λ _. count < 512) }
+    ensures few { IfOk result (λ _. count < max_members) }
 {
     let head = method_head(r)?;
     method_body(alloc, r, count, head)

@@ -1,5 +1,6 @@
 // Parameters of a member.
 ghost use Rattle.std.specs.Prelude.{◌≡◌, ◌<◌, IfOk};
+ghost use Rattle.oa_model.specs.Limits.{max_parameters};
 ghost use Rattle.oa_idl.specs.declared.sign.Sign.TheVariants as signs;
 ghost use Rattle.oa_idl.specs.Forms.{nowhere};
 ghost use Rattle.oa_idl.specs.Words.{passes};
@@ -171,7 +172,7 @@ fn typed(
     seen: ParameterSeen,
 ) -> Result<Parameter, Stop>
     ensures value { Answers (λ p. p) result r.new (typed_at count seen r.old) }
-    ensures few { IfOk result (λ _. count < 16) }
+    ensures few { IfOk result (λ _. count < max_parameters) }
 {
     let value_type = value_type(r)?;
     let name = r.name(alloc, TreeLimit::Params, MAX_PARAMETERS, count)?;
@@ -187,7 +188,7 @@ fn typed(
 #[tactic(auto, unfolding(crate::specs::Reading::bind, crate::specs::Reading::choose, crate::specs::GrammarReading::parameter_at))]
 fn parameter(alloc: Global, r: &mut Reader<'_>, count: usize) -> Result<Parameter, Stop>
     ensures value { Answers (λ p. p) result r.new (parameter_at count r.old) }
-    ensures few { IfOk result (λ _. count < 16) }
+    ensures few { IfOk result (λ _. count < max_parameters) }
 {
     if r.is(Sign::Open) {
         let seen = parameter_head(alloc, r)?;
@@ -200,7 +201,7 @@ fn parameter(alloc: Global, r: &mut Reader<'_>, count: usize) -> Result<Paramete
 #[tactic(auto, unfolding(crate::specs::Reading::bind, crate::specs::GrammarReading::separated_at))]
 fn next_parameter(alloc: Global, r: &mut Reader<'_>, count: usize) -> Result<Parameter, Stop>
     ensures value { Answers (λ p. p) result r.new (next_parameter_at count r.old) }
-    ensures few { IfOk result (λ _. count < 16) }
+    ensures few { IfOk result (λ _. count < max_parameters) }
 {
     if count == 0 {
         return parameter(alloc, r, count);

@@ -1,5 +1,6 @@
 // The grammar of a library text.
 ghost use Rattle.std.specs.Prelude.{◌≡◌, ◌-◌, ◌+◌, ◌<◌, ◌^◌, length, map, IfOk};
+ghost use Rattle.oa_model.specs.Limits.{max_members};
 ghost use Rattle.oa_idl.specs.declared.sign.Sign.TheVariants as signs;
 ghost use Rattle.oa_idl.specs.Forms.{nowhere};
 ghost use Rattle.oa_idl.specs.Words.{word_of, passes};
@@ -55,7 +56,7 @@ pub(crate) fn value_type(r: &mut Reader<'_>) -> Result<ValueType, Stop>
 #[tactic(auto, unfolding(crate::specs::Reading::bind, crate::specs::Reading::give, crate::specs::GrammarReading::property_at))]
 fn property(alloc: Global, r: &mut Reader<'_>, count: usize) -> Result<Property, Stop>
     ensures value { Answers (λ p. p) result r.new (property_at count r.old) }
-    ensures few { IfOk result (λ _. count < 512) }
+    ensures few { IfOk result (λ _. count < max_members) }
 {
     let head = property_head(r)?;
     let value_type = value_type(r)?;

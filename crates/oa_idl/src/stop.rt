@@ -71,11 +71,16 @@ impl<T: Drop> From<AllocFailed<T>> for ParseError {
 
 /// A bound that a tree can break, and the text with it.
 #[derive(Clone, Copy)]
-pub(crate) enum TreeLimit {
+pub enum TreeLimit {
+    /// A name has at most 64 bytes.
     Name,
+    /// A library has at most 256 interfaces.
     Interfaces,
+    /// A library has at most 256 coclasses.
     Coclasses,
+    /// An interface has at most 512 members, a get and a put counting as two.
     Members,
+    /// A member has at most 16 parameters, a put's new value counting as one.
     Params,
 }
 

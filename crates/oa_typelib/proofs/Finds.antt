@@ -1,10 +1,11 @@
 -- What the indexes of a library find.
-use Rattle.std.proofs.Common.{◌≡◌, ◌<◌, ◌≤◌, ◌+◌, ℕ, suc, Bool, List, [], ◌∷◌, ◌++◌, length, map, take, drop, get_or, slice_get, position, find, Option, None, Some, true, refl, sym, ap, ◌∙◌, arith, add-one}
+use Rattle.std.proofs.Common.{◌≡◌, ◌<◌, ◌≤◌, ◌+◌, ℕ, suc, Bool, List, [], ◌∷◌, ◌++◌, length, map, take, drop, get_or, slice_get, position, find, Option, None, Some, true, false, refl, sym, ap, ◌∙◌, arith, add-one}
 use Rattle.std.proofs.Math.Seq.{drop-cons}
 use Rattle.std.proofs.Math.ListN.{set}
 use Rattle.std.proofs.lemmas.List.{take_more, take_more_set, take_all, map-append, drop-set-lt}
 use Rattle.std.proofs.lemmas.Bool.Decides.{nat_tests}
-use Rattle.std.specs.Option.{option_map, option_and_then, option_or}
+use Rattle.std.proofs.lemmas.Option.{slice_get-map}
+use Rattle.std.specs.Option.{option_map, option_map_or, option_and_then, option_or, unwrap_or}
 use Rattle.oa_model.specs.Folding.{folded_name}
 use Rattle.std.specs.Prelude.{nat_le, if◌then◌else◌}
 use Rattle.oa_idl.specs.Trees.{TreeValue}
@@ -12,10 +13,11 @@ use Rattle.oa_idl.specs.Canonical.{canonical}
 use Rattle.oa_idl.specs.declared.parts.Entry.{Entry}
 use Rattle.oa_idl.specs.declared.items.Item.{Item}
 use Rattle.oa_idl.specs.declared.items.Item.TheVariants.{Interface, Coclass}
-use Rattle.oa_typelib.specs.Libraries.{same, name_of, guid_of, as_interface, as_class, interface_named, default_interface, marked_item, marked}
+use Rattle.oa_typelib.specs.Libraries.{same, name_of, guid_of, as_interface, as_class, has_interface, if_entered, interface_of, class_of, interface_named, default_interface, marked_item, marked}
 use Rattle.oa_typelib.specs.declared.fault.CheckError.TheVariants.{TextTooLong}
 use Rattle.oa_typelib.specs.Breaches.{text_breach}
-use Rattle.oa_typelib.specs.Indexes.{default_in, folded_names}
+use Rattle.oa_idl.specs.Values.{InterfaceValue, CoclassValue}
+use Rattle.oa_typelib.specs.Indexes.{default_in, folded_names, enters, entered_in, flag_at, flag_of}
 use Rattle.oa_typelib.proofs.Lists.{position_finds}
 use Rattle.oa_typelib.proofs.Passes.{interface_by_place}
 
@@ -85,3 +87,40 @@ no_breach_before a b is = rw is refl
 
 pub short_text : (bs : List ℕ) → nat_le (length bs) 262144 ≡ true → length bs ≤ 262144
 short_text bs h = grind (arith, nat_tests)
+
+-- ---- the interface at a place, where an entry of a coclass names it
+pub never : (k : Option CoclassValue) → None ≡ option_and_then (λ c. option_and_then (if_entered c) None) k
+never None = refl
+never (Some c) = refl
+
+here : (c : CoclassValue) (i : InterfaceValue) (o : Option Item) → Some i ≡ option_and_then as_interface o → unwrap_or (option_map (enters c) (option_map (λ x. folded_name (name_of x)) o)) false ≡ has_interface c i
+here c i None e = absurd (cc)
+here c i (Some (Interface d)) e = let is : d ≡ i = cc in rw is refl
+here c i (Some (Coclass d)) e = absurd (cc)
+
+flag_is : (items : List Item) (place : ℕ) (i : InterfaceValue) (k : Option Item) → Some i ≡ option_and_then as_interface (slice_get items place) → flag_of (option_map (entered_in (folded_names items)) k) place ≡ option_map_or (λ c. has_interface c i) (option_and_then as_class k) false
+flag_is items place i None e = refl
+flag_is items place i (Some (Interface d)) e = refl
+flag_is items place i (Some (Coclass c)) e =
+    ap (λ o. unwrap_or o false) (slice_get-map (enters c) (folded_names items) place ∙ ap (option_map (enters c)) (slice_get-map (λ (x : Item). folded_name (name_of x)) items place))
+    ∙ here c i (slice_get items place) e
+
+when : (i : InterfaceValue) (k : Option CoclassValue) (b : Bool) → option_map_or (λ c. has_interface c i) k false ≡ b → (if b then Some i else None) ≡ option_and_then (λ c. if_entered c i) k
+when i None true e = absurd (cc)
+when i None false e = refl
+when i (Some c) b e = rw e refl
+
+pub chosen : (items : List Item) (class place : ℕ) (i : InterfaceValue) (b : Bool) → Some i ≡ option_and_then as_interface (slice_get items place) → b ≡ flag_at (map (entered_in (folded_names items)) items) class place
+    → (if b then Some i else None) ≡ option_and_then (λ c. option_and_then (if_entered c) (option_and_then as_interface (slice_get items place))) (option_and_then as_class (slice_get items class))
+chosen items class place i b at flag =
+    when i (option_and_then as_class (slice_get items class)) b
+    (sym (flag_is items place i (slice_get items class) at) ∙ ap (λ o. flag_of o place) (sym (slice_get-map (entered_in (folded_names items)) items class)) ∙ sym flag)
+    ∙ ap (λ o. option_and_then (λ c. option_and_then (if_entered c) o) (option_and_then as_class (slice_get items class))) at
+
+-- the same by GUIDs
+pub by_places : (t : TreeValue) (class interface : List ℕ) (m n : Option ℕ) → m ≡ position (λ (i : Item). same class (guid_of i)) t.items → n ≡ position (λ (i : Item). same interface (guid_of i)) t.items
+    → option_and_then (λ c. option_and_then (if_entered c) (option_and_then as_interface (option_and_then (slice_get t.items) n))) (option_and_then as_class (option_and_then (slice_get t.items) m)) ≡ option_and_then (λ c. option_and_then (if_entered c) (interface_of t interface)) (class_of t class)
+by_places t class interface m n e f =
+    sym
+    (ap (λ o. option_and_then (λ c. option_and_then (if_entered c) o) (class_of t class)) (found_by_place as_interface (λ (i : Item). same interface (guid_of i)) t.items n f)
+    ∙ ap (option_and_then (λ c. option_and_then (if_entered c) (option_and_then as_interface (option_and_then (slice_get t.items) n)))) (found_by_place as_class (λ (i : Item). same class (guid_of i)) t.items m e))

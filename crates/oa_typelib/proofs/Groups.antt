@@ -1,5 +1,5 @@
 -- The keys of a list, each once, with the places at which it stands.
-use Rattle.std.proofs.Common.{◌≡◌, ◌<◌, ◌+◌, ℕ, zero, suc, Bool, true, false, cond, not, ◌||◌, List, [], ◌∷◌, ◌++◌, length, map, fold, find, position, slice_get, Option, None, Some, refl, sym, ap, ◌∙◌, true≢false, nat_lt, take, get_or, ◌≤◌, if◌then◌else◌, arith}
+use Rattle.std.proofs.Common.{◌≡◌, ◌<◌, ◌+◌, ℕ, zero, suc, Bool, true, false, cond, not, ◌||◌, List, [], ◌∷◌, ◌++◌, length, map, fold, find, position, slice_get, Option, None, Some, is_some, refl, sym, ap, ◌∙◌, true≢false, nat_lt, take, get_or, ◌≤◌, if◌then◌else◌, arith}
 use Rattle.std.proofs.lemmas.Bool.Decides.{nat_tests}
 use Rattle.std.proofs.lemmas.List.{append-nil, map-append, take_more}
 use Rattle.std.proofs.lemmas.List.Sums.{fold-append}
@@ -251,3 +251,17 @@ module _ {K : Type 0} (eq : K → K → Bool) (laws : IsEquivalence eq) where
         ∙ ap (map (λ k. places_of eq k (map key (take i xs) ++ key x ∷ []))) (distinct_more eq (map key (take i xs)) (key x))
         ∙ grows (map key (take i xs)) (key x)
         ∙ ap (λ n. with_place (position_or_len (eq (key x)) (distinct eq (map key (take i xs)))) n (map (λ k. places_of eq k (map key (take i xs))) (distinct eq (map key (take i xs))))) turn_length
+
+-- whether a key has a place
+any_first : (b : Bool) (ns : List ℕ) → is_some (slice_get (if b then zero ∷ map (λ n. suc n) ns else map (λ n. suc n) ns) 0) ≡ (b || is_some (slice_get ns 0))
+any_first true ns = refl
+any_first false [] = refl
+any_first false (n ∷ ns) = refl
+
+any_of_places : {K : Type 0} (eq : K → K → Bool) (k : K) (ks : List K) → is_some (slice_get (places_of eq k ks) 0) ≡ list_any (eq k) ks
+unfolding places_of
+any_of_places eq k [] = refl
+any_of_places eq k (x ∷ xs) = any_first (eq k x) (places_of eq k xs) ∙ ap (λ b. eq k x || b) (any_of_places eq k xs)
+
+pub any_place : {K : Type 0} (eq : K → K → Bool) (k : K) (ks : List K) → is_some (position (eq k) ks) ≡ list_any (eq k) ks
+any_place eq k ks = ap is_some (sym (first_place eq k ks)) ∙ any_of_places eq k ks

@@ -1,5 +1,7 @@
+pub mod Classes
 pub mod Entries
 pub mod Finds
+pub mod Found
 pub mod Groups
 pub mod Kept
 pub mod Lists
@@ -7,8 +9,8 @@ pub mod Looks
 pub mod MarkedTrees
 pub mod Named
 pub mod Passes
-mod Typed
 pub mod Rules
+pub mod Sound
 pub mod TakenNames
 pub mod TypedTrees
 pub mod Units

@@ -1,5 +1,5 @@
 -- What the index of an interface finds.
-use Rattle.std.proofs.Common.{◌≡◌, ◌≤◌, ◌-◌, ◌++◌, ◌∷◌, [], zero, suc, length, arith, append_assoc, if◌then◌else◌, Option, Some, None, ℕ, ℤ, Bool, true, false, List, Bor, Vec, Global, map, fold, position, slice_get, refl, sym, ap, ◌∙◌}
+use Rattle.std.proofs.Common.{◌≡◌, ◌≤◌, ◌-◌, ◌++◌, ◌∷◌, [], zero, suc, length, arith, append_assoc, if◌then◌else◌, Option, Some, None, is_some, ℕ, ℤ, Bool, true, false, List, Bor, Vec, Global, map, fold, position, slice_get, refl, sym, ap, ◌∙◌}
 use Rattle.std.proofs.lemmas.Cmp.{int_eq_equiv, nat_list_eq_equiv}
 use Rattle.std.proofs.lemmas.Option.{slice_get-map}
 use Rattle.std.specs.Option.{option_map, option_and_then}
@@ -9,17 +9,19 @@ use Rattle.std.specs.Ordering.{int_eq}
 use Rattle.oa_model.specs.Folding.{folded_name}
 use Rattle.indexmap.specs.IndexSet.{insert_key}
 use Rattle.oa_idl.specs.Values.{InterfaceValue, CoclassValue}
+use Rattle.oa_variant.specs.declared.scalar.Scalar.{Scalar}
 use Rattle.oa_idl.specs.Trees.{TreeValue}
+use Rattle.oa_idl.specs.declared.parts.Entry.{Entry}
 use Rattle.oa_typelib.specs.DeclarationValues.{DeclarationValue}
 use Rattle.oa_typelib.specs.Declarations.{declarations}
 use Rattle.oa_typelib.specs.DescriptionValues.ContentDescription.{OfCoclass}
 use Rattle.oa_typelib.specs.Descriptions.{first_names, put_last, members_described, entry_at, entry_description, interfaces_of, classes_of, interface_description, class_description, description_at}
-use Rattle.oa_typelib.specs.Groups.{distinct, groups_of, places_of, places_in}
+use Rattle.oa_typelib.specs.Groups.{GroupsValue, distinct, groups_of, places_of, places_in}
 use Rattle.oa_typelib.specs.IndexValues.{MembersValue, IndexValue}
-use Rattle.oa_typelib.specs.Indexes.{grouped, first_in, entry_in, class_in}
+use Rattle.oa_typelib.specs.Indexes.{grouped, defaults_of, enters, first_in, entry_in, class_in}
 use Rattle.oa_typelib.specs.Libraries.{same, same_name}
-use Rattle.oa_typelib.proofs.Groups.{at_places, first_place, group_of}
-use Rattle.oa_typelib.proofs.Lists.{insert_key-map, position-map}
+use Rattle.oa_typelib.proofs.Groups.{any_place, at_places, first_place, group_of}
+use Rattle.oa_typelib.proofs.Lists.{insert_key-map, list_any-map, position-map}
 use Rattle.oa_typelib.proofs.Named.{map_twice}
 
 module _ (m : MembersValue) (ds : List DeclarationValue) (is : m ≡ grouped ds) where
@@ -38,8 +40,18 @@ module _ (m : MembersValue) (ds : List DeclarationValue) (is : m ≡ grouped ds)
       ∙ at_places same (λ (d : DeclarationValue). folded_name d.name) name ds
 
 -- ---- the members by names that are gathered
-abbrev pub grouped_by : List (List ℕ) → List ℤ → MembersValue
-grouped_by names ids = record { by_name = groups_of same names; by_id = groups_of int_eq ids }
+abbrev pub grouped_by : List (List ℕ) → List ℤ → List (List (Option Scalar)) → MembersValue
+grouped_by names ids defaults = record { by_name = groups_of same names; by_id = groups_of int_eq ids; defaults = defaults }
+
+-- the defaults that are kept for the declaration at a place
+same_inside : {X : Type 0} (x y : X) → Some x ≡ Some y → x ≡ y
+same_inside x y e = cc
+
+pub kept_at : (ds : List DeclarationValue) (vs : List (Vec (Option Scalar) Global)) (n : ℕ) (d : DeclarationValue) (v : Vec (Option Scalar) Global) → map (λ (xs : Vec (Option Scalar) Global). xs.items) vs ≡ map defaults_of ds → Some d ≡ slice_get ds n → Some v ≡ slice_get vs n → v.items ≡ defaults_of d
+kept_at ds vs n d v kept here there =
+    same_inside v.items (defaults_of d)
+    (ap (option_map (λ (xs : Vec (Option Scalar) Global). xs.items)) there ∙ sym (slice_get-map (λ (xs : Vec (Option Scalar) Global). xs.items) vs n)
+    ∙ ap (λ (ys : List (List (Option Scalar))). slice_get ys n) kept ∙ slice_get-map defaults_of ds n ∙ sym (ap (option_map defaults_of) here))
 
 -- names that were gathered, folded
 pub names_folded : {Y : Type 0} (name : Y → List ℕ) (ns : List (Bor (List ℕ))) (ys : List Y) → map (λ (n : Bor (List ℕ)). n.now) ns ≡ map name ys → map (λ (n : Bor (List ℕ)). folded_name n.now) ns ≡ map (λ y. folded_name (name y)) ys
@@ -83,14 +95,32 @@ in_order i groups is =
     ∙ ap (flat_map (λ name. of_key (folded_name name))) (distinct_from [] names)
 
 -- ---- interfaces by names that are gathered
-abbrev pub indexed_by : List MembersValue → List (List ℕ) → IndexValue
-indexed_by members names = record { members = members; interfaces = groups_of same names }
+abbrev pub indexed_by : List MembersValue → List (List ℕ) → List (List Bool) → IndexValue
+indexed_by members names entered = record { members = members; interfaces = groups_of same names; entered = entered }
+
+-- the first place of a name
+first_of : (names : List (List ℕ)) (key : List ℕ) → first_in (groups_of same names) key ≡ position (same key) names
+first_of names key = ap (λ ps. slice_get ps 0) (group_of same nat_list_eq_equiv key names) ∙ first_place same key names
 
 -- the place of the interface with a name
 by_name : (is : List InterfaceValue) (name : List ℕ) → first_in (groups_of same (map (λ (i : InterfaceValue). folded_name i.name) is)) (folded_name name) ≡ position (λ (i : InterfaceValue). same_name name i.name) is
-by_name is name =
-    let names = map (λ (i : InterfaceValue). folded_name i.name) is in
-    ap (λ ps. slice_get ps 0) (group_of same nat_list_eq_equiv (folded_name name) names) ∙ first_place same (folded_name name) names ∙ position-map (λ (i : InterfaceValue). folded_name i.name) (same (folded_name name)) is
+by_name is name = first_of (map (λ (i : InterfaceValue). folded_name i.name) is) (folded_name name) ∙ position-map (λ (i : InterfaceValue). folded_name i.name) (same (folded_name name)) is
+
+-- ---- which items the entries of a coclass name
+turned : (key : List ℕ) (es : List Entry) → list_any (λ (e : Entry). same key (folded_name e.interface)) es ≡ list_any (λ (e : Entry). same (folded_name e.interface) key) es
+turned key [] = refl
+turned key (e ∷ es) = rw (nat_list_eq_equiv.symm key (folded_name e.interface), turned key es) refl
+
+is_entered : (c : CoclassValue) (key : List ℕ) → is_some (first_in (groups_of same (map (λ (e : Entry). folded_name e.interface) c.entries)) key) ≡ enters c key
+is_entered c key =
+    let names = map (λ (e : Entry). folded_name e.interface) c.entries in
+    ap is_some (first_of names key) ∙ any_place same key names ∙ list_any-map (λ (e : Entry). folded_name e.interface) (same key) c.entries ∙ turned key c.entries
+
+pub all_flags : (c : CoclassValue) (groups : GroupsValue (List ℕ)) (keys : List (Vec ℕ Global)) → groups ≡ groups_of same (map (λ (e : Entry). folded_name e.interface) c.entries) → map (λ (k : Vec ℕ Global). is_some (first_in groups k.items)) keys ≡ map (enters c) (map (λ (k : Vec ℕ Global). k.items) keys)
+all_flags c groups [] is = refl
+all_flags c groups (k ∷ ks) is =
+    let first = ap (λ g. is_some (first_in g k.items)) is ∙ is_entered c k.items in
+    rw first (ap (λ (bs : List Bool). enters c k.items ∷ bs) (all_flags c groups ks is))
 
 filter_map-same : {X Y : Type 0} (f g : X → Option Y) → ((x : X) → f x ≡ g x) → (xs : List X) → filter_map f xs ≡ filter_map g xs
 filter_map-same f g e [] = refl

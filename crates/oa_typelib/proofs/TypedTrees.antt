@@ -1,5 +1,5 @@
 -- In the tree of a text each declaration has types that may be declared, also when its defaults are marked.
-use Rattle.std.proofs.Common.{◌≡◌, ◌==◌, refl, sym, subst, ⊎_elim, ℕ, Bool, true, false, if◌then◌else◌, List, [], ◌∷◌, ◌++◌, map, Option, Some, None, is_some, IsSome, IfSome}
+use Rattle.std.proofs.Common.{◌≡◌, ◌==◌, slice_get, true≢false, refl, sym, subst, ⊎_elim, ℕ, Bool, true, false, if◌then◌else◌, List, [], ◌∷◌, ◌++◌, map, Option, Some, None, is_some, IsSome, IfSome}
 use Rattle.std.proofs.lemmas.Option.{none-some}
 use Rattle.std.specs.List.{AllByRecursion}
 use Rattle.oa_model.specs.Types.{sf_type_of}
@@ -7,12 +7,13 @@ use Rattle.oa_model.specs.declared.var_type.VarType.{VarType}
 use Rattle.oa_model.specs.declared.var_type.ValueType.{ValueType}
 use Rattle.oa_model.specs.declared.var_type.ValueType.TheVariants.{One, Array}
 use Rattle.oa_idl.specs.declared.lexer.Kind.TheVariants as kinds
-use Rattle.oa_idl.specs.Forms.{Word, Form, listed}
+use Rattle.oa_idl.specs.Forms.{Word, Form, listed, nowhere}
 use Rattle.oa_idl.specs.Words.{same_kind, type_of, type_named, if_cell}
-use Rattle.oa_idl.specs.Grammar.{value_type, property, result_type, parameter, separated, method, methods, members, item, Content, element, elements, items_in, library}
+use Rattle.oa_idl.specs.Grammar.{value_type, property, result_type, parameter, separated, method, methods, members, entry, entry_grow, last_entry, no_entry, item, Content, element, elements, items_in, library}
 use Rattle.oa_idl.specs.Grammar.Content.{Import, OfItem}
 use Rattle.oa_idl.specs.Trees.{TreeValue}
 use Rattle.oa_idl.specs.MethodValues.{MethodValue}
+use Rattle.oa_idl.specs.declared.parts.Entry.{Entry}
 use Rattle.oa_idl.specs.declared.parts.MethodKind.{MethodKind}
 use Rattle.oa_idl.specs.declared.parts.Parameter.{Parameter}
 use Rattle.oa_idl.specs.declared.parts.Property.{Property}
@@ -104,26 +105,41 @@ item_typed : (x : Item) (ws : List Word) → item x ws → IsTypedItem x
 item_typed (Interface d) ws f = let body = f.form.second.1 in members_typed d.properties d.methods body.second.second.second.front body.second.second.second.first
 item_typed (Coclass c) ws f = tt
 
-abbrev IsTypedContent : Content → Type 0
-IsTypedContent Import = Unit {0}
-IsTypedContent (OfItem x) = IsTypedItem x
+-- what holds of each item of the grammar holds of each of a tree
+module _ (P : Item → Type 0) (each : (x : Item) (ws : List Word) → item x ws → P x) where
+  abbrev OfContent : Content → Type 0
+  OfContent Import = Unit {0}
+  OfContent (OfItem x) = P x
 
-content_typed : (e : Content) (ws : List Word) → element e ws → IsTypedContent e
-unfolding element
-content_typed Import ws f = tt
-content_typed (OfItem x) ws f = item_typed x ws f
+  content_all : (e : Content) (ws : List Word) → element e ws → OfContent e
+  unfolding element
+  content_all Import ws f = tt
+  content_all (OfItem x) ws f = each x ws f
 
-items_typed : (es : List Content) → AllByRecursion IsTypedContent es → AllByRecursion IsTypedItem (items_in es)
-items_typed [] all = tt
-items_typed (Import ∷ es) all = items_typed es all.1
-items_typed (OfItem x ∷ es) all = (all.0, items_typed es all.1)
+  items_all : (es : List Content) → AllByRecursion OfContent es → AllByRecursion P (items_in es)
+  items_all [] all = tt
+  items_all (Import ∷ es) all = items_all es all.1
+  items_all (OfItem x ∷ es) all = (all.0, items_all es all.1)
 
-elements_typed : (xs : List Item) (ws : List Word) → elements xs ws → AllByRecursion IsTypedItem xs
-unfolding elements
-elements_typed xs ws f = subst (AllByRecursion IsTypedItem) (sym f.form.second.fact) (items_typed f.value (listed_all _ _ _ _ IsTypedContent (λ s. content_typed) _ f.value tt f.form.front f.form.first))
+  elements_all : (xs : List Item) (ws : List Word) → elements xs ws → AllByRecursion P xs
+  unfolding elements
+  elements_all xs ws f = subst (AllByRecursion P) (sym f.form.second.fact) (items_all f.value (listed_all _ _ _ _ OfContent (λ s. content_all) _ f.value tt f.form.front f.form.first))
 
-tree_typed : (t : TreeValue) (ws : List Word) → library t ws → IsTyped t
-tree_typed t ws f = elements_typed t.items f.second.second.second.second.front f.second.second.second.second.first
+  pub tree_all : (t : TreeValue) (ws : List Word) → library t ws → AllByRecursion P t.items
+  tree_all t ws f = elements_all t.items f.second.second.second.second.front f.second.second.second.second.first
+
+-- ---- a coclass has an entry
+some_entry : (es : List Entry) (ws : List Word) → listed entry entry_grow nowhere last_entry no_entry es tt ws → IsSome (slice_get es 0)
+some_entry [] ws l = absurd (true≢false (sym l.0))
+some_entry (e ∷ es) ws l = refl
+
+abbrev pub HasEntry : Item → Type 0
+HasEntry (Interface i) = Unit {0}
+HasEntry (Coclass c) = IsSome (slice_get c.entries 0)
+
+pub item_entered : (x : Item) (ws : List Word) → item x ws → HasEntry x
+item_entered (Interface i) ws f = tt
+item_entered (Coclass c) ws f = let body = f.form.second.1 in some_entry c.entries body.second.second.second.front body.second.second.second.first
 
 mark_typed : (items : List Item) → AllByRecursion IsTypedItem items → AllByRecursion IsTypedItem (map marked_item items)
 mark_typed [] all = tt
@@ -131,4 +147,4 @@ mark_typed (Interface i ∷ items) all = (all.0, mark_typed items all.1)
 mark_typed (Coclass c ∷ items) all = (tt, mark_typed items all.1)
 
 pub marked_typed : (t : TreeValue) → IsOfText t → IsTyped (marked t)
-marked_typed t of_text = mark_typed t.items (tree_typed t _ of_text.1.form)
+marked_typed t of_text = mark_typed t.items (tree_all IsTypedItem item_typed t _ of_text.1.form)

@@ -5,6 +5,7 @@ use Rattle.std.specs.List.{list_any}
 use Rattle.std.specs.Option.{option_map, option_and_then, option_or}
 use Rattle.std.specs.Ordering.{int_eq}
 use Rattle.oa_model.specs.Folding.{folded_name}
+use Rattle.oa_model.specs.Limits.{max_library_bytes}
 use Rattle.oa_model.specs.declared.var_type.ValueType.{ValueType}
 use Rattle.oa_model.specs.declared.var_type.ValueType.TheVariants.{One, Array}
 use Rattle.oa_idl.specs.Canonical.{canonical}
@@ -126,10 +127,10 @@ bad_default_in d = option_or (named_first (λ (p : Parameter). is_bad p.value_ty
 abbrev pub default_breach : List Item → Option (List ℕ)
 default_breach items = first_answer (in_interface (first_answer bad_default_in)) items
 
--- ---- the canonical text of the library is a library text, so it has at most 262,144 bytes
+-- ---- the canonical text of the library is a library text, so it is not too long
 
 unfoldable pub text_breach : TreeValue → Option CheckError
-text_breach tree = if nat_le (length (canonical (marked tree))) 262144 then None else Some TextTooLong
+text_breach tree = if nat_le (length (canonical (marked tree))) max_library_bytes then None else Some TextTooLong
 
 -- ---- the kinds in their order
 

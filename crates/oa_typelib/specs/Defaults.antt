@@ -1,7 +1,7 @@
 -- The value of a parameter's default, by the parameter's type (this project's choice).
 use Rattle.std.specs.Prelude.{ℕ, ℤ, pos, negsuc, Bool, true, false, nat_lt, nat_le, ◌*ℤ◌, ◌^◌, unsigned_abs, if◌then◌else◌, List, [], ◌∷◌, length, Option, Some, None}
 use Rattle.std.specs.Int.{is_negative}
-use Rattle.std.specs.Option.{option_map}
+use Rattle.std.specs.Option.{option_map, option_and_then}
 use Rattle.oa_model.specs.declared.var_type.VarType.{VarType}
 use Rattle.oa_model.specs.declared.var_type.VarType.TheVariants as types
 use Rattle.oa_model.specs.declared.var_type.ValueType.{ValueType}
@@ -11,6 +11,7 @@ use Rattle.oa_variant.specs.declared.scalar.Scalar.{Scalar}
 use Rattle.oa_variant.specs.declared.scalar.Scalar.TheVariants as scalars
 use Rattle.oa_idl.specs.declared.parts.Literal.{Literal}
 use Rattle.oa_idl.specs.declared.parts.Literal.TheVariants as literals
+use Rattle.oa_idl.specs.declared.parts.Parameter.{Parameter}
 
 -- a number from 0 to below a bound
 abbrev pub natural : ℕ → ℤ → Option ℕ
@@ -72,3 +73,7 @@ default_of (values.One t) (literals.Number z) = number_as t z
 default_of (values.One t) (literals.Text cs) = text_as t cs
 default_of (values.One t) (literals.Bool b) = truth_as t b
 default_of (values.Array t) l = None
+
+-- the value of a parameter's default; None where it has no default, or none of its type
+abbrev pub default_value : Parameter → Option Scalar
+default_value p = option_and_then (default_of p.value_type) p.default

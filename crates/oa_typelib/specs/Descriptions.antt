@@ -10,7 +10,7 @@ use Rattle.oa_idl.specs.declared.items.Item.{Item}
 use Rattle.oa_typelib.specs.Agreement.{is_optional}
 use Rattle.oa_typelib.specs.DeclarationValues.{DeclarationValue}
 use Rattle.oa_typelib.specs.Declarations.{declarations, is_put}
-use Rattle.oa_typelib.specs.Defaults.{default_of}
+use Rattle.oa_typelib.specs.Defaults.{default_value}
 use Rattle.oa_typelib.specs.DescriptionValues.{ParameterDescription, MemberDescription, EntryDescription, DescriptionValue}
 use Rattle.oa_typelib.specs.DescriptionValues.ContentDescription.{OfInterface, OfCoclass}
 use Rattle.oa_typelib.specs.Libraries.{as_interface, as_class, same_name}
@@ -18,7 +18,7 @@ use Rattle.oa_typelib.specs.Members.{forms_named}
 
 -- a parameter, with the value of its default
 abbrev pub parameter_description : Parameter → ParameterDescription
-parameter_description p = record { value_type = p.value_type; is_in = p.is_in; is_optional = is_optional p; name = p.name; default = option_and_then (default_of p.value_type) p.default }
+parameter_description p = record { value_type = p.value_type; is_in = p.is_in; is_optional = is_optional p; name = p.name; default = default_value p }
 
 -- a declaration as it is written, with the new value of a put among its parameters
 abbrev pub member_description : DeclarationValue → MemberDescription

@@ -1,7 +1,7 @@
 -- What a library keeps beside its tree, so that look-ups are quick.
-use Rattle.std.specs.Prelude.{◌≡◌, ℕ, Bool, not, if◌then◌else◌, List, [], Option, None, map, find, position, slice_get}
-use Rattle.std.specs.List.{filter_map}
-use Rattle.std.specs.Option.{option_and_then}
+use Rattle.std.specs.Prelude.{◌≡◌, ℕ, Bool, false, not, if◌then◌else◌, List, [], Option, Some, None, map, find, position, slice_get}
+use Rattle.std.specs.List.{filter_map, list_any}
+use Rattle.std.specs.Option.{option_and_then, unwrap_or}
 use Rattle.std.specs.Ordering.{int_eq}
 use Rattle.oa_model.specs.Folding.{folded_name}
 use Rattle.oa_idl.specs.Trees.{TreeValue}
@@ -10,9 +10,11 @@ use Rattle.oa_idl.specs.declared.parts.Entry.{Entry}
 use Rattle.oa_idl.specs.declared.items.Item.{Item}
 use Rattle.oa_idl.specs.declared.items.Item.TheVariants.{Interface, Coclass}
 use Rattle.oa_idl.specs.Canonical.{canonical}
+use Rattle.oa_variant.specs.declared.scalar.Scalar.{Scalar}
 use Rattle.oa_typelib.specs.declared.declaration.DeclarationKind.{DeclarationKind}
 use Rattle.oa_typelib.specs.DeclarationValues.{DeclarationValue}
 use Rattle.oa_typelib.specs.Declarations.{declarations, is_put}
+use Rattle.oa_typelib.specs.Defaults.{default_value}
 use Rattle.oa_typelib.specs.DescriptionValues.{EntryDescription, DescriptionValue}
 use Rattle.oa_typelib.specs.DescriptionValues.ContentDescription.{OfCoclass}
 use Rattle.oa_typelib.specs.Descriptions.{entry_at, interfaces_of}
@@ -29,17 +31,38 @@ default_in names (Coclass c) = option_and_then (λ (e : Entry). position (same (
 abbrev pub folded_names : List Item → List (List ℕ)
 folded_names items = map (λ i. folded_name (name_of i)) items
 
--- the declarations by their names, folded, and by their DISPIDs
+-- the values of the defaults of a declaration's parameters
+abbrev pub defaults_of : DeclarationValue → List (Option Scalar)
+defaults_of d = map default_value d.parameters
+
+-- the declarations by their names, folded, and by their DISPIDs, and their defaults
 abbrev pub grouped : List DeclarationValue → MembersValue
-grouped ds = record { by_name = groups_of same (map (λ (d : DeclarationValue). folded_name d.name) ds); by_id = groups_of int_eq (map (λ (d : DeclarationValue). d.id) ds) }
+grouped ds = record { by_name = groups_of same (map (λ (d : DeclarationValue). folded_name d.name) ds); by_id = groups_of int_eq (map (λ (d : DeclarationValue). d.id) ds); defaults = map defaults_of ds }
 
 abbrev pub members_in : Item → MembersValue
 members_in (Interface i) = grouped (declarations i)
 members_in (Coclass c) = grouped []
 
--- the members of each item, and the interfaces by their names, folded
+-- whether one of a coclass's entries has an item's name, which is given folded
+abbrev pub enters : CoclassValue → List ℕ → Bool
+enters c key = list_any (λ (e : Entry). same (folded_name e.interface) key) c.entries
+
+-- for each item whether one of a coclass's entries names it
+abbrev pub entered_in : List (List ℕ) → Item → List Bool
+entered_in names (Interface i) = []
+entered_in names (Coclass c) = map (enters c) names
+
+-- a flag in such lists
+abbrev pub flag_of : Option (List Bool) → ℕ → Bool
+flag_of None place = false
+flag_of (Some row) place = unwrap_or (slice_get row place) false
+
+abbrev pub flag_at : List (List Bool) → ℕ → ℕ → Bool
+flag_at rows class place = flag_of (slice_get rows class) place
+
+-- the members of each item, the interfaces by their names, folded, and which items each coclass names
 abbrev pub index_of : TreeValue → IndexValue
-index_of tree = record { members = map members_in tree.items; interfaces = groups_of same (map (λ (i : InterfaceValue). folded_name i.name) (interfaces_of tree.items)) }
+index_of tree = record { members = map members_in tree.items; entered = map (entered_in (folded_names tree.items)) tree.items; interfaces = groups_of same (map (λ (i : InterfaceValue). folded_name i.name) (interfaces_of tree.items)) }
 
 -- one of the two parts of a member's declarations: those that are puts, or those that are not
 abbrev pub is_put_or_not : Bool → DeclarationKind → Bool

@@ -1,5 +1,7 @@
 pub mod Agreement
+pub mod Bindable
 pub mod Breaches
+pub mod Checked
 pub mod Contents
 pub mod DeclarationValues
 pub mod Declarations
@@ -15,6 +17,7 @@ pub mod Libraries
 pub mod MemberChecks
 pub mod MemberValues
 pub mod Members
+pub mod MemberCodes
 pub mod NamedValues
 pub mod Names
 pub mod Repeats

@@ -1,18 +1,18 @@
 -- The members of an interface, and the form of one that a call asks for. A member is the declarations of one DISPID and of one name:
 -- one declaration, or a get and a put.
-use Rattle.std.specs.Prelude.{ℕ, ℤ, Bool, true, false, not, ◌&&◌, nat_eq, if◌then◌else◌, List, [], Option, Some, None, Result, Ok, Err, find, slice_get, is_some, bit_and}
+use Rattle.std.specs.Prelude.{ℕ, ℤ, Bool, true, false, not, ◌&&◌, nat_eq, if◌then◌else◌, List, Option, Some, None, Result, Ok, Err, find, slice_get, is_some, bit_and}
 use Rattle.std.specs.List.{filter}
-use Rattle.std.specs.Option.{option_map, option_map_or, option_or}
+use Rattle.std.specs.Option.{option_map, option_or}
 use Rattle.std.specs.Ordering.{int_eq}
+use Rattle.oa_model.specs.Invoke.{method_flag, get_flag, put_flag}
 use Rattle.oa_model.specs.declared.var_type.ValueType.{ValueType}
-use Rattle.oa_idl.specs.Trees.{TreeValue}
 use Rattle.oa_idl.specs.Values.{InterfaceValue}
 use Rattle.oa_typelib.specs.declared.declaration.DeclarationKind.{DeclarationKind}
 use Rattle.oa_typelib.specs.declared.declaration.DeclarationKind.TheVariants as declared
 use Rattle.oa_typelib.specs.DeclarationValues.{DeclarationValue}
 use Rattle.oa_typelib.specs.Declarations.{declarations, own_parameters, type_of_value}
 use Rattle.oa_typelib.specs.MemberValues.{MemberValue}
-use Rattle.oa_typelib.specs.Libraries.{interface_of, same_name}
+use Rattle.oa_typelib.specs.Libraries.{same_name}
 use Rattle.oa_typelib.specs.declared.access.Access.{Access}
 use Rattle.oa_typelib.specs.declared.access.Access.TheVariants.{Flags, Get, Put}
 use Rattle.oa_typelib.specs.declared.access.Kind.{Kind}
@@ -54,13 +54,13 @@ property_of forms d t = record { id = d.id; name = d.name; value_type = t; param
 
 -- A call's flags (MS-OAUT section 3.1.4.4): DISPATCH_METHOD, DISPATCH_PROPERTYGET and DISPATCH_PROPERTYPUT.
 abbrev pub asks_method : ℕ → Bool
-asks_method flags = not (nat_eq (bit_and flags 1) 0)
+asks_method flags = not (nat_eq (bit_and flags method_flag) 0)
 
 abbrev pub asks_get : ℕ → Bool
-asks_get flags = not (nat_eq (bit_and flags 2) 0)
+asks_get flags = not (nat_eq (bit_and flags get_flag) 0)
 
 abbrev pub asks_put : ℕ → Bool
-asks_put flags = not (nat_eq (bit_and flags 4) 0)
+asks_put flags = not (nat_eq (bit_and flags put_flag) 0)
 
 -- The form of a property that a call asks for: with flags a put where that flag is set, else a get (this project's choice).
 abbrev pub kind_asked : Access → Option Kind
@@ -91,9 +91,15 @@ abbrev pub answer : Option DeclarationValue → List DeclarationValue → Access
 answer None forms access = Err MemberNotFound
 answer (Some d) forms access = if is_method d.kind then Err (method_fault access) else property_answer (option_map (property_of forms d) (type_of_value d)) access
 
--- The member of an interface that a call asks for, and its form. Without the interface there is none.
-abbrev pub forms_at : TreeValue → List ℕ → ℤ → List DeclarationValue
-forms_at tree guid id = option_map_or (forms_with id) (interface_of tree guid) []
+-- the property of these declarations, whatever form of it a call would ask for; None of a method
+abbrev pub property_with : Option DeclarationValue → List DeclarationValue → Option MemberValue
+property_with None forms = None
+property_with (Some d) forms = if is_method d.kind then None else option_map (property_of forms d) (type_of_value d)
 
-abbrev pub member_at : TreeValue → List ℕ → ℤ → Access → Result (MemberValue × Kind) MemberFault
-member_at tree guid id access = answer (main_form (forms_at tree guid id)) (forms_at tree guid id) access
+-- The member of an interface that a call asks for, and its form.
+abbrev pub member_in : InterfaceValue → ℤ → Access → Result (MemberValue × Kind) MemberFault
+member_in i id access = answer (main_form (forms_with id i)) (forms_with id i) access
+
+-- the property of an interface
+abbrev pub property_in : InterfaceValue → ℤ → Option MemberValue
+property_in i id = property_with (main_form (forms_with id i)) (forms_with id i)

@@ -1,14 +1,14 @@
 -- Which DISPIDs names have (MS-OAUT section 3.1.4.3): the first name is that of a member, the others are names of its parameters. Names are
 -- lists of UTF-16 units. A name is equal to a declared one where both are equal once A to Z are folded (this project's choice).
-use Rattle.std.specs.Prelude.{ℕ, ℤ, pos, negsuc, nat_lt, if◌then◌else◌, List, [], ◌∷◌, map, Option, Some, None, is_some, position}
+use Rattle.std.specs.Prelude.{ℕ, ℤ, pos, nat_lt, if◌then◌else◌, List, [], ◌∷◌, map, Option, Some, None, is_some, position}
 use Rattle.std.specs.List.{list_all}
-use Rattle.std.specs.Option.{option_and_then, option_map_or, unwrap_or}
-use Rattle.oa_idl.specs.Trees.{TreeValue}
+use Rattle.std.specs.Option.{option_and_then, unwrap_or}
+use Rattle.oa_model.specs.Invoke.{unknown_dispid}
 use Rattle.oa_idl.specs.Values.{InterfaceValue}
 use Rattle.oa_idl.specs.declared.parts.Parameter.{Parameter}
 use Rattle.oa_typelib.specs.DeclarationValues.{DeclarationValue}
 use Rattle.oa_typelib.specs.Declarations.{own_parameters}
-use Rattle.oa_typelib.specs.Libraries.{interface_of, same_name}
+use Rattle.oa_typelib.specs.Libraries.{same_name}
 use Rattle.oa_typelib.specs.Members.{forms_named, main_form}
 use Rattle.oa_typelib.specs.NamedValues.{DispIdsValue}
 
@@ -31,13 +31,13 @@ abbrev pub named_in : InterfaceValue → List (List ℕ) → List (Option ℤ)
 named_in i [] = []
 named_in i (name ∷ names) = ids_in (main_form (forms_named name i)) (name ∷ names)
 
--- DISPID_UNKNOWN is -1
+-- one that is not known has DISPID_UNKNOWN
 abbrev pub or_unknown : Option ℤ → ℤ
-or_unknown id = unwrap_or id (negsuc 0)
+or_unknown id = unwrap_or id unknown_dispid
 
 abbrev pub told : List (Option ℤ) → DispIdsValue
 told ids = record { ids = map or_unknown ids; all_known = list_all is_some ids }
 
--- The answer to names that are asked of an interface. Without the interface none is known.
-abbrev pub named_at : TreeValue → List ℕ → List (List ℕ) → DispIdsValue
-named_at tree guid names = told (option_map_or (λ i. named_in i names) (interface_of tree guid) (map (λ name. None) names))
+-- The answer to names that are asked of an interface.
+abbrev pub names_told : InterfaceValue → List (List ℕ) → DispIdsValue
+names_told i names = told (named_in i names)

@@ -3,6 +3,7 @@ ghost use Rattle.std.specs.Prelude.{◌≡◌};
 ghost use Rattle.oa_typelib.specs.Members.{is_method, kind_asked, lets, method_fault};
 
 use crate::declaration::DeclarationKind;
+use oa_model::{GET_FLAG, METHOD_FLAG, PUT_FLAG};
 use thiserror::Error;
 
 /// The form of a property that a call uses.
@@ -25,12 +26,6 @@ pub enum Access {
     Put,
 }
 
-const METHOD: u16 = 1;
-
-const PROPERTY_GET: u16 = 2;
-
-const PROPERTY_PUT: u16 = 4;
-
 impl Access {
     /// The form of a property that is asked for. With flags: a put where PROPERTYPUT is set, else a get where PROPERTYGET is set, else
     /// None. Other bits are ignored.
@@ -39,9 +34,9 @@ impl Access {
     {
         match self {
             Access::Flags(flags) => {
-                if flags & PROPERTY_PUT != 0 {
+                if flags & PUT_FLAG != 0 {
                     Some(Kind::Put)
-                } else if flags & PROPERTY_GET != 0 {
+                } else if flags & GET_FLAG != 0 {
                     Some(Kind::Get)
                 } else {
                     None
@@ -58,7 +53,7 @@ impl Access {
     {
         match self {
             Access::Flags(flags) => {
-                if flags & METHOD != 0 && flags & PROPERTY_PUT == 0 {
+                if flags & METHOD_FLAG != 0 && flags & PUT_FLAG == 0 {
                     MemberFault::NotImplemented
                 } else {
                     MemberFault::MemberNotFound

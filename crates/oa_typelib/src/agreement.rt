@@ -53,7 +53,7 @@ fn same_default(a: &Option<Literal>, b: &Option<Literal>) -> bool
 }
 
 /// Whether it may be left out: it is optional, or it has a default.
-pub(crate) fn is_optional(parameter: &Parameter) -> bool
+pub fn is_optional(parameter: &Parameter) -> bool
     ensures { result ≡ is_optional parameter.now }
 {
     parameter.is_optional || parameter.default.is_some()

@@ -13,23 +13,16 @@ ghost use Rattle.oa_typelib.specs.declared.fault.CheckError.TheVariants.{Duplica
 use crate::declaration::{Declaration, declarations};
 use crate::fault::{CheckError, WrittenName};
 use crate::member_checks::{MemberCheck, check_members};
+use crate::names::folded;
 use crate::places::{interface_at, items_of};
 use crate::repeats::{Distinct, told_apart};
 use crate::sets::{Guids, Names};
 use crate::taken::Taken;
 use oa_idl::{Coclass, Entry, Interface, Item, Name, Parameter, Tree};
-use oa_model::fold;
 use std::alloc::{AllocError, Global};
 use uuid::Uuid;
 
-/// A name with A to Z folded.
-pub(crate) fn folded(alloc: Global, name: &Name) -> Result<Vec<u8>, AllocError>
-    ensures { IfOk result (λ v. v.items ≡ folded_name name.now) }
-{
-    name.as_bytes().iter().map(|b| fold(*b)).collect(alloc)
-}
-
-fn item_name(item: &Item) -> &Name
+pub(crate) fn item_name(item: &Item) -> &Name
     ensures { result.now ≡ name_of item.now }
 {
     match item {
@@ -47,7 +40,7 @@ fn item_guid(item: &Item) -> Uuid
     }
 }
 
-fn entry_names(alloc: Global, entries: &[Entry]) -> Result<Vec<&Name>, AllocError>
+pub(crate) fn entry_names(alloc: Global, entries: &[Entry]) -> Result<Vec<&Name>, AllocError>
     ensures { IfOk result (λ v. map (λ n. n.now) v.items ≡ map (λ e. e.interface) entries.now) }
 {
     let mut names = Vec::new(alloc);
@@ -67,7 +60,7 @@ fn parameter_names(alloc: Global, parameters: &[Parameter]) -> Result<Vec<&Name>
     Ok(names)
 }
 
-fn all_folded(alloc: Global, names: &[&Name]) -> Result<Vec<Vec<u8>>, AllocError>
+fn all_folded(alloc: Global, names: &[&Name]) -> Result<Vec<Vec<u16>>, AllocError>
     ensures { IfOk result (λ v. map (λ k. k.items) v.items ≡ map (λ n. folded_name n.now) names.now) }
 {
     let mut keys = Vec::new(alloc);

@@ -1,9 +1,12 @@
 // What an interface declares.
 ghost use Rattle.std.specs.Prelude.{◌≡◌, ◌++◌, IfOk, OnOk, map, option_copied, slice_get};
 ghost use Rattle.oa_typelib.specs.Declarations.{kind_of_property, kind_of_method, of_property, of_method, declarations, is_put, is_form, are_one_member, own_parameters, new_value, type_of_value};
+ghost use Rattle.oa_typelib.specs.Defaults.{default_value};
+ghost use Rattle.oa_typelib.specs.Indexes.{defaults_of};
 
 use oa_idl::{Interface, Method, MethodKind, Name, Parameter, Property};
 use oa_model::ValueType;
+use oa_variant::Scalar;
 use std::alloc::{AllocError, Global};
 use std::marker::Model;
 
@@ -123,6 +126,18 @@ impl<'a> Declaration<'a> {
             &self.parameters[..self.parameters.len().saturating_sub(1)]
         } else {
             self.parameters
+        }
+    }
+
+    /// The values of its parameters' defaults without that of a put's new value.
+    pub(crate) fn own_values<'b>(&self, defaults: &'b [Option<Scalar>]) -> &'b [Option<Scalar>]
+        requires { defaults.now ≡ defaults_of self.now }
+        ensures { result.now ≡ map default_value (own_parameters self.now) }
+    {
+        if self.kind.is_put() {
+            &defaults[..defaults.len().saturating_sub(1)]
+        } else {
+            defaults
         }
     }
 

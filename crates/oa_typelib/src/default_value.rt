@@ -1,9 +1,9 @@
 // The defaults of parameters.
 ghost use Rattle.std.specs.Prelude.{◌≡◌, ◌*ℤ◌, pos, IfOk, is_some};
-ghost use Rattle.oa_typelib.specs.Defaults.{natural, whole, decimal_from, number_as, wide, holds_texts, text_as, holds_truths, truth_as, default_of};
+ghost use Rattle.oa_typelib.specs.Defaults.{natural, whole, decimal_from, number_as, wide, holds_texts, text_as, holds_truths, truth_as, default_of, default_value};
 
 use oa_bstr::{Bstr, BstrError};
-use oa_idl::{Characters, Literal};
+use oa_idl::{Characters, Literal, Parameter};
 use oa_model::{ValueType, VarType};
 use oa_variant::{Decimal, Scalar};
 use std::alloc::{AllocError, Global};
@@ -174,5 +174,18 @@ pub(crate) fn default_value(
         } else {
             None
         }),
+    }
+}
+
+/// The value of a parameter's default. None where it has no default, or none of its type.
+pub(crate) fn value_of_default(
+    alloc: Global,
+    parameter: &Parameter,
+) -> Result<Option<Scalar>, AllocError>
+    ensures { IfOk result (λ value. value ≡ default_value parameter.now) }
+{
+    match &parameter.default {
+        Some(default) => default_value(alloc, parameter.value_type, default),
+        None => Ok(None),
     }
 }

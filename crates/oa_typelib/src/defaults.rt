@@ -6,7 +6,7 @@ ghost use Rattle.oa_model.specs.Folding.{folded_name};
 ghost use Rattle.oa_typelib.specs.Libraries.{same, marked_entries, marked_item, marked};
 ghost use Rattle.oa_typelib.specs.Indexes.{default_in};
 
-use crate::checks::folded;
+use crate::names::folded;
 use crate::sets::Names;
 use oa_idl::{Entry, Item, Name, Tree};
 use std::alloc::{AllocError, Global};

@@ -3,20 +3,18 @@ ghost use Rattle.std.specs.Prelude.{◌≡◌, ◌++◌, if◌then◌else◌, So
 ghost use Rattle.std.specs.List.{filter, filter_map};
 ghost use Rattle.std.specs.Option.{option_and_then};
 ghost use Rattle.oa_typelib.specs.Declarations.{declarations};
-ghost use Rattle.oa_typelib.specs.Defaults.{default_of};
+ghost use Rattle.oa_typelib.specs.Defaults.{default_value};
 ghost use Rattle.oa_typelib.specs.Indexes.{class_in, entry_in, is_put_or_not};
 ghost use Rattle.oa_typelib.specs.Descriptions.{classes_of, entry_at, interface_description, interfaces_of, member_description, members_described, parameter_description, put_last};
 ghost use Rattle.oa_typelib.specs.Libraries.{as_interface};
 
 use crate::agreement::is_optional;
-use crate::declaration::{Declaration, DeclarationKind};
-use crate::default_value::default_value;
+use crate::declaration::DeclarationKind;
 use crate::described::{Content, DescribedEntry, DescribedMember, DescribedParameter};
-use crate::forms::declaration_at;
-use crate::members::{Index, Indexed};
-use crate::names::folded_units;
-use oa_idl::{Coclass, Entry, Interface, Item, Literal, Name, Parameter};
-use oa_model::ValueType;
+use crate::forms::Form;
+use crate::members::{Dispinterface, Index};
+use crate::names::folded;
+use oa_idl::{Coclass, Entry, Interface, Item, Name, Parameter};
 use oa_variant::Scalar;
 use std::alloc::{AllocError, Global};
 use std::marker::Model;
@@ -42,56 +40,44 @@ impl<'a> Model for Description<'a> {
     ghost view = { λ d. record { guid = d.guid; name = d.name.now; content = content_of d.content } };
 }
 
-fn value_of_default(
-    alloc: Global,
-    value_type: ValueType,
-    default: &Option<Literal>,
-) -> Result<Option<Scalar>, AllocError>
-    ensures { IfOk result (λ value. value ≡ option_and_then (default_of value_type) default.now) }
+fn parameter<'a>(parameter: &'a Parameter, default: &'a Option<Scalar>) -> DescribedParameter<'a>
+    requires { default.now ≡ default_value parameter.now }
+    ensures { result ≡ parameter_description parameter.now }
 {
-    match default {
-        Some(literal) => default_value(alloc, value_type, literal),
-        None => Ok(None),
-    }
-}
-
-fn parameter(alloc: Global, parameter: &Parameter) -> Result<DescribedParameter<'_>, AllocError>
-    ensures { IfOk result (λ p. p ≡ parameter_description parameter.now) }
-{
-    Ok(DescribedParameter {
+    DescribedParameter {
         value_type: parameter.value_type,
         is_in: parameter.is_in,
         is_optional: is_optional(parameter),
         name: &parameter.name,
-        default: value_of_default(alloc, parameter.value_type, &parameter.default)?,
-    })
+        default: default.as_ref(),
+    }
 }
 
-fn parameters(
+fn parameters<'a>(
     alloc: Global,
-    parameters: &[Parameter],
-) -> Result<Vec<DescribedParameter<'_>>, AllocError>
+    parameters: &'a [Parameter],
+    defaults: &'a [Option<Scalar>],
+) -> Result<Vec<DescribedParameter<'a>>, AllocError>
+    requires { defaults.now ≡ map default_value parameters.now }
     ensures { IfOk result (λ v. v.items ≡ map parameter_description parameters.now) }
 {
     let mut all = Vec::new(alloc);
-    for one in parameters {
-        all.push(parameter(alloc, one)?)?;
+    'parameters: for place in 0..parameters.len() {
+        all.push(parameter(&parameters[place], &defaults[place]))?;
     }
     Ok(all)
 }
 
-fn member<'a>(
-    alloc: Global,
-    declaration: &Declaration<'a>,
-) -> Result<DescribedMember<'a>, AllocError>
-    ensures { IfOk result (λ m. m ≡ member_description declaration.now) }
+fn member<'a>(alloc: Global, form: &Form<'a>) -> Result<DescribedMember<'a>, AllocError>
+    ensures { IfOk result (λ m. m ≡ member_description form.now) }
 {
+    let declaration = &form.declaration;
     Ok(DescribedMember {
         id: declaration.id,
         kind: declaration.kind,
         value_type: declaration.value_type,
         name: declaration.name,
-        parameters: parameters(alloc, declaration.parameters)?,
+        parameters: parameters(alloc, declaration.parameters, form.defaults())?,
     })
 }
 
@@ -102,11 +88,11 @@ fn is_put_or_not(kind: DeclarationKind, puts: bool) -> bool
 }
 
 /// The declaration at a place where it is a put, or where it is not.
-fn form_at(interface: &Interface, place: usize, puts: bool) -> Option<Declaration<'_>>
+fn form_at<'a>(interface: &Dispinterface<'a>, place: usize, puts: bool) -> Option<Form<'a>>
     ensures { result ≡ option_and_then (λ d. if is_put_or_not puts d.kind then Some d else None) (slice_get (declarations interface.now) place) }
 {
-    let form = declaration_at(interface, place)?;
-    if is_put_or_not(form.kind, puts) {
+    let form = interface.form(place)?;
+    if is_put_or_not(form.declaration.kind, puts) {
         Some(form)
     } else {
         None
@@ -117,7 +103,7 @@ fn form_at(interface: &Interface, place: usize, puts: bool) -> Option<Declaratio
 fn add_forms<'a>(
     alloc: Global,
     members: &mut Vec<DescribedMember<'a>>,
-    interface: &'a Interface,
+    interface: &Dispinterface<'a>,
     places: &[usize],
     puts: bool,
 ) -> Result<(), AllocError>
@@ -135,7 +121,7 @@ fn add_forms<'a>(
 fn add_member<'a>(
     alloc: Global,
     members: &mut Vec<DescribedMember<'a>>,
-    interface: &'a Interface,
+    interface: &Dispinterface<'a>,
     places: &[usize],
 ) -> Result<(), AllocError>
     ensures { OnOk result (members.new.items ≡ members.old.items ++ map member_description (put_last (filter_map (slice_get (declarations interface.now)) places.now))) }
@@ -146,14 +132,14 @@ fn add_member<'a>(
 
 fn members<'a>(
     alloc: Global,
-    interface: &Indexed<'a>,
+    interface: &Dispinterface<'a>,
 ) -> Result<Vec<DescribedMember<'a>>, AllocError>
     ensures { IfOk result (λ v. v.items ≡ map member_description (members_described interface.now)) }
 {
     let mut members = Vec::new(alloc);
     let groups = interface.groups();
     for places in groups {
-        add_member(alloc, &mut members, interface.interface, places.as_slice())?;
+        add_member(alloc, &mut members, interface, places.as_slice())?;
     }
     Ok(members)
 }
@@ -161,11 +147,11 @@ fn members<'a>(
 /// The description of an interface.
 pub(crate) fn interface_description<'a>(
     alloc: Global,
-    interface: &Indexed<'a>,
+    interface: &Dispinterface<'a>,
 ) -> Result<Description<'a>, AllocError>
     ensures { IfOk result (λ d. d ≡ interface_description interface.now) }
 {
-    let described: &'a Interface = interface.interface;
+    let described: &'a Interface = interface.interface();
     Ok(Description {
         guid: described.guid,
         name: &described.name,
@@ -186,7 +172,7 @@ fn entry_at(is_default: bool, interface: usize) -> Option<DescribedEntry>
 fn entry(alloc: Global, index: &Index, entry: &Entry) -> Result<Option<DescribedEntry>, AllocError>
     ensures { IfOk result (λ e. e ≡ entry_in index.now.interfaces entry.now) }
 {
-    let name = folded_units(alloc, &entry.interface)?;
+    let name = folded(alloc, &entry.interface)?;
     let Some(interface) = index.interface(name.as_slice()) else {
         return Ok(None);
     };

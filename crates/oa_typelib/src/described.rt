@@ -22,15 +22,16 @@ pub struct DescribedParameter<'a> {
     /// Its name as it is written.
     pub name: &'a Name,
     /// The value of its default (PARAMFLAG_FHASDEFAULT), of its declared type; for VARIANT an I4, a text or a truth value.
-    pub default: Option<Scalar>,
+    pub default: Option<&'a Scalar>,
 }
 
 impl<'a> Model for DescribedParameter<'a> {
+    ghost use Rattle.std.specs.Prelude.{option_copied};
     ghost use Rattle.oa_typelib.specs.DescriptionValues.{ParameterDescription};
 
     ghost Value = { ParameterDescription };
 
-    ghost view = { λ p. record { value_type = p.value_type; is_in = p.is_in; is_optional = p.is_optional; name = p.name.now; default = p.default } };
+    ghost view = { λ p. record { value_type = p.value_type; is_in = p.is_in; is_optional = p.is_optional; name = p.name.now; default = option_copied p.default } };
 }
 
 /// A declaration of an interface: a property of `properties:`, or a method, a get or a put of `methods:`.

@@ -1,12 +1,16 @@
 // The declarations of a member.
-ghost use Rattle.std.specs.Prelude.{◌≡◌, slice_get};
+ghost use Rattle.std.specs.Prelude.{◌≡◌, map, slice_get};
 ghost use Rattle.std.specs.List.{filter_map};
-ghost use Rattle.oa_typelib.specs.Declarations.{declarations};
+ghost use Rattle.oa_typelib.specs.Declarations.{declarations, own_parameters};
+ghost use Rattle.oa_typelib.specs.Defaults.{default_value};
+ghost use Rattle.oa_typelib.specs.Indexes.{defaults_of};
 ghost use Rattle.oa_typelib.specs.Members.{form_for, main_form};
 
 use crate::access::Kind;
 use crate::declaration::Declaration;
+use crate::members::Dispinterface;
 use oa_idl::Interface;
+use oa_variant::Scalar;
 use std::marker::Model;
 
 /// The declaration of an interface at a place.
@@ -22,25 +26,70 @@ pub(crate) fn declaration_at(interface: &Interface, place: usize) -> Option<Decl
     }
 }
 
-fn first_at<'a>(interface: &'a Interface, places: &[usize]) -> Option<Declaration<'a>>
+/// A declaration with the values of its parameters' defaults.
+#[derive(Drop)]
+pub(crate) struct Form<'a> {
+    pub(crate) declaration: Declaration<'a>,
+    defaults: &'a [Option<Scalar>],
+}
+
+impl<'a> Model for Form<'a> {
+    ghost use Rattle.std.specs.Prelude.{◌≡◌};
+    ghost use Rattle.oa_typelib.specs.DeclarationValues.{DeclarationValue};
+    ghost use Rattle.oa_typelib.specs.Indexes.{defaults_of};
+
+    ghost Value = { DeclarationValue };
+
+    ghost view = { λ f. f.declaration };
+
+    ghost invariant = { λ f. f.defaults.now ≡ defaults_of f.declaration };
+}
+
+impl<'a> Form<'a> {
+    pub(crate) fn of(declaration: Declaration<'a>, defaults: &'a [Option<Scalar>]) -> Form<'a>
+        requires { defaults.now ≡ defaults_of declaration }
+        ensures { result ≡ declaration.entry }
+    {
+        Form {
+            declaration,
+            defaults,
+        }
+    }
+
+    /// The values of its parameters' defaults.
+    pub(crate) fn defaults(&self) -> &'a [Option<Scalar>]
+        ensures { result.now ≡ defaults_of self.now }
+    {
+        self.defaults
+    }
+
+    /// The same without the new value of a put.
+    pub(crate) fn own_defaults(&self) -> &'a [Option<Scalar>]
+        ensures { result.now ≡ map default_value (own_parameters self.now) }
+    {
+        self.declaration.own_values(self.defaults)
+    }
+}
+
+fn first_at<'a>(interface: &Dispinterface<'a>, places: &[usize]) -> Option<Form<'a>>
     ensures { result ≡ slice_get (filter_map (slice_get (declarations interface.now)) places.now) 0 }
 {
     let (place, places) = places.split_first()?;
-    match declaration_at(interface, *place) {
-        Some(declaration) => Some(declaration),
+    match interface.form(*place) {
+        Some(form) => Some(form),
         None => first_at(interface, places),
     }
 }
 
-fn form_at<'a>(interface: &'a Interface, places: &[usize], kind: Kind) -> Option<Declaration<'a>>
+fn form_at<'a>(interface: &Dispinterface<'a>, places: &[usize], kind: Kind) -> Option<Form<'a>>
     ensures { result ≡ form_for kind (filter_map (slice_get (declarations interface.now)) places.now) }
 {
     let (place, places) = places.split_first()?;
-    let Some(declaration) = declaration_at(interface, *place) else {
+    let Some(form) = interface.form(*place) else {
         return form_at(interface, places, kind);
     };
-    if declaration.kind.lets(kind) {
-        Some(declaration)
+    if form.declaration.kind.lets(kind) {
+        Some(form)
     } else {
         form_at(interface, places, kind)
     }
@@ -49,7 +98,7 @@ fn form_at<'a>(interface: &'a Interface, places: &[usize], kind: Kind) -> Option
 /// Declarations of an interface.
 #[derive(Drop)]
 pub(crate) struct Forms<'a> {
-    interface: &'a Interface,
+    interface: Dispinterface<'a>,
     places: &'a [usize],
 }
 
@@ -61,30 +110,30 @@ impl<'a> Model for Forms<'a> {
 
     ghost Value = { List DeclarationValue };
 
-    ghost view = { λ f. filter_map (slice_get (declarations f.interface.now)) f.places.now };
+    ghost view = { λ f. filter_map (slice_get (declarations f.interface)) f.places.now };
 }
 
 impl<'a> Forms<'a> {
-    pub(crate) fn at(interface: &'a Interface, places: &'a [usize]) -> Forms<'a>
-        ensures { result ≡ filter_map (slice_get (declarations interface.now)) places.now }
+    pub(crate) fn at(interface: Dispinterface<'a>, places: &'a [usize]) -> Forms<'a>
+        ensures { result ≡ filter_map (slice_get (declarations interface.entry)) places.now }
     {
         Forms { interface, places }
     }
 
     /// The first one that lets a call read a value, or set it.
-    pub(crate) fn form_for(&self, kind: Kind) -> Option<Declaration<'a>>
+    pub(crate) fn form_for(&self, kind: Kind) -> Option<Form<'a>>
         ensures { result ≡ form_for kind self.now }
     {
-        form_at(self.interface, self.places, kind)
+        form_at(&self.interface, self.places, kind)
     }
 
     /// The one that speaks for the member.
-    pub(crate) fn main(&self) -> Option<Declaration<'a>>
+    pub(crate) fn main(&self) -> Option<Form<'a>>
         ensures { result ≡ main_form self.now }
     {
         match self.form_for(Kind::Get) {
             Some(form) => Some(form),
-            None => first_at(self.interface, self.places),
+            None => first_at(&self.interface, self.places),
         }
     }
 }

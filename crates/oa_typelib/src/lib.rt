@@ -4,6 +4,7 @@
 mod access;
 mod agreement;
 mod checks;
+mod codes;
 mod declaration;
 mod default_value;
 mod defaults;
@@ -23,12 +24,14 @@ mod sets;
 mod taken;
 
 pub use access::{Access, Kind, MemberFault};
+pub use agreement::is_optional;
 pub use declaration::DeclarationKind;
 pub use describe::Description;
 pub use described::{Content, DescribeError, DescribedEntry, DescribedMember, DescribedParameter};
 pub use fault::{CheckError, WrittenName};
 pub use library::{Library, check};
 pub use member::Member;
+pub use members::Dispinterface;
 pub use names::DispIds;
 
 #[cfg(test)]

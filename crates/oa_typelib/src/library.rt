@@ -1,20 +1,19 @@
 // Libraries.
-ghost use Rattle.std.specs.Prelude.{◌≡◌, List, ℕ, IfOk, nat_le, length, map, position, option_copied, slice_get};
+ghost use Rattle.std.specs.Prelude.{◌≡◌, true, List, ℕ, IfOk, IsSome, nat_le, length, map, position, option_copied, slice_get};
 ghost use Rattle.oa_idl.specs.Canonical.{canonical};
 ghost use Rattle.std.specs.Option.{option_and_then, option_map};
 ghost use Rattle.oa_idl.specs.IsTree.{IsTree};
+ghost use Rattle.oa_model.specs.Limits.{max_library_bytes};
 ghost use Rattle.oa_typelib.specs.Breaches.{Refuses, first_breach};
+ghost use Rattle.oa_typelib.specs.Checked.{IsChecked, IsWhole};
+ghost use Rattle.uuid.specs.Parts.{is_nil_bytes};
 ghost use Rattle.oa_typelib.specs.Contents.{Describes};
 ghost use Rattle.oa_typelib.specs.Descriptions.{description_at, interfaces_of};
-ghost use Rattle.oa_typelib.specs.Libraries.{as_interface, same, guid_of, class_of, interface_of, default_interface, has_interface, selected_in, marked};
-ghost use Rattle.oa_typelib.specs.Indexes.{default_in, folded_names, members_in};
-ghost use Rattle.oa_typelib.specs.Members.{forms_with, member_at};
-ghost use Rattle.oa_typelib.specs.Names.{named_at};
+ghost use Rattle.oa_typelib.specs.Libraries.{as_class, as_interface, same, guid_of, class_of, if_entered, interface_of, default_interface, selected_in, marked};
+ghost use Rattle.oa_typelib.specs.Indexes.{default_in, entered_in, flag_at, folded_names, members_in};
 ghost use Rattle.oa_typelib.specs.IsLibrary.{IsLibrary};
-ghost use Rattle.oa_typelib.specs.Typed.{IsDeclarable, IsOfText, IsTyped};
+ghost use Rattle.oa_typelib.specs.Typed.{IsOfText};
 
-use crate::access::{Access, Kind, MemberFault};
-use crate::agreement::is_same_name;
 use crate::checks::check_tree;
 use crate::defaults::{find_defaults, mark};
 use crate::describe::{
@@ -23,14 +22,11 @@ use crate::describe::{
 };
 use crate::described::DescribeError;
 use crate::fault::CheckError;
-use crate::forms::Forms;
 use crate::laws::marked_is_read;
-use crate::member::{Member, find};
-use crate::members::{Index, Indexed, Members};
-use crate::names::{DispIds, named_in, told, unknown};
+use crate::members::{Dispinterface, Index, Members};
 use crate::places::{at, class_at, interface_at, items_of};
 use crate::sets::Guids;
-use oa_idl::{Coclass, Interface, Item, Tree, print};
+use oa_idl::{Coclass, Item, Tree, print};
 use oa_model::MAX_LIBRARY_BYTES;
 use std::alloc::{AllocError, Global};
 use std::marker::Model;
@@ -54,6 +50,7 @@ pub struct Library {
 impl Model for Library {
     ghost use Rattle.oa_idl.specs.IsTree.{IsTree};
     ghost use Rattle.oa_idl.specs.Trees.{TreeValue};
+    ghost use Rattle.oa_typelib.specs.Checked.{IsChecked};
     ghost use Rattle.oa_typelib.specs.Indexes.{IsIndexed};
     ghost use Rattle.oa_typelib.specs.Typed.{IsTyped};
 
@@ -61,7 +58,7 @@ impl Model for Library {
 
     ghost view = { λ l. l.tree };
 
-    ghost invariant = { λ l. IsIndexed l.tree l.guids l.index l.defaults.items l.text.items × IsTyped l.tree × IsTree l.text.items l.tree };
+    ghost invariant = { λ l. IsIndexed l.tree l.guids l.index l.defaults.items l.text.items × IsTyped l.tree × IsTree l.text.items l.tree × IsChecked l.tree };
 }
 
 /// The library that a tree stands for, which is that of some text, as one from `parse` is. An Err names the first breach of the checks:
@@ -93,19 +90,9 @@ pub fn check(alloc: Global, tree: Tree) -> Result<Library, CheckError>
 
 /// Whether a text is short enough for a library text.
 fn is_text(text: &[u8]) -> bool
-    ensures { result ≡ nat_le (length text.now) 262144 }
+    ensures { result ≡ nat_le (length text.now) max_library_bytes }
 {
     text.len() <= MAX_LIBRARY_BYTES
-}
-
-/// Whether one of the coclass's entries names the interface.
-fn names_interface(class: &Coclass, interface: &Interface) -> bool
-    ensures { result ≡ has_interface class.now interface.now }
-{
-    class
-        .entries
-        .iter()
-        .any(|e| is_same_name(&e.interface, &interface.name))
 }
 
 impl Library {
@@ -124,11 +111,18 @@ impl Library {
         self.text.as_slice()
     }
 
-    // What is true of each library: its members have types that may be declared.
-    fn is_typed(&self)
-        ensures { IsTyped self.now }
+    // What is true of each library: it is that of some text, ..
+    fn is_checked(&self)
+        ensures { IsChecked self.now }
     {
         let _tree = &self.tree;
+    }
+
+    // .. so calls can be bound to each of its properties, each of its coclasses has a default interface, and no entry is left out.
+    fn is_whole(&self)
+        ensures { IsWhole self.now }
+    {
+        self.is_checked();
     }
 
     /// The place of the item with a GUID.
@@ -151,21 +145,14 @@ impl Library {
         self.index.members(place)
     }
 
-    /// The interface at a place, with its members.
-    fn indexed_at(&self, place: usize) -> Option<Indexed<'_>>
+    /// The interface at a place.
+    fn interface_at(&self, place: usize) -> Option<Dispinterface<'_>>
         ensures { result ≡ option_and_then as_interface (slice_get self.now.items place) }
     {
+        self.is_whole();
         let interface = interface_at(self.items(), place)?;
         let members = self.members_at(place)?;
-        Some(Indexed::of(interface, members))
-    }
-
-    /// The interface with a GUID, with its members.
-    fn indexed(&self, guid: &Uuid) -> Option<Indexed<'_>>
-        ensures { result ≡ interface_of self.now guid.now }
-    {
-        let place = self.place(guid)?;
-        self.indexed_at(place)
+        Some(Dispinterface::of(self.alloc, interface, members))
     }
 
     /// The place of the default interface of the coclass at a place.
@@ -184,89 +171,70 @@ impl Library {
     }
 
     /// The interface with a GUID.
-    pub fn interface(&self, guid: &Uuid) -> Option<&Interface>
-        ensures { option_copied result ≡ interface_of self.now guid.now }
+    pub fn interface(&self, guid: &Uuid) -> Option<Dispinterface<'_>>
+        ensures { result ≡ interface_of self.now guid.now }
     {
         let place = self.place(guid)?;
-        interface_at(self.items(), place)
+        self.interface_at(place)
     }
 
     /// The default interface of the coclass with a GUID.
-    fn default_interface(&self, class: &Uuid) -> Option<&Interface>
-        ensures { option_copied result ≡ option_and_then (default_interface self.now.items) (class_of self.now class.now) }
+    fn default_interface(&self, class: &Uuid) -> Option<Dispinterface<'_>>
+        ensures { result ≡ option_and_then (default_interface self.now.items) (class_of self.now class.now) }
     {
         let place = self.place(class)?;
         let default = self.default_at(place)?;
-        interface_at(self.items(), default)
+        self.interface_at(default)
     }
 
-    /// The interface that a GUID selects for the coclass with a GUID. The zero GUID stands for the coclass's default interface; an
-    /// interface whose own GUID is zero is reached only so. Any other stands for the interface that has it, where one of the coclass's
-    /// entries names that interface. None where there is no such coclass or interface.
-    pub fn select(&self, class: &Uuid, interface: &Uuid) -> Option<&Interface>
-        ensures { option_copied result ≡ selected_in self.now class.now interface.now }
+    /// The interface at a place where an entry of the coclass at a place names it.
+    fn entered_at(&self, class: usize, place: usize) -> Option<Dispinterface<'_>>
+        ensures { result ≡ option_and_then (λ c. option_and_then (if_entered c) (option_and_then as_interface (slice_get self.now.items place))) (option_and_then as_class (slice_get self.now.items class)) }
     {
-        if interface.is_nil() {
-            return self.default_interface(class);
-        }
-        let class = self.class(class)?;
-        let found = self.interface(interface)?;
-        if names_interface(class, found) {
+        let found = self.interface_at(place)?;
+        if self.enters(class, place) {
             Some(found)
         } else {
             None
         }
     }
 
-    /// The interface at an index among the interfaces, with its members.
-    fn nth_interface(&self, index: usize) -> Option<Indexed<'_>>
+    /// Whether an entry of the coclass at a place names the item at a place.
+    fn enters(&self, class: usize, place: usize) -> bool
+        ensures { result ≡ flag_at (map (entered_in (folded_names self.now.items)) self.now.items) class place }
+    {
+        self.index.enters(class, place)
+    }
+
+    /// The interface with a GUID where an entry of the coclass with a GUID names it.
+    fn entered(&self, class: &Uuid, interface: &Uuid) -> Option<Dispinterface<'_>>
+        ensures { result ≡ option_and_then (λ c. option_and_then (if_entered c) (interface_of self.now interface.now)) (class_of self.now class.now) }
+    {
+        let class = self.place(class)?;
+        let place = self.place(interface)?;
+        self.entered_at(class, place)
+    }
+
+    /// The interface that a GUID selects for the coclass with a GUID. The zero GUID stands for the coclass's default interface, which each
+    /// coclass has; an interface whose own GUID is zero is reached only so. Any other stands for the interface that has it, where one of the
+    /// coclass's entries names that interface. None where there is no such coclass or interface.
+    pub fn select(&self, class: &Uuid, interface: &Uuid) -> Option<Dispinterface<'_>>
+        ensures selected { result ≡ selected_in self.now class.now interface.now }
+        ensures default { is_nil_bytes interface.now ≡ true → IsSome (class_of self.now class.now) → IsSome result }
+    {
+        self.is_whole();
+        if interface.is_nil() {
+            return self.default_interface(class);
+        }
+        self.entered(class, interface)
+    }
+
+    /// The interface at an index among the interfaces.
+    fn nth_interface(&self, index: usize) -> Option<Dispinterface<'_>>
         ensures { result ≡ slice_get (interfaces_of self.now.items) index }
     {
         let place = nth_interface(self.items(), index)?;
-        self.indexed_at(place)
-    }
-
-    /// The declarations with a DISPID of the interface with a GUID.
-    fn forms(&self, interface: &Uuid, id: i32) -> Option<Forms<'_>>
-        ensures { result ≡ option_map (forms_with id) (interface_of self.now interface.now) }
-    {
-        let interface = self.indexed(interface)?;
-        Some(interface.forms_with(id))
-    }
-
-    /// The member with a DISPID of the interface with a GUID, and the form of it that a call asks for. MemberNotFound where there is no
-    /// such interface or member, where the flags ask for no form, and where the member has not the form, as a put of a readonly property.
-    /// A method is NotImplemented where METHOD is set and PROPERTYPUT is not, and else MemberNotFound. A member's type is a scalar type
-    /// or that of an array which there is.
-    pub fn member(
-        &self,
-        interface: &Uuid,
-        id: i32,
-        access: Access,
-    ) -> Result<(Member<'_>, Kind), MemberFault>
-        ensures found { result ≡ member_at self.now interface.now id access }
-        ensures typed { IfOk result (λ found. IsDeclarable found.0.value_type) }
-    {
-        self.is_typed();
-        let Some(forms) = self.forms(interface, id) else {
-            return Err(MemberFault::MemberNotFound);
-        };
-        find(&forms, access)
-    }
-
-    /// The DISPIDs of names, in UTF-16 units, of the interface with a GUID (MS-OAUT section 3.1.4.3): the first name is that of a member,
-    /// the others are names of its parameters, a put's new value not among them. The DISPID of a parameter is its place from 0. A name is
-    /// equal to a declared one where both are equal once A to Z are folded; no other characters are. A name that is not known has -1;
-    /// where the member is not known, or the interface, none is. Err where memory is refused.
-    pub fn dispid(&self, interface: &Uuid, names: &[Vec<u16>]) -> Result<DispIds, AllocError>
-        ensures { IfOk result (λ found. found ≡ named_at self.now interface.now (map (λ n. n.items) names.now)) }
-    {
-        let Some(interface) = self.indexed(interface) else {
-            let ids = unknown(self.alloc, names)?;
-            return told(self.alloc, ids.as_slice());
-        };
-        let ids = named_in(self.alloc, &interface, names)?;
-        told(self.alloc, ids.as_slice())
+        self.interface_at(place)
     }
 
     /// The description at an index: the interfaces come first, in the text's order, and then the coclasses. The members of an interface

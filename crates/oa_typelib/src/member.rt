@@ -1,14 +1,15 @@
 // Members as a call sees them.
-ghost use Rattle.std.specs.Prelude.{◌≡◌};
-ghost use Rattle.std.specs.Option.{option_map};
+ghost use Rattle.std.specs.Prelude.{◌≡◌, map, option_copied, slice_get};
+ghost use Rattle.std.specs.Option.{option_and_then, option_map};
 ghost use Rattle.oa_typelib.specs.Declarations.{type_of_value};
-ghost use Rattle.oa_typelib.specs.Members.{answer, has_form, main_form, property_of};
+ghost use Rattle.oa_typelib.specs.Defaults.{default_value};
+ghost use Rattle.oa_typelib.specs.Members.{answer, has_form, main_form, property_of, property_with};
 
 use crate::access::{Access, Kind, MemberFault};
-use crate::declaration::Declaration;
-use crate::forms::Forms;
+use crate::forms::{Form, Forms};
 use oa_idl::{Name, Parameter};
 use oa_model::ValueType;
+use oa_variant::Scalar;
 use std::marker::Model;
 
 /// A property of an interface, by what a call needs to know of it. Of one with a get and a put, name and parameters are those of the get.
@@ -22,6 +23,8 @@ pub struct Member<'a> {
     pub value_type: ValueType,
     /// Its parameters, without the new value of a put.
     pub parameters: &'a [Parameter],
+    /// The values of their defaults.
+    defaults: &'a [Option<Scalar>],
     /// Whether it can be read.
     pub has_get: bool,
     /// Whether it can be set.
@@ -29,23 +32,29 @@ pub struct Member<'a> {
 }
 
 impl<'a> Model for Member<'a> {
+    ghost use Rattle.std.specs.Prelude.{◌≡◌, map};
+    ghost use Rattle.oa_typelib.specs.Defaults.{default_value};
     ghost use Rattle.oa_typelib.specs.MemberValues.{MemberValue};
 
     ghost Value = { MemberValue };
 
     ghost view = { λ m. record { id = m.id; name = m.name.now; value_type = m.value_type; parameters = m.parameters.now; has_get = m.has_get; has_put = m.has_put } };
+
+    ghost invariant = { λ m. m.defaults.now ≡ map default_value m.parameters.now };
 }
 
 impl<'a> Member<'a> {
     /// The property that has these declarations, of which one speaks for it. None where that one has no type.
-    pub(crate) fn of(forms: &Forms<'a>, main: &Declaration<'a>) -> Option<Member<'a>>
+    pub(crate) fn of(forms: &Forms<'a>, main: &Form<'a>) -> Option<Member<'a>>
         ensures { result ≡ option_map (property_of forms.now main.now) (type_of_value main.now) }
     {
+        let declaration = &main.declaration;
         Some(Member {
-            id: main.id,
-            name: main.name,
-            value_type: main.type_of_value()?,
-            parameters: main.own_parameters(),
+            id: declaration.id,
+            name: declaration.name,
+            value_type: declaration.type_of_value()?,
+            parameters: declaration.own_parameters(),
+            defaults: main.own_defaults(),
             has_get: forms.form_for(Kind::Get).is_some(),
             has_put: forms.form_for(Kind::Put).is_some(),
         })
@@ -60,6 +69,35 @@ impl<'a> Member<'a> {
             Kind::Put => self.has_put,
         }
     }
+
+    /// For each parameter the value of its default, of its declared type; for VARIANT an I4, a text or a truth value. None where it has no
+    /// default.
+    pub fn defaults(&self) -> &'a [Option<Scalar>]
+        ensures { result.now ≡ map default_value self.now.parameters }
+    {
+        self.defaults
+    }
+
+    /// The value of the default of the parameter at a place. None where it has no default, and where there is no such parameter.
+    pub fn default(&self, place: usize) -> Option<&'a Scalar>
+        ensures { option_copied result ≡ option_and_then default_value (slice_get self.now.parameters place) }
+    {
+        match self.defaults().get(place)? {
+            Some(value) => Some(value),
+            None => None,
+        }
+    }
+}
+
+/// The property that has these declarations. None of a method.
+pub(crate) fn property<'a>(forms: &Forms<'a>) -> Option<Member<'a>>
+    ensures { result ≡ property_with (main_form forms.now) forms.now }
+{
+    let main = forms.main()?;
+    if main.declaration.kind.is_method() {
+        return None;
+    }
+    Member::of(forms, &main)
 }
 
 /// The member that has these declarations, and the form of it that a call asks for.
@@ -69,7 +107,7 @@ pub(crate) fn find<'a>(forms: &Forms<'a>, access: Access) -> Result<(Member<'a>,
     let Some(main) = forms.main() else {
         return Err(MemberFault::MemberNotFound);
     };
-    if main.kind.is_method() {
+    if main.declaration.kind.is_method() {
         return Err(access.of_method());
     }
     let Some(member) = Member::of(forms, &main) else {

@@ -9,9 +9,9 @@ ghost use Rattle.oa_typelib.specs.declared.member_checks.Rule.TheVariants.{OneMe
 ghost use Rattle.oa_typelib.specs.Repeats.{first_answer, places_before};
 
 use crate::agreement::{agree, is_optional, is_same_name};
-use crate::checks::folded;
 use crate::declaration::{Declaration, declarations};
 use crate::default_value::has_default;
+use crate::names::folded;
 use crate::repeats::earlier;
 use oa_idl::{Interface, Item, Name, Parameter};
 use oa_model::ValueType;
@@ -54,7 +54,7 @@ fn ids(alloc: Global, all: &[Declaration<'_>]) -> Result<Vec<i32>, AllocError>
     all.iter().map(|d| d.id).collect(alloc)
 }
 
-fn folded_names(alloc: Global, all: &[Declaration<'_>]) -> Result<Vec<Vec<u8>>, AllocError>
+fn folded_names(alloc: Global, all: &[Declaration<'_>]) -> Result<Vec<Vec<u16>>, AllocError>
     ensures { IfOk result (λ v. map (λ k. k.items) v.items ≡ map (λ d. folded_name d.name) all.now) }
 {
     let mut keys = Vec::new(alloc);

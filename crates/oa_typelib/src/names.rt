@@ -6,19 +6,16 @@ ghost use Rattle.oa_typelib.specs.Libraries.{same_name};
 ghost use Rattle.oa_typelib.specs.Names.{ids_in, named_in, or_unknown, parameter_named, place_as_id, told};
 
 use crate::declaration::Declaration;
-use crate::members::Indexed;
+use crate::members::Dispinterface;
 use oa_idl::{Name, Parameter};
-use oa_model::fold;
+use oa_model::{UNKNOWN_DISPID, fold};
 use std::alloc::{AllocError, Global};
 use std::marker::Model;
-
-/// The DISPID of a name that is not known (MS-OAUT section 3.1.4.3).
-const DISPID_UNKNOWN: i32 = -1;
 
 /// The DISPIDs of names.
 #[derive(Drop)]
 pub struct DispIds {
-    /// One for each name, -1 (DISPID_UNKNOWN) for a name that is not known.
+    /// One for each name, -1 (UNKNOWN_DISPID) for a name that is not known.
     pub ids: Vec<i32>,
     /// Whether all names are known.
     pub all_known: bool,
@@ -43,8 +40,8 @@ fn fold_unit(unit: u16) -> u16
     }
 }
 
-/// A declared name, folded, in UTF-16 units.
-pub(crate) fn folded_units(alloc: Global, name: &Name) -> Result<Vec<u16>, AllocError>
+/// A declared name with A to Z folded, in UTF-16 units.
+pub(crate) fn folded(alloc: Global, name: &Name) -> Result<Vec<u16>, AllocError>
     ensures { IfOk result (λ v. v.items ≡ folded_name name.now) }
 {
     name.as_bytes()
@@ -96,7 +93,7 @@ fn parameter_named(parameters: &[Parameter], name: &[u16]) -> Option<i32>
 }
 
 /// No DISPID for any of the names.
-pub(crate) fn unknown(alloc: Global, names: &[Vec<u16>]) -> Result<Vec<Option<i32>>, AllocError>
+fn unknown(alloc: Global, names: &[Vec<u16>]) -> Result<Vec<Option<i32>>, AllocError>
     ensures { IfOk result (λ v. v.items ≡ map (λ name. None) (map (λ n. n.items) names.now)) }
 {
     let mut ids = Vec::new(alloc);
@@ -139,7 +136,7 @@ fn ids_in(
 /// The DISPIDs of names of an interface.
 pub(crate) fn named_in(
     alloc: Global,
-    interface: &Indexed<'_>,
+    interface: &Dispinterface<'_>,
     names: &[Vec<u16>],
 ) -> Result<Vec<Option<i32>>, AllocError>
     ensures { IfOk result (λ v. v.items ≡ named_in interface.now (map (λ n. n.items) names.now)) }
@@ -149,7 +146,7 @@ pub(crate) fn named_in(
     };
     let key = folded_name(alloc, first.as_slice())?;
     match interface.forms_named(key.as_slice()).main() {
-        Some(member) => ids_in(alloc, &member, names),
+        Some(member) => ids_in(alloc, &member.declaration, names),
         None => unknown(alloc, names),
     }
 }
@@ -157,7 +154,7 @@ pub(crate) fn named_in(
 fn or_unknown(id: Option<i32>) -> i32
     ensures { result ≡ or_unknown id }
 {
-    id.unwrap_or(DISPID_UNKNOWN)
+    id.unwrap_or(UNKNOWN_DISPID)
 }
 
 fn all_or_unknown(alloc: Global, ids: &[Option<i32>]) -> Result<Vec<i32>, AllocError>

@@ -12,7 +12,7 @@ use uuid::Uuid;
 /// Names, each once.
 #[derive(Drop)]
 pub(crate) struct Names {
-    keys: IndexSet<Vec<u8>>,
+    keys: IndexSet<Vec<u16>>,
 }
 
 impl Model for Names {
@@ -32,14 +32,14 @@ impl Names {
         }
     }
 
-    pub(crate) fn insert(&mut self, name: Vec<u8>) -> Result<bool, AllocError>
+    pub(crate) fn insert(&mut self, name: Vec<u16>) -> Result<bool, AllocError>
         ensures added { IfOk result (λ b. b ≡ not (list_any (same name.items) self.old)) }
         ensures keys { OnOk result (self.new ≡ insert_key same self.old name.items) }
     {
         Ok(self.keys.insert(name)?)
     }
 
-    pub(crate) fn place(&self, name: &[u8]) -> Option<usize>
+    pub(crate) fn place(&self, name: &[u16]) -> Option<usize>
         ensures { result ≡ position (same name.now) self.now }
     {
         self.keys.get_index_of(name)

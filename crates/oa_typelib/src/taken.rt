@@ -2,8 +2,8 @@
 ghost use Rattle.std.specs.Prelude.{◌≡◌, ◌++◌, ◌∷◌, [], true, not, IfOk};
 ghost use Rattle.oa_typelib.specs.Taken.{takes_reading, takes_setting, names_taken, is_taken};
 
-use crate::checks::folded;
 use crate::declaration::{Declaration, DeclarationKind};
+use crate::names::folded;
 use crate::sets::Names;
 use std::alloc::{AllocError, Global};
 

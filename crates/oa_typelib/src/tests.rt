@@ -1,9 +1,9 @@
 // Small libraries: their refusals and their look-ups.
 use crate::{
-    Access, Content, DescribedEntry, DescribedMember, DescribedParameter, DispIds, Kind, Library,
-    MemberFault, check,
+    Access, Content, DescribedEntry, DescribedMember, DescribedParameter, DispIds, Dispinterface,
+    Kind, Library, MemberFault, check, is_optional,
 };
-use oa_idl::{Interface, Name, parse};
+use oa_idl::{Name, parse};
 use oa_variant::Scalar;
 use std::alloc::{AllocError, Global};
 use std::test::Fail;
@@ -188,7 +188,7 @@ const FORMS: [(u8, i32, Access, &str); 26] = [
     (4, 2, Access::Get, "get"),
     (4, 2, Access::Put, "put"),
     (4, -4, Access::Flags(1), "not implemented"),
-    (3, 1, Access::Flags(1), "member not found"),
+    (3, 1, Access::Flags(1), "no interface"),
 ];
 
 /// The last byte of an interface's GUID, names, and their DISPIDs, with `all` where all are known.
@@ -209,7 +209,20 @@ const NAMES: [(u8, &str, &str); 16] = [
     (4, "both,b,A", "2 1 0 all"),
     (4, "w,v", "1 -1 "),
     (4, "m,G,t", "-4 1 0 all"),
-    (9, "Cell,Key", "-1 -1 "),
+    (9, "Cell,Key", ""),
+];
+
+/// The last byte of an interface's GUID, a DISPID, and of the property each parameter's name, with a `?` where it may be left out, and the
+/// value of its default.
+const DEFAULTS: [(u8, i32, &str); 8] = [
+    (2, 9, "Cell Row Key Page? I2 1"),
+    (2, 1, "Count"),
+    (2, 10, "no property"),
+    (2, 11, "no property"),
+    (4, 2, "Both A? B? I4 -7"),
+    (4, 1, "W"),
+    (4, 3, "R f? true"),
+    (4, -4, "no property"),
 ];
 
 /// What is described at each index: of a declaration its DISPID, its kind, the number of its type (24 for void), its name, and its
@@ -269,15 +282,15 @@ fn guid(last: u8) -> Uuid {
     ])
 }
 
-fn last_byte(interface: Option<&Interface>) -> u8 {
+fn last_byte(interface: Option<Dispinterface<'_>>) -> u8 {
     match interface {
-        Some(interface) => interface.guid.as_bytes()[15],
+        Some(interface) => interface.interface().guid.as_bytes()[15],
         None => 255,
     }
 }
 
 fn form(library: &Library, interface: u8, id: i32, access: Access) -> Option<Kind> {
-    match library.member(&guid(interface), id, access) {
+    match library.interface(&guid(interface))?.member(id, access) {
         Ok((_, kind)) => Some(kind),
         Err(_) => None,
     }
@@ -315,7 +328,10 @@ fn members_by_id_and_flags(rt: HostRuntime) -> Result<(), Fail> {
         let found = form(&library, *interface, *id, *access);
         assert_eq!(rt; found, *expected, "{interface} {id} {access:?}");
     }
-    let (member, _) = library.member(&guid(2), 6, Access::Get)?;
+    let interface = library
+        .interface(&guid(2))
+        .ok_or(MemberFault::MemberNotFound)?;
+    let (member, _) = interface.member(6, Access::Get)?;
     assert_eq!(rt; member.id, 6);
     assert_eq!(rt; member.value_type.vt(), 3);
     assert_eq!(rt; member.name.as_bytes(), b"Version".as_slice());
@@ -324,7 +340,7 @@ fn members_by_id_and_flags(rt: HostRuntime) -> Result<(), Fail> {
         (true, false)
     );
     assert_eq!(rt; Access::Flags(0xfffa).kind(), Some(Kind::Get));
-    assert!(rt; library.member(&guid(2), 2, Access::Get).is_err());
+    assert!(rt; interface.member(2, Access::Get).is_err());
     Ok(())
 }
 
@@ -334,7 +350,10 @@ fn declared(alloc: Global) -> Result<Library, Fail> {
 }
 
 fn form_found(library: &Library, interface: u8, id: i32, access: Access) -> &'static str {
-    match library.member(&guid(interface), id, access) {
+    let Some(interface) = library.interface(&guid(interface)) else {
+        return "no interface";
+    };
+    match interface.member(id, access) {
         Ok((_, Kind::Get)) => "get",
         Ok((_, Kind::Put)) => "put",
         Err(MemberFault::MemberNotFound) => "member not found",
@@ -372,19 +391,26 @@ fn shown(alloc: Global, found: &DispIds) -> Result<String, Fail> {
 
 fn ids(alloc: Global, library: &Library, interface: u8, names: &str) -> Result<String, Fail> {
     let names = names_of(alloc, names)?;
-    let found = library.dispid(&guid(interface), names.as_slice())?;
+    let Some(interface) = library.interface(&guid(interface)) else {
+        return Ok(String::new(alloc));
+    };
+    let found = interface.dispid(names.as_slice())?;
     shown(alloc, &found)
 }
 
-fn push_name(text: &mut String, name: &Name) -> Result<(), AllocError> {
-    text.push(' ')?;
+fn push_bare(text: &mut String, name: &Name) -> Result<(), AllocError> {
     for byte in name.as_bytes() {
         text.push(char::from(*byte))?;
     }
     Ok(())
 }
 
-fn value_shown(alloc: Global, value: &Option<Scalar>) -> Result<String, Fail> {
+fn push_name(text: &mut String, name: &Name) -> Result<(), AllocError> {
+    text.push(' ')?;
+    push_bare(text, name)
+}
+
+fn value_shown(alloc: Global, value: Option<&Scalar>) -> Result<String, Fail> {
     let text = match value {
         None => format!(in alloc; "")?,
         Some(Scalar::I2(n)) => format!(in alloc; " I2 {n}")?,
@@ -394,6 +420,30 @@ fn value_shown(alloc: Global, value: &Option<Scalar>) -> Result<String, Fail> {
         Some(_) => format!(in alloc; " other")?,
     };
     Ok(text)
+}
+
+fn defaults(alloc: Global, library: &Library, interface: u8, id: i32) -> Result<String, Fail> {
+    let Some(interface) = library.interface(&guid(interface)) else {
+        return Ok(format!(in alloc; "no interface")?);
+    };
+    let Some(member) = interface.property(id) else {
+        return Ok(format!(in alloc; "no property")?);
+    };
+    let mut text = String::new(alloc);
+    push_bare(&mut text, member.name)?;
+    for place in 0..member.parameters.len() {
+        let parameter = &member.parameters[place];
+        push_name(&mut text, &parameter.name)?;
+        if is_optional(parameter) {
+            text.push('?')?;
+        }
+        let value = value_shown(alloc, member.default(place))?;
+        text.push_str(value.as_str())?;
+    }
+    if member.defaults().len() == member.parameters.len() && member.default(16).is_none() {
+        return Ok(text);
+    }
+    Ok(format!(in alloc; "not a default for each parameter")?)
 }
 
 fn push_parameter(
@@ -408,7 +458,7 @@ fn push_parameter(
     if parameter.is_optional {
         text.push('?')?;
     }
-    let value = value_shown(alloc, &parameter.default)?;
+    let value = value_shown(alloc, parameter.default)?;
     text.push_str(value.as_str())?;
     Ok(())
 }
@@ -474,10 +524,23 @@ fn forms_of_members(rt: HostRuntime) -> Result<(), Fail> {
         let found = form_found(&library, *interface, *id, *access);
         assert_eq!(rt; found, *expected, "{interface} {id} {access:?}");
     }
-    let (member, _) = library.member(&guid(4), 2, Access::Put)?;
+    let interface = library
+        .interface(&guid(4))
+        .ok_or(MemberFault::MemberNotFound)?;
+    let (member, _) = interface.member(2, Access::Put)?;
     assert_eq!(rt; member.name.as_bytes(), b"Both".as_slice());
     assert_eq!(rt; member.parameters.len(), 2);
     assert_eq!(rt; member.value_type.vt(), 8);
+    Ok(())
+}
+
+#[test]
+fn defaults_of_properties(rt: HostRuntime) -> Result<(), Fail> {
+    let library = declared(rt.alloc())?;
+    for (interface, id, expected) in DEFAULTS.iter() {
+        let found = defaults(rt.alloc(), &library, *interface, *id)?;
+        assert_eq!(rt; found.as_str(), *expected, "{interface} {id}");
+    }
     Ok(())
 }
 

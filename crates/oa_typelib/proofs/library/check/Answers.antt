@@ -38,6 +38,15 @@ invariant_of-result c =
       subst (λ (bs : List ℕ). IsTree bs c.mark-tree.result) (sym c.in_ok-text.ensures)
           (subst (λ (t : TreeValue). IsTree (canonical t) t) (sym c.mark-tree.ensures)
           (c.marked_is_read.ensures c.requires.0 c.args.tree c.requires.1 (subst MayBeText (c.in_ok-text.ensures ∙ ap canonical c.mark-tree.ensures) (short_text c.in_ok-text.text.items (search rules))))),
+      (
+        c.requires.0,
+        record {
+          tree = c.args.tree;
+          stands = c.requires.1;
+          unbroken = no_breach_before (tree_breach c.args.tree) (text_breach c.args.tree) c.in_ok-checked.ensures.0 ∙ text_is c.args.tree c.in_ok-text.text.items true (c.in_ok-text.ensures ∙ ap canonical c.mark-tree.ensures) (search rules);
+          says = c.mark-tree.ensures;
+        },
+      ),
     )
 
 pub returns-clause-refuses : goal.returns-clause-refuses

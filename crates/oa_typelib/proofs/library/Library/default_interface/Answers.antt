@@ -13,5 +13,5 @@ returns-in_err-default c = rw c.from_residual-in_err-default.ensures (sym (defau
 
 pub returns : goal.returns
 returns c =
-    c.interface_at.ensures ∙ ap (λ xs. option_and_then as_interface (slice_get xs c.in_ok-default.default)) c.items.ensures
+    c.interface_at.ensures
     ∙ sym (default_by_place c.args.self.now.items (λ (i : Item). same c.args.class.now (guid_of i)) (Some c.in_ok-place.place) (Some c.in_ok-default.default) c.in_ok-place.ensures c.in_ok-default.ensures)

@@ -1,5 +1,4 @@
-use Rattle.std.proofs.Common.{slice_get, None, Some, sym, ap, ◌∙◌}
-use Rattle.std.specs.Option.{option_and_then}
+use Rattle.std.proofs.Common.{None, Some, sym, ◌∙◌}
 use Rattle.oa_idl.specs.declared.items.Item.{Item}
 use Rattle.oa_typelib.specs.Libraries.{same, guid_of, as_interface}
 use Rattle.oa_typelib.proofs.Finds.{found_by_place}
@@ -9,4 +8,4 @@ pub returns-in_err-place : goal.returns-in_err-place
 returns-in_err-place c = rw c.from_residual.ensures (sym (found_by_place as_interface (λ (i : Item). same c.args.guid.now (guid_of i)) c.args.self.now.items None c.in_err-place.ensures))
 
 pub returns : goal.returns
-returns c = c.interface_at.ensures ∙ ap (λ xs. option_and_then as_interface (slice_get xs c.in_ok-place.place)) c.items.ensures ∙ sym (found_by_place as_interface (λ (i : Item). same c.args.guid.now (guid_of i)) c.args.self.now.items (Some c.in_ok-place.place) c.in_ok-place.ensures)
+returns c = c.interface_at.ensures ∙ sym (found_by_place as_interface (λ (i : Item). same c.args.guid.now (guid_of i)) c.args.self.now.items (Some c.in_ok-place.place) c.in_ok-place.ensures)

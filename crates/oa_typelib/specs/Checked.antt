@@ -1,0 +1,28 @@
+-- The trees of libraries.
+use Rattle.std.specs.Prelude.{ℕ, List, IsSome, IfSome}
+use Rattle.std.specs.List.{AllByRecursion}
+use Rattle.oa_idl.specs.Trees.{TreeValue}
+use Rattle.oa_idl.specs.Values.{CoclassValue}
+use Rattle.oa_idl.specs.declared.parts.Entry.{Entry}
+use Rattle.oa_idl.specs.declared.items.Item.{Item}
+use Rattle.oa_typelib.specs.Bindable.{IsSoundItem}
+use Rattle.oa_typelib.specs.Descriptions.{entry_description, interfaces_of}
+use Rattle.oa_typelib.specs.IsLibrary.{IsLibrary}
+use Rattle.oa_typelib.specs.Libraries.{as_class, default_interface}
+
+-- the library of some text: its tree breaks none of the checks, and one default interface is marked in each coclass
+abbrev pub IsChecked : TreeValue → Type 0
+IsChecked tree = (text : List ℕ) × IsLibrary text tree
+
+-- A coclass has a default interface, and each of its entries a description, so none is left out.
+pub record IsClass (items : List Item) (c : CoclassValue) : Type 0 where
+  pub default : IsSome (default_interface items c)
+  pub entries : AllByRecursion (λ (e : Entry). IsSome (entry_description (interfaces_of items) e)) c.entries
+
+abbrev pub HasClass : List Item → Item → Type 0
+HasClass items x = IfSome (as_class x) (IsClass items)
+
+-- What follows for its items: calls can be bound to each property, and each coclass is one.
+pub record IsWhole (tree : TreeValue) : Type 0 where
+  pub sound : AllByRecursion IsSoundItem tree.items
+  pub classes : AllByRecursion (HasClass tree.items) tree.items

@@ -1,0 +1,4 @@
+pub mod Counted
+pub mod Each
+pub mod Indices
+pub mod Turns

@@ -1,0 +1,5 @@
+pub mod Bindings
+pub mod Calls
+pub mod Given
+pub mod Names
+pub mod Refusals

@@ -1,0 +1,54 @@
+-- What is refused before any value is looked at: by the names and the number of the arguments, and for a missing one (the order is this
+-- project's choice).
+use Rattle.std.specs.Prelude.{ℕ, ◌+◌, ℤ, nat_lt, Bool, false, not, ◌&&◌, ◌||◌, if◌then◌else◌, List, [], ◌∷◌, length, is_none, Result}
+use Rattle.std.specs.List.{list_any, position_from}
+use Rattle.std.specs.Ordering.{int_eq}
+use Rattle.oa_model.specs.Codes.{e_invalidarg, disp_e_badparamcount, disp_e_paramnotfound, disp_e_paramnotoptional}
+use Rattle.oa_idl.specs.declared.parts.Parameter.{Parameter}
+use Rattle.oa_typelib.specs.Agreement.{is_optional}
+use Rattle.oa_typelib.specs.declared.access.Kind.{Kind}
+use Rattle.oa_typelib.specs.declared.access.Kind.TheVariants.{Get, Put}
+use Rattle.oa_bind.specs.declared.fault.BindFault.{BindFault}
+use Rattle.oa_bind.specs.Given.{Given, by_position, argument_for, is_parameter, new_value_id}
+use Rattle.oa_bind.specs.Refusals.{◌>>=◌, any_at, unless, unless_at}
+
+-- 1. more names than arguments, a DISPID twice, no new value named in a put, or one in a get
+
+abbrev pub repeats : List ℤ → Bool
+repeats [] = false
+repeats (first ∷ rest) = list_any (λ id. int_eq id first) rest || repeats rest
+
+abbrev pub names_value : List ℤ → Bool
+names_value named = list_any (λ id. int_eq id new_value_id) named
+
+abbrev pub names_well : Kind → List ℤ → Bool
+names_well Get named = not (names_value named)
+names_well Put named = names_value named
+
+abbrev pub is_consistent : Kind → List ℤ → ℕ → Bool
+is_consistent kind named count = if nat_lt count (length named) || repeats named then false else names_well kind named
+
+-- 2. more arguments than one for each parameter, and the new value of a put
+
+abbrev pub most : Kind → List Parameter → ℕ
+most Get parameters = length parameters
+most Put parameters = length parameters + 1
+
+-- 3. a name, the new value's aside, that is of no parameter, or of one that is given by position too
+
+abbrev pub names_none : ℕ → ℕ → ℤ → Bool
+names_none positions parameters id = not (int_eq id new_value_id) && (not (is_parameter parameters id) || is_parameter positions id)
+
+unfoldable pub well_named : List Parameter → Kind → List ℤ → ℕ → Result (Unit {0}) BindFault
+well_named parameters kind named count = do
+  consistent ← unless e_invalidarg (not (is_consistent kind named count))
+  few ← unless disp_e_badparamcount (nat_lt (most kind parameters) count)
+  unless_at disp_e_paramnotfound (position_from (names_none (by_position named count) (length parameters)) 0 named)
+
+-- 4. a parameter that may not be left out, and for which none is given, or one that says that it is missing
+
+abbrev pub lacks : Given → ℕ → Parameter → Bool
+lacks call place p = not (is_optional p) && is_none (argument_for call place)
+
+unfoldable pub complete : List Parameter → Given → Result (Unit {0}) BindFault
+complete parameters call = unless disp_e_paramnotoptional (any_at (lacks call) 0 parameters)

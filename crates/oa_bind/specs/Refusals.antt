@@ -1,0 +1,44 @@
+-- Answers that may be refusals, one after another: the first refusal counts.
+use Rattle.std.specs.Prelude.{◌≡◌, ◌⊎◌, ℕ, ◌+◌, Bool, false, ◌||◌, if◌then◌else◌, List, [], ◌∷◌, Option, Some, None, Result, Ok, Err}
+use Rattle.oa_model.specs.Codes.{e_outofmemory}
+use Rattle.oa_model.specs.declared.hresult.HResult.{HResult}
+use Rattle.oa_bind.specs.declared.fault.BindFault.{BindFault}
+
+infixl 10 ◌>>=◌
+abbrev pub ◌>>=◌ : {A B : Type 0} → Result A BindFault → (A → Result B BindFault) → Result B BindFault
+Ok x >>= f = f x
+Err e >>= f = Err e
+
+-- a refusal that speaks of no argument
+abbrev pub refused : {A : Type 0} → HResult → Result A BindFault
+refused code = Err (record { code = code; index = None })
+
+-- a refusal that speaks of the argument at an index of rgvarg
+abbrev pub refused_at : {A : Type 0} → HResult → ℕ → Result A BindFault
+refused_at code i = Err (record { code = code; index = Some i })
+
+abbrev pub unless : HResult → Bool → Result (Unit {0}) BindFault
+unless code bad = if bad then refused code else Ok tt
+
+abbrev pub unless_at : HResult → Option ℕ → Result (Unit {0}) BindFault
+unless_at code None = Ok tt
+unless_at code (Some i) = refused_at code i
+
+-- want of memory
+abbrev pub lacks_memory : BindFault
+lacks_memory = record { code = e_outofmemory; index = None }
+
+-- what a call says of an answer, as its result shows it: it is that one, or want of memory
+abbrev pub Answers : {A B : Type 0} → (A → B) → Result B BindFault → Result A BindFault → Type 0
+Answers shown answer (Ok x) = answer ≡ Ok (shown x)
+Answers shown answer (Err fault) = (fault ≡ lacks_memory) ⊎ (answer ≡ Err fault)
+
+-- Over the members of a list with their places, of which the first is given: whether a test passes at one of them, ..
+unfoldable pub any_at : {X : Type 0} → (ℕ → X → Bool) → ℕ → List X → Bool
+any_at test place [] = false
+any_at test place (x ∷ xs) = test place x || any_at test (place + 1) xs
+
+-- .. and their answers in order, or the first refusal among these
+unfoldable pub each_at : {X Y : Type 0} → (ℕ → X → Result Y BindFault) → ℕ → List X → Result (List Y) BindFault
+each_at answer place [] = Ok []
+each_at answer place (x ∷ xs) = answer place x >>= λ y. each_at answer (place + 1) xs >>= λ ys. Ok (y ∷ ys)

@@ -1,0 +1,72 @@
+//! Binding a call.
+ghost use Rattle.std.specs.Prelude.{◌≡◌, ◌≤◌, length, map};
+ghost use Rattle.oa_typelib.specs.Bindable.{IsBindable};
+ghost use Rattle.oa_typelib.specs.Defaults.{default_value};
+ghost use Rattle.oa_variant.specs.Variants.{HasZero};
+ghost use Rattle.oa_bind.specs.Bindings.{bound, bound_to};
+ghost use Rattle.oa_bind.specs.Refusals.{Answers};
+
+use crate::names::{check_complete, check_names};
+use crate::values::{key, new_value};
+use crate::{BindFault, Call};
+use oa_idl::Parameter;
+use oa_model::ValueType;
+use oa_typelib::{Kind, Member};
+use oa_variant::{Scalar, Variant};
+use std::alloc::Global;
+
+/// The call of a property that the arguments make (MS-OAUT section 3.1.4.4). They stand as in rgvarg: the first are named, each by the
+/// DISPID at its index in `named`, and the others are given by position, the last of them for the first parameter. A parameter's DISPID
+/// is its place from 0, and a put's new value is named -3. At most 32 are named, as in a record: each name is compared with each.
+///
+/// Err, in this order: E_INVALIDARG where more are named than there are, a DISPID stands twice, or -3 does not stand in a put or stands
+/// in a get; DISP_E_BADPARAMCOUNT where there are more than the parameters and a put's new value; DISP_E_PARAMNOTFOUND with the lowest
+/// index whose name is that of no parameter, or of one that is given by position too; DISP_E_PARAMNOTOPTIONAL where a parameter that may
+/// not be left out has no argument, or one that says that it is missing (ERROR DISP_E_PARAMNOTFOUND); and then by the parameters' places,
+/// the new value last, DISP_E_TYPEMISMATCH or DISP_E_OVERFLOW with the index of an argument that can't be coerced. E_OUTOFMEMORY without
+/// an index where a growth was refused.
+pub fn bind(
+    alloc: Global,
+    member: &Member<'_>,
+    kind: Kind,
+    arguments: Vec<Variant>,
+    named: &[i32],
+) -> Result<Call, BindFault>
+    requires bindable { IsBindable member.now }
+    requires named { length named.now ≤ 32 }
+    ensures { Answers (λ c. c) (bound_to member.now kind (record { named = named.now; arguments = arguments.items })) result }
+{
+    bind_parts(
+        alloc,
+        member.parameters,
+        member.defaults(),
+        member.value_type,
+        kind,
+        arguments,
+        named,
+    )
+}
+
+/// The same of a property with these parameters, these values of their defaults and this type of values.
+#[tactic(auto, unfolding(crate::specs::Bindings::bound))]
+fn bind_parts(
+    alloc: Global,
+    parameters: &[Parameter],
+    defaults: &[Option<Scalar>],
+    declared: ValueType,
+    kind: Kind,
+    mut arguments: Vec<Variant>,
+    named: &[i32],
+) -> Result<Call, BindFault>
+    requires defaults { defaults.now ≡ map default_value parameters.now }
+    requires few { length parameters.now ≤ 16 }
+    requires zero { HasZero declared }
+    requires named { length named.now ≤ 32 }
+    ensures { Answers (λ c. c) (bound parameters.now declared kind (record { named = named.now; arguments = arguments.items })) result }
+{
+    check_names(parameters, kind, named, arguments.len())?;
+    check_complete(parameters, named, arguments.as_slice())?;
+    let key = key(alloc, parameters, defaults, named, &mut arguments)?;
+    let value = new_value(alloc, declared, kind, named, &mut arguments)?;
+    Ok(Call { key, value })
+}

@@ -1,0 +1,20 @@
+//! A bound call.
+use oa_variant::{Scalar, Variant};
+use std::marker::Model;
+
+/// A call of a property: which of its values is meant, and for a put what it is to be.
+#[derive(Drop)]
+pub struct Call {
+    /// The values of the parameters in their order, each of its parameter's type.
+    pub key: Vec<Scalar>,
+    /// The new value of a put, of the property's type; None in a get.
+    pub value: Option<Variant>,
+}
+
+impl Model for Call {
+    ghost use Rattle.oa_bind.specs.Calls.{CallValue};
+
+    ghost Value = { CallValue };
+
+    ghost view = { λ c. record { key = c.key.items; value = c.value } };
+}

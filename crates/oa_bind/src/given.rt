@@ -1,0 +1,66 @@
+//! Which argument is given for which DISPID.
+ghost use Rattle.std.specs.Prelude.{◌≡◌, ◌≢◌, ◌<◌, ◌≤◌, ℕ, length, slice_get, Some, IfSome};
+ghost use Rattle.std.specs.List.{position_from};
+ghost use Rattle.std.specs.Ordering.{int_eq};
+ghost use Rattle.oa_bind.specs.Given.{index_of, is_parameter, says_missing};
+
+use oa_variant::{Scalar, Variant};
+
+/// The DISPID of a put's new value (DISPID_PROPERTYPUT).
+pub(crate) const NEW_VALUE: i32 = -3;
+
+/// What stands for a missing argument: the ERROR DISP_E_PARAMNOTFOUND.
+pub(crate) const MISSING: u32 = 0x8002_0004;
+
+/// Whether a DISPID is that of one of the first n parameters.
+pub(crate) fn is_parameter(n: usize, id: i32) -> bool
+    ensures { result ≡ is_parameter n id }
+{
+    id >= 0 && (id.unsigned_abs() as usize) < n
+}
+
+/// The index of the argument that is given for a DISPID, of so many arguments.
+#[tactic(auto, unfolding(crate::specs::Given::index_of))]
+pub(crate) fn index_of(named: &[i32], count: usize, id: i32) -> Option<usize>
+    requires { length named.now ≤ count }
+    ensures value { result ≡ index_of named.now count id }
+    ensures within { IfSome result (λ i. i < count) }
+{
+    if is_parameter(count - named.len(), id) {
+        return Some(count - 1 - id.unsigned_abs() as usize);
+    }
+    first_named(named, id)
+}
+
+/// The first index at which a DISPID stands.
+fn first_named(named: &[i32], id: i32) -> Option<usize>
+    ensures value { result ≡ position_from (λ n. int_eq n id) 0 named.now }
+    ensures within { IfSome result (λ i. i < length named.now) }
+{
+    'named: for i in 0..named.len() {
+        if named[i] == id {
+            return Some(i);
+        }
+    }
+    None
+}
+
+/// Whether an argument says that it is missing.
+pub(crate) fn says_missing(argument: &Variant) -> bool
+    ensures { result ≡ says_missing argument.now }
+{
+    match argument {
+        Variant::One(Scalar::Error(code)) => *code == MISSING,
+        _ => false,
+    }
+}
+
+/// Takes the argument at an index out, and leaves EMPTY in its place: no argument moves or is copied.
+pub(crate) fn take(arguments: &mut Vec<Variant>, i: usize) -> Variant
+    requires { i < length arguments.old.items }
+    ensures taken { slice_get arguments.old.items i ≡ Some result }
+    ensures others { (j : ℕ) → j ≢ i → slice_get arguments.new.items j ≡ slice_get arguments.old.items j }
+    ensures len { length arguments.new.items ≡ length arguments.old.items }
+{
+    std::mem::replace(&mut arguments[i], Variant::One(Scalar::Empty))
+}

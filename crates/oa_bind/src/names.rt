@@ -1,0 +1,145 @@
+//! What is refused before any value is looked at. None of it takes memory.
+ghost use Rattle.std.specs.Prelude.{◌≡◌, ◌≤◌, ◌<◌, length, true, IfSome, OnOk};
+ghost use Rattle.std.specs.List.{position_from};
+ghost use Rattle.oa_bind.specs.Names.{complete, is_consistent, lacks, most, names_none, repeats, well_named};
+ghost use Rattle.oa_bind.specs.Refusals.{any_at};
+
+use crate::BindFault;
+use crate::given::{NEW_VALUE, index_of, is_parameter, says_missing};
+use oa_idl::Parameter;
+use oa_model::HResult;
+use oa_typelib::{Kind, is_optional};
+use oa_variant::Variant;
+
+/// Whether a DISPID stands twice. Each is compared with those behind it.
+fn has_repeat(named: &[i32]) -> bool
+    requires { length named.now ≤ 32 }
+    ensures { result ≡ repeats named.now }
+{
+    'named: for i in 0..named.len() {
+        if named[i + 1..].contains(&named[i]) {
+            return true;
+        }
+    }
+    false
+}
+
+/// Whether no more arguments are named than there are, none twice, and a new value in a put alone.
+fn is_consistent(kind: Kind, named: &[i32], count: usize) -> bool
+    requires { length named.now ≤ 32 }
+    ensures test { result ≡ is_consistent kind named.now count }
+    ensures few { result ≡ true → length named.now ≤ count }
+{
+    if named.len() > count || has_repeat(named) {
+        return false;
+    }
+    let names_value = named.contains(&NEW_VALUE);
+    match kind {
+        Kind::Get => !names_value,
+        Kind::Put => names_value,
+    }
+}
+
+/// How many arguments there are at most.
+fn most(kind: Kind, parameters: &[Parameter]) -> usize
+    requires { length parameters.now ≤ 16 }
+    ensures { result ≡ most kind parameters.now }
+{
+    match kind {
+        Kind::Get => parameters.len(),
+        Kind::Put => parameters.len() + 1,
+    }
+}
+
+/// Whether a DISPID, the new value's aside, is that of no parameter, or of one that is given by position too.
+fn names_none(positions: usize, parameters: usize, id: i32) -> bool
+    ensures { result ≡ names_none positions parameters id }
+{
+    id != NEW_VALUE && (!is_parameter(parameters, id) || is_parameter(positions, id))
+}
+
+/// The lowest index with such a DISPID.
+fn first_unknown(named: &[i32], positions: usize, parameters: usize) -> Option<usize>
+    ensures value { result ≡ position_from (names_none positions parameters) 0 named.now }
+    ensures within { IfSome result (λ i. i < length named.now) }
+{
+    'named: for i in 0..named.len() {
+        if names_none(positions, parameters, named[i]) {
+            return Some(i);
+        }
+    }
+    None
+}
+
+/// Whether the parameter at a place may not be left out and is.
+fn lacks(named: &[i32], arguments: &[Variant], place: usize, parameter: &Parameter) -> bool
+    requires place { place < 16 }
+    requires named { length named.now ≤ length arguments.now }
+    ensures { result ≡ lacks (record { named = named.now; arguments = arguments.now }) place parameter.now }
+{
+    if is_optional(parameter) {
+        return false;
+    }
+    match index_of(named, arguments.len(), place as i32) {
+        None => true,
+        Some(i) => says_missing(&arguments[i]),
+    }
+}
+
+/// Whether one of the parameters may not be left out and is.
+#[tactic(auto, unfolding(crate::specs::Refusals::any_at))]
+fn any_lacks(parameters: &[Parameter], named: &[i32], arguments: &[Variant]) -> bool
+    requires few { length parameters.now ≤ 16 }
+    requires named { length named.now ≤ length arguments.now }
+    ensures { result ≡ any_at (lacks (record { named = named.now; arguments = arguments.now })) 0 parameters.now }
+{
+    'parameters: for place in 0..parameters.len() {
+        if lacks(named, arguments, place, &parameters[place]) {
+            return true;
+        }
+    }
+    false
+}
+
+/// The refusals by the names and the number of the arguments, in their order.
+#[tactic(auto, unfolding(crate::specs::Names::well_named))]
+pub(crate) fn check_names(
+    parameters: &[Parameter],
+    kind: Kind,
+    named: &[i32],
+    count: usize,
+) -> Result<(), BindFault>
+    requires parameters { length parameters.now ≤ 16 }
+    requires named { length named.now ≤ 32 }
+    ensures value { result ≡ well_named parameters.now kind named.now count }
+    ensures named { OnOk result (length named.now ≤ count) }
+    ensures few { OnOk result (count ≤ 17) }
+{
+    if !is_consistent(kind, named, count) {
+        return Err(BindFault::of(HResult::E_INVALIDARG));
+    }
+    if count > most(kind, parameters) {
+        return Err(BindFault::of(HResult::DISP_E_BADPARAMCOUNT));
+    }
+    if let Some(i) = first_unknown(named, count - named.len(), parameters.len()) {
+        return Err(BindFault::at(HResult::DISP_E_PARAMNOTFOUND, i as u32));
+    }
+    Ok(())
+}
+
+/// The refusal of a call that lacks an argument.
+#[tactic(auto, unfolding(crate::specs::Names::complete))]
+pub(crate) fn check_complete(
+    parameters: &[Parameter],
+    named: &[i32],
+    arguments: &[Variant],
+) -> Result<(), BindFault>
+    requires few { length parameters.now ≤ 16 }
+    requires named { length named.now ≤ length arguments.now }
+    ensures { result ≡ complete parameters.now (record { named = named.now; arguments = arguments.now }) }
+{
+    if any_lacks(parameters, named, arguments) {
+        return Err(BindFault::of(HResult::DISP_E_PARAMNOTOPTIONAL));
+    }
+    Ok(())
+}

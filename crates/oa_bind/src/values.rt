@@ -1,0 +1,173 @@
+//! The values of the parameters, and the new value of a put.
+ghost use Rattle.std.specs.Prelude.{◌≡◌, ◌≢◌, ◌≤◌, ◌<◌, ℕ, length, map, pos, slice_get, Some, IfOk, OnOk};
+ghost use Rattle.oa_coerce.specs.Answers.{coerced};
+ghost use Rattle.oa_typelib.specs.Defaults.{default_value};
+ghost use Rattle.oa_variant.specs.Variants.{HasZero};
+ghost use Rattle.oa_bind.specs.Bindings.{missing_value, new_value, parameter_value, scalar_type, told, value_by, without_default};
+ghost use Rattle.oa_bind.specs.Given.{Stay, index_of};
+ghost use Rattle.oa_bind.specs.Refusals.{Answers, each_at};
+
+use crate::BindFault;
+use crate::given::{MISSING, NEW_VALUE, index_of, says_missing, take};
+use oa_array::Cell;
+use oa_coerce::{CoerceFault, coerce, coerce_scalar};
+use oa_idl::Parameter;
+use oa_model::{HResult, ValueType, VarType};
+use oa_typelib::Kind;
+use oa_variant::{Scalar, Variant};
+use std::alloc::{AllocError, Global};
+
+/// The type of a parameter's values.
+fn scalar_type(declared: ValueType) -> VarType
+    ensures { result ≡ scalar_type declared }
+{
+    match declared {
+        ValueType::One(one) | ValueType::Array(one) => one,
+    }
+}
+
+/// The value of a missing argument for a parameter without a default.
+fn without_default(to: VarType) -> Scalar
+    ensures { result ≡ without_default to }
+{
+    if to == VarType::Variant {
+        Scalar::Error(MISSING)
+    } else {
+        Scalar::zero(to)
+    }
+}
+
+/// The value of a missing argument, by the value of the parameter's default.
+fn missing_value(
+    alloc: Global,
+    parameter: &Parameter,
+    default: &Option<Scalar>,
+) -> Result<Scalar, AllocError>
+    requires { default.now ≡ default_value parameter.now }
+    ensures { IfOk result (λ s. s ≡ missing_value parameter.now) }
+{
+    match default {
+        Some(value) => value.copy(alloc),
+        None => Ok(without_default(scalar_type(parameter.value_type))),
+    }
+}
+
+/// The value of a parameter of a type, by the argument at an index. Takes no memory.
+fn value_by(to: VarType, i: usize, argument: Variant) -> Result<Scalar, BindFault>
+    requires { i < 32 }
+    ensures { result ≡ value_by to i argument }
+{
+    match argument {
+        Variant::One(scalar) => match coerce_scalar(scalar, to) {
+            Ok(value) => Ok(value),
+            Err((_, fault)) => Err(BindFault::at(fault.code(), i as u32)),
+        },
+        Variant::Array(_) => Err(BindFault::at(HResult::DISP_E_TYPEMISMATCH, i as u32)),
+    }
+}
+
+/// The value of the parameter at a place. Its argument is taken out; the others stay.
+fn value(
+    alloc: Global,
+    parameter: &Parameter,
+    default: &Option<Scalar>,
+    place: usize,
+    named: &[i32],
+    arguments: &mut Vec<Variant>,
+) -> Result<Scalar, BindFault>
+    requires default { default.now ≡ default_value parameter.now }
+    requires place { place < 16 }
+    requires named { length named.now ≤ length arguments.old.items }
+    requires few { length arguments.old.items ≤ 17 }
+    ensures value { Answers (λ s. s) (parameter_value (record { named = named.now; arguments = arguments.old.items }) place parameter.now) result }
+    ensures others { (j : ℕ) → index_of named.now (length arguments.old.items) (pos place) ≢ Some j → slice_get arguments.new.items j ≡ slice_get arguments.old.items j }
+    ensures len { length arguments.new.items ≡ length arguments.old.items }
+{
+    let Some(i) = index_of(named, arguments.len(), place as i32) else {
+        return Ok(missing_value(alloc, parameter, default)?);
+    };
+    if says_missing(&arguments[i]) {
+        return Ok(missing_value(alloc, parameter, default)?);
+    }
+    let argument = take(arguments, i);
+    value_by(scalar_type(parameter.value_type), i, argument)
+}
+
+/// The values of the parameters in their order, by the values of their defaults. The arguments for them are taken out; the others stay.
+pub(crate) fn key(
+    alloc: Global,
+    parameters: &[Parameter],
+    defaults: &[Option<Scalar>],
+    named: &[i32],
+    arguments: &mut Vec<Variant>,
+) -> Result<Vec<Scalar>, BindFault>
+    requires defaults { defaults.now ≡ map default_value parameters.now }
+    requires short { length parameters.now ≤ 16 }
+    requires named { length named.now ≤ length arguments.old.items }
+    requires few { length arguments.old.items ≤ 17 }
+    ensures key { Answers (λ v. v.items) (each_at (parameter_value (record { named = named.now; arguments = arguments.old.items })) 0 parameters.now) result }
+    ensures others { OnOk result (Stay named.now arguments.old.items arguments.new.items (length parameters.now)) }
+    ensures len { length arguments.new.items ≡ length arguments.old.items }
+{
+    let mut key = Vec::new(alloc);
+    'parameters: for place in 0..parameters.len() {
+        let value = value(
+            alloc,
+            &parameters[place],
+            &defaults[place],
+            place,
+            named,
+            arguments,
+        )?;
+        key.push(value)?;
+    }
+    Ok(key)
+}
+
+/// The new value of a declared type, by the argument at an index.
+fn new_value_by(
+    alloc: Global,
+    argument: Variant,
+    i: usize,
+    declared: ValueType,
+) -> Result<Variant, BindFault>
+    requires zero { HasZero declared }
+    requires few { i < 32 }
+    ensures { Answers (λ v. v) (told i (coerced argument declared)) result }
+{
+    match coerce(alloc, argument, declared) {
+        Ok(value) => Ok(value),
+        Err((_, CoerceFault::Overflow)) => {
+            Err(BindFault::at(HResult::DISP_E_OVERFLOW, i as u32))
+        }
+        Err((_, CoerceFault::TypeMismatch)) => {
+            Err(BindFault::at(HResult::DISP_E_TYPEMISMATCH, i as u32))
+        }
+        Err((_, CoerceFault::Memory)) => Err(BindFault::of(HResult::E_OUTOFMEMORY)),
+    }
+}
+
+/// The new value of a put. Its argument is taken out.
+pub(crate) fn new_value(
+    alloc: Global,
+    declared: ValueType,
+    kind: Kind,
+    named: &[i32],
+    arguments: &mut Vec<Variant>,
+) -> Result<Option<Variant>, BindFault>
+    requires zero { HasZero declared }
+    requires named { length named.now ≤ length arguments.old.items }
+    requires few { length arguments.old.items ≤ 17 }
+    ensures { Answers (λ v. v) (new_value (record { named = named.now; arguments = arguments.old.items }) declared kind) result }
+{
+    match kind {
+        Kind::Get => Ok(None),
+        Kind::Put => {
+            let Some(i) = index_of(named, arguments.len(), NEW_VALUE) else {
+                return Err(BindFault::of(HResult::E_INVALIDARG));
+            };
+            let argument = take(arguments, i);
+            Ok(Some(new_value_by(alloc, argument, i, declared)?))
+        }
+    }
+}

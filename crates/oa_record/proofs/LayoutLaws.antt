@@ -1,14 +1,23 @@
 -- Reading a layout reads its form.
-use Rattle.std.proofs.Common.{◌≡◌, ℕ, ℤ, ◌≤◌, Bool, true, false, eqb, leb, ◌&&◌, List, length, refl, sym, ◌∙◌, arith}
-use Rattle.std.proofs.lemmas.Bool.{leb-true, leb-false, eqb-true, eqb-false}
+use Rattle.std.proofs.Common.{◌≡◌, ℕ, ℤ, ◌+◌, ◌≤◌, Bool, true, false, eqb, leb, ◌&&◌, cond, List, ◌++◌, length, Option, Some, None, refl, sym, ap, subst, ◌∙◌, arith}
+use Rattle.std.proofs.lemmas.Bool.{leb-true, leb-false, eqb-true}
 use Rattle.std.specs.Int.{w32, cast_signed}
 use Rattle.oa_model.specs.Guids.{wire_order}
+use Rattle.oa_model.specs.declared.bound.Bound.{Bound}
 use Rattle.oa_ndr.specs.Forms.{unit, exactly, each, nothing}
-use Rattle.oa_ndr.proofs.Laws.{Reads, Always, all_always, fail_reads, choose_reads, give_reads, none_reads, unit_reads, bytes_reads, align_reads, align_then, bind_reads, with_reads, told_reads, made_from, made_reads, many_reads, ignored_then, given_then, same_values}
-use Rattle.oa_record.specs.Heads.{HeadValue}
+use Rattle.oa_ndr.specs.Reading.{Cursor, at}
+use Rattle.oa_ndr.proofs.Laws.{Reads, Takes, Always, all_always, fail_reads, choose_reads, give_reads, none_reads, unit_reads, bytes_reads, align_reads, align_then, bind_reads, with_reads, told_reads, made_from, made_reads, made_takes, made_again, nothing_takes, nothing_again, many_reads, ignored_then, given_then, same_values}
+use Rattle.oa_wire_array.specs.Arrays.{bound}
+use Rattle.oa_wire_array.specs.ArrayReading.{bound_at}
+use Rattle.oa_wire_array.proofs.ScalarLaws.{signed_reads}
+use Rattle.oa_record.specs.CallParts.{CallParts, ElementParts, PutParts, RedimParts}
+use Rattle.oa_record.specs.Opcodes.{number_of, opcode_named, is_listed, only_listed, listed_opcode}
+use Rattle.oa_record.specs.declared.opcode.Opcode.{Opcode}
+use Rattle.oa_record.specs.declared.opcode.Opcode.TheVariants as opcodes
+use Rattle.oa_record.specs.declared.request.CallHead.{CallHead}
 use Rattle.oa_record.specs.declared.request.GetIds.{GetIds}
-use Rattle.oa_record.specs.Layouts.{Layout, opcode_of, guid, dispid, field, head, string, get_ids, type_info, fields, layout, max_arguments, max_names}
-use Rattle.oa_record.specs.Reading.{guid_at, dispid_at, field_at, head_of, lists_at, head_at, string_at, ids_of, names_at, get_ids_at, type_info_at, create_at, get_ids_body_at, invoke_at, type_info_body_at, fields_at, layout_at}
+use Rattle.oa_record.specs.Layouts.{Layout, opcode_of, guid, dispid, field, call_head, call_parts, indices, element_parts, put_parts, redim_parts, string, get_ids, number, fields, layout, max_arguments, max_indices, max_names}
+use Rattle.oa_record.specs.Reading.{guid_at, dispid_at, field_at, head_of, call_head_at, parts_of, lists_at, call_at, index_list_at, indices_at, element_of, element_at, put_of, put_at, redim_of, redim_at, string_at, ids_of, names_at, get_ids_at, number_at, fields_at, listed_at, layout_at}
 
 guid_reads : Reads Always guid guid_at
 unfolding guid_at
@@ -25,44 +34,96 @@ field_reads =
     ignored_then 4 (bind_reads exactly (λ bytes. bytes) (bytes_reads n) (λ bytes h. h.1) (λ bytes is_n.
     made_reads (λ _. bytes) (align_reads 8) (λ _ _. ((tt, is_n), refl)) (λ c p text h form. (tt, tt, sym h.1)))))
 
-head_is : (h : HeadValue) (object : ℕ) (dispid : ℤ) (interface riid : List ℕ) (lcid flags : ℕ) (named : List ℤ) → h.object ≡ object → h.dispid ≡ dispid → h.interface ≡ interface → h.riid ≡ riid → h.lcid ≡ lcid → h.flags ≡ flags → h.named ≡ named
-    → head_of object dispid interface riid lcid flags named h.fields ≡ h
-head_is h object dispid interface riid lcid flags named a b c d e f g = rw (← a, ← b, ← c, ← d, ← e, ← f, ← g) refl
+head_is : (h : CallHead) (object : ℕ) (dispid : ℤ) (interface riid : List ℕ) (lcid flags : ℕ) → h.object ≡ object → h.dispid ≡ dispid → h.interface ≡ interface → h.riid ≡ riid → h.lcid ≡ lcid → h.flags ≡ flags
+    → head_of object dispid interface riid lcid flags ≡ h
+head_is h object dispid interface riid lcid flags a b c d e f = rw (← a, ← b, ← c, ← d, ← e, ← f) refl
 
-head_reads : Reads Always head head_at
-unfolding head_at lists_at
-head_reads =
-    bind_reads (unit 4) (λ (h : HeadValue). h.object) (unit_reads 4) (λ _ _. tt) (λ object _.
-    bind_reads dispid (λ (h : HeadValue). h.dispid) dispid_reads (λ _ _. tt) (λ id _.
-    bind_reads guid (λ (h : HeadValue). h.interface) guid_reads (λ _ _. tt) (λ interface _.
-    bind_reads guid (λ (h : HeadValue). h.riid) guid_reads (λ _ _. tt) (λ riid _.
-    bind_reads (unit 4) (λ (h : HeadValue). h.lcid) (unit_reads 4) (λ _ _. tt) (λ lcid _.
-    bind_reads (unit 2) (λ (h : HeadValue). h.flags) (unit_reads 2) (λ _ _. tt) (λ flags _.
-    ignored_then 2 (bind_reads (unit 4) (λ (h : HeadValue). length h.fields) (unit_reads 4) (λ _ _. tt) (λ count _.
-    bind_reads (unit 4) (λ (h : HeadValue). length h.named) (unit_reads 4) (λ _ _. tt) (λ named_count _.
+call_head_reads : Reads Always call_head call_head_at
+unfolding call_head_at
+call_head_reads =
+    bind_reads (unit 4) (λ (h : CallHead). h.object) (unit_reads 4) (λ _ _. tt) (λ object _.
+    bind_reads dispid (λ (h : CallHead). h.dispid) dispid_reads (λ _ _. tt) (λ id _.
+    bind_reads guid (λ (h : CallHead). h.interface) guid_reads (λ _ _. tt) (λ interface _.
+    bind_reads guid (λ (h : CallHead). h.riid) guid_reads (λ _ _. tt) (λ riid _.
+    bind_reads (unit 4) (λ (h : CallHead). h.lcid) (unit_reads 4) (λ _ _. tt) (λ lcid _.
+    bind_reads (unit 2) (λ (h : CallHead). h.flags) (unit_reads 2) (λ _ _. tt) (λ flags _.
+    ignored_then 2 (none_reads {F = λ _. nothing} (head_of object id interface riid lcid flags) ((((((tt, refl), refl), refl), refl), refl), refl) (λ p. refl)
+    (λ h p text q form. (sym (head_is h object id interface riid lcid flags q.0.0.0.0.0.1 q.0.0.0.0.1 q.0.0.0.1 q.0.0.1 q.0.1 q.1), form)))))))))
+
+call_is : (c : CallParts) (head : CallHead) (named : List ℤ) → c.head ≡ head → c.named ≡ named → parts_of head named c.fields ≡ c
+call_is c head named a b = rw (← a, ← b) refl
+
+call_reads : Reads Always call_parts call_at
+unfolding call_at lists_at
+call_reads =
+    bind_reads call_head (λ (c : CallParts). c.head) call_head_reads (λ _ _. tt) (λ head _.
+    bind_reads (unit 4) (λ (c : CallParts). length c.fields) (unit_reads 4) (λ _ _. tt) (λ count _.
+    bind_reads (unit 4) (λ (c : CallParts). length c.named) (unit_reads 4) (λ _ _. tt) (λ named_count _.
     choose_reads (leb count max_arguments && leb named_count max_arguments)
-    (λ few. given_then (λ h p. few_lists count named_count h few p.0.1 p.1)
-    (bind_reads (each dispid) (λ (h : HeadValue). h.named) (many_reads dispid_reads named_count) (λ h p. (p.1, all_always h.named)) (λ named is_named.
-    align_then 8 (made_reads (head_of object id interface riid lcid flags named) (many_reads field_reads count)
-    (λ lists is. ((((((((((tt, refl), refl), refl), refl), refl), refl), is.0), is_named.0), refl)))
-    (λ h p text q form. (h.fields, (q.0.0.1, all_always h.fields), head_is h object id interface riid lcid flags named q.0.0.0.0.0.0.0.0.1 q.0.0.0.0.0.0.0.1 q.0.0.0.0.0.0.1 q.0.0.0.0.0.1 q.0.0.0.0.1 q.0.0.0.1 q.1))))))
-    (λ many. fail_reads (λ h p text q form. too_many count named_count h many q.0.1 q.1 form.first.fact)))))))))))
+    (λ few. given_then (λ c p. few_lists count named_count c few p.0.1 p.1)
+    (bind_reads (each dispid) (λ (c : CallParts). c.named) (many_reads dispid_reads named_count) (λ c p. (p.1, all_always c.named)) (λ named is_named.
+    align_then 8 (made_reads (parts_of head named) (many_reads field_reads count)
+    (λ lists is. ((((tt, refl), is.0), is_named.0), refl))
+    (λ c p text q form. (c.fields, (q.0.0.1, all_always c.fields), call_is c head named q.0.0.0.1 q.1))))))
+    (λ many. fail_reads (λ c p text q form. too_many count named_count c many q.0.1 q.1 form.first.fact)))))
   where
-    few_lists : (count named_count : ℕ) (h : HeadValue) → (leb count max_arguments && leb named_count max_arguments) ≡ true → length h.fields ≡ count → length h.named ≡ named_count → (length h.fields ≤ max_arguments) × (length h.named ≤ max_arguments)
-    few_lists count named_count h few a b = parts (leb count max_arguments) (leb named_count max_arguments) few refl refl
+    few_lists : (count named_count : ℕ) (c : CallParts) → (leb count max_arguments && leb named_count max_arguments) ≡ true → length c.fields ≡ count → length c.named ≡ named_count → (length c.fields ≤ max_arguments) × (length c.named ≤ max_arguments)
+    few_lists count named_count c few a b = parts (leb count max_arguments) (leb named_count max_arguments) few refl refl
       where
-        parts : (p q : Bool) → (p && q) ≡ true → leb count max_arguments ≡ p → leb named_count max_arguments ≡ q → (length h.fields ≤ max_arguments) × (length h.named ≤ max_arguments)
+        parts : (p q : Bool) → (p && q) ≡ true → leb count max_arguments ≡ p → leb named_count max_arguments ≡ q → (length c.fields ≤ max_arguments) × (length c.named ≤ max_arguments)
         parts true true e x y = (omega (arith, leb-true _ _ x, a), omega (arith, leb-true _ _ y, b))
         parts true false e x y = absurd cc
         parts false q e x y = absurd cc
 
-    too_many : (count named_count : ℕ) (h : HeadValue) → (leb count max_arguments && leb named_count max_arguments) ≡ false → length h.fields ≡ count → length h.named ≡ named_count → (length h.fields ≤ max_arguments) × (length h.named ≤ max_arguments) → ⊥
-    too_many count named_count h many a b fits = parts (leb count max_arguments) (leb named_count max_arguments) many refl refl
+    too_many : (count named_count : ℕ) (c : CallParts) → (leb count max_arguments && leb named_count max_arguments) ≡ false → length c.fields ≡ count → length c.named ≡ named_count → (length c.fields ≤ max_arguments) × (length c.named ≤ max_arguments) → ⊥
+    too_many count named_count c many a b fits = parts (leb count max_arguments) (leb named_count max_arguments) many refl refl
       where
         parts : (p q : Bool) → (p && q) ≡ false → leb count max_arguments ≡ p → leb named_count max_arguments ≡ q → ⊥
         parts true true e x y = absurd cc
         parts true false e x y = omega (arith, leb-false _ _ y, b, fits.1)
         parts false q e x y = omega (arith, leb-false _ _ x, a, fits.0)
+
+few_indices : (n : ℕ) (xs : List ℤ) → leb n max_indices ≡ true → length xs ≡ n → length xs ≤ max_indices
+few_indices n xs e is = omega (arith, leb-true _ _ e, is)
+
+indices_reads : Reads Always indices indices_at
+unfolding indices_at index_list_at
+indices_reads =
+    bind_reads (unit 4) (λ (xs : List ℤ). length xs) (unit_reads 4) (λ _ _. tt) (λ n _.
+    ignored_then 4 (choose_reads (leb n max_indices)
+    (λ few. given_then (λ xs p. few_indices n xs few p.1)
+    (bind_reads (each dispid) (λ (xs : List ℤ). xs) (many_reads dispid_reads n) (λ xs p. (p.1, all_always xs)) (λ xs is_n.
+    made_reads (λ _. xs) (align_reads 8) (λ _ _. ((tt, is_n.0), refl)) (λ c p text h form. (tt, tt, sym h.1)))))
+    (λ many. fail_reads (λ xs p text q form. omega (arith, leb-false _ _ many, q.1, form.first.fact)))))
+
+element_reads : Reads Always element_parts element_at
+unfolding element_at
+element_reads =
+    bind_reads call_parts (λ (e : ElementParts). e.call) call_reads (λ _ _. tt) (λ call _.
+    made_reads (element_of call) indices_reads (λ _ _. (tt, refl)) (λ e p text q form. (e.indices, tt, ap (λ (c : CallParts). element_of c e.indices) (sym q.1))))
+
+put_reads : Reads Always put_parts put_at
+unfolding put_at
+put_reads =
+    bind_reads element_parts (λ (p : PutParts). p.element) element_reads (λ _ _. tt) (λ element _.
+    made_reads (put_of element) field_reads (λ _ _. (tt, refl)) (λ x p text q form. (x.value, tt, ap (λ (e : ElementParts). put_of e x.value) (sym q.1))))
+
+abbrev bound_of : ℕ → ℤ → Bound
+bound_of count lower = record { count = count; lower = lower }
+
+bound_is : (b : Bound) (count : ℕ) → b.count ≡ count → bound_of count b.lower ≡ b
+bound_is b count e = rw (← e) refl
+
+bound_reads : Reads Always bound bound_at
+unfolding bound_at
+bound_reads = bind_reads (unit 4) (λ (b : Bound). b.count) (unit_reads 4) (λ _ _. tt) (λ count _.
+    made_reads (bound_of count) (signed_reads 4 w32) (λ lower _. (tt, refl)) (λ b p text h form. (b.lower, tt, bound_is b count h.1)))
+
+redim_reads : Reads Always redim_parts redim_at
+unfolding redim_at
+redim_reads =
+    bind_reads call_parts (λ (r : RedimParts). r.call) call_reads (λ _ _. tt) (λ call _.
+    made_reads (redim_of call) bound_reads (λ _ _. (tt, refl)) (λ r p text q form. (r.bound, tt, ap (λ (c : CallParts). redim_of c r.bound) (sym q.1))))
 
 string_reads : Reads Always string string_at
 unfolding string_at
@@ -105,59 +166,113 @@ get_ids_reads =
         parts true false e x y = omega (arith, leb-false _ _ y, a, fits.1)
         parts false q e x y = omega (arith, leb-false _ _ x, a, fits.0)
 
-type_info_reads : Reads Always type_info type_info_at
-unfolding type_info_at
-type_info_reads =
-    bind_reads (unit 4) (λ (index : ℕ). index) (unit_reads 4) (λ _ _. tt) (λ index _.
-    ignored_then 4 (none_reads {F = λ _. nothing} index (tt, refl) (λ p. refl) (λ c p text h form. (h.1, form))))
+number_reads : Reads Always number number_at
+unfolding number_at
+number_reads =
+    bind_reads (unit 4) (λ (n : ℕ). n) (unit_reads 4) (λ _ _. tt) (λ n _.
+    ignored_then 4 (none_reads {F = λ _. nothing} n (tt, refl) (λ p. refl) (λ c p text h form. (h.1, form))))
 
 -- ---- the opcodes
 
-is_create : (l : Layout) → opcode_of l ≡ 1 → (class : List ℕ) × Always class × (Layout.CreateBody class ≡ l)
-is_create (Layout.CreateBody class) e = (class, tt, refl)
-is_create (Layout.GetIdsBody call) e = absurd cc
-is_create (Layout.InvokeBody h) e = absurd cc
-is_create (Layout.TypeInfoBody index) e = absurd cc
+fields_takes : (k : Opcode) (p : ℕ) (bytes : List ℕ) (l : Layout) (end : Cursor) → fields_at k (at p bytes) ≡ Some (l, end) → (opcode_of l ≡ k) × Takes (fields l) p bytes end
+unfolding fields_at
+fields_takes opcodes.Create = made_takes (λ l. opcode_of l ≡ opcodes.Create) fields Layout.CreateBody guid_reads (λ _ _. refl)
+fields_takes opcodes.Release = made_takes (λ l. opcode_of l ≡ opcodes.Release) fields Layout.ReleaseBody number_reads (λ _ _. refl)
+fields_takes opcodes.GetIds = made_takes (λ l. opcode_of l ≡ opcodes.GetIds) fields Layout.GetIdsBody get_ids_reads (λ _ _. refl)
+fields_takes opcodes.Invoke = made_takes (λ l. opcode_of l ≡ opcodes.Invoke) fields Layout.InvokeBody call_reads (λ _ _. refl)
+fields_takes opcodes.GetElement = made_takes (λ l. opcode_of l ≡ opcodes.GetElement) fields Layout.GetElementBody element_reads (λ _ _. refl)
+fields_takes opcodes.PutElement = made_takes (λ l. opcode_of l ≡ opcodes.PutElement) fields Layout.PutElementBody put_reads (λ _ _. refl)
+fields_takes opcodes.Redimension = made_takes (λ l. opcode_of l ≡ opcodes.Redimension) fields Layout.RedimensionBody redim_reads (λ _ _. refl)
+fields_takes opcodes.Lock = made_takes (λ l. opcode_of l ≡ opcodes.Lock) fields Layout.LockBody call_reads (λ _ _. refl)
+fields_takes opcodes.Unlock = made_takes (λ l. opcode_of l ≡ opcodes.Unlock) fields Layout.UnlockBody call_reads (λ _ _. refl)
+fields_takes opcodes.TypeInfo = made_takes (λ l. opcode_of l ≡ opcodes.TypeInfo) fields Layout.TypeInfoBody number_reads (λ _ _. refl)
+fields_takes opcodes.Objects = nothing_takes (λ l. opcode_of l ≡ opcodes.Objects) fields Layout.ObjectsBody refl (λ p. refl)
 
-is_look_up : (l : Layout) → opcode_of l ≡ 3 → (call : GetIds) × Always call × (Layout.GetIdsBody call ≡ l)
-is_look_up (Layout.CreateBody class) e = absurd cc
-is_look_up (Layout.GetIdsBody call) e = (call, tt, refl)
-is_look_up (Layout.InvokeBody h) e = absurd cc
-is_look_up (Layout.TypeInfoBody index) e = absurd cc
+fields_again : (p : ℕ) (text rest : List ℕ) (l : Layout) → fields l p text → fields_at (opcode_of l) (at p (text ++ rest)) ≡ Some (l, at (p + length text) rest)
+unfolding fields_at
+fields_again p text rest (Layout.CreateBody x) form = made_again fields Layout.CreateBody guid_reads p text rest x tt form
+fields_again p text rest (Layout.ReleaseBody x) form = made_again fields Layout.ReleaseBody number_reads p text rest x tt form
+fields_again p text rest (Layout.GetIdsBody x) form = made_again fields Layout.GetIdsBody get_ids_reads p text rest x tt form
+fields_again p text rest (Layout.InvokeBody x) form = made_again fields Layout.InvokeBody call_reads p text rest x tt form
+fields_again p text rest (Layout.GetElementBody x) form = made_again fields Layout.GetElementBody element_reads p text rest x tt form
+fields_again p text rest (Layout.PutElementBody x) form = made_again fields Layout.PutElementBody put_reads p text rest x tt form
+fields_again p text rest (Layout.RedimensionBody x) form = made_again fields Layout.RedimensionBody redim_reads p text rest x tt form
+fields_again p text rest (Layout.LockBody x) form = made_again fields Layout.LockBody call_reads p text rest x tt form
+fields_again p text rest (Layout.UnlockBody x) form = made_again fields Layout.UnlockBody call_reads p text rest x tt form
+fields_again p text rest (Layout.TypeInfoBody x) form = made_again fields Layout.TypeInfoBody number_reads p text rest x tt form
+fields_again p text rest Layout.ObjectsBody form = nothing_again Layout.ObjectsBody p text rest form
 
-is_invoke : (l : Layout) → opcode_of l ≡ 4 → (h : HeadValue) × Always h × (Layout.InvokeBody h ≡ l)
-is_invoke (Layout.CreateBody class) e = absurd cc
-is_invoke (Layout.GetIdsBody call) e = absurd cc
-is_invoke (Layout.InvokeBody h) e = (h, tt, refl)
-is_invoke (Layout.TypeInfoBody index) e = absurd cc
+fields_reads : (k : Opcode) → Reads (λ l. opcode_of l ≡ k) fields (fields_at k)
+fields_reads k = record {
+  takes = fields_takes k;
+  again = λ p text rest l h form. subst (λ (j : Opcode). fields_at j (at p (text ++ rest)) ≡ Some (l, at (p + length text) rest)) h (fields_again p text rest l form);
+}
 
-is_info : (l : Layout) → opcode_of l ≡ 10 → (index : ℕ) × Always index × (Layout.TypeInfoBody index ≡ l)
-is_info (Layout.CreateBody class) e = absurd cc
-is_info (Layout.GetIdsBody call) e = absurd cc
-is_info (Layout.InvokeBody h) e = absurd cc
-is_info (Layout.TypeInfoBody index) e = (index, tt, refl)
+pub named_back : (k : Opcode) → opcode_named (number_of k) ≡ Some k
+named_back opcodes.Create = refl
+named_back opcodes.Release = refl
+named_back opcodes.GetIds = refl
+named_back opcodes.Invoke = refl
+named_back opcodes.GetElement = refl
+named_back opcodes.PutElement = refl
+named_back opcodes.Redimension = refl
+named_back opcodes.Lock = refl
+named_back opcodes.Unlock = refl
+named_back opcodes.TypeInfo = refl
+named_back opcodes.Objects = refl
 
-is_none : (l : Layout) (n : ℕ) → opcode_of l ≡ n → eqb n 1 ≡ false → eqb n 3 ≡ false → eqb n 4 ≡ false → eqb n 10 ≡ false → ⊥
-is_none (Layout.CreateBody class) n e a b c d = eqb-false _ _ a (sym e)
-is_none (Layout.GetIdsBody call) n e a b c d = eqb-false _ _ b (sym e)
-is_none (Layout.InvokeBody h) n e a b c d = eqb-false _ _ c (sym e)
-is_none (Layout.TypeInfoBody index) n e a b c d = eqb-false _ _ d (sym e)
+abbrev some_opcode : Opcode → Option Opcode
+some_opcode k = Some k
 
-fields_reads : (n : ℕ) → Reads (λ (l : Layout). opcode_of l ≡ n) fields (fields_at n)
-unfolding fields_at create_at get_ids_body_at invoke_at type_info_body_at
-fields_reads n =
-    choose_reads (eqb n 1)
-    (λ is. made_reads Layout.CreateBody guid_reads (λ _ _. sym (eqb-true n 1 is)) (λ l p text h form. is_create l (h ∙ eqb-true n 1 is)))
-    (λ not_1. choose_reads (eqb n 3)
-    (λ is. made_reads Layout.GetIdsBody get_ids_reads (λ _ _. sym (eqb-true n 3 is)) (λ l p text h form. is_look_up l (h ∙ eqb-true n 3 is)))
-    (λ not_3. choose_reads (eqb n 4)
-    (λ is. made_reads Layout.InvokeBody head_reads (λ _ _. sym (eqb-true n 4 is)) (λ l p text h form. is_invoke l (h ∙ eqb-true n 4 is)))
-    (λ not_4. choose_reads (eqb n 10)
-    (λ is. made_reads Layout.TypeInfoBody type_info_reads (λ _ _. sym (eqb-true n 10 is)) (λ l p text h form. is_info l (h ∙ eqb-true n 10 is)))
-    (λ not_10. fail_reads (λ l p text h form. is_none l n h not_1 not_3 not_4 not_10)))))
+same_opcode : (k j : Opcode) → some_opcode k ≡ Some j → k ≡ j
+same_opcode k j e = cc
 
-pub layout_reads : Reads Always layout layout_at
+tried : (n m : ℕ) (j : Opcode) (other : Option Opcode) (k : Opcode) → number_of j ≡ m → cond (eqb n m) (Some j) other ≡ Some k → (other ≡ Some k → number_of k ≡ n) → number_of k ≡ n
+tried n m j other k is e next = by_test (eqb n m) refl e
+  where
+    by_test : (b : Bool) → eqb n m ≡ b → cond b (Some j) other ≡ Some k → number_of k ≡ n
+    by_test true h e = ap number_of (sym (same_opcode j k e)) ∙ is ∙ sym (eqb-true _ _ h)
+    by_test false h e = next e
+
+pub number_from : (n : ℕ) (k : Opcode) → opcode_named n ≡ Some k → number_of k ≡ n
+number_from n k e =
+    tried n 1 opcodes.Create _ k refl e (λ e. tried n 2 opcodes.Release _ k refl e (λ e. tried n 3 opcodes.GetIds _ k refl e (λ e.
+    tried n 4 opcodes.Invoke _ k refl e (λ e. tried n 5 opcodes.GetElement _ k refl e (λ e. tried n 6 opcodes.PutElement _ k refl e (λ e.
+    tried n 7 opcodes.Redimension _ k refl e (λ e. tried n 8 opcodes.Lock _ k refl e (λ e. tried n 9 opcodes.Unlock _ k refl e (λ e.
+    tried n 10 opcodes.TypeInfo _ k refl e (λ e. tried n 11 opcodes.Objects _ k refl e (λ e. absurd cc)))))))))))
+
+-- what is listed is named so, and listed
+only_is : (o : Option Opcode) (k : Opcode) → only_listed o ≡ Some k → (o ≡ Some k) × (is_listed k ≡ true)
+only_is None k e = absurd cc
+only_is (Some j) k e = by_test (is_listed j) refl e
+  where
+    by_test : (b : Bool) → is_listed j ≡ b → cond b (Some j) None ≡ Some k → (some_opcode j ≡ Some k) × (is_listed k ≡ true)
+    by_test true h e = (e, ap is_listed (sym (same_opcode j k e)) ∙ h)
+    by_test false h e = absurd cc
+
+only_back : (k : Opcode) → is_listed k ≡ true → only_listed (Some k) ≡ Some k
+only_back k h = ap (λ (b : Bool). cond b (Some k) None) h
+
+pub listed_back : (k : Opcode) → is_listed k ≡ true → listed_opcode (number_of k) ≡ Some k
+listed_back k h = ap only_listed (named_back k) ∙ only_back k h
+
+-- the layouts of a number
+abbrev IsOf : ℕ → Layout → Type 0
+IsOf n l = (number_of (opcode_of l) ≡ n) × (is_listed (opcode_of l) ≡ true)
+
+listed_reads : (n : ℕ) (o : Option Opcode) → listed_opcode n ≡ o → Reads (IsOf n) fields (listed_at o)
+unfolding listed_at
+listed_reads n None e = fail_reads (λ l p text h _.
+    let some : listed_opcode n ≡ Some (opcode_of l) = ap listed_opcode (sym h.0) ∙ listed_back (opcode_of l) h.1 in
+    absurd cc)
+listed_reads n (Some k) e =
+    let is = only_is (opcode_named n) k e in
+    same_values (fields_reads k)
+    (λ l h. (ap number_of h ∙ number_from n k is.0, ap is_listed h ∙ is.1))
+    (λ l h. same_opcode (opcode_of l) k (sym (listed_back (opcode_of l) h.1) ∙ ap listed_opcode h.0 ∙ e))
+
+pub layout_reads : Reads (λ (l : Layout). is_listed (opcode_of l) ≡ true) layout layout_at
 unfolding layout_at
 layout_reads =
-    ignored_then 4 (bind_reads (unit 2) opcode_of (unit_reads 2) (λ _ _. tt) (λ opcode _.
-    ignored_then 2 (same_values (fields_reads opcode) (λ l h. (tt, h)) (λ l h. h.1))))
+    ignored_then 4 (bind_reads (unit 2) (λ l. number_of (opcode_of l)) (unit_reads 2) (λ _ _. tt) (λ n _.
+    ignored_then 2 (same_values (listed_reads n (listed_opcode n) refl) (λ l h. (h.1, h.0)) (λ l h. (h.1, h.0)))))

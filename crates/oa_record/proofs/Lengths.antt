@@ -1,9 +1,11 @@
 -- Parts of replies, and their lengths.
-use Rattle.std.proofs.Common.{◌≡◌, ◌≤◌, ℕ, ℤ, ◌-◌, ◌*◌, ◌%◌, Bool, true, false, eqb, if◌then◌else◌, List, [], ◌∷◌, ◌++◌, length, replicate, refl, ap, ◌∙◌, append_assoc, arith}
+use Rattle.std.proofs.Common.{◌≡◌, ◌≤◌, ℕ, zero, suc, ℤ, ◌-◌, ◌*◌, ◌%◌, Bool, true, false, eqb, if◌then◌else◌, List, [], ◌∷◌, ◌++◌, Result, Ok, Err, OnOk, length, replicate, refl, ap, ◌∙◌, append_assoc, arith}
+use Rattle.std.proofs.lemmas.Bool.{eqb-false}
 use Rattle.std.proofs.lemmas.List.{length-append, length-replicate}
 use Rattle.std.proofs.lemmas.List.Concat.{flat_map-cons}
 use Rattle.std.specs.List.{flat_map}
 use Rattle.oa_ndr.specs.Forms.{padding}
+use Rattle.oa_ndr.specs.Writing.{Output, field_after, within}
 use Rattle.oa_record.specs.Replies.{word, half_word, signed_word, number_field, padded}
 
 pub signed_length : (ids : List ℤ) → length (flat_map signed_word ids) ≡ 4 * length ids
@@ -34,3 +36,24 @@ small_field n ids few =
     let bytes = flat_map signed_word ids in
     let zeros = few_zeros (eqb (length bytes % 8) 0) (length bytes % 8) in
     omega (arith, number_length n, signed_length ids, zeros, length-append (number_field n) (padded bytes), length-append bytes (replicate (padding 8 (length bytes)) 0), length-replicate {A = ℕ} (padding 8 (length bytes)) 0)
+
+positive : (x : ℕ) → (x ≡ 0 → ⊥) → 1 ≤ x
+positive zero n = absurd (n refl)
+positive (suc x) n = omega arith
+
+zeros_below : (x : ℕ) → (if eqb x 0 then 0 else 8 - x) ≤ 7
+zeros_below x = by_test (eqb x 0) refl
+  where
+    by_test : (b : Bool) → eqb x 0 ≡ b → (if b then 0 else 8 - x) ≤ 7
+    by_test true h = omega arith
+    by_test false h = let some = positive x (eqb-false _ _ h) in omega (arith, some)
+
+-- the longest field of a value
+pub value_small : (n : ℕ) (bytes : List ℕ) → length bytes ≤ 4294967264 → length (number_field n ++ padded bytes) ≤ 4294967279
+value_small n bytes few =
+    omega (arith, few, number_length n, zeros_below (length bytes % 8), length-append (number_field n) (padded bytes), length-append bytes (replicate (padding 8 (length bytes)) 0), length-replicate {A = ℕ} (padding 8 (length bytes)) 0)
+
+-- a field that was written at the end of a vector
+pub field_added : {E : Type 0} (r : Result (Unit {0}) E) (old whole : List ℕ) (new : Output) (put : List ℕ → List ℕ) → whole ≡ new.before ++ new.field → OnOk r (new ≡ within put (field_after old)) → OnOk r (whole ≡ old ++ put [])
+field_added (Ok u) old whole new put is h = is ∙ ap (λ (o : Output). o.before ++ o.field) h
+field_added (Err e) old whole new put is h = tt

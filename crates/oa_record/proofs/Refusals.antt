@@ -1,10 +1,10 @@
 -- A body has one refusal.
-use Rattle.std.proofs.Common.{◌≡◌, inl, inr, ℕ, suc, List, [], ◌∷◌, ◌++◌, length, drop, refl, sym, ap, subst, ◌∙◌}
+use Rattle.std.proofs.Common.{◌≡◌, inl, inr, ℕ, suc, List, [], ◌∷◌, ◌++◌, length, drop, Option, refl, sym, ap, subst, ◌∙◌}
 use Rattle.std.specs.List.{AllByRecursion}
 use Rattle.oa_wire_variant.specs.Variants.{Spells}
 use Rattle.oa_wire_array.specs.declared.fault.WireFault.TheVariants as faults
 use Rattle.oa_record.specs.Layouts.{variant_fields}
-use Rattle.oa_record.specs.Asks.{IsSpelled, IsUnbroken, Spoils, IsStub, IsBadVarType}
+use Rattle.oa_record.specs.Asks.{index_of, IsSpelled, IsUnbroken, Spoils, IsStub, IsBadVarType}
 use Rattle.oa_record.proofs.Requests.{one_layout}
 
 one_fault : (field : List ℕ) → Spoils field faults.BadVarType → Spoils field faults.BadStub → ⊥
@@ -19,7 +19,7 @@ none_broken : (front back : List (List ℕ)) (field : List ℕ) → AllByRecursi
 none_broken [] back field h broken = h.0 broken
 none_broken (f ∷ front) back field h broken = none_broken front back field h.1 broken
 
-pub one_code : (body : List ℕ) (index : ℕ) → IsStub body → IsBadVarType body index → ⊥
+pub one_code : (body : List ℕ) (index : Option ℕ) → IsStub body → IsBadVarType body index → ⊥
 one_code body index (inl none) b = none b.parts b.lies
 one_code body index (inr a) b =
     let same : variant_fields a.parts ≡ variant_fields b.parts = ap variant_fields (one_layout body a.parts b.parts a.lies b.lies) in
@@ -34,9 +34,10 @@ same_place [] (f ∷ b) p q x y ha hb bad_x bad_y e = let same : f ≡ x = cc in
 same_place (f ∷ a) [] p q x y ha hb bad_x bad_y e = let same : f ≡ y = cc in absurd (bad_y.nothing ha.0.0 (subst (λ (r : List ℕ). Spells r ha.0.0) same ha.0.1))
 same_place (f ∷ a) (g ∷ b) p q x y ha hb bad_x bad_y e = ap suc (same_place a b p q x y ha.1 hb.1 bad_x bad_y (ap (drop 1) e))
 
-pub one_index : (body : List ℕ) (i j : ℕ) → IsBadVarType body i → IsBadVarType body j → i ≡ j
+pub one_index : (body : List ℕ) (i j : Option ℕ) → IsBadVarType body i → IsBadVarType body j → i ≡ j
 one_index body i j a b =
-    let same : variant_fields a.parts ≡ variant_fields b.parts = ap variant_fields (one_layout body a.parts b.parts a.lies b.lies) in
-    sym a.bad.place
-    ∙ same_place a.bad.front b.bad.front a.bad.back b.bad.back a.bad.field b.bad.field a.bad.lowest b.bad.lowest a.bad.bad b.bad.bad (sym a.bad.whole ∙ same ∙ b.bad.whole)
-    ∙ b.bad.place
+    let parts : a.parts ≡ b.parts = one_layout body a.parts b.parts a.lies b.lies in
+    let place : a.place ≡ b.place = sym a.bad.place
+    ∙ same_place a.bad.front b.bad.front a.bad.back b.bad.back a.bad.field b.bad.field a.bad.lowest b.bad.lowest a.bad.bad b.bad.bad (sym a.bad.whole ∙ ap variant_fields parts ∙ b.bad.whole)
+    ∙ b.bad.place in
+    a.named ∙ (λ k. index_of (parts k) (place k)) ∙ sym b.named

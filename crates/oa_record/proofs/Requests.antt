@@ -1,22 +1,23 @@
 -- A body asks one request, or is refused.
-use Rattle.std.proofs.Common.{◌≡◌, inl, inr, ℕ, ◌≤◌, List, [], ◌∷◌, ◌++◌, length, Option, Some, None, Err, refl, sym, ap, subst, ◌∙◌}
+use Rattle.std.proofs.Common.{◌≡◌, inl, inr, ℕ, ℤ, ◌≤◌, true, List, [], ◌∷◌, ◌++◌, length, Option, Some, None, Result, Ok, Err, refl, sym, ap, subst, ◌∙◌}
 use Rattle.oa_ndr.specs.Reading.{whole}
 use Rattle.oa_ndr.proofs.Laws.{one_value, whole_takes, whole_again}
 use Rattle.oa_variant.specs.declared.variant.Variant.{Variant}
 use Rattle.oa_wire_variant.specs.Variants.{Spells}
 use Rattle.oa_wire_array.specs.declared.fault.WireFault.{WireFault}
+use Rattle.oa_record.specs.CallParts.{CallParts}
 use Rattle.oa_record.specs.Layouts.{Layout, opcode_of, variant_fields}
-use Rattle.oa_record.specs.Heads.{HeadValue}
-use Rattle.oa_record.specs.Reading.{layout_at, Fails, IsStarvedBody}
-use Rattle.oa_record.specs.Judging.{Refuses}
+use Rattle.oa_record.specs.Opcodes.{number_of, opcode_at, opcode_takes_memory, some_takes_memory, takes_memory}
+use Rattle.oa_record.specs.Reading.{element_of, put_of, layout_at, Fails, IsStarvedBody}
+use Rattle.oa_record.specs.Judging.{MissesType, Requests, Refuses, Takes, put_fault, put_index}
+use Rattle.oa_record.specs.declared.opcode.Opcode.TheVariants as opcodes
 use Rattle.oa_record.specs.declared.fault.RecordFault.{RecordFault}
 use Rattle.oa_record.specs.declared.fault.RecordFault.TheVariants.{Stub, BadVarType, Memory}
 use Rattle.oa_record.specs.declared.request.Request.TheVariants as requests
-use Rattle.oa_record.specs.Asks.{Lies, AllSpell, request_of, request_opcode, Asks, Spoils, HasBroken, HasBadType, HasNoLayout, IsStub, IsBadVarType, IsRequest, opcode_at, opcode_takes_memory, max_body}
+use Rattle.oa_record.specs.Asks.{Lies, AllSpell, call_of, index_of, with_last, request_of, request_opcode, Asks, Spoils, HasBroken, HasBadType, HasNoLayout, IsStub, IsBadVarType, IsRequest, max_body}
 use Rattle.oa_record.specs.declared.request.Request.{Request}
-use Rattle.oa_record.specs.declared.request.Invoke.{Invoke}
-use Rattle.oa_record.specs.declared.request.GetIds.{GetIds}
-use Rattle.oa_record.proofs.LayoutLaws.{layout_reads}
+use Rattle.oa_record.specs.declared.request.Call.{Call}
+use Rattle.oa_record.proofs.LayoutLaws.{layout_reads, listed_back}
 use Rattle.oa_record.proofs.Header.{opcode_lies}
 
 -- what spells a value, spells no other
@@ -35,24 +36,44 @@ same_spelled one (f ∷ fs) [] ws a b = absurd a
 same_spelled one (f ∷ fs) (v ∷ vs) [] a b = absurd b
 
 pub one_layout : (body : List ℕ) (p q : Layout) → Lies p body → Lies q body → p ≡ q
-one_layout body p q a b = one_value layout_reads body p q tt a.form tt b.form
+one_layout body p q a b = one_value layout_reads body p q a.listed a.form b.listed b.form
+
+abbrev some_request : Request → Option Request
+some_request q = Some q
+
+same_request : (p q : Request) → some_request p ≡ Some q → p ≡ q
+same_request p q e = cc
 
 pub one_request : OneValue → (body : List ℕ) (p q : Request) → Asks body p → Asks body q → p ≡ q
 one_request one body p q a b =
     let parts : a.parts ≡ b.parts = one_layout body a.parts b.parts a.lies b.lies in
     let values : a.values ≡ b.values = same_spelled one (variant_fields b.parts) a.values b.values (subst (λ (l : Layout). AllSpell (variant_fields l) a.values) parts a.spelled) b.spelled in
-    a.is ∙ (λ i. request_of (parts i) (values i)) ∙ sym b.is
+    same_request p q (sym a.is ∙ (λ i. request_of (parts i) (values i)) ∙ b.is)
 
-opcode_same : (l : Layout) (vs : List Variant) → request_opcode (request_of l vs) ≡ opcode_of l
-opcode_same (Layout.CreateBody class) vs = refl
-opcode_same (Layout.GetIdsBody call) vs = refl
-opcode_same (Layout.TypeInfoBody index) vs = refl
-opcode_same (Layout.InvokeBody h) vs = refl
+-- values that make a PUTELEM
+opcode_put : (call : CallParts) (indices : List ℤ) (vs : List Variant) (f : List Variant → Variant → Request) (q : Request) → ((arguments : List Variant) (value : Variant) → request_opcode (f arguments value) ≡ opcodes.PutElement)
+    → with_last vs (λ arguments value. Some (f arguments value)) ≡ Some q → request_opcode q ≡ opcodes.PutElement
+opcode_put call indices [] f q h e = absurd cc
+opcode_put call indices (v ∷ []) f q h e = ap request_opcode (sym (same_request (f [] v) q e)) ∙ h [] v
+opcode_put call indices (v ∷ w ∷ ws) f q h e = opcode_put call indices (w ∷ ws) (λ arguments value. f (v ∷ arguments) value) q (λ arguments value. h (v ∷ arguments) value) e
 
-pub opcode_stands : (body : List ℕ) (q : Request) → Asks body q → (8 ≤ length body) × (opcode_at body ≡ request_opcode q)
+opcode_same : (l : Layout) (vs : List Variant) (q : Request) → request_of l vs ≡ Some q → request_opcode q ≡ opcode_of l
+opcode_same (Layout.CreateBody class) vs q e = ap request_opcode (sym (same_request _ q e))
+opcode_same (Layout.ReleaseBody object) vs q e = ap request_opcode (sym (same_request _ q e))
+opcode_same (Layout.GetIdsBody call) vs q e = ap request_opcode (sym (same_request _ q e))
+opcode_same (Layout.InvokeBody call) vs q e = ap request_opcode (sym (same_request _ q e))
+opcode_same (Layout.GetElementBody element) vs q e = ap request_opcode (sym (same_request _ q e))
+opcode_same (Layout.PutElementBody put) vs q e = opcode_put put.element.call put.element.indices vs (λ arguments value. requests.PutElement (call_of put.element.call arguments) put.element.indices value) q (λ arguments value. refl) e
+opcode_same (Layout.RedimensionBody redim) vs q e = ap request_opcode (sym (same_request _ q e))
+opcode_same (Layout.LockBody call) vs q e = ap request_opcode (sym (same_request _ q e))
+opcode_same (Layout.UnlockBody call) vs q e = ap request_opcode (sym (same_request _ q e))
+opcode_same (Layout.TypeInfoBody index) vs q e = ap request_opcode (sym (same_request _ q e))
+opcode_same Layout.ObjectsBody vs q e = ap request_opcode (sym (same_request _ q e))
+
+pub opcode_stands : (body : List ℕ) (q : Request) → Asks body q → (8 ≤ length body) × (opcode_at body ≡ number_of (request_opcode q))
 opcode_stands body q a =
     let h = opcode_lies a.parts body a.lies.form in
-    (h.0, h.1 ∙ sym (opcode_same a.parts a.values) ∙ ap request_opcode (sym a.is))
+    (h.0, h.1 ∙ ap number_of (sym (opcode_same a.parts a.values q a.is)))
 
 -- a field that spells nothing is no field of values
 not_spelled : (why : WireFault) (front back : List (List ℕ)) (field : List ℕ) (vs : List Variant) → Spoils field why → AllSpell (front ++ field ∷ back) vs → ⊥
@@ -70,43 +91,70 @@ pub stub_asks_nothing : (body : List ℕ) (q : Request) → IsStub body → Asks
 stub_asks_nothing body q (inl none) a = none a.parts a.lies
 stub_asks_nothing body q (inr b) a = spoilt_asks_nothing _ body q b.parts b.broken.front b.broken.back b.broken.field b.lies b.broken.whole b.broken.broken a
 
-pub bad_type_asks_nothing : (body : List ℕ) (index : ℕ) (q : Request) → IsBadVarType body index → Asks body q → ⊥
+pub bad_type_asks_nothing : (body : List ℕ) (index : Option ℕ) (q : Request) → IsBadVarType body index → Asks body q → ⊥
 bad_type_asks_nothing body index q b a = spoilt_asks_nothing _ body q b.parts b.bad.front b.bad.back b.bad.field b.lies b.bad.whole b.bad.bad a
 
 -- ---- what reading a body answers
 
 no_layout : (body : List ℕ) → whole layout_at body ≡ None → HasNoLayout body
-no_layout body none parts lies = let some = whole_again layout_reads body parts tt lies.form in absurd (clash (whole layout_at body) none parts some)
+no_layout body none parts lies = let some = whole_again layout_reads body parts lies.listed lies.form in absurd (clash (whole layout_at body) none parts some)
   where
     clash : (o : Option Layout) → o ≡ None → (parts : Layout) → o ≡ Some parts → ⊥
     clash None a parts b = cc
     clash (Some x) a parts b = cc
 
 lies_so : (body : List ℕ) (parts : Layout) → length body ≤ max_body → whole layout_at body ≡ Some parts → Lies parts body
-lies_so body parts short e = record { short = short; form = (whole_takes layout_reads body parts e).1 }
+lies_so body parts short e =
+    let h = whole_takes layout_reads body parts e in
+    record { short = short; listed = h.0; form = h.1 }
 
 pub no_parts : (body : List ℕ) (e : RecordFault) → length body ≤ max_body → Fails e (whole layout_at body) → IsStarvedBody e body → IsRequest body (Err e)
 no_parts body Stub short none s = inl (no_layout body none)
 no_parts body (BadVarType i) short none s = absurd none
 no_parts body Memory short none s = record { long = s.0; short = short; opcode = s.1 }
 
-pub no_values : (body : List ℕ) (head : HeadValue) (fields : List (List ℕ)) (e : RecordFault) → length body ≤ max_body → whole layout_at body ≡ Some (Layout.InvokeBody head) → fields ≡ head.fields → Refuses fields e → IsRequest body (Err e)
-no_values body head fields Stub short read same h = inr (record { parts = Layout.InvokeBody head; lies = lies_so body (Layout.InvokeBody head) short read; broken = subst HasBroken same h })
-no_values body head fields (BadVarType index) short read same h = (h.0, h.1, record { parts = Layout.InvokeBody head; lies = lies_so body (Layout.InvokeBody head) short read; bad = subst (λ (fs : List (List ℕ)). HasBadType fs h.0) same h.2 })
-no_values body head fields Memory short read same h =
-    let lies = lies_so body (Layout.InvokeBody head) short read in
-    let at = opcode_lies (Layout.InvokeBody head) body lies.form in
-    record { long = at.0; short = short; opcode = ap opcode_takes_memory at.1 }
+-- what the values of a layout answer is the answer
+asks : (body : List ℕ) (parts : Layout) (q : Request) → length body ≤ max_body → whole layout_at body ≡ Some parts → Takes parts q → Asks body q
+asks body parts q short read t = record { parts = parts; lies = lies_so body parts short read; values = t.values; spelled = t.spelled; is = t.is }
 
-pub asks_create : (body class : List ℕ) → length body ≤ max_body → whole layout_at body ≡ Some (Layout.CreateBody class) → Asks body (requests.Create class)
-asks_create body class short read = record { parts = Layout.CreateBody class; lies = lies_so body (Layout.CreateBody class) short read; values = []; spelled = tt; is = refl }
+refuses : (body : List ℕ) (parts : Layout) (e : RecordFault) → length body ≤ max_body → whole layout_at body ≡ Some parts → Requests parts (Err e) → IsRequest body (Err e)
+refuses body parts Stub short read h = inr (record { parts = parts; lies = lies_so body parts short read; broken = h })
+refuses body parts (BadVarType index) short read h = record { parts = parts; lies = lies_so body parts short read; place = h.place; bad = h.bad; named = h.named }
+refuses body parts Memory short read h =
+    let lies = lies_so body parts short read in
+    let at = opcode_lies parts body lies.form in
+    record { long = at.0; short = short; opcode = ap opcode_takes_memory at.1 ∙ ap some_takes_memory (listed_back (opcode_of parts) lies.listed) ∙ h }
 
-pub asks_get_ids : (body : List ℕ) (call : GetIds) → length body ≤ max_body → whole layout_at body ≡ Some (Layout.GetIdsBody call) → Asks body (requests.GetIds call)
-asks_get_ids body call short read = record { parts = Layout.GetIdsBody call; lies = lies_so body (Layout.GetIdsBody call) short read; values = []; spelled = tt; is = refl }
+pub answered : (body : List ℕ) (parts : Layout) (r : Result Request RecordFault) → length body ≤ max_body → whole layout_at body ≡ Some parts → Requests parts r → IsRequest body r
+answered body parts (Ok q) short read h = asks body parts q short read h
+answered body parts (Err e) short read h = refuses body parts e short read h
 
-pub asks_type_info : (body : List ℕ) (index : ℕ) → length body ≤ max_body → whole layout_at body ≡ Some (Layout.TypeInfoBody index) → Asks body (requests.TypeInfo index)
-asks_type_info body index short read = record { parts = Layout.TypeInfoBody index; lies = lies_so body (Layout.TypeInfoBody index) short read; values = []; spelled = tt; is = refl }
+-- ---- the values of a layout
 
-pub asks_invoke : (body : List ℕ) (head : HeadValue) (fields : List (List ℕ)) (values : List Variant) (q : Invoke) → length body ≤ max_body → whole layout_at body ≡ Some (Layout.InvokeBody head) → fields ≡ head.fields → AllSpell fields values
-    → requests.Invoke q ≡ request_of (Layout.InvokeBody head) values → Asks body (requests.Invoke q)
-asks_invoke body head fields values q short read same h is = record { parts = Layout.InvokeBody head; lies = lies_so body (Layout.InvokeBody head) short read; values = values; spelled = subst (λ (fs : List (List ℕ)). AllSpell fs values) same h; is = is }
+-- where the arguments are all values that there are
+pub refuses_call : (parts : Layout) (c : CallParts) (e : RecordFault) → variant_fields parts ≡ c.fields → ((place : ℕ) → index_of parts place ≡ Some place) → takes_memory (opcode_of parts) ≡ true → Refuses c.fields e → Requests parts (Err e)
+refuses_call parts c Stub fields place memory h = subst HasBroken (sym fields) h
+refuses_call parts c (BadVarType index) fields place memory h = record { place = h.0; bad = subst (λ (fs : List (List ℕ)). HasBadType fs h.0) (sym fields) h.2; named = h.1 ∙ sym (place h.0) }
+refuses_call parts c Memory fields place memory h = memory
+
+-- the new value of a cell behind the arguments
+last_is : (values : List Variant) (v : Variant) (f : List Variant → Variant → Option Request) → with_last (values ++ v ∷ []) f ≡ f values v
+last_is [] v f = refl
+last_is (x ∷ []) v f = refl
+last_is (x ∷ y ∷ values) v f = last_is (y ∷ values) v (λ more last. f (x ∷ more) last)
+
+abbrev put_body : CallParts → List ℤ → List ℕ → Layout
+put_body call indices value = Layout.PutElementBody (put_of (element_of call indices) value)
+
+pub takes_put : (call : CallParts) (indices : List ℤ) (value : List ℕ) (all values : List Variant) (last : Variant) (q : Call) → AllSpell (call.fields ++ value ∷ []) all → all ≡ values ++ last ∷ [] → q ≡ call_of call values
+    → Takes (put_body call indices value) (requests.PutElement q indices last)
+takes_put call indices value all values last q spelled parts is = record {
+  values = values ++ last ∷ [];
+  spelled = subst (λ (vs : List Variant). AllSpell (call.fields ++ value ∷ []) vs) parts spelled;
+  is = last_is values last (λ arguments v. Some (requests.PutElement (call_of call arguments) indices v)) ∙ ap (λ (x : Call). some_request (requests.PutElement x indices last)) (sym is);
+}
+
+pub refuses_put : (call : CallParts) (indices : List ℤ) (value : List ℕ) (e : RecordFault) → Refuses (call.fields ++ value ∷ []) e → Requests (put_body call indices value) (Err (put_fault (length call.fields) e))
+refuses_put call indices value Stub h = h
+refuses_put call indices value (BadVarType index) h = record { place = h.0; bad = h.2; named = ap (put_index (length call.fields)) h.1 }
+refuses_put call indices value Memory h = refl

@@ -1,14 +1,19 @@
--- Which body asks which request, and the refusal of a body that asks none (this project's choice). Each further opcode joins as a case of `request_of`.
-use Rattle.std.specs.Prelude.{◌≡◌, ◌⊎◌, ℕ, ◌≤◌, ◌==◌, ◌||◌, nat_lt, if◌then◌else◌, Bool, true, List, [], ◌∷◌, ◌++◌, length, drop, Some, Result, Ok, Err}
+-- Which body asks which request, and the refusal of a body that asks none (this project's choice).
+use Rattle.std.specs.Prelude.{◌≡◌, ◌⊎◌, ℕ, ◌≤◌, ◌==◌, nat_lt, if◌then◌else◌, true, List, [], ◌∷◌, ◌++◌, length, Option, Some, None, Result, Ok, Err}
 use Rattle.std.specs.List.{AllByRecursion}
 use Rattle.byteorder.specs.Endian.{little_number}
 use Rattle.oa_variant.specs.declared.variant.Variant.{Variant}
 use Rattle.oa_wire_variant.specs.Variants.{Spells, field_fault}
 use Rattle.oa_wire_array.specs.declared.fault.WireFault.{WireFault}
 use Rattle.oa_wire_array.specs.declared.fault.WireFault.TheVariants as faults
-use Rattle.oa_record.specs.Layouts.{Layout, layout, variant_fields}
+use Rattle.oa_record.specs.CallParts.{CallParts}
+use Rattle.oa_record.specs.Layouts.{Layout, layout, opcode_of, variant_fields}
+use Rattle.oa_record.specs.Opcodes.{is_listed, opcode_at, opcode_takes_memory}
+use Rattle.oa_record.specs.declared.opcode.Opcode.{Opcode}
+use Rattle.oa_record.specs.declared.opcode.Opcode.TheVariants as opcodes
+use Rattle.oa_record.specs.declared.request.Call.{Call}
 use Rattle.oa_record.specs.declared.request.Request.{Request}
-use Rattle.oa_record.specs.declared.request.Request.TheVariants.{Create, GetIds, Invoke, TypeInfo}
+use Rattle.oa_record.specs.declared.request.Request.TheVariants.{Create, Release, GetIds, Invoke, GetElement, PutElement, Redimension, Lock, Unlock, TypeInfo, Objects}
 use Rattle.oa_record.specs.declared.fault.RecordFault.{RecordFault}
 use Rattle.oa_record.specs.declared.fault.RecordFault.TheVariants.{Stub, BadVarType, Memory}
 
@@ -16,9 +21,10 @@ use Rattle.oa_record.specs.declared.fault.RecordFault.TheVariants.{Stub, BadVarT
 abbrev pub max_body : ℕ
 max_body = 1048576
 
--- the body is laid out so
+-- the body is laid out so, for an opcode whose requests are read
 pub record Lies (parts : Layout) (body : List ℕ) : Type 0 where
   pub short : length body ≤ max_body
+  pub listed : is_listed (opcode_of parts) ≡ true
   pub form : layout parts 0 body
 
 -- each field spells its value
@@ -28,28 +34,43 @@ AllSpell (f ∷ fs) (v ∷ vs) = Spells f v × AllSpell fs vs
 AllSpell [] (v ∷ vs) = ⊥
 AllSpell (f ∷ fs) [] = ⊥
 
--- the request of a layout, with the values of its variant fields
-abbrev pub request_of : Layout → List Variant → Request
-request_of (Layout.CreateBody class) values = Create class
-request_of (Layout.GetIdsBody call) values = GetIds call
-request_of (Layout.TypeInfoBody index) values = TypeInfo index
-request_of (Layout.InvokeBody h) values = Invoke (record {
-  object = h.object;
-  dispid = h.dispid;
-  interface = h.interface;
-  riid = h.riid;
-  lcid = h.lcid;
-  flags = h.flags;
-  named = h.named;
-  arguments = values;
-})
+-- a call with the values of its arguments
+abbrev pub call_of : CallParts → List Variant → Call
+call_of c values = record { head = c.head; named = c.named; arguments = values }
+
+-- some values, the last one apart
+abbrev pub with_last : List Variant → (List Variant → Variant → Option Request) → Option Request
+with_last [] f = None
+with_last (v ∷ []) f = f [] v
+with_last (v ∷ w ∷ ws) f = with_last (w ∷ ws) (λ values last. f (v ∷ values) last)
+
+-- the request of a layout, with the values of its variant fields; None where there are too few
+abbrev pub request_of : Layout → List Variant → Option Request
+request_of (Layout.CreateBody class) values = Some (Create class)
+request_of (Layout.ReleaseBody object) values = Some (Release object)
+request_of (Layout.GetIdsBody call) values = Some (GetIds call)
+request_of (Layout.InvokeBody call) values = Some (Invoke (call_of call values))
+request_of (Layout.GetElementBody element) values = Some (GetElement (call_of element.call values) element.indices)
+request_of (Layout.PutElementBody put) values = with_last values (λ arguments value. Some (PutElement (call_of put.element.call arguments) put.element.indices value))
+request_of (Layout.RedimensionBody redim) values = Some (Redimension (call_of redim.call values) redim.bound)
+request_of (Layout.LockBody call) values = Some (Lock (call_of call values))
+request_of (Layout.UnlockBody call) values = Some (Unlock (call_of call values))
+request_of (Layout.TypeInfoBody index) values = Some (TypeInfo index)
+request_of Layout.ObjectsBody values = Some Objects
 
 -- the opcode of a request
-abbrev pub request_opcode : Request → ℕ
-request_opcode (Create class) = 1
-request_opcode (GetIds call) = 3
-request_opcode (Invoke call) = 4
-request_opcode (TypeInfo index) = 10
+abbrev pub request_opcode : Request → Opcode
+request_opcode (Create class) = opcodes.Create
+request_opcode (Release object) = opcodes.Release
+request_opcode (GetIds call) = opcodes.GetIds
+request_opcode (Invoke call) = opcodes.Invoke
+request_opcode (GetElement call indices) = opcodes.GetElement
+request_opcode (PutElement call indices value) = opcodes.PutElement
+request_opcode (Redimension call bound) = opcodes.Redimension
+request_opcode (Lock call) = opcodes.Lock
+request_opcode (Unlock call) = opcodes.Unlock
+request_opcode (TypeInfo index) = opcodes.TypeInfo
+request_opcode Objects = opcodes.Objects
 
 -- the body asks this request
 pub record Asks (body : List ℕ) (request : Request) : Type 0 where
@@ -57,7 +78,7 @@ pub record Asks (body : List ℕ) (request : Request) : Type 0 where
   pub lies : Lies parts body
   pub values : List Variant
   pub spelled : AllSpell (variant_fields parts) values
-  pub is : request ≡ request_of parts values
+  pub is : request_of parts values ≡ Some request
 
 -- a field that spells a value
 abbrev pub IsSpelled : List ℕ → Type 0
@@ -103,25 +124,33 @@ pub record IsBroken (body : List ℕ) : Type 0 where
 abbrev pub IsStub : List ℕ → Type 0
 IsStub body = HasNoLayout body ⊎ IsBroken body
 
--- the body is refused for the type of a value: it has a layout with no broken field, and this is the lowest index in rgvarg of a field with a type of no value
-pub record IsBadVarType (body : List ℕ) (index : ℕ) : Type 0 where
+-- what a refusal calls the field of this place: its index in rgvarg; the new value of a cell, which is no argument, has none
+abbrev pub index_of : Layout → ℕ → Option ℕ
+index_of (Layout.CreateBody class) place = Some place
+index_of (Layout.ReleaseBody object) place = Some place
+index_of (Layout.GetIdsBody call) place = Some place
+index_of (Layout.InvokeBody call) place = Some place
+index_of (Layout.GetElementBody element) place = Some place
+index_of (Layout.PutElementBody put) place = if place == length put.element.call.fields then None else Some place
+index_of (Layout.RedimensionBody redim) place = Some place
+index_of (Layout.LockBody call) place = Some place
+index_of (Layout.UnlockBody call) place = Some place
+index_of (Layout.TypeInfoBody index) place = Some place
+index_of Layout.ObjectsBody place = Some place
+
+-- the body is refused for the type of a value: it has a layout with no broken field, and this is the index of the first field with a type of no value
+pub record IsBadVarType (body : List ℕ) (index : Option ℕ) : Type 0 where
   pub parts : Layout
   pub lies : Lies parts body
-  pub bad : HasBadType (variant_fields parts) index
+  pub place : ℕ
+  pub bad : HasBadType (variant_fields parts) place
+  pub named : index ≡ index_of parts place
 
 -- the tag of a body; 0 where it is too short for one
 abbrev pub tag_at : List ℕ → ℕ
 tag_at body = if nat_lt (length body) 8 then 0 else little_number 4 body
 
--- the number at the place of the opcode
-abbrev pub opcode_at : List ℕ → ℕ
-opcode_at body = little_number 2 (drop 4 body)
-
--- the opcodes whose bodies take memory to be read
-abbrev pub opcode_takes_memory : ℕ → Bool
-opcode_takes_memory opcode = (opcode == 3) || (opcode == 4)
-
--- The body is of such an opcode. No other body is answered with want of memory: not one below 8 bytes, nor one with an opcode that is none, nor a CREATE or a TYPEINFO.
+-- The body is of a listed opcode whose bodies take memory to be read. No other body is answered with want of memory.
 pub record MayStarve (body : List ℕ) : Type 0 where
   pub long : 8 ≤ length body
   pub short : length body ≤ max_body
@@ -131,5 +160,5 @@ pub record MayStarve (body : List ℕ) : Type 0 where
 abbrev pub IsRequest : List ℕ → Result Request RecordFault → Type 0
 IsRequest body (Ok request) = Asks body request
 IsRequest body (Err Stub) = IsStub body
-IsRequest body (Err (BadVarType index)) = (i : ℕ) × (index ≡ Some i) × IsBadVarType body i
+IsRequest body (Err (BadVarType index)) = IsBadVarType body index
 IsRequest body (Err Memory) = MayStarve body

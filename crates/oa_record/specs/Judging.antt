@@ -1,9 +1,12 @@
 -- What the values of some fields are, or the first fault.
-use Rattle.std.specs.Prelude.{◌≡◌, ℕ, List, Some, Result, Ok, Err}
+use Rattle.std.specs.Prelude.{◌≡◌, ℕ, ◌==◌, if◌then◌else◌, true, List, Option, Some, None, Result, Ok, Err}
 use Rattle.std.specs.List.{AllByRecursion}
 use Rattle.oa_variant.specs.declared.variant.Variant.{Variant}
 use Rattle.oa_wire_array.specs.declared.fault.WireFault.TheVariants as faults
-use Rattle.oa_record.specs.Asks.{AllSpell, IsUnbroken, Spoils, HasBroken, HasBadType}
+use Rattle.oa_record.specs.Layouts.{Layout, opcode_of, variant_fields}
+use Rattle.oa_record.specs.Opcodes.{takes_memory}
+use Rattle.oa_record.specs.Asks.{AllSpell, IsUnbroken, Spoils, HasBroken, HasBadType, index_of, request_of}
+use Rattle.oa_record.specs.declared.request.Request.{Request}
 use Rattle.oa_record.specs.declared.fault.RecordFault.{RecordFault}
 use Rattle.oa_record.specs.declared.fault.RecordFault.TheVariants.{Stub, BadVarType, Memory}
 
@@ -31,3 +34,33 @@ Sounds fields (Ok u) = AllByRecursion IsUnbroken fields
 Sounds fields (Err Stub) = HasBroken fields
 Sounds fields (Err (BadVarType index)) = ⊥
 Sounds fields (Err Memory) = Unit {0}
+
+-- the request of a layout, with values that its fields spell
+pub record Takes (parts : Layout) (request : Request) : Type 0 where
+  pub values : List Variant
+  pub spelled : AllSpell (variant_fields parts) values
+  pub is : request_of parts values ≡ Some request
+
+-- a field of a layout with a type of no value
+pub record MissesType (parts : Layout) (index : Option ℕ) : Type 0 where
+  pub place : ℕ
+  pub bad : HasBadType (variant_fields parts) place
+  pub named : index ≡ index_of parts place
+
+-- the request of a layout, or the refusal of its values
+abbrev pub Requests : Layout → Result Request RecordFault → Type 0
+Requests parts (Ok request) = Takes parts request
+Requests parts (Err Stub) = HasBroken (variant_fields parts)
+Requests parts (Err (BadVarType index)) = MissesType parts index
+Requests parts (Err Memory) = takes_memory (opcode_of parts) ≡ true
+
+-- the index of a place where the first so many values are arguments, and the next one is none
+abbrev pub put_index : ℕ → Option ℕ → Option ℕ
+put_index count None = None
+put_index count (Some place) = if place == count then None else Some place
+
+-- a fault of values by their places, told by their indices
+abbrev pub put_fault : ℕ → RecordFault → RecordFault
+put_fault count Stub = Stub
+put_fault count (BadVarType index) = BadVarType (put_index count index)
+put_fault count Memory = Memory

@@ -1,32 +1,58 @@
--- How the fields of a request lie in its body (this project's choice). Each further opcode joins as a case of `Layout`, `opcode_of`, `fields` and `variant_fields`.
+-- How the fields of a request lie in its body (this project's choice). Each opcode has a case of `Layout`, `opcode_of`, `fields` and `variant_fields`.
 --
 -- In each body: a tag of 4 bytes, the opcode in 2, 2 reserved bytes, and from the offset 8 on the opcode's own fields, which fill the body exactly.
-use Rattle.std.specs.Prelude.{◌≡◌, ℕ, ℤ, ◌≤◌, List, [], length}
+use Rattle.std.specs.Prelude.{◌≡◌, ℕ, ℤ, ◌≤◌, List, [], ◌∷◌, ◌++◌, length}
 use Rattle.std.specs.Int.{w32, cast_signed}
 use Rattle.oa_ndr.specs.Forms.{Form, ◌▸◌, nothing, align, ignored, unit, exactly, with, given, each, made}
 use Rattle.oa_model.specs.Guids.{wire_order}
-use Rattle.oa_record.specs.Heads.{HeadValue}
+use Rattle.oa_wire_array.specs.Arrays.{bound}
+use Rattle.oa_record.specs.CallParts.{CallParts, ElementParts, PutParts, RedimParts}
+use Rattle.oa_record.specs.Opcodes.{number_of}
+use Rattle.oa_record.specs.declared.opcode.Opcode.{Opcode}
+use Rattle.oa_record.specs.declared.opcode.Opcode.TheVariants as opcodes
+use Rattle.oa_record.specs.declared.request.CallHead.{CallHead}
 use Rattle.oa_record.specs.declared.request.GetIds.{GetIds}
 
 -- the parts of a body, with the bytes of its variant fields
 pub data Layout : Type 0 where
   CreateBody : (class : List ℕ) → Layout
+  ReleaseBody : (object : ℕ) → Layout
   GetIdsBody : (call : GetIds) → Layout
-  InvokeBody : (head : HeadValue) → Layout
+  InvokeBody : (call : CallParts) → Layout
+  GetElementBody : (element : ElementParts) → Layout
+  PutElementBody : (put : PutParts) → Layout
+  RedimensionBody : (redim : RedimParts) → Layout
+  LockBody : (call : CallParts) → Layout
+  UnlockBody : (call : CallParts) → Layout
   TypeInfoBody : (index : ℕ) → Layout
+  ObjectsBody : Layout
 
-abbrev pub opcode_of : Layout → ℕ
-opcode_of (Layout.CreateBody class) = 1
-opcode_of (Layout.GetIdsBody call) = 3
-opcode_of (Layout.InvokeBody head) = 4
-opcode_of (Layout.TypeInfoBody index) = 10
+abbrev pub opcode_of : Layout → Opcode
+opcode_of (Layout.CreateBody class) = opcodes.Create
+opcode_of (Layout.ReleaseBody object) = opcodes.Release
+opcode_of (Layout.GetIdsBody call) = opcodes.GetIds
+opcode_of (Layout.InvokeBody call) = opcodes.Invoke
+opcode_of (Layout.GetElementBody element) = opcodes.GetElement
+opcode_of (Layout.PutElementBody put) = opcodes.PutElement
+opcode_of (Layout.RedimensionBody redim) = opcodes.Redimension
+opcode_of (Layout.LockBody call) = opcodes.Lock
+opcode_of (Layout.UnlockBody call) = opcodes.Unlock
+opcode_of (Layout.TypeInfoBody index) = opcodes.TypeInfo
+opcode_of Layout.ObjectsBody = opcodes.Objects
 
--- the fields that hold a value each, arguments in the order of rgvarg
+-- the fields that hold a value each: arguments in the order of rgvarg, and behind them the new value of a cell
 abbrev pub variant_fields : Layout → List (List ℕ)
 variant_fields (Layout.CreateBody class) = []
+variant_fields (Layout.ReleaseBody object) = []
 variant_fields (Layout.GetIdsBody call) = []
-variant_fields (Layout.InvokeBody head) = head.fields
+variant_fields (Layout.InvokeBody call) = call.fields
+variant_fields (Layout.GetElementBody element) = element.call.fields
+variant_fields (Layout.PutElementBody put) = put.element.call.fields ++ put.value ∷ []
+variant_fields (Layout.RedimensionBody redim) = redim.call.fields
+variant_fields (Layout.LockBody call) = call.fields
+variant_fields (Layout.UnlockBody call) = call.fields
 variant_fields (Layout.TypeInfoBody index) = []
+variant_fields Layout.ObjectsBody = []
 
 -- 16 bytes, which are a GUID in wire order (MS-DTYP section 2.3.4.2)
 abbrev pub guid : List ℕ → Form
@@ -40,17 +66,40 @@ dispid z = with (unit 4) (λ x. given (z ≡ cast_signed w32 x))
 abbrev pub field : List ℕ → Form
 field bytes = unit 4 (length bytes) ▸ ignored 4 ▸ exactly bytes ▸ align 8
 
+-- what is called, and how: object, DISPID, interface, riid, lcid, flags, a reserved number (MS-OAUT section 3.1.4.4 has the meaning of each)
+abbrev pub call_head : CallHead → Form
+call_head h = unit 4 h.object ▸ dispid h.dispid ▸ guid h.interface ▸ guid h.riid ▸ unit 4 h.lcid ▸ unit 2 h.flags ▸ ignored 2 ▸ nothing
+
 -- the greatest number of arguments of a call, and of named ones among them
 abbrev pub max_arguments : ℕ
 max_arguments = 32
 
--- the head of a call: object, DISPID, interface, riid, lcid, flags, a reserved number, cArgs, cNamed, the DISPIDs of the named arguments, padding up to a multiple
--- of 8, and the arguments in the order of rgvarg (MS-OAUT section 3.1.4.4 has the meaning of each)
-abbrev pub head : HeadValue → Form
-head h =
-    unit 4 h.object ▸ dispid h.dispid ▸ guid h.interface ▸ guid h.riid ▸ unit 4 h.lcid ▸ unit 2 h.flags ▸ ignored 2
-    ▸ unit 4 (length h.fields) ▸ unit 4 (length h.named) ▸ given ((length h.fields ≤ max_arguments) × (length h.named ≤ max_arguments))
-    ▸ each dispid h.named ▸ align 8 ▸ each field h.fields
+-- a call: these, cArgs, cNamed, the DISPIDs of the named arguments, padding up to a multiple of 8, and the arguments in the order of rgvarg
+abbrev pub call_parts : CallParts → Form
+call_parts c =
+    call_head c.head
+    ▸ unit 4 (length c.fields) ▸ unit 4 (length c.named) ▸ given ((length c.fields ≤ max_arguments) × (length c.named ≤ max_arguments))
+    ▸ each dispid c.named ▸ align 8 ▸ each field c.fields
+
+-- the greatest number of indices
+abbrev pub max_indices : ℕ
+max_indices = 16
+
+-- an index list: how many, a reserved number, the indices, padding up to a multiple of 8
+abbrev pub indices : List ℤ → Form
+indices xs = unit 4 (length xs) ▸ ignored 4 ▸ given (length xs ≤ max_indices) ▸ each dispid xs ▸ align 8
+
+-- a call that names an array, and the index list of a cell
+abbrev pub element_parts : ElementParts → Form
+element_parts e = call_parts e.call ▸ indices e.indices
+
+-- these, and the cell's new value
+abbrev pub put_parts : PutParts → Form
+put_parts p = element_parts p.element ▸ field p.value
+
+-- a call that names an array, and its new last bound: cElements, lLbound (SAFEARRAYBOUND, MS-OAUT section 2.2.30.1)
+abbrev pub redim_parts : RedimParts → Form
+redim_parts r = call_parts r.call ▸ bound r.bound
 
 -- a string: how many UTF-16 units, a reserved number, the units, padding up to a multiple of 8
 abbrev pub string : List ℕ → Form
@@ -66,17 +115,24 @@ get_ids g =
     unit 4 g.object ▸ ignored 4 ▸ guid g.interface ▸ guid g.riid ▸ unit 4 g.lcid
     ▸ unit 4 (length g.names) ▸ given ((1 ≤ length g.names) × (length g.names ≤ max_names)) ▸ each string g.names
 
--- an index, a reserved number
-abbrev pub type_info : ℕ → Form
-type_info index = unit 4 index ▸ ignored 4 ▸ nothing
+-- a number, a reserved number
+abbrev pub number : ℕ → Form
+number n = unit 4 n ▸ ignored 4 ▸ nothing
 
 -- the fields of each opcode
 abbrev pub fields : Layout → Form
 fields (Layout.CreateBody class) = guid class
+fields (Layout.ReleaseBody object) = number object
 fields (Layout.GetIdsBody call) = get_ids call
-fields (Layout.InvokeBody h) = head h
-fields (Layout.TypeInfoBody index) = type_info index
+fields (Layout.InvokeBody call) = call_parts call
+fields (Layout.GetElementBody element) = element_parts element
+fields (Layout.PutElementBody put) = put_parts put
+fields (Layout.RedimensionBody redim) = redim_parts redim
+fields (Layout.LockBody call) = call_parts call
+fields (Layout.UnlockBody call) = call_parts call
+fields (Layout.TypeInfoBody index) = number index
+fields Layout.ObjectsBody = nothing
 
 -- the tag, the opcode, a reserved number, the fields of the opcode
 abbrev pub layout : Layout → Form
-layout parts = ignored 4 ▸ unit 2 (opcode_of parts) ▸ ignored 2 ▸ fields parts
+layout parts = ignored 4 ▸ unit 2 (number_of (opcode_of parts)) ▸ ignored 2 ▸ fields parts

@@ -1,4 +1,5 @@
-pub mod Heads
+pub mod Opcodes
+pub mod CallParts
 pub mod Layouts
 pub mod Asks
 pub mod Reading

@@ -1,12 +1,17 @@
 -- Reading a layout as a function on lists, which says the same as the forms (proofs/LayoutLaws has the laws).
-use Rattle.std.specs.Prelude.{◌≡◌, ℕ, ℤ, ◌≤◌, ◌==◌, ◌&&◌, nat_le, true, List, length, Option, Some, None, Result, Ok, Err}
+use Rattle.std.specs.Prelude.{◌≡◌, ℕ, ℤ, ◌≤◌, ◌&&◌, nat_le, true, List, length, Option, Some, None, Result, Ok, Err}
 use Rattle.std.specs.Int.{w32, cast_signed}
 use Rattle.oa_ndr.specs.Reading.{Cursor, Reading, ◌>>=◌, give, fail, choose, unit_at, bytes_at, align_at, many}
 use Rattle.oa_model.specs.Guids.{wire_order}
-use Rattle.oa_record.specs.Heads.{HeadValue}
-use Rattle.oa_record.specs.Layouts.{Layout, max_arguments, max_names}
+use Rattle.oa_model.specs.declared.bound.Bound.{Bound}
+use Rattle.oa_wire_array.specs.ArrayReading.{bound_at}
+use Rattle.oa_record.specs.CallParts.{CallParts, ElementParts, PutParts, RedimParts}
+use Rattle.oa_record.specs.Layouts.{Layout, max_arguments, max_indices, max_names}
+use Rattle.oa_record.specs.Opcodes.{listed_opcode, opcode_at, opcode_takes_memory, takes_memory}
+use Rattle.oa_record.specs.declared.opcode.Opcode.{Opcode}
+use Rattle.oa_record.specs.declared.opcode.Opcode.TheVariants as opcodes
+use Rattle.oa_record.specs.declared.request.CallHead.{CallHead}
 use Rattle.oa_record.specs.declared.request.GetIds.{GetIds}
-use Rattle.oa_record.specs.Asks.{opcode_takes_memory, opcode_at}
 use Rattle.oa_record.specs.declared.fault.RecordFault.{RecordFault}
 use Rattle.oa_record.specs.declared.fault.RecordFault.TheVariants.{Stub, BadVarType, Memory}
 
@@ -32,12 +37,12 @@ AnswersAll view (Ok x) read = read ≡ Some (view x)
 AnswersAll view (Err e) read = Fails e read
 
 -- want of memory comes only where the opcode takes some
-abbrev pub IsStarved : RecordFault → ℕ → Type 0
+abbrev pub IsStarved : RecordFault → Opcode → Type 0
 IsStarved Stub opcode = Unit {0}
 IsStarved (BadVarType i) opcode = Unit {0}
-IsStarved Memory opcode = opcode_takes_memory opcode ≡ true
+IsStarved Memory opcode = takes_memory opcode ≡ true
 
-abbrev pub StarvesAt : {X : Type 0} → Result X RecordFault → ℕ → Type 0
+abbrev pub StarvesAt : {X : Type 0} → Result X RecordFault → Opcode → Type 0
 StarvesAt (Ok x) opcode = Unit {0}
 StarvesAt (Err e) opcode = IsStarved e opcode
 
@@ -69,28 +74,11 @@ field_at = do
   _ ← align_at 8
   give bytes
 
-abbrev pub head_of : ℕ → ℤ → List ℕ → List ℕ → ℕ → ℕ → List ℤ → List (List ℕ) → HeadValue
-head_of object dispid interface riid lcid flags named fields = record {
-  object = object;
-  dispid = dispid;
-  interface = interface;
-  riid = riid;
-  lcid = lcid;
-  flags = flags;
-  named = named;
-  fields = fields;
-}
+abbrev pub head_of : ℕ → ℤ → List ℕ → List ℕ → ℕ → ℕ → CallHead
+head_of object dispid interface riid lcid flags = record { object = object; dispid = dispid; interface = interface; riid = riid; lcid = lcid; flags = flags }
 
--- the lists behind the counts
-unfoldable pub lists_at : ℕ → ℤ → List ℕ → List ℕ → ℕ → ℕ → ℕ → ℕ → Reading HeadValue
-lists_at object dispid interface riid lcid flags count named_count = do
-  named ← many dispid_at named_count
-  _ ← align_at 8
-  fields ← many field_at count
-  give (head_of object dispid interface riid lcid flags named fields)
-
-unfoldable pub head_at : Reading HeadValue
-head_at = do
+unfoldable pub call_head_at : Reading CallHead
+call_head_at = do
   object ← unit_at 4
   dispid ← dispid_at
   interface ← guid_at
@@ -98,9 +86,65 @@ head_at = do
   lcid ← unit_at 4
   flags ← unit_at 2
   _ ← unit_at 2
+  give (head_of object dispid interface riid lcid flags)
+
+abbrev pub parts_of : CallHead → List ℤ → List (List ℕ) → CallParts
+parts_of head named fields = record { head = head; named = named; fields = fields }
+
+-- the lists behind the counts
+unfoldable pub lists_at : CallHead → ℕ → ℕ → Reading CallParts
+lists_at head count named_count = do
+  named ← many dispid_at named_count
+  _ ← align_at 8
+  fields ← many field_at count
+  give (parts_of head named fields)
+
+unfoldable pub call_at : Reading CallParts
+call_at = do
+  head ← call_head_at
   count ← unit_at 4
   named_count ← unit_at 4
-  choose (nat_le count max_arguments && nat_le named_count max_arguments) (lists_at object dispid interface riid lcid flags count named_count) fail
+  choose (nat_le count max_arguments && nat_le named_count max_arguments) (lists_at head count named_count) fail
+
+-- the indices behind their number
+unfoldable pub index_list_at : ℕ → Reading (List ℤ)
+index_list_at count = do
+  xs ← many dispid_at count
+  _ ← align_at 8
+  give xs
+
+unfoldable pub indices_at : Reading (List ℤ)
+indices_at = do
+  count ← unit_at 4
+  _ ← unit_at 4
+  choose (nat_le count max_indices) (index_list_at count) fail
+
+abbrev pub element_of : CallParts → List ℤ → ElementParts
+element_of call indices = record { call = call; indices = indices }
+
+unfoldable pub element_at : Reading ElementParts
+element_at = do
+  call ← call_at
+  indices ← indices_at
+  give (element_of call indices)
+
+abbrev pub put_of : ElementParts → List ℕ → PutParts
+put_of element value = record { element = element; value = value }
+
+unfoldable pub put_at : Reading PutParts
+put_at = do
+  element ← element_at
+  value ← field_at
+  give (put_of element value)
+
+abbrev pub redim_of : CallParts → Bound → RedimParts
+redim_of call bound = record { call = call; bound = bound }
+
+unfoldable pub redim_at : Reading RedimParts
+redim_at = do
+  call ← call_at
+  bound ← bound_at
+  give (redim_of call bound)
 
 -- the units of a string
 unfoldable pub string_at : Reading (List ℕ)
@@ -130,39 +174,55 @@ get_ids_at = do
   count ← unit_at 4
   choose (nat_le 1 count && nat_le count max_names) (names_at object interface riid lcid count) fail
 
-unfoldable pub type_info_at : Reading ℕ
-type_info_at = do
-  index ← unit_at 4
+-- a number and a reserved one
+unfoldable pub number_at : Reading ℕ
+number_at = do
+  n ← unit_at 4
   _ ← unit_at 4
-  give index
+  give n
 
-unfoldable pub create_at : Reading Layout
-create_at = do
+-- the fields of an opcode
+unfoldable pub fields_at : Opcode → Reading Layout
+fields_at opcodes.Create = do
   class ← guid_at
   give (Layout.CreateBody class)
-
-unfoldable pub invoke_at : Reading Layout
-invoke_at = do
-  head ← head_at
-  give (Layout.InvokeBody head)
-
-unfoldable pub get_ids_body_at : Reading Layout
-get_ids_body_at = do
+fields_at opcodes.Release = do
+  object ← number_at
+  give (Layout.ReleaseBody object)
+fields_at opcodes.GetIds = do
   call ← get_ids_at
   give (Layout.GetIdsBody call)
-
-unfoldable pub type_info_body_at : Reading Layout
-type_info_body_at = do
-  index ← type_info_at
+fields_at opcodes.Invoke = do
+  call ← call_at
+  give (Layout.InvokeBody call)
+fields_at opcodes.GetElement = do
+  element ← element_at
+  give (Layout.GetElementBody element)
+fields_at opcodes.PutElement = do
+  put ← put_at
+  give (Layout.PutElementBody put)
+fields_at opcodes.Redimension = do
+  redim ← redim_at
+  give (Layout.RedimensionBody redim)
+fields_at opcodes.Lock = do
+  call ← call_at
+  give (Layout.LockBody call)
+fields_at opcodes.Unlock = do
+  call ← call_at
+  give (Layout.UnlockBody call)
+fields_at opcodes.TypeInfo = do
+  index ← number_at
   give (Layout.TypeInfoBody index)
+fields_at opcodes.Objects = give Layout.ObjectsBody
 
--- the fields of the opcode
-unfoldable pub fields_at : ℕ → Reading Layout
-fields_at opcode = choose (opcode == 1) create_at (choose (opcode == 3) get_ids_body_at (choose (opcode == 4) invoke_at (choose (opcode == 10) type_info_body_at fail)))
+-- where requests of the opcode are read
+unfoldable pub listed_at : Option Opcode → Reading Layout
+listed_at None = fail
+listed_at (Some opcode) = fields_at opcode
 
 unfoldable pub layout_at : Reading Layout
 layout_at = do
   _ ← unit_at 4
-  opcode ← unit_at 2
+  n ← unit_at 2
   _ ← unit_at 2
-  fields_at opcode
+  listed_at (listed_opcode n)

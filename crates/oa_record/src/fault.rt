@@ -1,5 +1,6 @@
-//! Why a body is no request.
+//! Why a body is no request, and why a value is no field.
 ghost use Rattle.std.specs.Prelude.{◌≡◌};
+ghost use Rattle.oa_record.specs.declared.fault.FieldFault.TheVariants as field_faults;
 ghost use Rattle.oa_record.specs.declared.fault.RecordFault.TheVariants.{Stub, Memory};
 
 use oa_ndr::Short;
@@ -42,5 +43,31 @@ impl<T: Drop> From<AllocFailed<T>> for RecordFault {
 
     fn from(_: AllocFailed<T>) -> RecordFault {
         Self::Memory
+    }
+}
+
+/// Why a value or a text is not written as a field of a reply.
+#[derive(Clone, Copy, Debug, PartialEq, Eq, Error)]
+pub enum FieldFault {
+    /// Its length is above what a field can count.
+    #[error("field too long")]
+    TooLong,
+    /// The allocator had no block for its bytes.
+    #[error("out of memory")]
+    Memory,
+}
+
+impl From<AllocError> for FieldFault {
+    ghost from_gives = { λ _ e. e ≡ field_faults.Memory };
+
+    fn from(_: AllocError) -> FieldFault {
+        FieldFault::Memory
+    }
+}
+
+// A reply that is too long is not made either.
+impl From<FieldFault> for AllocError {
+    fn from(_: FieldFault) -> AllocError {
+        AllocError
     }
 }

@@ -1,12 +1,19 @@
-//! The fields of replies.
-ghost use Rattle.std.specs.Prelude.{◌≡◌, ◌≤◌, ◌+◌, ◌*◌, ◌++◌, length, replicate, IfOk, OnOk};
+//! The fields of replies. Each is made as a body of its own, or added to one that is being made.
+ghost use Rattle.std.specs.Prelude.{◌≡◌, ◌↔◌, ◌<◌, ◌≤◌, ◌+◌, ◌*◌, ◌++◌, length, replicate, IfOk, IsErrOf, OnOk};
 ghost use Rattle.std.specs.List.{flat_map};
 ghost use Rattle.oa_ndr.specs.Forms.{padding};
+ghost use Rattle.oa_variant.specs.declared.variant.Variant.TheVariants.{One};
+ghost use Rattle.oa_wire_variant.specs.Canon.{canon};
 ghost use Rattle.oa_record.specs.Replies.{word, half_word, signed_word, number_field, variant_field, ids_field, string_field};
+ghost use Rattle.oa_record.specs.declared.fault.FieldFault.TheVariants.{TooLong};
 
-use oa_variant::Variant;
+use crate::FieldFault;
+use oa_ndr::NdrOut;
+use oa_variant::{Scalar, Variant};
+use oa_wire_array::{scalar_len, write_scalar};
 use oa_wire_variant::{wire_len, write_variant};
 use std::alloc::{AllocError, Global};
+use std::mem;
 
 /// The most bytes that the fields of a reply have.
 pub const MAX_FIELDS_BYTES: usize = 4_294_967_279;
@@ -39,21 +46,78 @@ pub fn number_field(alloc: Global, number: u32) -> Result<Vec<u8>, AllocError>
     Vec::from_slice(alloc, &two_words(number))
 }
 
-/// The fields of a reply that are a value: u32 count of the value's bytes, u32 reserved, these bytes, zeros up to a multiple of 8.
+/// Adds a value as a field: u32 count of the value's bytes, u32 reserved, these bytes, zeros up to a multiple of 8.
 ///
-/// Err where memory is refused, and for an array above 4,294,967,264 bytes on the wire.
-pub fn variant_field(alloc: Global, value: &Variant) -> Result<Vec<u8>, AllocError>
-    ensures value { IfOk result (λ v. v.items ≡ variant_field value.now) }
-    ensures len { IfOk result (λ v. length v.items ≤ 4294967279) }
+/// `TooLong` for an array above 4,294,967,264 bytes on the wire, and for nothing else. At Err a first part of the field may stand at the end
+/// of `out`.
+pub fn put_variant_field(out: &mut Vec<u8>, value: &Variant) -> Result<(), FieldFault>
+    ensures value { OnOk result (out.new.items ≡ out.old.items ++ variant_field value.now) }
+    ensures long { IsErrOf result TooLong ↔ (4294967264 < length (canon value.now)) }
 {
     let len = wire_len(value);
     if len > MAX_VALUE_BYTES {
-        return Err(AllocError);
+        return Err(FieldFault::TooLong);
+    }
+    out.extend_from_slice(&two_words(len as u32))?;
+    write_variant(value, out)?;
+    pad(out, len)?;
+    Ok(())
+}
+
+/// The fields of a reply that are a value: u32 count of the value's bytes, u32 reserved, these bytes, zeros up to a multiple of 8.
+///
+/// `TooLong` for an array above 4,294,967,264 bytes on the wire, and for nothing else.
+pub fn variant_field(alloc: Global, value: &Variant) -> Result<Vec<u8>, FieldFault>
+    ensures value { IfOk result (λ v. v.items ≡ variant_field value.now) }
+    ensures len { IfOk result (λ v. length v.items ≤ 4294967279) }
+    ensures long { IsErrOf result TooLong ↔ (4294967264 < length (canon value.now)) }
+{
+    let len = wire_len(value);
+    if len > MAX_VALUE_BYTES {
+        return Err(FieldFault::TooLong);
     }
     let mut field = Vec::with_capacity(alloc, 16 + len)?;
-    field.extend_from_slice(&two_words(len as u32))?;
-    write_variant(value, &mut field)?;
-    pad(&mut field, len)?;
+    put_variant_field(&mut field, value)?;
+    Ok(field)
+}
+
+// How many bytes a scalar takes as a value.
+#[tactic(auto, unfolding(oa_wire_array::specs::Canon::scalar_len))]
+fn one_len(value: &Scalar) -> usize
+    ensures value { result ≡ length (canon (One value.now)) }
+    ensures small { result ≤ 262180 }
+{
+    scalar_len(value)
+}
+
+// Adds the bytes of a scalar, a field of their own.
+fn add_scalar(out: &mut Vec<u8>, value: &Scalar) -> Result<(), AllocError>
+    ensures { OnOk result (out.new.items ≡ out.old.items ++ canon (One value.now)) }
+{
+    let mut field = NdrOut::new(mem::replace(out, Vec::new(*out.allocator())));
+    let answer = write_scalar(&mut field, value);
+    *out = field.into_vec();
+    answer
+}
+
+/// Adds a scalar as the field of a value, from where it stands.
+pub fn put_scalar_field(out: &mut Vec<u8>, value: &Scalar) -> Result<(), AllocError>
+    ensures { OnOk result (out.new.items ≡ out.old.items ++ variant_field (One value.now)) }
+{
+    let len = one_len(value);
+    out.extend_from_slice(&two_words(len as u32))?;
+    add_scalar(out, value)?;
+    pad(out, len)?;
+    Ok(())
+}
+
+/// The fields of a reply that are a scalar's value.
+pub fn scalar_field(alloc: Global, value: &Scalar) -> Result<Vec<u8>, AllocError>
+    ensures value { IfOk result (λ v. v.items ≡ variant_field (One value.now)) }
+    ensures len { IfOk result (λ v. length v.items ≤ 4294967279) }
+{
+    let mut field = Vec::with_capacity(alloc, 16 + one_len(value))?;
+    put_scalar_field(&mut field, value)?;
     Ok(field)
 }
 
@@ -107,18 +171,34 @@ fn put_units(out: &mut Vec<u8>, text: &[u8]) -> Result<(), AllocError>
     Ok(())
 }
 
-/// A text of ASCII characters as a string: u32 count, u32 reserved, a UTF-16 unit for each, zeros up to a multiple of 8.
+/// Adds a text of ASCII characters as a string: u32 count, u32 reserved, a UTF-16 unit for each, zeros up to a multiple of 8.
 ///
-/// Err where memory is refused, and for a text of more than 4,294,967,295 characters.
-pub fn string_field(alloc: Global, text: &[u8]) -> Result<Vec<u8>, AllocError>
-    ensures { IfOk result (λ v. v.items ≡ string_field text.now) }
+/// `TooLong` for a text of more than 4,294,967,295 characters, and for nothing else. At Err a first part of the field may stand at the end of
+/// `out`.
+pub fn put_string_field(out: &mut Vec<u8>, text: &[u8]) -> Result<(), FieldFault>
+    ensures value { OnOk result (out.new.items ≡ out.old.items ++ string_field text.now) }
+    ensures long { IsErrOf result TooLong ↔ (4294967295 < length text.now) }
 {
     if text.len() > u32::MAX as usize {
-        return Err(AllocError);
+        return Err(FieldFault::TooLong);
+    }
+    out.extend_from_slice(&two_words(text.len() as u32))?;
+    put_units(out, text)?;
+    pad(out, 2 * text.len())?;
+    Ok(())
+}
+
+/// A text of ASCII characters as a string of its own.
+///
+/// `TooLong` for a text of more than 4,294,967,295 characters, and for nothing else.
+pub fn string_field(alloc: Global, text: &[u8]) -> Result<Vec<u8>, FieldFault>
+    ensures value { IfOk result (λ v. v.items ≡ string_field text.now) }
+    ensures long { IsErrOf result TooLong ↔ (4294967295 < length text.now) }
+{
+    if text.len() > u32::MAX as usize {
+        return Err(FieldFault::TooLong);
     }
     let mut field = Vec::with_capacity(alloc, 16 + 2 * text.len())?;
-    field.extend_from_slice(&two_words(text.len() as u32))?;
-    put_units(&mut field, text)?;
-    pad(&mut field, 2 * text.len())?;
+    put_string_field(&mut field, text)?;
     Ok(field)
 }

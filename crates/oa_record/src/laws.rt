@@ -1,7 +1,9 @@
 //! Laws of the definitions, each the contract of a function with no work to do.
-ghost use Rattle.std.specs.Prelude.{◌≡◌, ◌≤◌, ℕ, List, length, None};
+ghost use Rattle.std.specs.Prelude.{◌≡◌, ◌≤◌, ℕ, List, Option, Some, length};
+ghost use Rattle.oa_record.specs.Opcodes.{number_of, opcode_at, opcode_named};
+ghost use Rattle.oa_record.specs.declared.opcode.Opcode.{Opcode as AnOpcode};
 ghost use Rattle.oa_record.specs.declared.request.Request.{Request as ARequest};
-ghost use Rattle.oa_record.specs.Asks.{Asks, IsStub, IsBadVarType, opcode_at, request_opcode};
+ghost use Rattle.oa_record.specs.Asks.{Asks, IsStub, IsBadVarType, request_opcode};
 
 /// No body asks two requests.
 pub fn one_request()
@@ -13,16 +15,22 @@ pub fn one_request()
 /// A body that is refused asks nothing.
 pub fn refused_asks_nothing()
     ensures stub { (body : List ℕ) (q : ARequest) → IsStub body → Asks body q → ⊥ }
-    ensures bad_type { (body : List ℕ) (index : ℕ) (q : ARequest) → IsBadVarType body index → Asks body q → ⊥ }
+    ensures bad_type { (body : List ℕ) (index : Option ℕ) (q : ARequest) → IsBadVarType body index → Asks body q → ⊥ }
 {}
 
 /// A body has one refusal: bad stub data, or one index of a bad type.
 pub fn one_refusal()
-    ensures code { (body : List ℕ) (index : ℕ) → IsStub body → IsBadVarType body index → ⊥ }
-    ensures index { (body : List ℕ) (i j : ℕ) → IsBadVarType body i → IsBadVarType body j → i ≡ j }
+    ensures code { (body : List ℕ) (index : Option ℕ) → IsStub body → IsBadVarType body index → ⊥ }
+    ensures index { (body : List ℕ) (i j : Option ℕ) → IsBadVarType body i → IsBadVarType body j → i ≡ j }
 {}
 
 /// The opcode of what a body asks stands in it, so that a body of under 8 bytes asks nothing.
 pub fn opcode_stands()
-    ensures { (body : List ℕ) (q : ARequest) → Asks body q → (8 ≤ length body) × (opcode_at body ≡ request_opcode q) }
+    ensures { (body : List ℕ) (q : ARequest) → Asks body q → (8 ≤ length body) × (opcode_at body ≡ number_of (request_opcode q)) }
+{}
+
+/// Each opcode has a number of its own, and no other number has an opcode.
+pub fn one_number()
+    ensures back { (opcode : AnOpcode) → opcode_named (number_of opcode) ≡ Some opcode }
+    ensures only { (n : ℕ) (opcode : AnOpcode) → opcode_named n ≡ Some opcode → n ≡ number_of opcode }
 {}

@@ -1,6 +1,7 @@
 //! The layout of a body, with the bytes of its variant fields.
 ghost use Rattle.std.specs.Prelude.{◌≡◌, ℕ, ◌<◌, ◌≤◌, map, length, IfOk};
 ghost use Rattle.oa_ndr.specs.Reading.{many, unit_at, whole};
+ghost use Rattle.oa_wire_array.specs.ArrayReading.{bound_at};
 ghost use Rattle.oa_record.specs.Reading.{
   Answers,
   AnswersAll,
@@ -10,88 +11,34 @@ ghost use Rattle.oa_record.specs.Reading.{
   guid_at,
   dispid_at,
   field_at,
+  call_head_at,
   lists_at,
-  head_at,
+  call_at,
+  index_list_at,
+  indices_at,
+  element_of,
+  element_at,
+  put_of,
+  put_at,
+  redim_of,
+  redim_at,
   string_at,
   names_at,
   get_ids_at,
-  type_info_at,
-  create_at,
-  get_ids_body_at,
-  invoke_at,
-  type_info_body_at,
+  number_at,
   fields_at,
   layout_at,
 };
 ghost use Rattle.oa_record.specs.Shown.{shown};
 
-use crate::{Arguments, Dispids, GetIds, Invoke, Names, RecordFault};
-use oa_model::{MAX_ARGUMENTS, MAX_NAMES, guid_from_wire};
+use crate::body_parts::Parts;
+use crate::raw_call::RawCall;
+use crate::{CallHead, GetIds, Names, Opcode, RecordFault};
+use oa_array::Indices;
+use oa_model::{Bound, MAX_ARGUMENTS, MAX_DIMENSIONS, MAX_NAMES, guid_from_wire};
 use oa_ndr::{Ndr, Short};
-use oa_variant::Variant;
 use std::alloc::Global;
-use std::marker::Model;
 use uuid::Uuid;
-
-/// The head of a call, with the bytes of the arguments' fields.
-#[derive(Drop)]
-pub(crate) struct Head<'a> {
-    object: u32,
-    dispid: i32,
-    interface: Uuid,
-    riid: Uuid,
-    lcid: u32,
-    flags: u16,
-    named: Vec<i32>,
-    fields: Vec<&'a [u8]>,
-}
-
-impl<'a> Model for Head<'a> {
-    ghost use Rattle.std.specs.Prelude.{◌≤◌, length, map};
-    ghost use Rattle.oa_record.specs.Heads.{HeadValue};
-
-    ghost Value = { HeadValue };
-
-    ghost view = { λ h. record { object = h.object; dispid = h.dispid; interface = h.interface; riid = h.riid; lcid = h.lcid; flags = h.flags; named = h.named.items; fields = map (λ f. f.now) h.fields.items } };
-
-    ghost invariant = { λ h. (length h.named.items ≤ 32) × (length h.fields.items ≤ 32) };
-}
-
-impl<'a> Head<'a> {
-    /// The bytes of the arguments' fields.
-    pub(crate) fn fields(&self) -> &[&'a [u8]]
-        ensures value { map (λ f. f.now) result.now ≡ self.now.fields }
-        ensures few { length result.now ≤ 32 }
-    {
-        self.fields.as_slice()
-    }
-
-    /// The call with the values of the arguments.
-    pub(crate) fn with(self, values: Vec<Variant>) -> Invoke
-        requires { length values.items ≤ 32 }
-        ensures { result ≡ record { object = self.entry.object; dispid = self.entry.dispid; interface = self.entry.interface; riid = self.entry.riid; lcid = self.entry.lcid; flags = self.entry.flags; named = self.entry.named; arguments = values.items } }
-    {
-        Invoke {
-            object: self.object,
-            dispid: self.dispid,
-            interface: self.interface,
-            riid: self.riid,
-            lcid: self.lcid,
-            flags: self.flags,
-            named: Dispids::new(self.named),
-            arguments: Arguments::new(values),
-        }
-    }
-}
-
-/// The parts of a body.
-#[derive(Drop)]
-pub(crate) enum Parts<'a> {
-    Create(Uuid),
-    GetIds(GetIds),
-    Invoke(Head<'a>),
-    TypeInfo(u32),
-}
 
 // A GUID in wire order.
 #[tactic(auto, unfolding(oa_ndr::specs::Reading::bind, oa_ndr::specs::Reading::give, crate::specs::Reading::guid_at))]
@@ -150,10 +97,10 @@ fn fields<'a>(alloc: Global, count: u32, r: &mut Ndr<'a>) -> Result<Vec<&'a [u8]
     Ok(all)
 }
 
-// Object, DISPID, GUIDs, lcid and flags, the counts, and the lists behind these.
-#[tactic(auto, unfolding(oa_ndr::specs::Reading::bind, oa_ndr::specs::Reading::give, oa_ndr::specs::Reading::choose, oa_ndr::specs::Reading::fail, crate::specs::Reading::head_at, crate::specs::Reading::lists_at))]
-fn read_head<'a>(alloc: Global, r: &mut Ndr<'a>) -> Result<Head<'a>, RecordFault>
-    ensures { Answers (λ x. x) result r.new (head_at r.old) }
+// Object, DISPID, GUIDs, lcid and flags, and a reserved number.
+#[tactic(auto, unfolding(oa_ndr::specs::Reading::bind, oa_ndr::specs::Reading::give, crate::specs::Reading::call_head_at))]
+fn call_head(r: &mut Ndr<'_>) -> Result<CallHead, Short>
+    ensures { Finds (λ x. x) result r.new (call_head_at r.old) }
 {
     let object = r.u32()?;
     let dispid = dispid(r)?;
@@ -162,6 +109,22 @@ fn read_head<'a>(alloc: Global, r: &mut Ndr<'a>) -> Result<Head<'a>, RecordFault
     let lcid = r.u32()?;
     let flags = r.u16()?;
     r.u16()?;
+    Ok(CallHead {
+        object,
+        dispid,
+        interface,
+        riid,
+        lcid,
+        flags,
+    })
+}
+
+// These, the counts, and the lists behind them.
+#[tactic(auto, unfolding(oa_ndr::specs::Reading::bind, oa_ndr::specs::Reading::give, oa_ndr::specs::Reading::choose, oa_ndr::specs::Reading::fail, crate::specs::Reading::call_at, crate::specs::Reading::lists_at))]
+fn call<'a>(alloc: Global, r: &mut Ndr<'a>) -> Result<RawCall<'a>, RecordFault>
+    ensures { Answers (λ x. x) result r.new (call_at r.old) }
+{
+    let head = call_head(r)?;
     let count = r.u32()?;
     let named_count = r.u32()?;
     if count > MAX_ARGUMENTS || named_count > MAX_ARGUMENTS {
@@ -170,16 +133,55 @@ fn read_head<'a>(alloc: Global, r: &mut Ndr<'a>) -> Result<Head<'a>, RecordFault
     let named = dispids(alloc, named_count, r)?;
     r.align(8)?;
     let fields = fields(alloc, count, r)?;
-    Ok(Head {
-        object,
-        dispid,
-        interface,
-        riid,
-        lcid,
-        flags,
-        named,
-        fields,
+    Ok(RawCall::new(head, named, fields))
+}
+
+// An index list.
+#[tactic(auto, unfolding(oa_ndr::specs::Reading::bind, oa_ndr::specs::Reading::give, oa_ndr::specs::Reading::choose, oa_ndr::specs::Reading::fail, crate::specs::Reading::indices_at, crate::specs::Reading::index_list_at))]
+fn indices(alloc: Global, r: &mut Ndr<'_>) -> Result<Indices, RecordFault>
+    ensures { Answers (λ x. x) result r.new (indices_at r.old) }
+{
+    let count = r.u32()?;
+    r.u32()?;
+    if count > MAX_DIMENSIONS as u32 {
+        return Err(RecordFault::Stub);
+    }
+    let indices = dispids(alloc, count, r)?;
+    r.align(8)?;
+    Ok(Indices::new(indices))
+}
+
+// A call that names an array, and the index list of a cell.
+#[tactic(auto, unfolding(oa_ndr::specs::Reading::bind, oa_ndr::specs::Reading::give, crate::specs::Reading::element_at))]
+fn element<'a>(alloc: Global, r: &mut Ndr<'a>) -> Result<(RawCall<'a>, Indices), RecordFault>
+    ensures { Answers (λ x. element_of x.0 x.1) result r.new (element_at r.old) }
+{
+    let call = call(alloc, r)?;
+    let indices = indices(alloc, r)?;
+    Ok((call, indices))
+}
+
+// A new first listed bound.
+#[tactic(auto, unfolding(oa_ndr::specs::Reading::bind, oa_ndr::specs::Reading::give, oa_wire_array::specs::ArrayReading::bound_at, oa_wire_array::specs::Reading::signed_at))]
+fn bound(r: &mut Ndr<'_>) -> Result<Bound, Short>
+    ensures { Finds (λ x. x) result r.new (bound_at r.old) }
+{
+    let count = r.u32()?;
+    let lower = r.u32()?;
+    Ok(Bound {
+        count,
+        lower: lower.cast_signed(),
     })
+}
+
+// A call that names an array, and its new first listed bound.
+#[tactic(auto, unfolding(oa_ndr::specs::Reading::bind, oa_ndr::specs::Reading::give, crate::specs::Reading::redim_at))]
+fn redim<'a>(alloc: Global, r: &mut Ndr<'a>) -> Result<(RawCall<'a>, Bound), RecordFault>
+    ensures { Answers (λ x. redim_of x.0 x.1) result r.new (redim_at r.old) }
+{
+    let call = call(alloc, r)?;
+    let bound = bound(r)?;
+    Ok((call, bound))
 }
 
 #[tactic(auto, using(oa_ndr::proofs::Loop::many_done, oa_ndr::proofs::Loop::many_goes_on, oa_ndr::proofs::Loop::many_ends))]
@@ -221,7 +223,7 @@ fn strings(alloc: Global, count: u32, r: &mut Ndr<'_>) -> Result<Vec<Vec<u16>>, 
 
 // Object, GUIDs and lcid, the count, and the names behind it.
 #[tactic(auto, unfolding(oa_ndr::specs::Reading::bind, oa_ndr::specs::Reading::give, oa_ndr::specs::Reading::choose, oa_ndr::specs::Reading::fail, crate::specs::Reading::get_ids_at, crate::specs::Reading::names_at))]
-fn read_get_ids(alloc: Global, r: &mut Ndr<'_>) -> Result<GetIds, RecordFault>
+fn get_ids(alloc: Global, r: &mut Ndr<'_>) -> Result<GetIds, RecordFault>
     ensures { Answers (λ x. x) result r.new (get_ids_at r.old) }
 {
     let object = r.u32()?;
@@ -243,41 +245,59 @@ fn read_get_ids(alloc: Global, r: &mut Ndr<'_>) -> Result<GetIds, RecordFault>
     })
 }
 
-// An index and a reserved number.
-#[tactic(auto, unfolding(oa_ndr::specs::Reading::bind, oa_ndr::specs::Reading::give, crate::specs::Reading::type_info_at))]
-fn read_index(r: &mut Ndr<'_>) -> Result<u32, Short>
-    ensures { Finds (λ x. x) result r.new (type_info_at r.old) }
+// A number and a reserved one.
+#[tactic(auto, unfolding(oa_ndr::specs::Reading::bind, oa_ndr::specs::Reading::give, crate::specs::Reading::number_at))]
+fn number(r: &mut Ndr<'_>) -> Result<u32, Short>
+    ensures { Finds (λ x. x) result r.new (number_at r.old) }
 {
-    let index = r.u32()?;
+    let number = r.u32()?;
     r.u32()?;
-    Ok(index)
+    Ok(number)
 }
 
 // The fields of an opcode.
-#[tactic(auto, unfolding(oa_ndr::specs::Reading::bind, oa_ndr::specs::Reading::give, oa_ndr::specs::Reading::choose, oa_ndr::specs::Reading::fail, crate::specs::Reading::fields_at, crate::specs::Reading::create_at, crate::specs::Reading::get_ids_body_at, crate::specs::Reading::invoke_at, crate::specs::Reading::type_info_body_at))]
-fn fields_of<'a>(alloc: Global, opcode: u16, r: &mut Ndr<'a>) -> Result<Parts<'a>, RecordFault>
+#[tactic(auto, unfolding(oa_ndr::specs::Reading::bind, oa_ndr::specs::Reading::give, crate::specs::Reading::fields_at, crate::specs::Reading::put_at))]
+fn fields_of<'a>(alloc: Global, opcode: Opcode, r: &mut Ndr<'a>) -> Result<Parts<'a>, RecordFault>
     ensures answers { Answers shown result r.new (fields_at opcode r.old) }
     ensures memory { StarvesAt result opcode }
 {
     match opcode {
-        1 => Ok(Parts::Create(guid(r)?)),
-        3 => Ok(Parts::GetIds(read_get_ids(alloc, r)?)),
-        4 => Ok(Parts::Invoke(read_head(alloc, r)?)),
-        10 => Ok(Parts::TypeInfo(read_index(r)?)),
-        _ => Err(RecordFault::Stub),
+        Opcode::Create => Ok(Parts::Create(guid(r)?)),
+        Opcode::Release => Ok(Parts::Release(number(r)?)),
+        Opcode::GetIds => Ok(Parts::GetIds(get_ids(alloc, r)?)),
+        Opcode::Invoke => Ok(Parts::Invoke(call(alloc, r)?)),
+        Opcode::GetElement => {
+            let (call, indices) = element(alloc, r)?;
+            Ok(Parts::GetElement(call, indices))
+        }
+        Opcode::PutElement => {
+            let (call, indices) = element(alloc, r)?;
+            Ok(Parts::PutElement(call, indices, field(r)?))
+        }
+        Opcode::Redimension => {
+            let (call, bound) = redim(alloc, r)?;
+            Ok(Parts::Redimension(call, bound))
+        }
+        Opcode::Lock => Ok(Parts::Lock(call(alloc, r)?)),
+        Opcode::Unlock => Ok(Parts::Unlock(call(alloc, r)?)),
+        Opcode::TypeInfo => Ok(Parts::TypeInfo(number(r)?)),
+        Opcode::Objects => Ok(Parts::Objects),
     }
 }
 
 /// The parts of a whole body. Want of memory comes only where the opcode's body takes some.
-#[tactic(auto, unfolding(oa_ndr::specs::Reading::bind, crate::specs::Reading::layout_at))]
+#[tactic(auto, unfolding(oa_ndr::specs::Reading::bind, oa_ndr::specs::Reading::fail, crate::specs::Reading::layout_at, crate::specs::Reading::listed_at))]
 pub(crate) fn read_parts(alloc: Global, body: &[u8]) -> Result<Parts<'_>, RecordFault>
     ensures all { AnswersAll shown result (whole layout_at body.now) }
     ensures memory { Starves result body.now }
 {
     let mut r = Ndr::new(body);
     r.u32()?;
-    let opcode = r.u16()?;
+    let number = r.u16()?;
     r.u16()?;
+    let Some(opcode) = Opcode::listed(number) else {
+        return Err(RecordFault::Stub);
+    };
     let parts = fields_of(alloc, opcode, &mut r)?;
     if !r.rest().is_empty() {
         return Err(RecordFault::Stub);

@@ -1,11 +1,18 @@
 //! Bodies as requests.
-ghost use Rattle.std.specs.Prelude.{◌≡◌, ◌<◌, ◌≤◌, map, length, IfOk};
-ghost use Rattle.oa_record.specs.Asks.{IsRequest, tag_at};
-ghost use Rattle.oa_record.specs.Judging.{Judges, Sounds, SoundsOne};
+ghost use Rattle.std.specs.Prelude.{◌≡◌, ◌<◌, ◌≤◌, ◌++◌, ◌∷◌, [], map, length, IfOk, IfErr};
+ghost use Rattle.oa_record.specs.Asks.{IsRequest, call_of, tag_at};
+ghost use Rattle.oa_record.specs.Judging.{Judges, Requests, Sounds, SoundsOne, put_fault};
+ghost use Rattle.oa_record.specs.Layouts.{Layout};
+ghost use Rattle.oa_record.specs.Reading.{element_of, put_of};
+ghost use Rattle.oa_record.specs.Shown.{shown};
+ghost use Rattle.oa_record.specs.declared.fault.RecordFault.TheVariants.{Memory};
 
-use crate::layout::{Parts, read_parts};
-use crate::{RecordFault, Request};
+use crate::body_parts::Parts;
+use crate::layout::read_parts;
+use crate::raw_call::RawCall;
+use crate::{Call, RecordFault, Request};
 use byteorder::{ByteOrder, LittleEndian};
+use oa_array::Indices;
 use oa_model::MAX_REQUEST_BYTES;
 use oa_variant::Variant;
 use oa_wire_variant::{WireFault, read_variant};
@@ -43,9 +50,9 @@ fn sound(alloc: Global, fields: &[&[u8]]) -> Result<(), RecordFault>
     Ok(())
 }
 
-// The values of all fields.
+// The values of all fields; a bad type is told by its place among them.
 fn values(alloc: Global, fields: &[&[u8]]) -> Result<Vec<Variant>, RecordFault>
-    requires { length fields.now ≤ 32 }
+    requires { length fields.now ≤ 33 }
     ensures judged { Judges (λ v. v.items) (map (λ f. f.now) fields.now) result }
     ensures count { IfOk result (λ v. length v.items ≡ length fields.now) }
 {
@@ -65,25 +72,105 @@ fn values(alloc: Global, fields: &[&[u8]]) -> Result<Vec<Variant>, RecordFault>
     Ok(values)
 }
 
+// A call with the values of its arguments.
+fn called(alloc: Global, call: RawCall<'_>) -> Result<Call, RecordFault>
+    ensures judged { Judges (λ q. q.arguments) call.entry.fields result }
+    ensures is { IfOk result (λ q. q ≡ call_of call.entry q.arguments) }
+{
+    let values = values(alloc, call.fields())?;
+    Ok(call.with(values))
+}
+
+// The bytes of the arguments' fields, and behind them those of a cell's new value.
+fn with_value<'a>(
+    alloc: Global,
+    call: &RawCall<'a>,
+    value: &'a [u8],
+) -> Result<Vec<&'a [u8]>, RecordFault>
+    ensures all { IfOk result (λ v. map (λ f. f.now) v.items ≡ call.now.fields ++ value.now ∷ []) }
+    ensures few { IfOk result (λ v. length v.items ≤ 33) }
+    ensures err { IfErr result (λ e. e ≡ Memory) }
+{
+    let mut fields = Vec::from_slice(alloc, call.fields())?;
+    fields.push(value)?;
+    Ok(fields)
+}
+
+// The refusal of a PUTELEM of so many arguments: the new value, which stands behind these, has no index.
+fn without_index(count: usize, fault: RecordFault) -> RecordFault
+    ensures { result ≡ put_fault count fault }
+{
+    match fault {
+        RecordFault::BadVarType(Some(place)) if place as usize == count => RecordFault::BadVarType(
+            None,
+        ),
+        other => other,
+    }
+}
+
+// A PUTELEM with its values.
+fn put_element(
+    alloc: Global,
+    call: RawCall<'_>,
+    indices: Indices,
+    value: &[u8],
+) -> Result<Request, RecordFault>
+    ensures { Requests (Layout.PutElementBody (put_of (element_of call.entry indices) value.now)) result }
+{
+    let count = call.fields().len();
+    let fields = with_value(alloc, &call, value)?;
+    let mut values = match values(alloc, &fields) {
+        Ok(values) => values,
+        Err(fault) => return Err(without_index(count, fault)),
+    };
+    let Some(value) = values.pop() else {
+        return Err(RecordFault::Stub);
+    };
+    Ok(Request::PutElement {
+        call: call.with(values),
+        indices,
+        value,
+    })
+}
+
+// The request of a body, with its values.
+fn request(alloc: Global, parts: Parts<'_>) -> Result<Request, RecordFault>
+    ensures { Requests (shown parts.entry) result }
+{
+    match parts {
+        Parts::Create(class) => Ok(Request::Create { class }),
+        Parts::Release(object) => Ok(Request::Release { object }),
+        Parts::GetIds(call) => Ok(Request::GetIds(call)),
+        Parts::Invoke(call) => Ok(Request::Invoke(called(alloc, call)?)),
+        Parts::GetElement(call, indices) => {
+            let call = called(alloc, call)?;
+            Ok(Request::GetElement { call, indices })
+        }
+        Parts::PutElement(call, indices, value) => put_element(alloc, call, indices, value),
+        Parts::Redimension(call, bound) => {
+            let call = called(alloc, call)?;
+            Ok(Request::Redimension { call, bound })
+        }
+        Parts::Lock(call) => Ok(Request::Lock(called(alloc, call)?)),
+        Parts::Unlock(call) => Ok(Request::Unlock(called(alloc, call)?)),
+        Parts::TypeInfo(index) => Ok(Request::TypeInfo { index }),
+        Parts::Objects => Ok(Request::Objects),
+    }
+}
+
 /// The request that a body asks: the tag at its first byte, which `tag_of` reads, the opcode at 4, its fields from 8 to the end (this
 /// project's choice).
 ///
-/// `Stub` where the body is laid out as no request, has more than 1,048,576 bytes, or has more than 32 arguments or named ones, no name or
-/// more than 17, and where the field of a value is broken; else `BadVarType` with the lowest index of a value with a type outside the profile.
-/// `Memory` only for the opcode of a GETIDS or an INVOKE in a body of 8 to 1,048,576 bytes.
+/// `Stub` where the body is laid out as no request of a listed opcode, has more than 1,048,576 bytes, more than 32 arguments or named ones,
+/// no name or more than 17, or more than 16 indices, and where the field of a value is broken; else `BadVarType` for the first value with a
+/// type outside the profile: with its index in rgvarg, or None for the new value of a cell. `Memory` only for an opcode whose bodies take
+/// memory to be read, in a body of 8 to 1,048,576 bytes.
 pub fn read_request(alloc: Global, body: &[u8]) -> Result<Request, RecordFault>
     ensures { IsRequest body.now result }
 {
     if body.len() > MAX_REQUEST_BYTES as usize {
         return Err(RecordFault::Stub);
     }
-    match read_parts(alloc, body)? {
-        Parts::Create(class) => Ok(Request::Create { class }),
-        Parts::GetIds(call) => Ok(Request::GetIds(call)),
-        Parts::TypeInfo(index) => Ok(Request::TypeInfo { index }),
-        Parts::Invoke(head) => {
-            let values = values(alloc, head.fields())?;
-            Ok(Request::Invoke(head.with(values)))
-        }
-    }
+    let parts = read_parts(alloc, body)?;
+    request(alloc, parts)
 }

@@ -1,5 +1,8 @@
 //! Requests.
 use crate::{Arguments, Dispids, Names};
+use oa_array::Indices;
+use oa_model::Bound;
+use oa_variant::Variant;
 use uuid::Uuid;
 
 /// What a body asks for (this project's choice).
@@ -9,15 +12,41 @@ pub enum Request {
     Create {
         class: Uuid,
     },
+    /// An object ends.
+    Release {
+        object: u32,
+    },
     /// The DISPIDs of a member and of its parameters.
     GetIds(GetIds),
     /// A call of a member of an object.
-    Invoke(Invoke),
+    Invoke(Call),
+    /// A cell of an array that a property holds.
+    GetElement {
+        call: Call,
+        indices: Indices,
+    },
+    /// A new value of a cell of an array that a property holds.
+    PutElement {
+        call: Call,
+        indices: Indices,
+        value: Variant,
+    },
+    /// Another first listed bound of an array that a property holds.
+    Redimension {
+        call: Call,
+        bound: Bound,
+    },
+    /// A lock of an array that a property holds.
+    Lock(Call),
+    /// One lock fewer.
+    Unlock(Call),
     /// What the library says of an interface or a coclass.
     TypeInfo {
         /// Counts the interfaces in the order of the library's text, from 0 on, and then the coclasses.
         index: u32,
     },
+    /// The live objects.
+    Objects,
 }
 
 /// A look-up of names (IDispatch::GetIDsOfNames, MS-OAUT section 3.1.4.3).
@@ -35,9 +64,9 @@ pub struct GetIds {
     pub names: Names,
 }
 
-/// A call of a member (IDispatch::Invoke, MS-OAUT section 3.1.4.4).
-#[derive(Debug, Drop)]
-pub struct Invoke {
+/// What is called, and how: the fields at the start of a call's head (IDispatch::Invoke, MS-OAUT section 3.1.4.4).
+#[derive(Clone, Copy, Debug, PartialEq, Eq)]
+pub struct CallHead {
     /// The number of the object.
     pub object: u32,
     /// The member.
@@ -50,6 +79,13 @@ pub struct Invoke {
     pub lcid: u32,
     /// How the member is called: 1 as a method, 2 as a property that is read, 4 as one that is put, 8 as one that is put by reference.
     pub flags: u16,
+}
+
+/// A call of a member (IDispatch::Invoke, MS-OAUT section 3.1.4.4). Requests on elements and locks name the array's property by one.
+#[derive(Debug, Drop)]
+pub struct Call {
+    /// What is called, and how.
+    pub head: CallHead,
     /// The DISPIDs of the named arguments, which stand first in `arguments`; there may be more of them than of these.
     pub named: Dispids,
     /// The arguments.

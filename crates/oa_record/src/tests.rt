@@ -1,7 +1,8 @@
 // Bodies and replies byte for byte.
 use crate::{
-    Arguments, Dispids, Names, RecordFault, Reply, Request, ids_field, laws, number_field, put_all,
-    read_request, string_field, tag_of, variant_field,
+    Arguments, Dispids, Names, Opcode, RecordFault, Reply, Request, ids_field, laws, number_field,
+    opcode_of, put_all, put_scalar_field, put_string_field, put_variant_field, read_request,
+    scalar_field, string_field, tag_of, variant_field,
 };
 use oa_model::HResult;
 use oa_variant::{Scalar, Variant};
@@ -58,7 +59,7 @@ fn refusal(alloc: Global, body: &[u8]) -> Option<RecordFault> {
 fn class_of(request: &Request) -> Option<[u8; 16]> {
     match request {
         Request::Create { class } => Some(class.into_bytes()),
-        Request::GetIds(_) | Request::Invoke(_) | Request::TypeInfo { .. } => None,
+        _ => None,
     }
 }
 
@@ -74,6 +75,7 @@ fn a_create_names_its_coclass(rt: HostRuntime) -> Result<(), Fail> {
     laws::refused_asks_nothing();
     laws::one_refusal();
     laws::opcode_stands();
+    laws::one_number();
     Ok(())
 }
 
@@ -82,12 +84,12 @@ fn an_invoke_has_its_head_and_its_arguments(rt: HostRuntime) -> Result<(), Fail>
     assert_eq!(rt; tag_of(&PUT), 3);
     match read_request(rt.alloc(), &PUT) {
         Ok(Request::Invoke(call)) => {
-            assert_eq!(rt; call.object, 1);
-            assert_eq!(rt; call.dispid, 1);
-            assert!(rt; call.interface.is_nil());
-            assert!(rt; call.riid.is_nil());
-            assert_eq!(rt; call.lcid, 0);
-            assert_eq!(rt; call.flags, 4);
+            assert_eq!(rt; call.head.object, 1);
+            assert_eq!(rt; call.head.dispid, 1);
+            assert!(rt; call.head.interface.is_nil());
+            assert!(rt; call.head.riid.is_nil());
+            assert_eq!(rt; call.head.lcid, 0);
+            assert_eq!(rt; call.head.flags, 4);
             assert_eq!(rt; call.named.as_slice(), [-3].as_slice());
             let seven = Variant::One(Scalar::I4(7));
             assert_eq!(rt; call.arguments.as_slice().len(), 1);
@@ -99,7 +101,7 @@ fn an_invoke_has_its_head_and_its_arguments(rt: HostRuntime) -> Result<(), Fail>
     }
     match read_request(rt.alloc(), &GET) {
         Ok(Request::Invoke(call)) => {
-            assert_eq!(rt; call.flags, 2);
+            assert_eq!(rt; call.head.flags, 2);
             assert_eq!(rt; call.named.as_slice().len(), 0);
             assert_eq!(rt; call.arguments.as_slice().len(), 0);
         }
@@ -174,6 +176,37 @@ fn a_type_info_has_its_index(rt: HostRuntime) -> Result<(), Fail> {
         Ok(Request::TypeInfo { index }) => assert_eq!(rt; index, 1),
         _ => return Err("no TYPEINFO".into()),
     }
+    Ok(())
+}
+
+#[test]
+fn each_opcode_has_its_number(rt: HostRuntime) -> Result<(), Fail> {
+    let rows = [
+        (1u8, Opcode::Create, true),
+        (2, Opcode::Release, false),
+        (3, Opcode::GetIds, true),
+        (4, Opcode::Invoke, true),
+        (5, Opcode::GetElement, false),
+        (6, Opcode::PutElement, false),
+        (7, Opcode::Redimension, false),
+        (8, Opcode::Lock, false),
+        (9, Opcode::Unlock, false),
+        (10, Opcode::TypeInfo, true),
+        (11, Opcode::Objects, false),
+    ];
+    for (number, opcode, listed) in rows {
+        assert_eq!(rt; opcode_of(&[1, 0, 0, 0, number, 0, 9, 9]), Some(opcode));
+        assert_eq!(rt; Opcode::from_number(opcode.number()), Some(opcode));
+        assert_eq!(rt; opcode.is_listed(), listed, "{number}");
+    }
+    for body in [
+        [1u8, 0, 0, 0, 0, 0, 0, 0],
+        [1, 0, 0, 0, 12, 0, 0, 0],
+        [1, 0, 0, 0, 1, 1, 0, 0],
+    ] {
+        assert_eq!(rt; opcode_of(&body), None);
+    }
+    assert_eq!(rt; opcode_of(&CREATE[..7]), None);
     Ok(())
 }
 
@@ -311,5 +344,14 @@ fn fields_are_padded(rt: HostRuntime) -> Result<(), Fail> {
     assert_eq!(rt; ids.as_slice(), three.as_slice());
     let text = string_field(rt.alloc(), b"DItem")?;
     assert_eq!(rt; text.as_slice(), ITEM.as_slice());
+    let mut body = Vec::new(rt.alloc());
+    put_string_field(&mut body, b"DItem")?;
+    put_scalar_field(&mut body, &Scalar::I4(7))?;
+    put_variant_field(&mut body, &Variant::One(Scalar::I4(7)))?;
+    assert_eq!(rt; &body[..24], ITEM.as_slice());
+    assert_eq!(rt; &body[24..56], FIELD.as_slice());
+    assert_eq!(rt; &body[56..], FIELD.as_slice());
+    let seven = scalar_field(rt.alloc(), &Scalar::I4(7))?;
+    assert_eq!(rt; seven.as_slice(), FIELD.as_slice());
     Ok(())
 }

@@ -1,0 +1,269 @@
+//! A description as the fields of a reply.
+ghost use Rattle.std.specs.Prelude.{◌≡◌, ◌≤◌, ◌++◌, length, IfOk, OnOk, option_copied};
+ghost use Rattle.std.specs.List.{flat_map};
+ghost use Rattle.oa_record.specs.Replies.{string_field};
+ghost use Rattle.oa_typelib.specs.Contents.{content_of};
+ghost use Rattle.oa_description.specs.DescriptionFields.{content_head, default_field, description_field, description_head, entry_field, entry_fields, flag, invoke_kind, member_field, member_flags, member_head, parameter_field, parameter_flags, parameter_head, type_number};
+
+use oa_array::Cell;
+use oa_idl::Name;
+use oa_model::{ValueType, guid_to_wire};
+use oa_record::{MAX_FIELDS_BYTES, string_field, variant_field};
+use oa_typelib::{
+    Content, DeclarationKind, DescribedEntry, DescribedMember, DescribedParameter, Description,
+};
+use oa_variant::{Scalar, Variant};
+use std::alloc::{AllocError, Global};
+
+/// The type of a method without a result: VT_VOID.
+const VOID: u16 = 24;
+
+/// The kind of an interface: TKIND_DISPATCH.
+const DISPATCH: u32 = 4;
+
+/// The kind of a coclass: TKIND_COCLASS.
+const COCLASS: u32 = 5;
+
+/// The number of a type.
+fn type_number(value_type: Option<ValueType>) -> u16
+    ensures { result ≡ type_number value_type }
+{
+    match value_type {
+        Some(value_type) => value_type.vt(),
+        None => VOID,
+    }
+}
+
+/// How a member is called (INVOKEKIND); 0 for one of `properties:`.
+fn invoke_kind(kind: DeclarationKind) -> u16
+    ensures { result ≡ invoke_kind kind }
+{
+    match kind {
+        DeclarationKind::Property | DeclarationKind::ReadonlyProperty => 0,
+        DeclarationKind::Method => 1,
+        DeclarationKind::Get => 2,
+        DeclarationKind::Put => 4,
+    }
+}
+
+/// VARFLAG_FREADONLY, or no flag.
+fn member_flags(kind: DeclarationKind) -> u16
+    ensures { result ≡ member_flags kind }
+{
+    match kind {
+        DeclarationKind::ReadonlyProperty => 1,
+        DeclarationKind::Property
+        | DeclarationKind::Method
+        | DeclarationKind::Get
+        | DeclarationKind::Put => 0,
+    }
+}
+
+/// A flag, where it is set.
+fn flag(is_set: bool, n: u16) -> u16
+    ensures { result ≡ flag is_set n }
+{
+    if is_set { n } else { 0 }
+}
+
+/// PARAMFLAG_FIN, PARAMFLAG_FOPT and PARAMFLAG_FHASDEFAULT.
+fn parameter_flags(parameter: &DescribedParameter<'_>) -> u16
+    ensures { result ≡ parameter_flags parameter.now }
+{
+    let of_in = flag(parameter.is_in, 1);
+    let of_optional = flag(parameter.is_optional, 16);
+    let of_default = flag(parameter.default.is_some(), 32);
+    of_in + of_optional + of_default
+}
+
+/// Type, flags, a reserved number.
+#[tactic(auto, unfolding(oa_record::specs::Replies::word, oa_record::specs::Replies::half_word, crate::specs::DescriptionFields::parameter_head))]
+fn parameter_head(parameter: &DescribedParameter<'_>) -> [u8; 8]
+    ensures { result ≡ parameter_head parameter.now }
+{
+    let [a, b] = parameter.value_type.vt().to_le_bytes();
+    let [c, d] = parameter_flags(parameter).to_le_bytes();
+    [a, b, c, d, 0, 0, 0, 0]
+}
+
+/// Adds a name as a string.
+fn put_name(out: &mut Vec<u8>, name: &Name) -> Result<(), AllocError>
+    ensures { OnOk result (out.new.items ≡ out.old.items ++ string_field name.now) }
+{
+    let alloc = *out.allocator();
+    let field = string_field(alloc, name.as_bytes())?;
+    out.extend_from_slice(&field)
+}
+
+/// Adds the field of a default.
+#[tactic(auto, unfolding(crate::specs::DescriptionFields::default_field))]
+fn put_default(out: &mut Vec<u8>, default: Option<&Scalar>) -> Result<(), AllocError>
+    ensures { OnOk result (out.new.items ≡ out.old.items ++ default_field (option_copied default.entry)) }
+{
+    match default {
+        Some(value) => {
+            let alloc = *out.allocator();
+            let value = Variant::One(value.copy(alloc)?);
+            let field = variant_field(alloc, &value)?;
+            out.extend_from_slice(&field)
+        }
+        None => Ok(()),
+    }
+}
+
+/// Adds a parameter.
+#[tactic(auto, unfolding(crate::specs::DescriptionFields::parameter_field))]
+fn put_parameter(out: &mut Vec<u8>, parameter: &DescribedParameter<'_>) -> Result<(), AllocError>
+    ensures { OnOk result (out.new.items ≡ out.old.items ++ parameter_field parameter.now) }
+{
+    out.extend_from_slice(&parameter_head(parameter))?;
+    put_name(out, parameter.name)?;
+    put_default(out, parameter.default)
+}
+
+fn put_parameters(
+    out: &mut Vec<u8>,
+    parameters: &[DescribedParameter<'_>],
+) -> Result<(), AllocError>
+    ensures { OnOk result (out.new.items ≡ out.old.items ++ flat_map parameter_field parameters.now) }
+{
+    'parameters: for parameter in parameters {
+        put_parameter(out, parameter)?;
+    }
+    Ok(())
+}
+
+/// A count of 2 bytes. Err for one that is greater, as no library has.
+fn count(n: usize) -> Result<u16, AllocError>
+    ensures { IfOk result (λ x. x ≡ n) }
+{
+    match u16::try_from(n) {
+        Ok(n) => Ok(n),
+        Err(_) => Err(AllocError),
+    }
+}
+
+/// A count of 4 bytes. Err for one that is greater, as no library has.
+fn wide_count(n: usize) -> Result<u32, AllocError>
+    ensures { IfOk result (λ x. x ≡ n) }
+{
+    match u32::try_from(n) {
+        Ok(n) => Ok(n),
+        Err(_) => Err(AllocError),
+    }
+}
+
+/// DISPID, kind, flags, type, the number of parameters, a reserved number.
+#[tactic(auto, unfolding(oa_record::specs::Replies::word, oa_record::specs::Replies::half_word, crate::specs::DescriptionFields::member_head))]
+fn member_head(member: &DescribedMember<'_>) -> Result<[u8; 16], AllocError>
+    ensures { IfOk result (λ head. head ≡ member_head member.now) }
+{
+    let count = count(member.parameters.len())?;
+    let [a, b, c, d] = member.id.to_le_bytes();
+    let [e, f] = invoke_kind(member.kind).to_le_bytes();
+    let [g, h] = member_flags(member.kind).to_le_bytes();
+    let [i, j] = type_number(member.value_type).to_le_bytes();
+    let [k, l] = count.to_le_bytes();
+    Ok([a, b, c, d, e, f, g, h, i, j, k, l, 0, 0, 0, 0])
+}
+
+/// Adds a member.
+#[tactic(auto, unfolding(crate::specs::DescriptionFields::member_field))]
+fn put_member(out: &mut Vec<u8>, member: &DescribedMember<'_>) -> Result<(), AllocError>
+    ensures { OnOk result (out.new.items ≡ out.old.items ++ member_field member.now) }
+{
+    let head = member_head(member)?;
+    out.extend_from_slice(&head)?;
+    put_name(out, member.name)?;
+    put_parameters(out, member.parameters.as_slice())
+}
+
+fn put_members(out: &mut Vec<u8>, members: &[DescribedMember<'_>]) -> Result<(), AllocError>
+    ensures { OnOk result (out.new.items ≡ out.old.items ++ flat_map member_field members.now) }
+{
+    'members: for member in members {
+        put_member(out, member)?;
+    }
+    Ok(())
+}
+
+/// 1 for the default interface, the index of the interface.
+#[tactic(auto, unfolding(oa_record::specs::Replies::word, crate::specs::DescriptionFields::entry_field))]
+fn entry_field(entry: &DescribedEntry) -> [u8; 8]
+    ensures { result ≡ entry_field entry.now }
+{
+    let [a, b] = flag(entry.is_default, 1).to_le_bytes();
+    let [c, d, e, f] = entry.interface.to_le_bytes();
+    [a, b, 0, 0, c, d, e, f]
+}
+
+fn put_entries(out: &mut Vec<u8>, entries: &[DescribedEntry]) -> Result<(), AllocError>
+    ensures { OnOk result (out.new.items ≡ out.old.items ++ flat_map entry_field entries.now) }
+{
+    'entries: for entry in entries {
+        out.extend_from_slice(&entry_field(entry))?;
+    }
+    Ok(())
+}
+
+/// The kind, the number of entries.
+#[tactic(auto, unfolding(oa_record::specs::Replies::word, crate::specs::DescriptionFields::content_head))]
+fn content_head(content: &Content<'_>) -> Result<[u8; 8], AllocError>
+    ensures { IfOk result (λ head. head ≡ content_head (content_of content.now)) }
+{
+    let (kind, len) = match content {
+        Content::Interface(members) => (DISPATCH, members.len()),
+        Content::Coclass(entries) => (COCLASS, entries.len()),
+    };
+    let [a, b, c, d] = kind.to_le_bytes();
+    let [e, f, g, h] = wide_count(len)?.to_le_bytes();
+    Ok([a, b, c, d, e, f, g, h])
+}
+
+fn put_content(out: &mut Vec<u8>, content: &Content<'_>) -> Result<(), AllocError>
+    ensures { OnOk result (out.new.items ≡ out.old.items ++ entry_fields (content_of content.now)) }
+{
+    match content {
+        Content::Interface(members) => put_members(out, members.as_slice()),
+        Content::Coclass(entries) => put_entries(out, entries.as_slice()),
+    }
+}
+
+/// Adds the kind, the number of entries and the GUID.
+#[tactic(auto, unfolding(crate::specs::DescriptionFields::description_head))]
+fn put_head(out: &mut Vec<u8>, description: &Description<'_>) -> Result<(), AllocError>
+    ensures { OnOk result (out.new.items ≡ out.old.items ++ description_head description.now) }
+{
+    let head = content_head(&description.content)?;
+    out.extend_from_slice(&head)?;
+    out.extend_from_slice(&guid_to_wire(&description.guid))?;
+    Ok(())
+}
+
+/// Adds a description.
+#[tactic(auto, unfolding(crate::specs::DescriptionFields::description_field))]
+fn put_description(out: &mut Vec<u8>, description: &Description<'_>) -> Result<(), AllocError>
+    ensures { OnOk result (out.new.items ≡ out.old.items ++ description_field description.now) }
+{
+    put_head(out, description)?;
+    put_name(out, description.name)?;
+    put_content(out, &description.content)
+}
+
+/// The fields of a reply that are a description.
+///
+/// Err where memory is refused, and for a description of more than 4,294,967,279 bytes, which no library has.
+pub fn description_field(
+    alloc: Global,
+    description: &Description<'_>,
+) -> Result<Vec<u8>, AllocError>
+    ensures value { IfOk result (λ v. v.items ≡ description_field description.now) }
+    ensures small { IfOk result (λ v. length v.items ≤ 4294967279) }
+{
+    let mut out = Vec::new(alloc);
+    put_description(&mut out, description)?;
+    if out.len() > MAX_FIELDS_BYTES {
+        return Err(AllocError);
+    }
+    Ok(out)
+}

@@ -1,0 +1,6 @@
+//! Descriptions of a library's interfaces and coclasses as bytes (this project's choice).
+#![tactic(auto)]
+
+mod description;
+
+pub use description::description_field;

@@ -1,0 +1,85 @@
+-- The opcodes and their numbers (this project's choice).
+use Rattle.std.specs.Prelude.{ℕ, Bool, true, false, ◌==◌, nat_lt, if◌then◌else◌, List, length, drop, Option, Some, None}
+use Rattle.byteorder.specs.Endian.{little_number}
+use Rattle.oa_record.specs.declared.opcode.Opcode.{Opcode}
+use Rattle.oa_record.specs.declared.opcode.Opcode.TheVariants as opcodes
+
+abbrev pub number_of : Opcode → ℕ
+number_of opcodes.Create = 1
+number_of opcodes.Release = 2
+number_of opcodes.GetIds = 3
+number_of opcodes.Invoke = 4
+number_of opcodes.GetElement = 5
+number_of opcodes.PutElement = 6
+number_of opcodes.Redimension = 7
+number_of opcodes.Lock = 8
+number_of opcodes.Unlock = 9
+number_of opcodes.TypeInfo = 10
+number_of opcodes.Objects = 11
+
+abbrev pub opcode_named : ℕ → Option Opcode
+opcode_named n =
+    if n == 1 then Some opcodes.Create
+    else if n == 2 then Some opcodes.Release
+    else if n == 3 then Some opcodes.GetIds
+    else if n == 4 then Some opcodes.Invoke
+    else if n == 5 then Some opcodes.GetElement
+    else if n == 6 then Some opcodes.PutElement
+    else if n == 7 then Some opcodes.Redimension
+    else if n == 8 then Some opcodes.Lock
+    else if n == 9 then Some opcodes.Unlock
+    else if n == 10 then Some opcodes.TypeInfo
+    else if n == 11 then Some opcodes.Objects
+    else None
+
+-- The opcodes whose requests are read. A body of another one is bad stub data until its line here says true.
+abbrev pub is_listed : Opcode → Bool
+is_listed opcodes.Create = true
+is_listed opcodes.Release = false
+is_listed opcodes.GetIds = true
+is_listed opcodes.Invoke = true
+is_listed opcodes.GetElement = false
+is_listed opcodes.PutElement = false
+is_listed opcodes.Redimension = false
+is_listed opcodes.Lock = false
+is_listed opcodes.Unlock = false
+is_listed opcodes.TypeInfo = true
+is_listed opcodes.Objects = false
+
+abbrev pub only_listed : Option Opcode → Option Opcode
+only_listed None = None
+only_listed (Some opcode) = if is_listed opcode then Some opcode else None
+
+-- the opcode of a number, where it is listed
+abbrev pub listed_opcode : ℕ → Option Opcode
+listed_opcode n = only_listed (opcode_named n)
+
+-- the number at the place of the opcode
+abbrev pub opcode_at : List ℕ → ℕ
+opcode_at body = little_number 2 (drop 4 body)
+
+-- the opcode that stands in a body
+abbrev pub opcode_in : List ℕ → Option Opcode
+opcode_in body = if nat_lt (length body) 8 then None else opcode_named (opcode_at body)
+
+-- The opcodes whose bodies take memory to be read: for names, for the lists of a call, for indices. The others have fields of a fixed length.
+abbrev pub takes_memory : Opcode → Bool
+takes_memory opcodes.Create = false
+takes_memory opcodes.Release = false
+takes_memory opcodes.GetIds = true
+takes_memory opcodes.Invoke = true
+takes_memory opcodes.GetElement = true
+takes_memory opcodes.PutElement = true
+takes_memory opcodes.Redimension = true
+takes_memory opcodes.Lock = true
+takes_memory opcodes.Unlock = true
+takes_memory opcodes.TypeInfo = false
+takes_memory opcodes.Objects = false
+
+abbrev pub some_takes_memory : Option Opcode → Bool
+some_takes_memory None = false
+some_takes_memory (Some opcode) = takes_memory opcode
+
+-- the numbers of listed opcodes whose bodies take memory to be read
+abbrev pub opcode_takes_memory : ℕ → Bool
+opcode_takes_memory n = some_takes_memory (listed_opcode n)

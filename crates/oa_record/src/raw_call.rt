@@ -1,0 +1,60 @@
+//! A call as its body has it, with the bytes of the arguments.
+ghost use Rattle.std.specs.Prelude.{◌≡◌, ◌≤◌, map, length};
+
+use crate::{Arguments, Call, CallHead, Dispids};
+use oa_variant::Variant;
+use std::marker::Model;
+
+/// The head of a call, with the bytes of the arguments' fields.
+#[derive(Drop)]
+pub(crate) struct RawCall<'a> {
+    head: CallHead,
+    named: Vec<i32>,
+    fields: Vec<&'a [u8]>,
+}
+
+impl<'a> Model for RawCall<'a> {
+    ghost use Rattle.std.specs.Prelude.{◌≤◌, length, map};
+    ghost use Rattle.oa_record.specs.CallParts.{CallParts};
+
+    ghost Value = { CallParts };
+
+    ghost view = { λ c. record { head = c.head; named = c.named.items; fields = map (λ f. f.now) c.fields.items } };
+
+    ghost invariant = { λ c. (length c.named.items ≤ 32) × (length c.fields.items ≤ 32) };
+}
+
+impl<'a> RawCall<'a> {
+    /// A call of at most 32 arguments and as many named ones.
+    pub(crate) fn new(head: CallHead, named: Vec<i32>, fields: Vec<&'a [u8]>) -> RawCall<'a>
+        requires few_named { length named.items ≤ 32 }
+        requires few { length fields.items ≤ 32 }
+        ensures { result ≡ record { head = head; named = named.items; fields = map (λ f. f.now) fields.entry.items } }
+    {
+        RawCall {
+            head,
+            named,
+            fields,
+        }
+    }
+
+    /// The bytes of the arguments' fields.
+    pub(crate) fn fields(&self) -> &[&'a [u8]]
+        ensures value { map (λ f. f.now) result.now ≡ self.now.fields }
+        ensures few { length result.now ≤ 32 }
+    {
+        self.fields.as_slice()
+    }
+
+    /// The call with the values of the arguments.
+    pub(crate) fn with(self, values: Vec<Variant>) -> Call
+        requires { length values.items ≤ 32 }
+        ensures { result ≡ record { head = self.entry.head; named = self.entry.named; arguments = values.items } }
+    {
+        Call {
+            head: self.head,
+            named: Dispids::new(self.named),
+            arguments: Arguments::new(values),
+        }
+    }
+}

@@ -1,36 +1,38 @@
 -- A reply other than S_OK leaves no trace.
-use Rattle.std.proofs.Common.{◌≡◌, ℕ, List, [], ◌∷◌, Result, Ok, Err, refl, ap, ◌∙◌, subst, inl, inr}
+use Rattle.std.proofs.Common.{◌≡◌, ℕ, ◌==◌, Bool, true, false, List, [], ◌∷◌, None, Result, Ok, Err, refl, sym, ap, ◌∙◌, subst, inl, inr, true≢false}
+use Rattle.std.specs.Prelude.{◌&&◌, not, if◌then◌else◌}
 use Rattle.std.proofs.lemmas.Bool.Decides.{eqb_tells}
 use Rattle.oa_record.specs.declared.request.Request.{Request}
-use Rattle.oa_record.specs.declared.request.Request.TheVariants as requests
 use Rattle.oa_record.specs.Asks.{tag_at}
 use Rattle.oa_record.specs.Replies.{ReplyValue}
-use Rattle.oa_server.specs.declared.call.Action.{Action}
-use Rattle.oa_server.specs.declared.call.Action.TheVariants.{Get, Put}
+use Rattle.oa_table.specs.declared.fault.TableFault.{TableFault}
+use Rattle.oa_table.specs.Events.{applied}
+use Rattle.oa_table.specs.Tables.{TableValue}
+use Rattle.oa_server.specs.declared.decision.Decision.{Decision}
+use Rattle.oa_server.specs.declared.decision.Decision.TheVariants.{Answer, Change}
 use Rattle.oa_server.specs.declared.refusal.Refusal.{Refusal}
-use Rattle.oa_server.specs.Actions.{action_of, class_found}
+use Rattle.oa_server.specs.Decisions.{after_event, changed, outcome_of}
 use Rattle.oa_server.specs.States.{State}
-use Rattle.oa_server.specs.Steps.{after, after_action, after_class, reply_of, reply_to_action, reply_to_create}
+use Rattle.oa_server.specs.Steps.{decided, outcome, reply_of}
 use Rattle.oa_server.specs.Turns.{Turn, Run}
-use Rattle.oa_server.specs.Traces.{done_bodies, done_replies}
+use Rattle.oa_server.specs.Traces.{done_bodies, done_replies, kept_bodies, kept_replies}
 
-quiet_create : (state : State) (class : List ℕ) (tag : ℕ) (found : Result (Unit {0}) Refusal) → ((reply_to_create state tag found).code.0 ≡ 0 → ⊥) → after_class state class found ≡ state
-quiet_create state class tag (Err e) n = refl
-quiet_create state class tag (Ok u) n = absurd (n refl)
+quiet_outcome : (state : State) (due : Result Decision Refusal) → ((outcome_of state due).code.0 ≡ 0 → ⊥) → (outcome_of state due).event ≡ None
+quiet_outcome state (Err r) n = refl
+quiet_outcome state (Ok (Answer code fields)) n = refl
+quiet_outcome state (Ok (Change event fields)) n = by (applied event state.table) n
+  where
+    by : (due : Result TableValue TableFault) → ((changed event fields due).code.0 ≡ 0 → ⊥) → (changed event fields due).event ≡ None
+    by (Ok table) m = absurd (m refl)
+    by (Err fault) m = refl
 
-quiet_action : (state : State) (tag object : ℕ) (found : Result Action Refusal) → ((reply_to_action state tag object found).code.0 ≡ 0 → ⊥) → after_action state object found ≡ state
-quiet_action state tag object (Err e) n = refl
-quiet_action state tag object (Ok (Get place declared)) n = refl
-quiet_action state tag object (Ok (Put place value)) n = absurd (n refl)
-
-quiet_step : (state : State) (tag : ℕ) (request : Request) → ((reply_of state tag request).code.0 ≡ 0 → ⊥) → after state request ≡ state
-quiet_step state tag (requests.Create class) n = quiet_create state class tag (class_found state class) n
-quiet_step state tag (requests.GetIds call) n = refl
-quiet_step state tag (requests.TypeInfo index) n = refl
-quiet_step state tag (requests.Invoke call) n = quiet_action state tag call.object (action_of state call) n
+-- its outcome has no event
+pub quiet_step : (state : State) (tag : ℕ) (request : Request) → ((reply_of state tag request).code.0 ≡ 0 → ⊥) → (outcome state request).event ≡ None
+quiet_step state tag request n = quiet_outcome state (decided state request) n
 
 pub quiet_turn : (old new : State) (body : List ℕ) (reply : ReplyValue) → Turn old body reply new → (reply.code.0 ≡ 0 → ⊥) → new ≡ old
-quiet_turn old new body reply (inl s) n = s.leaves ∙ quiet_step old (tag_at body) s.request (λ e. n (ap (λ (r : ReplyValue). r.code.0) s.answers ∙ e))
+quiet_turn old new body reply (inl s) n =
+    s.leaves ∙ ap (after_event old) (quiet_step old (tag_at body) s.request (λ e. n (ap (λ (r : ReplyValue). r.code.0) s.answers ∙ e)))
 quiet_turn old new body reply (inr (inl s)) n = s.leaves
 quiet_turn old new body reply (inr (inr (inl s))) n = s.leaves
 quiet_turn old new body reply (inr (inr (inr s))) n = s.leaves
@@ -45,3 +47,20 @@ quiet_run old new (x ∷ xs) (y ∷ ys) r =
       | inl is ↦ rw is.0 (r.0, r.1, rest)
       | inr is ↦ rw is.0 (subst (λ from. Run from (done_bodies xs ys) (done_replies ys) new) (quiet_turn old r.0 x y r.1 is.1) rest)
     ]
+
+-- any of these turns may be left out
+pub quiet_choice : (old new : State) (choices : List Bool) (bodies : List (List ℕ)) (replies : List ReplyValue) → Run old bodies replies new
+    → Run old (kept_bodies choices bodies replies) (kept_replies choices replies) new
+quiet_choice old new [] bodies replies r = r
+quiet_choice old new (chosen ∷ choices) [] [] r = r
+quiet_choice old new (chosen ∷ choices) [] (y ∷ ys) r = absurd r
+quiet_choice old new (chosen ∷ choices) (x ∷ xs) [] r = absurd r
+quiet_choice old new (chosen ∷ choices) (x ∷ xs) (y ∷ ys) r = by chosen (y.code.0 == 0) refl (quiet_choice r.0 new choices xs ys r.2)
+  where
+    by : (chosen success : Bool) → (y.code.0 == 0) ≡ success → Run r.0 (kept_bodies choices xs ys) (kept_replies choices ys) new
+        → Run old (if chosen && not success then kept_bodies choices xs ys else x ∷ kept_bodies choices xs ys) (if chosen && not success then kept_replies choices ys else y ∷ kept_replies choices ys) new
+    by true true is rest = (r.0, r.1, rest)
+    by false success is rest = (r.0, r.1, rest)
+    by true false is rest =
+        let refused : y.code.0 ≡ 0 → ⊥ = λ e. true≢false (ap (λ n. n == 0) (sym e) ∙ is) in
+        subst (λ from. Run from (kept_bodies choices xs ys) (kept_replies choices ys) new) (quiet_turn old r.0 x y r.1 refused) rest

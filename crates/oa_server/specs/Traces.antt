@@ -1,8 +1,8 @@
--- The requests of a run that were answered with S_OK.
-use Rattle.std.specs.Prelude.{ℕ, ◌==◌, if◌then◌else◌, List, [], ◌∷◌}
+-- What is left of a run without turns that were not answered with S_OK.
+use Rattle.std.specs.Prelude.{ℕ, ◌==◌, ◌&&◌, not, Bool, if◌then◌else◌, List, [], ◌∷◌}
 use Rattle.oa_record.specs.Replies.{ReplyValue}
 
--- the bodies
+-- the bodies that were answered with S_OK
 abbrev pub done_bodies : List (List ℕ) → List ReplyValue → List (List ℕ)
 done_bodies [] replies = []
 done_bodies (body ∷ bodies) [] = []
@@ -12,3 +12,21 @@ done_bodies (body ∷ bodies) (reply ∷ replies) = if reply.code.0 == 0 then bo
 abbrev pub done_replies : List ReplyValue → List ReplyValue
 done_replies [] = []
 done_replies (reply ∷ replies) = if reply.code.0 == 0 then reply ∷ done_replies replies else done_replies replies
+
+-- a turn is left out where it is chosen and was not answered with S_OK
+abbrev pub leaves_out : Bool → ReplyValue → Bool
+leaves_out chosen reply = chosen && not (reply.code.0 == 0)
+
+-- the bodies without some that were not answered with S_OK: those that a list of choices names, one for each in turn
+abbrev pub kept_bodies : List Bool → List (List ℕ) → List ReplyValue → List (List ℕ)
+kept_bodies [] bodies replies = bodies
+kept_bodies (chosen ∷ choices) [] replies = []
+kept_bodies (chosen ∷ choices) (body ∷ bodies) [] = []
+kept_bodies (chosen ∷ choices) (body ∷ bodies) (reply ∷ replies) =
+    if leaves_out chosen reply then kept_bodies choices bodies replies else body ∷ kept_bodies choices bodies replies
+
+-- their replies
+abbrev pub kept_replies : List Bool → List ReplyValue → List ReplyValue
+kept_replies [] replies = replies
+kept_replies (chosen ∷ choices) [] = []
+kept_replies (chosen ∷ choices) (reply ∷ replies) = if leaves_out chosen reply then kept_replies choices replies else reply ∷ kept_replies choices replies

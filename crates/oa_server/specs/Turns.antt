@@ -1,5 +1,5 @@
 -- Turns of a server, and runs of turns.
-use Rattle.std.specs.Prelude.{◌≡◌, ◌⊎◌, ℕ, true, List, [], ◌∷◌, Some, None}
+use Rattle.std.specs.Prelude.{◌≡◌, ◌⊎◌, ℕ, true, List, [], ◌∷◌, Option, None}
 use Rattle.oa_model.specs.Codes.{bad_stub_data, disp_e_badvartype, e_outofmemory}
 use Rattle.oa_record.specs.declared.request.Request.{Request}
 use Rattle.oa_record.specs.Asks.{Asks, IsBadVarType, IsStub, MayStarve, tag_at}
@@ -22,12 +22,12 @@ pub record RefusesStub (old : State) (body : List ℕ) (reply : ReplyValue) (new
 
 -- a value has a type outside the profile; nothing changes
 pub record RefusesType (old : State) (body : List ℕ) (reply : ReplyValue) (new : State) : Type 0 where
-  pub place : ℕ
-  pub why : IsBadVarType body place
-  pub answers : reply ≡ refusal (tag_at body) disp_e_badvartype (Some place)
+  pub index : Option ℕ
+  pub why : IsBadVarType body index
+  pub answers : reply ≡ refusal (tag_at body) disp_e_badvartype index
   pub leaves : new ≡ old
 
--- the body asks a request that takes memory to carry out: any but a CREATE that is refused
+-- the body asks a request that takes memory to carry out: any but a CREATE or a RELEASE that is refused
 pub record MayLack (old : State) (body : List ℕ) : Type 0 where
   pub request : Request
   pub asked : Asks body request

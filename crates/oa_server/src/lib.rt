@@ -1,25 +1,16 @@
-//! A session of an automation object server: lines of a reader, requests to a table, replies to a writer.
+//! An automation object server: requests to a table, and sessions over a reader and a writer.
 #![tactic(auto)]
 
-mod bodies;
-mod call;
-mod description;
-mod ends;
+mod action;
+mod decision;
+mod fields;
 pub mod laws;
-mod lines;
 mod refusal;
 mod server;
-mod session;
-mod sink;
-mod source;
-mod table;
-mod writing;
+mod serving;
 
-pub use ends::End;
+pub use oa_frame::{End, Served};
 pub use server::Server;
-pub use session::Served;
-pub use sink::{Sink, Unwritten, deliver_all, put_all};
-pub use source::{Next, Source, next_byte};
 
 #[cfg(test)]
 mod array_tests;

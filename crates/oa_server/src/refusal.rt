@@ -1,5 +1,9 @@
 //! Why a request is refused.
+ghost use Rattle.std.specs.Prelude.{◌≡◌, None};
+ghost use Rattle.oa_typelib.specs.MemberCodes.{code_of};
+
 use oa_model::HResult;
+use oa_typelib::MemberFault;
 
 /// The code of a refusal, and the place in rgvarg of the argument that it speaks of.
 #[derive(Clone, Copy, Debug, PartialEq, Eq)]
@@ -9,12 +13,18 @@ pub(crate) struct Refusal {
 }
 
 impl Refusal {
-    ghost use Rattle.std.specs.Prelude.{◌≡◌, None};
-
     /// A refusal that speaks of no argument.
     pub(crate) fn of(code: HResult) -> Refusal
         ensures { result ≡ record { code = code; index = None } }
     {
         Refusal { code, index: None }
+    }
+}
+
+impl From<MemberFault> for Refusal {
+    ghost from_gives = { λ fault refusal. refusal ≡ record { code = code_of fault; index = None } };
+
+    fn from(fault: MemberFault) -> Refusal {
+        Refusal::of(fault.code())
     }
 }

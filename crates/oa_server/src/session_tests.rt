@@ -1,13 +1,14 @@
 // Sessions of a small library, as tables of requests and replies.
-ghost use Rattle.std.specs.Prelude.{◌≤◌};
+ghost use Rattle.std.specs.Prelude.{◌≡◌, ◌≤◌, false};
 
 use crate::tests::{Halting, Refusing, Small};
 use crate::{End, Served, Server};
 use oa_idl::parse;
 use oa_record::Reply;
+use oa_stream::{Ahead, Gathered, Inlet, Outlet};
 use oa_typelib::check;
 use std::alloc::{AllocError, Global};
-use std::io::ErrorKind;
+use std::io::{ErrorKind, Read};
 use std::rt::HostRuntime;
 use std::test::Fail;
 
@@ -320,10 +321,10 @@ fn served(alloc: Global, input: &[u8], group: usize) -> Result<(Served, Vec<u8>)
     requires positive { 1 ≤ group }
     requires small { group ≤ 1024 }
 {
-    let mut reader = input;
-    let mut out = Vec::new(alloc);
-    let served = server(alloc)?.serve_hex(&mut reader, &mut out, group)?;
-    Ok((served, out))
+    let mut reader = Ahead::new(alloc, input)?;
+    let mut writer = Gathered::new(Vec::new(alloc));
+    let served = server(alloc)?.serve_hex(&mut reader, &mut writer, group)?;
+    Ok((served, Vec::from_slice(alloc, writer.bytes())?))
 }
 
 /// What `run` replies to the four worked bodies, and what `answer` replies to a get after them.
@@ -418,6 +419,56 @@ fn sessions_end_behind_their_replies(rt: HostRuntime) -> Result<(), Fail> {
     Ok(())
 }
 
+/// The length before a record; none of these is too long for one.
+fn length_of(body: &[u8]) -> [u8; 4] {
+    u32::try_from(body.len()).unwrap_or(u32::MAX).to_le_bytes()
+}
+
+/// The replies to the four worked bodies as records, and those that a cut and a length of 0 after them have.
+fn in_records(alloc: Global, more: &[u8]) -> Result<(Served, Vec<u8>), Fail> {
+    let mut input = Vec::new(alloc);
+    for (request, _) in &COUNT {
+        let body = body(alloc, request)?;
+        input.extend_from_slice(&length_of(&body))?;
+        input.extend_from_slice(&body)?;
+    }
+    input.extend_from_slice(more)?;
+    let mut reader = Ahead::new(alloc, input.as_slice())?;
+    let mut writer = Gathered::new(Vec::new(alloc));
+    let served = server(alloc)?.serve(&mut reader, &mut writer, 1)?;
+    Ok((served, Vec::from_slice(alloc, writer.bytes())?))
+}
+
+#[test]
+fn records_have_lengths(rt: HostRuntime) -> Result<(), Fail> {
+    let mut want = Vec::new(rt.alloc());
+    for (_, reply) in &COUNT {
+        let reply = body(rt.alloc(), reply)?;
+        want.extend_from_slice(&length_of(&reply))?;
+        want.extend_from_slice(&reply)?;
+    }
+    for (more, why) in [
+        ([].as_slice(), End::Closed),
+        ([0, 0, 0, 0, 1].as_slice(), End::Closed),
+    ] {
+        let (how, out) = in_records(rt.alloc(), more)?;
+        assert_eq!(rt; how, Served { requests: 4, why });
+        assert_eq!(rt; out.as_slice(), want.as_slice());
+    }
+    want.extend_from_slice(&[
+        16, 0, 0, 0, 0, 0, 0, 0, 0xf7, 6, 7, 0x80, 0xff, 0xff, 0xff, 0xff, 0, 0, 0, 0,
+    ])?;
+    for (more, why) in [
+        ([2, 0, 0, 0, 1].as_slice(), End::Cut),
+        ([1, 0, 16, 0, 1].as_slice(), End::TooLong),
+    ] {
+        let (how, out) = in_records(rt.alloc(), more)?;
+        assert_eq!(rt; how, Served { requests: 4, why });
+        assert_eq!(rt; out.as_slice(), want.as_slice());
+    }
+    Ok(())
+}
+
 #[test]
 fn a_line_too_long_has_a_reply(rt: HostRuntime) -> Result<(), Fail> {
     let mut text = vec![in rt.alloc(); b'0'; 2_097_153]?;
@@ -430,12 +481,20 @@ fn a_line_too_long_has_a_reply(rt: HostRuntime) -> Result<(), Fail> {
     Ok(())
 }
 
+/// How a session over a reader of the standard library went.
+fn over<R: Read + Drop>(alloc: Global, reader: R, writer: &mut Gathered) -> Result<Served, Fail>
+    requires { writer.old.broken ≡ false }
+{
+    let mut reader = Ahead::new(alloc, Inlet::new(reader))?;
+    Ok(server(alloc)?.serve_hex(&mut reader, writer, 1)?)
+}
+
 /// How a session over a reader that always fails in this way went, how often that was called, and how much was written.
 fn refused(alloc: Global, kind: ErrorKind) -> Result<(Served, u32, usize), Fail> {
-    let mut reader = Refusing { kind, calls: 0 };
-    let mut out = Vec::new(alloc);
-    let served = server(alloc)?.serve_hex(&mut reader, &mut out, 1)?;
-    Ok((served, reader.calls, out.len()))
+    let mut refusing = Refusing { kind, calls: 0 };
+    let mut writer = Gathered::new(Vec::new(alloc));
+    let served = over(alloc, &mut refusing, &mut writer)?;
+    Ok((served, refusing.calls, writer.bytes().len()))
 }
 
 #[test]
@@ -454,13 +513,13 @@ fn readers_that_never_give_a_byte_end_a_session(rt: HostRuntime) -> Result<(), F
 /// What a session over a reader of one byte in every second call writes for the four worked bodies.
 fn written_slowly(alloc: Global) -> Result<Vec<u8>, Fail> {
     let input = asked(alloc, &COUNT)?;
-    let mut reader = Halting {
+    let reader = Halting {
         rest: input.as_bytes(),
         calls: 0,
     };
-    let mut out = Vec::new(alloc);
-    server(alloc)?.serve_hex(&mut reader, &mut out, 1)?;
-    Ok(out)
+    let mut writer = Gathered::new(Vec::new(alloc));
+    over(alloc, reader, &mut writer)?;
+    Ok(Vec::from_slice(alloc, writer.bytes())?)
 }
 
 #[test]
@@ -477,11 +536,11 @@ fn left_by(alloc: Global, group: usize, calls: u32) -> Result<(Served, usize), F
     requires small { group ≤ 1024 }
 {
     let input = asked(alloc, &CREATES)?;
-    let mut reader = input.as_bytes();
+    let mut reader = Ahead::new(alloc, input.as_bytes())?;
     let taken = Vec::new(alloc);
-    let mut writer = Small { taken, calls };
+    let mut writer = Outlet::new(Small { taken, calls });
     let served = server(alloc)?.serve_hex(&mut reader, &mut writer, group)?;
-    Ok((served, reader.len()))
+    Ok((served, reader.buffered().len()))
 }
 
 /// A session in which the writer failed behind so many requests.

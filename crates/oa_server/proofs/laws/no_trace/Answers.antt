@@ -1,5 +1,5 @@
-use Rattle.oa_server.proofs.Quiet.{quiet_run, quiet_turn}
+use Rattle.oa_server.proofs.Quiet.{quiet_choice, quiet_run, quiet_step, quiet_turn}
 use Rattle.oa_server.proofs.laws.no_trace.Goals as goal
 
 pub returns : goal.returns
-returns c = record { turn = quiet_turn; others = quiet_run }
+returns c = record { event = quiet_step; turn = quiet_turn; others = quiet_run; some = quiet_choice }

@@ -1,5 +1,0 @@
-use Rattle.oa_server.proofs.OneSplit.{one_line}
-use Rattle.oa_server.proofs.laws.one_line.Goals as goal
-
-pub returns : goal.returns
-returns c = one_line

@@ -1,0 +1,24 @@
+-- CREATE: a new object of a coclass. (This project's choice.)
+use Rattle.std.specs.Prelude.{ℕ, ◌||◌, ◌==◌, nat_lt, not, Bool, List, length, Result, Ok}
+use Rattle.oa_model.specs.Codes.{e_unexpected, regdb_e_classnotreg}
+use Rattle.oa_record.specs.Replies.{number_field}
+use Rattle.oa_typelib.specs.Libraries.{class_of}
+use Rattle.oa_table.specs.declared.event.Event.TheVariants.{Create}
+use Rattle.oa_table.specs.Tables.{TableValue}
+use Rattle.oa_server.specs.declared.decision.Decision.{Decision}
+use Rattle.oa_server.specs.declared.decision.Decision.TheVariants.{Change}
+use Rattle.oa_server.specs.declared.refusal.Refusal.{Refusal}
+use Rattle.oa_server.specs.Refusals.{◌>>=◌, known, unless}
+use Rattle.oa_server.specs.States.{State}
+
+-- whether no further object can be made: 65,536 are live, or the numbers are used up
+abbrev pub is_full : TableValue → Bool
+is_full table = not (nat_lt (length table.objects) 65536) || (table.next == 4294967295)
+
+-- whether an object of the coclass can be made
+abbrev pub class_found : State → List ℕ → Result (Unit {0}) Refusal
+class_found state class = known regdb_e_classnotreg (class_of state.library class) >>= λ _. unless e_unexpected (is_full state.table)
+
+-- it gets the next number, which the reply tells
+abbrev pub creation : State → List ℕ → Result Decision Refusal
+creation state class = class_found state class >>= λ _. Ok (Change (Create state.table.next class) (number_field state.table.next))

@@ -1,0 +1,61 @@
+-- What becomes of a request: first a decision, which only reads; then the change of the table, which may refuse it.
+use Rattle.std.specs.Prelude.{◌≡◌, ℕ, Bool, true, List, [], Option, Some, None, Result, Ok, Err}
+use Rattle.oa_model.specs.declared.hresult.HResult.{HResult}
+use Rattle.oa_model.specs.Codes.{s_ok}
+use Rattle.oa_table.specs.declared.event.Event.{Event}
+use Rattle.oa_table.specs.declared.fault.TableFault.{TableFault}
+use Rattle.oa_table.specs.Events.{BringsNoLocks, applied}
+use Rattle.oa_table.specs.Faults.{code_of}
+use Rattle.oa_table.specs.Outcomes.{Because}
+use Rattle.oa_table.specs.Tables.{TableValue}
+use Rattle.oa_server.specs.declared.decision.Decision.{Decision}
+use Rattle.oa_server.specs.declared.decision.Decision.TheVariants.{Answer, Change}
+use Rattle.oa_server.specs.declared.decision.Undecided.{Undecided}
+use Rattle.oa_server.specs.declared.decision.Undecided.TheVariants.{Refused, OutOfMemory}
+use Rattle.oa_server.specs.declared.refusal.Refusal.{Refusal}
+use Rattle.oa_server.specs.States.{State}
+
+-- the change that is made, and what the reply tells
+pub record Outcome : Type 0 where
+  pub event : Option Event
+  pub code : HResult
+  pub index : Option ℕ
+  pub fields : List ℕ
+
+abbrev pub refused_outcome : Refusal → Outcome
+refused_outcome r = record { event = None; code = r.code; index = r.index; fields = [] }
+
+-- the table refuses a change, or makes it
+abbrev pub changed : Event → List ℕ → Result TableValue TableFault → Outcome
+changed event fields (Ok table) = record { event = Some event; code = s_ok; index = None; fields = fields }
+changed event fields (Err fault) = refused_outcome (record { code = code_of fault; index = None })
+
+abbrev pub outcome_of : State → Result Decision Refusal → Outcome
+outcome_of state (Err r) = refused_outcome r
+outcome_of state (Ok (Answer code fields)) = record { event = None; code = code; index = None; fields = fields }
+outcome_of state (Ok (Change event fields)) = changed event fields (applied event state.table)
+
+-- the state after a change
+abbrev pub with_table : State → Result TableValue TableFault → State
+with_table state (Ok table) = record state { table = table }
+with_table state (Err fault) = state
+
+abbrev pub after_event : State → Option Event → State
+after_event state None = state
+after_event state (Some event) = with_table state (applied event state.table)
+
+-- A request is decided as is due, or memory was wanted where some may be.
+abbrev pub Decides : Result Decision Refusal → Bool → Result Decision Undecided → Type 0
+Decides due takes (Ok decision) = due ≡ Ok decision
+Decides due takes (Err (Refused r)) = due ≡ Err r
+Decides due takes (Err OutOfMemory) = takes ≡ true
+
+-- no locks come with a decision: they are of a session, and of cells alone
+abbrev pub ChangesNoLocks : Decision → Type 0
+ChangesNoLocks (Answer code fields) = Unit {0}
+ChangesNoLocks (Change event fields) = BringsNoLocks event
+
+-- the change is made, or nothing changes and this is the reason
+abbrev pub Makes : Event → State → State → Result (Unit {0}) TableFault → Type 0
+Makes event old new (Ok u) = (applied event old.table ≡ Ok new.table) × (new ≡ record old { table = new.table })
+Makes event old new (Err fault) = (new ≡ old) × Because (applied event old.table) fault

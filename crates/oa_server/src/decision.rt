@@ -1,0 +1,50 @@
+//! What becomes of a request, before anything is changed.
+ghost use Rattle.std.specs.Prelude.{◌≡◌};
+ghost use Rattle.oa_server.specs.declared.decision.Undecided.TheVariants.{OutOfMemory, Refused};
+
+use crate::fields::Fields;
+use crate::refusal::Refusal;
+use oa_model::HResult;
+use oa_table::Event;
+use std::alloc::{AllocError, AllocFailed};
+
+/// What becomes of a request that is not refused.
+#[derive(Drop)]
+pub(crate) enum Decision {
+    /// Its reply has this code and these fields. Nothing changes.
+    Answer { code: HResult, fields: Fields },
+    /// The table changes, and the reply then has these fields; it is a refusal where the change is.
+    Change { event: Event, fields: Fields },
+}
+
+/// Why nothing is decided.
+pub(crate) enum Undecided {
+    /// The request is refused.
+    Refused(Refusal),
+    /// Memory was refused.
+    OutOfMemory,
+}
+
+impl From<Refusal> for Undecided {
+    ghost from_gives = { λ refusal e. e ≡ Refused refusal };
+
+    fn from(refusal: Refusal) -> Undecided {
+        Undecided::Refused(refusal)
+    }
+}
+
+impl From<AllocError> for Undecided {
+    ghost from_gives = { λ _ e. e ≡ OutOfMemory };
+
+    fn from(_: AllocError) -> Undecided {
+        Undecided::OutOfMemory
+    }
+}
+
+impl<T: Drop> From<AllocFailed<T>> for Undecided {
+    ghost from_gives = { λ _ e. e ≡ OutOfMemory };
+
+    fn from(_: AllocFailed<T>) -> Undecided {
+        Undecided::OutOfMemory
+    }
+}

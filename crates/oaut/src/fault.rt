@@ -1,6 +1,7 @@
 // What ends the program early: one line on standard error, and a status.
+use crate::place::Place;
 use oa_idl::ParseError;
-use oa_server::Unwritten;
+use oa_stream::Unwritten;
 use oa_typelib::CheckError;
 use std::alloc::{AllocError, AllocFailed};
 use thiserror::Error;
@@ -10,12 +11,16 @@ use thiserror::Error;
 pub(crate) enum Fault {
     #[error("command line is not UTF-8")]
     Words,
+    #[error("standard input holds the requests, so LIB cannot be -")]
+    TwoInputs,
     #[error("cannot read {0}")]
     CannotRead(String),
     #[error("library is not UTF-8")]
     NotUtf8,
     #[error("{0}")]
     Parse(ParseError),
+    #[error("{0}\n{1}")]
+    At(ParseError, Place),
     #[error("{0}")]
     Check(CheckError),
     #[error("record cut")]
@@ -39,7 +44,12 @@ impl Fault {
             Fault::CannotRead(_) | Fault::Read | Fault::Write => 1,
             Fault::Parse(ParseError::Memory) | Fault::Check(CheckError::Memory) | Fault::Memory =>
                 5,
-            Fault::Words | Fault::NotUtf8 | Fault::Parse(_) | Fault::Check(_) => 2,
+            Fault::Words
+            | Fault::TwoInputs
+            | Fault::NotUtf8
+            | Fault::Parse(_)
+            | Fault::At(..)
+            | Fault::Check(_) => 2,
             Fault::Cut | Fault::TooLong | Fault::BadHex(_) => 4,
         }
     }

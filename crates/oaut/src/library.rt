@@ -1,20 +1,95 @@
-// Libraries of files.
+// Texts of libraries, and the libraries that they stand for.
+ghost use Rattle.std.specs.Prelude.{◌≤◌, length, IfSome};
+
 use crate::fault::Fault;
-use oa_idl::parse;
+use oa_idl::{Limit, ParseError, parse};
+use oa_model::MAX_LIBRARY_BYTES;
 use oa_typelib::{Library, check};
 use std::alloc::Global;
-use std::fs;
-use std::io::ErrorKind;
+use std::fs::File;
+use std::io;
+use std::io::{ErrorKind, Read};
 
-/// The library of a file, which is read whole before its text is judged.
-pub(crate) fn read_library(rt: &HostRuntime, alloc: Global, path: &str) -> Result<Library, Fault> {
-    let bytes = match fs::read(rt, path) {
-        Ok(bytes) => bytes,
-        Err(error) if error.kind() == ErrorKind::OutOfMemory => return Err(Fault::Memory),
-        Err(_) => return Err(Fault::CannotRead(String::from_str(alloc, path)?)),
-    };
-    let Ok(text) = str::from_utf8(&bytes) else {
-        return Err(Fault::NotUtf8);
-    };
+/// The word that stands for standard input in the place of a file.
+pub(crate) const STANDARD_INPUT: &str = "-";
+
+/// The bytes that are read at once of what stands behind a text's limit.
+const PIECE: u64 = 65_536;
+
+/// The text of a library, from a file or from standard input. Of a text above the limit one piece at a time is kept, and it is read on only as long as it
+/// is UTF-8: that fault goes before the limit, wherever it stands.
+pub(crate) fn read_text(rt: &HostRuntime, alloc: Global, path: &str) -> Result<String, Fault> {
+    if path == STANDARD_INPUT {
+        return text_of(alloc, &mut rt.reader(), path);
+    }
+    match File::open(rt, path) {
+        Ok(mut file) => text_of(alloc, &mut file, path),
+        Err(error) => Err(unread(alloc, &error, path)),
+    }
+}
+
+/// The library that a text stands for.
+pub(crate) fn library_of(alloc: Global, text: &str) -> Result<Library, Fault> {
     Ok(check(alloc, parse(alloc, text)?)?)
+}
+
+/// Why a library cannot be read.
+fn unread(alloc: Global, error: &io::Error, path: &str) -> Fault {
+    if error.kind() == ErrorKind::OutOfMemory {
+        return Fault::Memory;
+    }
+    match String::from_str(alloc, path) {
+        Ok(path) => Fault::CannotRead(path),
+        Err(_) => Fault::Memory,
+    }
+}
+
+/// What a reader gives, up to its end, as a text. One byte above the limit tells that the text breaks it.
+fn text_of<R: Read>(alloc: Global, reader: &mut R, path: &str) -> Result<String, Fault> {
+    let mut bytes = Vec::new(alloc);
+    if let Err(error) = reader
+        .by_ref()
+        .take(MAX_LIBRARY_BYTES as u64 + 1)
+        .read_to_end(&mut bytes)
+    {
+        return Err(unread(alloc, &error, path));
+    }
+    if bytes.len() > MAX_LIBRARY_BYTES {
+        return Err(refusal_of_long(alloc, reader, bytes, path));
+    }
+    String::from_utf8(bytes).map_err(|_| Fault::NotUtf8)
+}
+
+/// Why a text is refused that begins with these bytes, more than a text may have: it is not UTF-8, or it breaks the limit.
+fn refusal_of_long<R: Read>(
+    alloc: Global,
+    reader: &mut R,
+    mut bytes: Vec<u8>,
+    path: &str,
+) -> Fault {
+    for _ in 0..u64::MAX {
+        let Some(whole) = whole_characters(&bytes) else {
+            return Fault::NotUtf8;
+        };
+        // A character that is cut goes on in the next piece.
+        bytes.drain(..whole);
+        match reader.by_ref().take(PIECE).read_to_end(&mut bytes) {
+            Ok(0) if bytes.is_empty() => return Fault::Parse(ParseError::Limit(Limit::Text)),
+            Ok(0) => return Fault::NotUtf8,
+            Ok(_) => (),
+            Err(error) => return unread(alloc, &error, path),
+        }
+    }
+    Fault::Parse(ParseError::Limit(Limit::Text))
+}
+
+/// How many of the bytes are whole characters, where nothing but a first part of one more stands behind them.
+fn whole_characters(bytes: &[u8]) -> Option<usize>
+    ensures { IfSome result (λ n. n ≤ length bytes.now) }
+{
+    match str::from_utf8(bytes) {
+        Ok(_) => Some(bytes.len()),
+        Err(error) if error.error_len().is_none() => Some(error.valid_up_to()),
+        Err(_) => None,
+    }
 }

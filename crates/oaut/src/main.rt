@@ -4,6 +4,7 @@
 mod command;
 mod fault;
 mod library;
+mod place;
 mod play;
 mod text;
 
@@ -31,13 +32,20 @@ fn run(rt: &HostRuntime) -> Result<ExitCode, Fault> {
         Ok(matches) => matches,
         Err(error) if error.kind() == ErrorKind::OutOfMemory => return Err(Fault::Memory),
         Err(error) => {
-            let _ = error.print(rt);
+            // Help and the version are what was asked for: that they could not be written is a fault.
+            if error.print(rt).is_err() && error.exit_code() == 0 {
+                return Err(Fault::Write);
+            }
             return Ok(ExitCode::from(error.exit_code() as u8));
         }
     };
     match matches.subcommand() {
         Some(("play", arguments)) => play::play(rt, arguments.get_str("LIB").unwrap_or(""))?,
-        Some(("check", arguments)) => text::write_text(rt, arguments.get_str("LIB").unwrap_or(""))?,
+        Some(("check", arguments)) => text::write_text(
+            rt,
+            arguments.get_str("LIB").unwrap_or(""),
+            arguments.get_flag("where"),
+        )?,
         _ => return Ok(ExitCode::from(2)),
     }
     Ok(ExitCode::SUCCESS)

@@ -1,20 +1,19 @@
 // Answering requests with objects in memory.
 use crate::fault::Fault;
-use crate::library::read_library;
+use crate::library::{STANDARD_INPUT, library_of, read_text};
 use oa_server::{End, Server};
+use oa_stream::{Ahead, Behind, Inlet, Outlet};
 use std::io;
-use std::io::{BufReader, BufWriter};
 
 /// Answers the lines of standard input by lines on standard output, until the input ends or is refused.
 pub(crate) fn play(rt: &HostRuntime, path: &str) -> Result<(), Fault> {
+    if path == STANDARD_INPUT {
+        return Err(Fault::TwoInputs);
+    }
     let alloc = rt.alloc();
-    let mut server = Server::in_memory(alloc, read_library(rt, alloc, path)?);
-    let Ok(mut reader) = BufReader::new(alloc, rt.reader()) else {
-        return Err(Fault::Memory);
-    };
-    let Ok(mut writer) = BufWriter::new(alloc, io::writer(rt)) else {
-        return Err(Fault::Memory);
-    };
+    let mut server = Server::in_memory(alloc, library_of(alloc, &read_text(rt, alloc, path)?)?);
+    let mut reader = Ahead::new(alloc, Inlet::new(rt.reader()))?;
+    let mut writer = Behind::new(alloc, Outlet::new(io::writer(rt)))?;
     let served = server.serve_hex(&mut reader, &mut writer, 1)?;
     match served.why {
         End::Closed => Ok(()),

@@ -1,14 +1,34 @@
 // The canonical text of a library.
 use crate::fault::Fault;
-use crate::library::read_library;
-use oa_server::{deliver_all, put_all};
+use crate::library::{library_of, read_text};
+use crate::place::Place;
+use oa_idl::ParseError;
+use oa_stream::{Outlet, Sink};
+use std::alloc::Global;
 use std::io;
 
 /// Writes the canonical text of a library's file on standard output. Nothing is written of a library that is refused.
-pub(crate) fn write_text(rt: &HostRuntime, path: &str) -> Result<(), Fault> {
-    let library = read_library(rt, rt.alloc(), path)?;
-    let mut writer = io::writer(rt);
-    put_all(&mut writer, library.text())?;
-    deliver_all(&mut writer)?;
+pub(crate) fn write_text(rt: &HostRuntime, path: &str, shows_place: bool) -> Result<(), Fault> {
+    let alloc = rt.alloc();
+    let text = read_text(rt, alloc, path)?;
+    let library = match library_of(alloc, &text) {
+        Ok(library) => library,
+        Err(fault) if shows_place => return Err(placed(alloc, path, &text, fault)),
+        Err(fault) => return Err(fault),
+    };
+    let mut writer = Outlet::new(io::writer(rt));
+    writer.put(library.text())?;
+    writer.deliver()?;
     Ok(())
+}
+
+/// A fault with its place in the text, where it has one and memory is found for it.
+fn placed(alloc: Global, path: &str, text: &str, fault: Fault) -> Fault {
+    match fault {
+        Fault::Parse(error @ ParseError::Syntax(at)) => match Place::of(alloc, path, text, at) {
+            Ok(place) => Fault::At(error, place),
+            Err(_) => Fault::Parse(error),
+        },
+        other => other,
+    }
 }

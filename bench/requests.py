@@ -6,14 +6,17 @@
 The first thousand lines are creates, the others puts and gets of a long property in turn. Prints requests a second, the peak resident
 memory of the program, and the same for a file four times as long, which needs no more memory. Then puts and gets of texts of 1 KiB and
 of 256 KiB in turn, of an array of 65,536 I4 and of one of 4,096 texts: megabytes of hexadecimal digits read and written a second, beside
-`cat` from and to files of the same length.
+`cat` from and to files of the same length. Then an array of 65,536 cells kept in each of many objects, for cells of one, four and eight
+bytes on the wire: the memory that a cell takes, which is the peak above that of the same session with arrays of one cell, divided by the
+cells. Last, puts and gets through the first and the last of the 256 interfaces of a coclass: the last takes at most 1.5 times as long as
+the first.
 """
 import os
-import struct
 import subprocess
 import sys
 import tempfile
 import time
+import uuid
 
 ROOT = os.path.dirname(os.path.dirname(os.path.abspath(__file__)))
 sys.path.append(f"{ROOT}/cli")
@@ -23,15 +26,18 @@ from memory import peak_of
 PROGRAM = os.path.abspath(sys.argv[1]) if len(sys.argv) > 1 else f"{ROOT}/crates/oaut/out/oaut"
 LINES = int(sys.argv[2]) if len(sys.argv) > 2 else 200_000
 OBJECTS = 1_000
-# the DISPIDs of SAFEARRAY(long), SAFEARRAY(BSTR) and VARIANT in examples/arrays.idl
-LONGS, NAMES, ANY = 5, 13, 15
+# the DISPIDs of SAFEARRAY(unsigned char), SAFEARRAY(long), SAFEARRAY(hyper), SAFEARRAY(BSTR) and VARIANT in examples/arrays.idl
+BYTES, LONGS, HYPERS, NAMES, ANY = 2, 5, 9, 13, 15
+# objects that keep an array, and cells of each
+KEEPERS, KEPT = 100, 65_536
+INTERFACES = 256
 
 
-CLASS = bytes.fromhex("443322116655887799aabbccddeeff03")
+CLASS = uuid.UUID("11223344-5566-7788-99AA-BBCCDDEEFF03")
 
 
 def create(tag):
-    return (struct.pack("<IHH", tag, 1, 0) + CLASS).hex().encode() + b"\n"
+    return wire.line(tag, wire.oaut.ask_create(CLASS))
 
 
 def write_requests(path, count):
@@ -52,6 +58,35 @@ def write_values(path, dispid, value, pairs):
         file.write(create(0))
         for tag in range(1, pairs + 1):
             file.write(wire.put(tag, 1, dispid, value) + wire.get(tag, 1, dispid))
+
+
+def write_kept(path, dispid, value):
+    """Creates objects, and puts the value into each: all of them are kept to the end."""
+    with open(path, "wb") as file:
+        for tag in range(KEEPERS):
+            file.write(create(tag))
+        for number in range(1, KEEPERS + 1):
+            file.write(wire.put(KEEPERS + number, number, dispid, value))
+
+
+def interface_guid(number):
+    return f"11223344-5566-7788-99aa-{number:012x}"
+
+
+def many_interfaces(count):
+    """A library whose coclass has so many interfaces, each with a long property."""
+    items = "".join(f"[uuid({interface_guid(it)})] dispinterface D{it} {{ properties: [id(1)] long P; }}\n" for it in range(count))
+    entries = "".join(f"interface D{it};\n" for it in range(count))
+    return f"[uuid({interface_guid(count)})] library Many {{\n{items}[uuid({uuid.UUID(bytes_le=CLASS)})] coclass C {{\n{entries}}}\n}}\n"
+
+
+def write_through(path, number, count):
+    """Creates an object, and then puts and gets the property of one of its interfaces in turn."""
+    interface = uuid.UUID(interface_guid(number)).bytes_le
+    with open(path, "wb") as file:
+        file.write(create(0))
+        for tag in range(1, count, 2):
+            file.write(wire.put(tag, 1, 1, wire.scalar(wire.I4, tag), interface) + wire.get(tag + 1, 1, 1, interface))
 
 
 def timed(words, given, cwd):
@@ -96,3 +131,25 @@ with tempfile.TemporaryDirectory() as room:
         moved = (os.path.getsize(f"{room}/in") + os.path.getsize(f"{room}/out")) / 1e6
         both = sum(timed(["cat"], f"{room}/{it}", f"{room}/beside")[0] for it in ("in", "out"))
         print(f"{name}: {moved:,.0f} MB in {seconds:.3f} s: {moved / seconds:,.0f} MB/s, peak {peak:,} KiB; cat {moved / both:,.0f} MB/s")
+    for name, dispid, cell in (("UI1", BYTES, wire.UI1), ("I4", LONGS, wire.I4), ("I8", HYPERS, wire.I8)):
+        peaks = []
+        for count in (1, KEPT):
+            write_kept(f"{room}/in", dispid, wire.array(cell, [(count, 0)], [7] * count))
+            seconds, peak, replies, status = timed([PROGRAM, "play", "lib.idl", "--hex"], f"{room}/in", room)
+            if (status, replies) != (0, 2 * KEEPERS):
+                sys.exit(f"{replies} replies to {2 * KEEPERS} requests, status {status}")
+            peaks.append(peak)
+        taken = 1024 * (peaks[1] - peaks[0]) / (KEEPERS * KEPT)
+        print(f"{KEEPERS} arrays of {KEPT:,} {name} kept: peak {peaks[1]:,} KiB, {taken:.1f} bytes a cell")
+    with open(f"{room}/lib.idl", "w", encoding="ascii") as file:
+        file.write(many_interfaces(INTERFACES))
+    least = {}
+    for number in (0, INTERFACES - 1):
+        write_through(f"{room}/in", number, LINES)
+        runs = [timed([PROGRAM, "play", "lib.idl", "--hex"], f"{room}/in", room) for _ in range(5)]
+        if any((status, replies) != (0, LINES // 2 * 2 + 1) for _, _, replies, status in runs):
+            sys.exit(f"interface {number}: a run failed")
+        least[number] = min(seconds for seconds, _, _, _ in runs)
+        print(f"{LINES} requests through interface {number} of {INTERFACES}: {least[number]:.3f} s, {least[number] / LINES * 1e6:.2f} us each")
+    if least[INTERFACES - 1] > 1.5 * least[0]:
+        sys.exit("the last interface takes more than 1.5 times as long as the first")

@@ -423,6 +423,8 @@ case("a library that is not there", ["play", "none.idl", "--hex"], 1, b"", b"oau
 case("a folder for a library", ["play", ".", "--hex"], 1, b"", b"oaut: cannot read .\n")
 refused("not UTF-8", b"\xff", "library is not UTF-8")
 refused("not UTF-8 goes before the limit", b" " * 262_145 + b"\xff", "library is not UTF-8")
+refused("a text above its limit whose last character is cut", b" " * 262_145 + b"\xc3", "library is not UTF-8")
+refused("a text above its limit, of characters of two bytes", b" " * 262_144 + b"\xc3\xa9" * 65_536, "limit text")
 refused("a text above its limit", SMALL + b" " * (262_145 - len(SMALL)), "limit text")
 play("a text at its limit", CREATE, 0, CREATED + b"\n", b"", library=SMALL + b" " * (262_144 - len(SMALL)))
 refused("no text", b"", "syntax at byte 0")
@@ -446,12 +448,64 @@ refused("a canonical text above the limit", long_when_printed(), "limit text")
 refused("a GUID twice", library_with(interface(b"2") + coclass(b"1")), "duplicate guid 11223344-5566-7788-99aa-bbccddeeff01")
 refused("an interface that is not there", library_with(interface(b"2") + coclass(b"3", body=b"dispinterface Other;")), "unknown interface Other")
 
+# --- a library from standard input, and one far above the limit
+
+case("check: standard input", ["check", "-"], 0, CANONICAL, b"", given=FULL)
+case("check: standard input that is not UTF-8", ["check", "-"], 2, b"", b"oaut: library is not UTF-8\n", given=b"\xff")
+case("check: standard input of no bytes", ["check", "-"], 2, b"", b"oaut: syntax at byte 0\n")
+case("play: standard input cannot hold library and requests", ["play", "-", "--hex"], 2, b"", b"oaut: standard input holds the requests, so LIB cannot be -\n", given=SMALL)
+with tempfile.TemporaryDirectory() as folder:
+    fault = os.open(folder, os.O_RDONLY)
+    case("check: standard input that cannot be read", ["check", "-"], 1, b"", b"oaut: cannot read -\n", stdin=fault)
+    os.close(fault)
+
+HUGE = 300_000_000
+for name, at, text in (("UTF-8", None, b"limit text"), ("not UTF-8 at its end", HUGE, b"library is not UTF-8"), ("not UTF-8 soon", 270_000, b"library is not UTF-8")):
+    with tempfile.TemporaryDirectory() as room:
+        with open(f"{room}/lib.idl", "wb") as file:
+            file.truncate(HUGE)
+            if at is not None:
+                file.seek(at)
+                file.write(b"\xff")
+        limit = lambda: resource.setrlimit(resource.RLIMIT_AS, (32_000_000, 32_000_000))
+        done = subprocess.run([PROGRAM, "check", "lib.idl"], cwd=room, capture_output=True, preexec_fn=limit, timeout=120)
+        tell(f"check: 300 MB in 32 MB, {name}", (done.returncode, done.stdout, done.stderr) == (2, b"", b"oaut: " + text + b"\n"), done)
+
+# --- where a syntax fault stands
+
+
+def shows(name, library, at, line, column, text, blank):
+    head = b"lib.idl:%d:%d: " % (line, column)
+    err = b"oaut: syntax at byte %d\n" % at + head + text + b"\n" + b" " * len(head) + blank + b"^\n"
+    case(f"check --where: {name}", ["check", "--where", "lib.idl"], 2, b"", err, files={"lib.idl": library})
+
+
+HEAD = b"[uuid(11223344-5566-7788-99AA-BBCCDDEEFF01)]"
+shows("no text", b"", 0, 1, 1, b"", b"")
+shows("the first line", HEAD + b" library Demo ;\n}\n", 58, 1, 59, HEAD + b" library Demo ;", b" " * 58)
+shows("lines that end by CR LF, a tab before the place", b"//\r\n" + HEAD + b"\r\n\tlibrary D\xc3\xa9 {}\r\n", 60, 3, 11, b"\tlibrary D\xc3\xa9 {}", b"\t" + b" " * 9)
+shows("characters of two bytes before the place", b"/*\xc3\xa9*/ ;", 7, 1, 7, b"/*\xc3\xa9*/ ;", b" " * 6)
+shows("lines that end by CR, the end of the text", HEAD + b"\rlibrary", 52, 2, 8, b"library", b" " * 7)
+shows("the end of the text behind a line's end", HEAD + b"\n\n", 46, 3, 1, b"", b"")
+shows("a control character", b"\n \x1b[1m", 2, 2, 2, b" ?[1m", b" ")
+case("check --where: standard input", ["check", "--where", "-"], 2, b"", b"oaut: syntax at byte 0\n-:1:1: ;\n       ^\n", given=b";")
+case("check --where: a library", ["check", "--where", "lib.idl"], 0, CANONICAL, b"", files={"lib.idl": FULL})
+case("check --where: a fault without a place", ["check", "--where", "lib.idl"], 2, b"", b"oaut: limit text\n", files={"lib.idl": SMALL + b" " * 262_145})
+
 # --- the command line
 
-for words in ([], ["play"], ["play", "lib.idl"], ["play", "--hex"], ["play", "lib.idl", "--hex", "more"], ["play", "lib.idl", "--wide"], ["check"], ["check", "lib.idl", "--hex"], ["check", "lib.idl", "more"], ["serve"], ["help"]):
+for words in ([], ["play"], ["play", "lib.idl"], ["play", "--hex"], ["play", "lib.idl", "--hex", "more"], ["play", "lib.idl", "--wide"], ["check"], ["check", "lib.idl", "--hex"], ["check", "lib.idl", "more"], ["check", "--where"], ["play", "lib.idl", "--hex", "--where"], ["serve"], ["help"]):
     status, out, err = run(words, files={"lib.idl": SMALL})
     tell(f"the words {words} are refused", (status, out, err.startswith(b"error: "), b"--help" in err) == (2, b"", True, True), (status, out, err))
-for words, said in ((["--help"], b"Usage: oaut <COMMAND>"), (["play", "--help"], b"Usage: oaut play --hex <LIB>"), (["check", "--help"], b"Usage: oaut check <LIB>"), (["--version"], b"oaut 0.1.0")):
+for words, said in (
+    (["--help"], b"Usage: oaut <COMMAND>"),
+    (["--help"], b"\n  oaut play examples/small.idl --hex < examples/first.hex\n"),
+    (["play", "--help"], b"Usage: oaut play --hex <LIB>"),
+    (["play", "--help"], b"\n  oaut play examples/small.idl --hex < examples/first.hex\n"),
+    (["check", "--help"], b"Usage: oaut check [OPTIONS] <LIB>"),
+    (["check", "--help"], b"\n  oaut check examples/full.idl\n  oaut check --where - < examples/full.idl\n"),
+    (["--version"], b"oaut 0.1.0"),
+):
     status, out, err = run(words)
     tell(f"the words {words} are answered", (status, said in out, err) == (0, True, b""), (status, out, err))
 

@@ -1,86 +1,39 @@
-"""Values and requests as bytes, spelled as docs/wire.md and docs/records.md say and apart from the program: the cases and the benchmark send them."""
+"""Requests and replies as the lines that the cases and the benchmarks send and expect, by the codec of the client (clients/python/oaut.py).
+What is to be refused is spelled here, from good bytes that are changed at one place."""
+import os
 import struct
+import sys
 
-REFERENT = struct.pack("<I", 0x0002_0000)
-ARRAY = 0x2000
+sys.path.append(os.path.join(os.path.dirname(os.path.dirname(os.path.abspath(__file__))), "clients", "python"))
+import oaut
+from oaut import ARRAY, CELLS, REFERENT
+
 EMPTY, NULL, I2, I4, CY, BSTR, ERROR, BOOL, VARIANT, DECIMAL = 0, 1, 2, 3, 6, 8, 10, 11, 12, 14
 I1, UI1, UI2, UI4, I8, UI8, INT, UINT = 16, 17, 18, 19, 20, 21, 22, 23
 
-# of each type of numbers, how struct packs it
-NUMBERS = {I1: "b", UI1: "B", I2: "h", UI2: "H", I4: "i", UI4: "I", INT: "i", UINT: "I", I8: "q", UI8: "Q", CY: "q", ERROR: "I", BOOL: "H"}
-# of each type of cells, sfType and cbElements
-CELLS = {
-    **{t: (0x10, 1) for t in (I1, UI1)},
-    **{t: (2, 2) for t in (I2, UI2, BOOL)},
-    **{t: (3, 4) for t in (I4, UI4, INT, UINT)},
-    **{t: (0x14, 8) for t in (I8, UI8, CY)},
-    BSTR: (8, 4),
-    VARIANT: (0xC, 16),
-}
+aligned = lambda out, unit: out + bytes(-len(out) % unit)
+# the field of a scalar, a variant field of a record, and a string of a record
+scalar, field, string = oaut.scalar_field, oaut.variant_field, oaut.string_field
 
 
-def aligned(out, unit):
-    """The bytes with zeros up to the next multiple of `unit`."""
-    return out + bytes(-len(out) % unit)
-
-
-def blob(text):
-    """The pointee of a text: counts of units and bytes, then the units."""
-    units = (len(text) + 1) // 2
-    return struct.pack("<III", units, len(text), units) + aligned(text, 2)
-
-
-def with_size(out, start):
-    """The same, with clSize in the wireVARIANT that begins at `start` and ends here."""
-    size = (len(out) - start + 7) // 8
-    return out[:start] + struct.pack("<I", size) + out[start + 4 :]
-
-
-def add_scalar(out, vt, value=None):
-    """Adds a wireVARIANT without VT_ARRAY: its head, its arm and its pointee."""
-    out = aligned(out, 8)
-    start = len(out)
-    out += struct.pack("<IIHHHHI", 0, 0, vt, 0, 0, 0, vt)
-    if vt == BSTR:
-        out += bytes(4) if value is None else REFERENT + blob(value)
-    elif vt == DECIMAL:
-        scale, sign, magnitude = value
-        out = aligned(out, 8) + struct.pack("<HBBIQ", 0, scale, sign, magnitude >> 64, magnitude % 2**64)
-    elif vt in NUMBERS:
-        out = aligned(out, struct.calcsize(NUMBERS[vt])) + struct.pack("<" + NUMBERS[vt], value)
-    return with_size(out, start)
+def changed(out, place, form, *numbers):
+    """The same bytes with other numbers at one place."""
+    changed = bytearray(out)
+    struct.pack_into("<" + form, changed, place, *numbers)
+    return bytes(changed)
 
 
 def array(vt, bounds, cells, count=None, dimensions=None, second=REFERENT):
-    """The field of an array. `count`, `dimensions` and `second` spoil it: what stands for the number of cells, of bounds, and the second referent."""
-    sf_type, size = CELLS.get(vt, (0, 4))
-    features = {BSTR: 0x180, VARIANT: 0x880}.get(vt, 0x80)
-    count = len(cells) if count is None else count
-    dimensions = len(bounds) if dimensions is None else dimensions
-    out = struct.pack("<IIHHHHI", 0, 0, ARRAY + vt, 0, 0, 0, ARRAY) + REFERENT + second
-    out += struct.pack("<IHHIIII", dimensions, dimensions, features, size, vt << 16, sf_type, count) + REFERENT
-    for elements, lower in bounds:
-        out += struct.pack("<Ii", elements, lower)
-    out += struct.pack("<I", count)
-    if vt == BSTR:
-        out += b"".join(bytes(4) if text is None else REFERENT for text in cells)
-        for text in cells:
-            if text is not None:
-                out = aligned(out, 4) + blob(text)
-    elif vt == VARIANT:
-        out += b"".join(bytes(4) if cell is None else REFERENT for cell in cells)
-        for cell in cells:
-            if cell is not None:
-                out = add_scalar(out, *cell)
-    elif vt in NUMBERS:
-        for value in cells:
-            out = aligned(out, size) + struct.pack("<" + NUMBERS[vt], value)
-    return with_size(out, 0)
-
-
-def scalar(vt, value=None):
-    """The field of a scalar."""
-    return add_scalar(b"", vt, value)
+    """The field of an array. `count`, `dimensions` and `second` spoil it: what stands for the number of cells, of bounds, and the second
+    referent. Of a type without arrays it is one of I4 under that type's number."""
+    out = oaut.array_field(vt if vt in CELLS else I4, bounds, cells)
+    if vt not in CELLS:
+        out = changed(changed(out, 8, "H", ARRAY + vt & 0xFFFF), 42, "H", vt)
+    if count is not None:
+        out = changed(changed(out, 48, "I", count), 56 + 8 * len(bounds), "I", count)
+    if dimensions is not None:
+        out = changed(out, 28, "IH", dimensions, dimensions)
+    return out[:24] + second + out[28:]
 
 
 def zero_array(vt):
@@ -88,53 +41,44 @@ def zero_array(vt):
     return array(vt, [(0, 0)], [])
 
 
-def field(value):
-    """A variant field of a record: the count of the value's bytes, a reserved number, the bytes, padding."""
-    return struct.pack("<II", len(value), 0) + aligned(value, 8)
+def line(tag, request):
+    """A request, as a line."""
+    return (struct.pack("<I", tag) + request).hex().encode() + b"\n"
 
 
-def invoke(tag, object, dispid, flags, named, arguments):
-    """An INVOKE of the default interface, as a line."""
-    out = struct.pack("<IHHIi", tag, 4, 0, object, dispid) + bytes(32) + struct.pack("<IHHII", 0, flags, 0, len(arguments), len(named))
-    out += aligned(b"".join(struct.pack("<i", id) for id in named), 8)
-    return (out + b"".join(field(value) for value in arguments)).hex().encode() + b"\n"
+def invoke(tag, object, dispid, flags, named, arguments, interface=oaut.DEFAULT):
+    """An INVOKE of an interface, of the default one where none is given, as a line."""
+    return line(tag, oaut.ask_invoke(object, dispid, flags, named, arguments, interface))
 
 
-def put(tag, object, dispid, value):
+def put(tag, object, dispid, value, interface=oaut.DEFAULT):
     """A put of a property."""
-    return invoke(tag, object, dispid, 4, [-3], [value])
+    return invoke(tag, object, dispid, oaut.PROPERTYPUT, [oaut.NEW_VALUE], [value], interface)
 
 
-def get(tag, object, dispid):
+def get(tag, object, dispid, interface=oaut.DEFAULT):
     """A get of a property."""
-    return invoke(tag, object, dispid, 2, [], [])
-
-
-def reply(tag, code=0, index=0xFFFF_FFFF, fields=b""):
-    """A reply, as a line."""
-    return (struct.pack("<IIII", tag, code, index, 0) + fields).hex().encode() + b"\n"
-
-
-def string(text):
-    """A string of a record: the count of its UTF-16 units, a reserved number, the units, padding."""
-    units = text.encode("utf-16-le")
-    return struct.pack("<II", len(units) // 2, 0) + aligned(units, 8)
+    return invoke(tag, object, dispid, oaut.PROPERTYGET, [], [], interface)
 
 
 def get_ids(tag, object, names):
     """A GETIDS of the default interface, as a line."""
-    out = struct.pack("<IHHII", tag, 3, 0, object, 0) + bytes(32) + struct.pack("<II", 0, len(names))
-    return (out + b"".join(string(name) for name in names)).hex().encode() + b"\n"
-
-
-def ids(dispids):
-    """The fields of a reply to a GETIDS."""
-    return aligned(struct.pack("<II", len(dispids), 0) + b"".join(struct.pack("<i", id) for id in dispids), 8)
+    return line(tag, oaut.ask_ids(object, names))
 
 
 def type_info(tag, index):
     """A TYPEINFO, as a line."""
-    return struct.pack("<IHHII", tag, 10, 0, index, 0).hex().encode() + b"\n"
+    return line(tag, oaut.ask_type_info(index))
+
+
+def reply(tag, code=0, index=oaut.NO_INDEX, fields=b""):
+    """A reply, as a line."""
+    return (struct.pack("<IIII", tag, code, index, 0) + fields).hex().encode() + b"\n"
+
+
+def ids(dispids):
+    """The fields of a reply to a GETIDS."""
+    return oaut.indices_field(dispids)
 
 
 def parameter(vt, flags, name, default=None):

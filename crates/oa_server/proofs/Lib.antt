@@ -3,3 +3,4 @@ pub mod Quiet
 pub mod Named
 pub mod Zeros
 pub mod Wants
+pub mod Keys

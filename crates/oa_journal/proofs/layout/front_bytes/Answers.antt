@@ -1,6 +1,6 @@
 use Rattle.std.proofs.Common.{List, ℕ, [], ◌∷◌, length, ap, arith, length-append}
-use Rattle.oa_journal.specs.Banks.{length-header}
-use Rattle.oa_journal.proofs.layout.front.Goals as goal
+use Rattle.oa_journal.specs.LaidOut.{length-header}
+use Rattle.oa_journal.proofs.layout.front_bytes.Goals as goal
 
 pub returns-clause-len : goal.returns-clause-len
 returns-clause-len c =

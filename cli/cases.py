@@ -225,8 +225,8 @@ talk(
     VALUES,
     [
         puts(LONG, FOUR),
-        puts(LONG, wire.scalar(wire.INT, 4), TYPE_MISMATCH, 0),
-        puts(LONG, wire.scalar(wire.EMPTY), TYPE_MISMATCH, 0),
+        puts(LONG, wire.scalar(wire.NULL), TYPE_MISMATCH, 0),
+        puts(LONG, HI, TYPE_MISMATCH, 0),
         puts(TEXT, FOUR, TYPE_MISMATCH, 0),
         puts(LONG, HALF, BAD_VAR_TYPE, 0),
         calls(LONG, 2, [], [FOUR, HALF, HALF], BAD_VAR_TYPE, 1),
@@ -342,6 +342,169 @@ talk(
     + [puts(ANY, wire.array(vt, [(1, 0)], [1]), BAD_VAR_TYPE, 0) for vt in (wire.EMPTY, wire.NULL, wire.ERROR, wire.DECIMAL, 5, 0x4003, 0x1003)]
     + [gets(ANY, good)],
 )
+
+# --- conversion, parameters and interfaces
+
+OVERFLOW, PARAM_NOT_FOUND, PARAM_NOT_OPTIONAL, NO_INTERFACE = 0x8002_000A, 0x8002_0004, 0x8002_000F, 0x8000_4002
+UNKNOWN_INTERFACE, DISCONNECTED = 0x8002_0001, 0x8001_0108
+# the DISPIDs of examples/full.idl
+FULL_COUNT, FULL_FLAG, FULL_ANY, FULL_CELL = 1, 5, 7, 9
+
+
+def i4(number):
+    return wire.scalar(wire.I4, number)
+
+
+def i2(number):
+    return wire.scalar(wire.I2, number)
+
+
+def bstr(it):
+    return wire.scalar(wire.BSTR, it.encode("utf-16-le"))
+
+
+def reads(dispid, named, values, value):
+    """A get with arguments, and the value that it tells."""
+    return (lambda tag: wire.invoke(tag, 1, dispid, 2, named, values), lambda tag: wire.reply(tag, fields=wire.field(value)))
+
+
+MISSED, NO_VALUE, NO_TEXT = wire.scalar(wire.ERROR, 0x8002_0004), wire.scalar(wire.EMPTY), wire.scalar(wire.BSTR)
+converted = [(wire.scalar(wire.CY, 25_000), 2), (wire.scalar(wire.CY, 35_000), 4), (wire.scalar(wire.CY, -25_000), -2), (i2(7), 7), (NO_VALUE, 0), (wire.scalar(wire.BOOL, 0xFFFF), -1)]
+talk(
+    "values that are converted",
+    FULL,
+    [turn for given, kept in converted for turn in (puts(FULL_COUNT, given), gets(FULL_COUNT, i4(kept)))]
+    + [
+        puts(FULL_COUNT, i4(6)),
+        puts(FULL_COUNT, wire.scalar(wire.I8, 2_147_483_648), OVERFLOW, 0),
+        puts(FULL_COUNT, bstr("7"), TYPE_MISMATCH, 0),
+        gets(FULL_COUNT, i4(6)),
+        puts(FULL_FLAG, i2(3)),
+        gets(FULL_FLAG, wire.scalar(wire.BOOL, 0xFFFF)),
+        puts(FULL_ANY, wire.scalar(wire.CY, 25_000)),
+        gets(FULL_ANY, wire.scalar(wire.CY, 25_000)),
+    ],
+)
+X, K = bstr("x"), bstr("k")
+talk(
+    "a property with parameters",
+    FULL,
+    [
+        calls(FULL_CELL, 4, [-3, 1, 0], [X, K, i4(5)]),
+        reads(FULL_CELL, [], [i2(1), K, i4(5)], X),
+        reads(FULL_CELL, [], [K, i4(5)], X),
+        reads(FULL_CELL, [1], [K, i4(5)], X),
+        reads(FULL_CELL, [0, 1], [i4(5), K], X),
+        reads(FULL_CELL, [2, 1, 0], [MISSED, K, wire.scalar(wire.CY, 50_000)], X),
+        # other keys, of the same member and the same object
+        reads(FULL_CELL, [], [i2(2), K, i4(5)], NO_TEXT),
+        reads(FULL_CELL, [], [bstr("K"), i4(5)], NO_TEXT),
+        reads(FULL_CELL, [], [K, i4(6)], NO_TEXT),
+        # a new value may stand anywhere among the named ones, and says nothing by being the missing one's error
+        calls(FULL_CELL, 4, [1, -3], [K, bstr("y"), i4(6)]),
+        calls(FULL_CELL, 4, [-3], [MISSED, K, i4(5)], TYPE_MISMATCH, 0),
+        calls(FULL_CELL, 4, [-3], [NO_VALUE, bstr("z"), i4(5)]),
+        reads(FULL_CELL, [], [K, i4(6)], bstr("y")),
+        reads(FULL_CELL, [], [bstr("z"), i4(5)], NO_TEXT),
+        reads(FULL_CELL, [], [NO_VALUE, NO_VALUE, NO_VALUE], NO_TEXT),
+        reads(FULL_CELL, [], [K, i4(5)], X),
+    ],
+)
+talk(
+    "arguments that are refused",
+    FULL,
+    [
+        calls(FULL_CELL, 4, [-3], [X, K, i4(5)]),
+        # names that cannot stand so
+        calls(FULL_CELL, 2, [0, 0], [i4(5), i4(5)], E_INVALIDARG),
+        calls(FULL_CELL, 2, [0, 1, 2], [i4(5), K], E_INVALIDARG),
+        calls(FULL_CELL, 2, [-3], [X, K, i4(5)], E_INVALIDARG),
+        calls(FULL_CELL, 4, [], [K, i4(5)], E_INVALIDARG),
+        calls(FULL_CELL, 4, [0], [X], E_INVALIDARG),
+        calls(FULL_CELL, 2, [7, 7], [i4(1)] * 5, E_INVALIDARG),
+        # more arguments than parameters
+        calls(FULL_CELL, 2, [7], [i4(1)] * 4, BAD_PARAM_COUNT),
+        calls(FULL_CELL, 4, [-3], [X] + [i4(1)] * 4, BAD_PARAM_COUNT),
+        # the lowest name of no parameter, or of one that is given by its place too
+        calls(FULL_CELL, 2, [7], [K, K, i4(5)], PARAM_NOT_FOUND, 0),
+        calls(FULL_CELL, 2, [0], [i4(5), K, i4(5)], PARAM_NOT_FOUND, 0),
+        calls(FULL_CELL, 4, [-3, 2, 3], [X, i2(1), K, i4(5)], PARAM_NOT_FOUND, 2),
+        # a parameter that may not be left out
+        calls(FULL_CELL, 2, [], [], PARAM_NOT_OPTIONAL),
+        calls(FULL_CELL, 2, [], [bstr("a"), MISSED, i4(5)], PARAM_NOT_OPTIONAL),
+        # what cannot be converted, by the places of the parameters, the new value last
+        calls(FULL_CELL, 2, [], [K, bstr("a")], TYPE_MISMATCH, 1),
+        calls(FULL_CELL, 2, [], [i2(2), K, bstr("a")], TYPE_MISMATCH, 2),
+        calls(FULL_CELL, 2, [], [i4(40_000), K, bstr("a")], TYPE_MISMATCH, 2),
+        calls(FULL_CELL, 2, [], [i4(40_000), K, i4(5)], OVERFLOW, 0),
+        calls(FULL_CELL, 2, [0], [bstr("a")], PARAM_NOT_OPTIONAL),
+        calls(FULL_CELL, 2, [1, 0], [K, bstr("a")], TYPE_MISMATCH, 1),
+        calls(FULL_CELL, 4, [-3], [i4(1), K, bstr("a")], TYPE_MISMATCH, 2),
+        calls(FULL_CELL, 4, [2, -3], [i4(40_000), i4(1), K, i4(5)], OVERFLOW, 0),
+        calls(FULL_CELL, 4, [-3], [i4(1), K, i4(5)], TYPE_MISMATCH, 0),
+        calls(FULL_CELL, 2, [], [wire.array(wire.I4, [(1, 0)], [5]), i4(5)], TYPE_MISMATCH, 0),
+        # a value outside the profile and a broken field go before all of these, and before the member
+        calls(FULL_CELL, 2, [7], [K, HALF], BAD_VAR_TYPE, 1),
+        calls(FULL_CELL, 2, [7], [K[:-1], HALF], STUB_CODE),
+        calls(99, 2, [], [K, HALF], BAD_VAR_TYPE, 1),
+        # the member goes before the arguments
+        calls(99, 2, [7], [K], MEMBER_NOT_FOUND),
+        calls(FULL_CELL, 1, [7], [K], MEMBER_NOT_FOUND),
+        reads(FULL_CELL, [], [K, i4(5)], X),
+    ],
+)
+talk(
+    "parameters that may be left out",
+    library_with(
+        interface(b"2", body=b"methods: [id(1), propget] long Any([in, optional] VARIANT V, [in, optional] long N); [id(1), propput] void Any([in, optional] VARIANT V, [in, optional] long N, [in] long New);")
+        + coclass(b"3")
+    ),
+    [
+        calls(1, 4, [-3], [i4(1)]),
+        reads(1, [], [], i4(1)),
+        reads(1, [], [MISSED], i4(1)),
+        reads(1, [], [i4(0), MISSED], i4(1)),
+        reads(1, [], [NO_VALUE], i4(0)),
+        reads(1, [], [i4(7)], i4(0)),
+        calls(1, 4, [-3], [i4(2), i2(7)]),
+        reads(1, [], [i2(7)], i4(2)),
+        reads(1, [], [i4(7)], i4(0)),
+        reads(1, [1], [i4(0), i2(7)], i4(2)),
+        calls(1, 2, [], [wire.array(wire.I4, [(1, 0)], [5])], TYPE_MISMATCH, 0),
+        calls(1, 2, [], [wire.array(wire.I4, [(1, 0)], [5]), i4(3)], TYPE_MISMATCH, 0),
+    ],
+)
+
+
+def through(last, object, dispid, flags, named, values, code=0, value=None):
+    """A call through the interface whose GUID ends so, and the value that it tells."""
+    guid = bytes.fromhex("443322116655887799aabbccddeeff") + bytes([last])
+    return (lambda tag: wire.invoke(tag, object, dispid, flags, named, values, guid), lambda tag: wire.reply(tag, code, fields=b"" if value is None else wire.field(value)))
+
+
+DITEM, DMORE, DNONE, CLASS_ITEM = 2, 4, 5, 3
+for marked, through_none in (("DItem", 7), ("DMore", 8)):
+    entries = " ".join(f"{'[default]' if it == marked else ''} dispinterface {it};" for it in ("DItem", "DMore"))
+    talk(
+        f"two interfaces of a coclass, {marked} the default one",
+        library_with(interface(b"2") + interface(b"4", name=b"DMore") + interface(b"5", name=b"DNone") + coclass(b"3", body=entries.encode())),
+        [
+            through(DITEM, 1, 1, 4, [-3], [i4(7)]),
+            through(DMORE, 1, 1, 2, [], [], value=i4(0)),
+            through(DMORE, 1, 1, 4, [-3], [i4(8)]),
+            through(DITEM, 1, 1, 2, [], [], value=i4(7)),
+            through(DMORE, 1, 1, 2, [], [], value=i4(8)),
+            gets(1, i4(through_none)),
+            # the object goes before the interface, and this before the member and the arguments
+            through(DNONE, 2, 99, 2, [7], [i4(7)], DISCONNECTED),
+            through(DNONE, 1, 99, 2, [7], [i4(7)], NO_INTERFACE),
+            through(CLASS_ITEM, 1, 99, 2, [7], [i4(7)], NO_INTERFACE),
+            (
+                lambda tag: wire.invoke(tag, 1, 99, 2, [], [])[:64] + b"01" + wire.invoke(tag, 1, 99, 2, [], [])[66:],
+                lambda tag: wire.reply(tag, UNKNOWN_INTERFACE),
+            ),
+        ],
+    )
 
 # --- names and type information
 

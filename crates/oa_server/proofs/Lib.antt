@@ -3,3 +3,5 @@ pub mod Quiet
 pub mod Named
 pub mod Zeros
 pub mod Wants
+pub mod Added
+pub mod Refused

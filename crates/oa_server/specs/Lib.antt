@@ -7,6 +7,7 @@ pub mod Release
 pub mod LookUps
 pub mod TypeInfo
 pub mod Invoke
+pub mod Listing
 pub mod Steps
 pub mod Turns
 pub mod Serving

@@ -5,3 +5,4 @@ pub mod Zeros
 pub mod Wants
 pub mod Added
 pub mod Refused
+pub mod Keys

@@ -6,6 +6,7 @@ pub mod Create
 pub mod Release
 pub mod LookUps
 pub mod TypeInfo
+pub mod Cells
 pub mod Invoke
 pub mod Listing
 pub mod Steps

@@ -1,9 +1,11 @@
 //! What becomes of a request, before anything is changed.
 ghost use Rattle.std.specs.Prelude.{◌≡◌};
+ghost use Rattle.oa_server.specs.Cells.{undecided};
 ghost use Rattle.oa_server.specs.declared.decision.Undecided.TheVariants.{OutOfMemory, Refused};
 
 use crate::fields::Fields;
 use crate::refusal::Refusal;
+use oa_bind::BindFault;
 use oa_model::HResult;
 use oa_table::{CellName, Event};
 use std::alloc::{AllocError, AllocFailed};
@@ -41,6 +43,19 @@ impl From<Refusal> for Undecided {
 
     fn from(refusal: Refusal) -> Undecided {
         Undecided::Refused(refusal)
+    }
+}
+
+impl From<BindFault> for Undecided {
+    ghost from_gives = { λ fault e. e ≡ undecided fault };
+
+    fn from(fault: BindFault) -> Undecided {
+        let BindFault { code, index } = fault;
+        if code == HResult::E_OUTOFMEMORY {
+            Undecided::OutOfMemory
+        } else {
+            Undecided::Refused(Refusal { code, index })
+        }
     }
 }
 

@@ -17,6 +17,7 @@ use oa_typelib::Library;
 use std::alloc::{AllocError, Global};
 use std::marker::Model;
 
+mod cell;
 mod create;
 mod invoke;
 mod listing;

@@ -151,6 +151,56 @@ with tempfile.TemporaryDirectory() as room:
     tell("each reply comes before the next request is sent", (pipe.wait(10), b"".join(replies)) == (0, REPLIES), replies)
     pipe.stdout.close()
 
+# --- sessions over records
+
+
+def record(body):
+    return struct.pack("<I", len(body)) + body
+
+
+def records(lines):
+    """The bodies of lines, as records."""
+    return b"".join(record(bytes.fromhex(line.decode())) for line in lines.splitlines())
+
+
+def play_records(name, given, status, out, err, library=SMALL, **how):
+    case(f"records: {name}", ["play", "lib.idl"], status, out, err, given=given, files={"lib.idl": library}, **how)
+
+
+ASKED, ANSWERED, STUB_RECORD = records(CREATE), records(CREATED), records(STUB)
+BODY_LIMIT = 1_048_576
+play_records("the first path", records(REQUESTS), 0, records(REPLIES), b"")
+play_records("no requests", b"", 0, b"", b"")
+play_records("a length of 0 ends the session", ASKED + bytes(4) + ASKED, 0, ANSWERED, b"")
+play_records("a body under 8 bytes has no tag", record(b"\1\2\3\4") + ASKED, 0, STUB_RECORD + ANSWERED, b"")
+play_records("an opcode that is none", record(struct.pack("<II", 5, 99)), 0, records(b"05000000" + STUB[8:]), b"")
+for end in (1, 3, 4, 5, 27):
+    play_records(f"cut at the byte {end}", ASKED + ASKED[:end], 4, ANSWERED + STUB_RECORD, b"oaut: record cut\n")
+play_records("cut within a put", records(REQUESTS)[:-80], 4, records(b"\n".join(REPLIES.splitlines()[:2])) + STUB_RECORD, b"oaut: record cut\n")
+play_records("a body at its limit", record(bytes(BODY_LIMIT)) + ASKED, 0, STUB_RECORD + ANSWERED, b"")
+for length in (BODY_LIMIT + 1, 2**32 - 1):
+    play_records(f"a length of {length}", ASKED + struct.pack("<I", length) + ASKED, 4, ANSWERED + STUB_RECORD, b"oaut: record too long\n")
+with tempfile.TemporaryDirectory() as folder:
+    fault = os.open(folder, os.O_RDONLY)
+    play_records("standard input that cannot be read", None, 1, b"", b"oaut: read fault\n", stdin=fault)
+    os.close(fault)
+with open("/dev/full", "wb") as full:
+    play_records("standard output that takes nothing", ASKED, 1, None, b"oaut: write fault\n", stdout=full)
+with tempfile.TemporaryDirectory() as room:
+    with open(f"{room}/lib.idl", "wb") as file:
+        file.write(SMALL)
+    pipe = subprocess.Popen([PROGRAM, "play", "lib.idl"], cwd=room, stdin=subprocess.PIPE, stdout=subprocess.PIPE, stderr=subprocess.PIPE)
+    replies = []
+    for asked, answered in zip(REQUESTS.splitlines(), REPLIES.splitlines()):
+        pipe.stdin.write(records(asked))
+        pipe.stdin.flush()
+        replies.append(pipe.stdout.read(len(records(answered))))
+    pipe.stdin.write(struct.pack("<I", BODY_LIMIT + 1))
+    pipe.stdin.flush()
+    tell("records: each reply comes before the next request, and a length too long ends the session at once", (pipe.wait(10), b"".join(replies)) == (4, records(REPLIES)), replies)
+    for end in (pipe.stdin, pipe.stdout, pipe.stderr):
+        end.close()
+
 # --- values of every scalar type
 
 NO_INDEX = 0xFFFF_FFFF
@@ -506,6 +556,59 @@ for marked, through_none in (("DItem", 7), ("DMore", 8)):
         ],
     )
 
+# --- objects that are listed and released
+
+DISCONNECTED, ARRAY_IS_LOCKED = 0x8001_0108, 0x8002_000D
+COCLASS = bytes.fromhex("443322116655887799aabbccddeeff03")
+
+
+def creates(number):
+    return (lambda tag: (struct.pack("<I", tag) + bytes.fromhex(CREATE.decode())[4:]).hex().encode() + b"\n", lambda tag: wire.reply(tag, fields=struct.pack("<II", number, 0)))
+
+
+def releases(number, code=0):
+    return (lambda tag: wire.release(tag, number), lambda tag: wire.reply(tag, code))
+
+
+def lists(*numbers):
+    return (wire.live_objects, lambda tag: wire.reply(tag, fields=wire.objects(COCLASS, numbers)))
+
+
+def of(number, dispid, value, code=0):
+    """A get of an object's property."""
+    return (lambda tag: wire.get(tag, number, dispid), lambda tag: wire.reply(tag, code, fields=b"" if code else wire.field(value)))
+
+
+talk(
+    "objects that are listed and released",
+    FULL,
+    [
+        gets(1, wire.scalar(wire.I4, 0)),
+        lists(1),
+        creates(2),
+        creates(3),
+        lists(1, 2, 3),
+        releases(2),
+        lists(1, 3),
+        of(2, 1, None, DISCONNECTED),
+        releases(2, DISCONNECTED),
+        releases(4, DISCONNECTED),
+        releases(0, DISCONNECTED),
+        of(3, 1, wire.scalar(wire.I4, 0)),
+        creates(4),
+        releases(3),
+        releases(1),
+        releases(4),
+        lists(),
+        creates(5),
+        lists(5),
+        (lambda tag: wire.release(tag, 5)[:-1] + b"00\n", lambda tag: wire.reply(tag, STUB_CODE)),
+        (lambda tag: wire.release(tag, 5)[:-3] + b"\n", lambda tag: wire.reply(tag, STUB_CODE)),
+        (lambda tag: wire.live_objects(tag)[:-1] + b"00\n", lambda tag: wire.reply(tag, STUB_CODE)),
+        lists(5),
+    ],
+)
+
 # --- names and type information
 
 UNKNOWN_NAME, BAD_INDEX, NOT_IMPLEMENTED = 0x8002_0006, 0x8002_000B, 0x8000_4001
@@ -657,13 +760,13 @@ case("check --where: a fault without a place", ["check", "--where", "lib.idl"], 
 
 # --- the command line
 
-for words in ([], ["play"], ["play", "lib.idl"], ["play", "--hex"], ["play", "lib.idl", "--hex", "more"], ["play", "lib.idl", "--wide"], ["check"], ["check", "lib.idl", "--hex"], ["check", "lib.idl", "more"], ["check", "--where"], ["play", "lib.idl", "--hex", "--where"], ["serve"], ["help"]):
+for words in ([], ["play"], ["play", "--hex"], ["play", "lib.idl", "--hex", "more"], ["play", "lib.idl", "--wide"], ["check"], ["check", "lib.idl", "--hex"], ["check", "lib.idl", "more"], ["check", "--where"], ["play", "lib.idl", "--hex", "--where"], ["serve"], ["help"]):
     status, out, err = run(words, files={"lib.idl": SMALL})
     tell(f"the words {words} are refused", (status, out, err.startswith(b"error: "), b"--help" in err) == (2, b"", True, True), (status, out, err))
 for words, said in (
     (["--help"], b"Usage: oaut <COMMAND>"),
     (["--help"], b"\n  oaut play examples/small.idl --hex < examples/first.hex\n"),
-    (["play", "--help"], b"Usage: oaut play --hex <LIB>"),
+    (["play", "--help"], b"Usage: oaut play [OPTIONS] <LIB>"),
     (["play", "--help"], b"\n  oaut play examples/small.idl --hex < examples/first.hex\n"),
     (["check", "--help"], b"Usage: oaut check [OPTIONS] <LIB>"),
     (["check", "--help"], b"\n  oaut check examples/full.idl\n  oaut check --where - < examples/full.idl\n"),

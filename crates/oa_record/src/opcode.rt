@@ -76,14 +76,13 @@ impl Opcode {
         ensures { result ≡ is_listed self }
     {
         match self {
-            Opcode::Create | Opcode::GetIds | Opcode::Invoke | Opcode::TypeInfo => true,
-            Opcode::Release => false,
+            Opcode::Create | Opcode::Release | Opcode::GetIds | Opcode::Invoke => true,
+            Opcode::TypeInfo | Opcode::Objects => true,
             Opcode::GetElement => false,
             Opcode::PutElement => false,
             Opcode::Redimension => false,
             Opcode::Lock => false,
             Opcode::Unlock => false,
-            Opcode::Objects => false,
         }
     }
 

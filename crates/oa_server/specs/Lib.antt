@@ -8,6 +8,7 @@ pub mod LookUps
 pub mod TypeInfo
 pub mod Cells
 pub mod Invoke
+pub mod Listing
 pub mod Steps
 pub mod Turns
 pub mod Serving

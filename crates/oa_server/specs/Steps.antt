@@ -8,8 +8,9 @@ use Rattle.oa_record.specs.Replies.{ReplyValue}
 use Rattle.oa_server.specs.declared.decision.Decision.{Decision}
 use Rattle.oa_server.specs.declared.refusal.Refusal.{Refusal}
 use Rattle.oa_server.specs.Create.{class_found, creation}
-use Rattle.oa_server.specs.Decisions.{Outcome, after_event, outcome_of}
+use Rattle.oa_server.specs.Decisions.{Outcome, after_outcome, outcome_of}
 use Rattle.oa_server.specs.Invoke.{invocation}
+use Rattle.oa_server.specs.Listing.{listing}
 use Rattle.oa_server.specs.LookUps.{look_up}
 use Rattle.oa_server.specs.Refusals.{refused}
 use Rattle.oa_server.specs.Release.{ending}
@@ -34,7 +35,7 @@ decided state (requests.Redimension call bound) = unread
 decided state (requests.Lock call) = unread
 decided state (requests.Unlock call) = unread
 decided state (requests.TypeInfo index) = information state index
-decided state requests.Objects = unread
+decided state requests.Objects = listing state
 
 -- what becomes of it
 abbrev pub outcome : State → Request → Outcome
@@ -53,7 +54,7 @@ reply_of state tag request = reply_with tag (outcome state request)
 
 -- the state after a request
 abbrev pub after : State → Request → State
-after state request = after_event state (outcome state request).event
+after state request = after_outcome state (outcome state request)
 
 -- whether want of memory may be answered: not in place of a refused CREATE or RELEASE
 abbrev pub takes_memory : State → Request → Bool

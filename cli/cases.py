@@ -609,6 +609,133 @@ talk(
     ],
 )
 
+# --- elements and locks of arrays
+
+OVERFLOW_CODE, BAD_INDEX_CODE = 0x8002_000A, 0x8002_000B
+GRID, ANY_VALUE, COUNT_ID, CLEAR, VERSION_ID = 8, 7, 1, 10, 6
+
+
+def array_call(opcode, dispid, rest=b"", code=0, index=NO_INDEX, fields=b"", named=(), values=(), number=1, flags=0):
+    request = wire.oaut.ask_call(opcode, number, dispid, flags, named, values) + rest
+    return (lambda tag: wire.line(tag, request), lambda tag: wire.reply(tag, code, index, fields))
+
+
+def element(dispid, indices, value=None, code=0, **how):
+    fields = b"" if value is None else wire.field(value)
+    return array_call(wire.oaut.GETELEM, dispid, wire.oaut.indices_field(indices), code, fields=fields, **how)
+
+
+def puts_element(dispid, indices, value, code=0, **how):
+    return array_call(wire.oaut.PUTELEM, dispid, wire.oaut.indices_field(indices) + wire.field(value), code, **how)
+
+
+def redim(dispid, count, lower, code=0, **how):
+    return array_call(wire.oaut.REDIM, dispid, struct.pack("<Ii", count, lower), code, **how)
+
+
+def locks(dispid, count, code=0, opcode=wire.oaut.LOCK, **how):
+    return array_call(opcode, dispid, b"", code, fields=b"" if code else struct.pack("<II", count, 0), **how)
+
+
+def unlocks(dispid, count, code=0, **how):
+    return locks(dispid, count, code, wire.oaut.UNLOCK, **how)
+
+
+SIX = wire.array(wire.I2, [(2, -1), (3, 5)], [1, 2, 3, 4, 5, 6])
+short_of = lambda number: wire.scalar(wire.I2, number)
+talk(
+    "elements of an array",
+    FULL,
+    [
+        puts(GRID, SIX),
+        gets(GRID, SIX),
+        element(GRID, [0, 7], short_of(6)),
+        element(GRID, [1, 7], code=BAD_INDEX_CODE),
+        element(GRID, [0], code=BAD_INDEX_CODE),
+        element(GRID, [], code=BAD_INDEX_CODE),
+        element(GRID, [0] * 16, code=BAD_INDEX_CODE),
+        element(GRID, [0] * 17, code=STUB_CODE),
+        puts_element(GRID, [-1, 5], wire.scalar(wire.I4, 40_000), OVERFLOW_CODE),
+        puts_element(GRID, [-1, 8], wire.scalar(wire.I4, 40_000), BAD_INDEX_CODE),
+        puts_element(GRID, [-1, 5], wire.scalar(wire.BSTR, b"a\0"), TYPE_MISMATCH),
+        puts_element(GRID, [-1, 5], SIX, TYPE_MISMATCH),
+        puts_element(GRID, [-1, 5], HALF, BAD_VAR_TYPE),
+        gets(GRID, SIX),
+        puts_element(GRID, [0, 6], wire.scalar(wire.CY, 25_000)),
+        element(GRID, [0, 6], short_of(2), flags=4),
+        puts_element(GRID, [0, 6], wire.scalar(wire.EMPTY)),
+        element(GRID, [0, 6], short_of(0)),
+        element(COUNT_ID, [0], code=TYPE_MISMATCH),
+        element(CLEAR, [0], code=MEMBER_NOT_FOUND, flags=1),
+        element(VERSION_ID, [0], code=TYPE_MISMATCH),
+        puts_element(VERSION_ID, [0], FOUR, MEMBER_NOT_FOUND),
+        element(GRID, [0, 7], code=E_INVALIDARG, named=(-3,), values=(FOUR,)),
+        element(GRID, [0, 7], code=BAD_PARAM_COUNT, values=(FOUR,)),
+        element(GRID, [0, 7], code=DISCONNECTED, number=2),
+        puts(ANY_VALUE, wire.array(wire.I4, [(2, 2**31 - 1)], [1, 2])),
+        element(ANY_VALUE, [2**31 - 1], wire.scalar(wire.I4, 1)),
+        element(ANY_VALUE, [-(2**31)], code=BAD_INDEX_CODE),
+        puts(ANY_VALUE, wire.array(wire.VARIANT, [(1, 0)], [(wire.I2, 7)])),
+        puts_element(ANY_VALUE, [0], HI),
+        element(ANY_VALUE, [0], HI),
+        puts_element(ANY_VALUE, [0], SIX, TYPE_MISMATCH),
+    ],
+)
+talk(
+    "locks of an array",
+    FULL,
+    [
+        puts(GRID, SIX),
+        locks(GRID, 1),
+        locks(GRID, 2),
+        redim(GRID, 1, 0, ARRAY_IS_LOCKED),
+        redim(GRID, 65_536, 0, ARRAY_IS_LOCKED),
+        puts(GRID, SIX, ARRAY_IS_LOCKED),
+        puts_element(GRID, [0, 7], short_of(60)),
+        element(GRID, [0, 7], short_of(60)),
+        releases(1, ARRAY_IS_LOCKED),
+        unlocks(GRID, 1),
+        unlocks(GRID, 0),
+        unlocks(GRID, 0, E_UNEXPECTED),
+        redim(GRID, 1, 0),
+        gets(GRID, wire.array(wire.I2, [(1, 0), (3, 5)], [1, 2, 3])),
+        redim(GRID, 3, 10),
+        gets(GRID, wire.array(wire.I2, [(3, 10), (3, 5)], [1, 2, 3, 0, 0, 0, 0, 0, 0])),
+        element(GRID, [10, 7], short_of(3)),
+        redim(GRID, 21_846, 0, E_INVALIDARG),
+        locks(GRID, 1),
+        releases(1, ARRAY_IS_LOCKED),
+        unlocks(GRID, 0),
+        releases(1),
+        of(1, COUNT_ID, None, DISCONNECTED),
+        creates(2),
+        lists(2),
+    ],
+)
+talk(
+    "an array that was never put",
+    FULL,
+    [
+        gets(GRID, wire.zero_array(wire.I2)),
+        element(GRID, [0], code=BAD_INDEX_CODE),
+        puts_element(GRID, [0], FOUR, BAD_INDEX_CODE),
+        locks(GRID, 0, E_UNEXPECTED),
+        unlocks(GRID, 0, E_UNEXPECTED),
+        redim(GRID, 65_537, 0, E_INVALIDARG),
+        gets(GRID, wire.zero_array(wire.I2)),
+        redim(GRID, 2, 0),
+        element(GRID, [1], short_of(0)),
+        element(COUNT_ID, [0], code=TYPE_MISMATCH),
+        redim(COUNT_ID, 2, 0, TYPE_MISMATCH),
+        locks(COUNT_ID, 0, TYPE_MISMATCH),
+        locks(ANY_VALUE, 0, TYPE_MISMATCH),
+        unlocks(ANY_VALUE, 0, TYPE_MISMATCH),
+        redim(ANY_VALUE, 2, 0, TYPE_MISMATCH),
+        element(ANY_VALUE, [0], code=TYPE_MISMATCH),
+    ],
+)
+talk("locks at their limit", FULL, [puts(GRID, SIX)] + [locks(GRID, count) for count in range(1, 65_536)] + [locks(GRID, 0, E_UNEXPECTED), unlocks(GRID, 65_534), locks(GRID, 65_535), locks(GRID, 0, E_UNEXPECTED)])
+
 # --- names and type information
 
 UNKNOWN_NAME, BAD_INDEX, NOT_IMPLEMENTED = 0x8002_0006, 0x8002_000B, 0x8000_4001

@@ -38,11 +38,11 @@ is_listed opcodes.Create = true
 is_listed opcodes.Release = true
 is_listed opcodes.GetIds = true
 is_listed opcodes.Invoke = true
-is_listed opcodes.GetElement = false
-is_listed opcodes.PutElement = false
-is_listed opcodes.Redimension = false
-is_listed opcodes.Lock = false
-is_listed opcodes.Unlock = false
+is_listed opcodes.GetElement = true
+is_listed opcodes.PutElement = true
+is_listed opcodes.Redimension = true
+is_listed opcodes.Lock = true
+is_listed opcodes.Unlock = true
 is_listed opcodes.TypeInfo = true
 is_listed opcodes.Objects = true
 

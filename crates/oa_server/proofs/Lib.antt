@@ -6,3 +6,4 @@ pub mod Wants
 pub mod Added
 pub mod Refused
 pub mod Keys
+pub mod Reached

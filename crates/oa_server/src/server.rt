@@ -17,13 +17,19 @@ use oa_typelib::Library;
 use std::alloc::{AllocError, Global};
 use std::marker::Model;
 
+mod array_cell;
 mod cell;
 mod create;
+mod get_element;
 mod invoke;
 mod listing;
+mod lock;
 mod look_ups;
+mod put_element;
+mod redimension;
 mod release;
 mod type_info;
+mod unlock;
 
 /// An automation object server in memory.
 #[derive(Drop)]
@@ -127,11 +133,15 @@ impl Server {
             Request::Invoke(call) => self.invocation(call),
             Request::TypeInfo { index } => self.information(index),
             Request::Objects => self.listing(),
-            Request::GetElement { .. }
-            | Request::PutElement { .. }
-            | Request::Redimension { .. }
-            | Request::Lock(_)
-            | Request::Unlock(_) => Err(Undecided::Refused(Refusal::of(HResult::BAD_STUB_DATA))),
+            Request::GetElement { call, indices } => self.element_got(call, indices),
+            Request::PutElement {
+                call,
+                indices,
+                value,
+            } => self.element_put(call, indices, value),
+            Request::Redimension { call, bound } => self.redimension(call, bound),
+            Request::Lock(call) => self.locking(call),
+            Request::Unlock(call) => self.unlocking(call),
         }
     }
 

@@ -1,5 +1,8 @@
 pub mod Rising
-mod Lengths
+pub mod Lengths
 pub mod Whole
 mod Written
 mod Members
+pub mod Numbered
+pub mod InMemory
+pub mod Unlocked

@@ -1,5 +1,5 @@
 -- Walks over lists that should rise, and what a list has that does.
-use Rattle.std.proofs.Common.{◌≡◌, ℕ, zero, suc, ◌<◌, ◌≤◌, Bool, true, false, cond, List, [], ◌∷◌, length, get_or, drop, refl, arith}
+use Rattle.std.proofs.Common.{◌≡◌, ℕ, zero, suc, ◌<◌, ◌≤◌, Bool, true, false, cond, List, [], ◌∷◌, length, get_or, drop, map, refl, arith}
 use Rattle.std.specs.List.{AllByRecursion}
 use Rattle.std.specs.List.Sorted.{IsStrictlySortedBy}
 use Rattle.std.specs.Map.{keys_of}
@@ -58,3 +58,10 @@ sorted cmp total (x ∷ y ∷ xs) e =
     let rest = sorted cmp total (y ∷ xs) parts.1 in
     let first = less (cmp x.0 y.0) parts.0 in
     ((first, above_all cmp total x.0 y.0 (keys_of xs) first rest.0), rest)
+
+-- in order, with other values beside the keys
+pub rises : {K X Y : Type 0} (cmp : K → K → Ordering) (g : X → Y) (xs : List (K × X)) → IsStrictlySortedBy cmp (keys_of xs) → rising (by_key cmp) (map (λ e. (e.0, g e.1)) xs) ≡ true
+unfolding IsStrictlySortedBy
+rises cmp g [] s = refl
+rises cmp g (x ∷ []) s = refl
+rises cmp g (x ∷ y ∷ xs) s = rw (s.0.0, rises cmp g (y ∷ xs) s.1) refl

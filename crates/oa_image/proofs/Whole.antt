@@ -26,7 +26,7 @@ use Rattle.oa_image.specs.Tables.{cell, cells, object, objects, is_used, table}
 use Rattle.oa_image.proofs.Rising.{sorted}
 
 -- a value that has an image has no locks
-no_locks : (v : Variant) → value.Is v → locks_of v ≡ 0
+pub no_locks : (v : Variant) → value.Is v → locks_of v ≡ 0
 unfolding value content tagged case array_of made_where
 no_locks (variants.One s) h = refl
 no_locks (variants.Array a) h = h.1.1.1

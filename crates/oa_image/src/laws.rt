@@ -1,21 +1,22 @@
 //! Laws of images, each the contract of a function with an empty body.
-ghost use Rattle.std.specs.Prelude.{◌≡◌, ℕ, List, All, FitsSigned, length};
+ghost use Rattle.std.specs.Prelude.{◌≡◌, ◌<◌, ◌^◌, ℕ, List, Ok, All, FitsSigned, length, map, true};
 ghost use Rattle.std.specs.Int.{w32};
+ghost use Rattle.std.specs.List.{AllByRecursion, flat_map};
 ghost use Rattle.oa_variant.specs.Scalars.{IsScalar};
 ghost use Rattle.oa_layout.specs.Arrays.{bound as a_bound};
 ghost use Rattle.oa_layout.specs.Variants.{value as a_value};
 ghost use Rattle.oa_table.specs.Elements.{locks_of};
-ghost use Rattle.oa_table.specs.Events.{BringsNoLocks};
+ghost use Rattle.oa_table.specs.Events.{BringsNoLocks, applied};
 ghost use Rattle.oa_layout.specs.Answers.{HasBytes, IsRow};
-ghost use Rattle.oa_table.specs.Tables.{TableValue, unlocked_table};
+ghost use Rattle.oa_table.specs.Tables.{TableValue, unlocked_cell, unlocked_entry, unlocked_table};
 ghost use Rattle.oa_table.specs.declared.event.Event.{Event as AnEvent};
 ghost use Rattle.oa_image.specs.Events.{event as an_event, indices as an_index_list};
 ghost use Rattle.oa_image.specs.Names as names;
-ghost use Rattle.oa_image.specs.Tables.{table, table_image};
+ghost use Rattle.oa_image.specs.Tables.{cell as a_cell, is_numbered, object as an_object, table as a_table, table_image};
 
 use oa_array::Indices;
 use oa_model::Bound;
-use oa_table::{CellName, Event, Place};
+use oa_table::{CellName, Event, LiveObject, Place, Table};
 use oa_variant::laws::{is_scalar, is_variant};
 use oa_variant::{Scalar, Variant};
 use uuid::Uuid;
@@ -113,9 +114,62 @@ fn is_value(value: &Variant)
     is_variant(value);
 }
 
+/// Each table in memory, whose objects have numbers from 1 to below the next one, has an image that is read as this table again,
+/// without its locks; unless the image had 2^32 bytes or more.
+pub fn is_table(table: &Table)
+    requires numbered { is_numbered table.now ≡ true }
+    requires small { length (table_image table.now) < 2 ^ 32 }
+    ensures { a_table.Is (unlocked_table table.now) }
+{
+    let _next = table.next();
+    table.numbers_rise();
+    are_objects(table);
+}
+
+// What is true of each object.
+fn are_objects(table: &Table)
+    requires { length (flat_map an_object.image table.now.objects) < 2 ^ 32 }
+    ensures { AllByRecursion an_object.Is (map unlocked_entry table.now.objects) }
+{
+    'objects: for (number, object) in table.objects() {
+        is_object(*number, object);
+    }
+}
+
+fn is_object(number: u32, object: &LiveObject)
+    requires { length (an_object.image (number, object.now)) < 2 ^ 32 }
+    ensures { an_object.Is (unlocked_entry (number, object.now)) }
+{
+    is_guid(&object.class());
+    object.places_rise();
+    are_cells(object);
+}
+
+// What is true of each cell of an object.
+fn are_cells(object: &LiveObject)
+    ensures { AllByRecursion a_cell.Is (map unlocked_cell object.now.cells) }
+{
+    'cells: for (place, value) in object.cells() {
+        is_cell(place, value);
+    }
+}
+
+#[tactic(auto, unfolding(oa_layout::specs::Formats::next_by, crate::specs::Tables::cell), using(oa_layout::proofs::Conditions::value_is))]
+fn is_cell(place: &Place, value: &Variant)
+    ensures { a_cell.Is (unlocked_cell (place.now, value.now)) }
+{
+    is_place(place);
+    is_variant(value);
+}
+
+/// Where an event applies to a table, the numbers of the objects are still from 1 to below the next one.
+pub fn numbers_stay()
+    ensures { (event : AnEvent) (old new : TableValue) → is_numbered old ≡ true → applied event old ≡ Ok new → is_numbered new ≡ true }
+{}
+
 /// Tables with one image are one table, locks apart.
 pub fn one_table()
-    ensures { (a b : TableValue) → table.Is (unlocked_table a) → table.Is (unlocked_table b) → table_image a ≡ table_image b →
+    ensures { (a b : TableValue) → a_table.Is (unlocked_table a) → a_table.Is (unlocked_table b) → table_image a ≡ table_image b →
         unlocked_table a ≡ unlocked_table b }
 {}
 

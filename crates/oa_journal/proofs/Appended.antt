@@ -36,7 +36,7 @@ framed place gate group disk some holds opened =
 
 -- a disk that is as it was
 pub unchanged : (place gate : ℕ) (group disk : List ℕ) → IsWithOrWithout place gate group disk disk
-unchanged place gate group disk = record { outside = Torn_refl place bank_bytes disk; bank = λ library snapshot groups was. inl was }
+unchanged place gate group disk = record { outside = Torn_refl place bank_bytes disk; bank = λ library before after was makes. inl was }
 
 module _ (place gate : ℕ) (group old new : List ℕ) (some : 0 < length group) (fits : gate + (5 + length group) < bank_bytes) where
   size : length (sealed group) ≡ 5 + length group
@@ -54,20 +54,20 @@ module _ (place gate : ℕ) (group old new : List ℕ) (some : 0 < length group)
   pub from_step : MaySwitch (place + gate + 1) (sealed group) (place + gate) old new → IsWithOrWithout place gate group old new
   from_step (inl torn) = record {
     outside = Torn_within (place + gate + 1) (length (sealed group)) place bank_bytes old new (omega arith) (omega (arith, size)) torn;
-    bank = λ library snapshot groups was. inl (same_bank (from_place place old) (from_place place new) library snapshot groups gate (λ i le. torn.below (place + i) (omega (arith, le))) was);
+    bank = λ library before after was makes. inl (same_bank (from_place place old) (from_place place new) library before gate (λ i le. torn.below (place + i) (omega (arith, le))) was);
   }
   from_step (inr is) = record {
     outside = around is;
-    bank = λ library snapshot groups was. ⊎_elim
-        (λ opened. let made = framed place gate group new some (there is) opened in inr (bank_with (from_place place old) (from_place place new) library snapshot groups gate group (below is) was made.0 made.1 fits))
-        (λ shut. inl (shut_bank (from_place place old) (from_place place new) library snapshot groups gate (below is) shut was))
+    bank = λ library before after was makes. ⊎_elim
+        (λ opened. let made = framed place gate group new some (there is) opened in inr (bank_with (from_place place old) (from_place place new) library before gate group after (below is) was makes made.0 made.1 fits))
+        (λ shut. inl (shut_bank (from_place place old) (from_place place new) library before gate (below is) shut was))
         (cases_eq (get_or new (place + gate) 0) 1);
   }
 
   pub from_done : HasSwitched (place + gate + 1) (sealed group) (place + gate) 1 old new → IsWith place gate group old new
   from_done done = record {
     outside = around done.0;
-    bank = λ library snapshot groups was.
+    bank = λ library before after was makes.
         let made = framed place gate group new some (there done.0) done.1 in
-        bank_with (from_place place old) (from_place place new) library snapshot groups gate group (below done.0) was made.0 made.1 fits;
+        bank_with (from_place place old) (from_place place new) library before gate group after (below done.0) was makes made.0 made.1 fits;
   }

@@ -1,3 +1,5 @@
 mod Appended
+mod Applied
+mod Opened
 mod Sealing
 mod Slices

@@ -1,7 +1,11 @@
--- What the bytes of a bank stand for: a library, a snapshot, and groups of events behind gates. Of all three the journal knows
--- the bytes alone. A byte is asked for by its place in the bank. The format is this project's choice.
+-- What the bytes of a bank stand for: a library, a snapshot of a table, and groups of events behind gates, which make the bank's
+-- table of the snapshot's. Of the library the journal knows the bytes alone. A byte is asked for by its place in the bank. The
+-- format is this project's choice.
 use Rattle.std.specs.Prelude.{◌≡◌, ◌≢◌, ℕ, ◌+◌, ◌<◌, List, [], ◌∷◌, ◌++◌, length, slice_index}
 use Rattle.std.specs.Int.{to_le_bytes, w32}
+use Rattle.oa_table.specs.Tables.{TableValue}
+use Rattle.oa_image.specs.Tables.{table, table_image}
+use Rattle.oa_journal.specs.Replays.{ReplaysAll}
 
 abbrev pub bank_bytes : ℕ
 bank_bytes = 16777216
@@ -31,10 +35,30 @@ abbrev pub Groups : (ℕ → ℕ) → ℕ → List (List ℕ) → ℕ → Type 0
 Groups byte at [] gate = (at ≡ gate) × (byte at ≢ 1)
 Groups byte at (group ∷ groups) gate = IsGroup byte at group × Groups byte (at + (5 + length group)) groups gate
 
--- the bank holds these, and its closed gate stands there
-pub record IsBank (byte : ℕ → ℕ) (library snapshot : List ℕ) (groups : List (List ℕ)) (gate : ℕ) : Type 0 where
+-- the bytes are laid out as a bank: a header, these parts, and the closed gate stands there
+pub record IsLaidOut (byte : ℕ → ℕ) (library snapshot : List ℕ) (groups : List (List ℕ)) (gate : ℕ) : Type 0 where
   pub header : Shows byte 0 (header_of (length library) (length snapshot))
   pub text : Shows byte 32 library
   pub image : Shows byte (32 + length library) snapshot
   pub behind : Groups byte (32 + length library + length snapshot) groups gate
   pub inside : gate < bank_bytes
+
+-- The bank has this library and this table: its groups make it, one after the other, of the table whose image its snapshot is. Its
+-- closed gate stands there.
+pub record IsBank (byte : ℕ → ℕ) (library : List ℕ) (now : TableValue) (gate : ℕ) : Type 0 where
+  pub first : TableValue
+  pub is : table.Is first
+  pub groups : List (List ℕ)
+  pub parts : IsLaidOut byte library (table_image first) groups gate
+  pub makes : ReplaysAll groups first now
+
+-- the header of a bank that has room for parts of these lengths
+pub record HasHeader (byte : ℕ → ℕ) (library snapshot : ℕ) : Type 0 where
+  pub header : Shows byte 0 (header_of library snapshot)
+  pub inside : 32 + library + snapshot < bank_bytes
+
+-- The bytes begin as a bank of this library: the header and the library alone are looked at.
+pub record HasLibrary (byte : ℕ → ℕ) (library : List ℕ) : Type 0 where
+  pub snapshot : ℕ
+  pub has : HasHeader byte (length library) snapshot
+  pub text : Shows byte 32 library

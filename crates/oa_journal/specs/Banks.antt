@@ -1,97 +1,133 @@
--- What keeps a bank, and what puts a group more into it.
-use Rattle.std.proofs.Common.{◌≡◌, ◌≢◌, ℕ, zero, suc, ◌+◌, ◌<◌, ◌≤◌, List, [], ◌∷◌, ◌++◌, length, refl, sym, ◌∙◌, ap, subst, arith}
-use Rattle.std.specs.Int.{to_le_bytes, w32}
-use Rattle.oa_journal.specs.Bank.{bank_bytes, Shows, header_of, IsGroup, Groups, IsBank}
+-- What keeps a bank, what puts a group more into it, and that it reads in one way.
+use Rattle.std.proofs.Common.{◌≡◌, ◌≢◌, ℕ, ◌+◌, ◌<◌, ◌≤◌, true, List, [], ◌∷◌, ◌++◌, length, Result, Ok, Err, refl, sym, ◌∙◌, ap, subst}
+use Rattle.oa_disk.specs.Disk.{Holds}
+use Rattle.oa_table.specs.declared.event.Event.{Event}
+use Rattle.oa_table.specs.declared.fault.TableFault.{TableFault}
+use Rattle.oa_table.specs.Events.{applied}
+use Rattle.oa_table.specs.Tables.{TableValue, unlocked_table}
+use Rattle.oa_layout.specs.Formats.{coded, only}
+use Rattle.oa_layout.proofs.Exact.{one_list, one_value}
+use Rattle.oa_image.specs.Events.{event}
+use Rattle.oa_image.specs.Tables.{is_numbered, table, table_image}
+use Rattle.oa_image.proofs.Lengths.{event_bytes}
+use Rattle.oa_image.proofs.Numbered.{numbers_stay}
+use Rattle.oa_image.proofs.Whole.{same_table}
+use Rattle.oa_journal.specs.Replays.{applied_all, followed, Replays, ReplaysAll}
+use Rattle.oa_journal.specs.Bank.{bank_bytes, from_place, IsGroup, IsBank}
+use Rattle.oa_journal.specs.LaidOut.{start_of, shut_parts, same_parts, parts_with}
+use Rattle.oa_journal.specs.Fronts.{front_of, front_parts}
+use Rattle.oa_journal.specs.Unique.{one_layout}
 
-pub length-header : (library snapshot : ℕ) → length (header_of library snapshot) ≡ 32
-unfolding header_of
-length-header library snapshot = refl
+abbrev made : TableValue → Result TableValue TableFault
+made t = Ok t
 
--- where the groups begin
-abbrev pub start_of : List ℕ → List ℕ → ℕ
-start_of library snapshot = 32 + length library + length snapshot
+same_made : (a b : TableValue) → made a ≡ made b → a ≡ b
+same_made a b e = cc
 
--- what holds of one function from places to bytes, and of another that has the same bytes up to a place
-module _ (f g : ℕ → ℕ) (last : ℕ) (same : (i : ℕ) → i < last → g i ≡ f i) where
-  pub same_shows : (at : ℕ) (bytes : List ℕ) → at + length bytes ≤ last → Shows f at bytes → Shows g at bytes
-  same_shows at bytes le shows i lt = same (at + i) (omega arith) ∙ shows i lt
+-- the bytes of a group make one table of a table
+pub one_replay : (group : List ℕ) (old new other : TableValue) → Replays group old new → Replays group old other → new ≡ other
+one_replay group old new other one two =
+    let same : one.events ≡ two.events = one_list event event_bytes one.events two.events one.are.are two.are.are (sym one.are.whole ∙ two.are.whole) in
+    same_made new other (sym one.makes ∙ ap (λ (es : List Event). applied_all es old) same ∙ two.makes)
 
-  pub same_group : (at : ℕ) (group : List ℕ) → at + (5 + length group) ≤ last → IsGroup f at group → IsGroup g at group
-  same_group at group le is = record {
-    opened = same at (omega arith) ∙ is.opened;
-    count = same_shows (at + 1) (to_le_bytes w32 (length group)) (omega arith) is.count;
-    events = same_shows (at + 5) group (omega arith) is.events;
-    some = is.some;
+-- so do groups
+pub one_replay_all : (groups : List (List ℕ)) (old new other : TableValue) → ReplaysAll groups old new → ReplaysAll groups old other → new ≡ other
+one_replay_all [] old new other one two = sym one ∙ two
+one_replay_all (group ∷ groups) old new other one two =
+    let mid = one_replay group old one.0 two.0 one.1 two.1 in
+    one_replay_all groups two.0 new other (subst (λ (t : TableValue). ReplaysAll groups t new) mid one.2) two.2
+
+-- one group more
+pub replays_more : (groups : List (List ℕ)) (group : List ℕ) (old mid new : TableValue) → ReplaysAll groups old mid → Replays group mid new → ReplaysAll (groups ++ group ∷ []) old new
+replays_more [] group old mid new all one = (new, subst (λ (t : TableValue). Replays group t new) (sym all) one, refl)
+replays_more (first ∷ groups) group old mid new all one = (all.0, all.1, replays_more groups group all.0 mid new all.2 one)
+
+module _ (f g : ℕ → ℕ) (library : List ℕ) (now : TableValue) (gate : ℕ) where
+  -- What stands behind the gate does not count, nor does which byte closes the gate.
+  pub shut_bank : ((i : ℕ) → i < gate → g i ≡ f i) → g gate ≢ 1 → IsBank f library now gate → IsBank g library now gate
+  shut_bank same shut bank = record {
+    first = bank.first;
+    is = bank.is;
+    groups = bank.groups;
+    parts = shut_parts f g library (table_image bank.first) bank.groups gate same shut bank.parts;
+    makes = bank.makes;
   }
 
--- the closed gate stands behind all groups
-pub gate_behind : (f : ℕ → ℕ) (at : ℕ) (groups : List (List ℕ)) (gate : ℕ) → Groups f at groups gate → at ≤ gate
-gate_behind f at [] gate all = omega (arith, all.0)
-gate_behind f at (group ∷ groups) gate all = let rest = gate_behind f (at + (5 + length group)) groups gate all.1 in omega (arith, rest)
+  -- the same bytes up to the gate
+  pub same_bank : ((i : ℕ) → i ≤ gate → g i ≡ f i) → IsBank f library now gate → IsBank g library now gate
+  same_bank same bank = record {
+    first = bank.first;
+    is = bank.is;
+    groups = bank.groups;
+    parts = same_parts f g library (table_image bank.first) bank.groups gate same bank.parts;
+    makes = bank.makes;
+  }
 
-pub gate_closed : (f : ℕ → ℕ) (at : ℕ) (groups : List (List ℕ)) (gate : ℕ) → Groups f at groups gate → f gate ≢ 1
-gate_closed f at [] gate all is = all.1 (ap f all.0 ∙ is)
-gate_closed f at (group ∷ groups) gate all is = gate_closed f (at + (5 + length group)) groups gate all.1 is
+  -- a group more, which makes another table, and a closed gate behind it
+  pub bank_with : (group : List ℕ) (after : TableValue) → ((i : ℕ) → i < gate → g i ≡ f i) → IsBank f library now gate → Replays group now after → IsGroup g gate group
+      → g (gate + (5 + length group)) ≢ 1 → gate + (5 + length group) < bank_bytes → IsBank g library after (gate + (5 + length group))
+  bank_with group after same bank makes is shut inside = record {
+    first = bank.first;
+    is = bank.is;
+    groups = bank.groups ++ group ∷ [];
+    parts = parts_with f g library (table_image bank.first) bank.groups gate group same bank.parts is shut inside;
+    makes = replays_more bank.groups group bank.first now after bank.makes makes;
+  }
 
-same_groups : (f g : ℕ → ℕ) (at : ℕ) (groups : List (List ℕ)) (gate : ℕ) → ((i : ℕ) → i < gate → g i ≡ f i) → g gate ≢ 1 → Groups f at groups gate → Groups g at groups gate
-same_groups f g at [] gate same shut all = (all.0, λ is. shut (ap g (sym all.0) ∙ is))
-same_groups f g at (group ∷ groups) gate same shut all =
-    let le = gate_behind f (at + (5 + length group)) groups gate all.1 in
-    (same_group f g gate same at group le all.0, same_groups f g (at + (5 + length group)) groups gate same shut all.1)
+-- where the first gate stands
+abbrev pub first_gate : List ℕ → TableValue → ℕ
+first_gate library now = start_of library (table_image now)
 
--- one group more, where the closed gate stood
-one_more : (f g : ℕ → ℕ) (at : ℕ) (groups : List (List ℕ)) (gate : ℕ) (group : List ℕ)
-    → ((i : ℕ) → i < gate → g i ≡ f i) → Groups f at groups gate → IsGroup g gate group → g (gate + (5 + length group)) ≢ 1
-    → Groups g at (groups ++ group ∷ []) (gate + (5 + length group))
-one_more f g at [] gate group same all is shut =
-    let here : gate ≡ at = sym all.0 in
-    (subst (λ (k : ℕ). IsGroup g k group) here is, (ap (λ (k : ℕ). k + (5 + length group)) (sym here), λ open_now. shut (ap (λ (k : ℕ). g (k + (5 + length group))) here ∙ open_now)))
-one_more f g at (first ∷ groups) gate group same all is shut =
-    let le = gate_behind f (at + (5 + length first)) groups gate all.1 in
-    (same_group f g gate same at first le all.0, one_more f g (at + (5 + length first)) groups gate group same all.1 is shut)
+-- a bank that was just written
+pub front_bank : (place : ℕ) (disk library : List ℕ) (now : TableValue) → table.Is now → first_gate library now < bank_bytes → Holds disk place (front_of library (table_image now))
+    → IsBank (from_place place disk) library now (first_gate library now)
+front_bank place disk library now is fits holds = record {
+  first = now;
+  is = is;
+  groups = [];
+  parts = front_parts place disk library (table_image now) fits holds;
+  makes = refl;
+}
 
-module _ (f g : ℕ → ℕ) (library snapshot : List ℕ) (groups : List (List ℕ)) (gate : ℕ) where
-  -- What stands behind the gate does not count, nor does which byte closes the gate.
-  pub shut_bank : ((i : ℕ) → i < gate → g i ≡ f i) → g gate ≢ 1 → IsBank f library snapshot groups gate → IsBank g library snapshot groups gate
-  shut_bank same shut bank =
-      let le = gate_behind f (start_of library snapshot) groups gate bank.behind in
-      record {
-        header = same_shows f g gate same 0 (header_of (length library) (length snapshot)) (omega (arith, le, length-header (length library) (length snapshot))) bank.header;
-        text = same_shows f g gate same 32 library (omega (arith, le)) bank.text;
-        image = same_shows f g gate same (32 + length library) snapshot le bank.image;
-        behind = same_groups f g (start_of library snapshot) groups gate same shut bank.behind;
-        inside = bank.inside;
-      }
+-- the same of a table in memory, which may have locks: a bank holds none
+pub memory_bank : (place : ℕ) (disk library : List ℕ) (now : TableValue) → table.Is (unlocked_table now) → first_gate library now < bank_bytes → Holds disk place (front_of library (table_image now))
+    → IsBank (from_place place disk) library (unlocked_table now) (first_gate library now)
+memory_bank place disk library now is fits holds =
+    subst (λ (image : List ℕ). start_of library image < bank_bytes → Holds disk place (front_of library image) → IsBank (from_place place disk) library (unlocked_table now) (start_of library image))
+    (same_table now) (front_bank place disk library (unlocked_table now) is) fits holds
 
-  pub same_bank : ((i : ℕ) → i ≤ gate → g i ≡ f i) → IsBank f library snapshot groups gate → IsBank g library snapshot groups gate
-  same_bank same bank =
-      shut_bank (λ i lt. same i (omega arith)) (λ is. gate_closed f (start_of library snapshot) groups gate bank.behind (sym (same gate (omega arith)) ∙ is)) bank
+-- the numbers of a bank's objects are from 1 to below the next one
+replays_numbered : (events : List Event) (old new : TableValue) → is_numbered old ≡ true → applied_all events old ≡ Ok new → is_numbered new ≡ true
+replays_numbered [] old new is e = subst (λ (t : TableValue). is_numbered t ≡ true) (same_made old new e) is
+replays_numbered (event ∷ events) old new is e = by (applied event old) (λ mid first. numbers_stay event old mid is first) (λ mid there. replays_numbered events mid new there) e
+  where
+    by : (r : Result TableValue TableFault) → ((mid : TableValue) → r ≡ Ok mid → is_numbered mid ≡ true) → ((mid : TableValue) → is_numbered mid ≡ true → applied_all events mid ≡ Ok new → is_numbered new ≡ true)
+        → followed (λ next. applied_all events next) r ≡ Ok new → is_numbered new ≡ true
+    by (Ok mid) stays later rest = later mid (stays mid refl) rest
+    by (Err fault) stays later rest = absurd cc
 
-  pub bank_with : (group : List ℕ) → ((i : ℕ) → i < gate → g i ≡ f i) → IsBank f library snapshot groups gate → IsGroup g gate group → g (gate + (5 + length group)) ≢ 1
-      → gate + (5 + length group) < bank_bytes → IsBank g library snapshot (groups ++ group ∷ []) (gate + (5 + length group))
-  bank_with group same bank is shut inside =
-      let le = gate_behind f (start_of library snapshot) groups gate bank.behind in
-      record {
-        header = same_shows f g gate same 0 (header_of (length library) (length snapshot)) (omega (arith, le, length-header (length library) (length snapshot))) bank.header;
-        text = same_shows f g gate same 32 library (omega (arith, le)) bank.text;
-        image = same_shows f g gate same (32 + length library) snapshot le bank.image;
-        behind = one_more f g (start_of library snapshot) groups gate group same bank.behind is shut;
-        inside = inside;
-      }
+all_numbered : (groups : List (List ℕ)) (old new : TableValue) → is_numbered old ≡ true → ReplaysAll groups old new → is_numbered new ≡ true
+all_numbered [] old new is same = subst (λ (t : TableValue). is_numbered t ≡ true) same is
+all_numbered (group ∷ groups) old new is all = all_numbered groups all.0 new (replays_numbered all.1.events old all.0 is all.1.makes) all.2
 
--- the lengths stand at 12 and at 16
-pub library_length : (byte : ℕ → ℕ) (library snapshot : ℕ) → Shows byte 0 (header_of library snapshot) → Shows byte 12 (to_le_bytes w32 library)
-unfolding header_of
-library_length byte library snapshot shows zero lt = shows 12 (omega arith)
-library_length byte library snapshot shows (suc zero) lt = shows 13 (omega arith)
-library_length byte library snapshot shows (suc (suc zero)) lt = shows 14 (omega arith)
-library_length byte library snapshot shows (suc (suc (suc zero))) lt = shows 15 (omega arith)
-library_length byte library snapshot shows (suc (suc (suc (suc i)))) lt = absurd (omega arith)
+pub bank_numbered : (byte : ℕ → ℕ) (library : List ℕ) (now : TableValue) (gate : ℕ) → IsBank byte library now gate → is_numbered now ≡ true
+unfolding table only coded
+bank_numbered byte library now gate bank = all_numbered bank.groups bank.first now bank.is.1 bank.makes
 
-pub snapshot_length : (byte : ℕ → ℕ) (library snapshot : ℕ) → Shows byte 0 (header_of library snapshot) → Shows byte 16 (to_le_bytes w32 snapshot)
-unfolding header_of
-snapshot_length byte library snapshot shows zero lt = shows 16 (omega arith)
-snapshot_length byte library snapshot shows (suc zero) lt = shows 17 (omega arith)
-snapshot_length byte library snapshot shows (suc (suc zero)) lt = shows 18 (omega arith)
-snapshot_length byte library snapshot shows (suc (suc (suc zero))) lt = shows 19 (omega arith)
-snapshot_length byte library snapshot shows (suc (suc (suc (suc i)))) lt = absurd (omega arith)
+-- two readings of one bank
+pub record IsSameBank (library : List ℕ) (now : TableValue) (gate : ℕ) (text : List ℕ) (other : TableValue) (end : ℕ) : Type 0 where
+  pub library_same : library ≡ text
+  pub table_same : now ≡ other
+  pub gate_same : gate ≡ end
+
+pub one_bank : (byte : ℕ → ℕ) (library : List ℕ) (now : TableValue) (gate : ℕ) (text : List ℕ) (other : TableValue) (end : ℕ)
+    → IsBank byte library now gate → IsBank byte text other end → IsSameBank library now gate text other end
+one_bank byte library now gate text other end one two =
+    let parts = one_layout byte library (table_image one.first) one.groups gate text (table_image two.first) two.groups end one.parts two.parts in
+    let first = one_value table one.first two.first one.is two.is parts.snapshot_same in
+    let groups = subst (λ (gs : List (List ℕ)). ReplaysAll gs one.first now) parts.groups_same one.makes in
+    record {
+      library_same = parts.library_same;
+      table_same = one_replay_all two.groups two.first now other (subst (λ (t : TableValue). ReplaysAll two.groups t now) first groups) two.makes;
+      gate_same = parts.gate_same;
+    }

@@ -2,8 +2,8 @@
 use Rattle.std.proofs.Common.{◌≡◌, ℕ, ◌+◌, ◌<◌, List, [], ◌∷◌, ◌++◌, length, get_or, refl, sym, ◌∙◌, ap, arith, length-append}
 use Rattle.oa_disk.specs.Disk.{Holds}
 use Rattle.oa_disk.specs.Ranges.{Holds-front, Holds-behind, Holds-next}
-use Rattle.oa_journal.specs.Bank.{bank_bytes, from_place, Shows, header_of, IsBank}
-use Rattle.oa_journal.specs.Banks.{length-header, start_of}
+use Rattle.oa_journal.specs.Bank.{bank_bytes, from_place, Shows, header_of, IsLaidOut}
+use Rattle.oa_journal.specs.LaidOut.{length-header, start_of}
 
 -- its bytes: header, library, snapshot, and a closed gate
 abbrev pub front_of : List ℕ → List ℕ → List ℕ
@@ -15,15 +15,15 @@ length-front library snapshot =
     omega (arith, length-append header (library ++ (snapshot ++ 0 ∷ [])), length-append library (snapshot ++ 0 ∷ []), length-append snapshot (0 ∷ []), length-header (length library) (length snapshot))
 
 -- bytes that a disk holds are shown from the place of the bank on
-held : (place at to : ℕ) (disk bytes : List ℕ) → to ≡ place + at → Holds disk to bytes → Shows (from_place place disk) at bytes
+pub held : (place at to : ℕ) (disk bytes : List ℕ) → to ≡ place + at → Holds disk to bytes → Shows (from_place place disk) at bytes
 held place at to disk bytes is holds i lt = ap (λ (k : ℕ). get_or disk k 0) (there i) ∙ holds.each i lt
   where
     there : (i : ℕ) → place + (at + i) ≡ to + i
     there i = omega (arith, is)
 
-pub front_bank : (place : ℕ) (disk library snapshot : List ℕ) → start_of library snapshot < bank_bytes → Holds disk place (front_of library snapshot)
-    → IsBank (from_place place disk) library snapshot [] (start_of library snapshot)
-front_bank place disk library snapshot fits holds =
+pub front_parts : (place : ℕ) (disk library snapshot : List ℕ) → start_of library snapshot < bank_bytes → Holds disk place (front_of library snapshot)
+    → IsLaidOut (from_place place disk) library snapshot [] (start_of library snapshot)
+front_parts place disk library snapshot fits holds =
     let header = header_of (length library) (length snapshot) in
     let long : length header ≡ 32 = length-header (length library) (length snapshot) in
     let first = Holds-front disk place header (library ++ (snapshot ++ 0 ∷ [])) holds in

@@ -1,5 +1,10 @@
 pub mod Append
 pub mod Bank
 pub mod Banks
+pub mod Damages
 pub mod Fronts
+pub mod LaidOut
+pub mod Reads
+pub mod Replays
+pub mod Replies
 pub mod Unique

@@ -3,14 +3,14 @@ use Rattle.std.proofs.Common.{◌≡◌, ◌≢◌, ℕ, ◌+◌, ◌^◌, ◌<�
 use Rattle.std.proofs.lemmas.List.{ext_get_or}
 use Rattle.std.proofs.lemmas.Nat.{from_le_bytes-to_le_bytes_4}
 use Rattle.std.specs.Int.{to_le_bytes, from_le_bytes, w32}
-use Rattle.oa_journal.specs.Bank.{bank_bytes, Shows, header_of, IsGroup, Groups, IsBank}
-use Rattle.oa_journal.specs.Banks.{gate_behind, library_length, snapshot_length, start_of}
+use Rattle.oa_journal.specs.Bank.{bank_bytes, Shows, header_of, IsGroup, Groups, IsLaidOut}
+use Rattle.oa_journal.specs.LaidOut.{gate_behind, library_length, snapshot_length, start_of}
 
 -- bytes of one length at one place are the same
 pub same_bytes : (byte : ℕ → ℕ) (at : ℕ) (xs ys : List ℕ) → length xs ≡ length ys → Shows byte at xs → Shows byte at ys → xs ≡ ys
 same_bytes byte at xs ys same one two = ext_get_or 0 xs ys same (λ i lt. sym (one i lt) ∙ two i (omega (arith, same, lt)))
 
-same_number : (byte : ℕ → ℕ) (at n m : ℕ) → n < 2 ^ 32 → m < 2 ^ 32 → Shows byte at (to_le_bytes w32 n) → Shows byte at (to_le_bytes w32 m) → n ≡ m
+pub same_number : (byte : ℕ → ℕ) (at n m : ℕ) → n < 2 ^ 32 → m < 2 ^ 32 → Shows byte at (to_le_bytes w32 n) → Shows byte at (to_le_bytes w32 m) → n ≡ m
 same_number byte at n m small other one two =
     sym (from_le_bytes-to_le_bytes_4 n small) ∙ ap (λ (l : List ℕ). from_le_bytes w32 l) (same_bytes byte at (to_le_bytes w32 n) (to_le_bytes w32 m) refl one two) ∙ from_le_bytes-to_le_bytes_4 m other
 
@@ -50,7 +50,7 @@ one_row byte at (group ∷ groups) others gate other inside also one two =
     (ap (λ (l : List (List ℕ)). group ∷ l) same.0 ∙ sym rest.1, same.1)
 
 -- the header says how long library and snapshot are
-pub lengths : (byte : ℕ → ℕ) (library snapshot : List ℕ) (groups : List (List ℕ)) (gate l s : ℕ) → l < 2 ^ 32 → s < 2 ^ 32 → Shows byte 0 (header_of l s) → IsBank byte library snapshot groups gate
+pub lengths : (byte : ℕ → ℕ) (library snapshot : List ℕ) (groups : List (List ℕ)) (gate l s : ℕ) → l < 2 ^ 32 → s < 2 ^ 32 → Shows byte 0 (header_of l s) → IsLaidOut byte library snapshot groups gate
     → (length library ≡ l) × (length snapshot ≡ s)
 lengths byte library snapshot groups gate l s small also header bank =
     let n = length library in
@@ -67,9 +67,9 @@ pub record AreSame (library snapshot : List ℕ) (groups : List (List ℕ)) (gat
   pub groups_same : groups ≡ others
   pub gate_same : gate ≡ other
 
-pub one_reading : (byte : ℕ → ℕ) (library snapshot : List ℕ) (groups : List (List ℕ)) (gate : ℕ) (text image : List ℕ) (others : List (List ℕ)) (other : ℕ)
-    → IsBank byte library snapshot groups gate → IsBank byte text image others other → AreSame library snapshot groups gate text image others other
-one_reading byte library snapshot groups gate text image others other one two =
+pub one_layout : (byte : ℕ → ℕ) (library snapshot : List ℕ) (groups : List (List ℕ)) (gate : ℕ) (text image : List ℕ) (others : List (List ℕ)) (other : ℕ)
+    → IsLaidOut byte library snapshot groups gate → IsLaidOut byte text image others other → AreSame library snapshot groups gate text image others other
+one_layout byte library snapshot groups gate text image others other one two =
     let le = gate_behind byte (start_of text image) others other two.behind in
     let long = lengths byte library snapshot groups gate (length text) (length image) (omega (arith, le, two.inside)) (omega (arith, le, two.inside)) two.header one in
     let at : 32 + length library + length snapshot ≡ 32 + length text + length image = omega (arith, long.0, long.1) in

@@ -1,15 +1,22 @@
 //! One bank, where it stands on a disk.
-ghost use Rattle.std.specs.Prelude.{◌≡◌, ◌↔◌, ◌+◌, ◌-◌, ◌^◌, ◌<◌, ◌≤◌, [], List, ℕ, Bool, true, false, IsTrue, length, OnOk, IfOk, IsErrOf};
+ghost use Rattle.std.specs.Prelude.{◌≡◌, ◌↔◌, ◌+◌, ◌-◌, ◌^◌, ◌<◌, ◌≤◌, List, ℕ, Bool, true, false, IsTrue, length, OnOk, IfOk, IsErrOf};
 ghost use Rattle.oa_disk.specs.Disk.{LeavesOnly, Follows, Torn};
 ghost use Rattle.oa_disk.specs.declared.disk.DeviceFault.{DeviceFault};
-ghost use Rattle.oa_journal.specs.Bank.{bank_bytes, from_place, IsBank};
-ghost use Rattle.oa_journal.specs.Banks.{start_of};
+ghost use Rattle.oa_image.specs.Tables.{is_numbered};
+ghost use Rattle.oa_table.specs.Tables.{unlocked_table};
+ghost use Rattle.oa_journal.specs.Bank.{bank_bytes, from_place, IsBank, HasLibrary};
+ghost use Rattle.oa_journal.specs.Banks.{first_gate};
+ghost use Rattle.oa_journal.specs.Damages.{IsDamagedHeader, IsDamagedAt};
+ghost use Rattle.oa_journal.specs.Reads.{OnlyReads};
 
 use crate::BANK_BYTES;
 use crate::frame::{append_group, lay_out};
 use crate::layout::front;
+use crate::opening::{bank_at, library_at};
 use oa_disk::{DeviceFault, Disk};
-use std::alloc::{AllocError, Global};
+use oa_image::laws::is_table;
+use oa_table::Table;
+use std::alloc::{AllocError, AllocFailed, Global};
 use thiserror::Error;
 
 /// Why a group was not added.
@@ -57,6 +64,50 @@ impl From<DeviceFault> for StartFault {
     }
 }
 
+/// Why a bank was not read.
+#[derive(Clone, Copy, Debug, PartialEq, Eq, Error)]
+pub enum BankFault {
+    /// It is no bank: the place on the disk of its header, of its snapshot or of the gate of a group, which is the first that fails.
+    #[error("damaged at {0}")]
+    Damaged(u64),
+    /// The device has failed a call.
+    #[error("device: {0}")]
+    Device(DeviceFault),
+    /// There is no memory for it.
+    #[error("out of memory")]
+    Memory,
+}
+
+impl From<AllocError> for BankFault {
+    ghost use Rattle.oa_journal.specs.declared.bank.BankFault.TheVariants.{Memory};
+
+    ghost from_gives = { λ _ e. e ≡ Memory };
+
+    fn from(_: AllocError) -> BankFault {
+        BankFault::Memory
+    }
+}
+
+impl<T: Drop> From<AllocFailed<T>> for BankFault {
+    ghost use Rattle.oa_journal.specs.declared.bank.BankFault.TheVariants.{Memory};
+
+    ghost from_gives = { λ _ e. e ≡ Memory };
+
+    fn from(_: AllocFailed<T>) -> BankFault {
+        BankFault::Memory
+    }
+}
+
+impl From<DeviceFault> for BankFault {
+    ghost use Rattle.oa_journal.specs.declared.bank.BankFault.TheVariants.{Device};
+
+    ghost from_gives = { λ f e. e ≡ Device f };
+
+    fn from(fault: DeviceFault) -> BankFault {
+        BankFault::Device(fault)
+    }
+}
+
 /// A bank of 16,777,216 bytes on a disk, which its calls are given: where it stands, and where in it the closed gate stands.
 #[derive(Drop, Debug, PartialEq, Eq)]
 pub struct Bank {
@@ -69,18 +120,18 @@ pub struct Bank {
 
 impl Bank {
     ghost use Rattle.oa_journal.specs.declared.bank.AppendFault.{AppendFault};
+    ghost use Rattle.oa_journal.specs.declared.bank.BankFault.{BankFault};
     ghost use Rattle.oa_journal.specs.declared.bank.StartFault.{StartFault};
     ghost use Rattle.oa_journal.specs.Append.{group_of, IsAt, IsWithOrWithout, IsWith};
 
-    /// The bank at that place of a disk, whose closed gate stands so many bytes behind its first.
-    pub fn at(place: u64, gate: u32) -> Bank
-        requires inside { gate < bank_bytes }
-        requires on_a_disk { place + bank_bytes < 2 ^ 63 }
-        ensures { IsAt place gate false result }
+    /// The bank at that place of a disk. Until it is written or read, its room is 1: no group fits.
+    pub fn at(place: u64) -> Bank
+        requires { place + bank_bytes < 2 ^ 63 }
+        ensures { IsAt place (bank_bytes - 1) false result }
     {
         Bank {
             place,
-            gate,
+            gate: BANK_BYTES - 1,
             stopped: false,
         }
     }
@@ -92,36 +143,120 @@ impl Bank {
         BANK_BYTES - self.gate
     }
 
-    /// Writes a bank without groups at that place of the disk, in one write. Until it is synced, a crash may leave any bytes there.
+    /// Writes the bank of a library and a table, without groups and without locks, in one write. Until it is synced, a crash may leave any
+    /// bytes there. After `Device` the bank has stopped.
     pub fn start<D: Disk>(
+        &mut self,
         alloc: Global,
         disk: &mut D,
-        place: u64,
         library: &[u8],
-        snapshot: &[u8],
-    ) -> Result<Bank, StartFault>
-        requires fits { 33 + length library.now + length snapshot.now ≤ bank_bytes }
-        requires inside { place + bank_bytes ≤ D.size_of disk.old }
-        requires on_a_disk { place + bank_bytes < 2 ^ 63 }
+        table: &Table,
+    ) -> Result<(), StartFault>
+        requires fits { first_gate library.now table.now < bank_bytes }
+        requires numbered { is_numbered table.now ≡ true }
+        requires inside { self.old.place + bank_bytes ≤ D.size_of disk.old }
 
         ensures any_moment { IsTrue (D.is_honest disk.old)
-            → LeavesOnly D.moment D.image_since disk.old disk.new (λ c. (d : List ℕ) × D.image disk.old d × Torn place bank_bytes d c) }
+            → LeavesOnly D.moment D.image_since disk.old disk.new (λ c. (d : List ℕ) × D.image disk.old d × Torn self.old.place bank_bytes d c) }
         // At `Ok` it is what a read gives.
-        ensures written { IfOk result (λ bank. IsTrue (D.is_honest disk.old)
-            → IsBank (from_place place (D.contents disk.new)) library.now snapshot.now [] (start_of library.now snapshot.now)) }
-        ensures others { IsTrue (D.is_honest disk.old) → Torn place bank_bytes (D.contents disk.old) (D.contents disk.new) }
-        ensures bank { IfOk result (IsAt place (start_of library.now snapshot.now) false) }
+        ensures written { OnOk result (IsTrue (D.is_honest disk.old)
+            → IsBank (from_place self.old.place (D.contents disk.new)) library.now (unlocked_table table.now) (first_gate library.now table.now)) }
+        ensures others { IsTrue (D.is_honest disk.old) → Torn self.old.place bank_bytes (D.contents disk.old) (D.contents disk.new) }
+        ensures bank { OnOk result (IsAt self.old.place (first_gate library.now table.now) self.old.stopped self.new) }
 
-        ensures memory { IsErrOf result StartFault.Memory → disk.new ≡ disk.old }
+        ensures memory { IsErrOf result StartFault.Memory → (disk.new ≡ disk.old) × (self.new ≡ self.old) }
         ensures device { (fault : DeviceFault) → IsErrOf result (StartFault.Device fault)
-            → (fault ≡ DeviceFault.Write) × (D.failures_of disk.new < 2 ^ 64 - 1 → D.failures_of disk.old < D.failures_of disk.new) }
+            → IsAt self.old.place self.old.gate true self.new × (fault ≡ DeviceFault.Write) × (D.failures_of disk.new < 2 ^ 64 - 1 → D.failures_of disk.old < D.failures_of disk.new) }
         ensures size { D.size_of disk.new ≡ D.size_of disk.old }
         ensures honest { D.is_honest disk.new ≡ D.is_honest disk.old }
         ensures failures { D.failures_of disk.old ≤ D.failures_of disk.new }
     {
-        let bytes = front(alloc, library, snapshot)?;
-        lay_out(disk, place, &bytes)?;
-        Ok(Bank::at(place, (bytes.len() - 1) as u32))
+        is_table(table);
+        let bytes = front(alloc, library, table)?;
+        if let Err(fault) = lay_out(disk, self.place, &bytes) {
+            self.stopped = true;
+            return Err(StartFault::Device(fault));
+        }
+        self.gate = (bytes.len() - 1) as u32;
+        Ok(())
+    }
+
+    /// Reads the bank's library. Snapshot and groups are not looked at. After `Device` the bank has stopped.
+    pub fn read_library<D: Disk>(
+        &mut self,
+        alloc: Global,
+        disk: &mut D,
+    ) -> Result<Vec<u8>, BankFault>
+        requires { self.old.place + bank_bytes ≤ D.size_of disk.old }
+
+        ensures found { IfOk result (λ library. IsTrue (D.is_honest disk.new) → HasLibrary (from_place self.old.place (D.contents disk.old)) library.items) }
+        ensures bank { OnOk result (self.new ≡ self.old) }
+        // `Damaged` for the header alone.
+        ensures damaged { (at : ℕ) → IsErrOf result (BankFault.Damaged at) → (self.new ≡ self.old) × (at ≡ self.old.place)
+            × (IsTrue (D.is_honest disk.new) → IsDamagedHeader (from_place self.old.place (D.contents disk.old)) 0) }
+        ensures memory { IsErrOf result BankFault.Memory → self.new ≡ self.old }
+        ensures device { (fault : DeviceFault) → IsErrOf result (BankFault.Device fault)
+            → IsAt self.old.place self.old.gate true self.new × (fault ≡ DeviceFault.Read) × (D.failures_of disk.new < 2 ^ 64 - 1 → D.failures_of disk.old < D.failures_of disk.new) }
+
+        ensures reads { IsTrue (D.is_honest disk.new) → OnlyReads D.contents D.image D.moment D.image_since disk.old disk.new }
+        ensures size { D.size_of disk.new ≡ D.size_of disk.old }
+        ensures honest { IsTrue (D.is_honest disk.new) → IsTrue (D.is_honest disk.old) }
+        ensures failures { D.failures_of disk.old ≤ D.failures_of disk.new }
+    {
+        match library_at(alloc, disk, self.place) {
+            Ok(library) => Ok(library),
+            Err(fault) => {
+                self.stop_after(fault);
+                Err(fault)
+            }
+        }
+    }
+
+    /// Reads the bank: its library, and its table after its groups. From then on the bank knows where its closed gate stands. After `Device` it
+    /// has stopped.
+    pub fn read_all<D: Disk>(
+        &mut self,
+        alloc: Global,
+        disk: &mut D,
+    ) -> Result<(Vec<u8>, Table), BankFault>
+        requires { self.old.place + bank_bytes ≤ D.size_of disk.old }
+
+        ensures found { IfOk result (λ r. IsTrue (D.is_honest disk.new) → IsBank (from_place self.old.place (D.contents disk.old)) r.0.items r.1 self.new.gate) }
+        ensures numbered { IfOk result (λ r. is_numbered r.1 ≡ true) }
+        ensures bank { OnOk result (IsAt self.old.place self.new.gate self.old.stopped self.new) }
+        // `Damaged` with the place on the disk of the first part that fails.
+        ensures damaged { (at : ℕ) → IsErrOf result (BankFault.Damaged at) → (self.new ≡ self.old)
+            × (IsTrue (D.is_honest disk.new) → (offset : ℕ) × (at ≡ self.old.place + offset) × IsDamagedAt (from_place self.old.place (D.contents disk.old)) offset) }
+        ensures memory { IsErrOf result BankFault.Memory → self.new ≡ self.old }
+        ensures device { (fault : DeviceFault) → IsErrOf result (BankFault.Device fault)
+            → IsAt self.old.place self.old.gate true self.new × (fault ≡ DeviceFault.Read) × (D.failures_of disk.new < 2 ^ 64 - 1 → D.failures_of disk.old < D.failures_of disk.new) }
+
+        ensures reads { IsTrue (D.is_honest disk.new) → OnlyReads D.contents D.image D.moment D.image_since disk.old disk.new }
+        ensures size { D.size_of disk.new ≡ D.size_of disk.old }
+        ensures honest { IsTrue (D.is_honest disk.new) → IsTrue (D.is_honest disk.old) }
+        ensures failures { D.failures_of disk.old ≤ D.failures_of disk.new }
+    {
+        match bank_at(alloc, disk, self.place) {
+            Ok((library, table, gate)) => {
+                self.gate = gate;
+                Ok((library, table))
+            }
+            Err(fault) => {
+                self.stop_after(fault);
+                Err(fault)
+            }
+        }
+    }
+
+    /// After a call that the device has failed, the bank has stopped.
+    fn stop_after(&mut self, fault: BankFault)
+        ensures same { (at : ℕ) → fault ≡ BankFault.Damaged at → self.new ≡ self.old }
+        ensures memory { fault ≡ BankFault.Memory → self.new ≡ self.old }
+        ensures stopped { (why : DeviceFault) → fault ≡ BankFault.Device why → IsAt self.old.place self.old.gate true self.new }
+    {
+        if let BankFault::Device(_) = fault {
+            self.stopped = true;
+        }
     }
 
     /// Adds a group, which stands in a frame with four free bytes before it and one behind, in four calls of the disk: it is there

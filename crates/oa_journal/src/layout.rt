@@ -1,8 +1,12 @@
 //! The bytes of a bank without groups.
-ghost use Rattle.std.specs.Prelude.{◌≡◌, ◌+◌, ◌≤◌, length, IfOk};
+ghost use Rattle.std.specs.Prelude.{◌≡◌, ◌+◌, ◌<◌, ◌≤◌, length, IfOk};
 ghost use Rattle.oa_journal.specs.Bank.{bank_bytes, header_of};
+ghost use Rattle.oa_image.specs.Tables.{table_image};
+ghost use Rattle.oa_journal.specs.Banks.{first_gate};
 ghost use Rattle.oa_journal.specs.Fronts.{front_of};
 
+use oa_image::write_table;
+use oa_table::Table;
 use std::alloc::{AllocError, Global};
 
 /// How many bytes a bank has.
@@ -21,8 +25,19 @@ pub(crate) fn header_bytes(library: u32, snapshot: u32) -> [u8; 32]
     ]
 }
 
+/// The bytes of a bank without groups: header, library, the table's image and a closed gate.
+pub fn front(alloc: Global, library: &[u8], table: &Table) -> Result<Vec<u8>, AllocError>
+    requires { first_gate library.now table.now < bank_bytes }
+    ensures bytes { IfOk result (λ bytes. bytes.items ≡ front_of library.now (table_image table.now)) }
+    ensures len { IfOk result (λ bytes. length bytes.items ≡ 1 + first_gate library.now table.now) }
+{
+    let mut snapshot = Vec::new(alloc);
+    write_table(table, &mut snapshot)?;
+    front_bytes(alloc, library, &snapshot)
+}
+
 /// Header, library, snapshot and a closed gate.
-pub(crate) fn front(alloc: Global, library: &[u8], snapshot: &[u8]) -> Result<Vec<u8>, AllocError>
+fn front_bytes(alloc: Global, library: &[u8], snapshot: &[u8]) -> Result<Vec<u8>, AllocError>
     requires { 33 + length library.now + length snapshot.now ≤ bank_bytes }
     ensures bytes { IfOk result (λ bytes. bytes.items ≡ front_of library.now snapshot.now) }
     ensures len { IfOk result (λ bytes. length bytes.items ≡ 33 + length library.now + length snapshot.now) }

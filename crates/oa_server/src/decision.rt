@@ -7,7 +7,7 @@ use crate::fields::Fields;
 use crate::refusal::Refusal;
 use oa_bind::BindFault;
 use oa_model::HResult;
-use oa_table::Event;
+use oa_table::{CellName, Event};
 use std::alloc::{AllocError, AllocFailed};
 
 /// What becomes of a request that is not refused.
@@ -17,6 +17,17 @@ pub(crate) enum Decision {
     Answer { code: HResult, fields: Fields },
     /// The table changes, and the reply then has these fields; it is a refusal where the change is.
     Change { event: Event, fields: Fields },
+    /// The same of a lock.
+    Relock { change: LockChange, fields: Fields },
+}
+
+/// A change of the locks of the array in a cell. Locks are a session's own.
+#[derive(Drop)]
+pub(crate) enum LockChange {
+    /// One more.
+    Lock(CellName),
+    /// One fewer.
+    Unlock(CellName),
 }
 
 /// Why nothing is decided.

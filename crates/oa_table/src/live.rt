@@ -1,9 +1,12 @@
 //! The objects of a table.
 ghost use Rattle.std.specs.Prelude.{◌≡◌, []};
+ghost use Rattle.std.specs.List.Sorted.{IsStrictlySortedBy};
+ghost use Rattle.std.specs.Map.{keys_of};
 ghost use Rattle.std.specs.Option.{option_map};
 ghost use Rattle.oa_table.specs.Elements.{element_put, locked_value, locks_in, redimensioned_value, released_value};
 ghost use Rattle.oa_table.specs.Objects.{any_locked, locks_of_cell, with_change, with_put};
 ghost use Rattle.oa_table.specs.Outcomes.{Counts, Does};
+ghost use Rattle.oa_table.specs.Places.{place_cmp};
 ghost use Rattle.oa_table.specs.Tables.{cell_at};
 
 use crate::value::{lock, locks_of, put_element, redim, unlock};
@@ -69,6 +72,13 @@ impl LiveObject {
         ensures { result ≡ self.now.cells }
     {
         self.cells.iter()
+    }
+
+    /// A fact and no work: the places of the cells rise.
+    pub fn places_rise(&self)
+        ensures { IsStrictlySortedBy place_cmp (keys_of self.now.cells) }
+    {
+        let _count = self.cells.len();
     }
 
     /// Whether the array in some cell is locked. Looks at each cell of the object.

@@ -1,6 +1,9 @@
 //! The table of objects.
 ghost use Rattle.std.specs.Prelude.{◌≡◌, length, IfOk};
+ghost use Rattle.std.specs.List.Sorted.{IsStrictlySortedBy};
+ghost use Rattle.std.specs.Map.{keys_of};
 ghost use Rattle.std.specs.Option.{option_map};
+ghost use Rattle.std.specs.Ordering.{nat_cmp};
 ghost use Rattle.oa_table.specs.Elements.{element_put, redimensioned_value};
 ghost use Rattle.oa_table.specs.Events.{BringsNoLocks, applied};
 ghost use Rattle.oa_table.specs.Locks.{locked_in, locks_at, with_lock, without_lock};
@@ -81,6 +84,13 @@ impl Table {
         ensures { result ≡ self.now.objects }
     {
         self.objects.iter()
+    }
+
+    /// A fact and no work: the numbers of the objects rise.
+    pub fn numbers_rise(&self)
+        ensures { IsStrictlySortedBy nat_cmp (keys_of self.now.objects) }
+    {
+        let _count = self.objects.len();
     }
 
     /// The GUID of an object's coclass; None where there is no such object.

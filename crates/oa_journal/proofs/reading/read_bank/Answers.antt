@@ -1,47 +1,39 @@
-use Rattle.std.proofs.Common.{◌≡◌, ◌+◌, ◌≤◌, ℕ, length, take, drop, slice_index, sym, subst, refl, arith}
-use Rattle.oa_journal.specs.Bank.{Shows, Groups, header_of}
-use Rattle.oa_journal.specs.Banks.{gate_behind}
-use Rattle.oa_journal.specs.Unique.{lengths}
-use Rattle.oa_journal.proofs.Slices.{long, shows}
+use Rattle.std.proofs.Common.{◌≡◌, inl, inr, refl, ◌+◌, ◌≤◌, length, arith, ap, Err}
+use Rattle.oa_layout.specs.declared.fault.ImageFault.{ImageFault}
+use Rattle.oa_layout.specs.declared.fault.ImageFault.TheVariants as images
+use Rattle.oa_journal.proofs.Opened.{no_snapshot, snapshot_there, bank_there}
 use Rattle.oa_journal.proofs.reading.read_bank.Goals as goal
 
-pub returns-clause-found : goal.returns-clause-found
-returns-clause-found c =
-    let list = c.args.bank.now in
-    let byte = slice_index list in
-    let l = c.in_ok-library.library in
-    let s = c.in_ok-library.snapshot in
-    let fits = c.in_ok-library.ensures.inside in
-    let text = take l (drop 32 list) in
-    let image = take s (drop (32 + l) list) in
-    let text_within : 32 + l ≤ length list = omega (arith, fits, c.requires.whole) in
-    let image_within : 32 + l + s ≤ length list = omega (arith, fits, c.requires.whole) in
-    let text_long : length (take l (drop 32 list)) ≡ l = long list 32 l text_within in
-    let image_long : length (take s (drop (32 + l) list)) ≡ s = long list (32 + l) s image_within in
-    let groups = c.in_ok-gate.ensures.found in
-    let at : 32 + l + s ≡ 32 + length (take l (drop 32 list)) + length (take s (drop (32 + l) list)) = omega (arith, text_long, image_long) in (
-      groups.0,
-      record {
-        header = subst (λ (k : ℕ). Shows byte 0 (header_of k (length image))) (sym text_long) (subst (λ (k : ℕ). Shows byte 0 (header_of l k)) (sym image_long) c.in_ok-library.ensures.found);
-        text = shows list 32 l text_within;
-        image = subst (λ (k : ℕ). Shows byte (32 + k) image) (sym text_long) (shows list (32 + l) s image_within);
-        behind = subst (λ (k : ℕ). Groups byte k groups.0 c.in_ok-gate.gate) at groups.1;
-        inside = c.in_ok-gate.ensures.inside;
-      },
-    )
+pub returns-in_default-clause-damaged : goal.returns-in_default-clause-damaged
+returns-in_default-clause-damaged c place e =
+    let at : place ≡ 0 = cc in inl (at, c.in_default.ensures.none refl)
 
-pub returns-in_err-gate-clause-none : goal.returns-in_err-gate-clause-none
-returns-in_err-gate-clause-none c e text image groups gate bank =
-    let byte = slice_index c.args.bank.now in
-    let l = c.in_ok-library.library in
-    let s = c.in_ok-library.snapshot in
-    let fits = c.in_ok-library.ensures.inside in
-    let has = lengths byte text image groups gate l s (omega (arith, fits)) (omega (arith, fits)) c.in_ok-library.ensures.found bank in
-    let at : 32 + length text + length image ≡ 32 + l + s = omega (arith, has.0, has.1) in
-    c.in_err-gate.ensures.none refl groups gate (subst (λ (k : ℕ). Groups byte k groups gate) at bank.behind) bank.inside
+pub returns-in-Err-Damaged-clause-damaged : goal.returns-in-Err-Damaged-clause-damaged
+returns-in-Err-Damaged-clause-damaged c place e =
+    let at : place ≡ 32 + c.in-Ok.library = cc in
+    let within : 32 + c.in-Ok.library + c.in-Ok.snapshot ≤ length c.args.bank.now = omega (arith, c.requires.whole, c.in-Ok.ensures.found.inside) in
+    inr (inl (
+      c.in-Ok.library,
+      c.in-Ok.snapshot,
+      c.in-Ok.ensures.found,
+      at,
+      no_snapshot c.args.bank.now c.part.result.now c.in-Ok.library c.in-Ok.snapshot within c.part.ensures c.in-Err-Damaged.field-0 c.in-Err-Damaged.field-0-0 c.in-Err-Damaged.field-0-is c.in-Err-Damaged.ensures.exact,
+    ))
 
-pub returns-clause-inside : goal.returns-clause-inside
-returns-clause-inside c =
-    let groups = c.in_ok-gate.ensures.found in
-    let le = gate_behind (slice_index c.args.bank.now) (32 + c.in_ok-library.library + c.in_ok-library.snapshot) groups.0 c.in_ok-gate.gate groups.1 in
-    (le, c.in_ok-gate.ensures.inside)
+pub returns-in-Ok-read_groups-clause-found : goal.returns-in-Ok-read_groups-clause-found
+returns-in-Ok-read_groups-clause-found c =
+    let within : 32 + c.in-Ok.library + c.in-Ok.snapshot ≤ length c.args.bank.now = omega (arith, c.requires.whole, c.in-Ok.ensures.found.inside) in
+    let first = c.in-Ok-read_table.first in
+    let has = snapshot_there c.args.bank.now c.part.result.now c.in-Ok.library c.in-Ok.snapshot within c.part.ensures first c.in-Ok.ensures.found c.in-Ok-read_table.ensures.exact in
+    bank_there c.args.bank.now c.in-Ok.library c.in-Ok.snapshot first c.in-Ok-read_groups.table c.in-Ok-read_groups.gate c.requires.whole has c.in-Ok-read_groups.ensures.found c.in-Ok-read_groups.ensures.inside
+
+pub returns-in-Err-clause-damaged : goal.returns-in-Err-clause-damaged
+returns-in-Err-clause-damaged c place e =
+    let is : c.in-Err.fault ≡ images.Damaged place = cc in
+    let within : 32 + c.in-Ok.library + c.in-Ok.snapshot ≤ length c.args.bank.now = omega (arith, c.requires.whole, c.in-Ok.ensures.found.inside) in
+    let first = c.in-Ok-read_table.first in
+    let has = snapshot_there c.args.bank.now c.part.result.now c.in-Ok.library c.in-Ok.snapshot within c.part.ensures first c.in-Ok.ensures.found c.in-Ok-read_table.ensures.exact in
+    inr (inr (c.in-Ok.library, c.in-Ok.snapshot, first, has, c.in-Err.ensures.damaged place (ap (λ (x : ImageFault). Err x) is)))
+
+pub returns-in-Err-clause-place : goal.returns-in-Err-clause-place
+returns-in-Err-clause-place c place is = (c.in-Err.ensures.damaged place (ap (λ (x : ImageFault). Err x) is)).inside

@@ -1,0 +1,37 @@
+-- What is answered of groups of events.
+use Rattle.std.specs.Prelude.{◌≡◌, ℕ, ◌+◌, List, Result, Ok, Err, ⊤}
+use Rattle.oa_layout.specs.declared.fault.ImageFault.{ImageFault}
+use Rattle.oa_layout.specs.declared.fault.ImageFault.TheVariants as images
+use Rattle.oa_table.specs.declared.event.Event.{Event}
+use Rattle.oa_table.specs.declared.fault.TableFault.{TableFault}
+use Rattle.oa_table.specs.declared.fault.TableFault.TheVariants as tables
+use Rattle.oa_table.specs.Tables.{TableValue}
+use Rattle.oa_journal.specs.declared.bank.BankFault.{BankFault}
+use Rattle.oa_journal.specs.declared.bank.BankFault.TheVariants as banks
+use Rattle.oa_journal.specs.Replays.{applied_all, Replays}
+
+-- there is no new table; where memory ran out, nothing is said
+abbrev pub IsRefused : TableFault → Result TableValue TableFault → Type 0
+IsRefused tables.Memory due = ⊤
+IsRefused fault due = (after : TableValue) → due ≡ Ok after → ⊥
+
+-- Events make the new table of the old one, or one of them does not apply.
+abbrev pub AreApplied : {U : Type 0} → List Event → TableValue → TableValue → Result U TableFault → Type 0
+AreApplied events old new (Ok u) = applied_all events old ≡ Ok new
+AreApplied events old new (Err fault) = IsRefused fault (applied_all events old)
+
+-- A group makes the new table of the old one, or it makes none; where memory ran out, nothing is said.
+abbrev pub IsReplay : {U : Type 0} → List ℕ → TableValue → TableValue → Result U ImageFault → Type 0
+IsReplay group old new (Ok u) = Replays group old new
+IsReplay group old new (Err (images.Damaged place)) = (after : TableValue) → Replays group old after → ⊥
+IsReplay group old new (Err images.Memory) = ⊤
+
+-- a change that is refused, as damage of the group that has it
+abbrev pub of_change : TableFault → ℕ → ImageFault
+of_change tables.Memory place = images.Memory
+of_change fault place = images.Damaged place
+
+-- the damage of a bank that stands at a place of a disk
+abbrev pub on_disk : ℕ → ImageFault → BankFault
+on_disk place (images.Damaged at) = banks.Damaged (place + at)
+on_disk place images.Memory = banks.Memory

@@ -8,8 +8,9 @@ memory of the program, and the same for a file four times as long, which needs n
 of 256 KiB in turn, of an array of 65,536 I4 and of one of 4,096 texts: megabytes of hexadecimal digits read and written a second, beside
 `cat` from and to files of the same length. Then an array of 65,536 cells kept in each of many objects, for cells of one, four and eight
 bytes on the wire: the memory that a cell takes, which is the peak above that of the same session with arrays of one cell, divided by the
-cells. Last, puts and gets through the first and the last of the 256 interfaces of a coclass: the last takes at most 1.5 times as long as
-the first.
+cells. Then puts and gets through the first and the last of the 256 interfaces of a coclass: the last takes at most 1.5 times as long as
+the first. Last, puts and gets of a property with three parameters, over 1, 1,000 and 100,000 cells of one object, and of a property of 1 and
+of 65,536 objects: what a request takes beside those that made the cells or the objects. The most is at most 4 times the least.
 """
 import os
 import subprocess
@@ -31,6 +32,10 @@ BYTES, LONGS, HYPERS, NAMES, ANY = 2, 5, 9, 13, 15
 # objects that keep an array, and cells of each
 KEEPERS, KEPT = 100, 65_536
 INTERFACES = 256
+# cells of a property with three parameters, and objects
+CELLS, MANY = (1, 1_000, 100_000), (1, 65_536)
+# of examples/full.idl the DISPIDs of Count and of Cell
+COUNT, CELL = 1, 9
 
 
 CLASS = uuid.UUID("11223344-5566-7788-99AA-BBCCDDEEFF03")
@@ -87,6 +92,49 @@ def write_through(path, number, count):
         file.write(create(0))
         for tag in range(1, count, 2):
             file.write(wire.put(tag, 1, 1, wire.scalar(wire.I4, tag), interface) + wire.get(tag + 1, 1, 1, interface))
+
+
+def put_cell(tag, number):
+    """A put of the cell with this number of an object's property with the parameters long, BSTR and short."""
+    key = wire.scalar(wire.BSTR, f"key {number % 1_000}".encode("utf-16-le"))
+    arguments = [wire.scalar(wire.BSTR, b"x\0"), wire.scalar(wire.I2, 1), key, wire.scalar(wire.I4, number)]
+    return wire.invoke(tag, 1, CELL, 4, [-3], arguments)
+
+
+def get_cell(tag, number):
+    """A get of the same cell."""
+    key = wire.scalar(wire.BSTR, f"key {number % 1_000}".encode("utf-16-le"))
+    return wire.invoke(tag, 1, CELL, 2, [], [wire.scalar(wire.I2, 1), key, wire.scalar(wire.I4, number)])
+
+
+def put_count(tag, number):
+    """A put of a property of the object with this number, from 0."""
+    return wire.put(tag, number + 1, COUNT, wire.scalar(wire.I4, tag))
+
+
+def get_count(tag, number):
+    return wire.get(tag, number + 1, COUNT)
+
+
+def write_spread(path, made, number, put, get, count):
+    """What makes so many cells or objects, and then puts and gets of them in turn, spread over all."""
+    with open(path, "wb") as file:
+        file.writelines(made)
+        for tag in range(count // 2):
+            place = tag * 7_919 % number
+            file.write(put(tag, place) + get(tag, place))
+
+
+def beside_what_is_made(room, made, number, put, get):
+    """The microseconds that a request takes, beside those that make what it is of: the least of three runs of each."""
+    least = []
+    for count in (0, LINES):
+        write_spread(f"{room}/in", made, number, put, get, count)
+        runs = [timed([PROGRAM, "play", "lib.idl", "--hex"], f"{room}/in", room) for _ in range(3)]
+        if any((status, replies) != (0, len(made) + count // 2 * 2) for _, _, replies, status in runs):
+            sys.exit(f"a run over {number} failed")
+        least.append(min(seconds for seconds, _, _, _ in runs))
+    return (least[1] - least[0]) / LINES * 1e6
 
 
 def timed(words, given, cwd):
@@ -153,3 +201,13 @@ with tempfile.TemporaryDirectory() as room:
         print(f"{LINES} requests through interface {number} of {INTERFACES}: {least[number]:.3f} s, {least[number] / LINES * 1e6:.2f} us each")
     if least[INTERFACES - 1] > 1.5 * least[0]:
         sys.exit("the last interface takes more than 1.5 times as long as the first")
+    with open(f"{ROOT}/examples/full.idl", "rb") as file, open(f"{room}/lib.idl", "wb") as copy:
+        copy.write(file.read())
+    for name, numbers, put, get in (("cells of a property with three parameters", CELLS, put_cell, get_cell), ("objects", MANY, put_count, get_count)):
+        took = []
+        for number in numbers:
+            made = [create(0)] + [put_cell(0, it) for it in range(number)] if put is put_cell else [create(0)] * number
+            took.append(beside_what_is_made(room, made, number, put, get))
+            print(f"{LINES} puts and gets over {number:,} {name}: {took[-1]:.2f} us each")
+        if max(took) > 4 * min(took):
+            sys.exit(f"over some number of {name} a request takes more than 4 times as long as over another")

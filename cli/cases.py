@@ -4,14 +4,16 @@
     python3 cli/cases.py [PROGRAM]      PROGRAM is crates/oaut/out/oaut, as `rt ci` leaves it, where none is given
 
 Each case runs the program in a new empty folder with a library, command-line words and standard input, and compares standard
-output, standard error and the status. The last line counts the cases.
+output, standard error and the status; one that takes longer than two minutes fails. The last line counts the cases.
 """
 import os
 import resource
+import select
 import struct
 import subprocess
 import sys
 import tempfile
+import time
 
 import wire
 
@@ -37,22 +39,68 @@ LINE_LIMIT = 2_097_152
 counts = {True: 0, False: 0}
 
 
-def run(words, given=b"", files=None, stdin=None, stdout=None):
-    """Runs the program in a new folder that holds the files, and returns its status and what it wrote."""
+TIMEOUT = 120
+
+
+def run(words, given=b"", files=None, stdin=None, stdout=None, before=None):
+    """Runs the program in a new folder that holds the files, after a call in its process, and returns its status and what it wrote."""
     with tempfile.TemporaryDirectory() as room:
         for name, content in (files or {}).items():
             with open(f"{room}/{name}", "wb") as file:
                 file.write(content)
-        done = subprocess.run(
-            [PROGRAM, *words],
-            cwd=room,
-            input=given if stdin is None else None,
-            stdin=stdin,
-            stdout=stdout or subprocess.PIPE,
-            stderr=subprocess.PIPE,
-            timeout=120,
-        )
+        source = {"input": given} if stdin is None else {"stdin": stdin}
+        try:
+            done = subprocess.run([PROGRAM, *words], cwd=room, stdout=stdout or subprocess.PIPE, stderr=subprocess.PIPE, preexec_fn=before, timeout=TIMEOUT, **source)
+        except subprocess.TimeoutExpired as late:
+            return None, late.stdout, late.stderr
         return done.returncode, done.stdout, done.stderr
+
+
+def within(bytes):
+    """What limits the memory of the program, as a call in its process."""
+    return lambda: resource.setrlimit(resource.RLIMIT_AS, (bytes, bytes))
+
+
+class Talk:
+    """A session over pipes: what is sent is sent at once, and what is waited for is waited for no longer than the time."""
+
+    def __init__(self, library, stdout=subprocess.PIPE):
+        self.room = tempfile.TemporaryDirectory()
+        with open(f"{self.room.name}/lib.idl", "wb") as file:
+            file.write(library)
+        words = [PROGRAM, "play", "lib.idl", "--hex"]
+        self.process = subprocess.Popen(words, cwd=self.room.name, stdin=subprocess.PIPE, stdout=stdout, stderr=subprocess.PIPE, bufsize=0)
+
+    def __enter__(self):
+        return self
+
+    def __exit__(self, *_):
+        if self.process.poll() is None:
+            self.process.kill()
+        for pipe in (self.process.stdin, self.process.stdout, self.process.stderr):
+            if pipe:
+                pipe.close()
+        self.process.wait()
+        self.room.cleanup()
+
+    def send(self, some):
+        self.process.stdin.write(some)
+
+    def line(self, pipe=None):
+        """The next line of its output, or what came of it in time."""
+        pipe, line, until = pipe or self.process.stdout, b"", time.monotonic() + TIMEOUT
+        while not line.endswith(b"\n") and select.select([pipe], [], [], max(0, until - time.monotonic()))[0]:
+            sign = os.read(pipe.fileno(), 1)
+            if not sign:
+                break
+            line += sign
+        return line
+
+    def status(self):
+        try:
+            return self.process.wait(TIMEOUT)
+        except subprocess.TimeoutExpired:
+            return None
 
 
 def tell(name, well, what=""):
@@ -127,29 +175,94 @@ with tempfile.TemporaryDirectory() as folder:
     os.close(fault)
 with open("/dev/full", "wb") as full:
     play("standard output that takes nothing", REQUESTS, 1, None, b"oaut: write fault\n", stdout=full)
+    play("the one reply cannot be handed on at an empty line", CREATE + b"\n\n", 1, None, b"oaut: write fault\n", stdout=full)
+    play("the reply to a line above its limit cannot be handed on", b"0" * (LINE_LIMIT + 2), 1, None, b"oaut: write fault\n", stdout=full)
 
-with tempfile.TemporaryDirectory() as room:
-    with open(f"{room}/lib.idl", "wb") as file:
-        file.write(SMALL)
-    for kib in range(32_768, 0, -256):  # less and less memory, until the buffers of a session are refused
-        limit = lambda: resource.setrlimit(resource.RLIMIT_AS, (1_024 * kib, 1_024 * kib))
-        done = subprocess.run([PROGRAM, "play", "lib.idl", "--hex"], cwd=room, input=REQUESTS, capture_output=True, preexec_fn=limit, timeout=120)
-        if done.returncode != 0:
-            break
-    tell("memory refused", (done.returncode, done.stdout, done.stderr) == (5, b"", b"oaut: out of memory\n"), done)
+for kib in range(32_768, 0, -256):  # less and less memory, until the buffers of a session are refused
+    done = run(["play", "lib.idl", "--hex"], REQUESTS, files={"lib.idl": SMALL}, before=within(1_024 * kib))
+    if done[0] != 0:
+        break
+tell("memory refused", done == (5, b"", b"oaut: out of memory\n"), done)
 
-with tempfile.TemporaryDirectory() as room:
-    with open(f"{room}/lib.idl", "wb") as file:
-        file.write(SMALL)
-    pipe = subprocess.Popen([PROGRAM, "play", "lib.idl", "--hex"], cwd=room, stdin=subprocess.PIPE, stdout=subprocess.PIPE)
+with Talk(SMALL) as session:
     replies = []
     for line in REQUESTS.splitlines(keepends=True):
-        pipe.stdin.write(line)
+        session.send(line)
+        replies.append(session.line())
+    session.process.stdin.close()
+    tell("each reply comes before the next request is sent", (b"".join(replies), session.status()) == (REPLIES, 0), replies)
+with Talk(SMALL) as session:
+    first, second = REQUESTS.splitlines(keepends=True)[:2]
+    session.send(first + second[:9])
+    replies = [session.line()]
+    session.send(second[9:])
+    replies.append(session.line())
+    tell("a reply comes before the rest of a line that is cut behind a whole one", b"".join(replies) == b"".join(REPLIES.splitlines(keepends=True)[:2]), replies)
+with open("/dev/full", "wb") as full, Talk(SMALL, stdout=full) as session:
+    session.send(CREATE + b"\n")
+    told = session.line(session.process.stderr), session.status()
+    tell("replies that cannot be handed on before a wait end the session", told == (b"oaut: write fault\n", 1), told)
+
+# --- streams that are closed, and clients that are gone
+
+for fd, (status, out, err) in ((0, (1, b"", b"oaut: read fault\n")), (1, (1, b"", b"oaut: write fault\n")), (2, (0, REPLIES, b""))):
+    play(f"stream {fd} is closed", REQUESTS, status, out, err, before=lambda fd=fd: os.close(fd))
+case("standard error is closed, and there is a fault", ["check", "none.idl"], 1, b"", b"", before=lambda: os.close(2))
+away, gone = os.pipe()
+os.close(away)
+play("a pipe whose reader is gone", REQUESTS, 1, None, b"oaut: write fault\n", stdout=gone)
+checked("a pipe whose reader is gone", FULL, 1, None, b"oaut: write fault\n", stdout=gone)
+os.close(gone)
+
+# --- sessions over records
+
+
+def record(body):
+    return struct.pack("<I", len(body)) + body
+
+
+def records(lines):
+    """The bodies of lines, as records."""
+    return b"".join(record(bytes.fromhex(line.decode())) for line in lines.splitlines())
+
+
+def play_records(name, given, status, out, err, library=SMALL, **how):
+    case(f"records: {name}", ["play", "lib.idl"], status, out, err, given=given, files={"lib.idl": library}, **how)
+
+
+ASKED, ANSWERED, STUB_RECORD = records(CREATE), records(CREATED), records(STUB)
+BODY_LIMIT = 1_048_576
+play_records("the first path", records(REQUESTS), 0, records(REPLIES), b"")
+play_records("no requests", b"", 0, b"", b"")
+play_records("a length of 0 ends the session", ASKED + bytes(4) + ASKED, 0, ANSWERED, b"")
+play_records("a body under 8 bytes has no tag", record(b"\1\2\3\4") + ASKED, 0, STUB_RECORD + ANSWERED, b"")
+play_records("an opcode that is none", record(struct.pack("<II", 5, 99)), 0, records(b"05000000" + STUB[8:]), b"")
+for end in (1, 3, 4, 5, 27):
+    play_records(f"cut at the byte {end}", ASKED + ASKED[:end], 4, ANSWERED + STUB_RECORD, b"oaut: record cut\n")
+play_records("cut within a put", records(REQUESTS)[:-80], 4, records(b"\n".join(REPLIES.splitlines()[:2])) + STUB_RECORD, b"oaut: record cut\n")
+play_records("a body at its limit", record(bytes(BODY_LIMIT)) + ASKED, 0, STUB_RECORD + ANSWERED, b"")
+for length in (BODY_LIMIT + 1, 2**32 - 1):
+    play_records(f"a length of {length}", ASKED + struct.pack("<I", length) + ASKED, 4, ANSWERED + STUB_RECORD, b"oaut: record too long\n")
+with tempfile.TemporaryDirectory() as folder:
+    fault = os.open(folder, os.O_RDONLY)
+    play_records("standard input that cannot be read", None, 1, b"", b"oaut: read fault\n", stdin=fault)
+    os.close(fault)
+with open("/dev/full", "wb") as full:
+    play_records("standard output that takes nothing", ASKED, 1, None, b"oaut: write fault\n", stdout=full)
+with tempfile.TemporaryDirectory() as room:
+    with open(f"{room}/lib.idl", "wb") as file:
+        file.write(SMALL)
+    pipe = subprocess.Popen([PROGRAM, "play", "lib.idl"], cwd=room, stdin=subprocess.PIPE, stdout=subprocess.PIPE, stderr=subprocess.PIPE)
+    replies = []
+    for asked, answered in zip(REQUESTS.splitlines(), REPLIES.splitlines()):
+        pipe.stdin.write(records(asked))
         pipe.stdin.flush()
-        replies.append(pipe.stdout.readline())
-    pipe.stdin.close()
-    tell("each reply comes before the next request is sent", (pipe.wait(10), b"".join(replies)) == (0, REPLIES), replies)
-    pipe.stdout.close()
+        replies.append(pipe.stdout.read(len(records(answered))))
+    pipe.stdin.write(struct.pack("<I", BODY_LIMIT + 1))
+    pipe.stdin.flush()
+    tell("records: each reply comes before the next request, and a length too long ends the session at once", (pipe.wait(10), b"".join(replies)) == (4, records(REPLIES)), replies)
+    for end in (pipe.stdin, pipe.stdout, pipe.stderr):
+        end.close()
 
 # --- values of every scalar type
 
@@ -225,8 +338,8 @@ talk(
     VALUES,
     [
         puts(LONG, FOUR),
-        puts(LONG, wire.scalar(wire.INT, 4), TYPE_MISMATCH, 0),
-        puts(LONG, wire.scalar(wire.EMPTY), TYPE_MISMATCH, 0),
+        puts(LONG, wire.scalar(wire.NULL), TYPE_MISMATCH, 0),
+        puts(LONG, HI, TYPE_MISMATCH, 0),
         puts(TEXT, FOUR, TYPE_MISMATCH, 0),
         puts(LONG, HALF, BAD_VAR_TYPE, 0),
         calls(LONG, 2, [], [FOUR, HALF, HALF], BAD_VAR_TYPE, 1),
@@ -343,6 +456,365 @@ talk(
     + [gets(ANY, good)],
 )
 
+# --- conversion, parameters and interfaces
+
+OVERFLOW, PARAM_NOT_FOUND, PARAM_NOT_OPTIONAL, NO_INTERFACE = 0x8002_000A, 0x8002_0004, 0x8002_000F, 0x8000_4002
+UNKNOWN_INTERFACE, DISCONNECTED = 0x8002_0001, 0x8001_0108
+# the DISPIDs of examples/full.idl
+FULL_COUNT, FULL_FLAG, FULL_ANY, FULL_CELL = 1, 5, 7, 9
+
+
+def i4(number):
+    return wire.scalar(wire.I4, number)
+
+
+def i2(number):
+    return wire.scalar(wire.I2, number)
+
+
+def bstr(it):
+    return wire.scalar(wire.BSTR, it.encode("utf-16-le"))
+
+
+def reads(dispid, named, values, value):
+    """A get with arguments, and the value that it tells."""
+    return (lambda tag: wire.invoke(tag, 1, dispid, 2, named, values), lambda tag: wire.reply(tag, fields=wire.field(value)))
+
+
+MISSED, NO_VALUE, NO_TEXT = wire.scalar(wire.ERROR, 0x8002_0004), wire.scalar(wire.EMPTY), wire.scalar(wire.BSTR)
+converted = [(wire.scalar(wire.CY, 25_000), 2), (wire.scalar(wire.CY, 35_000), 4), (wire.scalar(wire.CY, -25_000), -2), (i2(7), 7), (NO_VALUE, 0), (wire.scalar(wire.BOOL, 0xFFFF), -1)]
+talk(
+    "values that are converted",
+    FULL,
+    [turn for given, kept in converted for turn in (puts(FULL_COUNT, given), gets(FULL_COUNT, i4(kept)))]
+    + [
+        puts(FULL_COUNT, i4(6)),
+        puts(FULL_COUNT, wire.scalar(wire.I8, 2_147_483_648), OVERFLOW, 0),
+        puts(FULL_COUNT, bstr("7"), TYPE_MISMATCH, 0),
+        gets(FULL_COUNT, i4(6)),
+        puts(FULL_FLAG, i2(3)),
+        gets(FULL_FLAG, wire.scalar(wire.BOOL, 0xFFFF)),
+        puts(FULL_ANY, wire.scalar(wire.CY, 25_000)),
+        gets(FULL_ANY, wire.scalar(wire.CY, 25_000)),
+    ],
+)
+X, K = bstr("x"), bstr("k")
+talk(
+    "a property with parameters",
+    FULL,
+    [
+        calls(FULL_CELL, 4, [-3, 1, 0], [X, K, i4(5)]),
+        reads(FULL_CELL, [], [i2(1), K, i4(5)], X),
+        reads(FULL_CELL, [], [K, i4(5)], X),
+        reads(FULL_CELL, [1], [K, i4(5)], X),
+        reads(FULL_CELL, [0, 1], [i4(5), K], X),
+        reads(FULL_CELL, [2, 1, 0], [MISSED, K, wire.scalar(wire.CY, 50_000)], X),
+        # other keys, of the same member and the same object
+        reads(FULL_CELL, [], [i2(2), K, i4(5)], NO_TEXT),
+        reads(FULL_CELL, [], [bstr("K"), i4(5)], NO_TEXT),
+        reads(FULL_CELL, [], [K, i4(6)], NO_TEXT),
+        # a new value may stand anywhere among the named ones, and says nothing by being the missing one's error
+        calls(FULL_CELL, 4, [1, -3], [K, bstr("y"), i4(6)]),
+        calls(FULL_CELL, 4, [-3], [MISSED, K, i4(5)], TYPE_MISMATCH, 0),
+        calls(FULL_CELL, 4, [-3], [NO_VALUE, bstr("z"), i4(5)]),
+        reads(FULL_CELL, [], [K, i4(6)], bstr("y")),
+        reads(FULL_CELL, [], [bstr("z"), i4(5)], NO_TEXT),
+        reads(FULL_CELL, [], [NO_VALUE, NO_VALUE, NO_VALUE], NO_TEXT),
+        reads(FULL_CELL, [], [K, i4(5)], X),
+    ],
+)
+talk(
+    "arguments that are refused",
+    FULL,
+    [
+        calls(FULL_CELL, 4, [-3], [X, K, i4(5)]),
+        # names that cannot stand so
+        calls(FULL_CELL, 2, [0, 0], [i4(5), i4(5)], E_INVALIDARG),
+        calls(FULL_CELL, 2, [0, 1, 2], [i4(5), K], E_INVALIDARG),
+        calls(FULL_CELL, 2, [-3], [X, K, i4(5)], E_INVALIDARG),
+        calls(FULL_CELL, 4, [], [K, i4(5)], E_INVALIDARG),
+        calls(FULL_CELL, 4, [0], [X], E_INVALIDARG),
+        calls(FULL_CELL, 2, [7, 7], [i4(1)] * 5, E_INVALIDARG),
+        # more arguments than parameters
+        calls(FULL_CELL, 2, [7], [i4(1)] * 4, BAD_PARAM_COUNT),
+        calls(FULL_CELL, 4, [-3], [X] + [i4(1)] * 4, BAD_PARAM_COUNT),
+        # the lowest name of no parameter, or of one that is given by its place too
+        calls(FULL_CELL, 2, [7], [K, K, i4(5)], PARAM_NOT_FOUND, 0),
+        calls(FULL_CELL, 2, [0], [i4(5), K, i4(5)], PARAM_NOT_FOUND, 0),
+        calls(FULL_CELL, 4, [-3, 2, 3], [X, i2(1), K, i4(5)], PARAM_NOT_FOUND, 2),
+        # a parameter that may not be left out
+        calls(FULL_CELL, 2, [], [], PARAM_NOT_OPTIONAL),
+        calls(FULL_CELL, 2, [], [bstr("a"), MISSED, i4(5)], PARAM_NOT_OPTIONAL),
+        # what cannot be converted, by the places of the parameters, the new value last
+        calls(FULL_CELL, 2, [], [K, bstr("a")], TYPE_MISMATCH, 1),
+        calls(FULL_CELL, 2, [], [i2(2), K, bstr("a")], TYPE_MISMATCH, 2),
+        calls(FULL_CELL, 2, [], [i4(40_000), K, bstr("a")], TYPE_MISMATCH, 2),
+        calls(FULL_CELL, 2, [], [i4(40_000), K, i4(5)], OVERFLOW, 0),
+        calls(FULL_CELL, 2, [0], [bstr("a")], PARAM_NOT_OPTIONAL),
+        calls(FULL_CELL, 2, [1, 0], [K, bstr("a")], TYPE_MISMATCH, 1),
+        calls(FULL_CELL, 4, [-3], [i4(1), K, bstr("a")], TYPE_MISMATCH, 2),
+        calls(FULL_CELL, 4, [2, -3], [i4(40_000), i4(1), K, i4(5)], OVERFLOW, 0),
+        calls(FULL_CELL, 4, [-3], [i4(1), K, i4(5)], TYPE_MISMATCH, 0),
+        calls(FULL_CELL, 2, [], [wire.array(wire.I4, [(1, 0)], [5]), i4(5)], TYPE_MISMATCH, 0),
+        # a value outside the profile and a broken field go before all of these, and before the member
+        calls(FULL_CELL, 2, [7], [K, HALF], BAD_VAR_TYPE, 1),
+        calls(FULL_CELL, 2, [7], [K[:-1], HALF], STUB_CODE),
+        calls(99, 2, [], [K, HALF], BAD_VAR_TYPE, 1),
+        # the member goes before the arguments
+        calls(99, 2, [7], [K], MEMBER_NOT_FOUND),
+        calls(FULL_CELL, 1, [7], [K], MEMBER_NOT_FOUND),
+        reads(FULL_CELL, [], [K, i4(5)], X),
+    ],
+)
+talk(
+    "parameters that may be left out",
+    library_with(
+        interface(b"2", body=b"methods: [id(1), propget] long Any([in, optional] VARIANT V, [in, optional] long N); [id(1), propput] void Any([in, optional] VARIANT V, [in, optional] long N, [in] long New);")
+        + coclass(b"3")
+    ),
+    [
+        calls(1, 4, [-3], [i4(1)]),
+        reads(1, [], [], i4(1)),
+        reads(1, [], [MISSED], i4(1)),
+        reads(1, [], [i4(0), MISSED], i4(1)),
+        reads(1, [], [NO_VALUE], i4(0)),
+        reads(1, [], [i4(7)], i4(0)),
+        calls(1, 4, [-3], [i4(2), i2(7)]),
+        reads(1, [], [i2(7)], i4(2)),
+        reads(1, [], [i4(7)], i4(0)),
+        reads(1, [1], [i4(0), i2(7)], i4(2)),
+        calls(1, 2, [], [wire.array(wire.I4, [(1, 0)], [5])], TYPE_MISMATCH, 0),
+        calls(1, 2, [], [wire.array(wire.I4, [(1, 0)], [5]), i4(3)], TYPE_MISMATCH, 0),
+    ],
+)
+
+
+def through(last, object, dispid, flags, named, values, code=0, value=None):
+    """A call through the interface whose GUID ends so, and the value that it tells."""
+    guid = bytes.fromhex("443322116655887799aabbccddeeff") + bytes([last])
+    return (lambda tag: wire.invoke(tag, object, dispid, flags, named, values, guid), lambda tag: wire.reply(tag, code, fields=b"" if value is None else wire.field(value)))
+
+
+DITEM, DMORE, DNONE, CLASS_ITEM = 2, 4, 5, 3
+for marked, through_none in (("DItem", 7), ("DMore", 8)):
+    entries = " ".join(f"{'[default]' if it == marked else ''} dispinterface {it};" for it in ("DItem", "DMore"))
+    talk(
+        f"two interfaces of a coclass, {marked} the default one",
+        library_with(interface(b"2") + interface(b"4", name=b"DMore") + interface(b"5", name=b"DNone") + coclass(b"3", body=entries.encode())),
+        [
+            through(DITEM, 1, 1, 4, [-3], [i4(7)]),
+            through(DMORE, 1, 1, 2, [], [], value=i4(0)),
+            through(DMORE, 1, 1, 4, [-3], [i4(8)]),
+            through(DITEM, 1, 1, 2, [], [], value=i4(7)),
+            through(DMORE, 1, 1, 2, [], [], value=i4(8)),
+            gets(1, i4(through_none)),
+            # the object goes before the interface, and this before the member and the arguments
+            through(DNONE, 2, 99, 2, [7], [i4(7)], DISCONNECTED),
+            through(DNONE, 1, 99, 2, [7], [i4(7)], NO_INTERFACE),
+            through(CLASS_ITEM, 1, 99, 2, [7], [i4(7)], NO_INTERFACE),
+            (
+                lambda tag: wire.invoke(tag, 1, 99, 2, [], [])[:64] + b"01" + wire.invoke(tag, 1, 99, 2, [], [])[66:],
+                lambda tag: wire.reply(tag, UNKNOWN_INTERFACE),
+            ),
+        ],
+    )
+
+# --- objects that are listed and released
+
+DISCONNECTED, ARRAY_IS_LOCKED = 0x8001_0108, 0x8002_000D
+COCLASS = bytes.fromhex("443322116655887799aabbccddeeff03")
+
+
+def creates(number):
+    return (lambda tag: (struct.pack("<I", tag) + bytes.fromhex(CREATE.decode())[4:]).hex().encode() + b"\n", lambda tag: wire.reply(tag, fields=struct.pack("<II", number, 0)))
+
+
+def releases(number, code=0):
+    return (lambda tag: wire.release(tag, number), lambda tag: wire.reply(tag, code))
+
+
+def lists(*numbers):
+    return (wire.live_objects, lambda tag: wire.reply(tag, fields=wire.objects(COCLASS, numbers)))
+
+
+def of(number, dispid, value, code=0):
+    """A get of an object's property."""
+    return (lambda tag: wire.get(tag, number, dispid), lambda tag: wire.reply(tag, code, fields=b"" if code else wire.field(value)))
+
+
+talk(
+    "objects that are listed and released",
+    FULL,
+    [
+        gets(1, wire.scalar(wire.I4, 0)),
+        lists(1),
+        creates(2),
+        creates(3),
+        lists(1, 2, 3),
+        releases(2),
+        lists(1, 3),
+        of(2, 1, None, DISCONNECTED),
+        releases(2, DISCONNECTED),
+        releases(4, DISCONNECTED),
+        releases(0, DISCONNECTED),
+        of(3, 1, wire.scalar(wire.I4, 0)),
+        creates(4),
+        releases(3),
+        releases(1),
+        releases(4),
+        lists(),
+        creates(5),
+        lists(5),
+        (lambda tag: wire.release(tag, 5)[:-1] + b"00\n", lambda tag: wire.reply(tag, STUB_CODE)),
+        (lambda tag: wire.release(tag, 5)[:-3] + b"\n", lambda tag: wire.reply(tag, STUB_CODE)),
+        (lambda tag: wire.live_objects(tag)[:-1] + b"00\n", lambda tag: wire.reply(tag, STUB_CODE)),
+        lists(5),
+    ],
+)
+
+# --- elements and locks of arrays
+
+OVERFLOW_CODE, BAD_INDEX_CODE = 0x8002_000A, 0x8002_000B
+GRID, ANY_VALUE, COUNT_ID, CLEAR, VERSION_ID = 8, 7, 1, 10, 6
+
+
+def array_call(opcode, dispid, rest=b"", code=0, index=NO_INDEX, fields=b"", named=(), values=(), number=1, flags=0):
+    request = wire.oaut.ask_call(opcode, number, dispid, flags, named, values) + rest
+    return (lambda tag: wire.line(tag, request), lambda tag: wire.reply(tag, code, index, fields))
+
+
+def element(dispid, indices, value=None, code=0, **how):
+    fields = b"" if value is None else wire.field(value)
+    return array_call(wire.oaut.GETELEM, dispid, wire.oaut.indices_field(indices), code, fields=fields, **how)
+
+
+def puts_element(dispid, indices, value, code=0, **how):
+    return array_call(wire.oaut.PUTELEM, dispid, wire.oaut.indices_field(indices) + wire.field(value), code, **how)
+
+
+def redim(dispid, count, lower, code=0, **how):
+    return array_call(wire.oaut.REDIM, dispid, struct.pack("<Ii", count, lower), code, **how)
+
+
+def locks(dispid, count, code=0, opcode=wire.oaut.LOCK, **how):
+    return array_call(opcode, dispid, b"", code, fields=b"" if code else struct.pack("<II", count, 0), **how)
+
+
+def unlocks(dispid, count, code=0, **how):
+    return locks(dispid, count, code, wire.oaut.UNLOCK, **how)
+
+
+SIX = wire.array(wire.I2, [(2, -1), (3, 5)], [1, 2, 3, 4, 5, 6])
+short_of = lambda number: wire.scalar(wire.I2, number)
+talk(
+    "elements of an array",
+    FULL,
+    [
+        puts(GRID, SIX),
+        gets(GRID, SIX),
+        element(GRID, [0, 7], short_of(6)),
+        element(GRID, [1, 7], code=BAD_INDEX_CODE),
+        element(GRID, [0], code=BAD_INDEX_CODE),
+        element(GRID, [], code=BAD_INDEX_CODE),
+        element(GRID, [0] * 16, code=BAD_INDEX_CODE),
+        element(GRID, [0] * 17, code=STUB_CODE),
+        puts_element(GRID, [-1, 5], wire.scalar(wire.I4, 40_000), OVERFLOW_CODE),
+        puts_element(GRID, [-1, 8], wire.scalar(wire.I4, 40_000), BAD_INDEX_CODE),
+        puts_element(GRID, [-1, 5], wire.scalar(wire.BSTR, b"a\0"), TYPE_MISMATCH),
+        puts_element(GRID, [-1, 5], SIX, TYPE_MISMATCH),
+        puts_element(GRID, [-1, 5], HALF, BAD_VAR_TYPE),
+        gets(GRID, SIX),
+        puts_element(GRID, [0, 6], wire.scalar(wire.CY, 25_000)),
+        element(GRID, [0, 6], short_of(2), flags=4),
+        puts_element(GRID, [0, 6], wire.scalar(wire.EMPTY)),
+        element(GRID, [0, 6], short_of(0)),
+        element(COUNT_ID, [0], code=TYPE_MISMATCH),
+        element(CLEAR, [0], code=MEMBER_NOT_FOUND, flags=1),
+        element(VERSION_ID, [0], code=TYPE_MISMATCH),
+        puts_element(VERSION_ID, [0], FOUR, MEMBER_NOT_FOUND),
+        element(GRID, [0, 7], code=E_INVALIDARG, named=(-3,), values=(FOUR,)),
+        element(GRID, [0, 7], code=BAD_PARAM_COUNT, values=(FOUR,)),
+        element(GRID, [0, 7], code=DISCONNECTED, number=2),
+        puts(ANY_VALUE, wire.array(wire.I4, [(2, 2**31 - 1)], [1, 2])),
+        element(ANY_VALUE, [2**31 - 1], wire.scalar(wire.I4, 1)),
+        element(ANY_VALUE, [-(2**31)], code=BAD_INDEX_CODE),
+        puts(ANY_VALUE, wire.array(wire.VARIANT, [(1, 0)], [(wire.I2, 7)])),
+        puts_element(ANY_VALUE, [0], HI),
+        element(ANY_VALUE, [0], HI),
+        puts_element(ANY_VALUE, [0], SIX, TYPE_MISMATCH),
+    ],
+)
+talk(
+    "locks of an array",
+    FULL,
+    [
+        puts(GRID, SIX),
+        locks(GRID, 1),
+        locks(GRID, 2),
+        redim(GRID, 1, 0, ARRAY_IS_LOCKED),
+        redim(GRID, 65_536, 0, ARRAY_IS_LOCKED),
+        puts(GRID, SIX, ARRAY_IS_LOCKED),
+        puts_element(GRID, [0, 7], short_of(60)),
+        element(GRID, [0, 7], short_of(60)),
+        releases(1, ARRAY_IS_LOCKED),
+        unlocks(GRID, 1),
+        unlocks(GRID, 0),
+        unlocks(GRID, 0, E_UNEXPECTED),
+        redim(GRID, 1, 0),
+        gets(GRID, wire.array(wire.I2, [(1, 0), (3, 5)], [1, 2, 3])),
+        redim(GRID, 3, 10),
+        gets(GRID, wire.array(wire.I2, [(3, 10), (3, 5)], [1, 2, 3, 0, 0, 0, 0, 0, 0])),
+        element(GRID, [10, 7], short_of(3)),
+        redim(GRID, 21_846, 0, E_INVALIDARG),
+        locks(GRID, 1),
+        releases(1, ARRAY_IS_LOCKED),
+        unlocks(GRID, 0),
+        releases(1),
+        of(1, COUNT_ID, None, DISCONNECTED),
+        creates(2),
+        lists(2),
+    ],
+)
+talk(
+    "an array that was never put",
+    FULL,
+    [
+        gets(GRID, wire.zero_array(wire.I2)),
+        element(GRID, [0], code=BAD_INDEX_CODE),
+        puts_element(GRID, [0], FOUR, BAD_INDEX_CODE),
+        locks(GRID, 0, E_UNEXPECTED),
+        unlocks(GRID, 0, E_UNEXPECTED),
+        redim(GRID, 65_537, 0, E_INVALIDARG),
+        gets(GRID, wire.zero_array(wire.I2)),
+        redim(GRID, 2, 0),
+        element(GRID, [1], short_of(0)),
+        element(COUNT_ID, [0], code=TYPE_MISMATCH),
+        redim(COUNT_ID, 2, 0, TYPE_MISMATCH),
+        locks(COUNT_ID, 0, TYPE_MISMATCH),
+        locks(ANY_VALUE, 0, TYPE_MISMATCH),
+        unlocks(ANY_VALUE, 0, TYPE_MISMATCH),
+        redim(ANY_VALUE, 2, 0, TYPE_MISMATCH),
+        element(ANY_VALUE, [0], code=TYPE_MISMATCH),
+    ],
+)
+talk("locks at their limit", FULL, [puts(GRID, SIX)] + [locks(GRID, count) for count in range(1, 65_536)] + [locks(GRID, 0, E_UNEXPECTED), unlocks(GRID, 65_534), locks(GRID, 65_535), locks(GRID, 0, E_UNEXPECTED)])
+
+# --- memory that is refused in a session: the request is answered, and nothing is changed
+
+E_OUTOFMEMORY = 0x8007_000E
+HOLDERS, BYTES = 64, 2
+full_array, no_array = wire.array(wire.UI1, [(65_536, 0)], [7] * 65_536), wire.zero_array(wire.UI1)
+asked = [CREATE + b"\n"] * HOLDERS
+asked += [wire.put(number, number, BYTES, full_array) for number in range(1, HOLDERS + 1)]
+asked += [wire.put(1, 1, BYTES, no_array)] + [wire.get(number, number, BYTES) for number in range(2, HOLDERS + 1)]
+status, out, err = run(["play", "lib.idl", "--hex"], b"".join(asked), files={"lib.idl": ARRAYS}, before=within(48_000_000))
+answers = (out or b"").splitlines(keepends=True)
+put = answers[HOLDERS : 2 * HOLDERS]
+kept = [answer == wire.reply(number) for number, answer in enumerate(put, 1)]
+codes = all(answer == wire.reply(number, 0 if it else E_OUTOFMEMORY) for (number, answer), it in zip(enumerate(put, 1), kept))
+got = [wire.reply(1)] + [wire.reply(number, fields=wire.field(full_array if it else no_array)) for number, it in enumerate(kept[1:], 2)]
+tell("memory is refused in a session", (status, err, len(kept), True in kept, False in kept, codes, answers[2 * HOLDERS :] == got) == (0, b"", HOLDERS, True, True, True, True), (status, err, kept, codes))
+
 # --- names and type information
 
 UNKNOWN_NAME, BAD_INDEX, NOT_IMPLEMENTED = 0x8002_0006, 0x8002_000B, 0x8000_4001
@@ -417,6 +889,8 @@ checked("the full library", FULL, 0, CANONICAL, b"")
 checked("a canonical text", CANONICAL, 0, CANONICAL, b"")
 case("check: a library that is not there", ["check", "none.idl"], 1, b"", b"oaut: cannot read none.idl\n")
 case("check: a folder for a library", ["check", "."], 1, b"", b"oaut: cannot read .\n")
+case("check: a file's name with control characters", ["check", "a\nb\x1b[2J\x7f\u009b\té"], 1, b"", "oaut: cannot read a\\u{a}b\\u{1b}[2J\\u{7f}\\u{9b}\\u{9}é\n".encode())
+case("play: a file's name with a control character", ["play", "none\r.idl", "--hex"], 1, b"", b"oaut: cannot read none\\u{d}.idl\n")
 with open("/dev/full", "wb") as full:
     checked("standard output that takes nothing", FULL, 1, None, b"oaut: write fault\n", stdout=full)
 case("a library that is not there", ["play", "none.idl", "--hex"], 1, b"", b"oaut: cannot read none.idl\n")
@@ -467,9 +941,7 @@ for name, at, text in (("UTF-8", None, b"limit text"), ("not UTF-8 at its end", 
             if at is not None:
                 file.seek(at)
                 file.write(b"\xff")
-        limit = lambda: resource.setrlimit(resource.RLIMIT_AS, (32_000_000, 32_000_000))
-        done = subprocess.run([PROGRAM, "check", "lib.idl"], cwd=room, capture_output=True, preexec_fn=limit, timeout=120)
-        tell(f"check: 300 MB in 32 MB, {name}", (done.returncode, done.stdout, done.stderr) == (2, b"", b"oaut: " + text + b"\n"), done)
+        case(f"check: 300 MB in 32 MB, {name}", ["check", f"{room}/lib.idl"], 2, b"", b"oaut: " + text + b"\n", before=within(32_000_000))
 
 # --- where a syntax fault stands
 
@@ -488,19 +960,20 @@ shows("characters of two bytes before the place", b"/*\xc3\xa9*/ ;", 7, 1, 7, b"
 shows("lines that end by CR, the end of the text", HEAD + b"\rlibrary", 52, 2, 8, b"library", b" " * 7)
 shows("the end of the text behind a line's end", HEAD + b"\n\n", 46, 3, 1, b"", b"")
 shows("a control character", b"\n \x1b[1m", 2, 2, 2, b" ?[1m", b" ")
+case("check --where: a file's name with control characters", ["check", "--where", "a\n"], 2, b"", b"oaut: syntax at byte 0\na\\u{a}:1:1: ;\n            ^\n", files={"a\n": b";"})
 case("check --where: standard input", ["check", "--where", "-"], 2, b"", b"oaut: syntax at byte 0\n-:1:1: ;\n       ^\n", given=b";")
 case("check --where: a library", ["check", "--where", "lib.idl"], 0, CANONICAL, b"", files={"lib.idl": FULL})
 case("check --where: a fault without a place", ["check", "--where", "lib.idl"], 2, b"", b"oaut: limit text\n", files={"lib.idl": SMALL + b" " * 262_145})
 
 # --- the command line
 
-for words in ([], ["play"], ["play", "lib.idl"], ["play", "--hex"], ["play", "lib.idl", "--hex", "more"], ["play", "lib.idl", "--wide"], ["check"], ["check", "lib.idl", "--hex"], ["check", "lib.idl", "more"], ["check", "--where"], ["play", "lib.idl", "--hex", "--where"], ["serve"], ["help"]):
+for words in ([], ["play"], ["play", "--hex"], ["play", "lib.idl", "--hex", "more"], ["play", "lib.idl", "--wide"], ["check"], ["check", "lib.idl", "--hex"], ["check", "lib.idl", "more"], ["check", "--where"], ["play", "lib.idl", "--hex", "--where"], ["serve"], ["help"]):
     status, out, err = run(words, files={"lib.idl": SMALL})
     tell(f"the words {words} are refused", (status, out, err.startswith(b"error: "), b"--help" in err) == (2, b"", True, True), (status, out, err))
 for words, said in (
     (["--help"], b"Usage: oaut <COMMAND>"),
     (["--help"], b"\n  oaut play examples/small.idl --hex < examples/first.hex\n"),
-    (["play", "--help"], b"Usage: oaut play --hex <LIB>"),
+    (["play", "--help"], b"Usage: oaut play [OPTIONS] <LIB>"),
     (["play", "--help"], b"\n  oaut play examples/small.idl --hex < examples/first.hex\n"),
     (["check", "--help"], b"Usage: oaut check [OPTIONS] <LIB>"),
     (["check", "--help"], b"\n  oaut check examples/full.idl\n  oaut check --where - < examples/full.idl\n"),
@@ -508,6 +981,11 @@ for words, said in (
 ):
     status, out, err = run(words)
     tell(f"the words {words} are answered", (status, said in out, err) == (0, True, b""), (status, out, err))
+with open("/dev/full", "wb") as full:
+    for words in (["--help"], ["--version"], ["play", "--help"], ["check", "--help"]):
+        case(f"the words {words}, and standard output takes nothing", words, 1, None, b"oaut: write fault\n", stdout=full)
+for words in ([b"check", b"\xff.idl"], [b"play", b"lib.idl", b"--hex\xc3"], [b"\xed\xa0\x80"]):
+    case(f"the words {words}", words, 2, b"", b"oaut: command line is not UTF-8\n")
 
 print(f"{counts[True]} passed, {counts[False]} failed")
 sys.exit(1 if counts[False] else 0)

@@ -588,7 +588,7 @@ with play(f"{ROOT}/examples/small.idl") as server:
     except oaut.Unexpected:
         tell("65,537 objects", True)
 
-# what the server does not have yet
+# conversion and parameters, and what the server does not have yet
 
 with play(FULL) as server:
     item = server.create("Item")
@@ -605,40 +605,26 @@ with play(FULL) as server:
             pass
         return True
 
-    try:
-        item.Count = Currency("2.5")
-        coerces = True
-    except oaut.TypeMismatch:
-        coerces = False
-        skipped.append("coercion")
-    if coerces:
-        for given, kept in ((Currency("2.5"), 2), (Currency("3.5"), 4), (Currency("-2.5"), -2), (I8(7), 7), (EMPTY, 0), (True, -1)):
-            item.Count = given
-            same(f"{given!r} as a long", item.Count, I4(kept))
-        item.Count = 6
-        raises("a number too large", oaut.Overflow, lambda: setattr(item, "Count", 2**31), index=0, argument="the new value")
-        same("the value stays", item.Count, I4(6))
-        item.Flag = 3
-        same("a number as a BOOL", item.Flag, True)
-    try:
-        item.Cell[5, "k"]
-        binds = True
-    except oaut.MemberNotFound:
-        binds = False
-        skipped.append("parameters")
-    if binds:
-        item.Cell.put("x", Row=5, Key="k")
-        same("a cell by its key", [item.Cell[5, "k"], item.Cell(5, Key="k"), item.Cell(5, "k", 1), item.Cell(Key="k", Row=5, Page=1)], ["x"] * 4)
-        same("a cell by another key", [item.Cell[5, "K"], item.Cell(5, "k", 2)], [None, None])
-        item.Cell[5, "k"] = "y"
-        same("a cell that was put again", item.Cell(5, Key="k", Page=oaut.MISSING), "y")
-        raises("no arguments", oaut.ParamNotOptional, lambda: item.Cell())
-        raises("arguments too many", oaut.BadParamCount, lambda: item.Cell(5, "k", 1, 1))
-        raises("a text for a row", oaut.TypeMismatch, lambda: item.Cell("a", "k"), index=1, argument="Row")
-        raises("a text for a row by its name", oaut.TypeMismatch, lambda: item.Cell(Row="a", Key="k"), index=0, argument="Row")
-        raises("a row too large", oaut.Overflow, lambda: item.Cell(2**31, "k"), index=1, argument="Row")
-        request = oaut.ask_invoke(1, 9, 2, (7,), (oaut.spell("k"), oaut.spell("k"), oaut.spell(5)))
-        raises("a parameter that is none", oaut.ParamNotFound, lambda: server.ask(request, bytes), index=0)
+    for given, kept in ((Currency("2.5"), 2), (Currency("3.5"), 4), (Currency("-2.5"), -2), (I8(7), 7), (EMPTY, 0), (True, -1)):
+        item.Count = given
+        same(f"{given!r} as a long", item.Count, I4(kept))
+    item.Count = 6
+    raises("a number too large", oaut.Overflow, lambda: setattr(item, "Count", 2**31), index=0, argument="the new value")
+    same("the value stays", item.Count, I4(6))
+    item.Flag = 3
+    same("a number as a BOOL", item.Flag, True)
+    item.Cell.put("x", Row=5, Key="k")
+    same("a cell by its key", [item.Cell[5, "k"], item.Cell(5, Key="k"), item.Cell(5, "k", 1), item.Cell(Key="k", Row=5, Page=1)], ["x"] * 4)
+    same("a cell by another key", [item.Cell[5, "K"], item.Cell(5, "k", 2)], [None, None])
+    item.Cell[5, "k"] = "y"
+    same("a cell that was put again", item.Cell(5, Key="k", Page=oaut.MISSING), "y")
+    raises("no arguments", oaut.ParamNotOptional, lambda: item.Cell())
+    raises("arguments too many", oaut.BadParamCount, lambda: item.Cell(5, "k", 1, 1))
+    raises("a text for a row", oaut.TypeMismatch, lambda: item.Cell("a", "k"), index=1, argument="Row")
+    raises("a text for a row by its name", oaut.TypeMismatch, lambda: item.Cell(Row="a", Key="k"), index=0, argument="Row")
+    raises("a row too large", oaut.Overflow, lambda: item.Cell(2**31, "k"), index=1, argument="Row")
+    request = oaut.ask_invoke(1, 9, 2, (7,), (oaut.spell("k"), oaut.spell("k"), oaut.spell(5)))
+    raises("a parameter that is none", oaut.ParamNotFound, lambda: server.ask(request, bytes), index=0)
     head = (9, 8, 2, (), ())
     if stands("elements", oaut.ask_call(oaut.GETELEM, *head) + oaut.indices_field([0])) and stands("elements", oaut.ask_call(oaut.PUTELEM, *head) + oaut.indices_field([0]) + oaut.variant_field(oaut.spell(1))):
         same("elements", [item.Grid[-1, 5], item.Grid[0, 7]], [I2(1), I2(6)])

@@ -71,6 +71,21 @@ def type_info(tag, index):
     return line(tag, oaut.ask_type_info(index))
 
 
+def release(tag, object):
+    """A RELEASE, as a line."""
+    return line(tag, oaut.ask_release(object))
+
+
+def live_objects(tag):
+    """A LIST, as a line."""
+    return line(tag, oaut.ask_list())
+
+
+def objects(coclass, numbers):
+    """The fields of a reply to a LIST of objects of one coclass, whose GUID is spelled so on the wire."""
+    return struct.pack("<II", len(numbers), 0) + b"".join([struct.pack("<II", number, 0) + coclass for number in numbers])
+
+
 def reply(tag, code=0, index=oaut.NO_INDEX, fields=b""):
     """A reply, as a line."""
     return (struct.pack("<IIII", tag, code, index, 0) + fields).hex().encode() + b"\n"

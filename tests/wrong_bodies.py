@@ -49,6 +49,7 @@ EDITS = {
     "a_step_too_long": ("old:     n + STEP\nnew:     n + STEP + 1\n", "refused: above: what the function ensures"),
     "one_step_alone": ("old:     above(above(n))\nnew:     above(n)\n", "refused: twice_above: what the function ensures"),
     "the_greater": ("old:     if a < b { a } else { b }\nnew:     if a < b { b } else { a }\n", "refused: lesser: what the function ensures"),
+    "two_steps_by_name": ("old:     above(above(n))\nnew:     let next = above(n); above(next)\n", "NOT REFUSED: twice_above: proved with this edit"),
     "equal_numbers_the_other_way": ("old: if a < b\nnew: if a <= b\n", "NOT REFUSED: lesser: proved with this edit"),
     "a_longer_step": ("falls: above\nold: const STEP: u8 = 2;\nnew: const STEP: u8 = 3;\n", "refused: above: what the function ensures"),
     "a_constant_that_names_none": ("old: const STEP: u8 = 2;\nnew: const STEP: u8 = 3;\n", "not tried: its text"),

@@ -175,7 +175,8 @@ fn is_bound(alloc: Global, library: &Library, row: &str) -> Option<bool> {
     let (form, row) = row.split_once('|')?;
     let (named, row) = row.split_once('|')?;
     let (arguments, answer) = row.split_once('|')?;
-    let member = library.property(&interface, id.parse::<i32>().ok()?)?;
+    let interface = library.interface(&interface)?;
+    let member = interface.property(id.parse::<i32>().ok()?)?;
     let kind = if form == "put" { Kind::Put } else { Kind::Get };
     let named = dispids(alloc, named)?;
     if named.len() > 32 {

@@ -222,6 +222,7 @@ impl Bank {
         requires { self.old.place + bank_bytes ≤ D.size_of disk.old }
 
         ensures found { IfOk result (λ r. IsTrue (D.is_honest disk.new) → IsBank (from_place self.old.place (D.contents disk.old)) r.0.items r.1 self.new.gate) }
+        ensures numbered { IfOk result (λ r. is_numbered r.1 ≡ true) }
         ensures bank { OnOk result (IsAt self.old.place self.new.gate self.old.stopped self.new) }
         // `Damaged` with the place on the disk of the first part that fails.
         ensures damaged { (at : ℕ) → IsErrOf result (BankFault.Damaged at) → (self.new ≡ self.old)

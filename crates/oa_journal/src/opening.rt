@@ -1,7 +1,8 @@
 //! Reading a bank from a disk.
-ghost use Rattle.std.specs.Prelude.{◌≡◌, ◌+◌, ◌-◌, ◌^◌, ◌<◌, ◌≤◌, ℕ, List, IsTrue, length, IfOk, IsErrOf};
+ghost use Rattle.std.specs.Prelude.{◌≡◌, ◌+◌, ◌-◌, ◌^◌, ◌<◌, ◌≤◌, ℕ, List, IsTrue, length, IfOk, IsErrOf, true};
 ghost use Rattle.oa_disk.specs.Disk.{Holds};
 ghost use Rattle.oa_disk.specs.declared.disk.DeviceFault.{DeviceFault};
+ghost use Rattle.oa_image.specs.Tables.{is_numbered};
 ghost use Rattle.oa_journal.specs.declared.bank.BankFault.{BankFault};
 ghost use Rattle.oa_journal.specs.Bank.{bank_bytes, from_place, IsBank, HasLibrary};
 ghost use Rattle.oa_journal.specs.Damages.{IsDamagedHeader, IsDamagedAt};
@@ -106,6 +107,7 @@ pub(crate) fn bank_at<D: Disk>(
     requires on_a_disk { place + bank_bytes < 2 ^ 63 }
 
     ensures found { IfOk result (λ r. IsTrue (D.is_honest disk.new) → IsBank (from_place place (D.contents disk.old)) r.0.items r.1 r.2) }
+    ensures numbered { IfOk result (λ r. is_numbered r.1 ≡ true) }
     ensures gate { IfOk result (λ r. r.2 < bank_bytes) }
     ensures damaged { (at : ℕ) → IsErrOf result (BankFault.Damaged at)
         → IsTrue (D.is_honest disk.new) → (offset : ℕ) × (at ≡ place + offset) × IsDamagedAt (from_place place (D.contents disk.old)) offset }

@@ -6,3 +6,4 @@ pub mod Reading
 pub mod Shown
 pub mod Judging
 pub mod Replies
+pub mod Faults

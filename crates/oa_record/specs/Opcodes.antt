@@ -35,16 +35,16 @@ opcode_named n =
 -- The opcodes whose requests are read. A body of another one is bad stub data until its line here says true.
 abbrev pub is_listed : Opcode → Bool
 is_listed opcodes.Create = true
-is_listed opcodes.Release = false
+is_listed opcodes.Release = true
 is_listed opcodes.GetIds = true
 is_listed opcodes.Invoke = true
-is_listed opcodes.GetElement = false
-is_listed opcodes.PutElement = false
-is_listed opcodes.Redimension = false
-is_listed opcodes.Lock = false
-is_listed opcodes.Unlock = false
+is_listed opcodes.GetElement = true
+is_listed opcodes.PutElement = true
+is_listed opcodes.Redimension = true
+is_listed opcodes.Lock = true
+is_listed opcodes.Unlock = true
 is_listed opcodes.TypeInfo = true
-is_listed opcodes.Objects = false
+is_listed opcodes.Objects = true
 
 abbrev pub only_listed : Option Opcode → Option Opcode
 only_listed None = None

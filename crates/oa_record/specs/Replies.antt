@@ -1,9 +1,9 @@
--- The bytes of a reply (this project's choice): its length, not counted in itself; tag, code, index and a reserved number; the fields of its body.
-use Rattle.std.specs.Prelude.{◌≡◌, ℕ, ℤ, ◌+◌, List, ◌++◌, length, replicate, Option, Some, None, Result, Ok, Err}
+-- The bytes of a reply (this project's choice): tag, code, index and a reserved number; the fields of its body.
+use Rattle.std.specs.Prelude.{ℕ, ℤ, List, ◌++◌, length, replicate, Option, Some, None}
 use Rattle.std.specs.Int.{to_le_bytes, cast_unsigned, w16, w32}
 use Rattle.std.specs.List.{flat_map}
-use Rattle.std.specs.Io.KnownBytes.{Appends}
 use Rattle.oa_ndr.specs.Forms.{padding}
+use Rattle.oa_model.specs.Guids.{wire_order}
 use Rattle.oa_model.specs.declared.hresult.HResult.{HResult}
 use Rattle.oa_variant.specs.declared.variant.Variant.{Variant}
 use Rattle.oa_wire_variant.specs.Canon.{canon}
@@ -31,27 +31,15 @@ reply_head r = word r.tag ++ (word r.code.0 ++ (word (index_word r.index) ++ wor
 abbrev pub reply_record : ReplyValue → List ℕ
 reply_record r = reply_head r ++ r.body
 
--- a reply with its length
-abbrev pub reply_bytes : ReplyValue → List ℕ
-reply_bytes r = word (16 + length r.body) ++ reply_record r
-
--- no more than a first part of the bytes was written
-pub record Breaks (old new : Option (List ℕ)) (bytes : List ℕ) : Type 0 where
-  pub part : List ℕ
-  pub rest : List ℕ
-  pub whole : bytes ≡ part ++ rest
-  pub written : Appends old new part
-
--- all bytes were written, or the writer failed on the way
-abbrev pub Puts : {E : Type 0} → Result (Unit {0}) E → Option (List ℕ) → Option (List ℕ) → List ℕ → Type 0
-Puts (Ok u) old new bytes = Appends old new bytes
-Puts (Err e) old new bytes = Breaks old new bytes
-
 -- ---- fields of replies
 
 -- a number and a reserved number
 abbrev pub number_field : ℕ → List ℕ
 number_field n = word n ++ word 0
+
+-- an object in a list of objects: its number, a reserved number, the GUID of its coclass
+abbrev pub object_field : ℕ → List ℕ → List ℕ
+object_field number class = number_field number ++ wire_order class
 
 -- bytes, and zeros up to a multiple of 8
 abbrev pub padded : List ℕ → List ℕ

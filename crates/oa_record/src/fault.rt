@@ -2,7 +2,9 @@
 ghost use Rattle.std.specs.Prelude.{◌≡◌};
 ghost use Rattle.oa_record.specs.declared.fault.FieldFault.TheVariants as field_faults;
 ghost use Rattle.oa_record.specs.declared.fault.RecordFault.TheVariants.{Stub, Memory};
+ghost use Rattle.oa_record.specs.Faults.{code_of, index_told};
 
+use oa_model::HResult;
 use oa_ndr::Short;
 use std::alloc::{AllocError, AllocFailed};
 use thiserror::Error;
@@ -20,6 +22,29 @@ pub enum RecordFault {
     /// The allocator had no block for the values.
     #[error("out of memory")]
     Memory,
+}
+
+impl RecordFault {
+    /// The code of a reply with this refusal (MS-ERREF section 2.1).
+    pub fn code(self) -> HResult
+        ensures { result ≡ code_of self }
+    {
+        match self {
+            RecordFault::Stub => HResult::BAD_STUB_DATA,
+            RecordFault::BadVarType(_) => HResult::DISP_E_BADVARTYPE,
+            RecordFault::Memory => HResult::E_OUTOFMEMORY,
+        }
+    }
+
+    /// The index in rgvarg that the reply tells with it.
+    pub fn index(self) -> Option<u32>
+        ensures { result ≡ index_told self }
+    {
+        match self {
+            RecordFault::BadVarType(index) => index,
+            RecordFault::Stub | RecordFault::Memory => None,
+        }
+    }
 }
 
 impl From<Short> for RecordFault {

@@ -4,16 +4,18 @@ ghost use Rattle.std.specs.List.{flat_map};
 ghost use Rattle.oa_ndr.specs.Forms.{padding};
 ghost use Rattle.oa_variant.specs.declared.variant.Variant.TheVariants.{One};
 ghost use Rattle.oa_wire_variant.specs.Canon.{canon};
-ghost use Rattle.oa_record.specs.Replies.{word, half_word, signed_word, number_field, variant_field, ids_field, string_field};
+ghost use Rattle.oa_record.specs.Replies.{word, half_word, signed_word, number_field, object_field, variant_field, ids_field, string_field};
 ghost use Rattle.oa_record.specs.declared.fault.FieldFault.TheVariants.{TooLong};
 
 use crate::FieldFault;
+use oa_model::guid_to_wire;
 use oa_ndr::NdrOut;
 use oa_variant::{Scalar, Variant};
 use oa_wire_array::{scalar_len, write_scalar};
 use oa_wire_variant::{wire_len, write_variant};
 use std::alloc::{AllocError, Global};
 use std::mem;
+use uuid::Uuid;
 
 /// The most bytes that the fields of a reply have.
 pub const MAX_FIELDS_BYTES: usize = 4_294_967_279;
@@ -44,6 +46,24 @@ pub fn number_field(alloc: Global, number: u32) -> Result<Vec<u8>, AllocError>
     ensures len { IfOk result (λ v. length v.items ≡ 8) }
 {
     Vec::from_slice(alloc, &two_words(number))
+}
+
+/// Adds a number as a field: u32 number, u32 reserved.
+pub fn put_number_field(out: &mut Vec<u8>, number: u32) -> Result<(), AllocError>
+    ensures value { OnOk result (out.new.items ≡ out.old.items ++ number_field number) }
+    ensures len { OnOk result (length out.new.items ≡ length out.old.items + 8) }
+{
+    out.extend_from_slice(&two_words(number))
+}
+
+/// Adds an object to a list of objects: u32 number, u32 reserved, the 16 bytes of its coclass's GUID.
+pub fn put_object_field(out: &mut Vec<u8>, number: u32, class: &Uuid) -> Result<(), AllocError>
+    ensures value { OnOk result (out.new.items ≡ out.old.items ++ object_field number class.now) }
+    ensures len { OnOk result (length out.new.items ≡ length out.old.items + 24) }
+{
+    put_number_field(out, number)?;
+    out.extend_from_slice(&guid_to_wire(class))?;
+    Ok(())
 }
 
 /// Adds a value as a field: u32 count of the value's bytes, u32 reserved, these bytes, zeros up to a multiple of 8.

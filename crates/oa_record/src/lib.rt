@@ -13,20 +13,19 @@ mod raw_call;
 mod reading;
 mod reply;
 mod request;
-mod writing;
 
 pub use arguments::{Arguments, Dispids};
 pub use fault::{FieldFault, RecordFault};
 pub use fields::{
-    MAX_FIELDS_BYTES, ids_field, number_field, put_scalar_field, put_string_field,
-    put_variant_field, scalar_field, string_field, variant_field,
+    MAX_FIELDS_BYTES, ids_field, number_field, put_number_field, put_object_field,
+    put_scalar_field, put_string_field, put_variant_field, scalar_field, string_field,
+    variant_field,
 };
 pub use names::Names;
 pub use opcode::{Opcode, opcode_of};
 pub use reading::{read_request, tag_of};
 pub use reply::Reply;
 pub use request::{Call, CallHead, GetIds, Request};
-pub use writing::put_all;
 
 #[cfg(test)]
 mod tests;

@@ -76,14 +76,17 @@ impl Opcode {
         ensures { result ≡ is_listed self }
     {
         match self {
-            Opcode::Create | Opcode::GetIds | Opcode::Invoke | Opcode::TypeInfo => true,
-            Opcode::Release => false,
-            Opcode::GetElement => false,
-            Opcode::PutElement => false,
-            Opcode::Redimension => false,
-            Opcode::Lock => false,
-            Opcode::Unlock => false,
-            Opcode::Objects => false,
+            Opcode::Create => true,
+            Opcode::Release => true,
+            Opcode::GetIds => true,
+            Opcode::Invoke => true,
+            Opcode::GetElement => true,
+            Opcode::PutElement => true,
+            Opcode::Redimension => true,
+            Opcode::Lock => true,
+            Opcode::Unlock => true,
+            Opcode::TypeInfo => true,
+            Opcode::Objects => true,
         }
     }
 

@@ -1,12 +1,9 @@
 //! Replies.
-ghost use Rattle.std.specs.Prelude.{◌≡◌, ◌≤◌, ◌<◌, ◌+◌, ◌++◌, [], length, replicate, Some, None, IfOk, OnOk, OnErr};
-ghost use Rattle.std.specs.Int.{to_le_bytes, w32};
-ghost use Rattle.oa_record.specs.Replies.{ReplyValue, word, index_word, reply_head, reply_record, reply_bytes, Puts};
+ghost use Rattle.std.specs.Prelude.{◌≡◌, ◌≤◌, [], length};
+ghost use Rattle.oa_record.specs.Replies.{reply_head};
 
-use crate::put_all;
 use oa_model::HResult;
 use std::alloc::Global;
-use std::io::{self, Write};
 use std::marker::Model;
 
 /// A reply: the tag of its request, a code, the index in rgvarg of the argument that the code is about, and its fields, which are at most
@@ -90,23 +87,5 @@ impl Reply {
         let [e, f, g, h] = self.code.0.to_le_bytes();
         let [i, j, k, l] = self.index.unwrap_or(0xFFFF_FFFF).to_le_bytes();
         [a, b, c, d, e, f, g, h, i, j, k, l, 0, 0, 0, 0]
-    }
-
-    /// Writes it with its length before it: u32 length, tag, code, index, reserved, fields. Where the writer fails, a first part of the bytes
-    /// was written, and the writer's error is answered. Takes no memory.
-    pub fn write<W: Write>(&self, writer: &mut W) -> io::Result<()>
-        ensures { Puts result (W.contents writer.old) (W.contents writer.new) (reply_bytes self.now) }
-    {
-        put_all(writer, &self.length())?;
-        put_all(writer, &self.head())?;
-        put_all(writer, self.body())
-    }
-
-    // How many bytes follow the length, as a u32.
-    #[tactic(auto, unfolding(crate::specs::Replies::word))]
-    fn length(&self) -> [u8; 4]
-        ensures { result ≡ word (16 + length self.now.body) }
-    {
-        (16 + self.body.len() as u32).to_le_bytes()
     }
 }

@@ -1,20 +1,25 @@
 // Bodies and replies byte for byte.
 use crate::{
     Arguments, Dispids, Names, Opcode, RecordFault, Reply, Request, ids_field, laws, number_field,
-    opcode_of, put_all, put_scalar_field, put_string_field, put_variant_field, read_request,
-    scalar_field, string_field, tag_of, variant_field,
+    opcode_of, put_number_field, put_object_field, put_scalar_field, put_string_field,
+    put_variant_field, read_request, scalar_field, string_field, tag_of, variant_field,
 };
 use oa_model::HResult;
 use oa_variant::{Scalar, Variant};
 use std::alloc::Global;
-use std::io::{self, ErrorKind, Write};
 use std::rt::HostRuntime;
 use std::test::Fail;
+use uuid::Uuid;
 
 // CREATE of 11223344-5566-7788-99aa-bbccddeeff03, tag 1
 const CREATE: [u8; 24] = [
     1, 0, 0, 0, 1, 0, 0, 0, 0x44, 0x33, 0x22, 0x11, 0x66, 0x55, 0x88, 0x77, 0x99, 0xaa, 0xbb, 0xcc,
     0xdd, 0xee, 0xff, 3,
+];
+
+// That coclass, in the order of print
+const CLASS: [u8; 16] = [
+    0x11, 0x22, 0x33, 0x44, 0x55, 0x66, 0x77, 0x88, 0x99, 0xaa, 0xbb, 0xcc, 0xdd, 0xee, 0xff, 3,
 ];
 
 // INVOKE of object 1, DISPID 1, as a get without arguments, tag 2
@@ -42,6 +47,12 @@ const LOOK_UP: [u8; 104] = [
 // TYPEINFO of the index 1, tag 5
 const INFO: [u8; 16] = [5, 0, 0, 0, 10, 0, 0, 0, 1, 0, 0, 0, 0, 0, 0, 0];
 
+// RELEASE of object 7, tag 8
+const RELEASE: [u8; 16] = [8, 0, 0, 0, 2, 0, 0, 0, 7, 0, 0, 0, 9, 9, 9, 9];
+
+// LIST, tag 9
+const LIST: [u8; 8] = [9, 0, 0, 0, 11, 0, 0, 0];
+
 // The field of I4 7 in a body.
 const FIELD: [u8; 32] = [
     24, 0, 0, 0, 0, 0, 0, 0, 3, 0, 0, 0, 0, 0, 0, 0, 3, 0, 0, 0, 0, 0, 0, 0, 3, 0, 0, 0, 7, 0, 0, 0,
@@ -65,17 +76,21 @@ fn class_of(request: &Request) -> Option<[u8; 16]> {
 
 #[test]
 fn a_create_names_its_coclass(rt: HostRuntime) -> Result<(), Fail> {
-    let class = [
-        0x11, 0x22, 0x33, 0x44, 0x55, 0x66, 0x77, 0x88, 0x99, 0xaa, 0xbb, 0xcc, 0xdd, 0xee, 0xff, 3,
-    ];
     assert_eq!(rt; tag_of(&CREATE), 1);
     let request = read_request(rt.alloc(), &CREATE).ok().ok_or("no request")?;
-    assert_eq!(rt; class_of(&request), Some(class));
+    assert_eq!(rt; class_of(&request), Some(CLASS));
     laws::one_request();
     laws::refused_asks_nothing();
     laws::one_refusal();
     laws::opcode_stands();
     laws::one_number();
+    assert_eq!(rt; RecordFault::Stub.code(), HResult::BAD_STUB_DATA);
+    assert_eq!(rt;
+        RecordFault::BadVarType(Some(2)).code(),
+        HResult::DISP_E_BADVARTYPE
+    );
+    assert_eq!(rt; RecordFault::BadVarType(Some(2)).index(), Some(2));
+    assert_eq!(rt; RecordFault::Memory.code(), HResult::E_OUTOFMEMORY);
     Ok(())
 }
 
@@ -180,19 +195,32 @@ fn a_type_info_has_its_index(rt: HostRuntime) -> Result<(), Fail> {
 }
 
 #[test]
+fn a_release_has_its_object_and_a_list_has_nothing(rt: HostRuntime) -> Result<(), Fail> {
+    match read_request(rt.alloc(), &RELEASE) {
+        Ok(Request::Release { object }) => assert_eq!(rt; object, 7),
+        _ => return Err("no RELEASE".into()),
+    }
+    match read_request(rt.alloc(), &LIST) {
+        Ok(Request::Objects) => (),
+        _ => return Err("no LIST".into()),
+    }
+    Ok(())
+}
+
+#[test]
 fn each_opcode_has_its_number(rt: HostRuntime) -> Result<(), Fail> {
     let rows = [
         (1u8, Opcode::Create, true),
-        (2, Opcode::Release, false),
+        (2, Opcode::Release, true),
         (3, Opcode::GetIds, true),
         (4, Opcode::Invoke, true),
-        (5, Opcode::GetElement, false),
-        (6, Opcode::PutElement, false),
-        (7, Opcode::Redimension, false),
-        (8, Opcode::Lock, false),
-        (9, Opcode::Unlock, false),
+        (5, Opcode::GetElement, true),
+        (6, Opcode::PutElement, true),
+        (7, Opcode::Redimension, true),
+        (8, Opcode::Lock, true),
+        (9, Opcode::Unlock, true),
         (10, Opcode::TypeInfo, true),
-        (11, Opcode::Objects, false),
+        (11, Opcode::Objects, true),
     ];
     for (number, opcode, listed) in rows {
         assert_eq!(rt; opcode_of(&[1, 0, 0, 0, number, 0, 9, 9]), Some(opcode));
@@ -218,6 +246,8 @@ fn what_is_cut_or_goes_on_is_stub(rt: HostRuntime) -> Result<(), Fail> {
         PUT.as_slice(),
         LOOK_UP.as_slice(),
         INFO.as_slice(),
+        RELEASE.as_slice(),
+        LIST.as_slice(),
     ] {
         for end in 0..body.len() {
             assert_eq!(rt; refusal(rt.alloc(), &body[..end]), Some(RecordFault::Stub));
@@ -266,42 +296,12 @@ fn the_lowest_bad_type_is_named_where_no_field_is_broken(rt: HostRuntime) -> Res
     Ok(())
 }
 
-// A writer with room for some bytes, which takes three a call.
-#[derive(Drop)]
-struct Narrow {
-    taken: Vec<u8>,
-    room: usize,
-}
-
-impl Write for Narrow {
-    fn write(&mut self, bytes: &[u8]) -> io::Result<usize> {
-        let n = bytes.len().min(3).min(self.room);
-        if n == 0 {
-            return Err(io::Error::from(ErrorKind::StorageFull));
-        }
-        self.taken.extend_from_slice(&bytes[..n])?;
-        self.room -= n;
-        Ok(n)
-    }
-
-    fn flush(&mut self) -> io::Result<()> {
-        Ok(())
-    }
-}
-
 #[test]
-fn replies_are_written_as_laid_out(rt: HostRuntime) -> Result<(), Fail> {
+fn replies_are_laid_out(rt: HostRuntime) -> Result<(), Fail> {
     let created = Reply::new(1, HResult::S_OK, None, number_field(rt.alloc(), 1)?);
-    let mut out = Vec::new(rt.alloc());
-    created.write(&mut out)?;
-    let want = [
-        24u8, 0, 0, 0, 1, 0, 0, 0, 0, 0, 0, 0, 0xff, 0xff, 0xff, 0xff, 0, 0, 0, 0, 1, 0, 0, 0, 0,
-        0, 0, 0,
-    ];
-    assert_eq!(rt; out.as_slice(), want.as_slice());
-    put_all(&mut out, &[9])?;
-    assert_eq!(rt; out.len(), 29);
-    assert_eq!(rt; out[28], 9);
+    let head = [1u8, 0, 0, 0, 0, 0, 0, 0, 0xff, 0xff, 0xff, 0xff, 0, 0, 0, 0];
+    assert_eq!(rt; created.head(), head);
+    assert_eq!(rt; created.body(), [1u8, 0, 0, 0, 0, 0, 0, 0].as_slice());
     let got = variant_field(rt.alloc(), &Variant::One(Scalar::I4(7)))?;
     assert_eq!(rt; got.as_slice(), FIELD.as_slice());
     let short = variant_field(rt.alloc(), &Variant::One(Scalar::Bool(true)))?;
@@ -313,20 +313,6 @@ fn replies_are_written_as_laid_out(rt: HostRuntime) -> Result<(), Fail> {
     assert_eq!(rt; refused.body().len(), 0);
     let head = [7u8, 0, 0, 0, 5, 0, 2, 0x80, 2, 0, 0, 0, 0, 0, 0, 0];
     assert_eq!(rt; refused.head(), head);
-    for room in 0..28 {
-        let mut narrow = Narrow {
-            taken: Vec::new(rt.alloc()),
-            room,
-        };
-        assert!(rt; created.write(&mut narrow).is_err());
-        assert_eq!(rt; narrow.taken.as_slice(), &want[..room]);
-    }
-    let mut wide = Narrow {
-        taken: Vec::new(rt.alloc()),
-        room: 28,
-    };
-    created.write(&mut wide)?;
-    assert_eq!(rt; wide.taken.as_slice(), want.as_slice());
     Ok(())
 }
 
@@ -351,6 +337,14 @@ fn fields_are_padded(rt: HostRuntime) -> Result<(), Fail> {
     assert_eq!(rt; &body[..24], ITEM.as_slice());
     assert_eq!(rt; &body[24..56], FIELD.as_slice());
     assert_eq!(rt; &body[56..], FIELD.as_slice());
+    let mut objects = Vec::new(rt.alloc());
+    put_number_field(&mut objects, 1)?;
+    put_object_field(&mut objects, 2, &Uuid::from_bytes(CLASS))?;
+    assert_eq!(rt;
+        &objects[..16],
+        [1u8, 0, 0, 0, 0, 0, 0, 0, 2, 0, 0, 0, 0, 0, 0, 0].as_slice()
+    );
+    assert_eq!(rt; &objects[16..], &CREATE[8..]);
     let seven = scalar_field(rt.alloc(), &Scalar::I4(7))?;
     assert_eq!(rt; seven.as_slice(), FIELD.as_slice());
     Ok(())

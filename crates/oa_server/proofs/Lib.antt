@@ -3,3 +3,7 @@ pub mod Quiet
 pub mod Named
 pub mod Zeros
 pub mod Wants
+pub mod Added
+pub mod Refused
+pub mod Keys
+pub mod Reached

@@ -9,30 +9,40 @@ use Rattle.oa_table.specs.declared.fault.TableFault.{TableFault}
 use Rattle.oa_table.specs.Events.{applied}
 use Rattle.oa_table.specs.Tables.{TableValue}
 use Rattle.oa_server.specs.declared.decision.Decision.{Decision}
-use Rattle.oa_server.specs.declared.decision.Decision.TheVariants.{Answer, Change}
+use Rattle.oa_server.specs.declared.decision.Decision.TheVariants.{Answer, Change, Relock}
 use Rattle.oa_server.specs.declared.refusal.Refusal.{Refusal}
-use Rattle.oa_server.specs.Decisions.{after_event, changed, outcome_of}
+use Rattle.oa_server.specs.declared.decision.LockChange.{LockChange}
+use Rattle.oa_server.specs.Decisions.{IsQuiet, Outcome, after_outcome, changed, outcome_of, relocked, relocking}
 use Rattle.oa_server.specs.States.{State}
 use Rattle.oa_server.specs.Steps.{decided, outcome, reply_of}
 use Rattle.oa_server.specs.Turns.{Turn, Run}
 use Rattle.oa_server.specs.Traces.{done_bodies, done_replies, kept_bodies, kept_replies}
 
-quiet_outcome : (state : State) (due : Result Decision Refusal) → ((outcome_of state due).code.0 ≡ 0 → ⊥) → (outcome_of state due).event ≡ None
-quiet_outcome state (Err r) n = refl
-quiet_outcome state (Ok (Answer code fields)) n = refl
+quiet_outcome : (state : State) (due : Result Decision Refusal) → ((outcome_of state due).code.0 ≡ 0 → ⊥) → IsQuiet (outcome_of state due)
+quiet_outcome state (Err r) n = (refl, refl)
+quiet_outcome state (Ok (Answer code fields)) n = (refl, refl)
 quiet_outcome state (Ok (Change event fields)) n = by (applied event state.table) n
   where
-    by : (due : Result TableValue TableFault) → ((changed event fields due).code.0 ≡ 0 → ⊥) → (changed event fields due).event ≡ None
+    by : (due : Result TableValue TableFault) → ((changed event fields due).code.0 ≡ 0 → ⊥) → IsQuiet (changed event fields due)
     by (Ok table) m = absurd (m refl)
-    by (Err fault) m = refl
+    by (Err fault) m = (refl, refl)
+quiet_outcome state (Ok (Relock change fields)) n = by (relocked change state.table) n
+  where
+    by : (due : Result TableValue TableFault) → ((relocking change fields due).code.0 ≡ 0 → ⊥) → IsQuiet (relocking change fields due)
+    by (Ok table) m = absurd (m refl)
+    by (Err fault) m = (refl, refl)
 
--- its outcome has no event
-pub quiet_step : (state : State) (tag : ℕ) (request : Request) → ((reply_of state tag request).code.0 ≡ 0 → ⊥) → (outcome state request).event ≡ None
+-- an outcome without a change leaves the state
+quiet_leaves : (state : State) (o : Outcome) → IsQuiet o → after_outcome state o ≡ state
+quiet_leaves state o h = rw (h.0, h.1) refl
+
+-- its outcome changes nothing
+pub quiet_step : (state : State) (tag : ℕ) (request : Request) → ((reply_of state tag request).code.0 ≡ 0 → ⊥) → IsQuiet (outcome state request)
 quiet_step state tag request n = quiet_outcome state (decided state request) n
 
 pub quiet_turn : (old new : State) (body : List ℕ) (reply : ReplyValue) → Turn old body reply new → (reply.code.0 ≡ 0 → ⊥) → new ≡ old
 quiet_turn old new body reply (inl s) n =
-    s.leaves ∙ ap (after_event old) (quiet_step old (tag_at body) s.request (λ e. n (ap (λ (r : ReplyValue). r.code.0) s.answers ∙ e)))
+    s.leaves ∙ quiet_leaves old (outcome old s.request) (quiet_step old (tag_at body) s.request (λ e. n (ap (λ (r : ReplyValue). r.code.0) s.answers ∙ e)))
 quiet_turn old new body reply (inr (inl s)) n = s.leaves
 quiet_turn old new body reply (inr (inr (inl s))) n = s.leaves
 quiet_turn old new body reply (inr (inr (inr s))) n = s.leaves

@@ -6,7 +6,7 @@ use Rattle.oa_table.specs.declared.event.Event.{Event}
 use Rattle.oa_table.specs.Events.{applied}
 use Rattle.oa_table.specs.Tables.{TableValue}
 use Rattle.oa_server.specs.declared.decision.Decision.{Decision}
-use Rattle.oa_server.specs.declared.decision.Decision.TheVariants.{Answer, Change}
+use Rattle.oa_server.specs.declared.decision.Decision.TheVariants.{Answer, Change, Relock}
 use Rattle.oa_server.specs.declared.refusal.Refusal.{Refusal}
 use Rattle.oa_server.specs.Create.{class_found, creation}
 use Rattle.oa_server.specs.Refusals.{◌>>=◌}
@@ -18,6 +18,7 @@ abbrev applies : TableValue → Result Decision Refusal → Bool
 applies table (Err r) = true
 applies table (Ok (Answer code fields)) = true
 applies table (Ok (Change event fields)) = is_ok (applied event table)
+applies table (Ok (Relock change fields)) = true
 
 first_ok : {A B : Type 0} (one : Result A Refusal) (more : A → Result B Refusal) (x : B) → (one >>= more) ≡ Ok x → is_ok one ≡ true
 first_ok (Ok y) more x h = refl

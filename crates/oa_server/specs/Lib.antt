@@ -6,7 +6,15 @@ pub mod Create
 pub mod Release
 pub mod LookUps
 pub mod TypeInfo
+pub mod Cells
 pub mod Invoke
+pub mod ArrayCells
+pub mod GetElement
+pub mod PutElement
+pub mod Redimension
+pub mod Lock
+pub mod Unlock
+pub mod Listing
 pub mod Steps
 pub mod Turns
 pub mod Serving

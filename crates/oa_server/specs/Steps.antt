@@ -1,26 +1,26 @@
 -- The step of a request: its outcome, and so its reply and the state after it. A request that is refused changes nothing.
 use Rattle.std.specs.Prelude.{ℕ, Bool, true, is_ok, List, [], Option, Result}
 use Rattle.oa_model.specs.declared.hresult.HResult.{HResult}
-use Rattle.oa_model.specs.Codes.{bad_stub_data}
 use Rattle.oa_record.specs.declared.request.Request.{Request}
 use Rattle.oa_record.specs.declared.request.Request.TheVariants as requests
 use Rattle.oa_record.specs.Replies.{ReplyValue}
 use Rattle.oa_server.specs.declared.decision.Decision.{Decision}
 use Rattle.oa_server.specs.declared.refusal.Refusal.{Refusal}
 use Rattle.oa_server.specs.Create.{class_found, creation}
-use Rattle.oa_server.specs.Decisions.{Outcome, after_event, outcome_of}
+use Rattle.oa_server.specs.Decisions.{Outcome, after_outcome, outcome_of}
+use Rattle.oa_server.specs.GetElement.{element_got}
 use Rattle.oa_server.specs.Invoke.{invocation}
+use Rattle.oa_server.specs.Listing.{listing}
+use Rattle.oa_server.specs.Lock.{locking}
 use Rattle.oa_server.specs.LookUps.{look_up}
-use Rattle.oa_server.specs.Refusals.{refused}
+use Rattle.oa_server.specs.PutElement.{element_put}
+use Rattle.oa_server.specs.Redimension.{redimension}
 use Rattle.oa_server.specs.Release.{ending}
 use Rattle.oa_server.specs.States.{State}
 use Rattle.oa_table.specs.declared.event.Event.TheVariants.{Release}
 use Rattle.oa_table.specs.Events.{applied}
 use Rattle.oa_server.specs.TypeInfo.{information}
-
--- no body asks one of these yet: such a body is bad stub data
-abbrev pub unread : Result Decision Refusal
-unread = refused bad_stub_data
+use Rattle.oa_server.specs.Unlock.{unlocking}
 
 -- what is decided of a request
 abbrev pub decided : State → Request → Result Decision Refusal
@@ -28,13 +28,13 @@ decided state (requests.Create class) = creation state class
 decided state (requests.Release number) = ending number
 decided state (requests.GetIds call) = look_up state call
 decided state (requests.Invoke call) = invocation state call
-decided state (requests.GetElement call indices) = unread
-decided state (requests.PutElement call indices value) = unread
-decided state (requests.Redimension call bound) = unread
-decided state (requests.Lock call) = unread
-decided state (requests.Unlock call) = unread
+decided state (requests.GetElement call indices) = element_got state call indices
+decided state (requests.PutElement call indices value) = element_put state call indices value
+decided state (requests.Redimension call bound) = redimension state call bound
+decided state (requests.Lock call) = locking state call
+decided state (requests.Unlock call) = unlocking state call
 decided state (requests.TypeInfo index) = information state index
-decided state requests.Objects = unread
+decided state requests.Objects = listing state
 
 -- what becomes of it
 abbrev pub outcome : State → Request → Outcome
@@ -53,7 +53,7 @@ reply_of state tag request = reply_with tag (outcome state request)
 
 -- the state after a request
 abbrev pub after : State → Request → State
-after state request = after_event state (outcome state request).event
+after state request = after_outcome state (outcome state request)
 
 -- whether want of memory may be answered: not in place of a refused CREATE or RELEASE
 abbrev pub takes_memory : State → Request → Bool

@@ -1,11 +1,13 @@
 //! What becomes of a request, before anything is changed.
 ghost use Rattle.std.specs.Prelude.{◌≡◌};
+ghost use Rattle.oa_server.specs.Cells.{undecided};
 ghost use Rattle.oa_server.specs.declared.decision.Undecided.TheVariants.{OutOfMemory, Refused};
 
 use crate::fields::Fields;
 use crate::refusal::Refusal;
+use oa_bind::BindFault;
 use oa_model::HResult;
-use oa_table::Event;
+use oa_table::{CellName, Event};
 use std::alloc::{AllocError, AllocFailed};
 
 /// What becomes of a request that is not refused.
@@ -15,6 +17,17 @@ pub(crate) enum Decision {
     Answer { code: HResult, fields: Fields },
     /// The table changes, and the reply then has these fields; it is a refusal where the change is.
     Change { event: Event, fields: Fields },
+    /// The same of a lock.
+    Relock { change: LockChange, fields: Fields },
+}
+
+/// A change of the locks of the array in a cell. Locks are a session's own.
+#[derive(Drop)]
+pub(crate) enum LockChange {
+    /// One more.
+    Lock(CellName),
+    /// One fewer.
+    Unlock(CellName),
 }
 
 /// Why nothing is decided.
@@ -30,6 +43,19 @@ impl From<Refusal> for Undecided {
 
     fn from(refusal: Refusal) -> Undecided {
         Undecided::Refused(refusal)
+    }
+}
+
+impl From<BindFault> for Undecided {
+    ghost from_gives = { λ fault e. e ≡ undecided fault };
+
+    fn from(fault: BindFault) -> Undecided {
+        let BindFault { code, index } = fault;
+        if code == HResult::E_OUTOFMEMORY {
+            Undecided::OutOfMemory
+        } else {
+            Undecided::Refused(Refusal { code, index })
+        }
     }
 }
 

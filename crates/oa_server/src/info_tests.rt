@@ -4,7 +4,8 @@ use std::alloc::Global;
 use std::rt::HostRuntime;
 use std::test::Fail;
 
-const FULL: &str = r#"[uuid(11223344-5566-7788-99AA-BBCCDDEEFF01), version(1.0)] library Demo {
+pub(crate) const FULL: &str =
+    r#"[uuid(11223344-5566-7788-99AA-BBCCDDEEFF01), version(1.0)] library Demo {
 importlib("stdole2.tlb");
 [uuid(11223344-5566-7788-99AA-BBCCDDEEFF02)] dispinterface DItem { properties:
 [id(1)] long Count; [id(2)] BSTR Name; [id(3)] CURRENCY Price; [id(4)] DECIMAL Exact;
@@ -177,18 +178,18 @@ const FLAGS: [(&str, &str); 17] = [
         "0400000004000000010000000aZZ00000000000000050000000100000001000000fdffffff000000001800000000000000030000000000000003000000000000000300000007000000",
         "0400000003000280ffffffff00000000",
     ),
-    // no such member; one that takes parameters is none yet
+    // no such member; one that takes parameters, called with none and with one that is named as none of them is
     (
         "05000000040000000100000063ZZ00000000000000020000000000000000000000",
         "0500000003000280ffffffff00000000",
     ),
     (
         "05000000040000000100000009ZZ00000000000000020000000000000000000000",
-        "0500000003000280ffffffff00000000",
+        "050000000f000280ffffffff00000000",
     ),
     (
         "05000000040000000100000009ZZ0000000000000002000000010000000100000009000000000000001800000000000000030000000000000003000000000000000300000007000000",
-        "0500000003000280ffffffff00000000",
+        "05000000040002800000000000000000",
     ),
     // riid, the interface and the coclass go before
     (
@@ -255,7 +256,7 @@ const MIXED_INFOS: [(&str, &str); 4] = [
 ];
 
 /// Whether a server of this library answers the requests of the rows by their replies.
-fn agrees(alloc: Global, library: &str, rows: &[(&str, &str)]) -> Result<bool, Fail> {
+pub(crate) fn agrees(alloc: Global, library: &str, rows: &[(&str, &str)]) -> Result<bool, Fail> {
     let mut server = server_of(alloc, library)?;
     let replies = answered(alloc, &mut server, rows)?;
     let want = wanted(alloc, rows)?;

@@ -1,7 +1,6 @@
 //! An automation object server: requests to a table, and sessions over a reader and a writer.
 #![tactic(auto)]
 
-mod action;
 mod decision;
 mod fields;
 pub mod laws;
@@ -14,6 +13,8 @@ pub use server::Server;
 
 #[cfg(test)]
 mod array_tests;
+#[cfg(test)]
+mod call_tests;
 #[cfg(test)]
 mod info_tests;
 #[cfg(test)]

@@ -1,27 +1,35 @@
 //! The server: a library and a table, and one turn after another.
 ghost use Rattle.std.specs.Prelude.{◌≡◌, ◌≤◌, [], length, true, map, IsOk, IfOk, OnOk, OnErr};
 ghost use Rattle.oa_record.specs.Asks.{tag_at};
-ghost use Rattle.oa_server.specs.Decisions.{ChangesNoLocks, Decides, Makes, after_event, changed};
+ghost use Rattle.oa_server.specs.Decisions.{ChangesNoLocks, Decides, Makes, Relocks, after_outcome, changed, relocked, relocking};
 ghost use Rattle.oa_server.specs.Steps.{after, decided, reply_of, reply_with, takes_memory};
 ghost use Rattle.oa_server.specs.Turns.{Run, Turn};
 ghost use Rattle.oa_table.specs.Events.{BringsNoLocks, applied};
 ghost use Rattle.oa_table.specs.Tables.{first_table};
 
-use crate::decision::{Decision, Undecided};
+use crate::decision::{Decision, LockChange, Undecided};
 use crate::fields::Fields;
 use crate::refusal::Refusal;
 use oa_model::HResult;
-use oa_record::{RecordFault, Reply, Request, read_request, tag_of};
-use oa_table::{Event, Table, TableFault};
+use oa_record::{Reply, Request, read_request, tag_of};
+use oa_table::{CellName, Event, Table, TableFault};
 use oa_typelib::Library;
 use std::alloc::{AllocError, Global};
 use std::marker::Model;
 
+mod array_cell;
+mod cell;
 mod create;
+mod get_element;
 mod invoke;
+mod listing;
+mod lock;
 mod look_ups;
+mod put_element;
+mod redimension;
 mod release;
 mod type_info;
+mod unlock;
 
 /// An automation object server in memory.
 #[derive(Drop)]
@@ -65,15 +73,7 @@ impl Server {
         let tag = tag_of(body);
         let request = match read_request(self.alloc, body) {
             Ok(request) => request,
-            Err(RecordFault::Stub) => {
-                return Reply::bare(self.alloc, tag, HResult::BAD_STUB_DATA, None);
-            }
-            Err(RecordFault::BadVarType(index)) => {
-                return Reply::bare(self.alloc, tag, HResult::DISP_E_BADVARTYPE, index);
-            }
-            Err(RecordFault::Memory) => {
-                return Reply::bare(self.alloc, tag, HResult::E_OUTOFMEMORY, None);
-            }
+            Err(fault) => return Reply::bare(self.alloc, tag, fault.code(), fault.index()),
         };
         let Ok(reply) = self.perform(tag, request) else {
             return Reply::bare(self.alloc, tag, HResult::E_OUTOFMEMORY, None);
@@ -115,6 +115,7 @@ impl Server {
                 Ok(Reply::new(tag, code, None, fields.into_vec()))
             }
             Ok(Decision::Change { event, fields }) => self.change(tag, event, fields),
+            Ok(Decision::Relock { change, fields }) => Ok(self.relock(tag, change, fields)),
             Err(Undecided::Refused(refusal)) => Ok(self.refuse(tag, refusal)),
             Err(Undecided::OutOfMemory) => Err(AllocError),
         }
@@ -131,12 +132,16 @@ impl Server {
             Request::GetIds(call) => self.look_up(call),
             Request::Invoke(call) => self.invocation(call),
             Request::TypeInfo { index } => self.information(index),
-            Request::GetElement { .. }
-            | Request::PutElement { .. }
-            | Request::Redimension { .. }
-            | Request::Lock(_)
-            | Request::Unlock(_)
-            | Request::Objects => Err(Undecided::Refused(Refusal::of(HResult::BAD_STUB_DATA))),
+            Request::Objects => self.listing(),
+            Request::GetElement { call, indices } => self.element_got(call, indices),
+            Request::PutElement {
+                call,
+                indices,
+                value,
+            } => self.element_put(call, indices, value),
+            Request::Redimension { call, bound } => self.redimension(call, bound),
+            Request::Lock(call) => self.locking(call),
+            Request::Unlock(call) => self.unlocking(call),
         }
     }
 
@@ -144,7 +149,7 @@ impl Server {
     fn change(&mut self, tag: u32, event: Event, fields: Fields) -> Result<Reply, AllocError>
         requires { BringsNoLocks event }
         ensures reply { IfOk result (λ reply. reply ≡ reply_with tag (changed event fields (applied event self.old.table))) }
-        ensures state { OnOk result (self.new ≡ after_event self.old (changed event fields (applied event self.old.table)).event) }
+        ensures state { OnOk result (self.new ≡ after_outcome self.old (changed event fields (applied event self.old.table))) }
         ensures err { OnErr result (self.new ≡ self.old) }
         ensures may { OnErr result (IsOk (applied event self.old.table)) }
     {
@@ -155,7 +160,7 @@ impl Server {
         }
     }
 
-    /// Makes a change: the only call that changes the table.
+    /// Makes a change: the only call that changes what the table holds.
     fn apply(&mut self, event: Event) -> Result<(), TableFault>
         requires { BringsNoLocks event }
         ensures { Makes event self.old self.new result }
@@ -163,6 +168,45 @@ impl Server {
         match self.table.apply(event) {
             Ok(()) => Ok(()),
             Err((_, fault)) => Err(fault),
+        }
+    }
+
+    /// Changes the locks of an array and tells it with these fields, or why the table refuses it. Takes no memory.
+    fn relock(&mut self, tag: u32, change: LockChange, fields: Fields) -> Reply
+        ensures reply { result ≡ reply_with tag (relocking change fields (relocked change self.old.table)) }
+        ensures state { self.new ≡ after_outcome self.old (relocking change fields (relocked change self.old.table)) }
+    {
+        match self.change_locks(change) {
+            Ok(()) => Reply::new(tag, HResult::S_OK, None, fields.into_vec()),
+            Err(fault) => Reply::bare(self.alloc, tag, fault.code(), None),
+        }
+    }
+
+    /// Changes the locks of an array.
+    fn change_locks(&mut self, change: LockChange) -> Result<(), TableFault>
+        ensures { Relocks change self.old self.new result }
+    {
+        match change {
+            LockChange::Lock(name) => self.lock(name),
+            LockChange::Unlock(name) => self.unlock(name),
+        }
+    }
+
+    fn lock(&mut self, name: CellName) -> Result<(), TableFault>
+        ensures { Relocks (LockChange.Lock name) self.old self.new result }
+    {
+        match self.table.lock(&name) {
+            Ok(_) => Ok(()),
+            Err(fault) => Err(fault),
+        }
+    }
+
+    fn unlock(&mut self, name: CellName) -> Result<(), TableFault>
+        ensures { Relocks (LockChange.Unlock name) self.old self.new result }
+    {
+        match self.table.unlock(&name) {
+            Ok(_) => Ok(()),
+            Err(fault) => Err(fault),
         }
     }
 

@@ -23,7 +23,6 @@ fn library<'a>(alloc: Global, help: &'a str) -> Arg<'a> {
 pub(crate) fn command<'a>(alloc: Global) -> Result<Command<'a>, AllocError> {
     let hex = Arg::new(alloc, "hex")
         .long("hex")
-        .required(true)
         .action(ArgAction::SetTrue)
         .help("Take one request a line in hexadecimal digits, and write each reply as such a line");
     let place = Arg::new(alloc, "where")
@@ -35,7 +34,7 @@ pub(crate) fn command<'a>(alloc: Global) -> Result<Command<'a>, AllocError> {
     let play = Command::new(alloc, "play")
         .about("Answers the requests of standard input on standard output, with objects in memory")
         .after_help(
-            "Example, four requests and their replies:\n  oaut play examples/small.idl --hex < examples/first.hex",
+            "Each request and each reply is a record: its length in 4 bytes, little-endian, and that many bytes.\n\nExample, four requests and their replies as lines:\n  oaut play examples/small.idl --hex < examples/first.hex",
         )
         .arg(library(
             alloc,

@@ -6,6 +6,7 @@ mod fault;
 mod library;
 mod place;
 mod play;
+mod shown;
 mod text;
 
 use crate::fault::Fault;
@@ -40,7 +41,11 @@ fn run(rt: &HostRuntime) -> Result<ExitCode, Fault> {
         }
     };
     match matches.subcommand() {
-        Some(("play", arguments)) => play::play(rt, arguments.get_str("LIB").unwrap_or(""))?,
+        Some(("play", arguments)) => play::play(
+            rt,
+            arguments.get_str("LIB").unwrap_or(""),
+            arguments.get_flag("hex"),
+        )?,
         Some(("check", arguments)) => text::write_text(
             rt,
             arguments.get_str("LIB").unwrap_or(""),

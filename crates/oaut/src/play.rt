@@ -5,8 +5,8 @@ use oa_server::{End, Server};
 use oa_stream::{Ahead, Behind, Inlet, Outlet};
 use std::io;
 
-/// Answers the lines of standard input by lines on standard output, until the input ends or is refused.
-pub(crate) fn play(rt: &HostRuntime, path: &str) -> Result<(), Fault> {
+/// Answers the requests of standard input on standard output, until the input ends or is refused: records, or lines of hexadecimal digits.
+pub(crate) fn play(rt: &HostRuntime, path: &str, hex: bool) -> Result<(), Fault> {
     if path == STANDARD_INPUT {
         return Err(Fault::TwoInputs);
     }
@@ -14,7 +14,11 @@ pub(crate) fn play(rt: &HostRuntime, path: &str) -> Result<(), Fault> {
     let mut server = Server::in_memory(alloc, library_of(alloc, &read_text(rt, alloc, path)?)?);
     let mut reader = Ahead::new(alloc, Inlet::new(rt.reader()))?;
     let mut writer = Behind::new(alloc, Outlet::new(io::writer(rt)))?;
-    let served = server.serve_hex(&mut reader, &mut writer, 1)?;
+    let served = if hex {
+        server.serve_hex(&mut reader, &mut writer, 1)?
+    } else {
+        server.serve(&mut reader, &mut writer, 1)?
+    };
     match served.why {
         End::Closed => Ok(()),
         End::Cut => Err(Fault::Cut),

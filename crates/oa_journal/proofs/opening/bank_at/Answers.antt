@@ -1,7 +1,8 @@
-use Rattle.std.proofs.Common.{◌≡◌, ◌∙◌, List, ℕ, length, take, drop, sym, ap, subst, Err}
+use Rattle.std.proofs.Common.{◌≡◌, ◌∙◌, List, ℕ, length, get_or, take, drop, sym, ap, subst, Err}
 use Rattle.oa_disk.specs.Disk.{Holds}
 use Rattle.oa_layout.specs.declared.fault.ImageFault.{ImageFault}
 use Rattle.oa_journal.specs.Bank.{bank_bytes, from_place, IsBank}
+use Rattle.oa_journal.specs.Banks.{bank_numbered}
 use Rattle.oa_journal.specs.declared.bank.BankFault.TheVariants as banks
 use Rattle.oa_journal.proofs.Opened.{disk_bank, disk_damage, offset_of}
 use Rattle.oa_journal.proofs.opening.bank_at.Goals as goal
@@ -17,6 +18,9 @@ returns-in-Ok-clause-found g c h =
     c.in_ok-library-in-Ok.ensures ∙ c.part.ensures ∙ ap (λ (x : List ℕ). take c.in-Ok.found.library (drop 32 x)) (c.deref-in-Ok.ensures.value ∙ sym c.deref.ensures.value) in
     subst (λ (x : List ℕ). IsBank (from_place c.args.place disk) x c.in-Ok.found.table c.in-Ok.found.gate) (sym text)
     (disk_bank c.args.place disk bytes holds whole (take l (drop 32 bytes)) c.in-Ok.found.table c.in-Ok.found.gate c.in-Ok.ensures.inside.1 c.in-Ok.ensures.found)
+
+pub returns-in-Ok-clause-numbered : goal.returns-in-Ok-clause-numbered
+returns-in-Ok-clause-numbered g c = bank_numbered (λ i. get_or c.deref.result.now i 0) (take c.in-Ok.found.library (drop 32 c.deref.result.now)) c.in-Ok.found.table c.in-Ok.found.gate c.in-Ok.ensures.found
 
 pub returns-clause-damaged : goal.returns-clause-damaged
 returns-clause-damaged g c at e h =

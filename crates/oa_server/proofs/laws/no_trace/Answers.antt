@@ -2,4 +2,4 @@ use Rattle.oa_server.proofs.Quiet.{quiet_choice, quiet_run, quiet_step, quiet_tu
 use Rattle.oa_server.proofs.laws.no_trace.Goals as goal
 
 pub returns : goal.returns
-returns c = record { event = quiet_step; turn = quiet_turn; others = quiet_run; some = quiet_choice }
+returns c = record { outcome = quiet_step; turn = quiet_turn; others = quiet_run; some = quiet_choice }

@@ -1,0 +1,3 @@
+mod Changed
+mod LaidDown
+mod Opened

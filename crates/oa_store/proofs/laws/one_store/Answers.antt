@@ -1,0 +1,5 @@
+use Rattle.oa_store.specs.OneStore.{one_store}
+use Rattle.oa_store.proofs.laws.one_store.Goals as goal
+
+pub returns : goal.returns
+returns c = one_store

@@ -1,0 +1,5 @@
+pub mod Changes
+pub mod Faults
+pub mod OneStore
+pub mod Reads
+pub mod Stores

@@ -1,0 +1,84 @@
+//! Making a store.
+ghost use Rattle.std.specs.Prelude.{◌≡◌, ◌≢◌, ◌⊎◌, ◌↔◌, ◌+◌, ◌-◌, ◌^◌, ◌<◌, ◌≤◌, List, ℕ, IsTrue, length, slice_index, OnOk, IfErr, IsErrOf};
+ghost use Rattle.oa_disk.specs.Disk.{LeavesOnly, HasCause, Torn};
+ghost use Rattle.oa_disk.specs.declared.disk.DeviceFault.{DeviceFault};
+ghost use Rattle.oa_table.specs.Tables.{first_table};
+ghost use Rattle.oa_store.specs.declared.fault.FormatFault.{FormatFault};
+ghost use Rattle.oa_store.specs.Stores.{store_bytes, IsStoreAt};
+ghost use Rattle.oa_store.specs.Changes.{IsFormatting, HasBank};
+ghost use Rattle.oa_journal.specs.Banks.{first_gate};
+
+use crate::FormatFault;
+use crate::head::{BANKS, SELECTOR, STORE_BYTES};
+use oa_disk::{DeviceFault, Disk, flip};
+use oa_image::laws::is_table;
+use oa_journal::front;
+use oa_table::Table;
+use std::alloc::Global;
+
+/// Sets the first byte to 0, and brings that to the device.
+fn close<D: Disk>(disk: &mut D) -> Result<(), DeviceFault>
+    requires { 0 < D.size_of disk.old }
+    ensures any_moment { IsTrue (D.is_honest disk.old)
+        → LeavesOnly D.moment D.image_since disk.old disk.new (λ c. (d : List ℕ) × D.image disk.old d × Torn 0 1 d c) }
+    ensures done { OnOk result (IsTrue (D.is_honest disk.old) → (c : List ℕ) → D.image disk.new c → slice_index c 0 ≡ 0) }
+    ensures size { D.size_of disk.new ≡ D.size_of disk.old }
+    ensures honest { D.is_honest disk.new ≡ D.is_honest disk.old }
+    ensures cause { HasCause (D.failures_of disk.old) (D.failures_of disk.new) result }
+    ensures fault { IfErr result (λ e. e ≡ DeviceFault.Write) }
+{
+    disk.write_at(0, &[0])?;
+    disk.sync()
+}
+
+/// Writes a bank and the selector, and then sets the first byte to 1. Until then it is not 1 in any image.
+fn fill<D: Disk>(disk: &mut D, bytes: &[u8]) -> Result<(), DeviceFault>
+    requires big { store_bytes ≤ D.size_of disk.old }
+    requires few { length bytes.now ≤ 16777216 }
+    ensures any_moment { IsTrue (D.is_honest disk.old) → ((c : List ℕ) → D.image disk.old c → slice_index c 0 ≡ 0)
+        → LeavesOnly D.moment D.image_since disk.old disk.new (λ c. (slice_index c 0 ≢ 1) ⊎ HasBank bytes.now c) }
+    ensures done { OnOk result (IsTrue (D.is_honest disk.old) → (c : List ℕ) → D.image disk.new c → HasBank bytes.now c × (slice_index c 0 ≡ 1)) }
+    ensures size { D.size_of disk.new ≡ D.size_of disk.old }
+    ensures honest { D.is_honest disk.new ≡ D.is_honest disk.old }
+    ensures cause { HasCause (D.failures_of disk.old) (D.failures_of disk.new) result }
+    ensures fault { IfErr result (λ e. e ≡ DeviceFault.Write) }
+{
+    disk.write_at(BANKS, bytes)?;
+    disk.write_at(SELECTOR, &[0])?;
+    flip(disk, 0, 1)
+}
+
+/// Makes the disk a store of this library, without objects, in its own length. What it held before is gone.
+///
+/// Refused as `TooSmall` and for want of memory before the first call of the disk. A stop within it leaves what was there but for the
+/// first byte, or a disk that is not formatted, or the new store.
+pub fn format<D: Disk>(alloc: Global, disk: &mut D, library: &[u8]) -> Result<(), FormatFault>
+    requires { length library.now ≤ 262144 }
+
+    ensures any_moment { IsTrue (D.is_honest disk.old) → LeavesOnly D.moment D.image_since disk.old disk.new (IsFormatting (D.image disk.old) library.now) }
+    ensures done { OnOk result (IsTrue (D.is_honest disk.old) → (c : List ℕ) → D.image disk.new c → IsStoreAt 0 (first_gate library.now first_table) library.now first_table c) }
+    ensures small { IsErrOf result FormatFault.TooSmall ↔ (D.size_of disk.old < store_bytes) }
+    ensures small_same { IsErrOf result FormatFault.TooSmall → disk.new ≡ disk.old }
+    ensures memory { IsErrOf result FormatFault.Memory → disk.new ≡ disk.old }
+    ensures device { (fault : DeviceFault) → IsErrOf result (FormatFault.Device fault)
+        → (fault ≡ DeviceFault.Write) × (D.failures_of disk.new < 2 ^ 64 - 1 → D.failures_of disk.old < D.failures_of disk.new) }
+    ensures size { D.size_of disk.new ≡ D.size_of disk.old }
+    ensures honest { D.is_honest disk.new ≡ D.is_honest disk.old }
+    ensures failures { D.failures_of disk.old ≤ D.failures_of disk.new }
+{
+    if disk.size() < STORE_BYTES {
+        return Err(FormatFault::TooSmall);
+    }
+    let table = Table::new(alloc);
+    is_table(&table);
+    let Ok(bytes) = front(alloc, library, &table) else {
+        return Err(FormatFault::Memory);
+    };
+    if let Err(fault) = close(disk) {
+        return Err(FormatFault::Device(fault));
+    }
+    if let Err(fault) = fill(disk, &bytes) {
+        return Err(FormatFault::Device(fault));
+    }
+    Ok(())
+}

@@ -1,0 +1,18 @@
+//! A store on a disk: a library and a table of objects, in two banks that take turns. Every image that a stop may leave opens to the
+//! table before or after.
+#![tactic(auto)]
+
+mod fault;
+mod formatting;
+mod head;
+pub mod laws;
+mod opening;
+mod store;
+#[cfg(test)]
+mod tests;
+
+pub use fault::{CheckpointFault, CommitFault, FormatFault, OpenFault};
+pub use formatting::format;
+pub use head::STORE_BYTES;
+pub use opening::inspect;
+pub use store::Store;

@@ -4,14 +4,16 @@
     python3 cli/cases.py [PROGRAM]      PROGRAM is crates/oaut/out/oaut, as `rt ci` leaves it, where none is given
 
 Each case runs the program in a new empty folder with a library, command-line words and standard input, and compares standard
-output, standard error and the status. The last line counts the cases.
+output, standard error and the status; one that takes longer than two minutes fails. The last line counts the cases.
 """
 import os
 import resource
+import select
 import struct
 import subprocess
 import sys
 import tempfile
+import time
 
 import wire
 
@@ -37,22 +39,77 @@ LINE_LIMIT = 2_097_152
 counts = {True: 0, False: 0}
 
 
-def run(words, given=b"", files=None, stdin=None, stdout=None):
-    """Runs the program in a new folder that holds the files, and returns its status and what it wrote."""
+TIMEOUT = 120
+
+
+def run(words, given=b"", files=None, stdin=None, stdout=None, before=None):
+    """Runs the program in a new folder that holds the files, after a call in its process, and returns its status and what it wrote."""
     with tempfile.TemporaryDirectory() as room:
         for name, content in (files or {}).items():
             with open(f"{room}/{name}", "wb") as file:
                 file.write(content)
-        done = subprocess.run(
-            [PROGRAM, *words],
-            cwd=room,
-            input=given if stdin is None else None,
-            stdin=stdin,
-            stdout=stdout or subprocess.PIPE,
-            stderr=subprocess.PIPE,
-            timeout=120,
-        )
+        source = {"input": given} if stdin is None else {"stdin": stdin}
+        try:
+            done = subprocess.run([PROGRAM, *words], cwd=room, stdout=stdout or subprocess.PIPE, stderr=subprocess.PIPE, preexec_fn=before, timeout=TIMEOUT, **source)
+        except subprocess.TimeoutExpired as late:
+            return None, late.stdout, late.stderr
         return done.returncode, done.stdout, done.stderr
+
+
+def within(bytes):
+    """What limits the memory of the program, as a call in its process."""
+    return lambda: resource.setrlimit(resource.RLIMIT_AS, (bytes, bytes))
+
+
+class Talk:
+    """A session over pipes: what is sent is sent at once, and what is waited for is waited for no longer than the time."""
+
+    def __init__(self, library, words=("--hex",), stdout=subprocess.PIPE):
+        self.room = tempfile.TemporaryDirectory()
+        with open(f"{self.room.name}/lib.idl", "wb") as file:
+            file.write(library)
+        self.process = subprocess.Popen([PROGRAM, "play", "lib.idl", *words], cwd=self.room.name, stdin=subprocess.PIPE, stdout=stdout, stderr=subprocess.PIPE, bufsize=0)
+
+    def __enter__(self):
+        return self
+
+    def __exit__(self, *_):
+        if self.process.poll() is None:
+            self.process.kill()
+        for pipe in (self.process.stdin, self.process.stdout, self.process.stderr):
+            if pipe:
+                pipe.close()
+        self.process.wait()
+        self.room.cleanup()
+
+    def send(self, some):
+        try:
+            self.process.stdin.write(some)
+        except BrokenPipeError:
+            pass  # what it says at its end tells why
+
+    def line(self, pipe=None):
+        """The next line of its output, or what came of it in time."""
+        return self.read(pipe or self.process.stdout, lambda got: not got.endswith(b"\n"))
+
+    def bytes(self, count):
+        """So many bytes of its output, or what came of them in time."""
+        return self.read(self.process.stdout, lambda got: len(got) < count)
+
+    def read(self, pipe, goes_on):
+        got, until = b"", time.monotonic() + TIMEOUT
+        while goes_on(got) and select.select([pipe], [], [], max(0, until - time.monotonic()))[0]:
+            sign = os.read(pipe.fileno(), 1)
+            if not sign:
+                break
+            got += sign
+        return got
+
+    def status(self):
+        try:
+            return self.process.wait(TIMEOUT)
+        except subprocess.TimeoutExpired:
+            return None
 
 
 def tell(name, well, what=""):
@@ -127,29 +184,44 @@ with tempfile.TemporaryDirectory() as folder:
     os.close(fault)
 with open("/dev/full", "wb") as full:
     play("standard output that takes nothing", REQUESTS, 1, None, b"oaut: write fault\n", stdout=full)
+    play("the one reply cannot be handed on at an empty line", CREATE + b"\n\n", 1, None, b"oaut: write fault\n", stdout=full)
+    play("the reply to a line above its limit cannot be handed on", b"0" * (LINE_LIMIT + 2), 1, None, b"oaut: write fault\n", stdout=full)
 
-with tempfile.TemporaryDirectory() as room:
-    with open(f"{room}/lib.idl", "wb") as file:
-        file.write(SMALL)
-    for kib in range(32_768, 0, -256):  # less and less memory, until the buffers of a session are refused
-        limit = lambda: resource.setrlimit(resource.RLIMIT_AS, (1_024 * kib, 1_024 * kib))
-        done = subprocess.run([PROGRAM, "play", "lib.idl", "--hex"], cwd=room, input=REQUESTS, capture_output=True, preexec_fn=limit, timeout=120)
-        if done.returncode != 0:
-            break
-    tell("memory refused", (done.returncode, done.stdout, done.stderr) == (5, b"", b"oaut: out of memory\n"), done)
+for kib in range(32_768, 0, -256):  # less and less memory, until the buffers of a session are refused
+    done = run(["play", "lib.idl", "--hex"], REQUESTS, files={"lib.idl": SMALL}, before=within(1_024 * kib))
+    if done[0] != 0:
+        break
+tell("memory refused", done == (5, b"", b"oaut: out of memory\n"), done)
 
-with tempfile.TemporaryDirectory() as room:
-    with open(f"{room}/lib.idl", "wb") as file:
-        file.write(SMALL)
-    pipe = subprocess.Popen([PROGRAM, "play", "lib.idl", "--hex"], cwd=room, stdin=subprocess.PIPE, stdout=subprocess.PIPE)
+with Talk(SMALL) as session:
     replies = []
     for line in REQUESTS.splitlines(keepends=True):
-        pipe.stdin.write(line)
-        pipe.stdin.flush()
-        replies.append(pipe.stdout.readline())
-    pipe.stdin.close()
-    tell("each reply comes before the next request is sent", (pipe.wait(10), b"".join(replies)) == (0, REPLIES), replies)
-    pipe.stdout.close()
+        session.send(line)
+        replies.append(session.line())
+    session.process.stdin.close()
+    tell("each reply comes before the next request is sent", (b"".join(replies), session.status()) == (REPLIES, 0), replies)
+with Talk(SMALL) as session:
+    first, second = REQUESTS.splitlines(keepends=True)[:2]
+    session.send(first + second[:9])
+    replies = [session.line()]
+    session.send(second[9:])
+    replies.append(session.line())
+    tell("a reply comes before the rest of a line that is cut behind a whole one", b"".join(replies) == b"".join(REPLIES.splitlines(keepends=True)[:2]), replies)
+with open("/dev/full", "wb") as full, Talk(SMALL, stdout=full) as session:
+    session.send(CREATE + b"\n")
+    told = session.line(session.process.stderr), session.status()
+    tell("replies that cannot be handed on before a wait end the session", told == (b"oaut: write fault\n", 1), told)
+
+# --- streams that are closed, and clients that are gone
+
+for fd, (status, out, err) in ((0, (1, b"", b"oaut: read fault\n")), (1, (1, b"", b"oaut: write fault\n")), (2, (0, REPLIES, b""))):
+    play(f"stream {fd} is closed", REQUESTS, status, out, err, before=lambda fd=fd: os.close(fd))
+case("standard error is closed, and there is a fault", ["check", "none.idl"], 1, b"", b"", before=lambda: os.close(2))
+away, gone = os.pipe()
+os.close(away)
+play("a pipe whose reader is gone", REQUESTS, 1, None, b"oaut: write fault\n", stdout=gone)
+checked("a pipe whose reader is gone", FULL, 1, None, b"oaut: write fault\n", stdout=gone)
+os.close(gone)
 
 # --- sessions over records
 
@@ -186,20 +258,13 @@ with tempfile.TemporaryDirectory() as folder:
     os.close(fault)
 with open("/dev/full", "wb") as full:
     play_records("standard output that takes nothing", ASKED, 1, None, b"oaut: write fault\n", stdout=full)
-with tempfile.TemporaryDirectory() as room:
-    with open(f"{room}/lib.idl", "wb") as file:
-        file.write(SMALL)
-    pipe = subprocess.Popen([PROGRAM, "play", "lib.idl"], cwd=room, stdin=subprocess.PIPE, stdout=subprocess.PIPE, stderr=subprocess.PIPE)
+with Talk(SMALL, words=()) as session:
     replies = []
     for asked, answered in zip(REQUESTS.splitlines(), REPLIES.splitlines()):
-        pipe.stdin.write(records(asked))
-        pipe.stdin.flush()
-        replies.append(pipe.stdout.read(len(records(answered))))
-    pipe.stdin.write(struct.pack("<I", BODY_LIMIT + 1))
-    pipe.stdin.flush()
-    tell("records: each reply comes before the next request, and a length too long ends the session at once", (pipe.wait(10), b"".join(replies)) == (4, records(REPLIES)), replies)
-    for end in (pipe.stdin, pipe.stdout, pipe.stderr):
-        end.close()
+        session.send(records(asked))
+        replies.append(session.bytes(len(records(answered))))
+    session.send(struct.pack("<I", BODY_LIMIT + 1))
+    tell("records: each reply comes before the next request, and a length too long ends the session at once", (session.status(), b"".join(replies)) == (4, records(REPLIES)), replies)
 
 # --- values of every scalar type
 
@@ -392,6 +457,22 @@ talk(
     + [puts(ANY, wire.array(vt, [(1, 0)], [1]), BAD_VAR_TYPE, 0) for vt in (wire.EMPTY, wire.NULL, wire.ERROR, wire.DECIMAL, 5, 0x4003, 0x1003)]
     + [gets(ANY, good)],
 )
+
+# --- memory that is refused in a session: the request is answered, and nothing is changed
+
+E_OUTOFMEMORY = 0x8007_000E
+HOLDERS, BYTES = 64, 2
+full_array, no_array = wire.array(wire.UI1, [(65_536, 0)], [7] * 65_536), wire.zero_array(wire.UI1)
+asked = [CREATE + b"\n"] * HOLDERS
+asked += [wire.put(number, number, BYTES, full_array) for number in range(1, HOLDERS + 1)]
+asked += [wire.put(1, 1, BYTES, no_array)] + [wire.get(number, number, BYTES) for number in range(2, HOLDERS + 1)]
+status, out, err = run(["play", "lib.idl", "--hex"], b"".join(asked), files={"lib.idl": ARRAYS}, before=within(48_000_000))
+answers = (out or b"").splitlines(keepends=True)
+put = answers[HOLDERS : 2 * HOLDERS]
+kept = [answer == wire.reply(number) for number, answer in enumerate(put, 1)]
+codes = all(answer == wire.reply(number, 0 if it else E_OUTOFMEMORY) for (number, answer), it in zip(enumerate(put, 1), kept))
+got = [wire.reply(1)] + [wire.reply(number, fields=wire.field(full_array if it else no_array)) for number, it in enumerate(kept[1:], 2)]
+tell("memory is refused in a session", (status, err, len(kept), True in kept, False in kept, codes, answers[2 * HOLDERS :] == got) == (0, b"", HOLDERS, True, True, True, True), (status, err, kept, codes))
 
 # --- conversion, parameters and interfaces
 
@@ -810,6 +891,8 @@ checked("the full library", FULL, 0, CANONICAL, b"")
 checked("a canonical text", CANONICAL, 0, CANONICAL, b"")
 case("check: a library that is not there", ["check", "none.idl"], 1, b"", b"oaut: cannot read none.idl\n")
 case("check: a folder for a library", ["check", "."], 1, b"", b"oaut: cannot read .\n")
+case("check: a file's name with control characters", ["check", "a\nb\x1b[2J\x7f\u009b\té"], 1, b"", "oaut: cannot read a\\u{a}b\\u{1b}[2J\\u{7f}\\u{9b}\\u{9}é\n".encode())
+case("play: a file's name with a control character", ["play", "none\r.idl", "--hex"], 1, b"", b"oaut: cannot read none\\u{d}.idl\n")
 with open("/dev/full", "wb") as full:
     checked("standard output that takes nothing", FULL, 1, None, b"oaut: write fault\n", stdout=full)
 case("a library that is not there", ["play", "none.idl", "--hex"], 1, b"", b"oaut: cannot read none.idl\n")
@@ -860,9 +943,7 @@ for name, at, text in (("UTF-8", None, b"limit text"), ("not UTF-8 at its end", 
             if at is not None:
                 file.seek(at)
                 file.write(b"\xff")
-        limit = lambda: resource.setrlimit(resource.RLIMIT_AS, (32_000_000, 32_000_000))
-        done = subprocess.run([PROGRAM, "check", "lib.idl"], cwd=room, capture_output=True, preexec_fn=limit, timeout=120)
-        tell(f"check: 300 MB in 32 MB, {name}", (done.returncode, done.stdout, done.stderr) == (2, b"", b"oaut: " + text + b"\n"), done)
+        case(f"check: 300 MB in 32 MB, {name}", ["check", f"{room}/lib.idl"], 2, b"", b"oaut: " + text + b"\n", before=within(32_000_000))
 
 # --- where a syntax fault stands
 
@@ -881,6 +962,7 @@ shows("characters of two bytes before the place", b"/*\xc3\xa9*/ ;", 7, 1, 7, b"
 shows("lines that end by CR, the end of the text", HEAD + b"\rlibrary", 52, 2, 8, b"library", b" " * 7)
 shows("the end of the text behind a line's end", HEAD + b"\n\n", 46, 3, 1, b"", b"")
 shows("a control character", b"\n \x1b[1m", 2, 2, 2, b" ?[1m", b" ")
+case("check --where: a file's name with control characters", ["check", "--where", "a\n"], 2, b"", b"oaut: syntax at byte 0\na\\u{a}:1:1: ;\n            ^\n", files={"a\n": b";"})
 case("check --where: standard input", ["check", "--where", "-"], 2, b"", b"oaut: syntax at byte 0\n-:1:1: ;\n       ^\n", given=b";")
 case("check --where: a library", ["check", "--where", "lib.idl"], 0, CANONICAL, b"", files={"lib.idl": FULL})
 case("check --where: a fault without a place", ["check", "--where", "lib.idl"], 2, b"", b"oaut: limit text\n", files={"lib.idl": SMALL + b" " * 262_145})
@@ -901,6 +983,11 @@ for words, said in (
 ):
     status, out, err = run(words)
     tell(f"the words {words} are answered", (status, said in out, err) == (0, True, b""), (status, out, err))
+with open("/dev/full", "wb") as full:
+    for words in (["--help"], ["--version"], ["play", "--help"], ["check", "--help"]):
+        case(f"the words {words}, and standard output takes nothing", words, 1, None, b"oaut: write fault\n", stdout=full)
+for words in ([b"check", b"\xff.idl"], [b"play", b"lib.idl", b"--hex\xc3"], [b"\xed\xa0\x80"]):
+    case(f"the words {words}", words, 2, b"", b"oaut: command line is not UTF-8\n")
 
 print(f"{counts[True]} passed, {counts[False]} failed")
 sys.exit(1 if counts[False] else 0)

@@ -2,6 +2,7 @@
 ghost use Rattle.std.specs.Prelude.{◌≤◌, length, IfSome};
 
 use crate::fault::Fault;
+use crate::shown::shown_name;
 use oa_idl::{Limit, ParseError, parse};
 use oa_model::MAX_LIBRARY_BYTES;
 use oa_typelib::{Library, check};
@@ -38,7 +39,7 @@ fn unread(alloc: Global, error: &io::Error, path: &str) -> Fault {
     if error.kind() == ErrorKind::OutOfMemory {
         return Fault::Memory;
     }
-    match String::from_str(alloc, path) {
+    match shown_name(alloc, path) {
         Ok(path) => Fault::CannotRead(path),
         Err(_) => Fault::Memory,
     }

@@ -6,6 +6,7 @@ mod fault;
 mod library;
 mod place;
 mod play;
+mod shown;
 mod text;
 
 use crate::fault::Fault;

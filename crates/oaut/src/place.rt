@@ -1,4 +1,5 @@
 // Where in a text a fault stands, for a person to read.
+use crate::shown::shown_name;
 use std::alloc::{AllocError, Global};
 use std::fmt;
 
@@ -46,6 +47,7 @@ impl Place {
             }
             last = c;
         }
+        let file = shown_name(alloc, file)?;
         let head = format!(in alloc; "{file}:{number}:{column}: ")?;
         let mut margin = String::new(alloc);
         for _ in head.chars() {

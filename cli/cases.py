@@ -19,6 +19,8 @@ import wire
 
 ROOT = os.path.dirname(os.path.dirname(os.path.abspath(__file__)))
 PROGRAM = os.path.abspath(sys.argv[1]) if len(sys.argv) > 1 else f"{ROOT}/crates/oaut/out/oaut"
+# the name that it is called by, which its usage tells
+CALLED = os.path.basename(PROGRAM).encode()
 
 
 def text_of(name):
@@ -973,11 +975,11 @@ for words in ([], ["play"], ["play", "--hex"], ["play", "lib.idl", "--hex", "mor
     status, out, err = run(words, files={"lib.idl": SMALL})
     tell(f"the words {words} are refused", (status, out, err.startswith(b"error: "), b"--help" in err) == (2, b"", True, True), (status, out, err))
 for words, said in (
-    (["--help"], b"Usage: oaut <COMMAND>"),
+    (["--help"], b"Usage: " + CALLED + b" <COMMAND>"),
     (["--help"], b"\n  oaut play examples/small.idl --hex < examples/first.hex\n"),
-    (["play", "--help"], b"Usage: oaut play [OPTIONS] <LIB>"),
+    (["play", "--help"], b"Usage: " + CALLED + b" play [OPTIONS] <LIB>"),
     (["play", "--help"], b"\n  oaut play examples/small.idl --hex < examples/first.hex\n"),
-    (["check", "--help"], b"Usage: oaut check [OPTIONS] <LIB>"),
+    (["check", "--help"], b"Usage: " + CALLED + b" check [OPTIONS] <LIB>"),
     (["check", "--help"], b"\n  oaut check examples/full.idl\n  oaut check --where - < examples/full.idl\n"),
     (["--version"], b"oaut 0.1.0"),
 ):

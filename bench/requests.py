@@ -82,7 +82,7 @@ def many_interfaces(count):
     """A library whose coclass has so many interfaces, each with a long property."""
     items = "".join(f"[uuid({interface_guid(it)})] dispinterface D{it} {{ properties: [id(1)] long P; }}\n" for it in range(count))
     entries = "".join(f"interface D{it};\n" for it in range(count))
-    return f"[uuid({interface_guid(count)})] library Many {{\n{items}[uuid({uuid.UUID(bytes_le=CLASS)})] coclass C {{\n{entries}}}\n}}\n"
+    return f"[uuid({interface_guid(count)})] library Many {{\n{items}[uuid({CLASS})] coclass C {{\n{entries}}}\n}}\n"
 
 
 def write_through(path, number, count):

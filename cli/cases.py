@@ -19,6 +19,8 @@ import wire
 
 ROOT = os.path.dirname(os.path.dirname(os.path.abspath(__file__)))
 PROGRAM = os.path.abspath(sys.argv[1]) if len(sys.argv) > 1 else f"{ROOT}/crates/oaut/out/oaut"
+# the name that it is called by, which its usage tells
+CALLED = os.path.basename(PROGRAM).encode()
 
 
 def text_of(name):
@@ -64,12 +66,11 @@ def within(bytes):
 class Talk:
     """A session over pipes: what is sent is sent at once, and what is waited for is waited for no longer than the time."""
 
-    def __init__(self, library, stdout=subprocess.PIPE):
+    def __init__(self, library, words=("--hex",), stdout=subprocess.PIPE):
         self.room = tempfile.TemporaryDirectory()
         with open(f"{self.room.name}/lib.idl", "wb") as file:
             file.write(library)
-        words = [PROGRAM, "play", "lib.idl", "--hex"]
-        self.process = subprocess.Popen(words, cwd=self.room.name, stdin=subprocess.PIPE, stdout=stdout, stderr=subprocess.PIPE, bufsize=0)
+        self.process = subprocess.Popen([PROGRAM, "play", "lib.idl", *words], cwd=self.room.name, stdin=subprocess.PIPE, stdout=stdout, stderr=subprocess.PIPE, bufsize=0)
 
     def __enter__(self):
         return self
@@ -84,17 +85,27 @@ class Talk:
         self.room.cleanup()
 
     def send(self, some):
-        self.process.stdin.write(some)
+        try:
+            self.process.stdin.write(some)
+        except BrokenPipeError:
+            pass  # what it says at its end tells why
 
     def line(self, pipe=None):
         """The next line of its output, or what came of it in time."""
-        pipe, line, until = pipe or self.process.stdout, b"", time.monotonic() + TIMEOUT
-        while not line.endswith(b"\n") and select.select([pipe], [], [], max(0, until - time.monotonic()))[0]:
+        return self.read(pipe or self.process.stdout, lambda got: not got.endswith(b"\n"))
+
+    def bytes(self, count):
+        """So many bytes of its output, or what came of them in time."""
+        return self.read(self.process.stdout, lambda got: len(got) < count)
+
+    def read(self, pipe, goes_on):
+        got, until = b"", time.monotonic() + TIMEOUT
+        while goes_on(got) and select.select([pipe], [], [], max(0, until - time.monotonic()))[0]:
             sign = os.read(pipe.fileno(), 1)
             if not sign:
                 break
-            line += sign
-        return line
+            got += sign
+        return got
 
     def status(self):
         try:
@@ -249,20 +260,13 @@ with tempfile.TemporaryDirectory() as folder:
     os.close(fault)
 with open("/dev/full", "wb") as full:
     play_records("standard output that takes nothing", ASKED, 1, None, b"oaut: write fault\n", stdout=full)
-with tempfile.TemporaryDirectory() as room:
-    with open(f"{room}/lib.idl", "wb") as file:
-        file.write(SMALL)
-    pipe = subprocess.Popen([PROGRAM, "play", "lib.idl"], cwd=room, stdin=subprocess.PIPE, stdout=subprocess.PIPE, stderr=subprocess.PIPE)
+with Talk(SMALL, words=()) as session:
     replies = []
     for asked, answered in zip(REQUESTS.splitlines(), REPLIES.splitlines()):
-        pipe.stdin.write(records(asked))
-        pipe.stdin.flush()
-        replies.append(pipe.stdout.read(len(records(answered))))
-    pipe.stdin.write(struct.pack("<I", BODY_LIMIT + 1))
-    pipe.stdin.flush()
-    tell("records: each reply comes before the next request, and a length too long ends the session at once", (pipe.wait(10), b"".join(replies)) == (4, records(REPLIES)), replies)
-    for end in (pipe.stdin, pipe.stdout, pipe.stderr):
-        end.close()
+        session.send(records(asked))
+        replies.append(session.bytes(len(records(answered))))
+    session.send(struct.pack("<I", BODY_LIMIT + 1))
+    tell("records: each reply comes before the next request, and a length too long ends the session at once", (session.status(), b"".join(replies)) == (4, records(REPLIES)), replies)
 
 # --- values of every scalar type
 
@@ -455,6 +459,22 @@ talk(
     + [puts(ANY, wire.array(vt, [(1, 0)], [1]), BAD_VAR_TYPE, 0) for vt in (wire.EMPTY, wire.NULL, wire.ERROR, wire.DECIMAL, 5, 0x4003, 0x1003)]
     + [gets(ANY, good)],
 )
+
+# --- memory that is refused in a session: the request is answered, and nothing is changed
+
+E_OUTOFMEMORY = 0x8007_000E
+HOLDERS, BYTES = 64, 2
+full_array, no_array = wire.array(wire.UI1, [(65_536, 0)], [7] * 65_536), wire.zero_array(wire.UI1)
+asked = [CREATE + b"\n"] * HOLDERS
+asked += [wire.put(number, number, BYTES, full_array) for number in range(1, HOLDERS + 1)]
+asked += [wire.put(1, 1, BYTES, no_array)] + [wire.get(number, number, BYTES) for number in range(2, HOLDERS + 1)]
+status, out, err = run(["play", "lib.idl", "--hex"], b"".join(asked), files={"lib.idl": ARRAYS}, before=within(48_000_000))
+answers = (out or b"").splitlines(keepends=True)
+put = answers[HOLDERS : 2 * HOLDERS]
+kept = [answer == wire.reply(number) for number, answer in enumerate(put, 1)]
+codes = all(answer == wire.reply(number, 0 if it else E_OUTOFMEMORY) for (number, answer), it in zip(enumerate(put, 1), kept))
+got = [wire.reply(1)] + [wire.reply(number, fields=wire.field(full_array if it else no_array)) for number, it in enumerate(kept[1:], 2)]
+tell("memory is refused in a session", (status, err, len(kept), True in kept, False in kept, codes, answers[2 * HOLDERS :] == got) == (0, b"", HOLDERS, True, True, True, True), (status, err, kept, codes))
 
 # --- conversion, parameters and interfaces
 
@@ -799,22 +819,6 @@ talk(
 )
 talk("locks at their limit", FULL, [puts(GRID, SIX)] + [locks(GRID, count) for count in range(1, 65_536)] + [locks(GRID, 0, E_UNEXPECTED), unlocks(GRID, 65_534), locks(GRID, 65_535), locks(GRID, 0, E_UNEXPECTED)])
 
-# --- memory that is refused in a session: the request is answered, and nothing is changed
-
-E_OUTOFMEMORY = 0x8007_000E
-HOLDERS, BYTES = 64, 2
-full_array, no_array = wire.array(wire.UI1, [(65_536, 0)], [7] * 65_536), wire.zero_array(wire.UI1)
-asked = [CREATE + b"\n"] * HOLDERS
-asked += [wire.put(number, number, BYTES, full_array) for number in range(1, HOLDERS + 1)]
-asked += [wire.put(1, 1, BYTES, no_array)] + [wire.get(number, number, BYTES) for number in range(2, HOLDERS + 1)]
-status, out, err = run(["play", "lib.idl", "--hex"], b"".join(asked), files={"lib.idl": ARRAYS}, before=within(48_000_000))
-answers = (out or b"").splitlines(keepends=True)
-put = answers[HOLDERS : 2 * HOLDERS]
-kept = [answer == wire.reply(number) for number, answer in enumerate(put, 1)]
-codes = all(answer == wire.reply(number, 0 if it else E_OUTOFMEMORY) for (number, answer), it in zip(enumerate(put, 1), kept))
-got = [wire.reply(1)] + [wire.reply(number, fields=wire.field(full_array if it else no_array)) for number, it in enumerate(kept[1:], 2)]
-tell("memory is refused in a session", (status, err, len(kept), True in kept, False in kept, codes, answers[2 * HOLDERS :] == got) == (0, b"", HOLDERS, True, True, True, True), (status, err, kept, codes))
-
 # --- names and type information
 
 UNKNOWN_NAME, BAD_INDEX, NOT_IMPLEMENTED = 0x8002_0006, 0x8002_000B, 0x8000_4001
@@ -971,11 +975,11 @@ for words in ([], ["play"], ["play", "--hex"], ["play", "lib.idl", "--hex", "mor
     status, out, err = run(words, files={"lib.idl": SMALL})
     tell(f"the words {words} are refused", (status, out, err.startswith(b"error: "), b"--help" in err) == (2, b"", True, True), (status, out, err))
 for words, said in (
-    (["--help"], b"Usage: oaut <COMMAND>"),
+    (["--help"], b"Usage: " + CALLED + b" <COMMAND>"),
     (["--help"], b"\n  oaut play examples/small.idl --hex < examples/first.hex\n"),
-    (["play", "--help"], b"Usage: oaut play [OPTIONS] <LIB>"),
+    (["play", "--help"], b"Usage: " + CALLED + b" play [OPTIONS] <LIB>"),
     (["play", "--help"], b"\n  oaut play examples/small.idl --hex < examples/first.hex\n"),
-    (["check", "--help"], b"Usage: oaut check [OPTIONS] <LIB>"),
+    (["check", "--help"], b"Usage: " + CALLED + b" check [OPTIONS] <LIB>"),
     (["check", "--help"], b"\n  oaut check examples/full.idl\n  oaut check --where - < examples/full.idl\n"),
     (["--version"], b"oaut 0.1.0"),
 ):

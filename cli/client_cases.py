@@ -340,11 +340,11 @@ raises("a code without a name", oaut.Refused, lambda: item_of(scripted(answer(co
 raises("which argument is at fault", oaut.TypeMismatch, lambda: item_of(scripted(answer(code=0x8002_0005, index=1))).Cell(5, Key="k"), argument="Row")
 tell("a mismatch is a TypeError", issubclass(oaut.TypeMismatch, TypeError) and issubclass(oaut.BadIndex, IndexError))
 
-other = oaut.connect(io.BytesIO(oaut.Lines.pack([b"\7\0\0\0" + DONE, b"\7\0\0\0" + DONE])), Kept())
+other = oaut.connect(io.BytesIO(oaut.Lines.pack([b"\7\0\0\0" + DONE, b"\7\0\0\0" + DONE])), Kept(), "lines")
 other._library = LIBRARY
 raises("a reply of another tag", oaut.Malformed, lambda: item_of(other).release())
 raises("a session after it", oaut.Stopped, lambda: item_of(other).release())
-ended = oaut.connect(io.BytesIO(oaut.Lines.pack([bytes(4) + answer(code=0x8007_06F7)])), Kept())
+ended = oaut.connect(io.BytesIO(oaut.Lines.pack([bytes(4) + answer(code=0x8007_06F7)])), Kept(), "lines")
 ended._library = LIBRARY
 raises("a stream that is refused", oaut.Stopped, lambda: item_of(ended).release(), status=None, fault=None)
 raises("a stream that ends", oaut.Stopped, lambda: item_of(scripted()).release())
@@ -358,7 +358,7 @@ for cut in range(1, 20):
     short = oaut.connect(io.BytesIO(whole[:cut]), Kept(), "raw")
     short._library = LIBRARY
     raises(f"a raw stream that ends after {cut} bytes", oaut.Malformed, lambda: item_of(short).release())
-not_hex = oaut.connect(io.BytesIO(b"0g\n"), Kept())
+not_hex = oaut.connect(io.BytesIO(b"0g\n"), Kept(), "lines")
 not_hex._library = LIBRARY
 raises("a line that is no digits", oaut.Malformed, lambda: item_of(not_hex).release())
 raises("a body too long", ValueError, lambda: setattr(item_of(scripted()), "Any", ["a" * 100_000] * 6))
@@ -368,7 +368,7 @@ with rising.batch():
     item_of(rising).Count = 6
     item_of(rising).Count = 7
 same("tags go on behind a batch", item_of(rising).Any, I4(7))
-last = oaut.connect(io.BytesIO(oaut.Lines.pack([b"\xff" * 4 + DONE, bytes(4) + answer(SEVEN)])), Kept())
+last = oaut.connect(io.BytesIO(oaut.Lines.pack([b"\xff" * 4 + DONE, bytes(4) + answer(SEVEN)])), Kept(), "lines")
 last._library, last._tag = LIBRARY, 0xFFFF_FFFF
 item_of(last).Count = 7
 same("tags begin again from 0", item_of(last).Any, I4(7))
@@ -376,7 +376,7 @@ same("tags begin again from 0", item_of(last).Any, I4(7))
 # a server that commits three requests together holds replies back until it has three: the client fills its group
 fill = struct.pack("<III", oaut.BadIndex.code, oaut.NO_INDEX, 0)
 told = [b"\1\0\0\0" + DONE, oaut._FILL[:4] + fill, oaut._FILL[:4] + fill, b"\2\0\0\0" + answer(SEVEN)]
-grouped = oaut.connect(io.BytesIO(oaut.Lines.pack(told)), Kept(), group=3)
+grouped = oaut.connect(io.BytesIO(oaut.Lines.pack(told)), Kept(), "lines", group=3)
 grouped._library = LIBRARY
 item_of(grouped).Count = 7
 same("a get behind a filled group", item_of(grouped).Any, I4(7))
@@ -698,7 +698,7 @@ with library_of("properties: long Count;") as library:
 raises("a library that is not there", oaut.Stopped, lambda: play("/none.idl"), status=1, fault="oaut: cannot read /none.idl")
 raises("a program that is not there", FileNotFoundError, lambda: oaut.play(FULL, program="/none/oaut"))
 ours, theirs = socket.socketpair()
-with subprocess.Popen([PROGRAM, "play", FULL, "--hex"], stdin=theirs, stdout=theirs) as child:
+with subprocess.Popen([PROGRAM, "play", FULL], stdin=theirs, stdout=theirs) as child:
     theirs.close()
     with oaut.connect(ours.makefile("rb"), ours.makefile("wb")) as server:
         item = server.create("Item")

@@ -1624,8 +1624,8 @@ class ArrayProperty:
 
 # --- where a session comes from
 
-# the program takes lines alone so far
-FRAMING = "lines"
+# records of bytes; lines of digits are for people and for logs
+FRAMING = "raw"
 
 
 def play(library, program="oaut", framing=FRAMING):
@@ -2109,8 +2109,8 @@ def main(words=None):
     talk.add_argument("--batch", metavar="FILE", help="take the commands of a file (- is standard input), stop at the first that fails")
     talk.add_argument("-v", "--verbose", action="store_true", help="print each record's bytes")
     told = commands.add_parser("decode", help="records of standard input in words, replies by their requests where these stand before")
-    for it in (talk, told):
-        it.add_argument("--framing", choices=sorted(FRAMINGS), default=FRAMING)
+    talk.add_argument("--framing", choices=sorted(FRAMINGS), default=FRAMING)
+    told.add_argument("--framing", choices=sorted(FRAMINGS), default="lines")
     arguments = parser.parse_args(words)
     try:
         if arguments.command == "talk":

@@ -1,10 +1,8 @@
 -- Events that are applied one after the other.
-use Rattle.std.proofs.Common.{◌≡◌, ℕ, ◌+◌, ◌<◌, List, [], ◌∷◌, length, Result, Ok, Err, sym, ◌∙◌, subst, arith}
+use Rattle.std.proofs.Common.{◌≡◌, ℕ, ◌+◌, ◌<◌, List, [], ◌∷◌, length, Ok, Err, sym, ◌∙◌, subst, arith}
 use Rattle.oa_table.specs.declared.event.Event.{Event}
 use Rattle.oa_table.specs.declared.fault.TableFault.{TableFault}
 use Rattle.oa_table.specs.declared.fault.TableFault.TheVariants.{NoObject, WrongNumber, NotArray, Array, Memory}
-use Rattle.oa_table.specs.Events.{applied}
-use Rattle.oa_table.specs.Outcomes.{Because}
 use Rattle.oa_table.specs.Tables.{TableValue}
 use Rattle.std.specs.List.{AllByRecursion}
 use Rattle.oa_table.specs.Events.{BringsNoLocks}
@@ -13,27 +11,13 @@ use Rattle.oa_layout.proofs.Exact.{one_list}
 use Rattle.oa_image.specs.Events.{event}
 use Rattle.oa_image.proofs.Lengths.{event_bytes}
 use Rattle.oa_image.proofs.Unlocked.{brings_none}
-use Rattle.oa_journal.specs.Replays.{applied_all, followed, Replays}
+use Rattle.oa_journal.specs.Replays.{applied_all, Replays}
 use Rattle.oa_layout.specs.declared.fault.ImageFault.{ImageFault}
 use Rattle.oa_layout.specs.declared.fault.ImageFault.TheVariants as images
 use Rattle.oa_journal.specs.Bank.{bank_bytes, IsGroup}
 use Rattle.oa_journal.specs.Damages.{IsNoGroup}
 use Rattle.oa_journal.specs.Replies.{IsRefused, IsReplay, of_change}
 use Rattle.oa_journal.specs.Unique.{one_group}
-
-pub one_more : (e : Event) (es : List Event) (old mid : TableValue) (total : Result TableValue TableFault) → applied e old ≡ Ok mid → applied_all (e ∷ es) old ≡ total → applied_all es mid ≡ total
-one_more e es old mid total is so_far = subst (λ (r : Result TableValue TableFault). followed (λ next. applied_all es next) r ≡ total) is so_far
-
-ends : (fault : TableFault) (e : Event) (es : List Event) (old : TableValue) (total : Result TableValue TableFault) → applied e old ≡ Err fault → applied_all (e ∷ es) old ≡ total → (after : TableValue) → total ≡ Ok after → ⊥
-ends fault e es old total is so_far after done =
-    let both = subst (λ (r : Result TableValue TableFault). followed (λ next. applied_all es next) r ≡ total) is so_far ∙ done in absurd (cc both)
-
-pub refused : (fault : TableFault) (e : Event) (es : List Event) (old : TableValue) (total : Result TableValue TableFault) → Because (applied e old) fault → applied_all (e ∷ es) old ≡ total → IsRefused fault total
-refused Memory e es old total because so_far = tt
-refused NoObject e es old total because so_far = ends NoObject e es old total because so_far
-refused WrongNumber e es old total because so_far = ends WrongNumber e es old total because so_far
-refused NotArray e es old total because so_far = ends NotArray e es old total because so_far
-refused (Array fault) e es old total because so_far = ends (Array fault) e es old total because so_far
 
 -- events that were read bring no locks
 pub all_bring_none : (es : List Event) → AllByRecursion event.Is es → AllByRecursion BringsNoLocks es

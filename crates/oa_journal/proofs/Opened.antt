@@ -14,7 +14,6 @@ use Rattle.oa_journal.specs.LaidOut.{length-header, same_shows}
 use Rattle.oa_journal.specs.Replays.{Replays, ReplaysAll}
 use Rattle.oa_journal.specs.Replies.{on_disk}
 use Rattle.oa_journal.specs.declared.bank.BankFault.TheVariants as banks
-use Rattle.oa_disk.specs.declared.disk.DeviceFault.{DeviceFault}
 use Rattle.oa_journal.proofs.Slices.{long, shown, shows}
 
 -- groups so far, and one more
@@ -113,7 +112,3 @@ both_ok P Q R (Err e) both p q = tt
 pub offset_of : (place : ℕ) (fault : ImageFault) (at : ℕ) → on_disk place fault ≡ banks.Damaged at → (offset : ℕ) × (fault ≡ images.Damaged offset) × (at ≡ place + offset)
 offset_of place (images.Damaged offset) at e = let is : at ≡ place + offset = cc in (offset, refl, is)
 offset_of place images.Memory at e = absurd cc
-
-pub no_device : (place : ℕ) (fault : ImageFault) (why : DeviceFault) → on_disk place fault ≡ banks.Device why → ⊥
-no_device place (images.Damaged offset) why e = absurd cc
-no_device place images.Memory why e = absurd cc

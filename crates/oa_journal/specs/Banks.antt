@@ -4,11 +4,12 @@ use Rattle.oa_disk.specs.Disk.{Holds}
 use Rattle.oa_table.specs.declared.event.Event.{Event}
 use Rattle.oa_table.specs.declared.fault.TableFault.{TableFault}
 use Rattle.oa_table.specs.Events.{applied}
-use Rattle.oa_table.specs.Tables.{TableValue, unlocked_table}
-use Rattle.oa_layout.specs.Formats.{coded, only}
+use Rattle.oa_table.specs.Tables.{TableValue, first_table, unlocked_table}
+use Rattle.oa_layout.specs.Formats.{raw, next_by, made_where, times, coded, counted, only}
+use Rattle.oa_layout.specs.Numbers.{u32}
 use Rattle.oa_layout.proofs.Exact.{one_list, one_value}
 use Rattle.oa_image.specs.Events.{event}
-use Rattle.oa_image.specs.Tables.{is_numbered, table, table_image}
+use Rattle.oa_image.specs.Tables.{is_numbered, objects, table, table_image}
 use Rattle.oa_image.proofs.Lengths.{event_bytes}
 use Rattle.oa_image.proofs.Numbered.{numbers_stay}
 use Rattle.oa_image.proofs.Whole.{same_table}
@@ -77,6 +78,11 @@ module _ (f g : ℕ → ℕ) (library : List ℕ) (now : TableValue) (gate : ℕ
 -- where the first gate stands
 abbrev pub first_gate : List ℕ → TableValue → ℕ
 first_gate library now = start_of library (table_image now)
+
+-- the image of the table at first
+pub length-first : length (table_image first_table) ≡ 8
+unfolding table objects only counted coded made_where next_by times u32 raw
+length-first = refl
 
 -- a bank that was just written
 pub front_bank : (place : ℕ) (disk library : List ℕ) (now : TableValue) → table.Is now → first_gate library now < bank_bytes → Holds disk place (front_of library (table_image now))

@@ -8,6 +8,8 @@ pub mod laws;
 mod layout;
 mod opening;
 mod reading;
+#[cfg(test)]
+mod tests;
 
 pub use bank::{AppendFault, Bank, BankFault, StartFault};
 pub use groups::replay;

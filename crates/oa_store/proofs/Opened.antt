@@ -1,12 +1,12 @@
 -- What an opening finds.
-use Rattle.std.proofs.Common.{◌≡◌, ◌≢◌, inl, inr, ⊎_elim, ◌∙◌, ℕ, ◌+◌, ◌<◌, ◌≤◌, List, Option, Some, length, sym, subst, arith}
+use Rattle.std.proofs.Common.{◌≡◌, ◌≢◌, ⊎_elim, ◌∙◌, ℕ, ◌+◌, ◌<◌, ◌≤◌, List, Option, Some, length, sym, subst, arith}
 use Rattle.oa_table.specs.Tables.{TableValue}
 use Rattle.oa_journal.specs.Bank.{from_place, IsBank, HasLibrary}
 use Rattle.oa_journal.specs.Damages.{bank_library, one_library, not_damaged}
 use Rattle.oa_store.specs.declared.fault.OpenFault.{OpenFault}
 use Rattle.oa_store.specs.declared.fault.OpenFault.TheVariants.{NotAStore, LibraryDiffers, Damaged, Device, Memory}
 use Rattle.oa_store.specs.Faults.{IsRefusal, IsLate, IfDamaged, IsDamaged, Says}
-use Rattle.oa_store.specs.Stores.{bank_place, IsFormatted, IsStoreAt, IsStore}
+use Rattle.oa_store.specs.Stores.{bank_place, IsFormatted, IsStore}
 
 -- what holds of the bytes from a place on holds of them under other names
 pub carried : (P : (ℕ → ℕ) → Type 0) (place to : ℕ) (was is : List ℕ) → place ≡ to → was ≡ is → P (from_place place was) → P (from_place to is)

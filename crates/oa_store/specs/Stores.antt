@@ -1,5 +1,5 @@
 -- What the bytes of a disk are a store of. The layout is this project's choice.
-use Rattle.std.specs.Prelude.{◌≡◌, ◌≢◌, ◌⊎◌, ℕ, ◌+◌, ◌*◌, ◌-◌, ◌^◌, ◌%◌, ◌<◌, ◌≤◌, List, length, slice_index}
+use Rattle.std.specs.Prelude.{◌≡◌, ◌≢◌, ◌⊎◌, ℕ, ◌+◌, ◌*◌, ◌%◌, ◌<◌, ◌≤◌, List, length, slice_index}
 use Rattle.oa_table.specs.Tables.{TableValue}
 use Rattle.oa_journal.specs.Bank.{bank_bytes, from_place, IsBank}
 

@@ -1,6 +1,5 @@
 //! Why a store was not made, not opened, or did not go on.
 use oa_disk::DeviceFault;
-use std::alloc::AllocError;
 use thiserror::Error;
 
 /// Why a disk was not made a store.
@@ -9,7 +8,7 @@ pub enum FormatFault {
     /// It has fewer bytes than a store.
     #[error("disk too small")]
     TooSmall,
-    /// A call of the device failed. What the disk holds now is no store, or a store that is whole.
+    /// A call of the device failed. The disk holds no store now, or one that is whole.
     #[error("device: {0}")]
     Device(DeviceFault),
     /// There is no memory for a bank's first bytes. Nothing was done.
@@ -17,13 +16,14 @@ pub enum FormatFault {
     Memory,
 }
 
-/// Why a disk was not opened. Where several are true, the first of this list is answered.
+/// Why a disk was not opened. An opening looks at the size, the first byte, the header of the bank, its library, its snapshot and its groups,
+/// and answers for the first of these that fails.
 #[derive(Clone, Copy, Debug, PartialEq, Eq, Error)]
 pub enum OpenFault {
     /// It has fewer bytes than a store, or its first byte is not 1.
     #[error("not a store")]
     NotAStore,
-    /// It is a store of another library.
+    /// Its header is whole, and the library behind it is another one.
     #[error("library differs")]
     LibraryDiffers,
     /// The bytes at this place of the disk are not those of a header, a table or a group.

@@ -1,7 +1,6 @@
 //! Reading a store.
 ghost use Rattle.std.specs.Prelude.{◌≡◌, ◌↔◌, ◌+◌, ◌-◌, ◌^◌, ◌<◌, ◌≤◌, ℕ, List, true, false, Some, None, IsTrue, OnOk, IfOk, IfErr, IsErrOf};
 ghost use Rattle.oa_disk.specs.Disk.{Only};
-ghost use Rattle.oa_table.specs.Tables.{TableValue};
 ghost use Rattle.oa_image.specs.Tables.{is_numbered};
 ghost use Rattle.oa_journal.specs.Append.{IsAt};
 ghost use Rattle.oa_journal.specs.Bank.{bank_bytes, from_place, IsBank, HasLibrary};

@@ -2,8 +2,8 @@ use Rattle.std.proofs.Common.{◌≡◌, inl, inr, ◌∙◌, ℕ, ◌+◌, List
 use Rattle.oa_journal.specs.declared.bank.Bank.{Bank}
 use Rattle.oa_journal.specs.Bank.{from_place, IsBank, HasLibrary}
 use Rattle.oa_journal.specs.Damages.{IsDamagedAt}
-use Rattle.oa_store.specs.Faults.{IfDamaged, IsDamaged}
-use Rattle.oa_store.specs.Stores.{bank_place, IsStore}
+use Rattle.oa_store.specs.Faults.{IsDamaged}
+use Rattle.oa_store.specs.Stores.{bank_place}
 use Rattle.oa_store.proofs.Opened.{carried, of_library, if_damaged, says_late}
 use Rattle.oa_store.proofs.opening.find_store.Goals as goal
 

@@ -1,7 +1,7 @@
-use Rattle.std.proofs.Common.{◌≡◌, inl, inr, ◌∙◌, ℕ, ◌+◌, List, None, subst, sym, ap, arith}
-use Rattle.oa_journal.specs.Bank.{from_place, IsBank}
+use Rattle.std.proofs.Common.{◌≡◌, inr, ◌∙◌, ℕ, ◌+◌, List, None, subst, sym, ap}
+use Rattle.oa_journal.specs.Bank.{IsBank}
 use Rattle.oa_journal.specs.Damages.{IsDamagedAt}
-use Rattle.oa_store.specs.Faults.{IfDamaged, IsDamaged}
+use Rattle.oa_store.specs.Faults.{IsDamaged}
 use Rattle.oa_store.specs.Stores.{bank_place, IsStore}
 use Rattle.oa_store.proofs.Opened.{carried, if_damaged, says_late}
 use Rattle.oa_store.proofs.opening.inspect.Goals as goal

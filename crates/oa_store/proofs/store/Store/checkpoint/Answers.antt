@@ -5,7 +5,6 @@ use Rattle.oa_table.specs.Tables.{unlocked_table}
 use Rattle.oa_journal.specs.Bank.{bank_bytes, from_place, IsBank}
 use Rattle.oa_journal.specs.Banks.{first_gate}
 use Rattle.oa_store.specs.Changes.{IsSwitch}
-use Rattle.oa_store.specs.Stores.{bank_place}
 use Rattle.oa_store.proofs.Changed.{staged, may_switch, has_switched}
 use Rattle.oa_store.proofs.store.Store.checkpoint.Goals as goal
 

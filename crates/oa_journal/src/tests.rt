@@ -1,0 +1,339 @@
+//! Banks on a disk in memory: rooms, stops within an append, and damage.
+ghost use Rattle.std.specs.Prelude.{◌≡◌, ◌+◌, ◌≤◌, length, IfOk};
+ghost use Rattle.oa_table.specs.Tables.{first_table};
+ghost use Rattle.oa_journal.specs.Bank.{bank_bytes};
+
+use crate::{AppendFault, BANK_BYTES, Bank, BankFault, StartFault, laws, replay};
+use oa_bstr::Bstr;
+use oa_disk::{Disk, MemoryDisk, Tear};
+use oa_image::{ImageFault, write_event};
+use oa_model::guid_from_wire;
+use oa_table::{CellName, Event, Place, Table};
+use oa_variant::{Scalar, Variant};
+use std::alloc::{AllocError, Global};
+use std::test::Fail;
+use uuid::Uuid;
+
+/// The GUID 11223344-5566-7788-99AA-BBCCDDEEFF0p.
+fn guid(p: u8) -> Uuid {
+    guid_from_wire([
+        0x44, 0x33, 0x22, 0x11, 0x66, 0x55, 0x88, 0x77, 0x99, 0xAA, 0xBB, 0xCC, 0xDD, 0xEE, 0xFF, p,
+    ])
+}
+
+/// The object 1 comes: an image of 21 bytes.
+fn create() -> Event {
+    Event::Create {
+        number: 1,
+        class: guid(3),
+    }
+}
+
+/// The property of object 1 with the DISPID 2.
+fn name(alloc: Global) -> CellName {
+    let place = Place::new(guid(2), 2, Vec::new(alloc));
+    CellName { object: 1, place }
+}
+
+/// It becomes a text of so many bytes: an image of 33 bytes more.
+fn put_text(alloc: Global, count: usize) -> Result<Event, AllocError> {
+    let bytes = vec![in alloc; 65; count]?;
+    let Ok(text) = Bstr::from_bytes(alloc, &bytes) else {
+        return Err(AllocError);
+    };
+    Ok(Event::Put {
+        name: name(alloc),
+        value: Variant::One(Scalar::Bstr(text)),
+    })
+}
+
+/// What a bank was read as.
+#[derive(Clone, Copy, Debug, PartialEq, Eq)]
+struct Seen {
+    library: usize,
+    next: u32,
+    objects: usize,
+    room: u32,
+}
+
+/// A bank that stands somewhere on a disk.
+#[derive(Drop)]
+struct Tried {
+    alloc: Global,
+    disk: MemoryDisk,
+    bank: Bank,
+    place: u64,
+    ghost inside: { bank.place + bank_bytes ≤ ⟦<MemoryDisk as Disk>⟧.size_of disk },
+    ghost same: { place + bank_bytes ≤ ⟦<MemoryDisk as Disk>⟧.size_of disk },
+    ghost on_a_disk: { place ≤ 8192 },
+}
+
+impl Tried {
+    /// With a library of 279 bytes and the table at first, brought to the device.
+    fn new(
+        alloc: Global,
+        place: u64,
+        size: usize,
+        calls: usize,
+        bytes: usize,
+    ) -> Result<Tried, StartFault>
+        requires { place ≤ 8192 }
+    {
+        let mut disk = MemoryDisk::new(alloc, size, calls, bytes)?;
+        if disk.size() < place + u64::from(BANK_BYTES) {
+            return Err(StartFault::Memory);
+        }
+        let bank = begin(alloc, &mut disk, place, &[108; 279], &Table::new(alloc))?;
+        disk.sync()?;
+        Ok(Tried {
+            alloc,
+            disk,
+            bank,
+            place,
+        })
+    }
+
+    /// Adds a group of one event.
+    fn add(&mut self, event: &Event) -> Result<Result<(), AppendFault>, AllocError> {
+        let mut frame = vec![in self.alloc; 0; 4]?;
+        write_event(event, &mut frame)?;
+        frame.push(0)?;
+        if frame.len() <= 5 {
+            return Ok(Err(AppendFault::Full));
+        }
+        Ok(self.bank.append(&mut self.disk, &mut frame))
+    }
+
+    /// Adds a text.
+    fn add_text(&mut self, count: usize) -> Result<Result<(), AppendFault>, AllocError> {
+        let event = put_text(self.alloc, count)?;
+        self.add(&event)
+    }
+
+    /// The bank after a crash at that moment.
+    fn left(&self, moment: u64, tear: Tear) -> Result<Result<Seen, BankFault>, AllocError> {
+        if moment > self.disk.moments() {
+            return Ok(Err(BankFault::Memory));
+        }
+        let mut disk = self.disk.crash(moment, tear)?;
+        let mut bank = Bank::at(self.place);
+        Ok(reading_of(self.alloc, &mut bank, &mut disk))
+    }
+
+    /// How long its library is.
+    fn library(&self) -> Result<Result<usize, BankFault>, AllocError> {
+        let mut disk = self.disk.crash(self.disk.moments(), Tear::Kept)?;
+        let mut bank = Bank::at(self.place);
+        match bank.read_library(self.alloc, &mut disk) {
+            Ok(library) => Ok(Ok(library.len())),
+            Err(fault) => Ok(Err(fault)),
+        }
+    }
+
+    /// The bank after these bytes were written from that place on.
+    fn changed(&self, at: u64, bytes: &[u8]) -> Result<Result<Seen, BankFault>, AllocError> {
+        let mut disk = self.disk.crash(self.disk.moments(), Tear::Kept)?;
+        let size = disk.size();
+        let count = bytes.len() as u64;
+        if count > size || at > size - count || disk.write_at(at, bytes).is_err() {
+            return Ok(Err(BankFault::Memory));
+        }
+        let mut bank = Bank::at(self.place);
+        Ok(reading_of(self.alloc, &mut bank, &mut disk))
+    }
+}
+
+/// Writes the bank of a library and the table at first.
+fn begin(
+    alloc: Global,
+    disk: &mut MemoryDisk,
+    place: u64,
+    library: &[u8],
+    table: &Table,
+) -> Result<Bank, StartFault>
+    requires low { place ≤ 8192 }
+    requires few { length library.now ≤ 300 }
+    requires first { table.now ≡ first_table }
+    requires inside { place + bank_bytes ≤ ⟦<MemoryDisk as Disk>⟧.size_of disk.old }
+    ensures bank { IfOk result (λ bank. bank.place ≡ place) }
+    ensures size { ⟦<MemoryDisk as Disk>⟧.size_of disk.new ≡ ⟦<MemoryDisk as Disk>⟧.size_of disk.old }
+{
+    let mut bank = Bank::at(place);
+    match bank.start(alloc, disk, library, table) {
+        Ok(()) => Ok(bank),
+        Err(fault) => Err(fault),
+    }
+}
+
+/// What the bank is read as.
+fn reading_of(alloc: Global, bank: &mut Bank, disk: &mut MemoryDisk) -> Result<Seen, BankFault>
+    requires { bank.old.place + bank_bytes ≤ ⟦<MemoryDisk as Disk>⟧.size_of disk.old }
+{
+    match bank.read_all(alloc, disk) {
+        Ok((library, table)) => Ok(Seen {
+            library: library.len(),
+            next: table.next(),
+            objects: table.len(),
+            room: bank.room(),
+        }),
+        Err(fault) => Err(fault),
+    }
+}
+
+/// The bytes of a text, how many such texts are put, what the last of them is answered, and the room behind it.
+const TEXTS: [(usize, u32, Result<(), AppendFault>, u32); 3] = [
+    (262_144, 63, Ok(()), 259_405),
+    (259_367, 1, Err(AppendFault::Full), 259_405),
+    (259_366, 1, Ok(()), 1),
+];
+
+#[test]
+fn a_bank_takes_groups_as_long_as_they_fit(rt: HostRuntime) -> Result<(), Fail> {
+    let Ok(mut tried) = Tried::new(rt.alloc(), 0, 16_777_216, 300, 16_800_000) else {
+        return Ok(assert!(rt; false));
+    };
+    assert_eq!(rt; tried.bank.room(), 16_776_897);
+    assert_eq!(rt; tried.add(&create())?, Ok(()));
+    assert_eq!(rt; tried.bank.room(), 16_776_871);
+    for (count, times, wanted, room) in TEXTS {
+        let mut last = Ok(());
+        for _ in 0..times {
+            last = tried.add_text(count)?;
+        }
+        assert_eq!(rt; last, wanted);
+        assert_eq!(rt; tried.bank.room(), room);
+    }
+    let full = Seen {
+        library: 279,
+        next: 2,
+        objects: 1,
+        room: 1,
+    };
+    let again = tried.left(tried.disk.moments(), Tear::Kept)?;
+    assert_eq!(rt; again, Ok(full));
+    Ok(())
+}
+
+/// The bank before the append of a create, and after it.
+const WITHOUT: Seen = Seen {
+    library: 279,
+    next: 1,
+    objects: 0,
+    room: 16_776_897,
+};
+
+const WITH: Seen = Seen {
+    library: 279,
+    next: 2,
+    objects: 1,
+    room: 16_776_871,
+};
+
+/// Whether the group is there after a crash, while the gate is written and not yet brought to the device.
+const GATES: [(u64, Tear, Seen); 9] = [
+    (9, Tear::Lost, WITHOUT),
+    (9, Tear::Filled(7), WITHOUT),
+    (9, Tear::Filled(1), WITH),
+    (10, Tear::Lost, WITHOUT),
+    (10, Tear::Kept, WITH),
+    (10, Tear::Cut(0), WITHOUT),
+    (10, Tear::Cut(1), WITH),
+    (11, Tear::Lost, WITHOUT),
+    (11, Tear::Kept, WITH),
+];
+
+/// What a crash may leave of what was not brought to the device.
+const TEARS: [Tear; 5] = [
+    Tear::Lost,
+    Tear::Kept,
+    Tear::Filled(1),
+    Tear::Filled(255),
+    Tear::Cut(13),
+];
+
+#[test]
+fn a_group_is_there_whole_or_not_at_all(rt: HostRuntime) -> Result<(), Fail> {
+    let Ok(mut tried) = Tried::new(rt.alloc(), 0, 16_777_216, 6, 400) else {
+        return Ok(assert!(rt; false));
+    };
+    assert_eq!(rt; tried.add(&create())?, Ok(()));
+    // a write and a sync, then a write, a sync, the gate's write and a sync
+    assert_eq!(rt; tried.disk.moments(), 12);
+    for moment in 4..13 {
+        for tear in TEARS {
+            let left = tried.left(moment, tear)?;
+            let with = left == Ok(WITH);
+            let without = left == Ok(WITHOUT);
+            let is_known = (moment > 8 || without) && (moment < 12 || with);
+            assert!(rt; is_known && (with || without), "moment {moment}, {tear:?}");
+        }
+    }
+    for (moment, tear, wanted) in GATES {
+        assert_eq!(rt;
+            tried.left(moment, tear)?,
+            Ok(wanted),
+            "moment {moment}, {tear:?}"
+        );
+    }
+    // No call is left in the disk's record: the bank stops.
+    assert!(rt; matches!(tried.add_text(1)?, Err(AppendFault::Device(_))));
+    assert_eq!(rt; tried.add_text(1)?, Err(AppendFault::Stopped));
+    Ok(())
+}
+
+#[test]
+fn damage_is_told_by_its_place(rt: HostRuntime) -> Result<(), Fail> {
+    let Ok(mut tried) = Tried::new(rt.alloc(), 8192, 16_785_408, 20, 800) else {
+        return Ok(assert!(rt; false));
+    };
+    assert_eq!(rt; tried.add(&create())?, Ok(()));
+    let rows: [(u64, &[u8], Result<Seen, BankFault>); 9] = [
+        // the first letter of the header; the number of its format; a snapshot that ends behind the bank
+        (8192, &[80], Err(BankFault::Damaged(8192))),
+        (8200, &[2], Err(BankFault::Damaged(8192))),
+        (8208, &[0, 0, 0, 1], Err(BankFault::Damaged(8192))),
+        // another library is one too
+        (8224, &[109], Ok(WITH)),
+        // the next number 0
+        (8503, &[0, 0, 0, 0], Err(BankFault::Damaged(8503))),
+        // no length; a length that ends behind the bank; an event of no kind
+        (8512, &[0, 0, 0, 0], Err(BankFault::Damaged(8511))),
+        (8512, &[0, 0, 0, 1], Err(BankFault::Damaged(8511))),
+        (8516, &[9], Err(BankFault::Damaged(8511))),
+        // a gate that is not open
+        (8511, &[7], Ok(WITHOUT)),
+    ];
+    for (at, bytes, wanted) in rows {
+        assert_eq!(rt;
+            tried.changed(at, bytes)?,
+            wanted,
+            "bytes {bytes:?} at {at}"
+        );
+    }
+    // an event that does not apply: the object 1 is there
+    assert_eq!(rt; tried.add(&create())?, Ok(()));
+    let again = tried.left(tried.disk.moments(), Tear::Kept)?;
+    assert_eq!(rt; again, Err(BankFault::Damaged(8537)));
+    // the library alone is read
+    assert_eq!(rt; tried.library()?, Ok(279));
+    Ok(())
+}
+
+#[test]
+fn groups_are_replayed(rt: HostRuntime) -> Result<(), Fail> {
+    let alloc = rt.alloc();
+    let mut table = Table::new(alloc);
+    let mut group = Vec::new(alloc);
+    write_event(&create(), &mut group)?;
+    write_event(&put_text(alloc, 4)?, &mut group)?;
+    assert_eq!(rt; replay(alloc, &mut table, &group), Ok(()));
+    assert_eq!(rt; table.next(), 2);
+    assert_eq!(rt; table.get(&name(alloc)).is_some(), true);
+    let again = replay(alloc, &mut table, &group);
+    assert!(rt; matches!(again, Err(ImageFault::Damaged(_))));
+    laws::one_bank();
+    laws::one_replay();
+    laws::damage_is_no_bank();
+    laws::bank_has_its_library();
+    Ok(())
+}

@@ -3,7 +3,7 @@
 
     python3 cli/client_cases.py [PROGRAM]      PROGRAM is crates/oaut/out/oaut, as `rt ci` leaves it, where none is given
 
-What the program refuses as something that it does not have yet is skipped, by asking it. The last line counts the cases.
+The last line counts the cases.
 """
 import contextlib
 import io
@@ -23,7 +23,6 @@ import oaut
 from oaut import EMPTY, I1, I2, I4, I8, INT, NULL_BSTR, UI1, UI2, UI4, UI8, UINT, VT, Array, Currency, Error, Field
 
 counts = {True: 0, False: 0}
-skipped = []
 FULL = f"{ROOT}/examples/full.idl"
 ARRAYS = f"{ROOT}/examples/arrays.idl"
 
@@ -588,22 +587,11 @@ with play(f"{ROOT}/examples/small.idl") as server:
     except oaut.Unexpected:
         tell("65,537 objects", True)
 
-# conversion and parameters, and what the server does not have yet
+# conversion, parameters, elements, locks, and what becomes of objects
 
 with play(FULL) as server:
     item = server.create("Item")
     item.Grid = Array(I2, [(2, -1), (3, 5)], range(1, 7))
-
-    def stands(name, request):
-        """Whether the server knows a request, which is asked with an object that is not there."""
-        try:
-            server.ask(request, bytes)
-        except oaut.BadStub:
-            skipped.append(name)
-            return False
-        except oaut.Refused:
-            pass
-        return True
 
     for given, kept in ((Currency("2.5"), 2), (Currency("3.5"), 4), (Currency("-2.5"), -2), (I8(7), 7), (EMPTY, 0), (True, -1)):
         item.Count = given
@@ -625,49 +613,39 @@ with play(FULL) as server:
     raises("a row too large", oaut.Overflow, lambda: item.Cell(2**31, "k"), index=1, argument="Row")
     request = oaut.ask_invoke(1, 9, 2, (7,), (oaut.spell("k"), oaut.spell("k"), oaut.spell(5)))
     raises("a parameter that is none", oaut.ParamNotFound, lambda: server.ask(request, bytes), index=0)
-    head = (9, 8, 2, (), ())
-    if stands("elements", oaut.ask_call(oaut.GETELEM, *head) + oaut.indices_field([0])) and stands("elements", oaut.ask_call(oaut.PUTELEM, *head) + oaut.indices_field([0]) + oaut.variant_field(oaut.spell(1))):
-        same("elements", [item.Grid[-1, 5], item.Grid[0, 7]], [I2(1), I2(6)])
-        raises("an index outside", oaut.BadIndex, lambda: item.Grid[1, 7])
-        raises("an index too few", oaut.BadIndex, lambda: item.Grid[0])
-        raises("an element of no array", oaut.TypeMismatch, lambda: item.array("Count")[0])
-        item.Grid[0, 7] = 60
-        same("a put element", list(item.Grid), [[1, 2, 3], [4, 5, 60]])
-        raises("an element too large", oaut.Overflow, lambda: item.Grid.__setitem__((0, 7), 40_000), index=None)
-        item.Any = [1, "x"]
-        item.array("Any")[1] = "y"
-        same("elements in a VARIANT", [item.array("Any")[0], item.array("Any")[1]], [I4(1), "y"])
-        with server.batch():
-            later = item.Grid[0, 5]
-            item.Grid[0, 5] = 40
-        same("elements in a batch", [later.value, item.Grid[0, 5]], [I2(4), I2(40)])
-    if stands("redimension", oaut.ask_call(oaut.REDIM, *head) + struct.pack("<Ii", 1, 0)):
-        item.Grid = Array(I2, [(2, -1), (3, 5)], range(1, 7))
-        item.Grid.redim(3, 10)
-        same("a redimension", item.Grid.value, Array(I2, [(3, 10), (3, 5)], [1, 2, 3, 4, 5, 6, 0, 0, 0]))
-        raises("a redimension too large", oaut.InvalidArg, lambda: item.Grid.redim(65_536))
-    if stands("locks", oaut.ask_call(oaut.LOCK, *head)) and stands("locks", oaut.ask_call(oaut.UNLOCK, *head)):
-        same("locks", [item.Grid.lock(), item.Grid.lock(), item.Grid.unlock()], [1, 2, 1])
-        raises("a put over a locked array", oaut.ArrayIsLocked, lambda: setattr(item, "Grid", [1]))
-        same("the last lock", item.Grid.unlock(), 0)
-        raises("no lock is left", oaut.Unexpected, lambda: item.Grid.unlock())
-    if stands("list", oaut.ask_list()):
-        same("the live objects", [(it.number, it.coclass) for it in server.objects()], [(1, "Item")])
-    if stands("release", oaut.ask_release(9)):
-        item.release()
-        raises("an object that was released", oaut.Disconnected, lambda: item.Count)
-        same("numbers are not used again", server.create("Item").number, 2)
+    same("elements", [item.Grid[-1, 5], item.Grid[0, 7]], [I2(1), I2(6)])
+    raises("an index outside", oaut.BadIndex, lambda: item.Grid[1, 7])
+    raises("an index too few", oaut.BadIndex, lambda: item.Grid[0])
+    raises("an element of no array", oaut.TypeMismatch, lambda: item.array("Count")[0])
+    item.Grid[0, 7] = 60
+    same("a put element", list(item.Grid), [[1, 2, 3], [4, 5, 60]])
+    raises("an element too large", oaut.Overflow, lambda: item.Grid.__setitem__((0, 7), 40_000), index=None)
+    item.Any = [1, "x"]
+    item.array("Any")[1] = "y"
+    same("elements in a VARIANT", [item.array("Any")[0], item.array("Any")[1]], [I4(1), "y"])
+    with server.batch():
+        later = item.Grid[0, 5]
+        item.Grid[0, 5] = 40
+    same("elements in a batch", [later.value, item.Grid[0, 5]], [I2(4), I2(40)])
+    item.Grid = Array(I2, [(2, -1), (3, 5)], range(1, 7))
+    item.Grid.redim(3, 10)
+    same("a redimension", item.Grid.value, Array(I2, [(3, 10), (3, 5)], [1, 2, 3, 4, 5, 6, 0, 0, 0]))
+    raises("a redimension too large", oaut.InvalidArg, lambda: item.Grid.redim(65_536))
+    same("locks", [item.Grid.lock(), item.Grid.lock(), item.Grid.unlock()], [1, 2, 1])
+    raises("a put over a locked array", oaut.ArrayIsLocked, lambda: setattr(item, "Grid", [1]))
+    same("the last lock", item.Grid.unlock(), 0)
+    raises("no lock is left", oaut.Unexpected, lambda: item.Grid.unlock())
+    same("the live objects", [(it.number, it.coclass) for it in server.objects()], [(1, "Item")])
+    item.release()
+    raises("an object that was released", oaut.Disconnected, lambda: item.Count)
+    same("numbers are not used again", server.create("Item").number, 2)
 
-raw = subprocess.run([PROGRAM, "play", FULL], stdin=subprocess.DEVNULL, capture_output=True)
-if raw.returncode:
-    skipped.append("the raw stream")
-else:
-    with oaut.play(FULL, program=PROGRAM, framing="raw") as server:
-        item = server.create("Item")
-        with server.batch():
-            item.Name = "a" * 131_072
-            laters = [item.Name for _ in range(20)]
-        same("a session over the raw stream", [it.value for it in laters], ["a" * 131_072] * 20)
+with oaut.play(FULL, program=PROGRAM, framing="raw") as server:
+    item = server.create("Item")
+    with server.batch():
+        item.Name = "a" * 131_072
+        laters = [item.Name for _ in range(20)]
+    same("a session over the raw stream", [it.value for it in laters], ["a" * 131_072] * 20)
 
 # --- ends
 
@@ -776,8 +754,7 @@ Array(I2, [(3, -1), (2, 0)], [1, 9, 3, 4, 0, 0])
 'two'
 <Item 1>
 """
-if not skipped or skipped == ["the raw stream"]:
-    same("more commands of the prompt", command(["talk", FULL, "--program", PROGRAM], MORE), (0, SAID_MORE, ""))
+same("more commands of the prompt", command(["talk", FULL, "--program", PROGRAM], MORE), (0, SAID_MORE, ""))
 with tempfile.NamedTemporaryFile("w") as file:
     file.write("create Item\nput 1 Count \"x\"\nget 1 Count\n")
     file.flush()
@@ -817,7 +794,5 @@ for name, _, sent, reply, _ in ASKED:
     tell(f"{name} in words", len(told) == 2 and not any("no record" in it for it in told), told)
 same("an element in words", list(oaut.decode([b"\1\0\0\0" + hexed(ASKED[11][2])])), ["request 1: PUTELEM object 1 dispid 8, element [-1, 5] = I4(40000)"])
 
-if skipped:
-    print(f"not there yet: {', '.join(dict.fromkeys(skipped))}")
 print(f"{counts[True]} cases hold, {counts[False]} do not")
 sys.exit(1 if counts[False] else 0)

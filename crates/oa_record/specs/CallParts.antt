@@ -19,7 +19,7 @@ pub record PutParts : Type 0 where
   pub element : ElementParts
   pub value : List ℕ
 
--- a call that names an array, and its new last bound
+-- a call that names an array, and its new first listed bound
 pub record RedimParts : Type 0 where
   pub call : CallParts
   pub bound : Bound

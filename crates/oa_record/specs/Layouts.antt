@@ -97,7 +97,7 @@ element_parts e = call_parts e.call ▸ indices e.indices
 abbrev pub put_parts : PutParts → Form
 put_parts p = element_parts p.element ▸ field p.value
 
--- a call that names an array, and its new last bound: cElements, lLbound (SAFEARRAYBOUND, MS-OAUT section 2.2.30.1)
+-- a call that names an array, and its new first listed bound: cElements, lLbound (SAFEARRAYBOUND, MS-OAUT section 2.2.30.1)
 abbrev pub redim_parts : RedimParts → Form
 redim_parts r = call_parts r.call ▸ bound r.bound
 

@@ -217,3 +217,17 @@ impl Server {
         Reply::bare(self.alloc, tag, refusal.code, refusal.index)
     }
 }
+
+#[cfg(test)]
+impl Server {
+    /// A server of this library and this table.
+    pub(crate) fn over(alloc: Global, library: Library, table: Table) -> Server
+        ensures { result ≡ record { library = library; table = table } }
+    {
+        Server {
+            alloc,
+            library,
+            table,
+        }
+    }
+}

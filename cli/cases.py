@@ -886,6 +886,12 @@ talk(
     ],
 )
 
+talk(
+    "names of 64 characters",
+    library_with(interface(b"2", name=b"N" * 64, body=b"[id(1)] long " + b"M" * 64 + b";") + coclass(b"3", body=b"dispinterface " + b"N" * 64 + b";")),
+    [describes(0, wire.interface(ITEM, "N" * 64, [wire.member(1, 0, 0, wire.I4, "M" * 64)])), looks_up(["m" * 64], [1]), looks_up(["m" * 63], [-1])],
+)
+
 # --- libraries
 
 checked("the small library", SMALL, 0, text_of("small.canonical.idl"), b"")

@@ -18,6 +18,8 @@ struct Echo;
 impl Responder for Echo {
     ghost turn = { λ _ _ _ _. ⊤ };
 
+    ghost ends = { λ _ _ _. ⊤ };
+
     fn respond<W: Sink>(
         &mut self,
         framing: Framing,

@@ -3,7 +3,7 @@ ghost use Rattle.std.specs.Prelude.{◌≡◌, ◌≤◌, IfOk, OnErr, false, le
 ghost use Rattle.oa_stream.specs.Ahead.{ahead};
 ghost use Rattle.oa_frame.specs.Framings.{frames, hex_lines, records};
 ghost use Rattle.oa_frame.specs.Sessions.{Session};
-ghost use Rattle.oa_server.specs.Serving.{last_written, turn_written};
+ghost use Rattle.oa_server.specs.Serving.{last_written, none_held, turn_written};
 
 use crate::Server;
 use oa_frame::{Framing, Responder, Served, put_reply, serve};
@@ -15,6 +15,8 @@ use std::alloc::{AllocError, Global};
 impl Responder for Server {
     ghost turn = { turn_written };
 
+    ghost ends = { none_held };
+
     fn respond<W: Sink>(
         &mut self,
         framing: Framing,
@@ -24,6 +26,12 @@ impl Responder for Server {
         let reply = self.answer(body);
         put_reply(framing, writer, &reply.head(), reply.body())
     }
+
+    fn finish<W: Sink>(&mut self, _: Framing, _: &mut W) -> Result<(), Unwritten> {
+        Ok(())
+    }
+
+    fn abandon(&mut self) {}
 }
 
 impl Server {
@@ -40,7 +48,7 @@ impl Server {
         requires small { group ≤ 1024 }
         requires unbroken { (ahead R.input reader.old).faulted ≡ false }
         requires unbroken_writer { (W.out writer.old).broken ≡ false }
-        ensures session { IfOk result (λ served. Session hex_lines turn_written last_written (ahead R.input reader.old) (ahead R.input reader.new)
+        ensures session { IfOk result (λ served. Session hex_lines turn_written none_held last_written (ahead R.input reader.old) (ahead R.input reader.new)
             (W.out writer.old) (W.out writer.new) self.old self.new served) }
         ensures input { OnErr result (ahead R.input reader.new ≡ ahead R.input reader.old) }
         ensures output { OnErr result (W.out writer.new ≡ W.out writer.old) }
@@ -61,7 +69,7 @@ impl Server {
         requires small { group ≤ 1024 }
         requires unbroken { (ahead R.input reader.old).faulted ≡ false }
         requires unbroken_writer { (W.out writer.old).broken ≡ false }
-        ensures session { IfOk result (λ served. Session records turn_written last_written (ahead R.input reader.old) (ahead R.input reader.new)
+        ensures session { IfOk result (λ served. Session records turn_written none_held last_written (ahead R.input reader.old) (ahead R.input reader.new)
             (W.out writer.old) (W.out writer.new) self.old self.new served) }
         ensures input { OnErr result (ahead R.input reader.new ≡ ahead R.input reader.old) }
         ensures output { OnErr result (W.out writer.new ≡ W.out writer.old) }
@@ -80,7 +88,7 @@ impl Server {
     ) -> Result<Served, AllocError>
         requires unbroken { (ahead R.input reader.old).faulted ≡ false }
         requires unbroken_writer { (W.out writer.old).broken ≡ false }
-        ensures session { IfOk result (λ served. Session (frames framing) turn_written last_written (ahead R.input reader.old) (ahead R.input reader.new)
+        ensures session { IfOk result (λ served. Session (frames framing) turn_written none_held last_written (ahead R.input reader.old) (ahead R.input reader.new)
             (W.out writer.old) (W.out writer.new) self.old self.new served) }
         ensures input { OnErr result (ahead R.input reader.new ≡ ahead R.input reader.old) }
         ensures output { OnErr result (W.out writer.new ≡ W.out writer.old) }

@@ -29,6 +29,13 @@ impl Responder for Echo {
         let count = body.len().min(1_048_576);
         put_reply(framing, writer, &[], &body[..count])
     }
+
+    #[tactic(auto, using(crate::proofs::Spelled::puts_none))]
+    fn finish<W: Sink>(&mut self, _: Framing, _: &mut W) -> Result<(), Unwritten> {
+        Ok(())
+    }
+
+    fn abandon(&mut self) {}
 }
 
 const LAST: [u8; 2] = [0xab, 0xcd];

@@ -10,3 +10,4 @@ pub mod Reached
 pub mod Planned
 pub mod InMemory
 pub mod Planning
+pub mod Allowed

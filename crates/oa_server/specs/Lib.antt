@@ -1,5 +1,6 @@
 pub mod States
 pub mod Refusals
+pub mod Limits
 pub mod Decisions
 pub mod Interfaces
 pub mod Create

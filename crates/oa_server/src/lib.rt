@@ -1,10 +1,12 @@
 //! An automation object server: requests to a table, and sessions over a reader and a writer.
 #![tactic(auto)]
 
+mod changes;
 mod decision;
 mod fields;
 mod host;
 pub mod laws;
+mod limits;
 mod plan;
 mod refusal;
 mod server;

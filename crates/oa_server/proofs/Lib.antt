@@ -7,3 +7,6 @@ pub mod Added
 pub mod Refused
 pub mod Keys
 pub mod Reached
+pub mod Planned
+pub mod InMemory
+pub mod Planning

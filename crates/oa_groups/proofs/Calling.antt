@@ -1,5 +1,5 @@
 -- How a session goes on.
-use Rattle.std.proofs.Common.{rules, ◌≡◌, ◌⊎◌, inl, inr, ⊎_elim, ℕ, zero, suc, ◌+◌, ◌<◌, ◌≤◌, nat_le, if◌then◌else◌, Some, slice_get, drop, Bool, true, false, List, [], ◌∷◌, ◌++◌, length, refl, sym, ◌∙◌, ap, subst, arith, length-append, append_assoc}
+use Rattle.std.proofs.Common.{rules, ◌≡◌, inl, inr, ⊎_elim, ℕ, suc, ◌+◌, ◌≤◌, nat_le, if◌then◌else◌, Some, slice_get, drop, Bool, true, false, List, [], ◌∷◌, ◌++◌, length, refl, sym, ◌∙◌, ap, subst, arith, length-append, append_assoc}
 use Rattle.std.proofs.lemmas.List.{append-nil}
 use Rattle.oa_disk.specs.declared.disk.Disk.{Ghosts}
 use Rattle.oa_disk.specs.Disk.{LeavesOnly}
@@ -9,11 +9,11 @@ use Rattle.oa_keeper.specs.Kept.{AllHold}
 use Rattle.oa_groups.specs.Groups.{joined}
 use Rattle.oa_groups.specs.History.{IsServedFrom, Session}
 use Rattle.oa_groups.specs.Runs.{IsAfter, IsRun, Run}
-use Rattle.oa_groups.specs.Served.{IsServed, Served}
+use Rattle.oa_groups.specs.Served.{IsServed}
 use Rattle.oa_groups.specs.Sessions.{by_then, Call, Calls, IsCalled, IsSession, Sitting}
 use Rattle.oa_groups.specs.Turns.{Entry, Turns}
 use Rattle.oa_groups.proofs.Entries.{joined_two, run_append}
-use Rattle.oa_groups.proofs.Running.{after_all, after_fewer, one_moment, run_joined}
+use Rattle.oa_groups.proofs.Running.{after_all, one_moment, run_joined}
 
 last_by_then : (moment m0 : ℕ) (rest : List ℕ) → m0 ≤ moment → (m : ℕ) × (slice_get (m0 ∷ rest) (by_then moment rest) ≡ Some m) × (m ≤ moment)
 last_by_then moment m0 [] le = (m0, refl, le)

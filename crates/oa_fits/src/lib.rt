@@ -5,3 +5,6 @@ mod fitting;
 pub mod laws;
 
 pub use fitting::fits;
+
+#[cfg(test)]
+mod tests;

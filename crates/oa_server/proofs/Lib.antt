@@ -7,3 +7,5 @@ pub mod Added
 pub mod Refused
 pub mod Keys
 pub mod Reached
+pub mod Bound
+pub mod Fitting

@@ -57,7 +57,7 @@ use Rattle.oa_server.specs.declared.decision.Decision.TheVariants.{Answer, Chang
 use Rattle.oa_server.specs.declared.decision.LockChange.{LockChange}
 use Rattle.oa_server.specs.declared.decision.LockChange.TheVariants.{Lock, Unlock}
 use Rattle.oa_server.specs.declared.refusal.Refusal.{Refusal}
-use Rattle.oa_server.specs.declared.server.cell.BoundCell.{BoundCell}
+use Rattle.oa_server.specs.declared.host.cell.BoundCell.{BoundCell}
 use Rattle.oa_server.specs.ArrayCells.{as_element, as_refused, element_in, element_type_in, locks_in, put_in}
 use Rattle.oa_server.specs.Cells.{bound_as, call_found, cell_called, member_found, name_of, place_of}
 use Rattle.oa_server.specs.Create.{class_found, is_full}

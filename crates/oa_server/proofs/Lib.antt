@@ -9,3 +9,6 @@ pub mod Keys
 pub mod Reached
 pub mod Bound
 pub mod Fitting
+pub mod Planned
+pub mod InMemory
+pub mod Planning

@@ -1,5 +1,5 @@
 -- Where a server keeps its table beside its memory.
-use Rattle.std.specs.Prelude.{◌≡◌, ℕ, List, ⊤}
+use Rattle.std.specs.Prelude.{◌≡◌, ℕ, List, [], ◌∷◌, ⊤}
 use Rattle.oa_record.specs.Replies.{ReplyValue, reply_record}
 use Rattle.oa_server.specs.declared.server.Server.{Server}
 use Rattle.oa_server.specs.declared.storage.Storage.{Storage}
@@ -19,6 +19,10 @@ disk_of (Memory disk) = disk
 abbrev pub Answers : {D : Type 0} → Storage D → Storage D → State → List ℕ → ReplyValue → State → Type 0
 Answers (Memory old) (Memory new) before body reply after = (new ≡ old) × Turn before body reply after
 
--- the same, with the bytes of its reply, which have no length before them
-abbrev pub answer_written : {D : Type 0} → Server D → List ℕ → List ℕ → Server D → Type 0
-answer_written old body bytes new = (reply : ReplyValue) × (bytes ≡ reply_record reply) × Answers old.storage new.storage old.host body reply new.host
+-- the same, with the bytes of its reply, which have no length before them: every body has one reply, handed out at that body
+abbrev pub answer_written : {D : Type 0} → Server D → List ℕ → List (List ℕ) → Server D → Type 0
+answer_written old body replies new = (reply : ReplyValue) × (replies ≡ reply_record reply ∷ []) × Answers old.storage new.storage old.host body reply new.host
+
+-- so none is held when the input ends
+abbrev pub none_kept : {D : Type 0} → Server D → List (List ℕ) → Server D → Type 0
+none_kept old replies new = (replies ≡ []) × (new ≡ old)

@@ -3,8 +3,8 @@ ghost use Rattle.std.specs.Prelude.{◌≡◌, ◌≤◌, IfOk, OnErr, false, le
 ghost use Rattle.oa_stream.specs.Ahead.{ahead};
 ghost use Rattle.oa_frame.specs.Framings.{frames, hex_lines, records};
 ghost use Rattle.oa_frame.specs.Sessions.{Session};
-ghost use Rattle.oa_server.specs.Serving.{last_written, turn_written};
-ghost use Rattle.oa_server.specs.Storages.{InMemory, answer_written};
+ghost use Rattle.oa_server.specs.Serving.{last_written, none_held, turn_written};
+ghost use Rattle.oa_server.specs.Storages.{InMemory, answer_written, none_kept};
 
 use crate::Server;
 use oa_disk::Disk;
@@ -17,6 +17,8 @@ use std::alloc::{AllocError, Global};
 impl<D: Disk> Responder for Server<D> {
     ghost turn = { answer_written };
 
+    ghost ends = { none_kept };
+
     fn respond<W: Sink>(
         &mut self,
         framing: Framing,
@@ -26,6 +28,12 @@ impl<D: Disk> Responder for Server<D> {
         let reply = self.answer(body);
         put_reply(framing, writer, &reply.head(), reply.body())
     }
+
+    fn finish<W: Sink>(&mut self, _: Framing, _: &mut W) -> Result<(), Unwritten> {
+        Ok(())
+    }
+
+    fn abandon(&mut self) {}
 }
 
 impl<D: Disk> Server<D> {
@@ -42,9 +50,9 @@ impl<D: Disk> Server<D> {
         requires small { group ≤ 1024 }
         requires unbroken { (ahead R.input reader.old).faulted ≡ false }
         requires unbroken_writer { (W.out writer.old).broken ≡ false }
-        ensures session { IfOk result (λ served. Session hex_lines answer_written last_written (ahead R.input reader.old) (ahead R.input reader.new)
+        ensures session { IfOk result (λ served. Session hex_lines answer_written none_kept last_written (ahead R.input reader.old) (ahead R.input reader.new)
             (W.out writer.old) (W.out writer.new) self.old self.new served) }
-        ensures memory { InMemory self.old.storage → IfOk result (λ served. Session hex_lines turn_written last_written (ahead R.input reader.old) (ahead R.input reader.new)
+        ensures memory { InMemory self.old.storage → IfOk result (λ served. Session hex_lines turn_written none_held last_written (ahead R.input reader.old) (ahead R.input reader.new)
             (W.out writer.old) (W.out writer.new) self.old.host self.new.host served) }
         ensures input { OnErr result (ahead R.input reader.new ≡ ahead R.input reader.old) }
         ensures output { OnErr result (W.out writer.new ≡ W.out writer.old) }
@@ -65,9 +73,9 @@ impl<D: Disk> Server<D> {
         requires small { group ≤ 1024 }
         requires unbroken { (ahead R.input reader.old).faulted ≡ false }
         requires unbroken_writer { (W.out writer.old).broken ≡ false }
-        ensures session { IfOk result (λ served. Session records answer_written last_written (ahead R.input reader.old) (ahead R.input reader.new)
+        ensures session { IfOk result (λ served. Session records answer_written none_kept last_written (ahead R.input reader.old) (ahead R.input reader.new)
             (W.out writer.old) (W.out writer.new) self.old self.new served) }
-        ensures memory { InMemory self.old.storage → IfOk result (λ served. Session records turn_written last_written (ahead R.input reader.old) (ahead R.input reader.new)
+        ensures memory { InMemory self.old.storage → IfOk result (λ served. Session records turn_written none_held last_written (ahead R.input reader.old) (ahead R.input reader.new)
             (W.out writer.old) (W.out writer.new) self.old.host self.new.host served) }
         ensures input { OnErr result (ahead R.input reader.new ≡ ahead R.input reader.old) }
         ensures output { OnErr result (W.out writer.new ≡ W.out writer.old) }
@@ -86,9 +94,9 @@ impl<D: Disk> Server<D> {
     ) -> Result<Served, AllocError>
         requires unbroken { (ahead R.input reader.old).faulted ≡ false }
         requires unbroken_writer { (W.out writer.old).broken ≡ false }
-        ensures session { IfOk result (λ served. Session (frames framing) answer_written last_written (ahead R.input reader.old) (ahead R.input reader.new)
+        ensures session { IfOk result (λ served. Session (frames framing) answer_written none_kept last_written (ahead R.input reader.old) (ahead R.input reader.new)
             (W.out writer.old) (W.out writer.new) self.old self.new served) }
-        ensures memory { InMemory self.old.storage → IfOk result (λ served. Session (frames framing) turn_written last_written (ahead R.input reader.old) (ahead R.input reader.new)
+        ensures memory { InMemory self.old.storage → IfOk result (λ served. Session (frames framing) turn_written none_held last_written (ahead R.input reader.old) (ahead R.input reader.new)
             (W.out writer.old) (W.out writer.new) self.old.host self.new.host served) }
         ensures input { OnErr result (ahead R.input reader.new ≡ ahead R.input reader.old) }
         ensures output { OnErr result (W.out writer.new ≡ W.out writer.old) }

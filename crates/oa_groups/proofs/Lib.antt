@@ -1,0 +1,4 @@
+pub mod Entries
+pub mod Histories
+pub mod Running
+pub mod Takes

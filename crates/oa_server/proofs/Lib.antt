@@ -13,3 +13,4 @@ pub mod Planned
 pub mod InMemory
 pub mod Planning
 pub mod Allowed
+pub mod Own

@@ -22,3 +22,4 @@ pub mod Plans
 pub mod Storages
 pub mod Serving
 pub mod Traces
+pub mod OwnCodes

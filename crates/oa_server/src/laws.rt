@@ -4,6 +4,7 @@ ghost use Rattle.oa_record.specs.declared.request.Request.{Request as ARequest};
 ghost use Rattle.oa_record.specs.Replies.{ReplyValue};
 ghost use Rattle.oa_fits.specs.Fits.{fits};
 ghost use Rattle.oa_server.specs.Decisions.{IsQuiet};
+ghost use Rattle.oa_server.specs.OwnCodes.{is_own};
 ghost use Rattle.oa_server.specs.States.{State};
 ghost use Rattle.oa_server.specs.Steps.{outcome, reply_of};
 ghost use Rattle.oa_server.specs.Traces.{done_bodies, done_replies, kept_bodies, kept_replies};
@@ -31,3 +32,9 @@ pub fn fits_stays()
 {
     changes_that_fit();
 }
+
+/// No turn answers STG_E_WRITEFAULT or E_FAIL: these tell of the device alone.
+pub fn own_codes()
+    ensures step { (state : State) (tag : ℕ) (request : ARequest) → is_own (reply_of state tag request).code ≡ true }
+    ensures turn { (old : State) (body : List ℕ) (reply : ReplyValue) (new : State) → Turn old body reply new → is_own reply.code ≡ true }
+{}

@@ -22,3 +22,7 @@ pub mod Plans
 pub mod Storages
 pub mod Serving
 pub mod Traces
+pub mod Quiet
+pub mod Requests
+pub mod Hands
+pub mod Answers

@@ -11,7 +11,6 @@ use Rattle.oa_layout.specs.Numbers.{u32}
 use Rattle.oa_keeper.proofs.Relocked.{lock_stays, unlock_stays}
 use Rattle.oa_model.specs.declared.hresult.HResult.{HResult}
 use Rattle.oa_model.specs.Codes.{e_invalidarg, stg_e_mediumfull}
-
 use Rattle.oa_table.specs.declared.event.Event.{Event}
 use Rattle.oa_table.specs.declared.fault.TableFault.{TableFault}
 use Rattle.oa_table.specs.Events.{applied}

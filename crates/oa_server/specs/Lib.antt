@@ -23,3 +23,7 @@ pub mod Storages
 pub mod Serving
 pub mod Traces
 pub mod OwnCodes
+pub mod Quiet
+pub mod Requests
+pub mod Hands
+pub mod Answers

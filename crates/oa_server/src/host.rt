@@ -1,21 +1,27 @@
 //! A library and a table in memory, and one turn after another.
-ghost use Rattle.std.specs.Prelude.{◌≡◌, List, ℕ, [], map, IsOk, IfOk, OnOk, OnErr};
+ghost use Rattle.std.specs.Prelude.{◌≡◌, List, ℕ, [], map, length, true, false, IsOk, IfOk, OnOk, OnErr};
+ghost use Rattle.oa_groups.specs.Served.{Goes};
+ghost use Rattle.oa_keeper.specs.Kept.{AllHold, HasRoom, LeavesTable};
 ghost use Rattle.oa_server.specs.Decisions.{ChangesNoLocks, Decides, after_outcome, relocked, relocking};
-ghost use Rattle.oa_server.specs.Limits.{allowed};
+ghost use Rattle.oa_server.specs.Limits.{IsSound, allowed};
 ghost use Rattle.oa_server.specs.Plans.{HoldsSame, IsPlanned, Plans, PlansChange};
+ghost use Rattle.oa_server.specs.Requests.{HasTurn, IsHeldBack, held_of};
 ghost use Rattle.oa_server.specs.Steps.{decided, reply_with, takes_memory};
 ghost use Rattle.oa_server.specs.Turns.{Run, Turn};
 ghost use Rattle.oa_table.specs.Events.{BringsNoLocks};
-ghost use Rattle.oa_table.specs.Tables.{first_table};
+ghost use Rattle.oa_table.specs.Tables.{TableValue, first_table};
 
-use crate::changes::{apply, change_locks};
+use crate::changes::{apply, change_locks, hold_change};
 use crate::decision::{Decision, LockChange, Undecided};
 use crate::fields::Fields;
 use crate::limits::refusal;
 use crate::plan::{Plan, Planned};
 use crate::refusal::Refusal;
+use oa_disk::Disk;
+use oa_keeper::{Broken, Frame, KeepFault};
 use oa_model::HResult;
 use oa_record::{Reply, Request, read_request, tag_of};
+use oa_store::Store;
 use oa_table::{Event, Table};
 use oa_typelib::Library;
 use std::alloc::{AllocError, Global};
@@ -66,6 +72,18 @@ impl Host {
         }
     }
 
+    /// A library, and a table that was made before.
+    pub(crate) fn over(alloc: Global, library: Library, table: Table) -> Host
+        requires { IsSound table }
+        ensures { result ≡ record { library = library; table = table } }
+    {
+        Host {
+            alloc,
+            library,
+            table,
+        }
+    }
+
     /// One turn. Want of memory is told in the reply, which then leaves all as it was.
     pub(crate) fn turn(&mut self, body: &[u8]) -> Reply
         ensures { Turn self.old body.now result self.new }
@@ -100,6 +118,63 @@ impl Host {
             Err(Undecided::OutOfMemory) => {
                 Plan::Answered(Reply::bare(self.alloc, tag, HResult::E_OUTOFMEMORY, None))
             }
+        }
+    }
+
+    /// One turn over a store. Its event is added to those in hand; before the first of them a checkpoint is made, where one is due. At `Err` the
+    /// checkpoint failed.
+    pub(crate) fn turn_held<D: Disk>(
+        &mut self,
+        store: &mut Store<D>,
+        frame: &mut Frame,
+        body: &[u8],
+    ) -> Result<Reply, Broken>
+        requires goes_on { store.old.stopped ≡ false }
+        requires room { HasRoom frame.old store.old }
+        ensures turn { IfOk result (λ reply. IsHeldBack body.now reply frame.old frame.new self.old self.new) }
+        ensures failed { OnErr result (HasTurn body.now self.old self.new) }
+        ensures same { OnErr result (frame.new ≡ frame.old) }
+        ensures any_moment { (committed : TableValue) → (length frame.old ≡ 0 → held_of self.old ≡ committed) → AllHold store.old committed → LeavesTable store.old store.new committed }
+        ensures each { store.new.stopped ≡ false → (committed : TableValue) → (length frame.old ≡ 0 → held_of self.old ≡ committed) → AllHold store.old committed → AllHold store.new committed }
+        ensures room { store.new.stopped ≡ false → HasRoom frame.new store.new }
+        ensures going { OnOk result (store.new.stopped ≡ false) }
+        ensures stops { OnErr result (store.new.stopped ≡ true) }
+        ensures goes { Goes store.old store.new }
+    {
+        match self.plan(body) {
+            Plan::Answered(reply) => Ok(reply),
+            Plan::Change(planned) => self.hold(store, frame, planned),
+        }
+    }
+
+    /// Makes a planned change in memory and holds its event, and tells it.
+    fn hold<D: Disk>(
+        &mut self,
+        store: &mut Store<D>,
+        frame: &mut Frame,
+        planned: Planned,
+    ) -> Result<Reply, Broken>
+        requires unlocked { BringsNoLocks planned.event }
+        requires allowed { IsOk (allowed planned.event self.old.table) }
+        requires goes_on { store.old.stopped ≡ false }
+        requires room { HasRoom frame.old store.old }
+        ensures turn { IfOk result (λ reply. (body : List ℕ) → IsPlanned self.old body planned → IsHeldBack body reply frame.old frame.new self.old self.new) }
+        ensures failed { OnErr result ((body : List ℕ) → IsPlanned self.old body planned → HasTurn body self.old self.new) }
+        ensures same { OnErr result (frame.new ≡ frame.old) }
+        ensures any_moment { (committed : TableValue) → (length frame.old ≡ 0 → held_of self.old ≡ committed) → AllHold store.old committed → LeavesTable store.old store.new committed }
+        ensures each { store.new.stopped ≡ false → (committed : TableValue) → (length frame.old ≡ 0 → held_of self.old ≡ committed) → AllHold store.old committed → AllHold store.new committed }
+        ensures room { store.new.stopped ≡ false → HasRoom frame.new store.new }
+        ensures going { OnOk result (store.new.stopped ≡ false) }
+        ensures stops { OnErr result (store.new.stopped ≡ true) }
+        ensures goes { Goes store.old store.new }
+    {
+        let Planned { tag, event, fields } = planned;
+        match hold_change(store, &mut self.table, frame, event) {
+            Ok(()) => Ok(Reply::new(tag, HResult::S_OK, None, fields.into_vec())),
+            Err(KeepFault::Memory) => {
+                Ok(Reply::bare(self.alloc, tag, HResult::E_OUTOFMEMORY, None))
+            }
+            Err(KeepFault::Write) => Err(Broken),
         }
     }
 
@@ -185,20 +260,5 @@ impl Host {
         ensures { result ≡ record { tag = tag; code = refusal.code; index = refusal.index; body = [] } }
     {
         Reply::bare(self.alloc, tag, refusal.code, refusal.index)
-    }
-}
-
-#[cfg(test)]
-impl Host {
-    /// A library and a table.
-    pub(crate) fn over(alloc: Global, library: Library, table: Table) -> Host
-        requires { IsSound table }
-        ensures { result ≡ record { library = library; table = table } }
-    {
-        Host {
-            alloc,
-            library,
-            table,
-        }
     }
 }

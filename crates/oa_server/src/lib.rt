@@ -2,15 +2,17 @@
 #![tactic(auto)]
 
 mod changes;
+mod clerk;
 mod decision;
 mod fields;
+mod hand;
 mod host;
+mod keeping;
 pub mod laws;
 mod limits;
 mod plan;
 mod refusal;
 mod server;
-mod serving;
 mod storage;
 
 pub use oa_frame::{End, Served};

@@ -11,6 +11,7 @@ pub mod Fitting
 pub mod Planned
 pub mod Planning
 pub mod Allowed
+pub mod Eventless
 pub mod Own
 pub mod Mapping
 pub mod Held

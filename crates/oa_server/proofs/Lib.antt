@@ -13,3 +13,6 @@ pub mod Planning
 pub mod Allowed
 pub mod Mapping
 pub mod Held
+pub mod Settled
+pub mod Late
+pub mod Answering

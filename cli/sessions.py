@@ -550,17 +550,17 @@ class Large(Session):
     def request(self):
         dice, model = self.dice, self.model
         roll, known = dice.random(), sorted(model.objects)
-        if not known or roll < 0.2:
+        if not known or roll < 0.16:
             guid = dice.choice([ITEM, ITEM, PLAIN])
             return ask_create(guid), lambda: model.create(guid)
-        if roll > 0.9:
+        if roll > 0.94:
             return super().request()
         of = dice.choice(known)
         call = {"object": of, "interface": FIRST_ONE, "riid": False, "dispid": 2, "flags": 4, "named": [-3], "arguments": [self.text()]}
-        if roll > 0.6 or model.objects[of][0] == PLAIN:
+        if roll > 0.4 or model.objects[of][0] == PLAIN:
             texts = [self.text() for _ in range(dice.choice([0, 1, 2, 3, 3]))]
             call.update(interface=SECOND, dispid=3, arguments=[Array(BSTR, [(len(texts), 0)], texts)])
-        if roll > 0.8:
+        if roll > 0.82:
             indices, value = [dice.choice([0, 1, 2])], self.text()
             call.update(interface=SECOND, dispid=3, named=[], arguments=[])
             return self.bytes_of(PUTELEM, call) + oaut.indices_field(indices) + oaut.variant_field(field(value)), lambda: model.put_element(call, indices, value)

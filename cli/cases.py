@@ -892,6 +892,115 @@ talk(
     [describes(0, wire.interface(ITEM, "N" * 64, [wire.member(1, 0, 0, wire.I4, "M" * 64)])), looks_up(["m" * 64], [1]), looks_up(["m" * 63], [-1])],
 )
 
+# --- coercions, a value a row
+
+
+def rows_of(name):
+    with open(f"{ROOT}/cli/{name}") as file:
+        return [line.rstrip("\n") for line in file if not line.startswith("#")]
+
+
+WORDS = "I1 UI1 I2 UI2 I4 UI4 INT UINT I8 UI8 CY BOOL ERROR DECIMAL BSTR VARIANT".split()
+REFUSED = {"OVERFLOW": OVERFLOW, "TYPEMISMATCH": TYPE_MISMATCH}
+
+
+def said_value(one, word):
+    """The field of the value of a type that a word says."""
+    if one in ("EMPTY", "NULL", "BSTR"):
+        return wire.scalar(getattr(wire, one))
+    if one == "BOOL":
+        return wire.scalar(wire.BOOL, 0xFFFF if word == "true" else 0)
+    if one == "DECIMAL":
+        digits, scale = word.split("e-")
+        return wire.scalar(wire.DECIMAL, (int(scale), 0x80 if digits.startswith("-") else 0, abs(int(digits))))
+    return wire.scalar(getattr(wire, one), int(word))
+
+
+def becomes(row):
+    """The turns of a row: each answer is a put to a property of its type, which is read back where the value was taken."""
+    value, answers = row.split(" = ")
+    one, word = value.split(" ")
+    given = said_value(one, word)
+    for to, wanted in [answer.split(" ") for answer in answers.split(", ")]:
+        if to not in WORDS:  # there are no properties of EMPTY and of NULL
+            continue
+        dispid = 1 + WORDS.index(to)
+        if wanted in REFUSED:
+            yield puts(dispid, given, REFUSED[wanted], 0)
+        else:
+            yield puts(dispid, given)
+            yield gets(dispid, given if to == "VARIANT" else said_value(to, wanted))
+
+
+talk("values that become others", VALUES, [turn for row in rows_of("coercions.txt") for turn in becomes(row)])
+
+# --- calls, a row each
+
+# a put for each get, so that each key can be put
+BOUND = b"""[uuid(11223344-5566-7788-99aa-bbccddeeff01)] library L {
+[uuid(11223344-5566-7788-99aa-bbccddeeff02)] dispinterface D { properties: [id(1)] long Count; [id(2)] VARIANT Free; methods:
+[id(9), propget] BSTR Cell([in] long Row, [in] BSTR Key, [in, optional, defaultvalue(1)] short Page);
+[id(9), propput] void Cell([in] long Row, [in] BSTR Key, [in, optional, defaultvalue(1)] short Page, [in] BSTR Value);
+[id(10), propget] long Any([in, optional] VARIANT V, [in, optional] long N);
+[id(10), propput] void Any([in, optional] VARIANT V, [in, optional] long N, [in] long Value);
+[id(11), propget] long Named([in, optional, defaultvalue("first")] BSTR Name, [in, defaultvalue(2)] VARIANT Rank);
+[id(11), propput] void Named([in, optional, defaultvalue("first")] BSTR Name, [in, defaultvalue(2)] VARIANT Rank, [in] long Value);
+} [uuid(11223344-5566-7788-99aa-bbccddeeff03)] coclass C { [default] dispinterface D; } }"""
+BIND_CODES = {
+    "E_INVALIDARG": E_INVALIDARG,
+    "BADPARAMCOUNT": BAD_PARAM_COUNT,
+    "PARAMNOTFOUND": PARAM_NOT_FOUND,
+    "PARAMNOTOPTIONAL": PARAM_NOT_OPTIONAL,
+    "TYPEMISMATCH": TYPE_MISMATCH,
+    "OVERFLOW": OVERFLOW,
+}
+ARGUMENTS = {
+    "i": lambda rest: wire.scalar(wire.I4, int(rest)),
+    "s": lambda rest: wire.scalar(wire.I2, int(rest)),
+    "t": lambda rest: wire.scalar(wire.BSTR, rest.encode()),
+    "w": bstr,
+    "n": lambda _: NO_TEXT,
+    "m": lambda _: MISSED,
+    "e": lambda _: NO_VALUE,
+    "a": lambda _: wire.array(wire.I4, [(1, 0)], [0]),
+}
+
+
+def arguments_of(words):
+    return [ARGUMENTS[word[0]](word[1:]) for word in words.split()]
+
+
+def at_key(dispid, key, value=None):
+    """A put of a value at a key, or a get, each parameter by its place."""
+    given = arguments_of(key)[::-1]
+    flags, named = (2, []) if value is None else (4, [-3])
+    return lambda tag: wire.invoke(tag, 1, dispid, flags, named, given if value is None else [value] + given)
+
+
+# each key has another value, so a get that is bound to another key tells another one
+filled, bound = {}, []
+for row in rows_of("calls.txt"):
+    dispid, form_word, named, given, answer = row.split("|")
+    dispid, names, given = int(dispid), [int(name) for name in named.split()], arguments_of(given)
+    flags = 4 if form_word == "put" else 2
+    ask = lambda tag, dispid=dispid, flags=flags, names=names, given=given: wire.invoke(tag, 1, dispid, flags, names, given)
+    key, _, new = answer.partition(" = ") if " = " in answer else (answer, "", None)
+    word, _, index = answer.partition(" ")
+    if word in BIND_CODES:
+        bound.append((ask, lambda tag, code=BIND_CODES[word], index=int(index or NO_INDEX): wire.reply(tag, code, index)))
+    elif new is not None:
+        kept = arguments_of(new)[0]
+        bound.append((ask, wire.reply))
+        bound.append((at_key(dispid, key.strip()), lambda tag, kept=kept: wire.reply(tag, fields=wire.field(kept))))
+    else:
+        number = len(filled)
+        value = filled.setdefault((dispid, key), bstr(str(number)) if dispid == 9 else wire.scalar(wire.I4, 100 + number))
+        bound.append((at_key(dispid, key, value), wire.reply))
+        for (other, other_key), other_value in filled.items():
+            bound.append((at_key(other, other_key, other_value), wire.reply))
+        bound.append((ask, lambda tag, value=value: wire.reply(tag, fields=wire.field(value))))
+talk("calls that are bound or refused", BOUND, bound)
+
 # --- the form of a member that the flags name
 
 # of the full library: a DISPID, flags, and what is found

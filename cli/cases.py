@@ -1168,19 +1168,25 @@ ONE_INTERFACE, ONE_COCLASS = SECOND + "dispinterface A {} ", SECOND + "coclass A
 # an item, member or parameter that is one too many is looked at up to its name
 LATE = [
     (IN_LIBRARY + ONE_INTERFACE * 256, "[uuid(11223344-5566-7788-99AA-BBCCDDEEFF02), ^uuid(11223344-5566-7788-99AA-BBCCDDEEFF02)] dispinterface A {} }"),
+    (IN_LIBRARY + ONE_INTERFACE * 256, "[version(1)^] dispinterface A {} }"),
     (IN_LIBRARY + ONE_INTERFACE * 256, SECOND + "^interface A {} }"),
     (IN_LIBRARY + ONE_INTERFACE * 256, SECOND + "dispinterface ^library {} }"),
     (IN_LIBRARY + ONE_COCLASS * 256, "[uuid(^7)] coclass A { interface B; } }"),
     (IN_LIBRARY + ONE_COCLASS * 256, SECOND + "coclass ^void { interface B; } }"),
+    (IN_INTERFACE + "properties: " + "[id(1)] long A; " * 512, "[id(-^1)] long A; } }"),
     (IN_INTERFACE + "properties: " + "[id(1)] long A; " * 512, "[id(1), ^id(1)] long A; } }"),
+    (IN_INTERFACE + "properties: " + "[id(1)] long A; " * 512, "[id(1)] ^void A; } }"),
     (IN_INTERFACE + "properties: " + "[id(1)] long A; " * 512, "[id(1)] long ^library; } }"),
+    (IN_INTERFACE + "methods: " + "[id(1)] void A(); " * 512, "[id(1), ^readonly] void A(); } }"),
     (IN_INTERFACE + "methods: " + "[id(1)] void A(); " * 512, "[id(1), propget] ^void A(); } }"),
     (IN_INTERFACE + "methods: " + "[id(1)] void A(); " * 512, "[id(1)] void ^void(); } }"),
+    (IN_PARAMETERS + "long B, " * 16, "[in, ^in] long B); } }"),
     (IN_PARAMETERS + "long B, " * 16, "SAFEARRAY(^SCODE) B); } }"),
     (IN_PARAMETERS + "long B, " * 16, "long ^void); } }"),
 ]
 for front, row in LATE:
     syntax(front, row)
+syntax("", "^}" + " " * 262_143)
 # how a text begins, a part that it has so many times, how it ends, and the limit that one time more breaks
 BOUNDS = [
     (IN_LIBRARY, ONE_INTERFACE, 256, "}", "interfaces"),
@@ -1201,6 +1207,8 @@ BOUNDS = [
     (TEXT_HEAD, "Z", 64, " ;", "name"),
     (IN_PARAMETERS, "long B, ", 15, f"long {LONG_NAME}); }} }}", "name"),
     (IN_LIBRARY, ONE_INTERFACE, 255, SECOND + f"dispinterface {LONG_NAME} {{}} }}", "name"),
+    (IN_LIBRARY, ONE_COCLASS, 255, SECOND + f"coclass {LONG_NAME} {{ interface B; }} }}", "name"),
+    (IN_INTERFACE + "properties: ", "[id(1)] long A; ", 511, f"[id(1)] long {LONG_NAME}; }} }}", "name"),
     (IN_INTERFACE + "methods: ", "[id(1)] void A(); ", 511, f"[id(1)] void {LONG_NAME}(); }} }}", "name"),
 ]
 for front, part, count, back, limit in BOUNDS:

@@ -9,6 +9,6 @@ returns g c =
     let reply = reply_record c.answer-reply.result in
     record {
       replies = reply ∷ [];
-      turned = (c.answer-reply.result, refl, c.answer-reply.ensures);
+      turned = (c.answer-reply.result, refl, c.answer-reply.ensures.answers);
       put = puts_one (frames c.args.framing).spelled c.put_reply.result _ _ (reply ∷ []) reply refl (rw c.body.ensures.value at (rw c.head.ensures at c.put_reply.ensures));
     }

@@ -15,3 +15,6 @@ pub mod Eventless
 pub mod Own
 pub mod Mapping
 pub mod Held
+pub mod Settled
+pub mod Late
+pub mod Answering

@@ -27,3 +27,4 @@ pub mod Quiet
 pub mod Requests
 pub mod Hands
 pub mod Answers
+pub mod Links

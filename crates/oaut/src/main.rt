@@ -2,11 +2,14 @@
 #![tactic(auto)]
 
 mod command;
+mod dump;
 mod fault;
 mod library;
 mod place;
 mod play;
 mod shown;
+mod store;
+mod streams;
 mod text;
 
 use crate::fault::Fault;
@@ -46,6 +49,14 @@ fn run(rt: &HostRuntime) -> Result<ExitCode, Fault> {
             arguments.get_str("LIB").unwrap_or(""),
             arguments.get_flag("hex"),
         )?,
+        Some(("format", arguments)) => store::format_store(
+            rt,
+            arguments.get_str("STORE").unwrap_or(""),
+            arguments.get_str("LIB").unwrap_or(""),
+        )?,
+        Some(("dump", arguments)) => {
+            dump::write_dump(rt, arguments.get_str("STORE").unwrap_or(""))?
+        }
         Some(("check", arguments)) => text::write_text(
             rt,
             arguments.get_str("LIB").unwrap_or(""),

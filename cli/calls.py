@@ -7,7 +7,7 @@ import store
 from running import fill, run_in
 
 STRACE = shutil.which("strace")
-CALL = re.compile(r"^\d+ +(\w+)\((.*)\) += (\S+)")
+CALL = re.compile(r"^\d+ +(\w+)\((.*)\) += -?\d")
 TRACED = "trace=pread64,pwrite64,fsync,fdatasync,write"
 OUT = ("out",)
 
@@ -43,10 +43,8 @@ def each_fails(words, files, judge, how="error=EIO", **given):
     """Makes each call that a command makes on its store fail in turn, or kills the program there, and hands the call, the answer and the folder to a judge."""
     with tempfile.TemporaryDirectory() as room:
         fill(room, files)
-        made = Calls(room, words, **given).made
+        made = [it for it in Calls(room, words, **given).made if it[2] != OUT]
     for place, (name, count, what) in enumerate(made):
-        if what == OUT:
-            continue
         with tempfile.TemporaryDirectory() as room:
             fill(room, files)
             got = Calls(room, words, f"{name}:{how}:when={count}", **given).answer

@@ -90,18 +90,26 @@ fn dump<'a>(alloc: Global) -> Result<Command<'a>, AllocError> {
         .arg(word(alloc, "STORE", "The store's file"))
 }
 
+/// A command with one more subcommand.
+fn with<'a>(
+    command: Command<'a>,
+    part: Result<Command<'a>, AllocError>,
+) -> Result<Command<'a>, AllocError> {
+    command.subcommand(part?)
+}
+
 /// What the program takes.
 pub(crate) fn command<'a>(alloc: Global) -> Result<Command<'a>, AllocError> {
-    Command::new(alloc, "oaut")
+    let command = Command::new(alloc, "oaut")
         .version("0.1.0")
         .about("A server of OLE Automation objects, whose coclasses a type library describes")
         .after_help(
             "Examples:\n  oaut check examples/full.idl\n  oaut play examples/small.idl --hex < examples/first.hex\nEach command says more under --help, as in oaut play --help.",
         )
         .disable_help_subcommand(true)
-        .subcommand_required(true)
-        .subcommand(play(alloc)?)?
-        .subcommand(format(alloc)?)?
-        .subcommand(dump(alloc)?)?
-        .subcommand(check(alloc)?)
+        .subcommand_required(true);
+    let command = with(command, play(alloc))?;
+    let command = with(command, format(alloc))?;
+    let command = with(command, dump(alloc))?;
+    with(command, check(alloc))
 }

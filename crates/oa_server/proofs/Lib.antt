@@ -16,3 +16,4 @@ pub mod Held
 pub mod Settled
 pub mod Late
 pub mod Answering
+pub mod InMemory

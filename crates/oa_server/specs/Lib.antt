@@ -19,10 +19,10 @@ pub mod Listing
 pub mod Steps
 pub mod Turns
 pub mod Plans
-pub mod Storages
 pub mod Serving
 pub mod Traces
 pub mod Quiet
 pub mod Requests
 pub mod Hands
 pub mod Answers
+pub mod Storages

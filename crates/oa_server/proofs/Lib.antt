@@ -19,3 +19,4 @@ pub mod Settled
 pub mod Late
 pub mod Answering
 pub mod Stopped
+pub mod InMemory

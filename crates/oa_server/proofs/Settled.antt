@@ -5,7 +5,6 @@ use Rattle.oa_groups.specs.Desks.{IsHeld, IsSettled}
 use Rattle.oa_groups.specs.Groups.{fills}
 use Rattle.oa_groups.specs.Served.{Goes}
 use Rattle.oa_groups.specs.Turns.{entry}
-
 use Rattle.oa_journal.specs.Replays.{Replays}
 use Rattle.oa_keeper.specs.Kept.{AllHold, LeavesEither, LeavesTable}
 use Rattle.oa_record.specs.Replies.{ReplyValue}

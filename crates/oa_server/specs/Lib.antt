@@ -19,7 +19,6 @@ pub mod Listing
 pub mod Steps
 pub mod Turns
 pub mod Plans
-pub mod Storages
 pub mod Serving
 pub mod Traces
 pub mod OwnCodes
@@ -28,3 +27,4 @@ pub mod Requests
 pub mod Hands
 pub mod Answers
 pub mod Links
+pub mod Storages

@@ -13,6 +13,7 @@ mod limits;
 mod plan;
 mod refusal;
 mod server;
+mod serving;
 mod storage;
 
 pub use oa_frame::{End, Served};

@@ -1,5 +1,5 @@
 -- How a session goes on.
-use Rattle.std.proofs.Common.{rules, ◌≡◌, inl, inr, ⊎_elim, ℕ, suc, ◌+◌, ◌≤◌, nat_le, if◌then◌else◌, Some, slice_get, drop, Bool, true, false, List, [], ◌∷◌, ◌++◌, length, refl, sym, ◌∙◌, ap, subst, arith, length-append, append_assoc}
+use Rattle.std.proofs.Common.{rules, ◌≡◌, inl, inr, ⊎_elim, ℕ, suc, ◌+◌, ◌<◌, ◌≤◌, nat_le, if◌then◌else◌, Some, slice_get, drop, Bool, true, false, List, [], ◌∷◌, ◌++◌, length, refl, sym, ◌∙◌, ap, subst, arith, length-append, append_assoc}
 use Rattle.std.proofs.lemmas.List.{append-nil}
 use Rattle.oa_disk.specs.declared.disk.Disk.{Ghosts}
 use Rattle.oa_disk.specs.Disk.{LeavesOnly}
@@ -31,6 +31,15 @@ stop_count moment start (m0 ∷ rest) is le = last_by_then moment m0 rest (subst
   where
     some_is : (a b : ℕ) → Some b ≡ Some a → a ≡ b
     some_is a b e = cc
+
+-- all moments have come
+come_all : (moment : ℕ) (moments : List ℕ) → ((j k : ℕ) → slice_get moments j ≡ Some k → k ≤ moment) → by_then moment moments ≡ length moments
+come_all moment [] below = refl
+come_all moment (m ∷ moments) below = by (nat_le m moment) refl (come_all moment moments (λ j k is. below (suc j) k is))
+  where
+    by : (b : Bool) → nat_le m moment ≡ b → by_then moment moments ≡ length moments → (if b then suc (by_then moment moments) else 0) ≡ suc (length moments)
+    by true is rest = ap suc rest
+    by false is rest = let no : moment < m = search (is, rules) in absurd (omega (arith, no, below 0 m refl))
 
 module _ {S R : Type 0} (t : Turns S R) where
   -- one call more
@@ -118,6 +127,15 @@ module _ {S R : Type 0} (t : Turns S R) where
       → IsAfter t (by_then m (drop 1 session.moments)) library first session.groups c
   session_stopped moment image_since old new library first calls last session m c later since =
       let come = stop_count m (moment old) session.moments session.run.start later in session.run.images (by_then m (drop 1 session.moments)) come.0 come.1 c (since come.0 come.2)
+
+  -- at the end all that were answered
+  pub session_ended : {D : Type 0} (moment : D → ℕ) (image_since : D → ℕ → List ℕ → Type 0) (old new : D) (library : List ℕ) (first : S) (calls : List (Call R)) (last : S)
+      (session : IsSession t moment image_since old new library first calls last) (m : ℕ) → moment new ≤ m → by_then m (drop 1 session.moments) ≡ session.count
+  session_ended moment image_since old new library first calls last session m le = by session.moments session.run.one_each (λ j k is. omega (arith, session.run.past j k is, le))
+    where
+      by : (moments : List ℕ) → length moments ≡ session.count + 1 → ((j k : ℕ) → slice_get moments j ≡ Some k → k ≤ m) → by_then m (drop 1 moments) ≡ session.count
+      by [] size below = absurd (omega (arith, size))
+      by (m0 ∷ rest) size below = come_all m rest (λ j k is. below (suc j) k is) ∙ omega (arith, size)
 
   -- as a link of the history of a store
   pub session_left : {D : Type 0} (moment : D → ℕ) (image_since : D → ℕ → List ℕ → Type 0) (old new : D) (library : List ℕ) (first : S) (calls : List (Call R)) (last : S)

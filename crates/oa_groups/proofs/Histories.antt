@@ -6,17 +6,6 @@ use Rattle.oa_groups.specs.History.{Session, Keeps, KeepsEach, RunEach, Sessions
 use Rattle.oa_groups.specs.Runs.{IsAfter, Run}
 use Rattle.oa_groups.specs.Turns.{Entry, Turns}
 
-joined_append : {R : Type 0} (front back : List (List (Entry R))) → joined (front ++ back) ≡ joined front ++ joined back
-joined_append [] back = refl
-joined_append {R} (group ∷ front) back = ap (λ (l : List (Entry R)). group ++ l) (joined_append front back) ∙ sym (append_assoc group (joined front) (joined back))
-
--- some more than so many groups are what those are, and some more
-split : {R : Type 0} (count : ℕ) (done later : List (List (Entry R))) → count ≤ length done → (more : List (Entry R)) × (joined done ≡ joined (take count (done ++ later)) ++ more)
-split zero done later le = (joined done, refl)
-split (suc count) [] later le = absurd (omega (arith, le))
-split {R} (suc count) (group ∷ done) later le =
-    let rest = split count done later (omega (arith, le)) in (rest.0, ap (λ (l : List (Entry R)). group ++ l) rest.1 ∙ sym (append_assoc group (joined (take count (done ++ later))) rest.0))
-
 module _ {S R : Type 0} (t : Turns S R) where
   -- A request that was not done leaves no trace: the others alone are a run too, with the same replies.
   pub no_trace : (old : S) (entries : List (Entry R)) (new : S) → Run t old entries new → Run t old (accepted t entries) new
@@ -32,14 +21,7 @@ module _ {S R : Type 0} (t : Turns S R) where
   each_no_trace old (kept ∷ others) new run = (run.0, no_trace (t.opened old) kept run.0 run.1, each_no_trace run.0 others new run.2)
 
   pub keeps : (session : Session R) (library : List ℕ) (first : S) (image : List ℕ) (is : IsAfter t session.count library first session.groups image) → Keeps session (joined is.done)
-  keeps session library first image is =
-      let more = split session.count is.done is.later is.enough in
-      record {
-        lost = joined is.later;
-        whole = ap joined is.groups_are ∙ joined_append is.done is.later;
-        more = more.0;
-        enough = more.1 ∙ ap (λ (l : List (List (Entry R))). joined (take session.count l) ++ more.0) (sym is.groups_are);
-      }
+  keeps session library first image is = record { done = is.done; later = is.later; groups_are = is.groups_are; kept_are = refl; enough = is.enough }
 
   runs_each : (library : List ℕ) (state : S) (old : List ℕ) (sessions : List (Session R)) (new : List ℕ) → Sessions t library state old sessions new → IsStore old library (t.held state)
       → (kept : List (List (Entry R))) × (last : S) × KeepsEach sessions kept × RunEach t state kept last × IsStore new library (t.held last)

@@ -1,5 +1,5 @@
 -- Stop, open, go on, stop again.
-use Rattle.std.specs.Prelude.{◌≡◌, ℕ, if◌then◌else◌, List, [], ◌∷◌, ◌++◌, take}
+use Rattle.std.specs.Prelude.{◌≡◌, ◌≤◌, ℕ, if◌then◌else◌, List, [], ◌∷◌, ◌++◌, length}
 use Rattle.oa_groups.specs.Groups.{joined}
 use Rattle.oa_groups.specs.Runs.{Run, IsAfter}
 use Rattle.oa_groups.specs.Sessions.{Call, Calls}
@@ -12,21 +12,20 @@ pub record Session (R : Type 0) : Type 0 where
   pub groups : List (List (Entry R))
   pub count : ℕ
 
-abbrev pub acknowledged : {R : Type 0} → Session R → List (Entry R)
-acknowledged session = joined (take session.count session.groups)
-
--- of its requests some first ones are kept, and all that were acknowledged are among them
+-- Of its groups some first ones are kept, whole, and all that were answered are among them.
 pub record Keeps {R : Type 0} (session : Session R) (kept : List (Entry R)) : Type 0 where
-  pub lost : List (Entry R)
-  pub whole : joined session.groups ≡ kept ++ lost
-  pub more : List (Entry R)
-  pub enough : kept ≡ acknowledged session ++ more
+  pub done : List (List (Entry R))
+  pub later : List (List (Entry R))
+  pub groups_are : session.groups ≡ done ++ later
+  pub kept_are : kept ≡ joined done
+  pub enough : session.count ≤ length done
 
 -- the calls are served, group for group, from this state
 abbrev pub IsServedFrom : {S R : Type 0} → Turns S R → S → Session R → Type 0
 IsServedFrom {S} t state session = (count : ℕ) × (last : S) × Calls t state session.calls session.groups count last
 
--- One session after the other, each opened on what the stop of the one before has left, and at the state that this holds.
+-- One session after the other, each opened on what the stop of the one before has left, and at the state that this holds. That a session's
+-- count is that of the groups answered by the moment of its stop is the law `a_stop_keeps_what_was_answered`.
 abbrev pub Sessions : {S R : Type 0} → Turns S R → List ℕ → S → List ℕ → List (Session R) → List ℕ → Type 0
 Sessions t library state old [] new = old ≡ new
 Sessions t library state old (session ∷ sessions) new =

@@ -1,17 +1,41 @@
 //! Laws of groups of requests, each the contract of a function with an empty body. They are stated of the simplest requests, groups of
 //! events that are done or refused; the proofs are of requests of any kind.
-ghost use Rattle.std.specs.Prelude.{◌≡◌, [], ◌∷◌, ◌++◌, Bool, List, ℕ, false};
+ghost use Rattle.std.specs.Prelude.{◌≡◌, ◌≤◌, [], ◌∷◌, ◌++◌, Bool, List, ℕ, false, drop};
+ghost use Rattle.oa_disk.specs.Disk.{LeavesOnly};
+ghost use Rattle.oa_keeper.specs.Kept.{AllHold};
 ghost use Rattle.oa_store.specs.Stores.{IsStore};
+ghost use Rattle.oa_store.specs.declared.store.Store.{Store as AStore};
 ghost use Rattle.oa_table.specs.Tables.{TableValue};
 ghost use Rattle.oa_groups.specs.Desks.{Desk, IsEnded, IsTaken};
 ghost use Rattle.oa_groups.specs.Going.{Underway};
 ghost use Rattle.oa_groups.specs.History.{KeepsEach, RunEach, Session, Sessions, accepted, accepted_each};
-ghost use Rattle.oa_groups.specs.Runs.{Run};
+ghost use Rattle.oa_groups.specs.Runs.{IsAfter, Run};
 ghost use Rattle.oa_groups.specs.Served.{IsServed};
+ghost use Rattle.oa_groups.specs.Sessions.{Call, IsSession, Sitting, by_then};
 ghost use Rattle.oa_groups.specs.Simple.{simple};
 ghost use Rattle.oa_groups.specs.Turns.{Entry};
 
 use oa_disk::Disk;
+
+/// A session is an opening and calls, one after another. It begins with an opening that writes nothing; each call that is served goes on with
+/// it, and without a fault of the device the next may follow.
+pub fn sessions_go_on<D: Disk>()
+    ensures opened { (start : D) (now : AStore D D.Disk) (library : List ℕ) (first : TableValue) → now.library.items ≡ library
+        → LeavesOnly D.moment D.image_since start now.disk (λ c. IsStore c library first) → AllHold now first → Sitting simple start now library first first [] }
+    ensures called { (start : D) (mid new : AStore D D.Disk) (library : List ℕ) (first last after : TableValue) (calls : List (Call Bool)) (call : Call Bool) → Sitting simple start mid library first last calls
+        → IsServed simple call.size mid new last after call.bodies call.replies → IsSession simple D.moment D.image_since start new.disk library first (calls ++ call ∷ []) after }
+    ensures goes_on { (start : D) (mid new : AStore D D.Disk) (library : List ℕ) (first last after : TableValue) (calls : List (Call Bool)) (call : Call Bool) → Sitting simple start mid library first last calls
+        → IsServed simple call.size mid new last after call.bodies call.replies → new.stopped ≡ false → Sitting simple start new library first after (calls ++ call ∷ []) }
+{}
+
+/// What a stop at some moment of a session leaves is a store of the table after all groups that were answered by then, and some more perhaps; at
+/// its end, all.
+pub fn a_stop_keeps_what_was_answered<D: Disk>()
+    ensures stopped { (old new : D) (library : List ℕ) (first : TableValue) (calls : List (Call Bool)) (last : TableValue) (session : IsSession simple D.moment D.image_since old new library first calls last) (m : ℕ) (c : List ℕ)
+        → D.moment old ≤ m → ((k : ℕ) → k ≤ m → D.image_since new k c) → IsAfter simple (by_then m (drop 1 session.moments)) library first session.groups c }
+    ensures all { (old new : D) (library : List ℕ) (first : TableValue) (calls : List (Call Bool)) (last : TableValue) (session : IsSession simple D.moment D.image_since old new library first calls last) (m : ℕ)
+        → D.moment new ≤ m → by_then m (drop 1 session.moments) ≡ session.count }
+{}
 
 /// Requests that are taken one by one, and the end of the input, are served: the replies that were handed out are those of a run, group for
 /// group, and each image since the moment at which so many groups were answered is a store of the table after those, or more. Where a
@@ -30,7 +54,7 @@ pub fn no_trace()
 {}
 
 /// Wherever sessions are stopped, each opened on what the stop of the one before has left: what is left at last is a store of the table after
-/// runs of the requests that were kept, of each session some first ones, all that were acknowledged among them. Those that were not done
+/// runs of the requests that were kept, of each session those of some first groups, all that were answered among them. Those that were not done
 /// may be left out.
 pub fn headline()
     ensures { (library : List ℕ) (table : TableValue) (old : List ℕ) (sessions : List (Session Bool)) (new : List ℕ) → Sessions simple library table old sessions new → IsStore old library table

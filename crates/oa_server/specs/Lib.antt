@@ -26,3 +26,4 @@ pub mod Requests
 pub mod Hands
 pub mod Answers
 pub mod Storages
+pub mod Talks

@@ -1,5 +1,5 @@
 -- One body is answered over a store.
-use Rattle.std.proofs.Common.{◌≡◌, ◌⊎◌, inl, inr, ℕ, ◌-◌, ◌^◌, ◌<◌, true, false, true≢false, List, [], ◌++◌, length, refl, sym, ap, ◌∙◌, subst}
+use Rattle.std.proofs.Common.{◌≡◌, ◌⊎◌, inl, ℕ, true, false, true≢false, List, [], ◌++◌, length, refl, sym, ap, ◌∙◌, subst}
 use Rattle.oa_disk.specs.declared.disk.Disk.{Ghosts}
 use Rattle.oa_disk.specs.Moments.{chained, weakened}
 use Rattle.oa_groups.specs.Served.{Goes}

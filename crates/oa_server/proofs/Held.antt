@@ -1,7 +1,6 @@
 -- A turn over a store.
 use Rattle.std.proofs.Common.{◌≡◌, ℕ, ◌≤◌, ◌++◌, List, [], length, None, Ok, refl, sym, ap, ◌∙◌, subst, arith}
 use Rattle.std.proofs.lemmas.List.{append-nil}
-use Rattle.oa_disk.specs.declared.disk.Disk.{Ghosts}
 use Rattle.oa_image.specs.Events.{event_image}
 use Rattle.oa_journal.specs.Replays.{Replays}
 use Rattle.oa_model.specs.Codes.{e_outofmemory, s_ok}
@@ -12,7 +11,7 @@ use Rattle.oa_table.specs.Events.{applied}
 use Rattle.oa_table.specs.Tables.{TableValue}
 use Rattle.oa_server.specs.declared.plan.Planned.{Planned}
 use Rattle.oa_server.specs.Plans.{HoldsSame, IsPlanned}
-use Rattle.oa_server.specs.Requests.{HasEvent, HasTurn, IsAsked, IsHeldBack, held_of}
+use Rattle.oa_server.specs.Requests.{HasEvent, HasTurn, IsHeldBack, held_of}
 use Rattle.oa_server.specs.States.{State}
 use Rattle.oa_server.specs.Steps.{refusal}
 use Rattle.oa_server.specs.Turns.{Turn}

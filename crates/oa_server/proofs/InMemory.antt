@@ -12,7 +12,8 @@ use Rattle.oa_server.specs.declared.storage.Storage.{Storage}
 use Rattle.oa_server.specs.declared.storage.Storage.TheVariants.{Disk, Memory}
 use Rattle.oa_server.specs.Serving.{none_held, turn_written}
 use Rattle.oa_server.specs.States.{State}
-use Rattle.oa_server.specs.Storages.{Answers, InMemory, answer_written, none_kept}
+use Rattle.oa_server.specs.Storages.{Answers, InMemory}
+use Rattle.oa_server.specs.Talks.{answer_written, none_kept}
 use Rattle.oa_server.specs.Turns.{Turn}
 
 pub record StaysInMemory {D : Type 0} {g : Ghosts D} (new : Storage D g) (before : State) (body : List ℕ) (reply : ReplyValue) (after : State) : Type 0 where

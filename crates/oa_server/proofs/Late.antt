@@ -1,12 +1,12 @@
 -- What is answered after a fault of the device.
-use Rattle.std.proofs.Common.{◌≡◌, inl, inr, ℕ, true, false, true≢false, List, [], ◌∷◌, ◌++◌, map, refl, sym, ap, ◌∙◌, subst}
+use Rattle.std.proofs.Common.{◌≡◌, inl, inr, ℕ, true, true≢false, List, [], ◌∷◌, ◌++◌, map, refl, sym, ap, ◌∙◌}
 use Rattle.std.proofs.lemmas.List.{append-nil, map-append}
 use Rattle.oa_disk.specs.declared.disk.Disk.{Ghosts}
 use Rattle.oa_groups.specs.Desks.{IsEnded, IsTaken}
 use Rattle.oa_record.specs.Replies.{ReplyValue}
 use Rattle.oa_store.specs.declared.store.Store.{Store}
 use Rattle.oa_server.specs.Answers.{IsLate}
-use Rattle.oa_server.specs.Hands.{HandsOut, desk}
+use Rattle.oa_server.specs.Hands.{desk}
 use Rattle.oa_server.specs.Requests.{failed, requests}
 use Rattle.oa_server.specs.States.{State}
 

@@ -18,5 +18,4 @@ pub mod Held
 pub mod Settled
 pub mod Late
 pub mod Answering
-pub mod Stopped
 pub mod InMemory

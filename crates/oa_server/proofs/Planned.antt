@@ -1,15 +1,12 @@
 -- A change that was planned, and is made or lacks memory, is a turn.
-use Rattle.std.proofs.Common.{◌≡◌, inl, inr, ℕ, List, None, Result, Ok, Err, refl, sym, ap, ◌∙◌}
+use Rattle.std.proofs.Common.{◌≡◌, inl, inr, ℕ, List, None, Ok, refl, ◌∙◌}
 use Rattle.oa_model.specs.Codes.{e_outofmemory, s_ok}
 use Rattle.oa_record.specs.Replies.{ReplyValue}
 use Rattle.oa_table.specs.Events.{applied}
-use Rattle.oa_table.specs.Tables.{TableValue}
 use Rattle.oa_server.specs.declared.plan.Planned.{Planned}
-use Rattle.oa_server.specs.Decisions.{after_outcome, changed, with_table}
-use Rattle.oa_server.specs.Limits.{allowed}
 use Rattle.oa_server.specs.Plans.{IsPlanned}
 use Rattle.oa_server.specs.States.{State}
-use Rattle.oa_server.specs.Steps.{refusal, reply_with}
+use Rattle.oa_server.specs.Steps.{refusal}
 use Rattle.oa_server.specs.Turns.{Turn}
 use Rattle.oa_server.proofs.Allowed.{is_allowed}
 use Rattle.oa_server.proofs.Wants.{wants}

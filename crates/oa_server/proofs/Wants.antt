@@ -7,8 +7,6 @@ use Rattle.oa_table.specs.Tables.{TableValue}
 use Rattle.oa_server.specs.declared.decision.Decision.{Decision}
 use Rattle.oa_server.specs.declared.decision.Decision.TheVariants.{Answer, Change, Relock}
 use Rattle.oa_server.specs.declared.refusal.Refusal.{Refusal}
-use Rattle.oa_server.specs.Create.{class_found}
-use Rattle.oa_server.specs.Refusals.{◌>>=◌}
 use Rattle.oa_server.specs.Limits.{allowed}
 use Rattle.oa_server.specs.States.{State}
 use Rattle.oa_server.specs.Steps.{decided, takes_memory}

@@ -26,5 +26,5 @@ pub mod Quiet
 pub mod Requests
 pub mod Hands
 pub mod Answers
-pub mod Links
 pub mod Storages
+pub mod Talks

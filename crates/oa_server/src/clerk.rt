@@ -1,38 +1,29 @@
-//! A server at work: its parts, and the group in hand of a session.
+//! A server at work.
 ghost use Rattle.std.specs.Prelude.{◌≡◌, ◌≤◌, map, IfOk, OnErr, false, true};
-ghost use Rattle.oa_server.specs.Hands.{IsHandReady};
 ghost use Rattle.oa_server.specs.Storages.{Answers, InMemory, Serves, disk_of};
 ghost use Rattle.oa_server.specs.Turns.{Run, Turn};
 
-use crate::hand::Hand;
 use crate::host::Host;
 use crate::keeping::{answer_over, run_over};
 use crate::storage::Storage;
 use oa_disk::Disk;
 use oa_record::Reply;
-use std::alloc::{AllocError, Global};
+use std::alloc::AllocError;
 
-/// A library and a table in memory, where the table is kept, and the group in hand: one of size 0 but for sessions over a store.
+/// A library and a table in memory, and where the table is kept.
 #[derive(Drop)]
 pub(crate) struct Clerk<D: Disk> {
     pub host: Host,
     pub storage: Storage<D>,
-    pub hand: Hand,
-    ghost ready: { IsHandReady storage hand },
 }
 
 impl<D: Disk> Clerk<D> {
-    /// One without a group in hand.
-    pub(crate) fn new(alloc: Global, host: Host, storage: Storage<D>) -> Clerk<D>
+    /// A server of these parts.
+    pub(crate) fn new(host: Host, storage: Storage<D>) -> Clerk<D>
         ensures host { result.host ≡ host }
         ensures storage { result.storage ≡ storage }
-        ensures size { result.hand.size ≡ 0 }
     {
-        Clerk {
-            host,
-            storage,
-            hand: Hand::none(alloc),
-        }
+        Clerk { host, storage }
     }
 
     /// The disk as it is. This makes no call.

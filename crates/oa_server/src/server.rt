@@ -21,7 +21,6 @@ use std::alloc::{AllocError, Global};
 #[derive(Drop)]
 pub struct Server<D: Disk> {
     pub(crate) clerk: Clerk<D>,
-    ghost idle: { clerk.hand.size ≡ 0 },
 }
 
 impl Server<NoDisk> {
@@ -32,7 +31,7 @@ impl Server<NoDisk> {
     {
         let host = Host::new(alloc, library);
         Server {
-            clerk: Clerk::new(alloc, host, Storage::Memory(NoDisk::new())),
+            clerk: Clerk::new(host, Storage::Memory(NoDisk::new())),
         }
     }
 }
@@ -52,7 +51,7 @@ impl<D: Disk> Server<D> {
     {
         let host = Host::over(alloc, library, table);
         Server {
-            clerk: Clerk::new(alloc, host, Storage::Disk(store)),
+            clerk: Clerk::new(host, Storage::Disk(store)),
         }
     }
 
@@ -101,7 +100,7 @@ impl Server<NoDisk> {
     {
         let host = Host::over(alloc, library, table);
         Server {
-            clerk: Clerk::new(alloc, host, Storage::Memory(NoDisk::new())),
+            clerk: Clerk::new(host, Storage::Memory(NoDisk::new())),
         }
     }
 }

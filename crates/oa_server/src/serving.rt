@@ -4,7 +4,8 @@ ghost use Rattle.oa_stream.specs.Ahead.{ahead};
 ghost use Rattle.oa_frame.specs.Framings.{frames, hex_lines, records};
 ghost use Rattle.oa_frame.specs.Sessions.{Session};
 ghost use Rattle.oa_server.specs.Serving.{last_written, none_held, turn_written};
-ghost use Rattle.oa_server.specs.Storages.{InMemory, answer_written, none_kept};
+ghost use Rattle.oa_server.specs.Storages.{InMemory};
+ghost use Rattle.oa_server.specs.Talks.{answer_written, none_kept};
 
 use crate::Server;
 use crate::clerk::{Clerk, answer_with};

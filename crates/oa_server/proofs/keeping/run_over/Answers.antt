@@ -1,10 +1,7 @@
-use Rattle.std.proofs.Common.{rules, Vec, Global, ◌≡◌, ◌+◌, ◌++◌, ◌∷◌, ◌≤◌, [], List, ℕ, arith, map, take, length, refl, sym, subst, ◌∙◌, ap}
+use Rattle.std.proofs.Common.{rules, Vec, Global, ◌≡◌, ◌+◌, ◌++◌, ◌∷◌, ◌≤◌, [], List, ℕ, arith, map, take, length, refl, sym, ◌∙◌, ap}
 use Rattle.std.proofs.lemmas.List.{map_push, take_all, take_more}
-use Rattle.oa_groups.specs.Going.{Underway}
 use Rattle.oa_groups.proofs.Takes.{underway_ended, underway_start, underway_taken}
-use Rattle.oa_record.specs.Replies.{ReplyValue}
-use Rattle.oa_server.specs.Answers.{IsLate}
-use Rattle.oa_server.specs.Hands.{IsReady, desk}
+use Rattle.oa_server.specs.Hands.{desk}
 use Rattle.oa_server.specs.Requests.{requests}
 use Rattle.oa_server.proofs.Late.{late_ended, late_more, late_none}
 use Rattle.oa_server.proofs.Settled.{ready_none}

@@ -1,9 +1,12 @@
 -- One body is answered over a store.
-use Rattle.std.proofs.Common.{◌≡◌, ◌⊎◌, inl, ℕ, true, false, true≢false, List, [], ◌++◌, length, refl, sym, ap, ◌∙◌, subst}
+use Rattle.std.proofs.Common.{◌≡◌, ◌⊎◌, inl, inr, ℕ, true, false, true≢false, IsTrue, List, [], ◌∷◌, ◌++◌, length, refl, sym, ap, ◌∙◌, subst}
 use Rattle.oa_disk.specs.declared.disk.Disk.{Ghosts}
 use Rattle.oa_disk.specs.Moments.{chained, weakened}
-use Rattle.oa_groups.specs.Served.{Goes}
-use Rattle.oa_groups.proofs.Takes.{goes_on}
+use Rattle.oa_groups.specs.Desks.{Desk, IsSettled, IsTaken}
+use Rattle.oa_groups.specs.Groups.{fills}
+use Rattle.oa_groups.specs.Served.{Goes, IsServed}
+use Rattle.oa_groups.specs.Turns.{entry}
+use Rattle.oa_groups.proofs.Takes.{goes_on, underway_ended, underway_start, underway_taken}
 use Rattle.oa_journal.specs.Replays.{Replays}
 use Rattle.oa_keeper.specs.Kept.{AllHold, LeavesEither, LeavesTable}
 use Rattle.oa_record.specs.Replies.{ReplyValue}
@@ -11,11 +14,26 @@ use Rattle.oa_store.specs.Stores.{IsStore}
 use Rattle.oa_store.specs.declared.store.Store.{Store}
 use Rattle.oa_table.specs.Tables.{TableValue}
 use Rattle.oa_server.specs.Answers.{IsAnswered}
-use Rattle.oa_server.specs.Requests.{HasTurn, IsHeldBack, faulted, held_of}
+use Rattle.oa_server.specs.Hands.{desk}
+use Rattle.oa_server.specs.Requests.{HasTurn, IsHeldBack, faulted, held_of, requests}
 use Rattle.oa_server.specs.States.{State}
 
-module _ {D : Type 0} {g : Ghosts D} (old mid : Store D g) (was : old.stopped ≡ false) (before after : State) (body start : List ℕ) (empty : start ≡ []) (first : Goes old mid)
+-- one request is a group of one
+full_one : (bytes : ℕ) → fills 1 1 bytes ≡ true
+unfolding fills
+full_one bytes = refl
+
+module _ {D : Type 0} {g : Ghosts D} (only : (d : D) (c : List ℕ) → IsTrue (g.is_honest d) → g.image_since d (g.moment d) c → g.image d c) (old mid : Store D g) (was : old.stopped ≡ false) (before after : State) (body start : List ℕ) (empty : start ≡ []) (first : Goes old mid)
     (leaves : (committed : TableValue) → (length start ≡ 0 → held_of before ≡ committed) → AllHold old committed → LeavesTable old mid committed) where
+  abbrev at_first : Desk State ReplyValue D g
+  at_first = desk old before [] start
+
+  -- taken, it is served
+  alone : (new : Store D g) (reply : ReplyValue) (events : List ℕ) → IsTaken requests 1 body (reply ∷ []) at_first (desk new after [] events) → IsServed requests 1 old new before after (body ∷ []) (reply ∷ [])
+  alone new reply events one =
+      let under = underway_taken requests {g = g} only at_first 1 at_first (desk new after [] events) [] [] body (reply ∷ []) (underway_start requests {g = g} only at_first 1 was refl empty) one in
+      underway_ended requests {g = g} only at_first 1 (desk new after [] events) (desk new after [] events) (body ∷ []) (reply ∷ []) [] under (inl (record { none = refl; nothing = refl; store = refl; state = refl }))
+
   -- its checkpoint failed
   pub checkpoint_failed : (reply : ReplyValue) → reply ≡ faulted body → HasTurn body before after → mid.stopped ≡ true → IsAnswered old mid before after body reply
   checkpoint_failed reply told some stopped = record {
@@ -27,9 +45,13 @@ module _ {D : Type 0} {g : Ghosts D} (old mid : Store D g) (was : old.stopped �
         (leaves (held_of before) (λ none. refl) all) (λ c is. inl is);
     each = λ no going. absurd (true≢false (sym stopped ∙ going));
     goes = first;
+    served = λ no. alone mid reply start (inr (inr (inl (record {
+      was = was;
+      failed = record { reply = some.reply; event = []; turn = some.asked; told_are = ap (λ (r : ReplyValue). r ∷ []) told; stopped = stopped; any_moment = leaves; goes = first };
+    }))));
   }
 
-  module _ (new : Store D g) (due : ReplyValue) (events : List ℕ) (turn : IsHeldBack body due start events before after) (then : Goes mid new)
+  module _ (on : mid.stopped ≡ false) (new : Store D g) (due : ReplyValue) (events : List ℕ) (turn : IsHeldBack body due start events before after) (then : Goes mid new)
       (holds : (committed : TableValue) → (length start ≡ 0 → held_of before ≡ committed) → AllHold old committed → AllHold mid committed)
       (either : (committed now : TableValue) → Replays events committed now → AllHold mid committed → LeavesEither mid new committed now)
       (each : new.stopped ≡ false → (committed now : TableValue) → Replays events committed now → AllHold mid committed → AllHold new now) where
@@ -45,6 +67,18 @@ module _ {D : Type 0} {g : Ghosts D} (old mid : Store D g) (was : old.stopped �
         (either (held_of before) (held_of after) replays (holds (held_of before) (λ none. refl) all)) (λ c is. inl is)
         (λ c is. subst (λ (l : List ℕ). IsStore c l (held_of before) ⊎ IsStore c l (held_of after)) first.library is)
 
+    -- held, and then the group of one ends
+    filled : (reply : ReplyValue) → IsSettled requests (reply ∷ []) (desk mid after (due ∷ []) events) (desk new after [] []) → IsServed requests 1 old new before after (body ∷ []) (reply ∷ [])
+    filled reply settled = alone new reply [] (inr (inl (record {
+      was = was;
+      reply = due;
+      event = turn.event;
+      mid = desk mid after (due ∷ []) events;
+      held = record { turn = turn.asked; pending = refl; events = turn.added; going = on; any_moment = leaves; each = holds; goes = first };
+      full = full_one (length events);
+      settled = settled;
+    })))
+
     -- its commit failed
     pub commit_failed : (reply : ReplyValue) → reply ≡ faulted body → new.stopped ≡ true → IsAnswered old new before after body reply
     commit_failed reply told stopped = record {
@@ -54,6 +88,14 @@ module _ {D : Type 0} {g : Ghosts D} (old mid : Store D g) (was : old.stopped �
       any_moment = λ no. meanwhile;
       each = λ no going. absurd (true≢false (sym stopped ∙ going));
       goes = goes_on old mid new first then;
+      served = λ no. filled reply (record {
+        state = refl;
+        well = λ going. absurd (true≢false (sym stopped ∙ going));
+        broken = λ yes. ap (λ (r : ReplyValue). r ∷ []) (told ∙ sym (requests.tells (entry body due turn.event) before after turn.asked));
+        any_moment = λ committed makes all. either committed (held_of after) makes all;
+        each = λ going. absurd (true≢false (sym stopped ∙ going));
+        goes = then;
+      });
     }
 
     -- it is committed
@@ -65,4 +107,12 @@ module _ {D : Type 0} {g : Ghosts D} (old mid : Store D g) (was : old.stopped �
       any_moment = λ no. meanwhile;
       each = λ no yes all. each yes (held_of before) (held_of after) replays (holds (held_of before) (λ none. refl) all);
       goes = goes_on old mid new first then;
+      served = λ no. filled due (record {
+        state = refl;
+        well = λ yes. (refl, refl, refl);
+        broken = λ stopped. absurd (true≢false (sym stopped ∙ going));
+        any_moment = λ committed makes all. either committed (held_of after) makes all;
+        each = λ yes committed makes all. each yes committed (held_of after) makes all;
+        goes = then;
+      });
     }

@@ -1,11 +1,11 @@
 -- What one body is answered over a store, and what a stop at any moment of that leaves.
-use Rattle.std.specs.Prelude.{◌≡◌, ℕ, true, false, List, map}
+use Rattle.std.specs.Prelude.{◌≡◌, ℕ, true, false, List, [], ◌∷◌, map}
 use Rattle.oa_disk.specs.declared.disk.Disk.{Ghosts}
-use Rattle.oa_groups.specs.Served.{Goes}
+use Rattle.oa_groups.specs.Served.{Goes, IsServed}
 use Rattle.oa_keeper.specs.Kept.{AllHold, LeavesEither}
 use Rattle.oa_record.specs.Replies.{ReplyValue}
 use Rattle.oa_store.specs.declared.store.Store.{Store}
-use Rattle.oa_server.specs.Requests.{failed, faulted, held_of}
+use Rattle.oa_server.specs.Requests.{failed, faulted, held_of, requests}
 use Rattle.oa_server.specs.States.{State}
 use Rattle.oa_server.specs.Turns.{Turn}
 
@@ -20,6 +20,8 @@ pub record IsAnswered {D : Type 0} {g : Ghosts D} (old new : Store D g) (before 
   -- and without a fault, at the end, the one after
   pub each : old.stopped ≡ false → new.stopped ≡ false → AllHold old (held_of before) → AllHold new (held_of after)
   pub goes : Goes old new
+  -- it is a group of one, with its moments
+  pub served : old.stopped ≡ false → IsServed requests 1 old new before after (body ∷ []) (reply ∷ [])
 
 -- The device has failed before: all bodies are answered that, and nothing is done.
 pub record IsLate {D : Type 0} {g : Ghosts D} (old new : Store D g) (before after : State) (bodies : List (List ℕ)) (replies : List ReplyValue) : Type 0 where

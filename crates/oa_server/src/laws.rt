@@ -1,7 +1,9 @@
 //! Laws of the definitions that turns are stated by.
-ghost use Rattle.std.specs.Prelude.{◌≡◌, ℕ, true, Bool, List, None};
+ghost use Rattle.std.specs.Prelude.{◌≡◌, ℕ, true, Bool, List, None, ◌≤◌, ◌++◌, [], ◌∷◌, false, drop};
 ghost use Rattle.oa_groups.specs.History.{KeepsEach, RunEach, Session, Sessions, accepted, accepted_each};
-ghost use Rattle.oa_groups.specs.Runs.{Run as RunOf};
+ghost use Rattle.oa_groups.specs.Runs.{IsAfter, Run as RunOf};
+ghost use Rattle.oa_groups.specs.Served.{IsServed};
+ghost use Rattle.oa_groups.specs.Sessions.{Call, IsSession, Sitting, by_then};
 ghost use Rattle.oa_groups.specs.Turns.{Entry};
 ghost use Rattle.oa_record.specs.declared.request.Request.{Request as ARequest};
 ghost use Rattle.oa_record.specs.Replies.{ReplyValue};
@@ -13,9 +15,13 @@ ghost use Rattle.oa_server.specs.States.{State};
 ghost use Rattle.oa_server.specs.Steps.{outcome, reply_of};
 ghost use Rattle.oa_server.specs.Traces.{done_bodies, done_replies, kept_bodies, kept_replies};
 ghost use Rattle.oa_server.specs.Turns.{Run, Turn};
+ghost use Rattle.oa_disk.specs.Disk.{LeavesOnly};
+ghost use Rattle.oa_keeper.specs.Kept.{AllHold};
 ghost use Rattle.oa_store.specs.Stores.{IsStore};
+ghost use Rattle.oa_store.specs.declared.store.Store.{Store as AStore};
 ghost use Rattle.oa_typelib.specs.Checked.{IsChecked};
 
+use oa_disk::Disk;
 use oa_fits::laws::changes_that_fit;
 
 /// A request that is answered with another code than S_OK leaves no trace: its outcome has no event and no change of locks, so its turn leaves the state as it was, and
@@ -56,4 +62,24 @@ pub fn no_trace_of_groups()
 pub fn headline()
     ensures { (library : List ℕ) (state : State) (old : List ℕ) (sessions : List (Session ReplyValue)) (new : List ℕ) → Sessions requests library state old sessions new → IsStore old library (held_of state)
         → (kept : List (List (Entry ReplyValue))) × (last : State) × KeepsEach sessions kept × RunEach requests state kept last × RunEach requests state (accepted_each requests kept) last × IsStore new library (held_of last) }
+{}
+
+/// A session over a store is an opening and calls, one after another. It begins with an opening that writes nothing; each call that is served, an
+/// answer among them, goes on with it, and without a fault of the device the next may follow.
+pub fn sessions_go_on<D: Disk>()
+    ensures opened { (start : D) (now : AStore D D.Disk) (library : List ℕ) (first : State) → now.library.items ≡ library
+        → LeavesOnly D.moment D.image_since start now.disk (λ c. IsStore c library (held_of first)) → AllHold now (held_of first) → Sitting requests start now library first first [] }
+    ensures called { (start : D) (mid new : AStore D D.Disk) (library : List ℕ) (first last after : State) (calls : List (Call ReplyValue)) (call : Call ReplyValue) → Sitting requests start mid library first last calls
+        → IsServed requests call.size mid new last after call.bodies call.replies → IsSession requests D.moment D.image_since start new.disk library first (calls ++ call ∷ []) after }
+    ensures goes_on { (start : D) (mid new : AStore D D.Disk) (library : List ℕ) (first last after : State) (calls : List (Call ReplyValue)) (call : Call ReplyValue) → Sitting requests start mid library first last calls
+        → IsServed requests call.size mid new last after call.bodies call.replies → new.stopped ≡ false → Sitting requests start new library first after (calls ++ call ∷ []) }
+{}
+
+/// What a stop at some moment of a session leaves is a store of the state after all groups that were answered by then, and some more perhaps; at
+/// its end, all.
+pub fn a_stop_keeps_what_was_answered<D: Disk>()
+    ensures stopped { (old new : D) (library : List ℕ) (first : State) (calls : List (Call ReplyValue)) (last : State) (session : IsSession requests D.moment D.image_since old new library first calls last) (m : ℕ) (c : List ℕ)
+        → D.moment old ≤ m → ((k : ℕ) → k ≤ m → D.image_since new k c) → IsAfter requests (by_then m (drop 1 session.moments)) library first session.groups c }
+    ensures all { (old new : D) (library : List ℕ) (first : State) (calls : List (Call ReplyValue)) (last : State) (session : IsSession requests D.moment D.image_since old new library first calls last) (m : ℕ)
+        → D.moment new ≤ m → by_then m (drop 1 session.moments) ≡ session.count }
 {}

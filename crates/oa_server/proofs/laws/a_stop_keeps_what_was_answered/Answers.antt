@@ -1,0 +1,9 @@
+use Rattle.oa_groups.proofs.Calling.{session_ended, session_stopped}
+use Rattle.oa_server.specs.Requests.{requests}
+use Rattle.oa_server.proofs.laws.a_stop_keeps_what_was_answered.Goals as goal
+
+pub returns-clause-stopped : goal.returns-clause-stopped
+returns-clause-stopped g c old new library first calls last session m f later since = session_stopped requests g.D.Disk.moment g.D.Disk.image_since old new library first calls last session m f later since
+
+pub returns-clause-all : goal.returns-clause-all
+returns-clause-all g c old new library first calls last session m le = session_ended requests g.D.Disk.moment g.D.Disk.image_since old new library first calls last session m le

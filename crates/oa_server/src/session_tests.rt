@@ -1,5 +1,6 @@
 // Sessions of a small library, as tables of requests and replies.
-ghost use Rattle.std.specs.Prelude.{◌≡◌, ◌≤◌, false};
+ghost use Rattle.std.specs.Prelude.{◌≡◌, ◌≤◌, false, IfOk};
+ghost use Rattle.oa_server.specs.Limits.{IsSound};
 
 use crate::tests::{Halting, Refusing, Small};
 use crate::{End, Served, Server};
@@ -406,7 +407,9 @@ const NUMBERS: [(&str, &str); 3] = [
 ];
 
 /// A table without objects whose next number is the last one.
-fn nearly_used_up(alloc: Global) -> Result<Table, AllocError> {
+fn nearly_used_up(alloc: Global) -> Result<Table, AllocError>
+    ensures { IfOk result (λ table. IsSound table) }
+{
     Table::from_parts(alloc, 4_294_967_294, Vec::new(alloc))
 }
 

@@ -12,3 +12,4 @@ pub mod Fitting
 pub mod Planned
 pub mod InMemory
 pub mod Planning
+pub mod Opened

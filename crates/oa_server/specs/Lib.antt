@@ -21,3 +21,4 @@ pub mod Plans
 pub mod Storages
 pub mod Serving
 pub mod Traces
+pub mod Openings

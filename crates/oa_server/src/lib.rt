@@ -5,6 +5,7 @@ mod decision;
 mod fields;
 mod host;
 pub mod laws;
+mod opening;
 mod plan;
 mod refusal;
 mod server;

@@ -1,7 +1,6 @@
 -- Sessions that were stopped.
 use Rattle.std.proofs.Common.{◌≡◌, ◌≤◌, ℕ, zero, suc, Bool, true, false, if◌then◌else◌, List, [], ◌∷◌, ◌++◌, length, take, refl, sym, ◌∙◌, ap, subst, arith, append_assoc}
 use Rattle.oa_store.specs.Stores.{IsStore}
-use Rattle.oa_table.specs.Tables.{TableValue}
 use Rattle.oa_groups.specs.Groups.{joined}
 use Rattle.oa_groups.specs.History.{Session, Keeps, KeepsEach, RunEach, Sessions, accepted, accepted_each}
 use Rattle.oa_groups.specs.Runs.{IsAfter, Run}

@@ -1,3 +1,4 @@
+pub mod Calling
 pub mod Entries
 pub mod Histories
 pub mod Running

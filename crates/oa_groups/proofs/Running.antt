@@ -89,20 +89,31 @@ module _ {S R : Type 0} (t : Turns S R) where
   }
 
   module _ {D : Type 0} (moment : D → ℕ) (image_since : D → ℕ → List ℕ → Type 0) (library : List ℕ) (first : S) where
-    pub run_started : (start : D) → ((c : List ℕ) → image_since start (moment start) c → IsStore c library (t.held first)) → IsRun t moment image_since start start library first [] 0 (moment start ∷ [])
-    run_started start now = record {
+    -- the first moment alone
+    pub one_moment : (old new : D) (groups : List (List (Entry R))) → moment old ≤ moment new → ((c : List ℕ) → image_since new (moment old) c → IsAfter t 0 library first groups c)
+        → ((m : ℕ) (c : List ℕ) → m ≤ moment old → image_since new m c → image_since old m c ⊎ IsAfter t 0 library first groups c) → IsRun t moment image_since old new library first groups 0 (moment old ∷ [])
+    one_moment old new groups later here before = record {
       start = refl;
-      rises = ((omega arith), tt);
+      rises = (omega arith, tt);
       one_each = refl;
-      past = λ j m is. ⊎_elim (λ none. absurd (none_there j m none)) (λ last. omega (arith, last.1)) (get_push [] (moment start) j m is);
-      images = λ j m is c since. ⊎_elim (λ none. absurd (none_there j m none))
-          (λ last. after_fewer 0 j library first [] c (omega (arith, last.0)) (after_all library first [] first c refl (now c (subst (λ (m : ℕ). image_since start m c) last.1 since))))
-          (get_push [] (moment start) j m is);
-      before = λ m c le since. inl since;
+      past = past_each;
+      images = images_each;
+      before = before;
     }
       where
-        none_there : (j m : ℕ) → slice_get [] j ≡ Some m → ⊥
-        none_there j m is = absurd (cc)
+        same : (a b : ℕ) → Some a ≡ Some b → b ≡ a
+        same a b e = cc
+
+        past_each : (j m : ℕ) → slice_get (moment old ∷ []) j ≡ Some m → m ≤ moment new
+        past_each zero m is = omega (arith, same (moment old) m is, later)
+        past_each (suc j) m is = absurd cc
+
+        images_each : (j m : ℕ) → slice_get (moment old ∷ []) j ≡ Some m → (c : List ℕ) → image_since new m c → IsAfter t j library first groups c
+        images_each zero m is c since = here c (subst (λ (m : ℕ). image_since new m c) (same (moment old) m is) since)
+        images_each (suc j) m is c since = absurd cc
+
+    pub run_started : (start : D) → ((c : List ℕ) → image_since start (moment start) c → IsStore c library (t.held first)) → IsRun t moment image_since start start library first [] 0 (moment start ∷ [])
+    run_started start now = one_moment start start [] (omega arith) (λ c since. after_all library first [] first c refl (now c since)) (λ m c le since. inl since)
 
     -- calls after which no image has fewer groups than stood for good, and perhaps one more
     pub run_on : (old mid new : D) (groups more : List (List (Entry R))) (count : ℕ) (moments : List ℕ) (P : List ℕ → Type 0)

@@ -1,8 +1,7 @@
 -- How a server at work goes on.
-use Rattle.std.proofs.Common.{◌≡◌, ◌≢◌, ◌⊎◌, inl, inr, ⊎_elim, ℕ, ◌+◌, ◌-◌, ◌^◌, ◌<◌, ◌≤◌, Bool, true, false, true≢false, IsTrue, List, [], ◌∷◌, ◌++◌, length, map, refl, sym, ◌∙◌, ap, subst, arith, length-append, append_assoc}
+use Rattle.std.proofs.Common.{◌≡◌, ◌≢◌, ◌⊎◌, inl, inr, ℕ, ◌+◌, ◌-◌, ◌^◌, ◌<◌, Bool, true, false, true≢false, IsTrue, List, [], ◌∷◌, ◌++◌, length, map, refl, sym, ◌∙◌, ap, subst, arith, length-append, append_assoc}
 use Rattle.std.proofs.lemmas.List.{append-nil, map-append, length-map}
 use Rattle.oa_disk.specs.declared.disk.Disk.{Ghosts}
-use Rattle.oa_disk.specs.Disk.{LeavesOnly}
 use Rattle.oa_journal.specs.Replays.{Replays}
 use Rattle.oa_store.specs.Stores.{IsStore}
 use Rattle.oa_store.specs.declared.store.Store.{Store}
@@ -11,7 +10,7 @@ use Rattle.oa_keeper.specs.Kept.{AllHold}
 use Rattle.oa_keeper.proofs.Committed.{no_change}
 use Rattle.oa_groups.specs.Desks.{Desk, IsHeld, IsSettled, IsFailed, IsOver, IsTaken, IsEnded}
 use Rattle.oa_groups.specs.Going.{IsCut, IsGroup, IsEnd, Going, Faulted, Underway}
-use Rattle.oa_groups.specs.Groups.{cut, events_in, fills, groups_of, is_full, joined, rest_of}
+use Rattle.oa_groups.specs.Groups.{events_in, fills, groups_of, is_full, joined, rest_of}
 use Rattle.oa_groups.specs.Runs.{IsAfter, IsRun, Run}
 use Rattle.oa_groups.specs.Served.{Goes, IsServed}
 use Rattle.oa_groups.specs.Turns.{Entry, Turns, body_of, entry, reply_of}

@@ -1,6 +1,10 @@
 -- A session: one call after another.
 use Rattle.std.specs.Prelude.{◌≡◌, ℕ, suc, ◌+◌, nat_le, if◌then◌else◌, List, [], ◌∷◌, ◌++◌, length}
-use Rattle.oa_groups.specs.Runs.{IsRun}
+use Rattle.oa_disk.specs.declared.disk.Disk.{Ghosts}
+use Rattle.oa_store.specs.declared.store.Store.{Store}
+use Rattle.oa_keeper.specs.Kept.{AllHold}
+use Rattle.oa_groups.specs.Groups.{joined}
+use Rattle.oa_groups.specs.Runs.{IsRun, Run}
 use Rattle.oa_groups.specs.Served.{Served}
 use Rattle.oa_groups.specs.Turns.{Entry, Turns}
 
@@ -38,3 +42,11 @@ pub record IsSession {S R D : Type 0} (t : Turns S R) (moment : D → ℕ) (imag
 abbrev pub by_then : ℕ → List ℕ → ℕ
 by_then moment [] = 0
 by_then moment (m ∷ moments) = if nat_le m moment then suc (by_then moment moments) else 0
+
+-- A session that goes on: what it began with, what it is now, and its calls.
+pub record Sitting {S R D : Type 0} {g : Ghosts D} (t : Turns S R) (start : D) (now : Store D g) (library : List ℕ) (first last : S) (calls : List (Call R)) : Type 0 where
+  pub session : IsSession t g.moment g.image_since start now.disk library first calls last
+  pub whole : session.count ≡ length session.groups
+  pub run : Run t first (joined session.groups) last
+  pub all : AllHold now (t.held last)
+  pub library_is : now.library.items ≡ library

@@ -32,6 +32,8 @@ pub fn make_room<D: Disk>(
     ensures any_moment { (committed : TableValue) → (length frame.now ≡ 0 → unlocked_table table.now ≡ committed) → AllHold store.old committed → LeavesTable store.old store.new committed }
     ensures each { store.new.stopped ≡ false → (committed : TableValue) → (length frame.now ≡ 0 → unlocked_table table.now ≡ committed) → AllHold store.old committed → AllHold store.new committed }
     ensures quiet { 0 < length frame.now → (store.new.disk ≡ store.old.disk) × IsOk result }
+    // No checkpoint is made that is not due.
+    ensures undue { 1572869 ≤ bank_bytes - store.old.bank.gate → (store.new.disk ≡ store.old.disk) × IsOk result }
     ensures room { OnOk result (1572869 ≤ bank_bytes - store.new.bank.gate) }
     ensures room_kept { store.new.stopped ≡ false → HasRoom frame.now store.new }
 
@@ -96,6 +98,7 @@ pub fn hold<D: Disk>(
     ensures any_moment { (committed : TableValue) → (length frame.old ≡ 0 → unlocked_table table.old ≡ committed) → AllHold store.old committed → LeavesTable store.old store.new committed }
     ensures each { store.new.stopped ≡ false → (committed : TableValue) → (length frame.old ≡ 0 → unlocked_table table.old ≡ committed) → AllHold store.old committed → AllHold store.new committed }
     ensures quiet { 0 < length frame.old → store.new.disk ≡ store.old.disk }
+    ensures undue { 1572869 ≤ bank_bytes - store.old.bank.gate → store.new.disk ≡ store.old.disk }
     ensures room { store.new.stopped ≡ false → HasRoom frame.new store.new }
 
     ensures going { (IsErrOf result KeepFault.Write → ⊥) → store.new.stopped ≡ false }
@@ -152,13 +155,11 @@ fn commit_bytes<D: Disk>(store: &mut Store<D>, bytes: &mut Vec<u8>) -> Result<()
         return Ok(());
     }
     match store.commit(bytes) {
-        Ok(()) => {
-            bytes.clear();
-            Ok(())
-        }
+        Ok(()) => bytes.clear(),
         Err(_) => {
             bytes.clear();
-            Err(Broken)
+            return Err(Broken);
         }
     }
+    Ok(())
 }

@@ -1,4 +1,4 @@
-use Rattle.std.proofs.Common.{rules, ◌≡◌, ◌∙◌, ℕ, ◌+◌, List, length, inl, sym, ap, subst, arith}
+use Rattle.std.proofs.Common.{rules, ◌∙◌, ℕ, ◌+◌, List, length, inl, sym, subst}
 use Rattle.oa_disk.specs.Moments.{weakened}
 use Rattle.oa_journal.specs.Append.{group_of}
 use Rattle.oa_journal.specs.Replays.{Replays}
@@ -20,8 +20,8 @@ pub returns-then-len-le5-clause-each : goal.returns-then-len-le5-clause-each
 returns-then-len-le5-clause-each g c going committed now makes all =
     subst (λ (t : TableValue). AllHold c.args.store.now t) (no_change (group_of c.args.bytes.now.items) committed now (no_events c.args.bytes.now.items (search rules)) makes) all
 
-pub returns-in-Ok-clause-any_moment : goal.returns-in-Ok-clause-any_moment
-returns-in-Ok-clause-any_moment g c committed now makes all =
+pub returns-clause-any_moment : goal.returns-clause-any_moment
+returns-clause-any_moment g c committed now makes all =
     let store = c.args.store.now in
     let group = group_of c.deref_mut.result.now in
     weakened g.D.Disk.moment g.D.Disk.image_since _ _ _ _ (c.commit.ensures.any_moment all.0)
@@ -34,8 +34,8 @@ returns-in-Err-clause-any_moment g c committed now makes all =
     weakened g.D.Disk.moment g.D.Disk.image_since _ _ _ _ (c.commit.ensures.any_moment all.0)
     (meanwhile store.library.items committed now store.chosen store.bank.gate group (g.D.Disk.image store.disk) (subst (λ (l : List ℕ). Replays (group_of l) committed now) (sym c.deref_mut.ensures.value) makes) all.1)
 
-pub returns-in-Ok-clause-each : goal.returns-in-Ok-clause-each
-returns-in-Ok-clause-each g c going committed now makes all =
+pub returns-clause-each : goal.returns-clause-each
+returns-clause-each g c going committed now makes all =
     let store = c.args.store.now in
     let new = c.commit.new.self in
     let group = group_of c.deref_mut.result.now in (

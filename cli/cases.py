@@ -819,6 +819,53 @@ talk(
 )
 talk("locks at their limit", FULL, [puts(GRID, SIX)] + [locks(GRID, count) for count in range(1, 65_536)] + [locks(GRID, 0, E_UNEXPECTED), unlocks(GRID, 65_534), locks(GRID, 65_535), locks(GRID, 0, E_UNEXPECTED)])
 
+# --- limits on what a change makes
+
+MEDIUM_FULL = 0x8003_0070
+NAME_ID, WHOLE_TEXT = 2, 262_144
+
+
+def puts_of(number, dispid, value, code=0):
+    return (lambda tag: wire.put(tag, number, dispid, value), lambda tag: wire.reply(tag, code))
+
+
+def name_of(length):
+    return wire.scalar(wire.BSTR, b"n" * length)
+
+
+# 55 objects with the longest name and one without: a table whose image has 14,420,812 bytes
+NEARLY_FULL = [creates(number) for number in range(2, 57)] + [puts_of(number, NAME_ID, name_of(WHOLE_TEXT)) for number in range(1, 56)]
+talk("a table above its limit", FULL, [*NEARLY_FULL, puts_of(56, NAME_ID, name_of(259_225), MEDIUM_FULL), of(56, NAME_ID, wire.scalar(wire.BSTR)), releases(1), puts_of(56, NAME_ID, name_of(259_225))])
+talk(
+    "a table at its limit",
+    FULL,
+    [
+        *NEARLY_FULL,
+        puts_of(56, NAME_ID, name_of(259_224)),
+        puts_of(56, COUNT_ID, i4(0), MEDIUM_FULL),
+        creates(57)[:1] + (lambda tag: wire.reply(tag, MEDIUM_FULL),),
+        puts_of(55, NAME_ID, name_of(WHOLE_TEXT)),
+        puts_of(56, NAME_ID, name_of(259_225), MEDIUM_FULL),
+        puts_of(56, NAME_ID, name_of(259_200)),
+        creates(57),
+        releases(57),
+        puts_of(56, NAME_ID, name_of(259_196)),
+        puts_of(56, COUNT_ID, i4(7)),
+        of(56, COUNT_ID, i4(7)),
+    ],
+)
+BIG = library_with(
+    interface(
+        b"2",
+        body=b"methods: [id(1), propget] SAFEARRAY(BSTR) Big([in, defaultvalue(" + b'"' + b"a" * 40_000 + b'"' + b")] BSTR P);"
+        b" [id(1), propput] void Big([in, defaultvalue(" + b'"' + b"a" * 40_000 + b'"' + b")] BSTR P, [in] SAFEARRAY(BSTR) Value);",
+    )
+    + coclass(b"3", body=b"[default] dispinterface DItem;")
+)
+four_texts = lambda last: wire.array(wire.BSTR, [(4, 0)], [b"t" * WHOLE_TEXT] * 3 + [b"t" * last])
+talk("the put of an event at its limit", BIG, [puts(1, four_texts(182_083)), gets(1, four_texts(182_083))])
+talk("the put of an event above its limit", BIG, [puts(1, four_texts(182_084), E_INVALIDARG), gets(1, wire.zero_array(wire.BSTR))])
+
 # --- names and type information
 
 UNKNOWN_NAME, BAD_INDEX, NOT_IMPLEMENTED = 0x8002_0006, 0x8002_000B, 0x8000_4001

@@ -3,7 +3,7 @@ use Rattle.oa_table.specs.Elements.{element_put}
 use Rattle.oa_table.specs.Objects.{with_change}
 use Rattle.oa_table.specs.declared.event.Event.TheVariants.{PutElement}
 use Rattle.oa_table.proofs.Through.{refused_in_object}
-use Rattle.oa_table.proofs.table.Table.put_element.Goals as goal
+use Rattle.oa_table.proofs.objects.Objects.put_element.Goals as goal
 
 pub returns : goal.returns
 returns c =

@@ -214,7 +214,7 @@ module _ (library : TreeValue) where
   cell_kept name table change leaves = on_kept name.object table (with_change name.place change) (λ object is. change_kept name.place change leaves object)
 
   create_kept : (table : TableValue) (number : ℕ) (class : List ℕ) → is_some (class_of library class) ≡ true → Fits table → IfOk (applied (Create number class) table) Fits
-  create_kept table number class known fit = by ((number == table.next) && nat_lt number 4294967295)
+  create_kept table number class known fit = by _
     where
       by : (b : Bool) → IfOk (if b then Ok (record { next = number + 1; objects = insert_entry nat_cmp table.objects number (record { class = class; cells = [] }) }) else Err WrongNumber) Fits
       by true = insert_all entry_fits nat_cmp exact_unsigned table.objects number (record { class = class; cells = [] }) (object_from class [] known refl) fit

@@ -12,4 +12,5 @@ pub mod Fitting
 pub mod Planned
 pub mod InMemory
 pub mod Planning
+pub mod Lockless
 pub mod Opened

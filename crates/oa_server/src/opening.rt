@@ -6,10 +6,11 @@ ghost use Rattle.oa_server.specs.Openings.{CanServe, HoldsEither, IsUnfit};
 ghost use Rattle.oa_store.specs.Faults.{IsCaused, IsEarly, IsRefusal, Says};
 ghost use Rattle.oa_store.specs.Reads.{WritesNothing};
 ghost use Rattle.oa_store.specs.Stores.{IsForeign, IsStore, IsStoreAt};
-ghost use Rattle.oa_table.specs.Tables.{TableValue};
+ghost use Rattle.oa_table.specs.Tables.{TableValue, unlocked_table};
 
 use oa_disk::Disk;
 use oa_fits::fits;
+use oa_image::laws::images_are_counted;
 use oa_store::{OpenFault, Store};
 use oa_table::Table;
 use oa_typelib::Library;
@@ -30,7 +31,8 @@ fn text_of(library: &Library) -> &[u8]
 fn is_small(table: &Table) -> bool
     ensures { IsTrue result ↔ (length (table_image table.now) ≤ 14680064) }
 {
-    table.len() as u64 <= MAX_TABLE_BYTES
+    images_are_counted();
+    table.image_size() <= MAX_TABLE_BYTES
 }
 
 /// Whether a server of this library can begin with this table.
@@ -50,6 +52,7 @@ pub(crate) fn open_store<D: Disk>(
     // Each image at the end is a store of the answered table, and so are the contents at the start.
     ensures found { IfOk result (λ r. IsTrue (D.is_honest r.0.disk) → (c : List ℕ) → D.image r.0.disk c → IsStoreAt r.0.chosen r.0.bank.gate (canonical library.now) r.1 c) }
     ensures contents { IfOk result (λ r. IsTrue (D.is_honest r.0.disk) → IsStore (D.contents disk) (canonical library.now) r.1) }
+    ensures unlocked { IfOk result (λ r. IsTrue (D.is_honest r.0.disk) → unlocked_table r.1 ≡ r.1) }
     ensures serves { IfOk result (λ r. CanServe library.now r.1) }
     ensures starts { IfOk result (λ r. (r.0.stopped ≡ false) × (r.0.library.items ≡ canonical library.now) × (is_numbered r.1 ≡ true)) }
     // Where a stop has left one of two tables, that one is answered, and no refusal says that there is none.

@@ -555,7 +555,7 @@ class Large(Session):
             return ask_create(guid), lambda: model.create(guid)
         if roll > 0.94:
             return super().request()
-        of = dice.choice(known)
+        of = dice.choice(known[-3:] if dice.random() < 0.6 else known)
         call = {"object": of, "interface": FIRST_ONE, "riid": False, "dispid": 2, "flags": 4, "named": [-3], "arguments": [self.text()]}
         if roll > 0.4 or model.objects[of][0] == PLAIN:
             texts = [self.text() for _ in range(dice.choice([0, 1, 2, 3, 3]))]

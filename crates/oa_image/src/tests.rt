@@ -1,6 +1,7 @@
 //! Images by their bytes, written as digits: values, events, tables; and bytes that are no image.
 use crate::{
-    read_event, read_events, read_table, write_event, write_key, write_table, write_value,
+    ImageFault, read_event, read_events, read_table, write_event, write_key, write_table,
+    write_value,
 };
 use oa_array::Indices;
 use oa_model::{Bound, guid_from_wire};
@@ -234,13 +235,16 @@ fn tables_have_their_images(rt: HostRuntime) {
     }
 }
 
-/// Two releases one behind the other, and a key of two scalars.
+/// Two releases one behind the other, a key of two scalars, and where an event is cut.
 #[test]
 fn rows_stand_one_behind_the_other(rt: HostRuntime) {
     let alloc = rt.alloc();
     let image = bytes_of(alloc, "02 01000000 02 02000000");
     let events = read_events(alloc, image.as_slice());
     assert!(rt; events.is_ok_and(|events| events.len() == 2));
+    let short = bytes_of(alloc, "03 01000000 4433221166");
+    let refused = read_event(alloc, short.as_slice());
+    assert!(rt; refused.err() == Some(ImageFault::Damaged(5)));
     let mut out = Vec::new(alloc);
     assert!(rt; write_key(&[Scalar::I2(7), Scalar::Bool(true)], &mut out).is_ok());
     assert!(rt; out.as_slice() == bytes_of(alloc, "0200 0700 0b00 01").as_slice());

@@ -1,5 +1,6 @@
 pub mod States
 pub mod Refusals
+pub mod Limits
 pub mod Decisions
 pub mod Interfaces
 pub mod Create
@@ -22,3 +23,7 @@ pub mod Storages
 pub mod Serving
 pub mod Traces
 pub mod Openings
+pub mod Quiet
+pub mod Requests
+pub mod Hands
+pub mod Answers

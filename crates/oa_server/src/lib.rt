@@ -1,15 +1,19 @@
 //! An automation object server: requests to a table, and sessions over a reader and a writer.
 #![tactic(auto)]
 
+mod changes;
+mod clerk;
 mod decision;
 mod fields;
+mod hand;
 mod host;
+mod keeping;
 pub mod laws;
+mod limits;
 mod opening;
 mod plan;
 mod refusal;
 mod server;
-mod serving;
 mod storage;
 
 pub use oa_frame::{End, Served};
@@ -21,6 +25,8 @@ mod array_tests;
 mod call_tests;
 #[cfg(test)]
 mod info_tests;
+#[cfg(test)]
+mod opening_tests;
 #[cfg(test)]
 mod session_tests;
 #[cfg(test)]

@@ -2,12 +2,15 @@
 ghost use Rattle.std.specs.Prelude.{◌≡◌, ◌↔◌, ◌⊎◌, ◌≤◌, List, ℕ, Some, IsTrue, false, length, true, IfOk, IfErr};
 ghost use Rattle.oa_idl.specs.Canonical.{canonical};
 ghost use Rattle.oa_image.specs.Tables.{is_numbered, table_image};
-ghost use Rattle.oa_server.specs.Openings.{CanServe, HoldsEither, IsUnfit};
+ghost use Rattle.oa_server.specs.Openings.{CanServe, HoldsEither, IsNotOpened, IsOpened, IsUnfit};
+ghost use Rattle.oa_server.specs.Storages.{OverStore};
 ghost use Rattle.oa_store.specs.Faults.{IsCaused, IsEarly, IsRefusal, Says};
 ghost use Rattle.oa_store.specs.Reads.{WritesNothing};
 ghost use Rattle.oa_store.specs.Stores.{IsForeign, IsStore, IsStoreAt};
 ghost use Rattle.oa_table.specs.Tables.{TableValue, unlocked_table};
 
+use crate::Server;
+use crate::limits::MAX_TABLE_BYTES;
 use oa_disk::Disk;
 use oa_fits::fits;
 use oa_image::laws::images_are_counted;
@@ -15,9 +18,6 @@ use oa_store::{OpenFault, Store};
 use oa_table::Table;
 use oa_typelib::Library;
 use std::alloc::Global;
-
-/// The greatest image of a table that a bank has room for.
-const MAX_TABLE_BYTES: u64 = 14_680_064;
 
 /// The library's text, which is no longer than a library text may be.
 fn text_of(library: &Library) -> &[u8]
@@ -81,5 +81,21 @@ pub(crate) fn open_store<D: Disk>(
             }
         }
         Err(refused) => Err(refused),
+    }
+}
+
+impl<D: Disk> Server<D> {
+    /// Opens the store of this library that is on the disk, and serves its table. It writes nothing, and begins with a sync. A refusal hands the
+    /// disk back; it is Damaged(0) also where the library cannot have the table, or a bank has no room for its image. Locks end with a session: the
+    /// table has none.
+    pub fn open(alloc: Global, disk: D, library: Library) -> Result<Server<D>, (D, OpenFault)>
+        ensures library { IfOk result (λ server. server.clerk.host.library ≡ library) }
+        ensures opened { IfOk result (λ server. OverStore server.clerk.storage (λ store. IsOpened D.Disk disk library store server.clerk.host.table)) }
+        ensures refused { IfErr result (λ e. IsNotOpened D.Disk disk e.0 library e.1) }
+    {
+        match open_store(alloc, disk, &library) {
+            Ok((store, table)) => Ok(Server::over_store(alloc, library, table, store)),
+            Err(refused) => Err(refused),
+        }
     }
 }

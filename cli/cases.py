@@ -7,123 +7,16 @@ Each case runs the program in a new empty folder with a library, command-line wo
 output, standard error and the status; one that takes longer than two minutes fails. The last line counts the cases.
 """
 import os
-import resource
-import select
 import struct
-import subprocess
-import sys
 import tempfile
-import time
 
 import wire
+from running import CALLED, CREATE, CREATED, REPLIES, REQUESTS, SMALL, Talk, case, ends, run, tell, text_of, within
 
-ROOT = os.path.dirname(os.path.dirname(os.path.abspath(__file__)))
-PROGRAM = os.path.abspath(sys.argv[1]) if len(sys.argv) > 1 else f"{ROOT}/crates/oaut/out/oaut"
-# the name that it is called by, which its usage tells
-CALLED = os.path.basename(PROGRAM).encode()
-
-
-def text_of(name):
-    with open(f"{ROOT}/examples/{name}", "rb") as file:
-        return file.read()
-
-
-SMALL = text_of("small.idl")
-REQUESTS = text_of("first.hex")
-REPLIES = text_of("first.out")
 FULL = text_of("full.idl")
 CANONICAL = text_of("full.canonical.idl")
-CREATE = REQUESTS.splitlines()[0]
-CREATED = REPLIES.splitlines()[0]
 STUB = b"00000000" + b"f7060780" + b"ffffffff" + b"00000000"
 LINE_LIMIT = 2_097_152
-
-counts = {True: 0, False: 0}
-
-
-TIMEOUT = 120
-
-
-def run(words, given=b"", files=None, stdin=None, stdout=None, before=None):
-    """Runs the program in a new folder that holds the files, after a call in its process, and returns its status and what it wrote."""
-    with tempfile.TemporaryDirectory() as room:
-        for name, content in (files or {}).items():
-            with open(f"{room}/{name}", "wb") as file:
-                file.write(content)
-        source = {"input": given} if stdin is None else {"stdin": stdin}
-        try:
-            done = subprocess.run([PROGRAM, *words], cwd=room, stdout=stdout or subprocess.PIPE, stderr=subprocess.PIPE, preexec_fn=before, timeout=TIMEOUT, **source)
-        except subprocess.TimeoutExpired as late:
-            return None, late.stdout, late.stderr
-        return done.returncode, done.stdout, done.stderr
-
-
-def within(bytes):
-    """What limits the memory of the program, as a call in its process."""
-    return lambda: resource.setrlimit(resource.RLIMIT_AS, (bytes, bytes))
-
-
-class Talk:
-    """A session over pipes: what is sent is sent at once, and what is waited for is waited for no longer than the time."""
-
-    def __init__(self, library, words=("--hex",), stdout=subprocess.PIPE):
-        self.room = tempfile.TemporaryDirectory()
-        with open(f"{self.room.name}/lib.idl", "wb") as file:
-            file.write(library)
-        self.process = subprocess.Popen([PROGRAM, "play", "lib.idl", *words], cwd=self.room.name, stdin=subprocess.PIPE, stdout=stdout, stderr=subprocess.PIPE, bufsize=0)
-
-    def __enter__(self):
-        return self
-
-    def __exit__(self, *_):
-        if self.process.poll() is None:
-            self.process.kill()
-        for pipe in (self.process.stdin, self.process.stdout, self.process.stderr):
-            if pipe:
-                pipe.close()
-        self.process.wait()
-        self.room.cleanup()
-
-    def send(self, some):
-        try:
-            self.process.stdin.write(some)
-        except BrokenPipeError:
-            pass  # what it says at its end tells why
-
-    def line(self, pipe=None):
-        """The next line of its output, or what came of it in time."""
-        return self.read(pipe or self.process.stdout, lambda got: not got.endswith(b"\n"))
-
-    def bytes(self, count):
-        """So many bytes of its output, or what came of them in time."""
-        return self.read(self.process.stdout, lambda got: len(got) < count)
-
-    def read(self, pipe, goes_on):
-        got, until = b"", time.monotonic() + TIMEOUT
-        while goes_on(got) and select.select([pipe], [], [], max(0, until - time.monotonic()))[0]:
-            sign = os.read(pipe.fileno(), 1)
-            if not sign:
-                break
-            got += sign
-        return got
-
-    def status(self):
-        try:
-            return self.process.wait(TIMEOUT)
-        except subprocess.TimeoutExpired:
-            return None
-
-
-def tell(name, well, what=""):
-    counts[well] += 1
-    if not well:
-        print(f"FAILED {name}: {what}")
-
-
-def case(name, words, status, out, err, **how):
-    got = run(words, **how)
-    short = lambda it: (it[:300] + b" .. " + it[-100:]) if it is not None and len(it) > 420 else it
-    tell(name, got == (status, out, err), f"wanted {status, short(out), err}, got {got[0], short(got[1]), short(got[2])}")
 
 
 def play(name, given, status, out, err, library=SMALL, **how):
@@ -1328,5 +1221,4 @@ with open("/dev/full", "wb") as full:
 for words in ([b"check", b"\xff.idl"], [b"play", b"lib.idl", b"--hex\xc3"], [b"\xed\xa0\x80"]):
     case(f"the words {words}", words, 2, b"", b"oaut: command line is not UTF-8\n")
 
-print(f"{counts[True]} passed, {counts[False]} failed")
-sys.exit(1 if counts[False] else 0)
+ends()

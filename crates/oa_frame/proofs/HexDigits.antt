@@ -1,13 +1,13 @@
 -- Bytes as digits, part by part.
-use Rattle.std.proofs.Common.{◌≡◌, ℕ, ◌+◌, ◌-◌, ◌*◌, ◌/◌, ◌%◌, ◌<◌, ◌≤◌, ◌&&◌, Bool, true, false, List, [], ◌∷◌, ◌++◌, length, take, drop, slice_index, slice_set, Result, Ok, Err, refl, sym, ap, ◌∙◌, subst, append_assoc, arith}
+use Rattle.std.proofs.Common.{◌≡◌, ℕ, ◌+◌, ◌-◌, ◌*◌, ◌/◌, ◌%◌, ◌<◌, ◌≤◌, ◌&&◌, ◌==◌, zero, suc, inl, inr, Bool, true, false, List, [], ◌∷◌, ◌++◌, length, take, drop, slice_index, slice_set, Result, Ok, Err, refl, sym, ap, ◌∙◌, subst, append_assoc, arith}
 use Rattle.std.specs.Prelude.{IsErr}
-use Rattle.std.proofs.lemmas.Bool.{false≢true}
+use Rattle.std.proofs.lemmas.Bool.{and_parts, cases_lt, eqb-true, false≢true}
 use Rattle.std.proofs.lemmas.List.{append-nil, drop_all, take-append-drop}
 use lib.Seq.{take-add}
 use Rattle.hex.specs.Hex.{decode_of, decode_pairs, encode_lower, encode_with, lower_digits, pair_value}
 use Rattle.hex.specs.declared.error.FromHexError.{FromHexError}
 use Rattle.hex.proofs.HexLemmas.{decode_of-even, decode_of-odd}
-use Rattle.hex.proofs.Pairs.{decode_err, decode_start, decode_step, prepend}
+use Rattle.hex.proofs.Pairs.{decode_err, decode_step, prepend}
 use Rattle.oa_stream.specs.Sink.{Output, Writes, Breaks}
 use Rattle.oa_stream.proofs.Stretches.{writes_nothing, writes_then, breaks_after, breaks_before}
 
@@ -78,3 +78,39 @@ pairs_bad text even bad = rw (decode_of-even text even) bad
 
 pub odd_bad : (text : List ℕ) → length text % 2 ≡ 1 → IsErr (decode_of text)
 odd_bad text odd = rw (decode_of-odd text odd) refl
+
+-- a test of all numbers below one
+abbrev all_below : (ℕ → Bool) → ℕ → Bool
+all_below p zero = true
+all_below p (suc n) = p n && all_below p n
+
+below_at : (p : ℕ → Bool) (n k : ℕ) → all_below p n ≡ true → k < n → p k ≡ true
+below_at p zero k h below = absurd (omega arith)
+below_at p (suc n) k h below =
+    let parts = and_parts (p n) (all_below p n) h in
+    elim (cases_lt k n) [
+      | inl less ↦ below_at p n k parts.1 less
+      | inr top ↦
+          let e : k ≡ n = omega arith in
+          rw e parts.0
+    ]
+
+-- the digits of the values below ten, and of those above
+pub low_digit : (n : ℕ) → n < 10 → 48 + n ≡ slice_index lower_digits n
+low_digit n h = eqb-true (48 + n) (slice_index lower_digits n) (below_at (λ d. (48 + d) == slice_index lower_digits d) 10 n refl h)
+
+high : (k : ℕ) → k < 6 → 97 + k ≡ slice_index lower_digits (10 + k)
+high k h = eqb-true (97 + k) (slice_index lower_digits (10 + k)) (below_at (λ d. (97 + d) == slice_index lower_digits (10 + d)) 6 k refl h)
+
+pub high_digit : (n : ℕ) → 10 ≤ n → n < 16 → 87 + n ≡ slice_index lower_digits n
+high_digit n low below =
+    let back : 10 + (n - 10) ≡ n = omega (arith, low) in
+    let sum : 97 + (n - 10) ≡ 87 + n = omega (arith, low) in
+    sym sum ∙ high (n - 10) (omega (arith, low, below)) ∙ ap (λ k. slice_index lower_digits k) back
+
+-- all bytes are digits
+pub all_digits : (bytes digits : List ℕ) (i n : ℕ) → length bytes ≤ i → i ≡ n → take (2 * i) digits ++ encode_lower (drop i bytes) ≡ encode_lower bytes → take (2 * n) digits ≡ encode_lower bytes
+unfolding encode_with
+all_digits bytes digits i n all same so_far =
+    let none = drop_all i bytes all in
+    rw (sym same) (sym (append-nil (take (2 * i) digits)) ∙ rw none at so_far)

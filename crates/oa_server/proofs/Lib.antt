@@ -13,8 +13,12 @@ pub mod Planning
 pub mod Lockless
 pub mod Opened
 pub mod Allowed
+pub mod Eventless
+pub mod Own
 pub mod Mapping
 pub mod Held
 pub mod Settled
 pub mod Late
 pub mod Answering
+pub mod Stopped
+pub mod InMemory

@@ -19,11 +19,13 @@ pub mod Listing
 pub mod Steps
 pub mod Turns
 pub mod Plans
-pub mod Storages
 pub mod Serving
 pub mod Traces
 pub mod Openings
+pub mod OwnCodes
 pub mod Quiet
 pub mod Requests
 pub mod Hands
 pub mod Answers
+pub mod Links
+pub mod Storages

@@ -1,5 +1,5 @@
 -- What is left of a turn once its body was looked at.
-use Rattle.std.specs.Prelude.{◌≡◌, List, ℕ, None, Ok, Err, IsOk}
+use Rattle.std.specs.Prelude.{◌≡◌, List, [], ℕ, None, Ok, Err, IsOk, ⊤}
 use Rattle.oa_model.specs.declared.hresult.HResult.{HResult}
 use Rattle.oa_record.specs.declared.request.Request.{Request}
 use Rattle.oa_record.specs.Asks.{Asks, tag_at}
@@ -11,6 +11,7 @@ use Rattle.oa_server.specs.declared.plan.Plan.{Plan}
 use Rattle.oa_server.specs.declared.plan.Plan.TheVariants.{Answered, Change}
 use Rattle.oa_server.specs.declared.plan.Planned.{Planned}
 use Rattle.oa_server.specs.Limits.{allowed}
+use Rattle.oa_server.specs.Requests.{HasEvent}
 use Rattle.oa_server.specs.States.{State}
 use Rattle.oa_server.specs.Steps.{decided, refusal}
 use Rattle.oa_server.specs.Turns.{Turn}
@@ -37,3 +38,8 @@ Plans old body new (Change planned) = IsPlanned old body planned × BringsNoLock
 abbrev pub PlansChange : State → ℕ → Event → List ℕ → Plan → Type 0
 PlansChange state tag event fields (Answered reply) = (code : HResult) × (allowed event state.table ≡ Err code) × (reply ≡ refusal tag code None)
 PlansChange state tag event fields (Change planned) = (planned ≡ record { tag = tag; event = event; fields = fields }) × IsOk (allowed event state.table)
+
+-- what was answered made no event
+abbrev pub HasNoEvent : State → List ℕ → Plan → Type 0
+HasNoEvent old body (Answered reply) = HasEvent old body reply []
+HasNoEvent old body (Change planned) = ⊤

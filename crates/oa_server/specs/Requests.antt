@@ -1,25 +1,42 @@
 -- The requests of a server, as the theory of groups sees them.
-use Rattle.std.specs.Prelude.{◌≡◌, ℕ, ◌==◌, ◌≤◌, ◌++◌, Bool, false, List, [], length, None}
+use Rattle.std.specs.Prelude.{◌≡◌, ℕ, ◌==◌, ◌≤◌, ◌++◌, Bool, false, true, List, [], length, Option, Some, None}
 use Rattle.std.proofs.Common.{ap, inl, inr, sym, ◌∙◌, true≢false}
 use Rattle.oa_groups.specs.Turns.{Entry, Turns, entry}
 use Rattle.oa_journal.specs.Replays.{Replays}
 use Rattle.oa_keeper.proofs.Relocked.{unlocked_twice}
 use Rattle.oa_model.specs.Codes.{e_fail, stg_e_writefault}
-use Rattle.oa_record.specs.Asks.{tag_at}
+use Rattle.oa_image.specs.Events.{event_image}
+use Rattle.oa_record.specs.Asks.{Asks, tag_at}
 use Rattle.oa_record.specs.Replies.{ReplyValue}
+use Rattle.oa_record.specs.declared.request.Request.{Request}
+use Rattle.oa_table.specs.declared.event.Event.{Event}
 use Rattle.oa_table.specs.Tables.{TableValue, unlocked_table}
 use Rattle.oa_server.specs.Quiet.{quiet_turn}
 use Rattle.oa_server.specs.States.{State}
-use Rattle.oa_server.specs.Steps.{refusal}
+use Rattle.oa_server.specs.Steps.{outcome, refusal}
 use Rattle.oa_server.specs.Turns.{Turn}
 
 -- what images hold of a state: its table without locks
 abbrev pub held_of : State → TableValue
 held_of state = unlocked_table state.table
 
+-- a reply with S_OK
+abbrev pub is_done : ReplyValue → Bool
+is_done reply = reply.code.0 == 0
+
+abbrev pub bytes_of : Option Event → List ℕ
+bytes_of None = []
+bytes_of (Some event) = event_image event
+
+-- the bytes of the event that a body made, and no others: none where its reply is not S_OK
+pub record HasEvent (old : State) (body : List ℕ) (reply : ReplyValue) (event : List ℕ) : Type 0 where
+  pub done : (request : Request) → Asks body request → is_done reply ≡ true → event ≡ bytes_of (outcome old request).event
+  pub undone : is_done reply ≡ false → event ≡ []
+
 -- A turn, with the bytes of the event that it made: they make of what images hold before it what they hold after it.
 pub record IsAsked (asked : Entry ReplyValue) (old new : State) : Type 0 where
   pub turn : Turn old asked.body asked.reply new
+  pub made : HasEvent old asked.body asked.reply asked.event
   pub replays : Replays asked.event (held_of old) (held_of new)
 
 -- a turn, whose event is added to those in hand
@@ -44,9 +61,6 @@ failed body = refusal (tag_at body) e_fail None
 -- a reply that is taken back
 abbrev pub withdrawn : ReplyValue → ReplyValue
 withdrawn reply = refusal reply.tag stg_e_writefault None
-
-abbrev pub is_done : ReplyValue → Bool
-is_done reply = reply.code.0 == 0
 
 -- locks end with a session
 abbrev pub opened : State → State

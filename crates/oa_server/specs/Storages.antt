@@ -1,9 +1,10 @@
 -- Where a server keeps its table beside its memory, and what it answers there.
-use Rattle.std.specs.Prelude.{◌≡◌, ℕ, false, true, List, ⊤}
+use Rattle.std.specs.Prelude.{◌≡◌, ℕ, false, true, List, [], ◌∷◌, ⊤}
 use Rattle.oa_disk.specs.declared.disk.Disk.{Ghosts}
 use Rattle.oa_groups.specs.Served.{IsServed}
 use Rattle.oa_store.specs.declared.store.Store.{Store}
-use Rattle.oa_record.specs.Replies.{ReplyValue}
+use Rattle.oa_record.specs.Replies.{ReplyValue, reply_record}
+use Rattle.oa_server.specs.declared.clerk.Clerk.{Clerk}
 use Rattle.oa_server.specs.declared.storage.Storage.{Storage}
 use Rattle.oa_server.specs.declared.storage.Storage.TheVariants.{Disk, Memory}
 use Rattle.oa_server.specs.Answers.{IsAnswered, IsLate}
@@ -49,3 +50,11 @@ Serves size (Disk old) (Memory new) before bodies replies after = ⊥
 abbrev pub OverStore : {D : Type 0} {g : Ghosts D} → Storage D g → (Store D g → Type 0) → Type 0
 OverStore (Memory disk) P = ⊥
 OverStore (Disk store) P = P store
+
+-- one body is answered, with the bytes of its reply, which have no length before them: every body has one reply, handed out at that body
+abbrev pub answer_written : {D : Type 0} {g : Ghosts D} → Clerk D g → List ℕ → List (List ℕ) → Clerk D g → Type 0
+answer_written old body replies new = (reply : ReplyValue) × (replies ≡ reply_record reply ∷ []) × Answers old.storage new.storage old.host body reply new.host
+
+-- so none is held when the input ends
+abbrev pub none_kept : {D : Type 0} {g : Ghosts D} → Clerk D g → List (List ℕ) → Clerk D g → Type 0
+none_kept old replies new = (replies ≡ []) × (new ≡ old)

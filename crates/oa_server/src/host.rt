@@ -4,7 +4,7 @@ ghost use Rattle.oa_groups.specs.Served.{Goes};
 ghost use Rattle.oa_keeper.specs.Kept.{AllHold, HasRoom, LeavesTable};
 ghost use Rattle.oa_server.specs.Decisions.{ChangesNoLocks, Decides, after_outcome, relocked, relocking};
 ghost use Rattle.oa_server.specs.Limits.{IsSound, allowed};
-ghost use Rattle.oa_server.specs.Plans.{HoldsSame, IsPlanned, Plans, PlansChange};
+ghost use Rattle.oa_server.specs.Plans.{HasNoEvent, HoldsSame, IsPlanned, Plans, PlansChange};
 ghost use Rattle.oa_server.specs.Requests.{HasTurn, IsHeldBack, held_of};
 ghost use Rattle.oa_server.specs.Steps.{decided, reply_with, takes_memory};
 ghost use Rattle.oa_server.specs.Turns.{Run, Turn};
@@ -20,6 +20,7 @@ use crate::refusal::Refusal;
 use oa_disk::Disk;
 use oa_keeper::{Broken, Frame, KeepFault};
 use oa_model::HResult;
+use oa_record::laws::one_request;
 use oa_record::{Reply, Request, read_request, tag_of};
 use oa_store::Store;
 use oa_table::{Event, Table};
@@ -96,8 +97,10 @@ impl Host {
 
     /// The turn of a body, but for the change that an event makes of the table: that is planned.
     pub(crate) fn plan(&mut self, body: &[u8]) -> Plan
-        ensures { Plans self.old body.now self.new result }
+        ensures plans { Plans self.old body.now self.new result }
+        ensures quiet { HasNoEvent self.old body.now result }
     {
+        one_request();
         let tag = tag_of(body);
         let request = match read_request(self.alloc, body) {
             Ok(request) => request,
@@ -168,6 +171,7 @@ impl Host {
         ensures stops { OnErr result (store.new.stopped ≡ true) }
         ensures goes { Goes store.old store.new }
     {
+        one_request();
         let Planned { tag, event, fields } = planned;
         match hold_change(store, &mut self.table, frame, event) {
             Ok(()) => Ok(Reply::new(tag, HResult::S_OK, None, fields.into_vec())),

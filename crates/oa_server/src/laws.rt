@@ -1,13 +1,19 @@
 //! Laws of the definitions that turns are stated by.
 ghost use Rattle.std.specs.Prelude.{◌≡◌, ℕ, true, Bool, List, None};
+ghost use Rattle.oa_groups.specs.History.{KeepsEach, RunEach, Session, Sessions, accepted, accepted_each};
+ghost use Rattle.oa_groups.specs.Runs.{Run as RunOf};
+ghost use Rattle.oa_groups.specs.Turns.{Entry};
 ghost use Rattle.oa_record.specs.declared.request.Request.{Request as ARequest};
 ghost use Rattle.oa_record.specs.Replies.{ReplyValue};
 ghost use Rattle.oa_fits.specs.Fits.{fits};
 ghost use Rattle.oa_server.specs.Decisions.{IsQuiet};
+ghost use Rattle.oa_server.specs.OwnCodes.{is_own};
+ghost use Rattle.oa_server.specs.Requests.{held_of, requests};
 ghost use Rattle.oa_server.specs.States.{State};
 ghost use Rattle.oa_server.specs.Steps.{outcome, reply_of};
 ghost use Rattle.oa_server.specs.Traces.{done_bodies, done_replies, kept_bodies, kept_replies};
 ghost use Rattle.oa_server.specs.Turns.{Run, Turn};
+ghost use Rattle.oa_store.specs.Stores.{IsStore};
 ghost use Rattle.oa_typelib.specs.Checked.{IsChecked};
 
 use oa_fits::laws::changes_that_fit;
@@ -31,3 +37,23 @@ pub fn fits_stays()
 {
     changes_that_fit();
 }
+
+/// No turn answers STG_E_WRITEFAULT or E_FAIL: these tell of the device alone.
+pub fn own_codes()
+    ensures step { (state : State) (tag : ℕ) (request : ARequest) → is_own (reply_of state tag request).code ≡ true }
+    ensures turn { (old : State) (body : List ℕ) (reply : ReplyValue) (new : State) → Turn old body reply new → is_own reply.code ≡ true }
+{}
+
+/// The same of a run as groups hold it: the requests that were answered with S_OK alone are a run too, with the same replies and events.
+pub fn no_trace_of_groups()
+    ensures { (old : State) (entries : List (Entry ReplyValue)) (new : State) → RunOf requests old entries new → RunOf requests old (accepted requests entries) new }
+{}
+
+/// Take any list of sessions on a store. Each is any calls, of any group sizes, stopped anywhere; the next is opened on what the stop has
+/// left, without locks. Then what is left at last is a store of the state after runs of the requests that were kept, one run for each
+/// session: of each some first requests, all that were acknowledged among them. Those that were not answered with S_OK may be left
+/// out.
+pub fn headline()
+    ensures { (library : List ℕ) (state : State) (old : List ℕ) (sessions : List (Session ReplyValue)) (new : List ℕ) → Sessions requests library state old sessions new → IsStore old library (held_of state)
+        → (kept : List (List (Entry ReplyValue))) × (last : State) × KeepsEach sessions kept × RunEach requests state kept last × RunEach requests state (accepted_each requests kept) last × IsStore new library (held_of last) }
+{}

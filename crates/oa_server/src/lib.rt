@@ -14,6 +14,7 @@ mod opening;
 mod plan;
 mod refusal;
 mod server;
+mod serving;
 mod storage;
 
 pub use oa_frame::{End, Served};

@@ -32,8 +32,9 @@ pub(crate) fn refusal(table: &Table, event: &Event) -> Option<HResult>
     None
 }
 
+/// How many bytes the image of the table has after an event that applies.
 fn size_after(table: &Table, event: &Event) -> u64
     ensures { (new : TableValue) → applied event.now table.now ≡ Ok new → result ≡ length (table_image new) }
 {
-    0
+    table.size_after(event)
 }

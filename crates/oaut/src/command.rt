@@ -14,51 +14,102 @@ pub(crate) fn words(rt: &HostRuntime, alloc: Global) -> Result<Vec<String>, Faul
     }
 }
 
-/// The file of a library.
-fn library<'a>(alloc: Global, help: &'a str) -> Arg<'a> {
-    Arg::new(alloc, "LIB").required(true).help(help)
+/// A word that has to be there.
+fn word<'a>(alloc: Global, name: &'a str, help: &'a str) -> Arg<'a> {
+    Arg::new(alloc, name).required(true).help(help)
 }
 
-/// What the program takes.
-pub(crate) fn command<'a>(alloc: Global) -> Result<Command<'a>, AllocError> {
-    let hex = Arg::new(alloc, "hex")
+/// The file of a library.
+fn library<'a>(alloc: Global) -> Arg<'a> {
+    word(
+        alloc,
+        "LIB",
+        "The file of a type library: automation IDL in UTF-8, one library statement with its dispinterfaces and coclasses",
+    )
+}
+
+/// The file of a library, or standard input.
+fn library_or_input<'a>(alloc: Global) -> Arg<'a> {
+    word(
+        alloc,
+        "LIB",
+        "The file of a type library: automation IDL in UTF-8, one library statement with its dispinterfaces and coclasses, or - for standard input",
+    )
+}
+
+/// Sessions over lines of digits.
+fn hex<'a>(alloc: Global) -> Arg<'a> {
+    Arg::new(alloc, "hex")
         .long("hex")
         .action(ArgAction::SetTrue)
-        .help("Take one request a line in hexadecimal digits, and write each reply as such a line");
+        .help("Take one request a line in hexadecimal digits, and write each reply as such a line")
+}
+
+fn play<'a>(alloc: Global) -> Result<Command<'a>, AllocError> {
+    Command::new(alloc, "play")
+        .about("Answers the requests of standard input on standard output, with objects in memory")
+        .after_help(
+            "Each request and each reply is a record: its length in 4 bytes, little-endian, and that many bytes.\n\nExample, four requests and their replies as lines:\n  oaut play examples/small.idl --hex < examples/first.hex",
+        )
+        .arg(library(alloc))?
+        .arg(hex(alloc))
+}
+
+fn check<'a>(alloc: Global) -> Result<Command<'a>, AllocError> {
     let place = Arg::new(alloc, "where")
         .long("where")
         .action(ArgAction::SetTrue)
         .help(
             "After a syntax fault, write its line and column, the text of that line, and a caret under the place",
         );
-    let play = Command::new(alloc, "play")
-        .about("Answers the requests of standard input on standard output, with objects in memory")
-        .after_help(
-            "Each request and each reply is a record: its length in 4 bytes, little-endian, and that many bytes.\n\nExample, four requests and their replies as lines:\n  oaut play examples/small.idl --hex < examples/first.hex",
-        )
-        .arg(library(
-            alloc,
-            "The file of a type library: automation IDL in UTF-8, one library statement with its dispinterfaces and coclasses",
-        ))?
-        .arg(hex)?;
-    let check = Command::new(alloc, "check")
+    Command::new(alloc, "check")
         .about("Checks a type library, and writes its canonical text on standard output")
         .after_help(
             "Examples:\n  oaut check examples/full.idl\n  oaut check --where - < examples/full.idl",
         )
-        .arg(library(
-            alloc,
-            "The file of a type library: automation IDL in UTF-8, one library statement with its dispinterfaces and coclasses, or - for standard input",
-        ))?
-        .arg(place)?;
-    Command::new(alloc, "oaut")
+        .arg(library_or_input(alloc))?
+        .arg(place)
+}
+
+fn format<'a>(alloc: Global) -> Result<Command<'a>, AllocError> {
+    Command::new(alloc, "format")
+        .about("Makes a file the store of a type library, without objects")
+        .after_help(
+            "A file that is not there is made, with 33,562,624 bytes, which is all that a store will ever take. One that is there begins anew, in its own length: the objects that it held are gone.\n\nExample:\n  oaut format items.store examples/small.idl",
+        )
+        .arg(word(alloc, "STORE", "The store's file"))?
+        .arg(library_or_input(alloc))
+}
+
+fn dump<'a>(alloc: Global) -> Result<Command<'a>, AllocError> {
+    Command::new(alloc, "dump")
+        .about("Writes the objects of a store and their cells on standard output, one line each")
+        .after_help(
+            "The lines: next NUMBER, and of each object: object NUMBER CLASS, cell INTERFACE DISPID KEY VALUE. KEY and VALUE are images in hexadecimal digits, - is a key of no scalars. Nothing of the store is changed.\n\nExample:\n  oaut dump items.store",
+        )
+        .arg(word(alloc, "STORE", "The store's file"))
+}
+
+/// A command with one more subcommand.
+fn with<'a>(
+    command: Command<'a>,
+    part: Result<Command<'a>, AllocError>,
+) -> Result<Command<'a>, AllocError> {
+    command.subcommand(part?)
+}
+
+/// What the program takes.
+pub(crate) fn command<'a>(alloc: Global) -> Result<Command<'a>, AllocError> {
+    let command = Command::new(alloc, "oaut")
         .version("0.1.0")
         .about("A server of OLE Automation objects, whose coclasses a type library describes")
         .after_help(
             "Examples:\n  oaut check examples/full.idl\n  oaut play examples/small.idl --hex < examples/first.hex\nEach command says more under --help, as in oaut play --help.",
         )
         .disable_help_subcommand(true)
-        .subcommand_required(true)
-        .subcommand(play)?
-        .subcommand(check)
+        .subcommand_required(true);
+    let command = with(command, play(alloc))?;
+    let command = with(command, format(alloc))?;
+    let command = with(command, dump(alloc))?;
+    with(command, check(alloc))
 }

@@ -1,6 +1,8 @@
 // What ends the program early: one line on standard error, and a status.
 use crate::place::Place;
+use oa_disk::DeviceFault;
 use oa_idl::ParseError;
+use oa_store::{FormatFault, OpenFault};
 use oa_stream::Unwritten;
 use oa_typelib::CheckError;
 use std::alloc::{AllocError, AllocFailed};
@@ -15,6 +17,8 @@ pub(crate) enum Fault {
     TwoInputs,
     #[error("cannot read {0}")]
     CannotRead(String),
+    #[error("cannot write {0}")]
+    CannotWrite(String),
     #[error("library is not UTF-8")]
     NotUtf8,
     #[error("{0}")]
@@ -23,6 +27,19 @@ pub(crate) enum Fault {
     At(ParseError, Place),
     #[error("{0}")]
     Check(CheckError),
+    #[error("disk too small")]
+    TooSmall,
+    #[error("not a store")]
+    NotAStore,
+    #[error("library differs")]
+    LibraryDiffers,
+    #[error("damaged at {0}")]
+    Damaged(u64),
+    // The numbers are STG_E_WRITEFAULT and STG_E_READFAULT.
+    #[error("device fault 0x8003001d")]
+    DeviceWrite,
+    #[error("device fault 0x8003001e")]
+    DeviceRead,
     #[error("record cut")]
     Cut,
     #[error("record too long")]
@@ -38,10 +55,15 @@ pub(crate) enum Fault {
 }
 
 impl Fault {
-    /// 1 for a file, a reader or a writer, 2 for a command line or a library, 4 for a record, 5 for want of memory.
+    /// 1 for a file, a device, a reader or a writer, 2 for a command line or a library, 3 for a store, 4 for a record, 5 for want of memory.
     pub(crate) fn status(&self) -> u8 {
         match self {
-            Fault::CannotRead(_) | Fault::Read | Fault::Write => 1,
+            Fault::CannotRead(_)
+            | Fault::CannotWrite(_)
+            | Fault::DeviceWrite
+            | Fault::DeviceRead
+            | Fault::Read
+            | Fault::Write => 1,
             Fault::Parse(ParseError::Memory) | Fault::Check(CheckError::Memory) | Fault::Memory =>
                 5,
             Fault::Words
@@ -50,6 +72,7 @@ impl Fault {
             | Fault::Parse(_)
             | Fault::At(..)
             | Fault::Check(_) => 2,
+            Fault::TooSmall | Fault::NotAStore | Fault::LibraryDiffers | Fault::Damaged(_) => 3,
             Fault::Cut | Fault::TooLong | Fault::BadHex(_) => 4,
         }
     }
@@ -82,5 +105,36 @@ impl From<CheckError> for Fault {
 impl From<Unwritten> for Fault {
     fn from(_e: Unwritten) -> Fault {
         Fault::Write
+    }
+}
+
+impl From<DeviceFault> for Fault {
+    fn from(e: DeviceFault) -> Fault {
+        match e {
+            DeviceFault::Write => Fault::DeviceWrite,
+            DeviceFault::Read => Fault::DeviceRead,
+        }
+    }
+}
+
+impl From<FormatFault> for Fault {
+    fn from(e: FormatFault) -> Fault {
+        match e {
+            FormatFault::TooSmall => Fault::TooSmall,
+            FormatFault::Device(fault) => Fault::from(fault),
+            FormatFault::Memory => Fault::Memory,
+        }
+    }
+}
+
+impl From<OpenFault> for Fault {
+    fn from(e: OpenFault) -> Fault {
+        match e {
+            OpenFault::NotAStore => Fault::NotAStore,
+            OpenFault::LibraryDiffers => Fault::LibraryDiffers,
+            OpenFault::Damaged(place) => Fault::Damaged(place),
+            OpenFault::Device(fault) => Fault::from(fault),
+            OpenFault::Memory => Fault::Memory,
+        }
     }
 }

@@ -34,8 +34,8 @@ pub(crate) fn library_of(alloc: Global, text: &str) -> Result<Library, Fault> {
     Ok(check(alloc, parse(alloc, text)?)?)
 }
 
-/// Why a library cannot be read.
-fn unread(alloc: Global, error: &io::Error, path: &str) -> Fault {
+/// Why a file cannot be read.
+pub(crate) fn unread(alloc: Global, error: &io::Error, path: &str) -> Fault {
     if error.kind() == ErrorKind::OutOfMemory {
         return Fault::Memory;
     }

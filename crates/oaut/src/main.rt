@@ -2,14 +2,18 @@
 #![tactic(auto)]
 
 mod command;
+mod dump;
 mod fault;
 mod library;
 mod place;
 mod play;
 mod shown;
+mod store;
+mod streams;
 mod text;
 
 use crate::fault::Fault;
+use clap::ArgMatches;
 use clap::error::ErrorKind;
 use std::process::ExitCode;
 
@@ -40,17 +44,37 @@ fn run(rt: &HostRuntime) -> Result<ExitCode, Fault> {
             return Ok(ExitCode::from(error.exit_code() as u8));
         }
     };
+    perform(rt, &matches)
+}
+
+/// Carries out the command that was matched. It stands apart, since all that `run` holds is dropped at each of its exits.
+fn perform(rt: &HostRuntime, matches: &ArgMatches) -> Result<ExitCode, Fault> {
     match matches.subcommand() {
-        Some(("play", arguments)) => play::play(
+        Some(("play", arguments)) => {
+            play::play(
+                rt,
+                arguments.get_str("LIB").unwrap_or(""),
+                arguments.get_flag("hex"),
+            )?
+        }
+        Some(("format", arguments)) => {
+            store::format_store(
+                rt,
+                arguments.get_str("STORE").unwrap_or(""),
+                arguments.get_str("LIB").unwrap_or(""),
+            )?
+        }
+        Some(("dump", arguments)) => dump::write_dump(
             rt,
-            arguments.get_str("LIB").unwrap_or(""),
-            arguments.get_flag("hex"),
+            arguments.get_str("STORE").unwrap_or(""),
         )?,
-        Some(("check", arguments)) => text::write_text(
-            rt,
-            arguments.get_str("LIB").unwrap_or(""),
-            arguments.get_flag("where"),
-        )?,
+        Some(("check", arguments)) => {
+            text::write_text(
+                rt,
+                arguments.get_str("LIB").unwrap_or(""),
+                arguments.get_flag("where"),
+            )?
+        }
         _ => return Ok(ExitCode::from(2)),
     }
     Ok(ExitCode::SUCCESS)

@@ -1,6 +1,6 @@
-use Rattle.std.proofs.Common.{arith, refl, sym, ◌∙◌, ◌≡◌, ◌≤◌, ◌<◌, ◌+◌, ◌*◌, ◌/◌, length, rules}
+use Rattle.std.proofs.Common.{arith, refl, sym, ◌<◌, ◌+◌, ◌*◌, ◌/◌, length, rules}
 use Rattle.std.proofs.lemmas.Bool.{false≢true}
-use Rattle.oa_frame.proofs.HexDigits.{pair_more, pair_bad, pairs_at, pairs_bad, odd_bad}
+use Rattle.oa_frame.proofs.HexDigits.{pair_more, pair_bad, pairs_at}
 use Rattle.hex.proofs.Pairs.{decode_start}
 use Rattle.oa_frame.proofs.hex_lines.decode.Goals as goal
 

@@ -1,0 +1,64 @@
+"""The calls that the program makes on its store's file, as strace sees them, and what comes of it where one fails or the program is killed there."""
+import re
+import shutil
+import tempfile
+
+import store
+from running import fill, run_in
+
+STRACE = shutil.which("strace")
+CALL = re.compile(r"^\d+ +(\w+)\((.*)\) += -?\d")
+TRACED = "trace=pread64,pwrite64,fsync,fdatasync,write"
+OUT = ("out",)
+
+
+class Calls:
+    """What a command made of its store's file and of standard output, in order. Each call has its name, which of the calls of that name it was, and
+    what it does: ("write", place, length), ("read", place, length), ("sync",), ("sync folder",) or OUT."""
+
+    def __init__(self, room, words, inject=None, **how):
+        self.log = f"{room}/calls"
+        self.under = [STRACE, "-f", "-y", "-s", "0", "-o", self.log, "-e", TRACED, *(["-e", f"inject={inject}"] if inject else [])]
+        self.answer = run_in(room, words, under=self.under, **how)
+        self.made, counts = [], {}
+        with open(self.log) as file:
+            for line in file:
+                found = CALL.match(line)
+                if not found:
+                    continue
+                name, words = found[1], found[2].split(", ")
+                counts[name] = counts.get(name, 0) + 1
+                if "/it.store>" in words[0] and name in ("pwrite64", "pread64"):
+                    self.made.append((name, counts[name], ("write" if name == "pwrite64" else "read", int(words[-1]), int(words[-2]))))
+                elif name in ("fsync", "fdatasync"):
+                    self.made.append((name, counts[name], ("sync",) if "/it.store>" in words[0] else ("sync folder",)))
+                elif name == "write" and words[0].startswith("1<"):
+                    self.made.append((name, counts[name], OUT))
+
+    def does(self):
+        return [what for _, _, what in self.made]
+
+
+def each_fails(words, files, judge, how="error=EIO", **given):
+    """Makes each call that a command makes on its store fail in turn, or kills the program there, and hands the call, the answer and the folder to a judge."""
+    with tempfile.TemporaryDirectory() as room:
+        fill(room, files)
+        made = [it for it in Calls(room, words, **given).made if it[2] != OUT]
+    for place, (name, count, what) in enumerate(made):
+        with tempfile.TemporaryDirectory() as room:
+            fill(room, files)
+            got = Calls(room, words, f"{name}:{how}:when={count}", **given).answer
+            judge(place, what, got, room)
+
+
+def held(room):
+    with open(f"{room}/it.store", "rb") as file:
+        return file.read()
+
+
+def text_held(room):
+    """The dump of the store in a folder, or why there is none."""
+    try:
+        return store.dump(held(room))
+    except (store.NotAStore, store.Damaged) as refusal:
+        return str(refusal)

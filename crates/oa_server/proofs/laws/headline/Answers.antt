@@ -1,0 +1,6 @@
+use Rattle.oa_groups.proofs.Histories.{headline}
+use Rattle.oa_server.specs.Requests.{requests}
+use Rattle.oa_server.proofs.laws.headline.Goals as goal
+
+pub returns : goal.returns
+returns c = headline requests

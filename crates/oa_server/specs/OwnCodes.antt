@@ -1,0 +1,8 @@
+-- The codes that tell of the device, which no step answers.
+use Rattle.std.specs.Prelude.{ℕ, ◌==◌, ◌&&◌, not, Bool}
+use Rattle.oa_model.specs.declared.hresult.HResult.{HResult}
+use Rattle.oa_model.specs.Codes.{e_fail, stg_e_writefault}
+
+-- the code is neither that of a fault of the device nor that of a server that has met one
+abbrev pub is_own : HResult → Bool
+is_own code = not (code.0 == stg_e_writefault.0) && not (code.0 == e_fail.0)

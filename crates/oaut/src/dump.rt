@@ -1,0 +1,122 @@
+// The objects of a store as lines of text.
+ghost use Rattle.std.specs.Prelude.{◌≡◌, ◌≤◌, false, length, OnOk};
+
+use crate::fault::Fault;
+use crate::store::found;
+use crate::streams::Streams;
+use oa_image::{write_key, write_value};
+use oa_store::inspect;
+use oa_stream::{Behind, Outlet, Sink, Unwritten};
+use oa_table::{LiveObject, Place, Table};
+use oa_variant::Variant;
+use std::alloc::Global;
+use std::io;
+
+/// How many bytes are turned into digits at a time.
+const PIECE: usize = 32;
+
+/// Writes the objects of a store and their cells on standard output, a line each. Nothing is written of a file that is refused.
+pub(crate) fn write_dump(rt: &HostRuntime, path: &str) -> Result<(), Fault> {
+    let alloc = rt.alloc();
+    let _streams = Streams::new(rt);
+    let mut disk = found(rt, alloc, path)?;
+    let (_, table) = inspect(alloc, &mut disk)?;
+    let mut writer = Behind::new(alloc, Outlet::new(io::writer(rt)))?;
+    put_table(alloc, &table, &mut writer)?;
+    writer.deliver()?;
+    Ok(())
+}
+
+/// The lines of a table. Of its cells one image at a time is kept.
+fn put_table<W: Sink>(alloc: Global, table: &Table, writer: &mut W) -> Result<(), Fault>
+    requires unbroken { (W.out writer.old).broken ≡ false }
+    ensures unbroken { OnOk result ((W.out writer.new).broken ≡ false) }
+{
+    let next = format!(in alloc; "next {}\n", table.next())?;
+    writer.put(next.as_bytes())?;
+    let mut image = Vec::new(alloc);
+    'objects: for (number, object) in table.objects() {
+        let head = format!(in alloc; "object {number} {}\n", object.class())?;
+        writer.put(head.as_bytes())?;
+        put_cells(alloc, object, &mut image, writer)?;
+    }
+    Ok(())
+}
+
+/// The lines of an object's cells.
+fn put_cells<W: Sink>(
+    alloc: Global,
+    object: &LiveObject,
+    image: &mut Vec<u8>,
+    writer: &mut W,
+) -> Result<(), Fault>
+    requires unbroken { (W.out writer.old).broken ≡ false }
+    ensures unbroken { OnOk result ((W.out writer.new).broken ≡ false) }
+{
+    'cells: for (place, value) in object.cells() {
+        put_place(alloc, place, image, writer)?;
+        put_value(value, image, writer)?;
+    }
+    Ok(())
+}
+
+/// A cell's line, as far as its key.
+fn put_place<W: Sink>(
+    alloc: Global,
+    place: &Place,
+    image: &mut Vec<u8>,
+    writer: &mut W,
+) -> Result<(), Fault>
+    requires unbroken { (W.out writer.old).broken ≡ false }
+    ensures unbroken { OnOk result ((W.out writer.new).broken ≡ false) }
+{
+    let head = format!(in alloc; "cell {} {} ", place.interface(), place.dispid())?;
+    writer.put(head.as_bytes())?;
+    if place.key().is_empty() {
+        writer.put(b"-")?;
+        return Ok(());
+    }
+    image.clear();
+    write_key(place.key(), image)?;
+    put_digits(writer, image)?;
+    Ok(())
+}
+
+/// The rest of a cell's line.
+fn put_value<W: Sink>(value: &Variant, image: &mut Vec<u8>, writer: &mut W) -> Result<(), Fault>
+    requires unbroken { (W.out writer.old).broken ≡ false }
+    ensures unbroken { OnOk result ((W.out writer.new).broken ≡ false) }
+{
+    image.clear();
+    write_value(value, image)?;
+    writer.put(b" ")?;
+    put_digits(writer, image)?;
+    writer.put(b"\n")?;
+    Ok(())
+}
+
+/// Bytes as lower-case hexadecimal digits.
+fn put_digits<W: Sink>(writer: &mut W, bytes: &[u8]) -> Result<(), Unwritten>
+    requires unbroken { (W.out writer.old).broken ≡ false }
+    ensures unbroken { OnOk result ((W.out writer.new).broken ≡ false) }
+{
+    let mut at = 0;
+    'pieces: while at < bytes.len() {
+        let end = at + PIECE.min(bytes.len() - at);
+        put_piece(writer, &bytes[at..end])?;
+        at = end;
+    }
+    Ok(())
+}
+
+/// At most 32 bytes as digits.
+fn put_piece<W: Sink>(writer: &mut W, piece: &[u8]) -> Result<(), Unwritten>
+    requires short { length piece.now ≤ 32 }
+    requires unbroken { (W.out writer.old).broken ≡ false }
+    ensures unbroken { OnOk result ((W.out writer.new).broken ≡ false) }
+{
+    let mut digits = [0u8; 64];
+    let front = &mut digits[..2 * piece.len()];
+    hex::encode_to_slice(piece, front).unwrap();
+    writer.put(front)
+}

@@ -1,0 +1,22 @@
+// Standard streams that are closed.
+use std::fs::File;
+
+/// What takes the place of standard streams that are closed, as long as it is kept. Without it a file that is opened next would take it, and be read as the
+/// requests or written over by the replies. A folder can be neither read nor written, so a closed stream stays one that fails.
+#[derive(Drop)]
+pub(crate) struct Streams {
+    input: Option<File>,
+    output: Option<File>,
+    errors: Option<File>,
+}
+
+impl Streams {
+    /// Takes what is free of the first three numbers of files.
+    pub(crate) fn new(rt: &HostRuntime) -> Streams {
+        Streams {
+            input: File::open(rt, "/").ok(),
+            output: File::open(rt, "/").ok(),
+            errors: File::open(rt, "/").ok(),
+        }
+    }
+}

@@ -10,6 +10,8 @@ pub mod Bound
 pub mod Fitting
 pub mod Planned
 pub mod Planning
+pub mod Lockless
+pub mod Opened
 pub mod Allowed
 pub mod Eventless
 pub mod Own

@@ -21,6 +21,7 @@ pub mod Turns
 pub mod Plans
 pub mod Serving
 pub mod Traces
+pub mod Openings
 pub mod OwnCodes
 pub mod Quiet
 pub mod Requests

@@ -44,3 +44,8 @@ Serves size (Memory old) (Memory new) before bodies replies after = (new ≡ old
 Serves size (Disk old) (Disk new) before bodies replies after = ServesStore size old new before bodies replies after
 Serves size (Memory old) (Disk new) before bodies replies after = ⊥
 Serves size (Disk old) (Memory new) before bodies replies after = ⊥
+
+-- what holds of its store: the server is over one
+abbrev pub OverStore : {D : Type 0} {g : Ghosts D} → Storage D g → (Store D g → Type 0) → Type 0
+OverStore (Memory disk) P = ⊥
+OverStore (Disk store) P = P store

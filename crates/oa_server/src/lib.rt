@@ -10,6 +10,7 @@ mod host;
 mod keeping;
 pub mod laws;
 mod limits;
+mod opening;
 mod plan;
 mod refusal;
 mod server;
@@ -25,6 +26,8 @@ mod array_tests;
 mod call_tests;
 #[cfg(test)]
 mod info_tests;
+#[cfg(test)]
+mod opening_tests;
 #[cfg(test)]
 mod session_tests;
 #[cfg(test)]

@@ -14,7 +14,7 @@ use oa_table::{Event, Table};
 const MAX_EVENT_BYTES: usize = 1_048_576;
 
 /// The most bytes of a table's image.
-const MAX_TABLE_BYTES: u64 = 14_680_064;
+pub(crate) const MAX_TABLE_BYTES: u64 = 14_680_064;
 
 /// Why an event is not allowed; None where it is. Takes no memory.
 pub(crate) fn refusal(table: &Table, event: &Event) -> Option<HResult>

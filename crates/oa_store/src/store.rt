@@ -52,7 +52,8 @@ impl<D: Disk> Store<D> {
 
         // Each image at the end is a store of the answered table, and of that alone.
         ensures found { IfOk result (λ r. IsTrue (D.is_honest r.0.disk) → (c : List ℕ) → D.image r.0.disk c → IsStoreAt r.0.chosen r.0.bank.gate library.now r.1 c) }
-        // It is that of the contents at the start.
+        // So are the contents at the start, and they of no other.
+        ensures contents { IfOk result (λ r. IsTrue (D.is_honest r.0.disk) → IsStoreAt r.0.chosen r.0.bank.gate library.now r.1 (D.contents disk)) }
         ensures only { IfOk result (λ r. IsTrue (D.is_honest r.0.disk) → (table : TableValue) → IsStore (D.contents disk) library.now table → table ≡ r.1) }
         // A refusal is true of the contents at the start, and they are no store of this library.
         ensures says { IfErr result (λ e. IsTrue (D.is_honest e.0) → Says (Some library.now) (D.size_of disk) (D.contents disk) e.1) }
@@ -64,7 +65,8 @@ impl<D: Disk> Store<D> {
         ensures reads_err { IfErr result (λ e. IsTrue (D.is_honest e.0) → WritesNothing D.image D.moment D.image_since disk e.0) }
         ensures honest { IfOk result (λ r. IsTrue (D.is_honest r.0.disk) → IsTrue (D.is_honest disk)) }
         ensures honest_err { IfErr result (λ e. IsTrue (D.is_honest e.0) → IsTrue (D.is_honest disk)) }
-        ensures size { IfErr result (λ e. D.size_of e.0 ≡ D.size_of disk) }
+        ensures size { IfOk result (λ r. D.size_of r.0.disk ≡ D.size_of disk) }
+        ensures size_err { IfErr result (λ e. D.size_of e.0 ≡ D.size_of disk) }
         ensures unfailed { IfOk result (λ r. D.failures_of r.0.disk ≡ D.failures_of disk) }
         ensures cause { IfErr result (λ e. IsCaused (D.failures_of disk) (D.failures_of e.0) e.1) }
     {

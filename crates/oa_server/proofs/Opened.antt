@@ -1,0 +1,38 @@
+-- What an opening answers, where each image is a store of one of two tables.
+use Rattle.std.proofs.Common.{◌≡◌, ◌⊎◌, ⊎_elim, ◌<◌, ℕ, List, length, true, inl, inr, refl, sym, subst, ◌∙◌, arith}
+use Rattle.oa_idl.specs.Canonical.{canonical}
+use Rattle.oa_idl.specs.Trees.{TreeValue}
+use Rattle.oa_store.specs.OneStore.{one_store}
+use Rattle.oa_store.specs.Stores.{IsForeign, IsStore, IsStoreAt}
+use Rattle.oa_table.specs.Tables.{TableValue}
+use Rattle.oa_server.specs.Openings.{CanServe, HoldsEither}
+
+module _ (image : List ℕ → Type 0) (library : TreeValue) (before after : TableValue) (h : HoldsEither image library before after) (c : List ℕ) (is : image c) where
+  -- the table of an image is one of them
+  pub one_of_both : (table : TableValue) → IsStore c (canonical library) table → (table ≡ before) ⊎ (table ≡ after)
+  one_of_both table store = ⊎_elim
+      (λ first. inl (one_store c (canonical library) (canonical library) table before store first).table_same)
+      (λ second. inr (one_store c (canonical library) (canonical library) table after store second).table_same)
+      (h.each c is)
+
+  -- so a server can begin with it
+  pub can_begin : (table : TableValue) → IsStore c (canonical library) table → CanServe library table
+  can_begin table store = ⊎_elim
+      (λ first. subst (CanServe library) (sym first) h.first)
+      (λ second. subst (CanServe library) (sym second) h.second)
+      (one_of_both table store)
+
+  -- and what no store of the library may be said of is none of them
+  pub is_some_store : ((table : TableValue) → IsStore c (canonical library) table → ⊥) → ⊥
+  is_some_store none = ⊎_elim (λ first. none before first) (λ second. none after second) (h.each c is)
+
+pub is_formatted : (size : ℕ) (contents library : List ℕ) (table : TableValue) → length contents ≡ size → IsStore contents library table → IsForeign size contents → ⊥
+is_formatted size contents library table long is foreign = ⊎_elim (λ lt. absurd (omega (arith, lt, long, is.2.head.size))) (λ none. none is.2.head.formatted) foreign
+
+-- the text is the library's canonical one
+module _ (library : TreeValue) (text : List ℕ) (table : TableValue) (contents : List ℕ) (is : text ≡ canonical library) where
+  pub of_text : IsStore contents text table → IsStore contents (canonical library) table
+  of_text store = subst (λ t. IsStore contents t table) is store
+
+  pub of_library : IsStore contents (canonical library) table → IsStore contents text table
+  of_library store = subst (λ t. IsStore contents t table) (sym is) store

@@ -48,11 +48,11 @@ def run_in(room, words, given=b"", stdin=None, stdout=None, before=None, under=(
     return done.returncode, done.stdout, done.stderr
 
 
-def run(words, files=None, **how):
+def run(words, given=b"", files=None, **how):
     """The same in a new folder that holds the files."""
     with tempfile.TemporaryDirectory() as room:
         fill(room, files or {})
-        return run_in(room, words, **how)
+        return run_in(room, words, given, **how)
 
 
 def within(bytes):

@@ -712,6 +712,53 @@ talk(
 )
 talk("locks at their limit", FULL, [puts(GRID, SIX)] + [locks(GRID, count) for count in range(1, 65_536)] + [locks(GRID, 0, E_UNEXPECTED), unlocks(GRID, 65_534), locks(GRID, 65_535), locks(GRID, 0, E_UNEXPECTED)])
 
+# --- limits on what a change makes
+
+MEDIUM_FULL = 0x8003_0070
+NAME_ID, WHOLE_TEXT = 2, 262_144
+
+
+def puts_of(number, dispid, value, code=0):
+    return (lambda tag: wire.put(tag, number, dispid, value), lambda tag: wire.reply(tag, code))
+
+
+def name_of(length):
+    return wire.scalar(wire.BSTR, b"n" * length)
+
+
+# 55 objects with the longest name and one without: a table whose image has 14,420,812 bytes
+NEARLY_FULL = [creates(number) for number in range(2, 57)] + [puts_of(number, NAME_ID, name_of(WHOLE_TEXT)) for number in range(1, 56)]
+talk("a table above its limit", FULL, [*NEARLY_FULL, puts_of(56, NAME_ID, name_of(259_225), MEDIUM_FULL), of(56, NAME_ID, wire.scalar(wire.BSTR)), releases(1), puts_of(56, NAME_ID, name_of(259_225))])
+talk(
+    "a table at its limit",
+    FULL,
+    [
+        *NEARLY_FULL,
+        puts_of(56, NAME_ID, name_of(259_224)),
+        puts_of(56, COUNT_ID, i4(0), MEDIUM_FULL),
+        creates(57)[:1] + (lambda tag: wire.reply(tag, MEDIUM_FULL),),
+        puts_of(55, NAME_ID, name_of(WHOLE_TEXT)),
+        puts_of(56, NAME_ID, name_of(259_225), MEDIUM_FULL),
+        puts_of(56, NAME_ID, name_of(259_200)),
+        creates(57),
+        releases(57),
+        puts_of(56, NAME_ID, name_of(259_196)),
+        puts_of(56, COUNT_ID, i4(7)),
+        of(56, COUNT_ID, i4(7)),
+    ],
+)
+BIG = library_with(
+    interface(
+        b"2",
+        body=b"methods: [id(1), propget] SAFEARRAY(BSTR) Big([in, defaultvalue(" + b'"' + b"a" * 40_000 + b'"' + b")] BSTR P);"
+        b" [id(1), propput] void Big([in, defaultvalue(" + b'"' + b"a" * 40_000 + b'"' + b")] BSTR P, [in] SAFEARRAY(BSTR) Value);",
+    )
+    + coclass(b"3", body=b"[default] dispinterface DItem;")
+)
+four_texts = lambda last: wire.array(wire.BSTR, [(4, 0)], [b"t" * WHOLE_TEXT] * 3 + [b"t" * last])
+talk("the put of an event at its limit", BIG, [puts(1, four_texts(182_083)), gets(1, four_texts(182_083))])
+talk("the put of an event above its limit", BIG, [puts(1, four_texts(182_084), E_INVALIDARG), gets(1, wire.zero_array(wire.BSTR))])
+
 # --- names and type information
 
 UNKNOWN_NAME, BAD_INDEX, NOT_IMPLEMENTED = 0x8002_0006, 0x8002_000B, 0x8000_4001
@@ -785,6 +832,193 @@ talk(
     [describes(0, wire.interface(ITEM, "N" * 64, [wire.member(1, 0, 0, wire.I4, "M" * 64)])), looks_up(["m" * 64], [1]), looks_up(["m" * 63], [-1])],
 )
 
+# --- coercions, a value a row
+
+
+def rows_of(name):
+    with open(f"{ROOT}/cli/{name}") as file:
+        return [line.rstrip("\n") for line in file if not line.startswith("#")]
+
+
+WORDS = "I1 UI1 I2 UI2 I4 UI4 INT UINT I8 UI8 CY BOOL ERROR DECIMAL BSTR VARIANT".split()
+REFUSED = {"OVERFLOW": OVERFLOW, "TYPEMISMATCH": TYPE_MISMATCH}
+
+
+def said_value(one, word):
+    """The field of the value of a type that a word says."""
+    if one in ("EMPTY", "NULL", "BSTR"):
+        return wire.scalar(getattr(wire, one))
+    if one == "BOOL":
+        return wire.scalar(wire.BOOL, 0xFFFF if word == "true" else 0)
+    if one == "DECIMAL":
+        digits, scale = word.split("e-")
+        return wire.scalar(wire.DECIMAL, (int(scale), 0x80 if digits.startswith("-") else 0, abs(int(digits))))
+    return wire.scalar(getattr(wire, one), int(word))
+
+
+def becomes(row):
+    """The turns of a row: each answer is a put to a property of its type, which is read back where the value was taken."""
+    value, answers = row.split(" = ")
+    one, word = value.split(" ")
+    given = said_value(one, word)
+    for to, wanted in [answer.split(" ") for answer in answers.split(", ")]:
+        if to not in WORDS:  # there are no properties of EMPTY and of NULL
+            continue
+        dispid = 1 + WORDS.index(to)
+        if wanted in REFUSED:
+            yield puts(dispid, given, REFUSED[wanted], 0)
+        else:
+            yield puts(dispid, given)
+            yield gets(dispid, given if to == "VARIANT" else said_value(to, wanted))
+
+
+talk("values that become others", VALUES, [turn for row in rows_of("coercions.txt") for turn in becomes(row)])
+
+# --- calls, a row each
+
+# a put for each get, so that each key can be put
+BOUND = b"""[uuid(11223344-5566-7788-99aa-bbccddeeff01)] library L {
+[uuid(11223344-5566-7788-99aa-bbccddeeff02)] dispinterface D { properties: [id(1)] long Count; [id(2)] VARIANT Free; methods:
+[id(9), propget] BSTR Cell([in] long Row, [in] BSTR Key, [in, optional, defaultvalue(1)] short Page);
+[id(9), propput] void Cell([in] long Row, [in] BSTR Key, [in, optional, defaultvalue(1)] short Page, [in] BSTR Value);
+[id(10), propget] long Any([in, optional] VARIANT V, [in, optional] long N);
+[id(10), propput] void Any([in, optional] VARIANT V, [in, optional] long N, [in] long Value);
+[id(11), propget] long Named([in, optional, defaultvalue("first")] BSTR Name, [in, defaultvalue(2)] VARIANT Rank);
+[id(11), propput] void Named([in, optional, defaultvalue("first")] BSTR Name, [in, defaultvalue(2)] VARIANT Rank, [in] long Value);
+} [uuid(11223344-5566-7788-99aa-bbccddeeff03)] coclass C { [default] dispinterface D; } }"""
+BIND_CODES = {
+    "E_INVALIDARG": E_INVALIDARG,
+    "BADPARAMCOUNT": BAD_PARAM_COUNT,
+    "PARAMNOTFOUND": PARAM_NOT_FOUND,
+    "PARAMNOTOPTIONAL": PARAM_NOT_OPTIONAL,
+    "TYPEMISMATCH": TYPE_MISMATCH,
+    "OVERFLOW": OVERFLOW,
+}
+ARGUMENTS = {
+    "i": lambda rest: wire.scalar(wire.I4, int(rest)),
+    "s": lambda rest: wire.scalar(wire.I2, int(rest)),
+    "t": lambda rest: wire.scalar(wire.BSTR, rest.encode()),
+    "w": bstr,
+    "n": lambda _: NO_TEXT,
+    "m": lambda _: MISSED,
+    "e": lambda _: NO_VALUE,
+    "a": lambda _: wire.array(wire.I4, [(1, 0)], [0]),
+}
+
+
+def arguments_of(words):
+    return [ARGUMENTS[word[0]](word[1:]) for word in words.split()]
+
+
+def at_key(dispid, key, value=None):
+    """A put of a value at a key, or a get, each parameter by its place."""
+    given = arguments_of(key)[::-1]
+    flags, named = (2, []) if value is None else (4, [-3])
+    return lambda tag: wire.invoke(tag, 1, dispid, flags, named, given if value is None else [value] + given)
+
+
+# each key has another value, so a get that is bound to another key tells another one
+filled, bound = {}, []
+for row in rows_of("calls.txt"):
+    dispid, form_word, named, given, answer = row.split("|")
+    dispid, names, given = int(dispid), [int(name) for name in named.split()], arguments_of(given)
+    flags = 4 if form_word == "put" else 2
+    ask = lambda tag, dispid=dispid, flags=flags, names=names, given=given: wire.invoke(tag, 1, dispid, flags, names, given)
+    key, _, new = answer.partition(" = ") if " = " in answer else (answer, "", None)
+    word, _, index = answer.partition(" ")
+    if word in BIND_CODES:
+        bound.append((ask, lambda tag, code=BIND_CODES[word], index=int(index or NO_INDEX): wire.reply(tag, code, index)))
+    elif new is not None:
+        kept = arguments_of(new)[0]
+        bound.append((ask, wire.reply))
+        bound.append((at_key(dispid, key.strip()), lambda tag, kept=kept: wire.reply(tag, fields=wire.field(kept))))
+    else:
+        number = len(filled)
+        value = filled.setdefault((dispid, key), bstr(str(number)) if dispid == 9 else wire.scalar(wire.I4, 100 + number))
+        bound.append((at_key(dispid, key, value), wire.reply))
+        for (other, other_key), other_value in filled.items():
+            bound.append((at_key(other, other_key, other_value), wire.reply))
+        bound.append((ask, lambda tag, value=value: wire.reply(tag, fields=wire.field(value))))
+talk("calls that are bound or refused", BOUND, bound)
+
+# --- the form of a member that the flags name
+
+# of the full library: a DISPID, flags, and what is found
+FORMS = """1 2 get
+1 3 get
+1 4 put
+1 6 put
+1 65533 put
+1 1 none
+1 8 none
+1 0 none
+6 2 get
+6 4 none
+6 6 none
+10 1 method
+10 3 method
+10 65531 method
+10 2 none
+10 4 none
+10 5 none
+10 0 none
+99 1 none
+99 2 none"""
+FOUND = {
+    "get": ([], [], 0, wire.field(i4(0))),
+    "put": ([-3], [i4(0)], 0, b""),
+    "none": ([], [], MEMBER_NOT_FOUND, b""),
+    "method": ([], [], NOT_IMPLEMENTED, b""),
+}
+
+
+def form(dispid, flags, found):
+    named, values, code, fields = FOUND[found]
+    return (lambda tag: wire.invoke(tag, 1, dispid, flags, named, values), lambda tag: wire.reply(tag, code, fields=fields))
+
+
+talk("the form of a member", FULL, [form(int(dispid), int(flags), found) for dispid, flags, found in map(str.split, FORMS.splitlines())])
+talk(
+    "names that are not folded, and names of other members",
+    FULL,
+    [
+        looks_up(["Cell", "Page"], [9, 2]),
+        looks_up(["Clear", "Row"], [10, -1]),
+        looks_up(["Key"], [-1]),
+        looks_up([""], [-1]),
+        looks_up(["Pr\u0131ce"], [-1]),
+        looks_up(["Cell", "\u212aey"], [9, -1]),
+    ],
+)
+
+# --- requests that are cut, that count too many, and parts that are ignored
+
+
+def broken(name, bodies):
+    """A session of bodies that are no requests: each reply has the tag, where there is one."""
+    tags = [int.from_bytes(body[:4], "little") if len(body) >= 8 else 0 for body in bodies]
+    play(name, b"".join(body.hex().encode() + b"\n" for body in bodies), 0, b"".join(wire.reply(tag, STUB_CODE) for tag in tags), b"")
+
+
+BODIES = [bytes.fromhex(line.decode()) for line in (REQUESTS + text_of("info.hex")).splitlines()]
+GET_BODY, NAMES_HEAD = BODIES[1], BODIES[5][:52]
+broken("each request cut at each byte", [body[:end] for body in BODIES for end in range(1, len(body))])
+broken("each request goes on", [body + b"\0" for body in BODIES])
+places = ((4, 99), (4, 0), (4, 12), (5, 1), (56, 33), (60, 33), (59, 1), (63, 1))
+broken("opcodes that are none, and counts above their limits", [wire.changed(GET_BODY, place, "B", number) for place, number in places])
+counted = ((0, 0), (17, 16), (16, 17), (18, 18))
+broken("numbers of names that are not those of the names", [NAMES_HEAD + struct.pack("<I", count) + bytes(8 * names) for count, names in counted])
+
+# fields as bytes, and the field that is read back; what is ignored in the first is not in the second
+FIELDS = """
+ff0000ff09000000 0300010002000003 03000000 07000000 = 0300000000000000 0300000000000000 03000000 07000000
+0400000000000000 0600000000000000 06000000 01000001a861000000000000 = 0400000000000000 0600000000000000 06000000 00000000a861000000000000
+0500000000000000 0800000000000000 08000000 01000200 020000000300000002000000 41004209 = 0500000000000000 0800000000000000 08000000 00000200 020000000300000002000000 41004200
+0500000000000000 0800000000000000 08000000 00000200 00000000ffffffff00000000 = 0300000000000000 0800000000000000 08000000 00000000
+"""
+fields = [[bytes.fromhex(side) for side in row.split("=")] for row in FIELDS.split("\n") if row]
+talk("parts of fields that are ignored", FULL, [turn for given, kept in fields for turn in (puts(FULL_ANY, given), gets(FULL_ANY, kept))])
+
 # --- libraries
 
 checked("the small library", SMALL, 0, text_of("small.canonical.idl"), b"")
@@ -824,6 +1058,103 @@ refused("a parameter too many", library_with(interface(b"2", body=b"methods: [id
 refused("a canonical text above the limit", long_when_printed(), "limit text")
 refused("a GUID twice", library_with(interface(b"2") + coclass(b"1")), "duplicate guid 11223344-5566-7788-99aa-bbccddeeff01")
 refused("an interface that is not there", library_with(interface(b"2") + coclass(b"3", body=b"dispinterface Other;")), "unknown interface Other")
+
+# a library a row, from the rules of the text: what is said of it, and its items
+
+
+def said_of(items):
+    """What `oaut check` says of a library with these items."""
+    library = "[uuid(#1)] library L {" + items + "}"
+    status, _, err = run(["check", "lib.idl"], files={"lib.idl": library.replace("#", "11223344-5566-7788-99AA-BBCCDDEEFF0").encode()})
+    return "accepted" if (status, err) == (0, b"") else err.decode().removeprefix("oaut: ").rstrip("\n")
+
+
+with open(f"{ROOT}/cli/libraries.txt") as file:
+    rows = [line.rstrip("\n").split(" | ", 1) for line in file if not line.startswith("#")]
+for count, wanted in ((131_072, "accepted"), (131_073, "bad default P")):
+    rows.append((wanted, f"[uuid(#2)] dispinterface A {{ methods: [id(1)] void X([defaultvalue(\"{'a' * count}\")] BSTR P); }}"))
+for wanted, items in rows:
+    said = said_of(items)
+    tell(f"a library with {items[:200]}", said == wanted, f"wanted {wanted}, got {said}")
+
+# texts that are refused for their syntax, a row each: `^` stands where the fault is
+
+
+def syntax(front, row):
+    """A text that is refused where `^` stands in a row."""
+    before, after = (front + row).split("^")
+    status, _, err = run(["check", "lib.idl"], files={"lib.idl": (before + after).encode()})
+    place = len(before.encode())
+    tell(f"syntax of {(front + row)[-200:]}", (status, err) == (2, f"oaut: syntax at byte {place}\n".encode()), (status, err))
+
+
+with open(f"{ROOT}/cli/syntax.txt") as file:
+    front = ""
+    for row in [line.rstrip("\n") for line in file if not line.startswith("#")]:
+        if row.startswith("="):
+            front = row[2:]
+        else:
+            syntax(front, row)
+TEXT_HEAD = "[uuid(11223344-5566-7788-99AA-BBCCDDEEFF01)] library "
+IN_LIBRARY = TEXT_HEAD + "Demo { "
+SECOND = "[uuid(11223344-5566-7788-99AA-BBCCDDEEFF02)] "
+IN_INTERFACE = IN_LIBRARY + SECOND + "dispinterface DItem { "
+IN_PARAMETERS = IN_INTERFACE + "methods: [id(1)] void A("
+IN_COCLASS = IN_LIBRARY + "[uuid(11223344-5566-7788-99AA-BBCCDDEEFF03)] coclass Item { "
+for sign in "\t\x1f\x7f":
+    syntax(IN_PARAMETERS, f'[defaultvalue(^"{sign}")] BSTR B); }} }}')
+LONG_NAME = "a" * 65
+ONE_INTERFACE, ONE_COCLASS = SECOND + "dispinterface A {} ", SECOND + "coclass A { interface B; } "
+# an item, member or parameter that is one too many is looked at up to its name
+LATE = [
+    (IN_LIBRARY + ONE_INTERFACE * 256, "[uuid(11223344-5566-7788-99AA-BBCCDDEEFF02), ^uuid(11223344-5566-7788-99AA-BBCCDDEEFF02)] dispinterface A {} }"),
+    (IN_LIBRARY + ONE_INTERFACE * 256, "[version(1)^] dispinterface A {} }"),
+    (IN_LIBRARY + ONE_INTERFACE * 256, SECOND + "^interface A {} }"),
+    (IN_LIBRARY + ONE_INTERFACE * 256, SECOND + "dispinterface ^library {} }"),
+    (IN_LIBRARY + ONE_COCLASS * 256, "[uuid(^7)] coclass A { interface B; } }"),
+    (IN_LIBRARY + ONE_COCLASS * 256, SECOND + "coclass ^void { interface B; } }"),
+    (IN_INTERFACE + "properties: " + "[id(1)] long A; " * 512, "[id(-^1)] long A; } }"),
+    (IN_INTERFACE + "properties: " + "[id(1)] long A; " * 512, "[id(1), ^id(1)] long A; } }"),
+    (IN_INTERFACE + "properties: " + "[id(1)] long A; " * 512, "[id(1)] ^void A; } }"),
+    (IN_INTERFACE + "properties: " + "[id(1)] long A; " * 512, "[id(1)] long ^library; } }"),
+    (IN_INTERFACE + "methods: " + "[id(1)] void A(); " * 512, "[id(1), ^readonly] void A(); } }"),
+    (IN_INTERFACE + "methods: " + "[id(1)] void A(); " * 512, "[id(1), propget] ^void A(); } }"),
+    (IN_INTERFACE + "methods: " + "[id(1)] void A(); " * 512, "[id(1)] void ^void(); } }"),
+    (IN_PARAMETERS + "long B, " * 16, "[in, ^in] long B); } }"),
+    (IN_PARAMETERS + "long B, " * 16, "SAFEARRAY(^SCODE) B); } }"),
+    (IN_PARAMETERS + "long B, " * 16, "long ^void); } }"),
+]
+for front, row in LATE:
+    syntax(front, row)
+syntax("", "^}" + " " * 262_143)
+# how a text begins, a part that it has so many times, how it ends, and the limit that one time more breaks
+BOUNDS = [
+    (IN_LIBRARY, ONE_INTERFACE, 256, "}", "interfaces"),
+    (IN_LIBRARY, ONE_COCLASS, 256, "}", "coclasses"),
+    (IN_INTERFACE + "properties: ", "[id(1)] long A; ", 512, "} }", "members"),
+    (IN_INTERFACE + "properties: [id(1)] long A; methods: ", "[id(1)] void A(); ", 511, "} }", "members"),
+    (IN_INTERFACE + "methods: ", "[id(1), propget] long A(); [id(1), propput] void A(long B); ", 256, "} }", "members"),
+    (IN_PARAMETERS + "long B", ", [in] long B", 15, "); } }", "params"),
+    (IN_INTERFACE + "methods: [id(1), propput] void A(long B", ", long B", 15, "); } }", "params"),
+    (TEXT_HEAD, "Z", 64, " {}", "name"),
+    (IN_LIBRARY + SECOND + "dispinterface ", "a", 64, " {} }", "name"),
+    (IN_LIBRARY + SECOND + "coclass A", "9", 63, " { interface A; } }", "name"),
+    (IN_INTERFACE + "properties: [id(1)] long ", "a", 64, "; } }", "name"),
+    (IN_INTERFACE + "methods: [id(1)] long ", "b", 64, "(); } }", "name"),
+    (IN_PARAMETERS + "long A, BSTR ", "c", 64, "); } }", "name"),
+    (IN_COCLASS + "interface ", "_", 64, "; } }", "name"),
+    # the fault of a text with several: the earliest, and at one name that of its length first
+    (TEXT_HEAD, "Z", 64, " ;", "name"),
+    (IN_PARAMETERS, "long B, ", 15, f"long {LONG_NAME}); }} }}", "name"),
+    (IN_LIBRARY, ONE_INTERFACE, 255, SECOND + f"dispinterface {LONG_NAME} {{}} }}", "name"),
+    (IN_LIBRARY, ONE_COCLASS, 255, SECOND + f"coclass {LONG_NAME} {{ interface B; }} }}", "name"),
+    (IN_INTERFACE + "properties: ", "[id(1)] long A; ", 511, f"[id(1)] long {LONG_NAME}; }} }}", "name"),
+    (IN_INTERFACE + "methods: ", "[id(1)] void A(); ", 511, f"[id(1)] void {LONG_NAME}(); }} }}", "name"),
+]
+for front, part, count, back, limit in BOUNDS:
+    said = [run(["check", "lib.idl"], files={"lib.idl": (front + part * it + back).encode()})[2] for it in (count, count + 1)]
+    is_bound = said[0] != b"oaut: limit " + limit.encode() + b"\n" or LONG_NAME in back
+    tell(f"the limit {limit} behind {front[-60:]}", is_bound and said[1] == b"oaut: limit " + limit.encode() + b"\n", said)
 
 # --- a library from standard input, and one far above the limit
 

@@ -1,6 +1,6 @@
 #!/usr/bin/env python3
 """Random sessions over all opcodes, against a small model of the server that is written from docs/records.md, docs/binding.md,
-docs/coercion.md and docs/arrays.md alone.
+docs/coercion.md, docs/arrays.md and docs/images.md alone. One of twelve has long texts.
 
     python3 cli/sessions.py [PROGRAM [FIRST COUNT]]      sessions with the seeds FIRST, FIRST + 1, ..; by default 0 and 24
 
@@ -39,7 +39,8 @@ S_OK, STUB, NOT_IMPLEMENTED, NO_INTERFACE, UNEXPECTED = 0, 0x8007_06F7, 0x8000_4
 INVALID, CLASS_NOT_REGISTERED, DISCONNECTED = 0x8007_0057, 0x8004_0154, 0x8001_0108
 UNKNOWN_INTERFACE, MEMBER_NOT_FOUND, PARAM_NOT_FOUND, TYPE_MISMATCH = 0x8002_0001, 0x8002_0003, 0x8002_0004, 0x8002_0005
 UNKNOWN_NAME, BAD_VAR_TYPE, OVERFLOW, BAD_INDEX, LOCKED = 0x8002_0006, 0x8002_0008, 0x8002_000A, 0x8002_000B, 0x8002_000D
-BAD_PARAM_COUNT, PARAM_NOT_OPTIONAL = 0x8002_000E, 0x8002_000F
+BAD_PARAM_COUNT, PARAM_NOT_OPTIONAL, MEDIUM_FULL = 0x8002_000E, 0x8002_000F, 0x8003_0070
+EVENT_LIMIT, TABLE_LIMIT = 1_048_576, 14_680_064
 
 
 class Refusal(Exception):
@@ -80,6 +81,26 @@ def zero(vt):
     if vt & ARRAY:
         return Array(vt - ARRAY, [(0, 0)], [])
     return {VARIANT: (EMPTY, None), EMPTY: (EMPTY, None), NULL: (NULL, None), BSTR: (BSTR, None), DECIMAL: (DECIMAL, (0, 0, 0))}.get(vt, (vt, 0))
+
+
+def content_size(value):
+    """How many bytes a scalar has in an image behind the number of its type."""
+    vt, raw = value
+    if vt == BSTR:
+        return 4 + len(raw or b"")
+    return {EMPTY: 0, NULL: 0, BOOL: 1, ERROR: 4, CY: 8, DECIMAL: 14}.get(vt) if vt not in {**SIGNED, **UNSIGNED} else {**SIGNED, **UNSIGNED}[vt] // 8
+
+
+def image_size(value):
+    """How many bytes a value has in an image."""
+    if isinstance(value, Array):
+        return 4 + 8 * len(value.bounds) + sum([content_size(it) + 2 * (value.vt == VARIANT) for it in value.cells])
+    return 2 + content_size(value)
+
+
+def place_size(name):
+    """How many bytes the place of a cell has in an image: its name without the object."""
+    return 22 + sum([image_size(it) for it in name[2]])
 
 
 def field(value):
@@ -195,7 +216,20 @@ def fold(name):
 
 class Model:
     def __init__(self):
-        self.next, self.objects = 1, {}
+        self.next, self.objects, self.image = 1, {}, 8
+
+    def change(self, event, growth):
+        """A change whose event has so many bytes, and which adds so many to the image of the objects: refused where either is too long."""
+        if event > EVENT_LIMIT:
+            raise Refusal(INVALID)
+        if self.image + growth > TABLE_LIMIT:
+            raise Refusal(MEDIUM_FULL)
+        self.image += growth
+
+    def put(self, cells, name, value):
+        place = place_size(name)
+        self.change(5 + place + image_size(value), image_size(value) - image_size(cells[name]) if name in cells else place + image_size(value))
+        cells[name] = value
 
     def interface(self, of, guid):
         if of not in self.objects:
@@ -275,6 +309,7 @@ class Model:
     def create(self, guid):
         if guid not in CLASSES:
             raise Refusal(CLASS_NOT_REGISTERED)
+        self.change(21, 24)
         self.objects[self.next] = (guid, {})
         self.next += 1
         return struct.pack("<II", self.next - 1, 0)
@@ -284,6 +319,7 @@ class Model:
             raise Refusal(DISCONNECTED)
         if any(isinstance(it, Array) and it.locks for it in self.objects[of][1].values()):
             raise Refusal(LOCKED)
+        self.change(5, -24 - sum([place_size(name) + image_size(it) for name, it in self.objects[of][1].items()]))
         del self.objects[of]
         return b""
 
@@ -306,7 +342,7 @@ class Model:
         old = cells.get(name)
         if isinstance(old, Array) and old.locks:
             raise Refusal(LOCKED)
-        cells[name] = Array(value.vt, value.bounds, value.cells) if isinstance(value, Array) else value
+        self.put(cells, name, Array(value.vt, value.bounds, value.cells) if isinstance(value, Array) else value)
         return b""
 
     def get_element(self, call, indices):
@@ -314,19 +350,26 @@ class Model:
         return oaut.variant_field(field(array.cells[array.position(indices)]))
 
     def put_element(self, call, indices, value):
-        _, _, array = self.array(call, "put")
+        _, name, array = self.array(call, "put")
         place = array.position(indices)
         if isinstance(value, Array):
             raise Refusal(TYPE_MISMATCH)
-        array.cells[place] = coerced(value, array.vt)
+        element = coerced(value, array.vt)
+        self.change(7 + place_size(name) + 4 * len(indices) + image_size(element), image_size(element) - image_size(array.cells[place]))
+        array.cells[place] = element
         return b""
 
     def redim(self, call, bound):
         cells, name, array = self.array(call, "put")
         if array.locks:
             raise Refusal(LOCKED)
-        array.resized(bound)
-        cells[name] = array
+        resized = Array(array.vt, array.bounds, array.cells)
+        resized.resized(bound)
+        if name in cells:
+            self.change(13 + place_size(name), image_size(resized) - image_size(array))
+            cells[name] = resized
+        else:
+            self.put(cells, name, resized)
         return b""
 
     def lock(self, call, step):
@@ -498,6 +541,32 @@ class Session:
         return body, struct.pack("<IIII", tag, S_OK, oaut.NO_INDEX, 0) + fields
 
 
+class Large(Session):
+    """Requests with long texts, until the objects are as large as they may be."""
+
+    def text(self):
+        return BSTR, b"n" * self.dice.choice([262_144, 262_144, 262_144, 262_144, self.dice.randrange(262_145), 0])
+
+    def request(self):
+        dice, model = self.dice, self.model
+        roll, known = dice.random(), sorted(model.objects)
+        if not known or roll < 0.16:
+            guid = dice.choice([ITEM, ITEM, PLAIN])
+            return ask_create(guid), lambda: model.create(guid)
+        if roll > 0.94:
+            return super().request()
+        of = dice.choice(known[-3:] if dice.random() < 0.6 else known)
+        call = {"object": of, "interface": FIRST_ONE, "riid": False, "dispid": 2, "flags": 4, "named": [-3], "arguments": [self.text()]}
+        if roll > 0.4 or model.objects[of][0] == PLAIN:
+            texts = [self.text() for _ in range(dice.choice([0, 1, 2, 3, 3]))]
+            call.update(interface=SECOND, dispid=3, arguments=[Array(BSTR, [(len(texts), 0)], texts)])
+        if roll > 0.82:
+            indices, value = [dice.choice([0, 1, 2])], self.text()
+            call.update(interface=SECOND, dispid=3, named=[], arguments=[])
+            return self.bytes_of(PUTELEM, call) + oaut.indices_field(indices) + oaut.variant_field(field(value)), lambda: model.put_element(call, indices, value)
+        return self.bytes_of(oaut.INVOKE, call), lambda: model.invoke(call)
+
+
 def played(bodies, raw):
     with tempfile.TemporaryDirectory() as room:
         with open(f"{room}/lib.idl", "wb") as file:
@@ -519,7 +588,7 @@ def replies_of(out, framing):
 def main():
     failed, codes = 0, {}
     for seed in range(FIRST, FIRST + COUNT):
-        session = Session(seed)
+        session = Large(seed) if seed % 12 == 11 else Session(seed)
         turns = [session.turn(tag) for tag in range(1, REQUESTS + 1)]
         found = replies_of(*played([body for body, _ in turns], raw=seed % 2 == 1))
         for at, ((body, due), got) in enumerate(zip(turns, found)):

@@ -65,12 +65,8 @@ pub record LeavesOnly {D : Type 0} (moment : D → ℕ) (image_since : D → ℕ
   -- for a run that began earlier
   pub before : (t : ℕ) (c : List ℕ) → t ≤ moment old → image_since new t c → image_since old t c ⊎ P c
 
--- the count of failures doesn't fall, and rises at an error unless it stands at its greatest value
-pub record HasCause {T E : Type 0} (before now : ℕ) (result : Result T E) : Type 0 where
-  pub later : before ≤ now
-  pub failed : IsErr result → now < 2 ^ 64 - 1 → before < now
-
--- one call: a failure counts once, and without one nothing counts
+-- One call, or a run of calls that ends with the first that fails: a failure counts once, unless the count stands at its greatest
+-- value, and without one nothing counts.
 pub record Counts {T E : Type 0} (before now : ℕ) (result : Result T E) : Type 0 where
   pub later : before ≤ now
   pub failed : IsErr result → now < 2 ^ 64 - 1 → before < now

@@ -6,10 +6,13 @@ ghost use Rattle.oa_disk.specs.Record.{history_of};
 
 use crate::record::Record;
 use crate::{Call, DeviceFault, Disk};
-use std::fs::{File, OpenFile, OpenOptions};
+use std::fs::{self, File, OpenFile, OpenOptions};
 use std::io;
 use std::os::unix::fs::FileExt;
 use std::rt::Files;
+
+/// How many bytes a new file is filled with in one call.
+const PIECE: usize = 65_536;
 
 /// A file as a disk of the length that it had when it was taken. It keeps a record of its calls that only clauses
 /// read: each member of the trait is read off that record, and it is honest as long as each read has given the bytes
@@ -39,17 +42,19 @@ impl FileDisk {
         FileDisk::over(OpenOptions::new().read(true).write(true).open(rt, path)?)
     }
 
-    /// Makes a file of so many zeros and brings it to the device, with its name in its folder. Where something has the
-    /// name, it is std's error `AlreadyExists`.
+    /// Makes a file of so many zeros, which takes their whole room on the device at once, and brings it there, with its name
+    /// in its folder. Where something has the name, it is std's error `AlreadyExists`; where the file cannot be filled, it is
+    /// removed.
     pub fn create<R: Files<File = File>>(rt: &R, path: &str, size: u64) -> io::Result<FileDisk>
         ensures zeros { IfOk result (IsZeros size) }
         ensures honest { IfOk result (λ disk. IsTrue (⟦<FileDisk as Disk>⟧.is_honest disk)) }
         ensures settled { IfOk result (NothingPending ⟦<FileDisk as Disk>⟧.contents ⟦<FileDisk as Disk>⟧.image) }
     {
         let file = File::create_new(rt, path)?;
-        file.set_len(size)?;
-        file.sync_all()?;
-        File::open(rt, folder_of(path))?.sync_all()?;
+        if let Err(error) = lay_down(rt, &file, path, size) {
+            let _ = fs::remove_file(rt, path);
+            return Err(error);
+        }
         Ok(FileDisk::begin(file, size))
     }
 
@@ -137,7 +142,7 @@ impl FileDisk {
         ensures size { size_of self.new ≡ size_of self.old }
         ensures counts { Counts (failures_of self.old) (failures_of self.new) result }
     {
-        if self.file.sync_all().is_err() {
+        if self.file.sync_data().is_err() {
             self.history = self.history.with(&Call::Read, &[], &0, &[]);
             self.failures = self.failures.saturating_add(1);
             return Err(DeviceFault::Write);
@@ -199,6 +204,20 @@ impl Disk for FileDisk {
     fn sync(&mut self) -> Result<(), DeviceFault> {
         self.flush()
     }
+}
+
+/// Fills a new file with so many zeros, and brings it and its name to the device.
+fn lay_down<R: Files<File = File>>(rt: &R, file: &File, path: &str, size: u64) -> io::Result<()> {
+    file.set_len(size)?;
+    let zeros = [0; PIECE];
+    let mut at = 0;
+    'pieces: while at < size {
+        let count = (size - at).min(PIECE as u64);
+        file.write_all_at(&zeros[..count as usize], at)?;
+        at += count;
+    }
+    file.sync_all()?;
+    File::open(rt, folder_of(path))?.sync_all()
 }
 
 /// The folder of a path.

@@ -1,6 +1,6 @@
 //! One byte decides: what was written before is on the device first.
 ghost use Rattle.std.specs.Prelude.{◌≡◌, ◌⊎◌, ◌+◌, ◌<◌, ◌≤◌, List, ℕ, IsTrue, OnOk, IfErr, length, slice_index};
-ghost use Rattle.oa_disk.specs.Disk.{LeavesOnly, Follows, HasCause, Torn};
+ghost use Rattle.oa_disk.specs.Disk.{LeavesOnly, Follows, Counts, Torn};
 ghost use Rattle.oa_disk.specs.Switch.{MaySwitch, HasSwitched};
 
 use crate::{DeviceFault, Disk};
@@ -18,7 +18,7 @@ pub fn flip<D: Disk>(disk: &mut D, at: u64, value: u8) -> Result<(), DeviceFault
 
     ensures size { D.size_of disk.new ≡ D.size_of disk.old }
     ensures honest { D.is_honest disk.new ≡ D.is_honest disk.old }
-    ensures cause { HasCause (D.failures_of disk.old) (D.failures_of disk.new) result }
+    ensures counts { Counts (D.failures_of disk.old) (D.failures_of disk.new) result }
     ensures fault { IfErr result (λ e. e ≡ DeviceFault.Write) }
 {
     disk.sync()?;
@@ -46,7 +46,7 @@ pub fn write_then_flip<D: Disk>(
 
     ensures size { D.size_of disk.new ≡ D.size_of disk.old }
     ensures honest { D.is_honest disk.new ≡ D.is_honest disk.old }
-    ensures cause { HasCause (D.failures_of disk.old) (D.failures_of disk.new) result }
+    ensures counts { Counts (D.failures_of disk.old) (D.failures_of disk.new) result }
     ensures fault { IfErr result (λ e. e ≡ DeviceFault.Write) }
 {
     disk.write_at(at, bytes)?;

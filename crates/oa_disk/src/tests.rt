@@ -466,7 +466,8 @@ fn a_path_that_is_no_disk(rt: HostRuntime) -> Result<(), Fail> {
             "{path}"
         );
     }
-    let _ = fs::remove_file(&rt, "oa_disk_large");
+    // What could not be filled is removed again.
+    assert!(rt; refusal(FileDisk::open(&rt, "oa_disk_large")) == Some(ErrorKind::NotFound));
     // A user who may do anything opens a file that is only to be read all the same.
     fs::set_permissions(&rt, THERE, Permissions::from_mode(0o444))?;
     let found = refusal(FileDisk::open(&rt, THERE));

@@ -1,11 +1,13 @@
 -- A session, body by body, in any framing.
-use Rattle.std.proofs.Common.{◌≡◌, ℕ, ◌+◌, true, false, List, [], ◌∷◌, ◌++◌, Option, Some, None, Result, length, refl, sym, ap, ◌∙◌, subst, append_assoc, inl, inr, ◌⊎◌, arith}
+use Rattle.std.proofs.Common.{◌≡◌, ℕ, ◌+◌, ◌≤◌, true, false, List, [], ◌∷◌, ◌++◌, Option, Some, None, length, refl, sym, ap, ◌∙◌, subst, inl, inr, ◌⊎◌, arith}
+use Rattle.std.specs.List.{sum}
 use Rattle.std.proofs.lemmas.List.{append-nil, length-append}
+use Rattle.std.proofs.lemmas.List.Elements.{All-nil, All-push}
+use Rattle.std.proofs.lemmas.List.Sums.{sum_by-append}
 use Rattle.std.specs.Io.KnownBytes.{Appends, Keeps}
-use Rattle.oa_stream.specs.Source.{Input}
-use Rattle.oa_stream.specs.declared.sink.Unwritten.{Unwritten}
-use Rattle.oa_stream.specs.Sink.{Output, Writes, Breaks, Puts}
-use Rattle.oa_stream.proofs.Stretches.{writes_nothing, writes_then, breaks_after}
+use Rattle.oa_stream.specs.Source.{Input, later}
+use Rattle.oa_stream.specs.Sink.{Output, Writes, Breaks}
+use Rattle.oa_stream.proofs.Stretches.{writes_nothing, writes_then, breaks_after, breaks_before, tear, lost_few}
 use Rattle.oa_frame.specs.declared.ends.End.{End}
 use Rattle.oa_frame.specs.declared.ends.End.TheVariants.{ReadFault, WriteFault}
 use Rattle.oa_frame.specs.Known.{Known}
@@ -13,23 +15,16 @@ use Rattle.oa_frame.specs.declared.framing.Framing.{Framing}
 use Rattle.oa_frame.specs.declared.framing.Framing.TheVariants.{HexLines, Records}
 use Rattle.std.proofs.lemmas.Bool.{false≢true}
 use Rattle.oa_frame.specs.Framings.{Frames, frames, is_read_fault}
-use Rattle.oa_frame.specs.Sessions.{TurnOf, Run, Bodies, ReadTo, spelled_all, last_reply, Told, Fails, Session, Going, Closes}
+use Rattle.oa_frame.specs.Paces.{HasCause, Paced}
+use Rattle.oa_frame.specs.Sessions.{TurnOf, EndOf, Run, Bodies, ReadTo, spelled_all, joined, last_reply, Calls, Told, Fails, Session, Going, HandsOn, Closes}
+use Rattle.oa_frame.proofs.Spelled.{spelled_append, joined_more, latest_more}
 
-pub spelled_append : (s : List ℕ → List ℕ) (xs ys : List (List ℕ)) → spelled_all s (xs ++ ys) ≡ spelled_all s xs ++ spelled_all s ys
-unfolding spelled_all
-spelled_append s [] ys = refl
-spelled_append s (x ∷ xs) ys = rw (spelled_append s xs ys) (sym (append_assoc (s x) (spelled_all s xs) (spelled_all s ys)))
-
-pub spelled_one : (s : List ℕ → List ℕ) (x : List ℕ) → spelled_all s (x ∷ []) ≡ s x
-unfolding spelled_all
-spelled_one s x = append-nil (s x)
-
-run_more : {S : Type 0} (turn : TurnOf S) (old mid new : S) (bodies replies : List (List ℕ)) (body reply : List ℕ)
-    → Run turn old bodies replies mid → turn mid body reply new → Run turn old (bodies ++ body ∷ []) (replies ++ reply ∷ []) new
-run_more turn old mid new [] [] body reply r t = (new, subst (λ from. turn from body reply new) r t, refl)
-run_more turn old mid new [] (x ∷ xs) body reply r t = absurd r
-run_more turn old mid new (x ∷ xs) [] body reply r t = absurd r
-run_more turn old mid new (x ∷ xs) (y ∷ ys) body reply r t = (r.0, r.1, run_more turn r.0 mid new xs ys body reply r.2 t)
+run_more : {S : Type 0} (turn : TurnOf S) (old mid new : S) (bodies : List (List ℕ)) (handed : List (List (List ℕ))) (body : List ℕ) (replies : List (List ℕ))
+    → Run turn old bodies handed mid → turn mid body replies new → Run turn old (bodies ++ body ∷ []) (handed ++ replies ∷ []) new
+run_more turn old mid new [] [] body replies r t = (new, subst (λ from. turn from body replies new) r t, refl)
+run_more turn old mid new [] (x ∷ xs) body replies r t = absurd r
+run_more turn old mid new (x ∷ xs) [] body replies r t = absurd r
+run_more turn old mid new (x ∷ xs) (y ∷ ys) body replies r t = (r.0, r.1, run_more turn r.0 mid new xs ys body replies r.2 t)
 
 bodies_more : (f : Frames) (bytes mid rest : List ℕ) (bodies : List (List ℕ)) (body : List ℕ) → Bodies f bytes bodies mid → f.Next mid body rest → Bodies f bytes (bodies ++ body ∷ []) rest
 bodies_more f bytes mid rest [] body h n = (rest, subst (λ l. f.Next l body rest) (sym h) n, refl)
@@ -57,100 +52,176 @@ known_start : (f : Frames) (a : Option (List ℕ)) → Known (λ bytes rest. Bod
 known_start f None = tt
 known_start f (Some x) = refl
 
+-- no body was read
+no_calls : (i : Input) → Calls 0 0 i i
+no_calls i = record { each = []; one_each = refl; few = All-nil _; clock = none i.calls }
+  where
+    none : (n : ℕ) → n ≡ later 0 n
+    none n = omega arith
+
+sum_more : (each : List ℕ) (n : ℕ) → sum (each ++ n ∷ []) ≡ sum each + n
+sum_more each n = sum_by-append (λ x. x) each (n ∷ []) ∙ ap (λ k. sum each + k) (nothing_before n)
+  where
+    nothing_before : (n : ℕ) → 0 + n ≡ n
+    nothing_before n = omega arith
+
+later_more : (m n a b c : ℕ) → b ≡ later (m + 0) a → c ≡ later n b → c ≡ later (m + n) a
+later_more m n a b c e f = omega (arith, e, f)
+
+-- one more was
+calls_more : (requests : ℕ) (i j k : Input) (n : ℕ) → Calls requests 0 i j → n ≤ 4194304 → k.calls ≡ later n j.calls → Calls (requests + 1) 0 i k
+calls_more requests i j k n c few clock = record {
+  each = c.each ++ n ∷ [];
+  one_each = length-append c.each (n ∷ []) ∙ ap (λ l. l + 1) c.one_each;
+  few = All-push (λ k. k ≤ 4194304) c.each n c.few few;
+  clock = rw (sum_more c.each n) (behind_none (sum c.each) n i.calls k.calls (later_more (sum c.each) n i.calls j.calls k.calls c.clock clock));
+}
+  where
+    behind_none : (m n a c : ℕ) → c ≡ later (m + n) a → c ≡ later (m + n + 0) a
+    behind_none m n a c e = omega (arith, e)
+
+-- what came behind the last
+calls_over : (requests : ℕ) (i j k : Input) (n : ℕ) → Calls requests 0 i j → k.calls ≡ later n j.calls → Calls requests n i k
+calls_over requests i j k n c clock = record { each = c.each; one_each = c.one_each; few = c.few; clock = later_more (sum c.each) n i.calls j.calls k.calls c.clock clock }
+
 pub going_start : {S : Type 0} (f : Frames) (turn : TurnOf S) (i : Input) (o : Output) (state : S) → o.broken ≡ false → Going f turn i i o o state state 0
-unfolding spelled_all
-going_start f turn i o state h = record { bodies = []; replies = []; run = refl; count = refl; read = known_start f i.left; lines = writes_nothing o h }
+unfolding spelled_all joined
+going_start f turn i o state h = record { bodies = []; handed = []; run = refl; count = refl; read = known_start f i.left; calls = no_calls i; lines = writes_nothing o h }
 
 -- nothing more was put
 same_lines : (a b c : Output) (xs : List ℕ) → Writes a b xs → Writes b c [] → Writes a c xs
 same_lines a b c xs p q = subst (Writes a c) (append-nil xs) (writes_then a b c xs [] p q)
 
-module _ {S : Type 0} (f : Frames) (turn : TurnOf S) (last : List ℕ) (i i' i'' : Input) (o o' : Output) (old mid : S) (requests : ℕ) (h : Going f turn i i' o o' old mid requests) where
+module _ {S : Type 0} (f : Frames) (turn : TurnOf S) (ends : EndOf S) (last : List ℕ) (i i' i'' : Input) (o o' : Output) (old mid : S) (requests : ℕ) (h : Going f turn i i' o o' old mid requests) where
   one_more : (body : List ℕ) → requests + 1 ≡ length (h.bodies ++ body ∷ [])
   one_more body = let e = h.count in rw (length-append h.bodies (body ∷ [])) (omega (arith, e))
 
-  one_spelled : (reply : List ℕ) → spelled_all f.spelled h.replies ++ f.spelled reply ≡ spelled_all f.spelled (h.replies ++ reply ∷ [])
-  one_spelled reply = ap (λ l. spelled_all f.spelled h.replies ++ l) (sym (spelled_one f.spelled reply)) ∙ sym (spelled_append f.spelled h.replies (reply ∷ []))
+  -- the replies at one more body, as they stand on the writer
+  more_spelled : (replies : List (List ℕ)) → spelled_all f.spelled (joined (h.handed ++ replies ∷ [])) ≡ spelled_all f.spelled (joined h.handed) ++ spelled_all f.spelled replies
+  more_spelled replies = ap (spelled_all f.spelled) (joined_more h.handed replies) ∙ spelled_append f.spelled (joined h.handed) replies
 
-  -- a body was read and answered, and its reply was put
-  pub going_on : (p q : Output) (new : S) (body reply : List ℕ) → Known (λ bytes rest. f.Next bytes body rest) i'.left i''.left → turn mid body reply new → Writes o' p [] → Writes p q (f.spelled reply) → Going f turn i i'' o q old new (requests + 1)
-  going_on p q new body reply n t v w = record {
+  -- a body was read and answered, and the replies were put
+  pub going_on : (p q : Output) (new : S) (body : List ℕ) (replies : List (List ℕ)) → Known (λ bytes rest. f.Next bytes body rest) i'.left i''.left → Paced false i' i'' → turn mid body replies new → Writes o' p []
+      → Writes p q (spelled_all f.spelled replies) → Going f turn i i'' o q old new (requests + 1)
+  going_on p q new body replies n pace t v w = record {
     bodies = h.bodies ++ body ∷ [];
-    replies = h.replies ++ reply ∷ [];
-    run = run_more turn old mid new h.bodies h.replies body reply h.run t;
+    handed = h.handed ++ replies ∷ [];
+    run = run_more turn old mid new h.bodies h.handed body replies h.run t;
     count = one_more body;
     read = known_more f i.left i'.left i''.left h.bodies body h.read n;
-    lines = subst (Writes o q) (one_spelled reply) (writes_then o p q _ _ (same_lines o o' p _ h.lines v) w);
+    calls = calls_more requests i i' i'' pace.tries h.calls pace.most pace.clock;
+    lines = subst (Writes o q) (sym (more_spelled replies)) (writes_then o p q _ _ (same_lines o o' p _ h.lines v) w);
   }
 
-  -- the writer failed in its reply
-  pub going_fails : (p q : Output) (new : S) (body reply : List ℕ) → Known (λ bytes rest. f.Next bytes body rest) i'.left i''.left → turn mid body reply new → Writes o' p [] → Breaks p q (f.spelled reply)
-      → Session f turn last i i'' o q old new (record { requests = requests + 1; why = WriteFault })
-  going_fails p q new body reply n t v w = record {
-    bodies = h.bodies ++ body ∷ [];
-    replies = h.replies ++ reply ∷ [];
-    stop = None;
-    run = run_more turn old mid new h.bodies h.replies body reply h.run t;
-    count = one_more body;
-    read = known_more f i.left i'.left i''.left h.bodies body h.read n;
-    can = tt;
-    sound = λ _. tt;
-    written = inr (record { ended = refl; torn = subst (λ l. Breaks o q (spelled_all f.spelled l)) (sym (append-nil (h.replies ++ reply ∷ []))) (subst (Breaks o q) (one_spelled reply) (breaks_after o p q _ _ (same_lines o o' p _ h.lines v) w)) });
-  }
+  -- the writer failed in them
+  pub going_fails : (p q : Output) (new new' : S) (body : List ℕ) (replies held : List (List ℕ)) → Known (λ bytes rest. f.Next bytes body rest) i'.left i''.left → Paced false i' i'' → turn mid body replies new → Writes o' p []
+      → length p.kept ≤ p.back → Breaks p q (spelled_all f.spelled replies) → ends new held new' → Session f turn ends last i i'' o q old new' (record { requests = requests + 1; why = WriteFault })
+  going_fails p q new new' body replies held n pace t v keeps w e =
+      let put = same_lines o o' p _ h.lines v in
+      let all = ap (spelled_all f.spelled) (append-nil (joined (h.handed ++ replies ∷ []))) ∙ more_spelled replies in
+      let tears = tear o p q _ _ (spelled_all f.spelled (joined (h.handed ++ replies ∷ []) ++ [])) all put w in
+      record {
+        bodies = h.bodies ++ body ∷ [];
+        handed = h.handed ++ replies ∷ [];
+        held = held;
+        mid = new;
+        stop = None;
+        over = 0;
+        run = run_more turn old mid new h.bodies h.handed body replies h.run t;
+        ended = e;
+        count = one_more body;
+        read = known_more f i.left i'.left i''.left h.bodies body h.read n;
+        can = tt;
+        calls = calls_more requests i i' i'' pace.tries h.calls pace.most pace.clock;
+        few = omega arith;
+        cause = pace.cause;
+        sound = λ _. tt;
+        written = inr (record { ended = refl; torn = tears.torn; few = rw (tears.same, latest_more h.handed replies) (lost_few p q _ o.back w keeps put.back) });
+      }
 
   -- the writer failed before a wait
-  pub going_waits : (q : Output) → Keeps i'.left i''.left → Breaks o' q [] → Session f turn last i i'' o q old mid (record { requests = requests; why = WriteFault })
-  going_waits q k w = record {
-    bodies = h.bodies;
-    replies = h.replies;
-    stop = None;
-    run = h.run;
-    count = h.count;
-    read = known_keeps f i.left i'.left i''.left h.bodies h.read k;
-    can = tt;
-    sound = λ _. tt;
-    written = inr (record { ended = refl; torn = subst (λ l. Breaks o q (spelled_all f.spelled l)) (sym (append-nil h.replies)) (subst (Breaks o q) (append-nil (spelled_all f.spelled h.replies)) (breaks_after o o' q _ [] h.lines w)) });
-  }
+  pub going_waits : (q : Output) (new : S) (held : List (List ℕ)) → Keeps i'.left i''.left → Paced false i' i'' → length o'.kept ≤ o'.back → Breaks o' q [] → ends mid held new
+      → Session f turn ends last i i'' o q old new (record { requests = requests; why = WriteFault })
+  going_waits q new held k pace keeps w e =
+      let all = ap (spelled_all f.spelled) (append-nil (joined h.handed)) ∙ sym (append-nil (spelled_all f.spelled (joined h.handed))) in
+      let tears = tear o o' q _ [] (spelled_all f.spelled (joined h.handed ++ [])) all h.lines w in
+      let lost = lost_few o' q [] o.back w keeps h.lines.back in
+      record {
+        bodies = h.bodies;
+        handed = h.handed;
+        held = held;
+        mid = mid;
+        stop = None;
+        over = pace.tries;
+        run = h.run;
+        ended = e;
+        count = h.count;
+        read = known_keeps f i.left i'.left i''.left h.bodies h.read k;
+        can = tt;
+        calls = calls_over requests i i' i'' pace.tries h.calls pace.clock;
+        few = pace.most;
+        cause = pace.cause;
+        sound = λ _. tt;
+        written = inr (record { ended = refl; torn = tears.torn; few = rw tears.same (omega (arith, lost)) });
+      }
+
+  -- the replies to all bodies and those of the end, as they stand on the writer
+  end_spelled : (held : List (List ℕ)) → spelled_all f.spelled (joined h.handed ++ held) ≡ spelled_all f.spelled (joined h.handed) ++ spelled_all f.spelled held
+  end_spelled held = spelled_append f.spelled (joined h.handed) held
 
   -- all replies have left the writer where nothing is kept back
-  closing : (p q : Output) (why end : End) → Writes o' p [] → Closes f last why end p q → Told f last why (Some end) h.replies o q ⊎ Fails f last why (Some end) h.replies o q
-  closing p q why end v (inl c) =
-      let all = subst (Writes o q) (sym (spelled_append f.spelled h.replies (last_reply last end))) (writes_then o p q _ _ (same_lines o o' p _ h.lines v) c.1) in
-      let gone : all.gone ≡ o.kept ++ spelled_all f.spelled (h.replies ++ last_reply last end) = sym (append-nil all.gone) ∙ ap (λ l. all.gone ++ l) (sym c.2.nothing) ∙ sym all.whole in
+  closing : (p q : Output) (why end : End) (held : List (List ℕ)) → Writes o' p [] → length p.kept ≤ p.back → HandsOn f.spelled why end (held ++ last_reply last end) p q
+      → Told f last why (Some end) h.handed held o q ⊎ Fails f last why (Some end) h.handed held o q
+  closing p q why end held v keeps (inl c) =
+      let all = subst (Writes o q) (sym (end_spelled (held ++ last_reply last end))) (writes_then o p q _ _ (same_lines o o' p _ h.lines v) c.1) in
+      let gone : all.gone ≡ o.kept ++ spelled_all f.spelled (joined h.handed ++ (held ++ last_reply last end)) = sym (append-nil all.gone) ∙ ap (λ l. all.gone ++ l) (sym c.2.nothing) ∙ sym all.whole in
       inl (record {
         ended = ap (λ w. Some w) (sym c.0);
-        reached = subst (λ w. Appends o.reached q.reached (o.kept ++ spelled_all f.spelled (h.replies ++ last_reply last w))) (sym c.0) (subst (Appends o.reached q.reached) gone all.reached);
-        handed = c.2;
+        reached = subst (λ w. Appends o.reached q.reached (o.kept ++ spelled_all f.spelled (joined h.handed ++ (held ++ last_reply last w)))) (sym c.0) (subst (Appends o.reached q.reached) gone all.reached);
+        handed_on = c.2;
         sound = c.1.sound;
       })
-  closing p q why end v (inr c) =
-      inr (record { ended = c.0; torn = subst (Breaks o q) (sym (spelled_append f.spelled h.replies (last_reply last end))) (breaks_after o p q _ _ (same_lines o o' p _ h.lines v) c.1) })
+  closing p q why end held v keeps (inr c) =
+      let put = same_lines o o' p _ h.lines v in
+      let tears = tear o p q _ _ (spelled_all f.spelled (joined h.handed ++ (held ++ last_reply last end))) (end_spelled (held ++ last_reply last end)) put c.1 in
+      inr (record { ended = c.0; torn = tears.torn; few = rw tears.same (lost_few p q _ o.back c.1 keeps put.back) })
 
-  pub going_closes : (p q : Output) (why end : End) → f.Can (requests + 1) end → Known (f.Stop end) i'.left i''.left → (i.steady ≡ true → end ≡ ReadFault → requests ≡ 18446744073709551615) → Writes o' p [] → Closes f last why end p q
-      → Session f turn last i i'' o q old mid (record { requests = requests; why = why })
-  going_closes p q why end can k sound v w = record {
+  pub going_closes : (p q : Output) (new : S) (why end : End) (over : ℕ) → f.Can (requests + 1) end → Known (f.Stop end) i'.left i''.left → over ≤ 4194304 → i''.calls ≡ later over i'.calls → HasCause (is_read_fault end) over i''.faulted ⊎ (requests ≡ 18446744073709551615)
+      → (i.steady ≡ true → end ≡ ReadFault → requests ≡ 18446744073709551615) → Writes o' p [] → length p.kept ≤ p.back → Closes f ends last why end p q mid new → Session f turn ends last i i'' o q old new (record { requests = requests; why = why })
+  going_closes p q new why end over can k few clock cause sound v keeps w = record {
     bodies = h.bodies;
-    replies = h.replies;
+    handed = h.handed;
+    held = w.held;
+    mid = mid;
     stop = Some end;
+    over = over;
     run = h.run;
+    ended = w.ended;
     count = h.count;
     read = known_stops f i.left i'.left i''.left h.bodies end h.read k;
     can = can;
+    calls = calls_over requests i i' i'' over h.calls clock;
+    few = few;
+    cause = cause;
     sound = sound;
-    written = closing p q why end v w;
+    written = closing p q why end w.held v keeps w.closed;
   }
 
--- all was put, but not handed on
+-- all was put and handed on, or not handed on
+pub writes_late : (a b c : Output) (xs : List ℕ) → Writes a b xs → Writes b c [] → Writes a c xs
+writes_late a b c xs p q = same_lines a b c xs p q
+
 pub breaks_late : (a b c : Output) (xs : List ℕ) → Writes a b xs → Breaks b c [] → Breaks a c xs
 breaks_late a b c xs p q = subst (Breaks a c) (append-nil xs) (breaks_after a b c xs [] p q)
 
--- nothing was to be put, or one reply
-pub last_nothing : (s : List ℕ → List ℕ) (o : Output) (replies : List (List ℕ)) → replies ≡ [] → o.broken ≡ false → Writes o o (spelled_all s replies)
-unfolding spelled_all
-last_nothing s o replies e h = rw e (writes_nothing o h)
+-- what was held was put, and what comes behind it went so
+pub hands_behind : (s : List ℕ → List ℕ) (result why : End) (held replies : List (List ℕ)) (o p q : Output) → Writes o p (spelled_all s held) → HandsOn s result why replies p q → HandsOn s result why (held ++ replies) o q
+hands_behind s result why held replies o p q v (inl c) = inl (c.0, subst (Writes o q) (sym (spelled_append s held replies)) (writes_then o p q _ _ v c.1), c.2)
+hands_behind s result why held replies o p q v (inr c) = inr (c.0, subst (Breaks o q) (sym (spelled_append s held replies)) (breaks_after o p q _ _ v c.1))
 
-pub last_one : (s : List ℕ → List ℕ) (result : Result (Unit {0}) Unwritten) (o p : Output) (replies : List (List ℕ)) (reply : List ℕ) → replies ≡ reply ∷ [] → Puts result o p (s reply) → Puts result o p (spelled_all s replies)
-last_one s result o p replies reply e h = rw (e, spelled_one s reply) h
+-- the writer failed in what was held
+pub held_breaks : (s : List ℕ → List ℕ) (held replies : List (List ℕ)) (o q : Output) → Breaks o q (spelled_all s held) → Breaks o q (spelled_all s (held ++ replies))
+held_breaks s held replies o q b = subst (Breaks o q) (sym (spelled_append s held replies)) (breaks_before o q _ _ b)
 
 -- an end that is no fault of the reader
 pub sound_end : (end : End) (requests : ℕ) → is_read_fault end ≡ false → end ≡ ReadFault → requests ≡ 18446744073709551615
@@ -168,3 +239,6 @@ can_over Records requests = tt
 
 pub writes_none : (o : Output) → o.broken ≡ false → Writes o o []
 writes_none o h = writes_nothing o h
+
+pub no_call : (n : ℕ) → n ≡ later 0 n
+no_call n = omega arith

@@ -1,8 +1,13 @@
 -- Bytes as digits, part by part.
-use Rattle.std.proofs.Common.{◌≡◌, ℕ, ◌+◌, ◌-◌, false, List, [], ◌∷◌, ◌++◌, take, drop, refl, sym, ap, ◌∙◌, subst, append_assoc, arith}
-use Rattle.std.proofs.lemmas.List.{take-append-drop}
+use Rattle.std.proofs.Common.{◌≡◌, ℕ, ◌+◌, ◌-◌, ◌*◌, ◌/◌, ◌%◌, ◌<◌, ◌≤◌, ◌&&◌, ◌==◌, zero, suc, inl, inr, Bool, true, false, List, [], ◌∷◌, ◌++◌, length, take, drop, slice_index, slice_set, Result, Ok, Err, refl, sym, ap, ◌∙◌, subst, append_assoc, arith}
+use Rattle.std.specs.Prelude.{IsErr}
+use Rattle.std.proofs.lemmas.Bool.{and_parts, cases_lt, eqb-true, false≢true}
+use Rattle.std.proofs.lemmas.List.{append-nil, drop_all, take-append-drop}
 use lib.Seq.{take-add}
-use Rattle.hex.specs.Hex.{encode_lower, encode_with, lower_digits}
+use Rattle.hex.specs.Hex.{decode_of, decode_pairs, encode_lower, encode_with, lower_digits, pair_value}
+use Rattle.hex.specs.declared.error.FromHexError.{FromHexError}
+use Rattle.hex.proofs.HexLemmas.{decode_of-even, decode_of-odd}
+use Rattle.hex.proofs.Pairs.{decode_err, decode_step, prepend}
 use Rattle.oa_stream.specs.Sink.{Output, Writes, Breaks}
 use Rattle.oa_stream.proofs.Stretches.{writes_nothing, writes_then, breaks_after, breaks_before}
 
@@ -34,3 +39,78 @@ hex_breaks a b c bytes at n p q =
 -- the digits of two stretches
 pub hex_two : (head fields rest : List ℕ) → encode_lower (head ++ fields) ++ rest ≡ encode_lower head ++ (encode_lower fields ++ rest)
 hex_two head fields rest = ap (λ l. l ++ rest) (encode_append lower_digits head fields) ∙ append_assoc (encode_lower head) (encode_lower fields) rest
+
+-- the bytes of the pairs so far, and the pairs behind them
+abbrev pub IsDecoded : List ℕ → List ℕ → ℕ → Type 0
+IsDecoded text out i = decode_pairs 0 text ≡ prepend (take i out) (decode_pairs (2 * i) (drop (2 * i) text))
+
+-- one pair more
+pub pair_more : (text out : List ℕ) (i v : ℕ) (good is : Bool) → 2 * i + 1 < length text → i < length out
+    → (is ≡ true → (k : ℕ) → pair_value (slice_index text (2 * i)) (slice_index text (2 * i + 1)) k ≡ Ok v)
+    → (good ≡ true → IsDecoded text out i) → (good && is) ≡ true → IsDecoded text (slice_set out i v) (i + 1)
+pair_more text out i v true true fits room pair so_far h = decode_step text out i v fits room (pair refl (2 * i)) (so_far refl)
+pair_more text out i v true false fits room pair so_far h = absurd (false≢true h)
+pair_more text out i v false is fits room pair so_far h = absurd (false≢true h)
+
+is_err : (text out : List ℕ) (i : ℕ) (r : Result ℕ FromHexError) → r ≡ pair_value (slice_index text (2 * i)) (slice_index text (2 * i + 1)) (2 * i) → 2 * i + 1 < length text → IsDecoded text out i → IsErr r → IsErr (decode_pairs 0 text)
+is_err text out i (Ok v) is fits so_far e = absurd (false≢true e)
+is_err text out i (Err f) is fits so_far e = rw (decode_err text out i f fits (sym is) so_far) refl
+
+-- a pair that is none, now or before
+pub pair_bad : (text out : List ℕ) (i : ℕ) (good is : Bool) → 2 * i + 1 < length text
+    → (is ≡ false → (k : ℕ) → IsErr (pair_value (slice_index text (2 * i)) (slice_index text (2 * i + 1)) k))
+    → (good ≡ true → IsDecoded text out i) → (good ≡ false → IsErr (decode_pairs 0 text)) → (good && is) ≡ false → IsErr (decode_pairs 0 text)
+pair_bad text out i false is fits pair so_far bad h = bad refl
+pair_bad text out i true true fits pair so_far bad h = absurd (false≢true (sym h))
+pair_bad text out i true false fits pair so_far bad h = is_err text out i _ refl fits (so_far refl) (pair refl (2 * i))
+
+-- all pairs
+pairs_all : (text out : List ℕ) (i : ℕ) → length text ≤ 2 * i → length text % 2 ≡ 0 → IsDecoded text out i → decode_of text ≡ Ok (take i out)
+unfolding decode_pairs
+pairs_all text out i all even so_far =
+    decode_of-even text even ∙ so_far ∙ ap (prepend (take i out)) (ap (decode_pairs (2 * i)) (drop_all (2 * i) text all)) ∙ ap Ok (append-nil (take i out))
+
+pub pairs_at : (text out : List ℕ) (i n : ℕ) → i ≡ n → n ≡ length text / 2 → length text % 2 ≡ 0 → IsDecoded text out i → decode_of text ≡ Ok (take n out)
+pairs_at text out i n same half even so_far = rw (sym same) (pairs_all text out i (omega (arith, same, half, even)) even so_far)
+
+pub pairs_bad : (text : List ℕ) → length text % 2 ≡ 0 → IsErr (decode_pairs 0 text) → IsErr (decode_of text)
+pairs_bad text even bad = rw (decode_of-even text even) bad
+
+pub odd_bad : (text : List ℕ) → length text % 2 ≡ 1 → IsErr (decode_of text)
+odd_bad text odd = rw (decode_of-odd text odd) refl
+
+-- a test of all numbers below one
+abbrev all_below : (ℕ → Bool) → ℕ → Bool
+all_below p zero = true
+all_below p (suc n) = p n && all_below p n
+
+below_at : (p : ℕ → Bool) (n k : ℕ) → all_below p n ≡ true → k < n → p k ≡ true
+below_at p zero k h below = absurd (omega arith)
+below_at p (suc n) k h below =
+    let parts = and_parts (p n) (all_below p n) h in
+    elim (cases_lt k n) [
+      | inl less ↦ below_at p n k parts.1 less
+      | inr top ↦
+          let e : k ≡ n = omega arith in
+          rw e parts.0
+    ]
+
+-- the digits of the values below ten, and of those above
+pub low_digit : (n : ℕ) → n < 10 → 48 + n ≡ slice_index lower_digits n
+low_digit n h = eqb-true (48 + n) (slice_index lower_digits n) (below_at (λ d. (48 + d) == slice_index lower_digits d) 10 n refl h)
+
+high : (k : ℕ) → k < 6 → 97 + k ≡ slice_index lower_digits (10 + k)
+high k h = eqb-true (97 + k) (slice_index lower_digits (10 + k)) (below_at (λ d. (97 + d) == slice_index lower_digits (10 + d)) 6 k refl h)
+
+pub high_digit : (n : ℕ) → 10 ≤ n → n < 16 → 87 + n ≡ slice_index lower_digits n
+high_digit n low below =
+    let back : 10 + (n - 10) ≡ n = omega (arith, low) in
+    let sum : 97 + (n - 10) ≡ 87 + n = omega (arith, low) in
+    sym sum ∙ high (n - 10) (omega (arith, low, below)) ∙ ap (λ k. slice_index lower_digits k) back
+
+-- all bytes are digits
+pub all_digits : (bytes digits : List ℕ) (i n : ℕ) → length bytes ≤ i → i ≡ n → take (2 * i) digits ++ encode_lower (drop i bytes) ≡ encode_lower bytes → take (2 * n) digits ≡ encode_lower bytes
+unfolding encode_with
+all_digits bytes digits i n all same so_far =
+    let none = drop_all i bytes all in
+    rw (sym same) (sym (append-nil (take (2 * i) digits)) ∙ rw none at so_far)

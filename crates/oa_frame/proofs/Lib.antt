@@ -1,4 +1,5 @@
 pub mod HexDigits
+pub mod Spelled
 pub mod Goes
 pub mod Splits
 pub mod Seeks

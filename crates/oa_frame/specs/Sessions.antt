@@ -1,25 +1,41 @@
 -- What a session over a reader and a writer read, answered and wrote, in any framing.
-use Rattle.std.specs.Prelude.{◌≡◌, ◌⊎◌, ℕ, ◌+◌, Bool, true, false, if◌then◌else◌, List, [], ◌∷◌, ◌++◌, length, Option, Some, None, Result, ⊤}
+use Rattle.std.specs.Prelude.{◌≡◌, ◌⊎◌, ℕ, ◌+◌, ◌≤◌, Bool, true, false, if◌then◌else◌, List, [], ◌∷◌, ◌++◌, length, Option, Some, None, Result, ⊤}
+use Rattle.std.specs.List.{All, sum}
 use Rattle.std.specs.Io.KnownBytes.{Appends}
-use Rattle.oa_stream.specs.Source.{Input}
+use Rattle.oa_stream.specs.Source.{Input, later}
 use Rattle.oa_stream.specs.Sink.{Output, Writes, Breaks, Puts, IsHandedOn}
 use Rattle.oa_stream.specs.declared.sink.Unwritten.{Unwritten}
 use Rattle.oa_frame.specs.declared.ends.End.{End}
 use Rattle.oa_frame.specs.declared.ends.End.TheVariants.{Closed, Cut, TooLong, BadHex, ReadFault, WriteFault}
 use Rattle.oa_frame.specs.declared.session.Served.{Served}
 use Rattle.oa_frame.specs.Known.{Known}
-use Rattle.oa_frame.specs.Framings.{Frames}
+use Rattle.oa_frame.specs.Framings.{Frames, is_read_fault}
+use Rattle.oa_frame.specs.Paces.{HasCause}
 
--- what a server does with a body: the state before, the body, the reply, the state after
+-- what a server does with a body: the state before, the body, the replies that it hands out then (none, one or many), the state after
 abbrev pub TurnOf : Type 0 → Type 1
-TurnOf S = S → List ℕ → List ℕ → S → Type 0
+TurnOf S = S → List ℕ → List (List ℕ) → S → Type 0
 
--- one after another
-abbrev pub Run : {S : Type 0} → TurnOf S → S → List (List ℕ) → List (List ℕ) → S → Type 0
+-- what a server does where no further body comes: the state before, the replies that were still held, the state after
+abbrev pub EndOf : Type 0 → Type 1
+EndOf S = S → List (List ℕ) → S → Type 0
+
+-- one body after another, with the replies that were handed out at each
+abbrev pub Run : {S : Type 0} → TurnOf S → S → List (List ℕ) → List (List (List ℕ)) → S → Type 0
 Run turn old [] [] new = new ≡ old
-Run {S} turn old (body ∷ bodies) (reply ∷ replies) new = (mid : S) × turn old body reply mid × Run turn mid bodies replies new
-Run turn old [] (reply ∷ replies) new = ⊥
+Run {S} turn old (body ∷ bodies) (replies ∷ handed) new = (mid : S) × turn old body replies mid × Run turn mid bodies handed new
+Run turn old [] (replies ∷ handed) new = ⊥
 Run turn old (body ∷ bodies) [] new = ⊥
+
+-- all replies that were handed out, and those of them that were last
+unfoldable pub joined : List (List (List ℕ)) → List (List ℕ)
+joined [] = []
+joined (replies ∷ handed) = replies ++ joined handed
+
+unfoldable pub latest : List (List (List ℕ)) → List (List ℕ)
+latest [] = []
+latest (replies ∷ []) = replies
+latest (replies ∷ (next ∷ handed)) = latest (next ∷ handed)
 
 -- replies one after another
 unfoldable pub spelled_all : (List ℕ → List ℕ) → List (List ℕ) → List ℕ
@@ -39,15 +55,32 @@ is_answered WriteFault = false
 abbrev pub last_reply : List ℕ → End → List (List ℕ)
 last_reply last why = if is_answered why then last ∷ [] else []
 
-abbrev pub last_replies : List ℕ → Option End → List (List ℕ)
-last_replies last None = []
-last_replies last (Some why) = last_reply last why
+-- what the writer was given when the reading had ended: nothing where it had failed before
+abbrev pub finals : List ℕ → Option End → List (List ℕ) → List (List ℕ)
+finals last None held = []
+finals last (Some why) held = held ++ last_reply last why
 
--- a body was answered: its reply was put, or the writer failed in it
+-- the replies that the writer was given last: those of the end, or those of one body
+abbrev pub given_last : List ℕ → Option End → List (List (List ℕ)) → List (List ℕ) → List (List ℕ)
+given_last last None handed held = latest handed
+given_last last (Some why) handed held = held ++ last_reply last why
+
+-- a body was answered: the replies that were handed out were put, or the writer failed in them
 pub record Answers {S : Type 0} (f : Frames) (turn : TurnOf S) (result : Result (Unit {0}) Unwritten) (body : List ℕ) (out out' : Output) (old new : S) : Type 0 where
-  pub reply : List ℕ
-  pub turned : turn old body reply new
-  pub put : Puts result out out' (f.spelled reply)
+  pub replies : List (List ℕ)
+  pub turned : turn old body replies new
+  pub put : Puts result out out' (spelled_all f.spelled replies)
+
+-- the replies that were still held were put, or the writer failed in them
+pub record Finishes {S : Type 0} (f : Frames) (ends : EndOf S) (result : Result (Unit {0}) Unwritten) (out out' : Output) (old new : S) : Type 0 where
+  pub held : List (List ℕ)
+  pub ended : ends old held new
+  pub put : Puts result out out' (spelled_all f.spelled held)
+
+-- the same of a server whose replies nobody gets any more
+pub record Abandons {S : Type 0} (ends : EndOf S) (old new : S) : Type 0 where
+  pub held : List (List ℕ)
+  pub ended : ends old held new
 
 -- the bytes begin with the records of these bodies, and the rest follows them
 abbrev pub Bodies : Frames → List ℕ → List (List ℕ) → List ℕ → Type 0
@@ -69,42 +102,71 @@ abbrev pub IsSound : ℕ → Option End → Type 0
 IsSound requests None = ⊤
 IsSound requests (Some why) = why ≡ ReadFault → requests ≡ 18446744073709551615
 
+-- How often the reader was called: for each body that was read, 4,194,304 times at most, and so often after the last of them.
+pub record Calls (requests over : ℕ) (old new : Input) : Type 0 where
+  pub each : List ℕ
+  pub one_each : length each ≡ requests
+  pub few : All (λ n. n ≤ 4194304) each
+  pub clock : new.calls ≡ later (sum each + over) old.calls
+
+-- a read fault has a cause, and a reader that failed is told: it failed, or was called as often as may be, or the records were used up
+abbrev pub IsCaused : ℕ → Option End → ℕ → Bool → Type 0
+IsCaused requests None over faulted = faulted ≡ false
+IsCaused requests (Some why) over faulted = HasCause (is_read_fault why) over faulted ⊎ (requests ≡ 18446744073709551615)
+
 -- all replies have left the writer
-pub record Told (f : Frames) (last : List ℕ) (why : End) (stop : Option End) (replies : List (List ℕ)) (old new : Output) : Type 0 where
+pub record Told (f : Frames) (last : List ℕ) (why : End) (stop : Option End) (handed : List (List (List ℕ))) (held : List (List ℕ)) (old new : Output) : Type 0 where
   pub ended : stop ≡ Some why
-  pub reached : Appends old.reached new.reached (old.kept ++ spelled_all f.spelled (replies ++ last_reply last why))
-  pub handed : IsHandedOn new
+  pub reached : Appends old.reached new.reached (old.kept ++ spelled_all f.spelled (joined handed ++ (held ++ last_reply last why)))
+  pub handed_on : IsHandedOn new
   pub sound : new.broken ≡ false
 
--- the writer failed: no more than a first part of these replies has left it, and it had promised no room for all of them
-pub record Fails (f : Frames) (last : List ℕ) (why : End) (stop : Option End) (replies : List (List ℕ)) (old new : Output) : Type 0 where
+-- The writer failed: no more than a first part of these replies has left it, and it had promised no room for all of them. What is lost is no more
+-- than it may keep back and the replies that it was given last: so no further body was answered once it had failed.
+pub record Fails (f : Frames) (last : List ℕ) (why : End) (stop : Option End) (handed : List (List (List ℕ))) (held : List (List ℕ)) (old new : Output) : Type 0 where
   pub ended : why ≡ WriteFault
-  pub torn : Breaks old new (spelled_all f.spelled (replies ++ last_replies last stop))
+  pub torn : Breaks old new (spelled_all f.spelled (joined handed ++ finals last stop held))
+  pub few : length torn.lost ≤ old.back + length (spelled_all f.spelled (given_last last stop handed held))
 
--- A whole session: the bodies that were read, their run, and what has left the writer. `stop` is what ended the reading; None where the writer
--- failed between two bodies: then nothing past the last body that was answered was taken.
-pub record Session {S : Type 0} (f : Frames) (turn : TurnOf S) (last : List ℕ) (input input' : Input) (out out' : Output) (old new : S) (served : Served) : Type 0 where
+-- A whole session: the bodies that were read, their run with the replies that were handed out at each, those that were still held at the end, and
+-- what has left the writer. `stop` is what ended the reading; None where the writer failed between two bodies: then nothing past the last body
+-- that was answered was taken. `over` is how often the reader was called behind the last body.
+pub record Session {S : Type 0} (f : Frames) (turn : TurnOf S) (ends : EndOf S) (last : List ℕ) (input input' : Input) (out out' : Output) (old new : S) (served : Served) : Type 0 where
   pub bodies : List (List ℕ)
-  pub replies : List (List ℕ)
+  pub handed : List (List (List ℕ))
+  pub held : List (List ℕ)
+  pub mid : S
   pub stop : Option End
-  pub run : Run turn old bodies replies new
+  pub over : ℕ
+  pub run : Run turn old bodies handed mid
+  pub ended : ends mid held new
   pub count : served.requests ≡ length bodies
   pub read : Known (ReadTo f stop bodies) input.left input'.left
   pub can : CanStop f served.requests stop
+  pub calls : Calls served.requests over input input'
+  pub few : over ≤ 4194304
+  pub cause : IsCaused served.requests stop over input'.faulted
   pub sound : input.steady ≡ true → IsSound served.requests stop
-  pub written : Told f last served.why stop replies out out' ⊎ Fails f last served.why stop replies out out'
+  pub written : Told f last served.why stop handed held out out' ⊎ Fails f last served.why stop handed held out out'
 
 -- the same so far
 pub record Going {S : Type 0} (f : Frames) (turn : TurnOf S) (input input' : Input) (out out' : Output) (old now : S) (requests : ℕ) : Type 0 where
   pub bodies : List (List ℕ)
-  pub replies : List (List ℕ)
-  pub run : Run turn old bodies replies now
+  pub handed : List (List (List ℕ))
+  pub run : Run turn old bodies handed now
   pub count : requests ≡ length bodies
   pub read : Known (λ bytes rest. Bodies f bytes bodies rest) input.left input'.left
-  pub lines : Writes out out' (spelled_all f.spelled replies)
+  pub calls : Calls requests 0 input input'
+  pub lines : Writes out out' (spelled_all f.spelled (joined handed))
 
--- the last reply was written and all was handed on, or the writer failed
-abbrev pub Closes : Frames → List ℕ → End → End → Output → Output → Type 0
-Closes f last result why old new =
-    ((result ≡ why) × Writes old new (spelled_all f.spelled (last_reply last why)) × IsHandedOn new)
-    ⊎ ((result ≡ WriteFault) × Breaks old new (spelled_all f.spelled (last_reply last why)))
+-- these replies were written and all was handed on, or the writer failed
+abbrev pub HandsOn : (List ℕ → List ℕ) → End → End → List (List ℕ) → Output → Output → Type 0
+HandsOn spelled result why replies old new =
+    ((result ≡ why) × Writes old new (spelled_all spelled replies) × IsHandedOn new)
+    ⊎ ((result ≡ WriteFault) × Breaks old new (spelled_all spelled replies))
+
+-- what was held and the last reply went so
+pub record Closes {S : Type 0} (f : Frames) (ends : EndOf S) (last : List ℕ) (result why : End) (out out' : Output) (old new : S) : Type 0 where
+  pub held : List (List ℕ)
+  pub ended : ends old held new
+  pub closed : HandsOn f.spelled result why (held ++ last_reply last why) out out'

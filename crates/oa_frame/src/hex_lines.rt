@@ -1,6 +1,7 @@
 //! Bodies as lines of hexadecimal digits.
-ghost use Rattle.std.specs.Prelude.{◌≡◌, ◌≤◌, ◌*◌, [], false, length, take, vec_capacity, Ok, IfSome, IsErr, IsNone};
-ghost use Rattle.hex.specs.Hex.{decode_of};
+ghost use Rattle.std.specs.Prelude.{◌≡◌, ◌≤◌, ◌*◌, ℕ, [], true, false, length, take, vec_capacity, Ok, IfSome, IsErr, IsNone};
+ghost use Rattle.std.specs.Option.{unwrap_or};
+ghost use Rattle.hex.specs.Hex.{decode_of, hex_digit_value, pair_value};
 ghost use Rattle.oa_stream.specs.Ahead.{ahead};
 ghost use Rattle.oa_frame.specs.Lines.{Judges, without_return};
 ghost use Rattle.oa_frame.specs.Framings.{Hands, Inputs, IsWithin, hex_lines, is_fault};
@@ -76,7 +77,8 @@ fn judge(line: &[u8], body: &mut [u8], number: u64) -> Read
     }
 }
 
-/// Decodes digits into the front of a buffer, and answers how many bytes they are.
+/// Decodes digits into the front of a buffer, and answers how many bytes they are. A pair that is none does not end the loop, so that many are
+/// decoded at a time.
 fn decode(line: &[u8], buffer: &mut [u8]) -> Option<usize>
     requires { length line.now ≤ 2 * length buffer.old }
     ensures len { length buffer.new ≡ length buffer.old }
@@ -84,9 +86,47 @@ fn decode(line: &[u8], buffer: &mut [u8]) -> Option<usize>
     ensures some { IfSome result (λ n. decode_of line.now ≡ Ok (take n buffer.new)) }
     ensures none { IsNone result → IsErr (decode_of line.now) }
 {
+    if line.len() % 2 != 0 {
+        return None;
+    }
     let count = line.len() / 2;
-    match hex::decode_to_slice(line, &mut buffer[..count]) {
-        Ok(()) => Some(count),
-        Err(_) => None,
+    let mut good = true;
+    'pairs: for i in 0..count {
+        let (byte, is_pair) = pair(line[2 * i], line[2 * i + 1]);
+        buffer[i] = byte;
+        good = good & is_pair;
+    }
+    if good { Some(count) } else { None }
+}
+
+/// The byte of two digits, where they are digits.
+fn pair(high: u8, low: u8) -> (u8, bool)
+    ensures some { result.1 ≡ true → (i : ℕ) → pair_value high low i ≡ Ok result.0 }
+    ensures none { result.1 ≡ false → (i : ℕ) → IsErr (pair_value high low i) }
+{
+    let (high, low) = (digit(high), digit(low));
+    (
+        high.wrapping_mul(16).wrapping_add(low),
+        high < 16 && low < 16,
+    )
+}
+
+/// The value of a digit; 16 for what is none.
+fn digit(c: u8) -> u8
+    ensures { result ≡ unwrap_or (hex_digit_value c) 16 }
+{
+    let (number, upper, lower) = (
+        c.wrapping_sub(b'0'),
+        c.wrapping_sub(b'A'),
+        c.wrapping_sub(b'a'),
+    );
+    if number < 10 {
+        number
+    } else if upper < 6 {
+        upper + 10
+    } else if lower < 6 {
+        lower + 10
+    } else {
+        16
     }
 }

@@ -3,19 +3,23 @@ ghost use Rattle.std.specs.Prelude.{◌≡◌, ◌≤◌, ℕ, List, false, leng
 ghost use Rattle.oa_stream.specs.Ahead.{ahead};
 ghost use Rattle.oa_stream.specs.Sink.{Puts};
 ghost use Rattle.oa_frame.specs.Framings.{frames};
-ghost use Rattle.oa_frame.specs.Sessions.{Answers, Closes, Session, is_answered, last_reply, spelled_all};
+ghost use Rattle.oa_frame.specs.Sessions.{Abandons, Answers, Closes, Finishes, HandsOn, Session, is_answered, last_reply, spelled_all};
 
 use crate::writing::put_reply;
 use crate::{End, Framing, Read, read_body};
 use oa_stream::{Ahead, Sink, Source, Unwritten};
 
-/// What answers bodies.
+/// What answers bodies. It may hold replies back, and hand out those to many bodies at one.
 ///
-/// Contracts see the reply to a body as its bytes without a length.
+/// Contracts see a reply as its bytes without a length.
 pub trait Responder {
-    ghost turn: { Self → List ℕ → List ℕ → Self → Type 0 };
+    /// At a body: the state before, the body, the replies that are handed out then, the state after.
+    ghost turn: { Self → List ℕ → List (List ℕ) → Self → Type 0 };
 
-    /// Answers one body, and writes the reply in this framing.
+    /// Where no further body comes: the state before, the replies that were still held, the state after.
+    ghost ends: { Self → List (List ℕ) → Self → Type 0 };
+
+    /// Answers one body, and writes the replies that are handed out at it in this framing.
     fn respond<W: Sink>(
         &mut self,
         framing: Framing,
@@ -24,6 +28,15 @@ pub trait Responder {
     ) -> Result<(), Unwritten>
         requires unbroken { (W.out writer.old).broken ≡ false }
         ensures { Answers (frames framing) turn result body.now (W.out writer.old) (W.out writer.new) self.old self.new };
+
+    /// No further body comes: writes the replies that are still held.
+    fn finish<W: Sink>(&mut self, framing: Framing, writer: &mut W) -> Result<(), Unwritten>
+        requires unbroken { (W.out writer.old).broken ≡ false }
+        ensures { Finishes (frames framing) ends result (W.out writer.old) (W.out writer.new) self.old self.new };
+
+    /// No further body comes, and the writer has failed: nobody gets the replies that are still held.
+    fn abandon(&mut self)
+        ensures { Abandons ends self.old self.new };
 }
 
 /// How a session went.
@@ -35,7 +48,8 @@ pub struct Served {
     pub why: End,
 }
 
-/// Answers the bodies of a reader on a writer, one after another, and hands all replies on before each wait for more input and at the end.
+/// Answers the bodies of a reader on a writer, one after another. All replies that the server hands out are handed on before each wait for more
+/// input and at the end; those that it holds it is asked for when the reading has ended.
 ///
 /// `last` is the reply to a record that is cut or too long, without a length. `line` has room for the longest line, and `body`
 /// for the longest body: no memory is taken here.
@@ -53,7 +67,7 @@ pub fn serve<S: Responder, R: Source + Drop, W: Sink>(
     requires buffer { length body.now ≡ 1048576 }
     requires unbroken { (ahead R.input reader.old).faulted ≡ false }
     requires unbroken_writer { (W.out writer.old).broken ≡ false }
-    ensures { Session (frames framing) S.turn last.now (ahead R.input reader.old) (ahead R.input reader.new) (W.out writer.old) (W.out writer.new) server.old server.new result }
+    ensures { Session (frames framing) S.turn S.ends last.now (ahead R.input reader.old) (ahead R.input reader.new) (W.out writer.old) (W.out writer.new) server.old server.new result }
 {
     let mut requests = 0u64;
     'turns: for _ in 0..u64::MAX {
@@ -63,6 +77,7 @@ pub fn serve<S: Responder, R: Source + Drop, W: Sink>(
                 match server.respond(framing, &body[..count], writer) {
                     Ok(()) => {}
                     Err(_) => {
+                        server.abandon();
                         return Served {
                             requests,
                             why: End::WriteFault,
@@ -71,10 +86,11 @@ pub fn serve<S: Responder, R: Source + Drop, W: Sink>(
                 }
             }
             Read::Ends(end) => {
-                let why = close(framing, last, writer, end);
+                let why = close(server, framing, last, writer, end);
                 return Served { requests, why };
             }
             Read::Unwritten => {
+                server.abandon();
                 return Served {
                     requests,
                     why: End::WriteFault,
@@ -82,7 +98,7 @@ pub fn serve<S: Responder, R: Source + Drop, W: Sink>(
             }
         }
     }
-    let why = close(framing, last, writer, End::ReadFault);
+    let why = close(server, framing, last, writer, End::ReadFault);
     Served { requests, why }
 }
 
@@ -113,17 +129,35 @@ fn has_reply(why: End) -> bool
     }
 }
 
-// Writes what is left to write, hands all on, and says why the session ended.
-fn close<W: Sink>(framing: Framing, last: &[u8], writer: &mut W, why: End) -> End
+// Writes the reply to what is no body, hands all on, and says why the session ended.
+fn hand_on<W: Sink>(framing: Framing, last: &[u8], writer: &mut W, why: End) -> End
     requires short { length last.now ≤ 4294967295 }
     requires unbroken { (W.out writer.old).broken ≡ false }
-    ensures { Closes (frames framing) last.now result why (W.out writer.old) (W.out writer.new) }
+    ensures { HandsOn (frames framing).spelled result why (last_reply last.now why) (W.out writer.old) (W.out writer.new) }
 {
     match put_last(framing, last, writer, why) {
         Ok(()) => match writer.deliver() {
             Ok(()) => why,
             Err(_) => End::WriteFault,
         },
+        Err(_) => End::WriteFault,
+    }
+}
+
+// Writes all that is left to write, hands it on, and says why the session ended.
+fn close<S: Responder, W: Sink>(
+    server: &mut S,
+    framing: Framing,
+    last: &[u8],
+    writer: &mut W,
+    why: End,
+) -> End
+    requires short { length last.now ≤ 4294967295 }
+    requires unbroken { (W.out writer.old).broken ≡ false }
+    ensures { Closes (frames framing) S.ends last.now result why (W.out writer.old) (W.out writer.new) server.old server.new }
+{
+    match server.finish(framing, writer) {
+        Ok(()) => hand_on(framing, last, writer, why),
         Err(_) => End::WriteFault,
     }
 }

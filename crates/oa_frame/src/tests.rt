@@ -18,6 +18,8 @@ struct Echo;
 impl Responder for Echo {
     ghost turn = { λ _ _ _ _. ⊤ };
 
+    ghost ends = { λ _ _ _. ⊤ };
+
     fn respond<W: Sink>(
         &mut self,
         framing: Framing,
@@ -27,6 +29,13 @@ impl Responder for Echo {
         let count = body.len().min(1_048_576);
         put_reply(framing, writer, &[], &body[..count])
     }
+
+    #[tactic(auto, using(crate::proofs::Spelled::puts_none))]
+    fn finish<W: Sink>(&mut self, _: Framing, _: &mut W) -> Result<(), Unwritten> {
+        Ok(())
+    }
+
+    fn abandon(&mut self) {}
 }
 
 const LAST: [u8; 2] = [0xab, 0xcd];

@@ -1,7 +1,7 @@
 //! Replies on a writer.
-ghost use Rattle.std.specs.Prelude.{◌≡◌, ◌≤◌, ◌+◌, ◌++◌, ◌∷◌, [], false, length};
+ghost use Rattle.std.specs.Prelude.{◌≡◌, ◌<◌, ◌≤◌, ◌+◌, ◌++◌, ◌∷◌, [], false, length, slice_index};
 ghost use Rattle.std.specs.Int.{to_le_bytes, w32};
-ghost use Rattle.hex.specs.Hex.{encode_lower};
+ghost use Rattle.hex.specs.Hex.{encode_lower, lower_digits};
 ghost use Rattle.oa_stream.specs.Sink.{Puts};
 ghost use Rattle.oa_frame.specs.Framings.{frames};
 
@@ -87,7 +87,23 @@ fn encode<'a>(piece: &[u8], digits: &'a mut [u8; 64]) -> &'a [u8]
     requires { length piece.now ≤ 32 }
     ensures { result.now ≡ encode_lower piece.now }
 {
-    let front = &mut digits[..2 * piece.len()];
-    hex::encode_to_slice(piece, front).unwrap();
-    front
+    let count = piece.len();
+    'bytes: for i in 0..count {
+        let byte = piece[i];
+        digits[2 * i] = digit(byte / 16);
+        digits[2 * i + 1] = digit(byte % 16);
+    }
+    &digits[..2 * count]
+}
+
+// The digit of a value. Two sums and no table: so many are made at a time.
+fn digit(value: u8) -> u8
+    requires { value < 16 }
+    ensures { result ≡ slice_index lower_digits value }
+{
+    if value < 10 {
+        b'0' + value
+    } else {
+        b'a' - 10 + value
+    }
 }

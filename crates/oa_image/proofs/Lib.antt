@@ -6,3 +6,4 @@ mod Members
 pub mod Numbered
 pub mod InMemory
 pub mod Unlocked
+pub mod Sized

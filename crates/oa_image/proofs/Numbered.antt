@@ -1,5 +1,5 @@
 -- Events keep the numbers of a table's objects between 1 and the next one.
-use Rattle.std.proofs.Common.{◌≡◌, ℕ, ◌+◌, Bool, true, false, cond, eqb, ltb, List, [], ◌∷◌, Option, Some, None, Result, Ok, Err, IfOk, refl, sym, ap, subst, arith}
+use Rattle.std.proofs.Common.{◌≡◌, ℕ, ◌+◌, Bool, true, false, cond, eqb, leb, ltb, List, [], ◌∷◌, Option, Some, None, Result, Ok, Err, IfOk, refl, sym, ap, subst, arith}
 use Rattle.std.specs.Prelude.{◌&&◌, nat_lt}
 use Rattle.std.specs.List.{list_all}
 use Rattle.std.specs.Map.{remove_entry, set_value}
@@ -9,6 +9,7 @@ use Rattle.std.specs.declared.cmp.Ordering.{Ordering}
 use Rattle.std.specs.declared.cmp.Ordering.TheVariants.{Less, Equal, Greater}
 use Rattle.std.proofs.lemmas.Bool.{and_parts, eqb-true, ltb-true, lt-ltb}
 use Rattle.std.proofs.lemmas.List.Folds.{list_all-map}
+use Rattle.oa_model.specs.Limits.{greatest_object_number}
 use Rattle.oa_array.specs.declared.fault.ArrayFault.TheVariants as arrays
 use Rattle.oa_table.specs.declared.event.Event.{Event}
 use Rattle.oa_table.specs.declared.event.Event.TheVariants.{Create, Release, Put, PutElement, Redim}
@@ -68,7 +69,7 @@ used_later next number e =
     rw (parts.0, lt-ltb number (next + 1) (omega (arith, ltb-true number next parts.1))) refl
 
 create_keeps : (number : ℕ) (object : ObjectValue) (t : TableValue) → IsNumbered t → IfOk (created number object t) IsNumbered
-create_keeps number object t h = by (eqb number t.next && ltb number 4294967295) (λ e. made (and_parts (eqb number t.next) (ltb number 4294967295) e).0)
+create_keeps number object t h = by (eqb number t.next && leb number greatest_object_number) (λ e. made (and_parts (eqb number t.next) (leb number greatest_object_number) e).0)
   where
     made : eqb number t.next ≡ true → IsNumbered (record { next = number + 1; objects = insert_entry nat_cmp t.objects number object })
     made e =

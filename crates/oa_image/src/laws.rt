@@ -8,6 +8,7 @@ ghost use Rattle.oa_layout.specs.Variants.{value as a_value};
 ghost use Rattle.oa_table.specs.Elements.{locks_of};
 ghost use Rattle.oa_table.specs.Events.{BringsNoLocks, applied};
 ghost use Rattle.oa_layout.specs.Answers.{HasBytes, IsRow};
+ghost use Rattle.oa_table.specs.Sizes.{size_after, table_size};
 ghost use Rattle.oa_table.specs.Tables.{TableValue, unlocked_cell, unlocked_entry, unlocked_table};
 ghost use Rattle.oa_table.specs.declared.event.Event.{Event as AnEvent};
 ghost use Rattle.oa_image.specs.Events.{event as an_event, indices as an_index_list};
@@ -171,6 +172,13 @@ pub fn numbers_stay()
 pub fn one_table()
     ensures { (a b : TableValue) → a_table.Is (unlocked_table a) → a_table.Is (unlocked_table b) → table_image a ≡ table_image b →
         unlocked_table a ≡ unlocked_table b }
+{}
+
+/// The image of a table is as long as oa_table counts: `Table::image_size` is its length, and `Table::size_after` the length of the image
+/// of the table after an event that applies.
+pub fn images_are_counted()
+    ensures now { (t : TableValue) → length (table_image t) ≡ table_size t }
+    ensures after { (event : AnEvent) (old new : TableValue) → applied event old ≡ Ok new → length (table_image new) ≡ size_after event old }
 {}
 
 /// The image of a table holds no locks.

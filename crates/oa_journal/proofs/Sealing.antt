@@ -1,6 +1,7 @@
 -- A frame as it is written.
 use Rattle.std.proofs.Common.{◌≡◌, ℕ, suc, ◌+◌, ◌-◌, ◌<◌, List, [], ◌∷◌, ◌++◌, length, take, drop, sym, ◌∙◌, ap, arith, length-drop, length-append}
 use Rattle.std.proofs.Math.ListN.{set}
+use Rattle.std.proofs.Math.Seq.{take-append_seam}
 use Rattle.std.proofs.lemmas.List.{set-append_right, set_split, drop_all, length-take-le}
 use Rattle.std.specs.Int.{to_le_bytes, w32}
 use Rattle.oa_journal.specs.Append.{group_of, sealed}
@@ -10,6 +11,12 @@ length-group_of frame some = length-take-le (length frame - 5) (drop 4 frame) (o
 
 pub length-sealed : (group : List ℕ) → length (sealed group) ≡ 5 + length group
 length-sealed group = omega (arith, length-append group (0 ∷ []))
+
+-- its group is the one that was sealed
+pub group-sealed : (group : List ℕ) → group_of (sealed group) ≡ group
+group-sealed group =
+    let count : length (sealed group) - 5 ≡ length group = omega (arith, length-sealed group) in
+    ap (λ (n : ℕ). take n (group ++ 0 ∷ [])) count ∙ take-append_seam group (0 ∷ [])
 
 -- the last of n + 1 bytes is made a 0
 last_closed : (tail : List ℕ) (n : ℕ) → length tail ≡ suc n → set tail n 0 ≡ take n tail ++ 0 ∷ []

@@ -1,5 +1,5 @@
 //! One bank, where it stands on a disk.
-ghost use Rattle.std.specs.Prelude.{◌≡◌, ◌↔◌, ◌+◌, ◌-◌, ◌^◌, ◌<◌, ◌≤◌, List, ℕ, Bool, true, false, IsTrue, length, OnOk, IfOk, IsErrOf};
+ghost use Rattle.std.specs.Prelude.{◌≡◌, ◌↔◌, ◌+◌, ◌-◌, ◌^◌, ◌<◌, ◌≤◌, List, ℕ, Bool, true, false, IsTrue, length, OnOk, IfOk, IfErr, IsErrOf};
 ghost use Rattle.oa_disk.specs.Disk.{LeavesOnly, Follows, Torn};
 ghost use Rattle.oa_disk.specs.declared.disk.DeviceFault.{DeviceFault};
 ghost use Rattle.oa_image.specs.Tables.{is_numbered};
@@ -8,6 +8,7 @@ ghost use Rattle.oa_journal.specs.Bank.{bank_bytes, from_place, IsBank, HasLibra
 ghost use Rattle.oa_journal.specs.Banks.{first_gate};
 ghost use Rattle.oa_journal.specs.Damages.{IsDamagedHeader, IsDamagedAt};
 ghost use Rattle.oa_journal.specs.Reads.{OnlyReads};
+ghost use Rattle.oa_journal.specs.Replies.{IsCaused};
 
 use crate::BANK_BYTES;
 use crate::frame::{append_group, lay_out};
@@ -169,6 +170,7 @@ impl Bank {
             → IsAt self.old.place self.old.gate true self.new × (fault ≡ DeviceFault.Write) × (D.failures_of disk.new < 2 ^ 64 - 1 → D.failures_of disk.old < D.failures_of disk.new) }
         ensures size { D.size_of disk.new ≡ D.size_of disk.old }
         ensures honest { D.is_honest disk.new ≡ D.is_honest disk.old }
+        ensures unfailed { OnOk result (D.failures_of disk.new ≡ D.failures_of disk.old) }
         ensures failures { D.failures_of disk.old ≤ D.failures_of disk.new }
     {
         is_table(table);
@@ -196,11 +198,13 @@ impl Bank {
             × (IsTrue (D.is_honest disk.new) → IsDamagedHeader (from_place self.old.place (D.contents disk.old)) 0) }
         ensures memory { IsErrOf result BankFault.Memory → self.new ≡ self.old }
         ensures device { (fault : DeviceFault) → IsErrOf result (BankFault.Device fault)
-            → IsAt self.old.place self.old.gate true self.new × (fault ≡ DeviceFault.Read) × (D.failures_of disk.new < 2 ^ 64 - 1 → D.failures_of disk.old < D.failures_of disk.new) }
+            → IsAt self.old.place self.old.gate true self.new × (fault ≡ DeviceFault.Read) }
+        ensures cause { IfErr result (IsCaused (D.failures_of disk.old) (D.failures_of disk.new)) }
 
         ensures reads { IsTrue (D.is_honest disk.new) → OnlyReads D.contents D.image D.moment D.image_since disk.old disk.new }
         ensures size { D.size_of disk.new ≡ D.size_of disk.old }
         ensures honest { IsTrue (D.is_honest disk.new) → IsTrue (D.is_honest disk.old) }
+        ensures unfailed { OnOk result (D.failures_of disk.new ≡ D.failures_of disk.old) }
         ensures failures { D.failures_of disk.old ≤ D.failures_of disk.new }
     {
         match library_at(alloc, disk, self.place) {
@@ -229,11 +233,13 @@ impl Bank {
             × (IsTrue (D.is_honest disk.new) → (offset : ℕ) × (at ≡ self.old.place + offset) × IsDamagedAt (from_place self.old.place (D.contents disk.old)) offset) }
         ensures memory { IsErrOf result BankFault.Memory → self.new ≡ self.old }
         ensures device { (fault : DeviceFault) → IsErrOf result (BankFault.Device fault)
-            → IsAt self.old.place self.old.gate true self.new × (fault ≡ DeviceFault.Read) × (D.failures_of disk.new < 2 ^ 64 - 1 → D.failures_of disk.old < D.failures_of disk.new) }
+            → IsAt self.old.place self.old.gate true self.new × (fault ≡ DeviceFault.Read) }
+        ensures cause { IfErr result (IsCaused (D.failures_of disk.old) (D.failures_of disk.new)) }
 
         ensures reads { IsTrue (D.is_honest disk.new) → OnlyReads D.contents D.image D.moment D.image_since disk.old disk.new }
         ensures size { D.size_of disk.new ≡ D.size_of disk.old }
         ensures honest { IsTrue (D.is_honest disk.new) → IsTrue (D.is_honest disk.old) }
+        ensures unfailed { OnOk result (D.failures_of disk.new ≡ D.failures_of disk.old) }
         ensures failures { D.failures_of disk.old ≤ D.failures_of disk.new }
     {
         match bank_at(alloc, disk, self.place) {
@@ -260,7 +266,7 @@ impl Bank {
     }
 
     /// Adds a group, which stands in a frame with four free bytes before it and one behind, in four calls of the disk: it is there
-    /// whole or not at all. It takes no memory. After a refusal the free bytes may hold anything. After `Device`, and only then,
+    /// whole or not at all. It takes no memory. Of the frame, the free bytes alone may change. After `Device`, and only then,
     /// the bank has stopped.
     pub fn append<D: Disk>(&mut self, disk: &mut D, frame: &mut [u8]) -> Result<(), AppendFault>
         requires some { 5 < length frame.old }
@@ -274,6 +280,7 @@ impl Bank {
         ensures done { OnOk result (IsTrue (D.is_honest disk.old)
             → Follows (IsWith self.old.place self.old.gate (group_of frame.old)) (D.image disk.old) (D.image disk.new)) }
         ensures gate { OnOk result (IsAt self.old.place (self.old.gate + length frame.old) false self.new) }
+        ensures kept { group_of frame.new ≡ group_of frame.old }
 
         ensures full { IsErrOf result AppendFault.Full ↔ ((self.old.stopped ≡ false) × (bank_bytes ≤ self.old.gate + length frame.old)) }
         ensures full_same { IsErrOf result AppendFault.Full → (disk.new ≡ disk.old) × (self.new ≡ self.old) }
@@ -284,6 +291,7 @@ impl Bank {
 
         ensures size { D.size_of disk.new ≡ D.size_of disk.old }
         ensures honest { D.is_honest disk.new ≡ D.is_honest disk.old }
+        ensures unfailed { OnOk result (D.failures_of disk.new ≡ D.failures_of disk.old) }
         ensures failures { D.failures_of disk.old ≤ D.failures_of disk.new }
     {
         if self.stopped {

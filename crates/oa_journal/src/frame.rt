@@ -1,6 +1,6 @@
 //! A group behind a closed gate, which is opened once the group is on the device.
 ghost use Rattle.std.specs.Prelude.{◌≡◌, ◌+◌, ◌^◌, ◌<◌, ◌≤◌, List, ℕ, IsTrue, length, OnOk, IfErr};
-ghost use Rattle.oa_disk.specs.Disk.{Holds, Torn, LeavesOnly, Follows, HasCause};
+ghost use Rattle.oa_disk.specs.Disk.{Holds, Torn, LeavesOnly, Follows, Counts};
 ghost use Rattle.oa_disk.specs.declared.disk.DeviceFault.{DeviceFault};
 ghost use Rattle.oa_journal.specs.Bank.{bank_bytes};
 ghost use Rattle.oa_journal.specs.Append.{group_of, sealed, IsWithOrWithout, IsWith};
@@ -37,9 +37,10 @@ pub(crate) fn append_group<D: Disk>(
 
     ensures size { D.size_of disk.new ≡ D.size_of disk.old }
     ensures honest { D.is_honest disk.new ≡ D.is_honest disk.old }
-    ensures cause { HasCause (D.failures_of disk.old) (D.failures_of disk.new) result }
+    ensures counts { Counts (D.failures_of disk.old) (D.failures_of disk.new) result }
     ensures fault { IfErr result (λ e. e ≡ DeviceFault.Write) }
     ensures long { length frame.new ≡ length frame.old }
+    ensures kept { group_of frame.new ≡ group_of frame.old }
 {
     seal(frame);
     let switch = place + gate;
@@ -58,7 +59,7 @@ pub(crate) fn lay_out<D: Disk>(disk: &mut D, place: u64, bytes: &[u8]) -> Result
 
     ensures size { D.size_of disk.new ≡ D.size_of disk.old }
     ensures honest { D.is_honest disk.new ≡ D.is_honest disk.old }
-    ensures cause { HasCause (D.failures_of disk.old) (D.failures_of disk.new) result }
+    ensures counts { Counts (D.failures_of disk.old) (D.failures_of disk.new) result }
     ensures fault { IfErr result (λ e. e ≡ DeviceFault.Write) }
 {
     disk.write_at(place, bytes)

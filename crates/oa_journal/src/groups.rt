@@ -35,7 +35,7 @@ fn of_change(fault: TableFault, place: usize) -> ImageFault
 /// Makes the changes of a group, whose bytes are the images of events, one behind the other. `Damaged` where they are not, or where
 /// one of the events does not apply, with a place among the bytes; `Memory` where no memory was found. After an Err some of the
 /// changes may have been made.
-pub fn replay(alloc: Global, table: &mut Table, group: &[u8]) -> Result<(), ImageFault>
+pub(crate) fn replay(alloc: Global, table: &mut Table, group: &[u8]) -> Result<(), ImageFault>
     ensures { IsReplay group.now table.old table.new result }
 {
     let events = read_events(alloc, group)?;

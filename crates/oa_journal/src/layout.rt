@@ -1,5 +1,5 @@
 //! The bytes of a bank without groups.
-ghost use Rattle.std.specs.Prelude.{◌≡◌, ◌+◌, ◌<◌, ◌≤◌, length, IfOk};
+ghost use Rattle.std.specs.Prelude.{◌≡◌, ◌+◌, ◌<◌, ◌≤◌, [], ◌∷◌, ◌++◌, length, drop, replicate, IfOk};
 ghost use Rattle.oa_journal.specs.Bank.{bank_bytes, header_of};
 ghost use Rattle.oa_image.specs.Tables.{table_image};
 ghost use Rattle.oa_journal.specs.Banks.{first_gate};
@@ -25,27 +25,34 @@ pub(crate) fn header_bytes(library: u32, snapshot: u32) -> [u8; 32]
     ]
 }
 
-/// The bytes of a bank without groups: header, library, the table's image and a closed gate.
+/// The bytes of a bank without groups: header, library, the table's image and a closed gate. The image is made where it stands.
 pub fn front(alloc: Global, library: &[u8], table: &Table) -> Result<Vec<u8>, AllocError>
     requires { first_gate library.now table.now < bank_bytes }
     ensures bytes { IfOk result (λ bytes. bytes.items ≡ front_of library.now (table_image table.now)) }
     ensures len { IfOk result (λ bytes. length bytes.items ≡ 1 + first_gate library.now table.now) }
 {
-    let mut snapshot = Vec::new(alloc);
-    write_table(table, &mut snapshot)?;
-    front_bytes(alloc, library, &snapshot)
+    let mut bytes = body(alloc, library, table)?;
+    let snapshot = bytes.len() - 33 - library.len();
+    put_header(&mut bytes, library.len() as u32, snapshot as u32);
+    Ok(bytes)
 }
 
-/// Header, library, snapshot and a closed gate.
-fn front_bytes(alloc: Global, library: &[u8], snapshot: &[u8]) -> Result<Vec<u8>, AllocError>
-    requires { 33 + length library.now + length snapshot.now ≤ bank_bytes }
-    ensures bytes { IfOk result (λ bytes. bytes.items ≡ front_of library.now snapshot.now) }
-    ensures len { IfOk result (λ bytes. length bytes.items ≡ 33 + length library.now + length snapshot.now) }
+/// The same behind 32 zeros.
+fn body(alloc: Global, library: &[u8], table: &Table) -> Result<Vec<u8>, AllocError>
+    ensures { IfOk result (λ bytes. bytes.items ≡ replicate 32 0 ++ (library.now ++ (table_image table.now ++ 0 ∷ []))) }
 {
     let mut bytes = Vec::new(alloc);
-    bytes.extend_from_slice(&header_bytes(library.len() as u32, snapshot.len() as u32))?;
+    bytes.extend_from_slice(&[0; 32])?;
     bytes.extend_from_slice(library)?;
-    bytes.extend_from_slice(snapshot)?;
+    write_table(table, &mut bytes)?;
     bytes.push(0)?;
     Ok(bytes)
+}
+
+/// Puts the header in the place of the first 32 bytes.
+fn put_header(bytes: &mut [u8], library: u32, snapshot: u32)
+    requires { 32 ≤ length bytes.old }
+    ensures { bytes.new ≡ header_of library snapshot ++ drop 32 bytes.old }
+{
+    bytes[..32].copy_from_slice(&header_bytes(library, snapshot));
 }

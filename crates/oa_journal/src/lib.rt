@@ -12,5 +12,4 @@ mod reading;
 mod tests;
 
 pub use bank::{AppendFault, Bank, BankFault, StartFault};
-pub use groups::replay;
 pub use layout::{BANK_BYTES, front};

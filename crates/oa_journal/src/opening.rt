@@ -1,5 +1,5 @@
 //! Reading a bank from a disk.
-ghost use Rattle.std.specs.Prelude.{◌≡◌, ◌+◌, ◌-◌, ◌^◌, ◌<◌, ◌≤◌, ℕ, List, IsTrue, length, IfOk, IsErrOf, true};
+ghost use Rattle.std.specs.Prelude.{◌≡◌, ◌+◌, ◌-◌, ◌^◌, ◌<◌, ◌≤◌, ℕ, List, IsTrue, length, OnOk, IfOk, IfErr, IsErrOf, true};
 ghost use Rattle.oa_disk.specs.Disk.{Holds};
 ghost use Rattle.oa_disk.specs.declared.disk.DeviceFault.{DeviceFault};
 ghost use Rattle.oa_image.specs.Tables.{is_numbered};
@@ -7,7 +7,7 @@ ghost use Rattle.oa_journal.specs.declared.bank.BankFault.{BankFault};
 ghost use Rattle.oa_journal.specs.Bank.{bank_bytes, from_place, IsBank, HasLibrary};
 ghost use Rattle.oa_journal.specs.Damages.{IsDamagedHeader, IsDamagedAt};
 ghost use Rattle.oa_journal.specs.Reads.{OnlyReads};
-ghost use Rattle.oa_journal.specs.Replies.{on_disk};
+ghost use Rattle.oa_journal.specs.Replies.{IsCaused, on_disk};
 ghost use Rattle.oa_layout.specs.declared.fault.ImageFault.{ImageFault};
 
 use crate::reading::{part, read_bank, read_header};
@@ -37,12 +37,13 @@ fn read_part<D: Disk>(
     ensures len { IfOk result (λ bytes. length bytes.items ≡ count) }
     ensures damaged { (place : ℕ) → IsErrOf result (BankFault.Damaged place) → ⊥ }
     ensures memory { IsErrOf result BankFault.Memory → disk.new ≡ disk.old }
-    ensures device { (fault : DeviceFault) → IsErrOf result (BankFault.Device fault)
-        → (fault ≡ DeviceFault.Read) × (D.failures_of disk.new < 2 ^ 64 - 1 → D.failures_of disk.old < D.failures_of disk.new) }
+    ensures device { (fault : DeviceFault) → IsErrOf result (BankFault.Device fault) → fault ≡ DeviceFault.Read }
 
     ensures reads { IsTrue (D.is_honest disk.new) → OnlyReads D.contents D.image D.moment D.image_since disk.old disk.new }
     ensures size { D.size_of disk.new ≡ D.size_of disk.old }
     ensures honest { IsTrue (D.is_honest disk.new) → IsTrue (D.is_honest disk.old) }
+    ensures cause { IfErr result (IsCaused (D.failures_of disk.old) (D.failures_of disk.new)) }
+    ensures unfailed { OnOk result (D.failures_of disk.new ≡ D.failures_of disk.old) }
     ensures failures { D.failures_of disk.old ≤ D.failures_of disk.new }
 {
     let mut bytes = zeros(alloc, count)?;
@@ -62,12 +63,13 @@ pub(crate) fn library_at<D: Disk>(
     ensures found { IfOk result (λ library. IsTrue (D.is_honest disk.new) → HasLibrary (from_place place (D.contents disk.old)) library.items) }
     ensures damaged { (at : ℕ) → IsErrOf result (BankFault.Damaged at)
         → (at ≡ place) × (IsTrue (D.is_honest disk.new) → IsDamagedHeader (from_place place (D.contents disk.old)) 0) }
-    ensures device { (fault : DeviceFault) → IsErrOf result (BankFault.Device fault)
-        → (fault ≡ DeviceFault.Read) × (D.failures_of disk.new < 2 ^ 64 - 1 → D.failures_of disk.old < D.failures_of disk.new) }
+    ensures device { (fault : DeviceFault) → IsErrOf result (BankFault.Device fault) → fault ≡ DeviceFault.Read }
 
     ensures reads { IsTrue (D.is_honest disk.new) → OnlyReads D.contents D.image D.moment D.image_since disk.old disk.new }
     ensures size { D.size_of disk.new ≡ D.size_of disk.old }
     ensures honest { IsTrue (D.is_honest disk.new) → IsTrue (D.is_honest disk.old) }
+    ensures cause { IfErr result (IsCaused (D.failures_of disk.old) (D.failures_of disk.new)) }
+    ensures unfailed { OnOk result (D.failures_of disk.new ≡ D.failures_of disk.old) }
     ensures failures { D.failures_of disk.old ≤ D.failures_of disk.new }
 {
     let head = read_part(alloc, disk, place, 32)?;
@@ -111,12 +113,13 @@ pub(crate) fn bank_at<D: Disk>(
     ensures gate { IfOk result (λ r. r.2 < bank_bytes) }
     ensures damaged { (at : ℕ) → IsErrOf result (BankFault.Damaged at)
         → IsTrue (D.is_honest disk.new) → (offset : ℕ) × (at ≡ place + offset) × IsDamagedAt (from_place place (D.contents disk.old)) offset }
-    ensures device { (fault : DeviceFault) → IsErrOf result (BankFault.Device fault)
-        → (fault ≡ DeviceFault.Read) × (D.failures_of disk.new < 2 ^ 64 - 1 → D.failures_of disk.old < D.failures_of disk.new) }
+    ensures device { (fault : DeviceFault) → IsErrOf result (BankFault.Device fault) → fault ≡ DeviceFault.Read }
 
     ensures reads { IsTrue (D.is_honest disk.new) → OnlyReads D.contents D.image D.moment D.image_since disk.old disk.new }
     ensures size { D.size_of disk.new ≡ D.size_of disk.old }
     ensures honest { IsTrue (D.is_honest disk.new) → IsTrue (D.is_honest disk.old) }
+    ensures cause { IfErr result (IsCaused (D.failures_of disk.old) (D.failures_of disk.new)) }
+    ensures unfailed { OnOk result (D.failures_of disk.new ≡ D.failures_of disk.old) }
     ensures failures { D.failures_of disk.old ≤ D.failures_of disk.new }
 {
     let bytes = read_part(alloc, disk, place, BANK_BYTES as usize)?;

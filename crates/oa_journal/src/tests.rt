@@ -1,11 +1,12 @@
-//! Banks on a disk in memory: rooms, stops within an append, and damage.
+//! Banks on a disk in memory: rooms, stops within an append, and damage. A bank that is read is told by its room.
 ghost use Rattle.std.specs.Prelude.{◌≡◌, ◌+◌, ◌≤◌, length, IfOk};
 ghost use Rattle.oa_table.specs.Tables.{first_table};
 ghost use Rattle.oa_journal.specs.Bank.{bank_bytes};
 
-use crate::{AppendFault, BANK_BYTES, Bank, BankFault, StartFault, laws, replay};
+use crate::groups::replay;
+use crate::{AppendFault, BANK_BYTES, Bank, BankFault, StartFault, laws};
 use oa_bstr::Bstr;
-use oa_disk::{Disk, MemoryDisk, Tear};
+use oa_disk::{DeviceFault, Disk, MemoryDisk, Tear};
 use oa_image::{ImageFault, write_event};
 use oa_model::guid_from_wire;
 use oa_table::{CellName, Event, Place, Table};
@@ -47,15 +48,6 @@ fn put_text(alloc: Global, count: usize) -> Result<Event, AllocError> {
     })
 }
 
-/// What a bank was read as.
-#[derive(Clone, Copy, Debug, PartialEq, Eq)]
-struct Seen {
-    library: usize,
-    next: u32,
-    objects: usize,
-    room: u32,
-}
-
 /// A bank that stands somewhere on a disk.
 #[derive(Drop)]
 struct Tried {
@@ -94,53 +86,76 @@ impl Tried {
     }
 
     /// Adds a group of one event.
-    fn add(&mut self, event: &Event) -> Result<Result<(), AppendFault>, AllocError> {
-        let mut frame = vec![in self.alloc; 0; 4]?;
-        write_event(event, &mut frame)?;
-        frame.push(0)?;
+    fn add(&mut self, event: &Event) -> Result<(), AppendFault> {
+        let Ok(mut frame) = frame_of(self.alloc, event) else {
+            return Err(AppendFault::Device(DeviceFault::Read));
+        };
         if frame.len() <= 5 {
-            return Ok(Err(AppendFault::Full));
+            return Err(AppendFault::Full);
         }
-        Ok(self.bank.append(&mut self.disk, &mut frame))
+        self.bank.append(&mut self.disk, &mut frame)
     }
 
     /// Adds a text.
-    fn add_text(&mut self, count: usize) -> Result<Result<(), AppendFault>, AllocError> {
-        let event = put_text(self.alloc, count)?;
-        self.add(&event)
+    fn add_text(&mut self, count: usize) -> Result<(), AppendFault> {
+        match put_text(self.alloc, count) {
+            Ok(event) => self.add(&event),
+            Err(_) => Err(AppendFault::Device(DeviceFault::Read)),
+        }
+    }
+
+    /// Adds the same text so often, up to the first refusal.
+    fn add_texts(&mut self, count: usize, times: u32) -> Result<(), AppendFault> {
+        for _ in 0..times {
+            self.add_text(count)?;
+        }
+        Ok(())
+    }
+
+    /// The disk after a crash at that moment.
+    fn crashed(&self, moment: u64, tear: Tear) -> Result<MemoryDisk, BankFault>
+        ensures { IfOk result (λ disk. ⟦<MemoryDisk as Disk>⟧.size_of disk ≡ ⟦<MemoryDisk as Disk>⟧.size_of self.now.disk) }
+    {
+        if moment > self.disk.moments() {
+            return Err(BankFault::Memory);
+        }
+        Ok(self.disk.crash(moment, tear)?)
     }
 
     /// The bank after a crash at that moment.
-    fn left(&self, moment: u64, tear: Tear) -> Result<Result<Seen, BankFault>, AllocError> {
-        if moment > self.disk.moments() {
-            return Ok(Err(BankFault::Memory));
-        }
-        let mut disk = self.disk.crash(moment, tear)?;
+    fn left(&self, moment: u64, tear: Tear) -> Result<u32, BankFault> {
+        let mut disk = self.crashed(moment, tear)?;
         let mut bank = Bank::at(self.place);
-        Ok(reading_of(self.alloc, &mut bank, &mut disk))
+        room_of(self.alloc, &mut bank, &mut disk)
     }
 
     /// How long its library is.
-    fn library(&self) -> Result<Result<usize, BankFault>, AllocError> {
-        let mut disk = self.disk.crash(self.disk.moments(), Tear::Kept)?;
+    fn library(&self) -> Result<usize, BankFault> {
+        let mut disk = self.crashed(self.disk.moments(), Tear::Kept)?;
         let mut bank = Bank::at(self.place);
-        match bank.read_library(self.alloc, &mut disk) {
-            Ok(library) => Ok(Ok(library.len())),
-            Err(fault) => Ok(Err(fault)),
-        }
+        let library = bank.read_library(self.alloc, &mut disk)?;
+        Ok(library.len())
     }
 
     /// The bank after these bytes were written from that place on.
-    fn changed(&self, at: u64, bytes: &[u8]) -> Result<Result<Seen, BankFault>, AllocError> {
-        let mut disk = self.disk.crash(self.disk.moments(), Tear::Kept)?;
+    fn changed(&self, at: u64, bytes: &[u8]) -> Result<u32, BankFault> {
+        let mut disk = self.crashed(self.disk.moments(), Tear::Kept)?;
         let size = disk.size();
         let count = bytes.len() as u64;
-        if count > size || at > size - count || disk.write_at(at, bytes).is_err() {
-            return Ok(Err(BankFault::Memory));
+        if count <= size && at <= size - count {
+            disk.write_at(at, bytes)?;
         }
         let mut bank = Bank::at(self.place);
-        Ok(reading_of(self.alloc, &mut bank, &mut disk))
+        room_of(self.alloc, &mut bank, &mut disk)
     }
+}
+
+/// The frame of a group of one event.
+fn frame_of(alloc: Global, event: &Event) -> Result<Vec<u8>, AllocError> {
+    let mut frame = vec![in alloc; 0; 4]?;
+    write_event(event, &mut frame)?;
+    frame.push(0)?;
+    Ok(frame)
 }
 
 /// Writes the bank of a library and the table at first.
@@ -159,25 +174,19 @@ fn begin(
     ensures size { ⟦<MemoryDisk as Disk>⟧.size_of disk.new ≡ ⟦<MemoryDisk as Disk>⟧.size_of disk.old }
 {
     let mut bank = Bank::at(place);
-    match bank.start(alloc, disk, library, table) {
-        Ok(()) => Ok(bank),
-        Err(fault) => Err(fault),
-    }
+    bank.start(alloc, disk, library, table)?;
+    Ok(bank)
 }
 
-/// What the bank is read as.
-fn reading_of(alloc: Global, bank: &mut Bank, disk: &mut MemoryDisk) -> Result<Seen, BankFault>
+/// The room of the bank as it is read; 0 where it has another library, or an object that is not live.
+fn room_of(alloc: Global, bank: &mut Bank, disk: &mut MemoryDisk) -> Result<u32, BankFault>
     requires { bank.old.place + bank_bytes ≤ ⟦<MemoryDisk as Disk>⟧.size_of disk.old }
 {
-    match bank.read_all(alloc, disk) {
-        Ok((library, table)) => Ok(Seen {
-            library: library.len(),
-            next: table.next(),
-            objects: table.len(),
-            room: bank.room(),
-        }),
-        Err(fault) => Err(fault),
+    let (library, table) = bank.read_all(alloc, disk)?;
+    if library.len() != 279 || table.objects().len() != table.next().saturating_sub(1) as usize {
+        return Ok(0);
     }
+    Ok(bank.room())
 }
 
 /// The bytes of a text, how many such texts are put, what the last of them is answered, and the room behind it.
@@ -187,50 +196,36 @@ const TEXTS: [(usize, u32, Result<(), AppendFault>, u32); 3] = [
     (259_366, 1, Ok(()), 1),
 ];
 
+/// The first of these texts that is answered otherwise.
+fn first_unlike(tried: &mut Tried) -> Option<usize> {
+    for (count, times, wanted, room) in TEXTS {
+        if tried.add_texts(count, times) != wanted || tried.bank.room() != room {
+            return Some(count);
+        }
+    }
+    None
+}
+
 #[test]
 fn a_bank_takes_groups_as_long_as_they_fit(rt: HostRuntime) -> Result<(), Fail> {
     let Ok(mut tried) = Tried::new(rt.alloc(), 0, 16_777_216, 300, 16_800_000) else {
         return Ok(assert!(rt; false));
     };
-    assert_eq!(rt; tried.bank.room(), 16_776_897);
-    assert_eq!(rt; tried.add(&create())?, Ok(()));
-    assert_eq!(rt; tried.bank.room(), 16_776_871);
-    for (count, times, wanted, room) in TEXTS {
-        let mut last = Ok(());
-        for _ in 0..times {
-            last = tried.add_text(count)?;
-        }
-        assert_eq!(rt; last, wanted);
-        assert_eq!(rt; tried.bank.room(), room);
-    }
-    let full = Seen {
-        library: 279,
-        next: 2,
-        objects: 1,
-        room: 1,
-    };
-    let again = tried.left(tried.disk.moments(), Tear::Kept)?;
-    assert_eq!(rt; again, Ok(full));
+    assert_eq!(rt; tried.bank.room(), WITHOUT);
+    assert_eq!(rt; tried.add(&create()), Ok(()));
+    assert_eq!(rt; tried.bank.room(), WITH);
+    assert_eq!(rt; first_unlike(&mut tried), None);
+    assert_eq!(rt; tried.left(tried.disk.moments(), Tear::Kept), Ok(1));
     Ok(())
 }
 
-/// The bank before the append of a create, and after it.
-const WITHOUT: Seen = Seen {
-    library: 279,
-    next: 1,
-    objects: 0,
-    room: 16_776_897,
-};
+/// The room of the bank before the append of a create, and after it.
+const WITHOUT: u32 = 16_776_897;
 
-const WITH: Seen = Seen {
-    library: 279,
-    next: 2,
-    objects: 1,
-    room: 16_776_871,
-};
+const WITH: u32 = 16_776_871;
 
 /// Whether the group is there after a crash, while the gate is written and not yet brought to the device.
-const GATES: [(u64, Tear, Seen); 9] = [
+const GATES: [(u64, Tear, u32); 9] = [
     (9, Tear::Lost, WITHOUT),
     (9, Tear::Filled(7), WITHOUT),
     (9, Tear::Filled(1), WITH),
@@ -242,6 +237,16 @@ const GATES: [(u64, Tear, Seen); 9] = [
     (11, Tear::Kept, WITH),
 ];
 
+/// The first of these crashes that leaves the other.
+fn first_other(tried: &Tried) -> Option<(u64, Tear)> {
+    for (moment, tear, wanted) in GATES {
+        if tried.left(moment, tear) != Ok(wanted) {
+            return Some((moment, tear));
+        }
+    }
+    None
+}
+
 /// What a crash may leave of what was not brought to the device.
 const TEARS: [Tear; 5] = [
     Tear::Lost,
@@ -251,34 +256,66 @@ const TEARS: [Tear; 5] = [
     Tear::Cut(13),
 ];
 
+/// The first crash that leaves a part of the group, leaves it before its gate is written, or loses it behind the last sync.
+fn first_part(tried: &Tried) -> Option<(u64, Tear)> {
+    for moment in 4..13 {
+        for tear in TEARS {
+            let left = tried.left(moment, tear);
+            let with = left == Ok(WITH) && moment > 8;
+            let without = left == Ok(WITHOUT) && moment < 12;
+            if !with && !without {
+                return Some((moment, tear));
+            }
+        }
+    }
+    None
+}
+
 #[test]
 fn a_group_is_there_whole_or_not_at_all(rt: HostRuntime) -> Result<(), Fail> {
     let Ok(mut tried) = Tried::new(rt.alloc(), 0, 16_777_216, 6, 400) else {
         return Ok(assert!(rt; false));
     };
-    assert_eq!(rt; tried.add(&create())?, Ok(()));
+    assert_eq!(rt; tried.add(&create()), Ok(()));
     // a write and a sync, then a write, a sync, the gate's write and a sync
     assert_eq!(rt; tried.disk.moments(), 12);
-    for moment in 4..13 {
-        for tear in TEARS {
-            let left = tried.left(moment, tear)?;
-            let with = left == Ok(WITH);
-            let without = left == Ok(WITHOUT);
-            let is_known = (moment > 8 || without) && (moment < 12 || with);
-            assert!(rt; is_known && (with || without), "moment {moment}, {tear:?}");
+    assert_eq!(rt; first_part(&tried), None);
+    assert_eq!(rt; first_other(&tried), None);
+    // No call is left in the disk's record: the bank stops.
+    assert_eq!(rt;
+        tried.add_text(1),
+        Err(AppendFault::Device(DeviceFault::Write))
+    );
+    assert_eq!(rt; tried.add_text(1), Err(AppendFault::Stopped));
+    Ok(())
+}
+
+/// Bytes that are written to a bank with one group, from that place on, and what it is read as.
+const CHANGES: [(u64, &[u8], Result<u32, BankFault>); 9] = [
+    // the first letter of the header; the number of its format; a snapshot that ends behind the bank
+    (8192, &[80], Err(BankFault::Damaged(8192))),
+    (8200, &[2], Err(BankFault::Damaged(8192))),
+    (8208, &[0, 0, 0, 1], Err(BankFault::Damaged(8192))),
+    // another library is one too
+    (8224, &[109], Ok(WITH)),
+    // the next number 0
+    (8503, &[0, 0, 0, 0], Err(BankFault::Damaged(8503))),
+    // no length; a length that ends behind the bank; an event of no kind
+    (8512, &[0, 0, 0, 0], Err(BankFault::Damaged(8511))),
+    (8512, &[0, 0, 0, 1], Err(BankFault::Damaged(8511))),
+    (8516, &[9], Err(BankFault::Damaged(8511))),
+    // a gate that is not open
+    (8511, &[7], Ok(WITHOUT)),
+];
+
+/// The first of these that is told otherwise: its place, and its first byte.
+fn first_untold(tried: &Tried) -> Option<(u64, u8)> {
+    for (at, bytes, wanted) in CHANGES {
+        if tried.changed(at, bytes) != wanted {
+            return Some((at, *bytes.first().unwrap_or(&0)));
         }
     }
-    for (moment, tear, wanted) in GATES {
-        assert_eq!(rt;
-            tried.left(moment, tear)?,
-            Ok(wanted),
-            "moment {moment}, {tear:?}"
-        );
-    }
-    // No call is left in the disk's record: the bank stops.
-    assert!(rt; matches!(tried.add_text(1)?, Err(AppendFault::Device(_))));
-    assert_eq!(rt; tried.add_text(1)?, Err(AppendFault::Stopped));
-    Ok(())
+    None
 }
 
 #[test]
@@ -286,36 +323,14 @@ fn damage_is_told_by_its_place(rt: HostRuntime) -> Result<(), Fail> {
     let Ok(mut tried) = Tried::new(rt.alloc(), 8192, 16_785_408, 20, 800) else {
         return Ok(assert!(rt; false));
     };
-    assert_eq!(rt; tried.add(&create())?, Ok(()));
-    let rows: [(u64, &[u8], Result<Seen, BankFault>); 9] = [
-        // the first letter of the header; the number of its format; a snapshot that ends behind the bank
-        (8192, &[80], Err(BankFault::Damaged(8192))),
-        (8200, &[2], Err(BankFault::Damaged(8192))),
-        (8208, &[0, 0, 0, 1], Err(BankFault::Damaged(8192))),
-        // another library is one too
-        (8224, &[109], Ok(WITH)),
-        // the next number 0
-        (8503, &[0, 0, 0, 0], Err(BankFault::Damaged(8503))),
-        // no length; a length that ends behind the bank; an event of no kind
-        (8512, &[0, 0, 0, 0], Err(BankFault::Damaged(8511))),
-        (8512, &[0, 0, 0, 1], Err(BankFault::Damaged(8511))),
-        (8516, &[9], Err(BankFault::Damaged(8511))),
-        // a gate that is not open
-        (8511, &[7], Ok(WITHOUT)),
-    ];
-    for (at, bytes, wanted) in rows {
-        assert_eq!(rt;
-            tried.changed(at, bytes)?,
-            wanted,
-            "bytes {bytes:?} at {at}"
-        );
-    }
+    assert_eq!(rt; tried.add(&create()), Ok(()));
+    assert_eq!(rt; first_untold(&tried), None);
     // an event that does not apply: the object 1 is there
-    assert_eq!(rt; tried.add(&create())?, Ok(()));
-    let again = tried.left(tried.disk.moments(), Tear::Kept)?;
+    assert_eq!(rt; tried.add(&create()), Ok(()));
+    let again = tried.left(tried.disk.moments(), Tear::Kept);
     assert_eq!(rt; again, Err(BankFault::Damaged(8537)));
     // the library alone is read
-    assert_eq!(rt; tried.library()?, Ok(279));
+    assert_eq!(rt; tried.library(), Ok(279));
     Ok(())
 }
 

@@ -11,7 +11,7 @@ use Rattle.oa_typelib.specs.MemberValues.{MemberValue}
 use Rattle.oa_typelib.specs.declared.access.Kind.{Kind}
 
 -- what holds of the second answer, whatever the first one is
-if_both : {A B : Type 0} (P : B → Type 0) (first : Result A BindFault) (next : A → Result B BindFault) → ((x : A) → first ≡ Ok x → IfOk (next x) P) → IfOk (first >>= next) P
+pub if_both : {A B : Type 0} (P : B → Type 0) (first : Result A BindFault) (next : A → Result B BindFault) → ((x : A) → first ≡ Ok x → IfOk (next x) P) → IfOk (first >>= next) P
 if_both P (Ok x) next h = h x refl
 if_both P (Err fault) next h = tt
 

@@ -7,3 +7,8 @@ pub mod Added
 pub mod Refused
 pub mod Keys
 pub mod Reached
+pub mod Bound
+pub mod Fitting
+pub mod Planned
+pub mod InMemory
+pub mod Planning

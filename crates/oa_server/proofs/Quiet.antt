@@ -1,5 +1,5 @@
 -- A reply other than S_OK leaves no trace.
-use Rattle.std.proofs.Common.{◌≡◌, ℕ, ◌==◌, Bool, true, false, List, [], ◌∷◌, None, Result, Ok, Err, refl, sym, ap, ◌∙◌, subst, inl, inr, true≢false}
+use Rattle.std.proofs.Common.{◌≡◌, ℕ, ◌==◌, Bool, true, false, List, [], ◌∷◌, Result, Ok, Err, refl, sym, ap, ◌∙◌, subst, inl, inr, true≢false}
 use Rattle.std.specs.Prelude.{◌&&◌, not, if◌then◌else◌}
 use Rattle.std.proofs.lemmas.Bool.Decides.{eqb_tells}
 use Rattle.oa_record.specs.declared.request.Request.{Request}
@@ -11,7 +11,6 @@ use Rattle.oa_table.specs.Tables.{TableValue}
 use Rattle.oa_server.specs.declared.decision.Decision.{Decision}
 use Rattle.oa_server.specs.declared.decision.Decision.TheVariants.{Answer, Change, Relock}
 use Rattle.oa_server.specs.declared.refusal.Refusal.{Refusal}
-use Rattle.oa_server.specs.declared.decision.LockChange.{LockChange}
 use Rattle.oa_server.specs.Decisions.{IsQuiet, Outcome, after_outcome, changed, outcome_of, relocked, relocking}
 use Rattle.oa_server.specs.States.{State}
 use Rattle.oa_server.specs.Steps.{decided, outcome, reply_of}

@@ -1,5 +1,5 @@
 -- Where a change that was decided may want memory, its request may.
-use Rattle.std.proofs.Common.{◌≡◌, ℕ, Bool, true, false, List, Result, Ok, Err, IsOk, is_ok, refl, sym, ap, ◌∙◌, true≢false}
+use Rattle.std.proofs.Common.{◌≡◌, ℕ, Bool, true, List, Result, Ok, Err, IsOk, is_ok, refl, ap, ◌∙◌}
 use Rattle.oa_record.specs.declared.request.Request.{Request}
 use Rattle.oa_record.specs.declared.request.Request.TheVariants as requests
 use Rattle.oa_table.specs.declared.event.Event.{Event}
@@ -8,7 +8,7 @@ use Rattle.oa_table.specs.Tables.{TableValue}
 use Rattle.oa_server.specs.declared.decision.Decision.{Decision}
 use Rattle.oa_server.specs.declared.decision.Decision.TheVariants.{Answer, Change, Relock}
 use Rattle.oa_server.specs.declared.refusal.Refusal.{Refusal}
-use Rattle.oa_server.specs.Create.{class_found, creation}
+use Rattle.oa_server.specs.Create.{class_found}
 use Rattle.oa_server.specs.Refusals.{◌>>=◌}
 use Rattle.oa_server.specs.States.{State}
 use Rattle.oa_server.specs.Steps.{decided, takes_memory}

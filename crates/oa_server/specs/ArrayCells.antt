@@ -28,7 +28,7 @@ use Rattle.oa_table.specs.declared.name.CellName.{CellName}
 use Rattle.oa_table.specs.Faults.{code_of}
 use Rattle.oa_table.specs.Tables.{cell_in, object_at}
 use Rattle.oa_server.specs.declared.refusal.Refusal.{Refusal}
-use Rattle.oa_server.specs.declared.server.cell.BoundCell.{BoundCell}
+use Rattle.oa_server.specs.declared.host.cell.BoundCell.{BoundCell}
 use Rattle.oa_server.specs.Invoke.{or_zero}
 use Rattle.oa_server.specs.Refusals.{◌>>=◌, known, refused, unless}
 use Rattle.oa_server.specs.States.{State}

@@ -1,11 +1,10 @@
 -- The cell of a property that a call names, or the first refusal (MS-OAUT section 3.1.4.4; the order of the refusals is this project's
 -- choice). What an INVOKE reads or puts is such a cell, and so is what a request on an array's elements or locks is about.
-use Rattle.std.specs.Prelude.{◌≡◌, ℕ, ◌==◌, if◌then◌else◌, List, Option, Result, Ok, Err}
+use Rattle.std.specs.Prelude.{◌≡◌, ℕ, ◌==◌, if◌then◌else◌, List, Result, Ok, Err}
 use Rattle.oa_model.specs.Codes.{e_outofmemory}
 use Rattle.oa_bind.specs.declared.fault.BindFault.{BindFault}
 use Rattle.oa_bind.specs.Bindings.{bound_to}
 use Rattle.oa_bind.specs.Calls.{CallValue}
-use Rattle.oa_bind.specs.Given.{Given}
 use Rattle.oa_record.specs.declared.request.Call.{Call}
 use Rattle.oa_record.specs.declared.request.CallHead.{CallHead}
 use Rattle.oa_table.specs.declared.name.CellName.{CellName}
@@ -21,7 +20,7 @@ use Rattle.oa_typelib.specs.Members.{member_in}
 use Rattle.oa_server.specs.declared.decision.Undecided.{Undecided}
 use Rattle.oa_server.specs.declared.decision.Undecided.TheVariants.{Refused, OutOfMemory}
 use Rattle.oa_server.specs.declared.refusal.Refusal.{Refusal}
-use Rattle.oa_server.specs.declared.server.cell.BoundCell.{BoundCell}
+use Rattle.oa_server.specs.declared.host.cell.BoundCell.{BoundCell}
 use Rattle.oa_server.specs.Interfaces.{interface_found}
 use Rattle.oa_server.specs.Refusals.{◌>>=◌, refused}
 use Rattle.oa_server.specs.States.{State}

@@ -8,7 +8,7 @@ use Rattle.oa_typelib.specs.declared.access.Access.TheVariants.{Get}
 use Rattle.oa_server.specs.declared.decision.Decision.{Decision}
 use Rattle.oa_server.specs.declared.decision.Decision.TheVariants.{Answer}
 use Rattle.oa_server.specs.declared.refusal.Refusal.{Refusal}
-use Rattle.oa_server.specs.declared.server.cell.BoundCell.{BoundCell}
+use Rattle.oa_server.specs.declared.host.cell.BoundCell.{BoundCell}
 use Rattle.oa_server.specs.ArrayCells.{element_in}
 use Rattle.oa_server.specs.Cells.{cell_called}
 use Rattle.oa_server.specs.Refusals.{◌>>=◌}

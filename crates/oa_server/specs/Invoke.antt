@@ -13,7 +13,7 @@ use Rattle.oa_table.specs.Tables.{cell_in, object_at}
 use Rattle.oa_server.specs.declared.decision.Decision.{Decision}
 use Rattle.oa_server.specs.declared.decision.Decision.TheVariants.{Answer, Change}
 use Rattle.oa_server.specs.declared.refusal.Refusal.{Refusal}
-use Rattle.oa_server.specs.declared.server.cell.BoundCell.{BoundCell}
+use Rattle.oa_server.specs.declared.host.cell.BoundCell.{BoundCell}
 use Rattle.oa_server.specs.Cells.{cell_called}
 use Rattle.oa_server.specs.Refusals.{◌>>=◌}
 use Rattle.oa_server.specs.States.{State}

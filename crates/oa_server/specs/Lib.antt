@@ -17,5 +17,7 @@ pub mod Unlock
 pub mod Listing
 pub mod Steps
 pub mod Turns
+pub mod Plans
+pub mod Storages
 pub mod Serving
 pub mod Traces

@@ -1,5 +1,5 @@
 -- The step of a request: its outcome, and so its reply and the state after it. A request that is refused changes nothing.
-use Rattle.std.specs.Prelude.{ℕ, Bool, true, is_ok, List, [], Option, Result}
+use Rattle.std.specs.Prelude.{ℕ, Bool, true, is_ok, [], Option, Result}
 use Rattle.oa_model.specs.declared.hresult.HResult.{HResult}
 use Rattle.oa_record.specs.declared.request.Request.{Request}
 use Rattle.oa_record.specs.declared.request.Request.TheVariants as requests

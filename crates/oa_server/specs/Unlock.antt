@@ -7,7 +7,7 @@ use Rattle.oa_server.specs.declared.decision.Decision.{Decision}
 use Rattle.oa_server.specs.declared.decision.Decision.TheVariants.{Relock}
 use Rattle.oa_server.specs.declared.decision.LockChange.TheVariants.{Unlock}
 use Rattle.oa_server.specs.declared.refusal.Refusal.{Refusal}
-use Rattle.oa_server.specs.declared.server.cell.BoundCell.{BoundCell}
+use Rattle.oa_server.specs.declared.host.cell.BoundCell.{BoundCell}
 use Rattle.oa_server.specs.ArrayCells.{locks_in}
 use Rattle.oa_server.specs.Cells.{cell_called}
 use Rattle.oa_server.specs.Refusals.{◌>>=◌}

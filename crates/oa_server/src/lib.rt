@@ -3,10 +3,13 @@
 
 mod decision;
 mod fields;
+mod host;
 pub mod laws;
+mod plan;
 mod refusal;
 mod server;
 mod serving;
+mod storage;
 
 pub use oa_frame::{End, Served};
 pub use server::Server;

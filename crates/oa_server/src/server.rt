@@ -1,84 +1,57 @@
-//! The server: a library and a table, and one turn after another.
-ghost use Rattle.std.specs.Prelude.{◌≡◌, ◌≤◌, [], length, true, map, IsOk, IfOk, OnOk, OnErr};
-ghost use Rattle.oa_record.specs.Asks.{tag_at};
-ghost use Rattle.oa_server.specs.Decisions.{ChangesNoLocks, Decides, Makes, Relocks, after_outcome, changed, relocked, relocking};
-ghost use Rattle.oa_server.specs.Steps.{after, decided, reply_of, reply_with, takes_memory};
+//! The server: a library and a table in memory, and where the table is kept.
+ghost use Rattle.std.specs.Prelude.{◌≡◌, ◌≤◌, map, IfOk, OnErr};
+ghost use Rattle.oa_server.specs.Storages.{Answers, InMemory, disk_of};
 ghost use Rattle.oa_server.specs.Turns.{Run, Turn};
-ghost use Rattle.oa_table.specs.Events.{BringsNoLocks, applied};
 ghost use Rattle.oa_table.specs.Tables.{first_table};
 
-use crate::decision::{Decision, LockChange, Undecided};
-use crate::fields::Fields;
-use crate::refusal::Refusal;
-use oa_model::HResult;
-use oa_record::{Reply, Request, read_request, tag_of};
-use oa_table::{CellName, Event, Table, TableFault};
+use crate::host::Host;
+use crate::storage::Storage;
+use oa_disk::{Disk, NoDisk};
+use oa_record::Reply;
+#[cfg(test)]
+use oa_table::Table;
 use oa_typelib::Library;
 use std::alloc::{AllocError, Global};
-use std::marker::Model;
 
-mod array_cell;
-mod cell;
-mod create;
-mod get_element;
-mod invoke;
-mod listing;
-mod lock;
-mod look_ups;
-mod put_element;
-mod redimension;
-mod release;
-mod type_info;
-mod unlock;
-
-/// An automation object server in memory.
+/// An automation object server: in memory, or over a disk that keeps its table.
 #[derive(Drop)]
-pub struct Server {
-    alloc: Global,
-    library: Library,
-    table: Table,
+pub struct Server<D: Disk> {
+    pub(crate) host: Host,
+    pub(crate) storage: Storage<D>,
 }
 
-impl Model for Server {
-    ghost use Rattle.oa_server.specs.States.{State};
-
-    ghost Value = { State };
-
-    ghost view = { λ s. record { library = s.library; table = s.table } };
-}
-
-impl Server {
-    /// A server of this library, with no objects.
-    pub fn in_memory(alloc: Global, library: Library) -> Server
-        ensures { result ≡ record { library = library; table = first_table } }
+impl Server<NoDisk> {
+    /// A server of this library in memory, with no objects. It makes no call of a disk.
+    pub fn in_memory(alloc: Global, library: Library) -> Server<NoDisk>
+        ensures state { result.host ≡ record { library = library; table = first_table } }
+        ensures memory { InMemory result.storage }
     {
         Server {
-            alloc,
-            library,
-            table: Table::new(alloc),
+            host: Host::new(alloc, library),
+            storage: Storage::Memory(NoDisk::new()),
+        }
+    }
+}
+
+impl<D: Disk> Server<D> {
+    /// The disk as it is. This makes no call.
+    pub fn into_disk(self) -> D
+        ensures { result ≡ disk_of self.storage }
+    {
+        let Server { storage, .. } = self;
+        match storage {
+            Storage::Memory(disk) => disk,
         }
     }
 
     /// Answers one body. Want of memory is told in the reply, which then leaves the server as it was.
     pub fn answer(&mut self, body: &[u8]) -> Reply
-        ensures { Turn self.old body.now result self.new }
+        ensures answers { Answers self.old.storage self.new.storage self.old.host body.now result self.new.host }
+        ensures memory { InMemory self.old.storage → Turn self.old.host body.now result self.new.host }
     {
-        self.turn(body)
-    }
-
-    /// One turn: what a call for one body and one for many have in common.
-    pub(crate) fn turn(&mut self, body: &[u8]) -> Reply
-        ensures { Turn self.old body.now result self.new }
-    {
-        let tag = tag_of(body);
-        let request = match read_request(self.alloc, body) {
-            Ok(request) => request,
-            Err(fault) => return Reply::bare(self.alloc, tag, fault.code(), fault.index()),
-        };
-        let Ok(reply) = self.perform(tag, request) else {
-            return Reply::bare(self.alloc, tag, HResult::E_OUTOFMEMORY, None);
-        };
-        reply
+        match &mut self.storage {
+            Storage::Memory(_) => self.host.turn(body),
+        }
     }
 
     /// Answers bodies in turn. `group` is from 1 to 1,024 and makes no difference here: without a disk every request is a group of its own.
@@ -86,148 +59,31 @@ impl Server {
     pub fn run(&mut self, bodies: &[Vec<u8>], group: usize) -> Result<Vec<Reply>, AllocError>
         requires positive { 1 ≤ group }
         requires small { group ≤ 1024 }
-        ensures run { IfOk result (λ replies. Run self.old (map (λ b. b.items) bodies.now) replies.items self.new) }
+        ensures memory { InMemory self.old.storage → IfOk result (λ replies. Run self.old.host (map (λ b. b.items) bodies.now) replies.items self.new.host) }
         ensures err { OnErr result (self.new ≡ self.old) }
     {
-        let mut replies = Vec::with_capacity(self.alloc, bodies.len())?;
-        'bodies: for body in bodies {
-            let reply = self.turn(body);
-            replies.push_reserved(reply);
+        let _ = group;
+        match &mut self.storage {
+            Storage::Memory(_) => self.host.run(bodies),
         }
-        Ok(replies)
     }
 
     /// The allocator that the server was made with.
     pub(crate) fn allocator(&self) -> Global {
-        self.alloc
-    }
-
-    /// Carries out a request: decides it, and then makes the change. An Err changes nothing, and never stands in place of a refused CREATE.
-    #[tactic(auto, using(crate::proofs::Wants::wants))]
-    fn perform(&mut self, tag: u32, request: Request) -> Result<Reply, AllocError>
-        ensures reply { IfOk result (λ reply. reply ≡ reply_of self.old tag request) }
-        ensures state { OnOk result (self.new ≡ after self.old request) }
-        ensures err { OnErr result (self.new ≡ self.old) }
-        ensures may { OnErr result (takes_memory self.old request ≡ true) }
-    {
-        match self.decide(request) {
-            Ok(Decision::Answer { code, fields }) => {
-                Ok(Reply::new(tag, code, None, fields.into_vec()))
-            }
-            Ok(Decision::Change { event, fields }) => self.change(tag, event, fields),
-            Ok(Decision::Relock { change, fields }) => Ok(self.relock(tag, change, fields)),
-            Err(Undecided::Refused(refusal)) => Ok(self.refuse(tag, refusal)),
-            Err(Undecided::OutOfMemory) => Err(AllocError),
-        }
-    }
-
-    /// What becomes of a request. Only reads.
-    fn decide(&self, request: Request) -> Result<Decision, Undecided>
-        ensures decided { Decides (decided self.now request) (takes_memory self.now request) result }
-        ensures unlocked { IfOk result ChangesNoLocks }
-    {
-        match request {
-            Request::Create { class } => self.creation(class),
-            Request::Release { object } => Ok(self.ending(object)),
-            Request::GetIds(call) => self.look_up(call),
-            Request::Invoke(call) => self.invocation(call),
-            Request::TypeInfo { index } => self.information(index),
-            Request::Objects => self.listing(),
-            Request::GetElement { call, indices } => self.element_got(call, indices),
-            Request::PutElement {
-                call,
-                indices,
-                value,
-            } => self.element_put(call, indices, value),
-            Request::Redimension { call, bound } => self.redimension(call, bound),
-            Request::Lock(call) => self.locking(call),
-            Request::Unlock(call) => self.unlocking(call),
-        }
-    }
-
-    /// Makes a change and tells it with these fields, or why the table refuses it. An Err changes nothing.
-    fn change(&mut self, tag: u32, event: Event, fields: Fields) -> Result<Reply, AllocError>
-        requires { BringsNoLocks event }
-        ensures reply { IfOk result (λ reply. reply ≡ reply_with tag (changed event fields (applied event self.old.table))) }
-        ensures state { OnOk result (self.new ≡ after_outcome self.old (changed event fields (applied event self.old.table))) }
-        ensures err { OnErr result (self.new ≡ self.old) }
-        ensures may { OnErr result (IsOk (applied event self.old.table)) }
-    {
-        match self.apply(event) {
-            Ok(()) => Ok(Reply::new(tag, HResult::S_OK, None, fields.into_vec())),
-            Err(TableFault::Memory) => Err(AllocError),
-            Err(fault) => Ok(Reply::bare(self.alloc, tag, fault.code(), None)),
-        }
-    }
-
-    /// Makes a change: the only call that changes what the table holds.
-    fn apply(&mut self, event: Event) -> Result<(), TableFault>
-        requires { BringsNoLocks event }
-        ensures { Makes event self.old self.new result }
-    {
-        match self.table.apply(event) {
-            Ok(()) => Ok(()),
-            Err((_, fault)) => Err(fault),
-        }
-    }
-
-    /// Changes the locks of an array and tells it with these fields, or why the table refuses it. Takes no memory.
-    fn relock(&mut self, tag: u32, change: LockChange, fields: Fields) -> Reply
-        ensures reply { result ≡ reply_with tag (relocking change fields (relocked change self.old.table)) }
-        ensures state { self.new ≡ after_outcome self.old (relocking change fields (relocked change self.old.table)) }
-    {
-        match self.change_locks(change) {
-            Ok(()) => Reply::new(tag, HResult::S_OK, None, fields.into_vec()),
-            Err(fault) => Reply::bare(self.alloc, tag, fault.code(), None),
-        }
-    }
-
-    /// Changes the locks of an array.
-    fn change_locks(&mut self, change: LockChange) -> Result<(), TableFault>
-        ensures { Relocks change self.old self.new result }
-    {
-        match change {
-            LockChange::Lock(name) => self.lock(name),
-            LockChange::Unlock(name) => self.unlock(name),
-        }
-    }
-
-    fn lock(&mut self, name: CellName) -> Result<(), TableFault>
-        ensures { Relocks (LockChange.Lock name) self.old self.new result }
-    {
-        match self.table.lock(&name) {
-            Ok(_) => Ok(()),
-            Err(fault) => Err(fault),
-        }
-    }
-
-    fn unlock(&mut self, name: CellName) -> Result<(), TableFault>
-        ensures { Relocks (LockChange.Unlock name) self.old self.new result }
-    {
-        match self.table.unlock(&name) {
-            Ok(_) => Ok(()),
-            Err(fault) => Err(fault),
-        }
-    }
-
-    /// A refusal as a reply.
-    fn refuse(&self, tag: u32, refusal: Refusal) -> Reply
-        ensures { result ≡ record { tag = tag; code = refusal.code; index = refusal.index; body = [] } }
-    {
-        Reply::bare(self.alloc, tag, refusal.code, refusal.index)
+        self.host.allocator()
     }
 }
 
 #[cfg(test)]
-impl Server {
+impl Server<NoDisk> {
     /// A server of this library and this table.
-    pub(crate) fn over(alloc: Global, library: Library, table: Table) -> Server
-        ensures { result ≡ record { library = library; table = table } }
+    pub(crate) fn over(alloc: Global, library: Library, table: Table) -> Server<NoDisk>
+        ensures state { result.host ≡ record { library = library; table = table } }
+        ensures memory { InMemory result.storage }
     {
         Server {
-            alloc,
-            library,
-            table,
+            host: Host::over(alloc, library, table),
+            storage: Storage::Memory(NoDisk::new()),
         }
     }
 }

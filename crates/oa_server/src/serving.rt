@@ -3,17 +3,21 @@ ghost use Rattle.std.specs.Prelude.{◌≡◌, ◌≤◌, IfOk, OnErr, false, le
 ghost use Rattle.oa_stream.specs.Ahead.{ahead};
 ghost use Rattle.oa_frame.specs.Framings.{frames, hex_lines, records};
 ghost use Rattle.oa_frame.specs.Sessions.{Session};
-ghost use Rattle.oa_server.specs.Serving.{last_written, turn_written};
+ghost use Rattle.oa_server.specs.Serving.{last_written, none_held, turn_written};
+ghost use Rattle.oa_server.specs.Storages.{InMemory, answer_written, none_kept};
 
 use crate::Server;
+use oa_disk::Disk;
 use oa_frame::{Framing, Responder, Served, put_reply, serve};
 use oa_model::{HResult, MAX_LINE_CHARACTERS, MAX_REQUEST_BYTES};
 use oa_record::Reply;
 use oa_stream::{Ahead, Sink, Source, Unwritten};
 use std::alloc::{AllocError, Global};
 
-impl Responder for Server {
-    ghost turn = { turn_written };
+impl<D: Disk> Responder for Server<D> {
+    ghost turn = { answer_written };
+
+    ghost ends = { none_kept };
 
     fn respond<W: Sink>(
         &mut self,
@@ -24,9 +28,15 @@ impl Responder for Server {
         let reply = self.answer(body);
         put_reply(framing, writer, &reply.head(), reply.body())
     }
+
+    fn finish<W: Sink>(&mut self, _: Framing, _: &mut W) -> Result<(), Unwritten> {
+        Ok(())
+    }
+
+    fn abandon(&mut self) {}
 }
 
-impl Server {
+impl<D: Disk> Server<D> {
     /// Answers the bodies of a reader, a line of hexadecimal digits each, by lines on a writer. `group` is from 1 to 1,024; until requests
     /// share a commit every request is a group of its own: its reply is written before the next line is read. All replies are handed on before
     /// each wait for more input. Err only where memory is refused before anything was read.
@@ -40,8 +50,10 @@ impl Server {
         requires small { group ≤ 1024 }
         requires unbroken { (ahead R.input reader.old).faulted ≡ false }
         requires unbroken_writer { (W.out writer.old).broken ≡ false }
-        ensures session { IfOk result (λ served. Session hex_lines turn_written last_written (ahead R.input reader.old) (ahead R.input reader.new)
+        ensures session { IfOk result (λ served. Session hex_lines answer_written none_kept last_written (ahead R.input reader.old) (ahead R.input reader.new)
             (W.out writer.old) (W.out writer.new) self.old self.new served) }
+        ensures memory { InMemory self.old.storage → IfOk result (λ served. Session hex_lines turn_written none_held last_written (ahead R.input reader.old) (ahead R.input reader.new)
+            (W.out writer.old) (W.out writer.new) self.old.host self.new.host served) }
         ensures input { OnErr result (ahead R.input reader.new ≡ ahead R.input reader.old) }
         ensures output { OnErr result (W.out writer.new ≡ W.out writer.old) }
         ensures state { OnErr result (self.new ≡ self.old) }
@@ -61,8 +73,10 @@ impl Server {
         requires small { group ≤ 1024 }
         requires unbroken { (ahead R.input reader.old).faulted ≡ false }
         requires unbroken_writer { (W.out writer.old).broken ≡ false }
-        ensures session { IfOk result (λ served. Session records turn_written last_written (ahead R.input reader.old) (ahead R.input reader.new)
+        ensures session { IfOk result (λ served. Session records answer_written none_kept last_written (ahead R.input reader.old) (ahead R.input reader.new)
             (W.out writer.old) (W.out writer.new) self.old self.new served) }
+        ensures memory { InMemory self.old.storage → IfOk result (λ served. Session records turn_written none_held last_written (ahead R.input reader.old) (ahead R.input reader.new)
+            (W.out writer.old) (W.out writer.new) self.old.host self.new.host served) }
         ensures input { OnErr result (ahead R.input reader.new ≡ ahead R.input reader.old) }
         ensures output { OnErr result (W.out writer.new ≡ W.out writer.old) }
         ensures state { OnErr result (self.new ≡ self.old) }
@@ -80,8 +94,10 @@ impl Server {
     ) -> Result<Served, AllocError>
         requires unbroken { (ahead R.input reader.old).faulted ≡ false }
         requires unbroken_writer { (W.out writer.old).broken ≡ false }
-        ensures session { IfOk result (λ served. Session (frames framing) turn_written last_written (ahead R.input reader.old) (ahead R.input reader.new)
+        ensures session { IfOk result (λ served. Session (frames framing) answer_written none_kept last_written (ahead R.input reader.old) (ahead R.input reader.new)
             (W.out writer.old) (W.out writer.new) self.old self.new served) }
+        ensures memory { InMemory self.old.storage → IfOk result (λ served. Session (frames framing) turn_written none_held last_written (ahead R.input reader.old) (ahead R.input reader.new)
+            (W.out writer.old) (W.out writer.new) self.old.host self.new.host served) }
         ensures input { OnErr result (ahead R.input reader.new ≡ ahead R.input reader.old) }
         ensures output { OnErr result (W.out writer.new ≡ W.out writer.old) }
         ensures state { OnErr result (self.new ≡ self.old) }

@@ -3,6 +3,7 @@ ghost use Rattle.std.specs.Prelude.{◌≡◌, ◌≤◌, false};
 
 use crate::tests::{Halting, Refusing, Small};
 use crate::{End, Served, Server};
+use oa_disk::NoDisk;
 use oa_idl::parse;
 use oa_record::Reply;
 use oa_stream::{Ahead, Gathered, Inlet, Outlet};
@@ -222,12 +223,12 @@ const LAST: [(&str, &str); 4] = [
 ];
 
 /// A server of the library of a text.
-pub(crate) fn server_of(alloc: Global, text: &str) -> Result<Server, Fail> {
+pub(crate) fn server_of(alloc: Global, text: &str) -> Result<Server<NoDisk>, Fail> {
     let tree = parse(alloc, text)?;
     Ok(Server::in_memory(alloc, check(alloc, tree)?))
 }
 
-fn server(alloc: Global) -> Result<Server, Fail> {
+fn server(alloc: Global) -> Result<Server<NoDisk>, Fail> {
     server_of(alloc, SMALL)
 }
 
@@ -287,7 +288,7 @@ fn push_reply(alloc: Global, text: &mut String, reply: &Reply) -> Result<(), Fai
 /// What `answer` replies to the requests of some rows, one after another.
 pub(crate) fn answered(
     alloc: Global,
-    server: &mut Server,
+    server: &mut Server<NoDisk>,
     rows: &[(&str, &str)],
 ) -> Result<String, Fail> {
     let mut text = String::new(alloc);
@@ -301,7 +302,7 @@ pub(crate) fn answered(
 /// What `run` replies to them.
 fn ran(
     alloc: Global,
-    server: &mut Server,
+    server: &mut Server<NoDisk>,
     rows: &[(&str, &str)],
     group: usize,
 ) -> Result<String, Fail>

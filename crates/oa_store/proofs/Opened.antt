@@ -1,5 +1,5 @@
 -- What an opening finds.
-use Rattle.std.proofs.Common.{◌≡◌, ◌≢◌, ⊎_elim, ◌∙◌, ℕ, ◌+◌, ◌<◌, ◌≤◌, List, Option, Some, length, sym, subst, arith}
+use Rattle.std.proofs.Common.{◌≡◌, ⊎_elim, ◌∙◌, ℕ, List, Option, Some, length, sym, subst, arith}
 use Rattle.oa_table.specs.Tables.{TableValue}
 use Rattle.oa_journal.specs.Bank.{from_place, IsBank, HasLibrary}
 use Rattle.oa_journal.specs.Damages.{bank_library, one_library, not_damaged}

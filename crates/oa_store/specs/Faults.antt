@@ -38,13 +38,13 @@ IfDamaged (Damaged place) P = P place
 IfDamaged (Device fault) P = ⊤
 IfDamaged Memory P = ⊤
 
--- one that speaks of the device is given only where a call has failed
+-- one that speaks of the device is given only where a call has failed, and any other where none has
 abbrev pub IsCaused : ℕ → ℕ → OpenFault → Type 0
-IsCaused before now NotAStore = ⊤
-IsCaused before now LibraryDiffers = ⊤
-IsCaused before now (Damaged place) = ⊤
+IsCaused before now NotAStore = now ≡ before
+IsCaused before now LibraryDiffers = now ≡ before
+IsCaused before now (Damaged place) = now ≡ before
 IsCaused before now (Device fault) = now < 2 ^ 64 - 1 → before < now
-IsCaused before now Memory = ⊤
+IsCaused before now Memory = now ≡ before
 
 -- Its bank begins as one of another library.
 pub record IsOther (contents library : List ℕ) : Type 0 where

@@ -1,6 +1,6 @@
 //! Making a store.
 ghost use Rattle.std.specs.Prelude.{◌≡◌, ◌≢◌, ◌⊎◌, ◌↔◌, ◌+◌, ◌-◌, ◌^◌, ◌<◌, ◌≤◌, List, ℕ, IsTrue, length, slice_index, OnOk, IfErr, IsErrOf};
-ghost use Rattle.oa_disk.specs.Disk.{LeavesOnly, HasCause, Torn};
+ghost use Rattle.oa_disk.specs.Disk.{LeavesOnly, Counts, Torn};
 ghost use Rattle.oa_disk.specs.declared.disk.DeviceFault.{DeviceFault};
 ghost use Rattle.oa_table.specs.Tables.{first_table};
 ghost use Rattle.oa_store.specs.declared.fault.FormatFault.{FormatFault};
@@ -24,7 +24,7 @@ fn close<D: Disk>(disk: &mut D) -> Result<(), DeviceFault>
     ensures done { OnOk result (IsTrue (D.is_honest disk.old) → (c : List ℕ) → D.image disk.new c → slice_index c 0 ≡ 0) }
     ensures size { D.size_of disk.new ≡ D.size_of disk.old }
     ensures honest { D.is_honest disk.new ≡ D.is_honest disk.old }
-    ensures cause { HasCause (D.failures_of disk.old) (D.failures_of disk.new) result }
+    ensures counts { Counts (D.failures_of disk.old) (D.failures_of disk.new) result }
     ensures fault { IfErr result (λ e. e ≡ DeviceFault.Write) }
 {
     disk.write_at(0, &[0])?;
@@ -40,7 +40,7 @@ fn fill<D: Disk>(disk: &mut D, bytes: &[u8]) -> Result<(), DeviceFault>
     ensures done { OnOk result (IsTrue (D.is_honest disk.old) → (c : List ℕ) → D.image disk.new c → HasBank bytes.now c × (slice_index c 0 ≡ 1)) }
     ensures size { D.size_of disk.new ≡ D.size_of disk.old }
     ensures honest { D.is_honest disk.new ≡ D.is_honest disk.old }
-    ensures cause { HasCause (D.failures_of disk.old) (D.failures_of disk.new) result }
+    ensures counts { Counts (D.failures_of disk.old) (D.failures_of disk.new) result }
     ensures fault { IfErr result (λ e. e ≡ DeviceFault.Write) }
 {
     disk.write_at(BANKS, bytes)?;
@@ -64,6 +64,7 @@ pub fn format<D: Disk>(alloc: Global, disk: &mut D, library: &[u8]) -> Result<()
         → (fault ≡ DeviceFault.Write) × (D.failures_of disk.new < 2 ^ 64 - 1 → D.failures_of disk.old < D.failures_of disk.new) }
     ensures size { D.size_of disk.new ≡ D.size_of disk.old }
     ensures honest { D.is_honest disk.new ≡ D.is_honest disk.old }
+    ensures unfailed { OnOk result (D.failures_of disk.new ≡ D.failures_of disk.old) }
     ensures failures { D.failures_of disk.old ≤ D.failures_of disk.new }
 {
     if disk.size() < STORE_BYTES {

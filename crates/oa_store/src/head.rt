@@ -1,6 +1,6 @@
 //! The bytes before the banks: the first one, and the selector.
 ghost use Rattle.std.specs.Prelude.{◌≡◌, ◌⊎◌, ◌+◌, ◌-◌, ◌^◌, ◌<◌, ◌≤◌, ℕ, List, IsTrue, slice_index, OnOk, IfOk, IfErr, IsErrOf};
-ghost use Rattle.oa_disk.specs.Disk.{HasCause, Only};
+ghost use Rattle.oa_disk.specs.Disk.{Counts, Only};
 ghost use Rattle.oa_store.specs.declared.fault.OpenFault.{OpenFault};
 ghost use Rattle.oa_store.specs.Faults.{IsEarly, IsCaused};
 ghost use Rattle.oa_store.specs.Reads.{WritesNothing};
@@ -36,7 +36,7 @@ fn read_byte<D: Disk>(disk: &mut D, at: u64) -> Result<u8, DeviceFault>
     ensures reads { IsTrue (D.is_honest disk.old) → WritesNothing D.image D.moment D.image_since disk.old disk.new }
     ensures size { D.size_of disk.new ≡ D.size_of disk.old }
     ensures honest { IsTrue (D.is_honest disk.new) → IsTrue (D.is_honest disk.old) }
-    ensures cause { HasCause (D.failures_of disk.old) (D.failures_of disk.new) result }
+    ensures counts { Counts (D.failures_of disk.old) (D.failures_of disk.new) result }
 {
     let mut bytes = [0];
     disk.read_at(at, &mut bytes)?;
@@ -56,6 +56,7 @@ pub(crate) fn find_bank<D: Disk>(disk: &mut D) -> Result<u8, OpenFault>
     ensures reads { IsTrue (D.is_honest disk.new) → WritesNothing D.image D.moment D.image_since disk.old disk.new }
     ensures size { D.size_of disk.new ≡ D.size_of disk.old }
     ensures honest { IsTrue (D.is_honest disk.new) → IsTrue (D.is_honest disk.old) }
+    ensures unfailed { OnOk result (D.failures_of disk.new ≡ D.failures_of disk.old) }
     ensures failures { D.failures_of disk.old ≤ D.failures_of disk.new }
     ensures cause { IfErr result (IsCaused (D.failures_of disk.old) (D.failures_of disk.new)) }
 {

@@ -44,6 +44,7 @@ fn read_library<D: Disk>(alloc: Global, disk: &mut D, bank: &mut Bank) -> Result
     ensures reads { IsTrue (D.is_honest disk.new) → WritesNothing D.image D.moment D.image_since disk.old disk.new }
     ensures size { D.size_of disk.new ≡ D.size_of disk.old }
     ensures honest { IsTrue (D.is_honest disk.new) → IsTrue (D.is_honest disk.old) }
+    ensures unfailed { OnOk result (D.failures_of disk.new ≡ D.failures_of disk.old) }
     ensures failures { D.failures_of disk.old ≤ D.failures_of disk.new }
 {
     match bank.read_library(alloc, disk) {
@@ -71,6 +72,7 @@ fn read_all<D: Disk>(
     ensures reads { IsTrue (D.is_honest disk.new) → WritesNothing D.image D.moment D.image_since disk.old disk.new }
     ensures size { D.size_of disk.new ≡ D.size_of disk.old }
     ensures honest { IsTrue (D.is_honest disk.new) → IsTrue (D.is_honest disk.old) }
+    ensures unfailed { OnOk result (D.failures_of disk.new ≡ D.failures_of disk.old) }
     ensures failures { D.failures_of disk.old ≤ D.failures_of disk.new }
 {
     match bank.read_all(alloc, disk) {
@@ -102,6 +104,7 @@ pub(crate) fn find_store<D: Disk>(
     ensures early { IfErr result (λ e. IsTrue (D.is_honest disk.new) → IsForeign (D.size_of disk.old) (D.contents disk.old) → IsEarly e) }
     ensures size { D.size_of disk.new ≡ D.size_of disk.old }
     ensures honest { IsTrue (D.is_honest disk.new) → IsTrue (D.is_honest disk.old) }
+    ensures unfailed { OnOk result (D.failures_of disk.new ≡ D.failures_of disk.old) }
     ensures cause { IfErr result (IsCaused (D.failures_of disk.old) (D.failures_of disk.new)) }
 {
     let chosen = match find_bank(disk) {
@@ -138,6 +141,7 @@ pub fn inspect<D: Disk>(alloc: Global, disk: &mut D) -> Result<(Vec<u8>, Table),
     ensures reads { IsTrue (D.is_honest disk.new) → WritesNothing D.image D.moment D.image_since disk.old disk.new }
     ensures size { D.size_of disk.new ≡ D.size_of disk.old }
     ensures honest { IsTrue (D.is_honest disk.new) → IsTrue (D.is_honest disk.old) }
+    ensures unfailed { OnOk result (D.failures_of disk.new ≡ D.failures_of disk.old) }
     ensures cause { IfErr result (IsCaused (D.failures_of disk.old) (D.failures_of disk.new)) }
 {
     let chosen = match find_bank(disk) {

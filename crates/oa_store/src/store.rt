@@ -65,6 +65,7 @@ impl<D: Disk> Store<D> {
         ensures honest { IfOk result (λ r. IsTrue (D.is_honest r.0.disk) → IsTrue (D.is_honest disk)) }
         ensures honest_err { IfErr result (λ e. IsTrue (D.is_honest e.0) → IsTrue (D.is_honest disk)) }
         ensures size { IfErr result (λ e. D.size_of e.0 ≡ D.size_of disk) }
+        ensures unfailed { IfOk result (λ r. D.failures_of r.0.disk ≡ D.failures_of disk) }
         ensures cause { IfErr result (λ e. IsCaused (D.failures_of disk) (D.failures_of e.0) e.1) }
     {
         let mut disk = disk;
@@ -98,6 +99,13 @@ impl<D: Disk> Store<D> {
         self.room() < AMPLE
     }
 
+    /// Whether a call of the device has failed, after which the store makes no further one.
+    pub fn has_stopped(&self) -> bool
+        ensures { result ≡ self.now.stopped }
+    {
+        self.stopped
+    }
+
     /// The disk as it is. This makes no call.
     pub fn into_disk(self) -> D
         ensures { result ≡ self.disk }
@@ -107,7 +115,7 @@ impl<D: Disk> Store<D> {
     }
 
     /// Adds a group of events, which stands in a frame with four free bytes before it and one behind. It takes no memory, and four calls
-    /// of the disk. After a refusal the free bytes may hold anything. After `Device`, and only then, the store has stopped.
+    /// of the disk. Of the frame, the free bytes alone may change. After `Device`, and only then, the store has stopped.
     ///
     /// That the group's events apply to the committed table is a premise of what the images hold, not a condition of the call.
     pub fn commit(&mut self, frame: &mut [u8]) -> Result<(), CommitFault>
@@ -122,6 +130,8 @@ impl<D: Disk> Store<D> {
         ensures done { OnOk result (IsTrue (D.is_honest self.old.disk)
             → Follows (IsCommitted self.old.chosen self.old.bank.gate (group_of frame.old)) (D.image self.old.disk) (D.image self.new.disk)) }
         ensures gate { OnOk result (self.new.bank.gate ≡ self.old.bank.gate + (5 + length (group_of frame.old))) }
+        ensures refused { OnErr result (self.new.bank.gate ≡ self.old.bank.gate) }
+        ensures kept { group_of frame.new ≡ group_of frame.old }
         ensures chosen { self.new.chosen ≡ self.old.chosen }
         ensures library { self.new.library.items ≡ self.old.library.items }
         ensures goes_on { OnOk result (self.new.stopped ≡ false) }
@@ -131,6 +141,7 @@ impl<D: Disk> Store<D> {
         ensures fault { (fault : DeviceFault) → IsErrOf result (CommitFault.Device fault) → fault ≡ DeviceFault.Write }
         ensures cause { IsErr result → self.old.stopped ≡ false → D.failures_of self.new.disk < 2 ^ 64 - 1 → D.failures_of self.old.disk < D.failures_of self.new.disk }
         ensures honest { D.is_honest self.new.disk ≡ D.is_honest self.old.disk }
+        ensures unfailed { OnOk result (D.failures_of self.new.disk ≡ D.failures_of self.old.disk) }
         ensures failures { D.failures_of self.old.disk ≤ D.failures_of self.new.disk }
     {
         if self.stopped {
@@ -164,6 +175,7 @@ impl<D: Disk> Store<D> {
         ensures gate { OnOk result (self.new.bank.gate ≡ first_gate self.old.library.items table.now) }
         ensures room { OnOk result (1572869 ≤ bank_bytes - self.new.bank.gate) }
         ensures chosen { OnOk result (self.new.chosen ≡ 1 - self.old.chosen) }
+        ensures refused { OnErr result ((self.new.chosen ≡ self.old.chosen) × (self.new.bank.gate ≡ self.old.bank.gate)) }
         ensures library { self.new.library.items ≡ self.old.library.items }
         ensures goes_on { OnOk result (self.new.stopped ≡ false) }
         ensures stopped { IsErrOf result CheckpointFault.Stopped ↔ (self.old.stopped ≡ true) }
@@ -172,6 +184,7 @@ impl<D: Disk> Store<D> {
         ensures device { (fault : DeviceFault) → IsErrOf result (CheckpointFault.Device fault) → (self.new.stopped ≡ true) × (fault ≡ DeviceFault.Write) }
         ensures cause { (fault : DeviceFault) → IsErrOf result (CheckpointFault.Device fault) → D.failures_of self.new.disk < 2 ^ 64 - 1 → D.failures_of self.old.disk < D.failures_of self.new.disk }
         ensures honest { D.is_honest self.new.disk ≡ D.is_honest self.old.disk }
+        ensures unfailed { OnOk result (D.failures_of self.new.disk ≡ D.failures_of self.old.disk) }
         ensures failures { D.failures_of self.old.disk ≤ D.failures_of self.new.disk }
     {
         if self.stopped {

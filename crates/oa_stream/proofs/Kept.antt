@@ -1,5 +1,5 @@
 -- Bytes kept back before a writer.
-use Rattle.std.proofs.Common.{◌≡◌, ℕ, List, [], ◌++◌, Result, Ok, Err, length, sym, ap, ◌∙◌, append_assoc, arith}
+use Rattle.std.proofs.Common.{◌≡◌, ℕ, ◌+◌, List, [], ◌++◌, Result, Ok, Err, length, sym, ap, ◌∙◌, append_assoc, arith}
 use Rattle.std.proofs.lemmas.List.{append-nil, length-append}
 use Rattle.oa_stream.specs.declared.sink.Unwritten.{Unwritten}
 use Rattle.oa_stream.specs.Sink.{Output, Writes, Breaks, Puts, Delivers}
@@ -13,6 +13,7 @@ back_writes o p back back' went bytes e w = record {
   whole = append_assoc o.kept back bytes ∙ ap (λ l. o.kept ++ l) e ∙ sym (append_assoc o.kept went back') ∙ ap (λ l. l ++ back') w.whole ∙ append_assoc w.gone p.kept back';
   reached = w.reached;
   left = let f = w.left in let g = sym (length-append back bytes) ∙ ap length e ∙ length-append went back' in omega (arith, f, g);
+  back = ap (λ n. n + 8192) w.back;
   sound = w.sound;
 }
 

@@ -1,5 +1,5 @@
 -- Stretches of bytes that were put one after another.
-use Rattle.std.proofs.Common.{◌≡◌, ℕ, ◌+◌, ◌-◌, true, false, List, [], ◌++◌, Option, Some, None, Result, Ok, Err, length, take, drop, sym, ap, ◌∙◌, append_assoc, take_all, le_refl, arith}
+use Rattle.std.proofs.Common.{◌≡◌, ℕ, ◌+◌, ◌-◌, ◌≤◌, true, false, List, [], ◌++◌, Option, Some, None, Result, Ok, Err, length, take, drop, sym, ap, ◌∙◌, append_assoc, take_all, le_refl, refl, arith}
 use Rattle.std.proofs.lemmas.List.{append-nil, take-append-drop, length-drop, length-append}
 use Rattle.std.specs.Io.KnownBytes.{Appends, Keeps}
 use Rattle.std.proofs.KnownBytes.{Appends-nil, Appends-trans}
@@ -21,7 +21,7 @@ appends_more a b c bytes at n p q =
 
 -- nothing was written
 pub writes_nothing : (o : Output) → o.broken ≡ false → Writes o o []
-writes_nothing o h = record { gone = []; whole = append-nil o.kept; reached = Appends-nil o.reached; left = omega arith; sound = h }
+writes_nothing o h = record { gone = []; whole = append-nil o.kept; reached = Appends-nil o.reached; left = omega arith; back = refl; sound = h }
 
 -- what was due before two stretches, in two parts
 two_parts : (old mid : List ℕ) (xs ys gone rest : List ℕ) → old ++ xs ≡ gone ++ mid → old ++ (xs ++ ys) ≡ gone ++ (mid ++ ys)
@@ -34,6 +34,7 @@ writes_then a b c xs ys p q = record {
   whole = two_parts a.kept b.kept xs ys p.gone [] p.whole ∙ ap (λ l. p.gone ++ l) q.whole ∙ sym (append_assoc p.gone q.gone c.kept);
   reached = Appends-trans a.reached b.reached c.reached p.gone q.gone p.reached q.reached;
   left = let e = p.left in let f = q.left in rw (length-append xs ys) (omega (arith, e, f));
+  back = q.back ∙ p.back;
   sound = q.sound;
 }
 
@@ -47,6 +48,30 @@ breaks_after a b c xs ys p q = record {
   full = let e = p.left in let f = q.full in rw (length-append xs ys) (omega (arith, e, f));
   broken = q.broken;
 }
+
+-- the same, as other bytes that are these two stretches, with what was lost
+pub record Torn (b c : Output) (ys : List ℕ) (a : Output) (all : List ℕ) (q : Breaks b c ys) : Type 0 where
+  pub torn : Breaks a c all
+  pub same : torn.lost ≡ q.lost
+
+pub tear : (a b c : Output) (xs ys all : List ℕ) → all ≡ xs ++ ys → Writes a b xs → (q : Breaks b c ys) → Torn b c ys a all q
+tear a b c xs ys all e p q = record {
+  torn = record {
+    gone = p.gone ++ q.gone;
+    lost = q.lost;
+    whole = ap (λ l. a.kept ++ l) e ∙ two_parts a.kept b.kept xs ys p.gone [] p.whole ∙ ap (λ l. p.gone ++ l) q.whole ∙ sym (append_assoc p.gone q.gone q.lost);
+    reached = Appends-trans a.reached b.reached c.reached p.gone q.gone p.reached q.reached;
+    full = let f = p.left in let g = q.full in let h = ap length e ∙ length-append xs ys in omega (arith, f, g, h);
+    broken = q.broken;
+  };
+  same = refl;
+}
+
+-- no more is lost than was kept back and was put last
+pub lost_few : (b c : Output) (ys : List ℕ) (n : ℕ) (q : Breaks b c ys) → length b.kept ≤ b.back → b.back ≡ n → length q.lost ≤ n + length ys
+lost_few b c ys n q few is =
+    let whole : length b.kept + length ys ≡ length q.gone + length q.lost = sym (length-append b.kept ys) ∙ ap length q.whole ∙ length-append q.gone q.lost in
+    omega (arith, whole, few, is)
 
 -- a break before more
 pub breaks_before : (a c : Output) (xs ys : List ℕ) → Breaks a c xs → Breaks a c (xs ++ ys)

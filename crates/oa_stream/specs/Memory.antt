@@ -8,7 +8,7 @@ use Rattle.oa_stream.specs.Sink.{Output}
 
 -- the bytes of the vector have left; it takes what its capacity has room for
 abbrev pub gathered : Gathered → Output
-gathered g = record { reached = Some g.bytes.items; kept = []; flushed = true; room = vec_capacity g.bytes - vec_len g.bytes + 1; broken = g.broken }
+gathered g = record { reached = Some g.bytes.items; kept = []; flushed = true; back = 0; room = vec_capacity g.bytes - vec_len g.bytes + 1; broken = g.broken }
 
 -- where the bytes are cut does not show
 abbrev pub cutting : Cutting → Input

@@ -4,11 +4,12 @@ use Rattle.std.specs.Io.KnownBytes.{Appends}
 use Rattle.oa_stream.specs.declared.sink.Unwritten.{Unwritten}
 
 -- A writer: what has left it for good, where that is known; what it took and keeps back; whether nothing waits below it since the last delivery;
--- fewer bytes than `room` are taken and handed on without a failure; whether it failed.
+-- how many bytes it keeps back at most; fewer bytes than `room` are taken and handed on without a failure; whether it failed.
 pub record Output : Type 0 where
   pub reached : Option (List ℕ)
   pub kept : List ℕ
   pub flushed : Bool
+  pub back : ℕ
   pub room : ℕ
   pub broken : Bool
 
@@ -23,6 +24,7 @@ pub record Writes (old new : Output) (bytes : List ℕ) : Type 0 where
   pub whole : old.kept ++ bytes ≡ gone ++ new.kept
   pub reached : Appends old.reached new.reached gone
   pub left : old.room ≤ new.room + length bytes
+  pub back : new.back ≡ old.back
   pub sound : new.broken ≡ false
 
 -- The writer failed: a first part of what was due has left, the rest is lost, and these bytes were more than it had promised to take.

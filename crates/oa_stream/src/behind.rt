@@ -1,6 +1,6 @@
 //! A buffer between a caller and a writer.
 ghost use Rattle.std.specs.Prelude.{◌≡◌, [], false, IfOk};
-ghost use Rattle.oa_stream.specs.Behind.{behind};
+ghost use Rattle.oa_stream.specs.Behind.{back_keeps, behind};
 ghost use Rattle.oa_stream.specs.Sink.{Puts};
 
 use crate::stretch::{Back, SIZE};
@@ -39,6 +39,8 @@ impl<W: Sink + Drop> Behind<W> {
 
 impl<W: Sink + Drop> Sink for Behind<W> {
     ghost out = { behind W.out };
+
+    ghost keeps = { back_keeps W.out W.keeps };
 
     fn put(&mut self, bytes: &[u8]) -> Result<(), Unwritten> {
         if bytes.len() <= self.back.room() {

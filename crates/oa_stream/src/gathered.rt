@@ -1,5 +1,6 @@
 //! A writer in memory.
 ghost use Rattle.std.specs.Prelude.{◌≡◌, false};
+ghost use Rattle.std.proofs.Common.{le_refl};
 ghost use Rattle.oa_stream.specs.Memory.{gathered};
 
 use crate::{Sink, Unwritten};
@@ -33,6 +34,8 @@ impl Gathered {
 
 impl Sink for Gathered {
     ghost out = { gathered };
+
+    ghost keeps = { λ _. le_refl 0 };
 
     fn put(&mut self, bytes: &[u8]) -> Result<(), Unwritten> {
         match self.bytes.extend_from_slice(bytes) {

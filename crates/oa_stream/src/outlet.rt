@@ -1,5 +1,6 @@
 //! Writers of the standard library.
 ghost use Rattle.std.specs.Prelude.{◌≡◌, ◌<◌, ◌≤◌, [], true, false, length};
+ghost use Rattle.std.proofs.Common.{le_refl};
 ghost use Rattle.oa_stream.specs.Outlet.{Flushes, Took, outlet};
 
 use crate::{Sink, Unwritten};
@@ -28,7 +29,7 @@ pub struct Outlet<W> {
 impl<W: Write> Outlet<W> {
     /// A writer to which nothing was written yet.
     pub fn new(writer: W) -> Outlet<W>
-        ensures { outlet W.contents result ≡ record { reached = W.contents writer; kept = []; flushed = true; room = 0; broken = false } }
+        ensures { outlet W.contents result ≡ record { reached = W.contents writer; kept = []; flushed = true; back = 0; room = 0; broken = false } }
     {
         Outlet {
             writer,
@@ -87,6 +88,8 @@ impl<W: Write> Outlet<W> {
 // Both loops make an interrupted call again, 18,446,744,073,709,551,615 times at most; that many count as a failure.
 impl<W: Write> Sink for Outlet<W> {
     ghost out = { outlet W.contents };
+
+    ghost keeps = { λ _. le_refl 0 };
 
     fn put(&mut self, bytes: &[u8]) -> Result<(), Unwritten> {
         let mut at = 0;

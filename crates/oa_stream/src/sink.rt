@@ -1,5 +1,5 @@
 //! Writers that take whole stretches of bytes.
-ghost use Rattle.std.specs.Prelude.{◌≡◌, false};
+ghost use Rattle.std.specs.Prelude.{◌≡◌, ◌≤◌, false, length};
 ghost use Rattle.oa_stream.specs.Sink.{Delivers, Output, Puts};
 
 use thiserror::Error;
@@ -11,8 +11,8 @@ pub struct Unwritten;
 
 /// A writer that takes whole stretches of bytes, and may keep some of them back until they are asked for.
 ///
-/// Contracts see one as an `Output`: what has left it, what it keeps back, whether a flush is wanting, how many bytes it promises to take, and
-/// whether it failed. A writer that failed is never called again.
+/// Contracts see one as an `Output`: what has left it, what it keeps back and how much of that at most, whether a flush is wanting, how many
+/// bytes it promises to take, and whether it failed. A writer that failed is never called again.
 pub trait Sink {
     ghost out: { Self → Output };
 
@@ -25,4 +25,7 @@ pub trait Sink {
     fn deliver(&mut self) -> Result<(), Unwritten>
         requires unbroken { (out self.old).broken ≡ false }
         ensures { Delivers result (out self.old) (out self.new) };
+
+    // no more bytes are kept back than it says
+    ghost keeps: { (s : Self) → length (out s).kept ≤ (out s).back };
 }

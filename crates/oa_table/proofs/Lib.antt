@@ -2,3 +2,5 @@ pub mod Arrays
 pub mod Through
 pub mod Ordered
 pub mod Unlocked
+pub mod Entries
+pub mod Sums

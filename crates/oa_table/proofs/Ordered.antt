@@ -7,11 +7,11 @@ use Rattle.std.specs.BTreeMap.{insert_entry}
 use Rattle.std.specs.Cmp.{IsTotalOrder}
 use Rattle.std.specs.Ordering.{nat_cmp, ordering_reverse}
 use Rattle.std.specs.declared.cmp.Ordering.{Ordering}
-use Rattle.std.specs.declared.cmp.Ordering.TheVariants.{Less, Equal, Greater}
+use Rattle.std.specs.declared.cmp.Ordering.TheVariants.{Less, Greater}
 use Rattle.std.proofs.lemmas.Cmp.{nat_cmp_total}
 use Rattle.oa_table.specs.Parts.{in_order, ordered_object, table_of, with_entries}
 use Rattle.oa_table.specs.Places.{place_cmp, places_total}
-use Rattle.oa_table.specs.Tables.{ObjectValue, TableValue}
+use Rattle.oa_table.specs.Tables.{ObjectValue}
 
 above : {K : Type 0} (cmp : K → K → Ordering) → IsTotalOrder cmp → (k f : K) → cmp f k ≡ Less → cmp k f ≡ Greater
 above cmp total k f h = total.antisymm k f ∙ ap ordering_reverse h

@@ -1,16 +1,16 @@
 -- An event does with what an image holds of a table what it does with the table.
-use Rattle.std.proofs.Common.{◌≡◌, ℕ, ◌+◌, ◌==◌, ◌&&◌, ◌||◌, nat_lt, Bool, true, false, cond, not, List, [], ◌∷◌, map, Option, Some, None, Result, Ok, Err, IfOk, refl, sym, ap, ◌∙◌}
-use Rattle.std.specs.Map.{remove_entry, set_value, values_of}
+use Rattle.std.proofs.Common.{◌≡◌, ℕ, ◌+◌, ◌==◌, ◌&&◌, nat_lt, nat_le, Bool, true, false, cond, List, [], ◌∷◌, map, Option, Some, None, Result, Ok, Err, IfOk, refl, sym, ap, ◌∙◌}
+use Rattle.std.specs.Map.{remove_entry, set_value}
 use Rattle.std.specs.BTreeMap.{insert_entry, is_at}
-use Rattle.std.specs.List.{list_any}
 use Rattle.std.specs.Option.{option_map}
 use Rattle.std.specs.Ordering.{match_ordering, nat_cmp}
 use Rattle.std.specs.Prelude.{if◌then◌else◌, ℤ}
 use Rattle.std.specs.declared.cmp.Ordering.{Ordering}
 use Rattle.std.specs.declared.cmp.Ordering.TheVariants.{Less, Equal, Greater}
 use Rattle.std.proofs.lemmas.Map.Made.{lookup-map_values}
+use Rattle.oa_model.specs.Limits.{greatest_object_number, max_cells}
 use Rattle.oa_model.specs.declared.bound.Bound.{Bound}
-use Rattle.oa_array.specs.Arrays.{ArrayValue, redimensioned, with_cell, with_first, with_locks}
+use Rattle.oa_array.specs.Arrays.{redimensioned, with_cell, with_first, with_locks}
 use Rattle.oa_array.specs.Boxes.{box_size}
 use Rattle.oa_array.specs.Within.{in_bounds}
 use Rattle.oa_array.specs.declared.fault.ArrayFault.TheVariants as arrays
@@ -22,8 +22,8 @@ use Rattle.oa_variant.specs.declared.variant.Variant.TheVariants.{One, Array as 
 use Rattle.oa_table.specs.declared.event.Event.{Event}
 use Rattle.oa_table.specs.declared.event.Event.TheVariants.{Create, Release, Put, PutElement, Redim}
 use Rattle.oa_table.specs.declared.fault.TableFault.{TableFault}
-use Rattle.oa_table.specs.declared.fault.TableFault.TheVariants.{Array, NotArray, WrongNumber}
-use Rattle.oa_table.specs.Elements.{element_put, is_locked, locks_in, locks_of, redimensioned_value}
+use Rattle.oa_table.specs.declared.fault.TableFault.TheVariants.{Array, WrongNumber}
+use Rattle.oa_table.specs.Elements.{element_put, locks_in, locks_of, redimensioned_value}
 use Rattle.oa_table.specs.Events.{BringsNoLocks, applied, changed_if_live, on_object, released_if_live, with_object}
 use Rattle.oa_table.specs.Objects.{any_locked, changed_if_put, with_change, with_put, with_value}
 use Rattle.oa_table.specs.Outcomes.{mapped}
@@ -79,7 +79,7 @@ element_follows index element (AnArray a) = by (in_bounds a.bounds index) (fits_
 
 redim_follows : (bound : Bound) (value : Variant) → Follows unlocked (redimensioned_value bound) value
 redim_follows bound (One s) = tt
-redim_follows bound (AnArray a) = by (nat_lt 0 a.locks) (nat_lt 65536 (box_size (with_first bound a.bounds)))
+redim_follows bound (AnArray a) = by (nat_lt 0 a.locks) (nat_lt max_cells (box_size (with_first bound a.bounds)))
   where
     by : (b c : Bool) → IfOk (if b then Err (Array arrays.IsLocked) else if c then Err (Array arrays.InvalidArgument) else Ok (AnArray (redimensioned (zero_of a.elem) bound a)))
         (λ new. (if c then Err (Array arrays.InvalidArgument) else Ok (AnArray (redimensioned (zero_of a.elem) bound (with_locks a 0)))) ≡ Ok (unlocked new))
@@ -151,7 +151,7 @@ module _ (number : ℕ) (table : TableValue) where
       by (Some object) = on object (change object) (each object)
 
   create_follows : (class : List ℕ) → Follows unlocked_table (applied (Create number class)) table
-  create_follows class = by ((number == table.next) && nat_lt number 4294967295)
+  create_follows class = by ((number == table.next) && nat_le number greatest_object_number)
     where
       by : (b : Bool) → IfOk (if b then Ok (record { next = number + 1; objects = insert_entry nat_cmp table.objects number (record { class = class; cells = [] }) }) else Err WrongNumber)
           (λ new. (if b then Ok (record { next = number + 1; objects = insert_entry nat_cmp (map unlocked_entry table.objects) number (record { class = class; cells = [] }) }) else Err WrongNumber) ≡ Ok (unlocked_table new))

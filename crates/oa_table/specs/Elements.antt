@@ -1,5 +1,6 @@
 -- Changes of a cell's value, or why there is none. The order of the refusals is this project's choice.
-use Rattle.std.specs.Prelude.{◌≡◌, ℕ, ◌+◌, ◌-◌, ◌==◌, nat_lt, ℤ, Bool, not, if◌then◌else◌, List, Option, Some, None, Result, Ok, Err}
+use Rattle.std.specs.Prelude.{ℕ, ◌+◌, ◌-◌, ◌==◌, nat_lt, ℤ, Bool, not, if◌then◌else◌, List, Option, Some, None, Result, Ok, Err}
+use Rattle.oa_model.specs.Limits.{max_cells, max_cell_locks}
 use Rattle.oa_model.specs.declared.bound.Bound.{Bound}
 use Rattle.oa_array.specs.Arrays.{redimensioned, with_cell, with_first, with_locks}
 use Rattle.oa_array.specs.Boxes.{box_size}
@@ -37,13 +38,13 @@ abbrev pub redimensioned_value : Bound → Variant → Result Variant TableFault
 redimensioned_value bound (One s) = Err NotArray
 redimensioned_value bound (AnArray a) =
     if nat_lt 0 a.locks then Err (Array arrays.IsLocked)
-    else if nat_lt 65536 (box_size (with_first bound a.bounds)) then Err (Array arrays.InvalidArgument)
+    else if nat_lt max_cells (box_size (with_first bound a.bounds)) then Err (Array arrays.InvalidArgument)
     else Ok (AnArray (redimensioned (zero_of a.elem) bound a))
 
 -- one lock more
 abbrev pub locked_value : Variant → Result Variant TableFault
 locked_value (One s) = Err NotArray
-locked_value (AnArray a) = if a.locks == 65535 then Err (Array arrays.Unexpected) else Ok (AnArray (with_locks a (a.locks + 1)))
+locked_value (AnArray a) = if a.locks == max_cell_locks then Err (Array arrays.Unexpected) else Ok (AnArray (with_locks a (a.locks + 1)))
 
 -- one lock less
 abbrev pub released_value : Variant → Result Variant TableFault

@@ -1,8 +1,9 @@
 -- The table after an event, or why the event does not apply. (This project's choice.)
-use Rattle.std.specs.Prelude.{◌≡◌, ℕ, ◌+◌, ◌==◌, ◌&&◌, nat_lt, if◌then◌else◌, [], Option, Some, None, Result, Ok, Err, ⊤}
+use Rattle.std.specs.Prelude.{◌≡◌, ℕ, ◌+◌, ◌==◌, ◌&&◌, nat_le, if◌then◌else◌, [], Option, Some, None, Result, Ok, Err, ⊤}
 use Rattle.std.specs.Map.{set_value, remove_entry}
 use Rattle.std.specs.BTreeMap.{insert_entry, is_at}
 use Rattle.std.specs.Ordering.{nat_cmp}
+use Rattle.oa_model.specs.Limits.{greatest_object_number}
 use Rattle.oa_array.specs.declared.fault.ArrayFault.TheVariants as arrays
 use Rattle.oa_table.specs.declared.event.Event.{Event}
 use Rattle.oa_table.specs.declared.event.Event.TheVariants.{Create, Release, Put, PutElement, Redim}
@@ -24,10 +25,10 @@ changed_if_live number change table (Some object) = mapped (with_object number t
 abbrev pub on_object : ℕ → (ObjectValue → Result ObjectValue TableFault) → TableValue → Result TableValue TableFault
 on_object number change table = changed_if_live number change table (object_at number table)
 
--- the next number is used, unless it is the last
+-- the next number is used, unless it is above the greatest
 abbrev pub created : ℕ → ObjectValue → TableValue → Result TableValue TableFault
 created number object table =
-    if (number == table.next) && nat_lt number 4294967295 then Ok (record { next = number + 1; objects = insert_entry nat_cmp table.objects number object })
+    if (number == table.next) && nat_le number greatest_object_number then Ok (record { next = number + 1; objects = insert_entry nat_cmp table.objects number object })
     else Err WrongNumber
 
 abbrev pub released_if_live : ℕ → TableValue → Option ObjectValue → Result TableValue TableFault

@@ -7,3 +7,4 @@ pub mod Objects
 pub mod Events
 pub mod Locks
 pub mod Parts
+pub mod Sizes

@@ -13,7 +13,7 @@ pub record ObjectValue : Type 0 where
   pub class : List ℕ
   pub cells : List (PlaceValue × Variant)
 
--- next is the number of the next object; 4294967295 where the numbers are used up
+-- next is the number of the next object; above the greatest one where the numbers are used up
 pub record TableValue : Type 0 where
   pub next : ℕ
   pub objects : List (ℕ × ObjectValue)

@@ -1,5 +1,5 @@
 //! The objects of a table.
-ghost use Rattle.std.specs.Prelude.{◌≡◌, []};
+ghost use Rattle.std.specs.Prelude.{◌≡◌, ◌≤◌, ◌+◌, ◌^◌, []};
 ghost use Rattle.std.specs.List.Sorted.{IsStrictlySortedBy};
 ghost use Rattle.std.specs.Map.{keys_of};
 ghost use Rattle.std.specs.Option.{option_map};
@@ -7,8 +7,11 @@ ghost use Rattle.oa_table.specs.Elements.{element_put, locked_value, locks_in, r
 ghost use Rattle.oa_table.specs.Objects.{any_locked, locks_of_cell, with_change, with_put};
 ghost use Rattle.oa_table.specs.Outcomes.{Counts, Does};
 ghost use Rattle.oa_table.specs.Places.{place_cmp};
+ghost use Rattle.oa_table.specs.Sizes.{object_size, size_due};
 ghost use Rattle.oa_table.specs.Tables.{cell_at};
 
+use crate::difference::{Difference, element_difference, no_difference, redim_difference};
+use crate::size::{place_size, value_size};
 use crate::value::{lock, locks_of, put_element, redim, unlock};
 use crate::{Place, TableFault};
 use oa_array::ArrayFault;
@@ -79,6 +82,70 @@ impl LiveObject {
         ensures { IsStrictlySortedBy place_cmp (keys_of self.now.cells) }
     {
         let _count = self.cells.len();
+    }
+
+    /// How many bytes the object has in an image. Looks at each cell of the object.
+    #[tactic(auto, unfolding(crate::specs::Sizes::object_size))]
+    pub(crate) fn size(&self) -> u128
+        ensures value { result ≡ object_size self.now }
+        ensures small { result ≤ 2 ^ 100 }
+    {
+        let _count = self.cells.len();
+        let mut size = 24;
+        'cells: for (place, value) in &self.cells {
+            size += place_size(place) as u128 + value_size(value) as u128;
+        }
+        size
+    }
+
+    /// What a put takes from the size of the image, and what it adds. Looks at the elements of the two values.
+    pub(crate) fn put_difference(&self, place: &Place, value: &Variant) -> Difference
+        ensures size { size_due object_size (with_put place.now value.now self.now) self.now + result.gone ≡ object_size self.now + result.come }
+        ensures small { result.come ≤ 34400000000 }
+    {
+        self.places_rise();
+        match self.get(place) {
+            Some(old) => {
+                if locks_of(old) != 0 {
+                    return no_difference();
+                }
+                Difference {
+                    gone: value_size(old),
+                    come: value_size(value),
+                }
+            }
+            None => Difference {
+                gone: 0,
+                come: place_size(place) + value_size(value),
+            },
+        }
+    }
+
+    /// The same where an element of the array in a cell is set.
+    pub(crate) fn element_difference(
+        &self,
+        place: &Place,
+        index: &[i32],
+        element: &Scalar,
+    ) -> Difference
+        ensures size { size_due object_size (with_change place.now (element_put index.now element.now) self.now) self.now + result.gone ≡ object_size self.now + result.come }
+        ensures small { result.come ≤ 34400000000 }
+    {
+        match self.get(place) {
+            Some(value) => element_difference(value, index, element),
+            None => no_difference(),
+        }
+    }
+
+    /// The same where the array in a cell gets another first bound. Looks at the elements that go.
+    pub(crate) fn redim_difference(&self, place: &Place, bound: Bound) -> Difference
+        ensures size { size_due object_size (with_change place.now (redimensioned_value bound) self.now) self.now + result.gone ≡ object_size self.now + result.come }
+        ensures small { result.come ≤ 34400000000 }
+    {
+        match self.get(place) {
+            Some(value) => redim_difference(value, bound),
+            None => no_difference(),
+        }
     }
 
     /// Whether the array in some cell is locked. Looks at each cell of the object.

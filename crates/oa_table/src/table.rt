@@ -1,42 +1,47 @@
 //! The table of objects.
-ghost use Rattle.std.specs.Prelude.{◌≡◌, length, IfOk};
+ghost use Rattle.std.specs.Prelude.{◌≡◌, ◌<◌, ◌≤◌, ℕ, List, length, IfOk, MatchOption};
 ghost use Rattle.std.specs.List.Sorted.{IsStrictlySortedBy};
 ghost use Rattle.std.specs.Map.{keys_of};
 ghost use Rattle.std.specs.Option.{option_map};
 ghost use Rattle.std.specs.Ordering.{nat_cmp};
-ghost use Rattle.oa_table.specs.Elements.{element_put, redimensioned_value};
 ghost use Rattle.oa_table.specs.Events.{BringsNoLocks, applied};
 ghost use Rattle.oa_table.specs.Locks.{locked_in, locks_at, with_lock, without_lock};
-ghost use Rattle.oa_table.specs.Objects.{with_change};
 ghost use Rattle.oa_table.specs.Outcomes.{Counts, Does};
 ghost use Rattle.oa_table.specs.Parts.{AreParts, table_of};
+ghost use Rattle.oa_table.specs.Sizes as sizes;
+ghost use Rattle.oa_table.specs.Sizes.{largest_image, size_in, table_size};
 ghost use Rattle.oa_table.specs.Tables.{cell_in, class_in, first_table, object_at};
 
-use crate::parts::ordered_objects;
+use crate::objects::Objects;
 use crate::{CellName, Event, LiveObject, Object, TableFault};
-use oa_array::{ArrayFault, Indices};
-use oa_model::Bound;
+use oa_array::Indices;
+use oa_model::{Bound, GREATEST_OBJECT_NUMBER};
 use oa_variant::{Scalar, Variant};
 use std::alloc::{AllocError, Global};
-use std::collections::BTreeMap;
 use std::collections::btree_map::Iter;
 use std::marker::Model;
 use uuid::Uuid;
 
-/// The table of objects: the next number, and the live objects by their numbers. A number is never used again.
+/// The greatest size of an image whose table fits in memory. A change to more than that finds none.
+const LARGEST_IMAGE: u64 = 0x7FFF_FFFF_FFFF_FFFF;
+
+/// The table of objects: the next number, and the live objects by their numbers. A number is never used again. How many bytes its image
+/// has is kept beside it.
 #[derive(Drop)]
 pub struct Table {
-    alloc: Global,
-    next: u32,
-    objects: BTreeMap<u32, LiveObject>,
+    objects: Objects,
+    size: u64,
 }
 
 impl Model for Table {
+    ghost use Rattle.oa_table.specs.Sizes.{IsKept};
     ghost use Rattle.oa_table.specs.Tables.{TableValue};
 
     ghost Value = { TableValue };
 
-    ghost view = { λ t. record { next = t.next; objects = t.objects.entries } };
+    ghost view = { λ t. t.objects };
+
+    ghost invariant = { λ t. IsKept t.objects t.size };
 }
 
 impl Table {
@@ -45,9 +50,8 @@ impl Table {
         ensures { result ≡ first_table }
     {
         Table {
-            alloc,
-            next: 1,
-            objects: BTreeMap::new(alloc),
+            objects: Objects::new(alloc),
+            size: 8,
         }
     }
 
@@ -57,19 +61,18 @@ impl Table {
         requires { AreParts next objects.items }
         ensures { IfOk result (λ table. table ≡ table_of next objects.items) }
     {
-        let objects = ordered_objects(alloc, objects)?;
-        Ok(Table {
-            alloc,
-            next,
-            objects,
-        })
+        let objects = Objects::from_parts(alloc, next, objects)?;
+        match counted(&objects) {
+            Some(size) => Ok(Table { objects, size }),
+            None => Err(AllocError),
+        }
     }
 
-    /// The number of the next object; 4,294,967,295 where the numbers are used up.
+    /// The number of the next object; above the greatest one where the numbers are used up.
     pub fn next(&self) -> u32
         ensures { result ≡ self.now.next }
     {
-        self.next
+        self.objects.next()
     }
 
     /// How many objects are live.
@@ -83,21 +86,21 @@ impl Table {
     pub fn objects(&self) -> Iter<'_, u32, LiveObject>
         ensures { result ≡ self.now.objects }
     {
-        self.objects.iter()
+        self.objects.objects()
     }
 
     /// A fact and no work: the numbers of the objects rise.
     pub fn numbers_rise(&self)
         ensures { IsStrictlySortedBy nat_cmp (keys_of self.now.objects) }
     {
-        let _count = self.objects.len();
+        self.objects.numbers_rise();
     }
 
     /// The GUID of an object's coclass; None where there is no such object.
     pub fn class_of(&self, number: u32) -> Option<Uuid>
         ensures { result ≡ class_in (object_at number self.now) }
     {
-        match self.objects.get(&number) {
+        match self.objects.get(number) {
             Some(object) => Some(object.class()),
             None => None,
         }
@@ -107,7 +110,7 @@ impl Table {
     pub fn get(&self, name: &CellName) -> Option<&Variant>
         ensures { option_map (λ x. x.now) result ≡ cell_in name.now.place (object_at name.now.object self.now) }
     {
-        match self.objects.get(&name.object) {
+        match self.objects.get(name.object) {
             Some(object) => object.get(&name.place),
             None => None,
         }
@@ -117,9 +120,98 @@ impl Table {
     pub fn locked(&self, number: u32) -> bool
         ensures { result ≡ locked_in (object_at number self.now) }
     {
-        match self.objects.get(&number) {
-            Some(object) => object.is_locked(),
-            None => false,
+        self.objects.locked(number)
+    }
+
+    /// How many bytes the table's image has. It is kept, and not counted here.
+    pub fn image_size(&self) -> u64
+        ensures { result ≡ table_size self.now }
+    {
+        self.size
+    }
+
+    /// How many bytes the image has after an event; of one that does not apply, how many it has now. Takes no memory, and looks at the
+    /// event's own cell alone: at the elements of a value that is put or replaced, or that a shorter array loses. For a release it looks
+    /// at the cells of the object.
+    pub fn size_after(&self, event: &Event) -> u64
+        ensures { result ≡ sizes.size_after event.now self.now }
+    {
+        match event {
+            Event::Create { number, .. } => self.size_with(*number),
+            Event::Release { number } => self.size_without(*number),
+            Event::Put { name, value } => self.size_with_put(name, value),
+            Event::PutElement { name, index, value } => self.size_with_element(name, index, value),
+            Event::Redim { name, bound } => self.size_with_bound(name, *bound),
+        }
+    }
+
+    /// How many bytes the image has after the creation of an object with a number.
+    fn size_with(&self, number: u32) -> u64
+        ensures { (class : List ℕ) → result ≡ sizes.size_after (Event.Create number class) self.now }
+    {
+        self.numbers_rise();
+        if number != self.next() || number > GREATEST_OBJECT_NUMBER {
+            return self.size;
+        }
+        self.size + 24 - self.size_of(number)
+    }
+
+    /// How many bytes the image has after the release of an object.
+    fn size_without(&self, number: u32) -> u64
+        ensures { result ≡ sizes.size_after (Event.Release number) self.now }
+    {
+        if self.locked(number) {
+            return self.size;
+        }
+        self.size - self.size_of(number)
+    }
+
+    /// How many bytes the image has after a put.
+    fn size_with_put(&self, name: &CellName, value: &Variant) -> u64
+        ensures { result ≡ sizes.size_after (Event.Put name.now value.now) self.now }
+    {
+        match self.objects.get(name.object) {
+            Some(object) => {
+                let change = object.put_difference(&name.place, value);
+                self.size + change.come - change.gone
+            }
+            None => self.size,
+        }
+    }
+
+    /// How many bytes the image has after an element of an array is set.
+    fn size_with_element(&self, name: &CellName, index: &Indices, value: &Scalar) -> u64
+        ensures { result ≡ sizes.size_after (Event.PutElement name.now index.now value.now) self.now }
+    {
+        match self.objects.get(name.object) {
+            Some(object) => {
+                let change = object.element_difference(&name.place, index.as_slice(), value);
+                self.size + change.come - change.gone
+            }
+            None => self.size,
+        }
+    }
+
+    /// How many bytes the image has after an array gets another first bound.
+    fn size_with_bound(&self, name: &CellName, bound: Bound) -> u64
+        ensures { result ≡ sizes.size_after (Event.Redim name.now bound) self.now }
+    {
+        match self.objects.get(name.object) {
+            Some(object) => {
+                let change = object.redim_difference(&name.place, bound);
+                self.size + change.come - change.gone
+            }
+            None => self.size,
+        }
+    }
+
+    /// How many bytes an object has in the image; none where there is no such object.
+    fn size_of(&self, number: u32) -> u64
+        ensures { result ≡ size_in (object_at number self.now) }
+    {
+        match self.objects.get(number) {
+            Some(object) => object.size() as u64,
+            None => 0,
         }
     }
 
@@ -129,12 +221,16 @@ impl Table {
         requires { BringsNoLocks event }
         ensures { Does event (applied event self.old) self.old self.new result }
     {
-        match event {
-            Event::Create { number, class } => self.create(number, class),
-            Event::Release { number } => self.release(number),
-            Event::Put { name, value } => self.put(name, value),
-            Event::PutElement { name, index, value } => self.put_element(name, index, value),
-            Event::Redim { name, bound } => self.redim(name, bound),
+        let size = self.size_after(&event);
+        if size > LARGEST_IMAGE {
+            return Err((event, TableFault::Memory));
+        }
+        match self.objects.apply(event) {
+            Ok(()) => {
+                self.size = size;
+                Ok(())
+            }
+            Err(refused) => Err(refused),
         }
     }
 
@@ -143,99 +239,29 @@ impl Table {
     pub fn lock(&mut self, name: &CellName) -> Result<u16, TableFault>
         ensures { Counts (with_lock name.now self.old) (locks_at name.now) self.old self.new result }
     {
-        let Some(found) = self.objects.get_mut(&name.object) else {
-            return Err(TableFault::NoObject);
-        };
-        found.lock(&name.place)
+        self.objects.lock(name)
     }
 
     /// Takes a lock of the array in a cell away, and answers the new count. Refused as `lock` is. Takes no memory.
     pub fn unlock(&mut self, name: &CellName) -> Result<u16, TableFault>
         ensures { Counts (without_lock name.now self.old) (locks_at name.now) self.old self.new result }
     {
-        let Some(found) = self.objects.get_mut(&name.object) else {
-            return Err(TableFault::NoObject);
-        };
-        found.unlock(&name.place)
+        self.objects.unlock(name)
     }
+}
 
-    fn create(&mut self, number: u32, class: Uuid) -> Result<(), (Event, TableFault)>
-        ensures { let event = Event.Create number class in Does event (applied event self.old) self.old self.new result }
-    {
-        if number != self.next || number == u32::MAX {
-            return Err((Event::Create { number, class }, TableFault::WrongNumber));
+/// How many bytes the image of the objects has, together with what stands before them; None where no memory holds so many.
+#[tactic(auto, unfolding(crate::specs::Sizes::table_size))]
+fn counted(objects: &Objects) -> Option<u64>
+    ensures { MatchOption result (largest_image < table_size objects.now) (λ size. (size ≡ table_size objects.now) × (size ≤ largest_image)) }
+{
+    let mut size = 8;
+    'objects: for (_number, object) in objects.objects() {
+        let total = size as u128 + object.size();
+        if total > LARGEST_IMAGE as u128 {
+            return None;
         }
-        match self
-            .objects
-            .insert(number, LiveObject::new(self.alloc, class))
-        {
-            Ok(_) => {
-                self.next = number + 1;
-                Ok(())
-            }
-            Err(_) => Err((Event::Create { number, class }, TableFault::Memory)),
-        }
+        size = total as u64;
     }
-
-    fn release(&mut self, number: u32) -> Result<(), (Event, TableFault)>
-        ensures { let event = Event.Release number in Does event (applied event self.old) self.old self.new result }
-    {
-        if self.locked(number) {
-            return Err((
-                Event::Release { number },
-                TableFault::Array(ArrayFault::IsLocked),
-            ));
-        }
-        match self.objects.remove(&number) {
-            Some(_) => Ok(()),
-            None => Err((Event::Release { number }, TableFault::NoObject)),
-        }
-    }
-
-    fn put(&mut self, name: CellName, value: Variant) -> Result<(), (Event, TableFault)>
-        ensures { let event = Event.Put name value in Does event (applied event self.old) self.old self.new result }
-    {
-        let CellName { object, place } = name;
-        let Some(found) = self.objects.get_mut(&object) else {
-            let name = CellName { object, place };
-            return Err((Event::Put { name, value }, TableFault::NoObject));
-        };
-        let Err(((place, value), fault)) = found.put(place, value) else {
-            return Ok(());
-        };
-        let name = CellName { object, place };
-        Err((Event::Put { name, value }, fault))
-    }
-
-    fn put_element(
-        &mut self,
-        name: CellName,
-        index: Indices,
-        value: Scalar,
-    ) -> Result<(), (Event, TableFault)>
-        ensures { let event = Event.PutElement name index value in Does event (applied event self.old) self.old self.new result }
-    {
-        let Some(found) = self.objects.get_mut(&name.object) else {
-            return Err((
-                Event::PutElement { name, index, value },
-                TableFault::NoObject,
-            ));
-        };
-        let Err((value, fault)) = found.put_element(&name.place, index.as_slice(), value) else {
-            return Ok(());
-        };
-        Err((Event::PutElement { name, index, value }, fault))
-    }
-
-    fn redim(&mut self, name: CellName, bound: Bound) -> Result<(), (Event, TableFault)>
-        ensures { let event = Event.Redim name bound in Does event (applied event self.old) self.old self.new result }
-    {
-        let Some(found) = self.objects.get_mut(&name.object) else {
-            return Err((Event::Redim { name, bound }, TableFault::NoObject));
-        };
-        let Err((bound, fault)) = found.redim(self.alloc, &name.place, bound) else {
-            return Ok(());
-        };
-        Err((Event::Redim { name, bound }, fault))
-    }
+    Some(size)
 }

@@ -35,6 +35,4 @@ pub use members::Dispinterface;
 pub use names::DispIds;
 
 #[cfg(test)]
-mod check_tests;
-#[cfg(test)]
 mod tests;

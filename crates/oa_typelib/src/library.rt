@@ -111,14 +111,14 @@ impl Library {
         self.text.as_slice()
     }
 
-    // What is true of each library: it is that of some text, ..
-    fn is_checked(&self)
+    /// A fact and no work: a library is that of some text.
+    pub fn is_checked(&self)
         ensures { IsChecked self.now }
     {
         let _tree = &self.tree;
     }
 
-    // .. so calls can be bound to each of its properties, each of its coclasses has a default interface, and no entry is left out.
+    // So calls can be bound to each of its properties, each of its coclasses has a default interface, and no entry is left out.
     fn is_whole(&self)
         ensures { IsWhole self.now }
     {
@@ -206,8 +206,9 @@ impl Library {
         self.index.enters(class, place)
     }
 
-    /// The interface with a GUID where an entry of the coclass with a GUID names it.
-    fn entered(&self, class: &Uuid, interface: &Uuid) -> Option<Dispinterface<'_>>
+    /// The interface with a GUID where one of the entries of the coclass with a GUID names it. The zero GUID stands for no other interface
+    /// than the one whose own GUID it is. None where there is no such coclass or interface.
+    pub fn entered(&self, class: &Uuid, interface: &Uuid) -> Option<Dispinterface<'_>>
         ensures { result ≡ option_and_then (λ c. option_and_then (if_entered c) (interface_of self.now interface.now)) (class_of self.now class.now) }
     {
         let class = self.place(class)?;

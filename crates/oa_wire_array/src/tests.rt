@@ -1,92 +1,91 @@
+// Parts of fields as digits: what is read, and what is written again.
 use super::*;
-use oa_array::SafeArray;
-use oa_bstr::Bstr;
-use oa_model::{Bound, VarType};
+use oa_model::VarType;
 use oa_ndr::{Ndr, NdrOut};
 use oa_variant::Scalar;
+use std::alloc::Global;
 use std::test::*;
 
-// A byte, the I2 7 at the next multiple of 8, the text "Hi" without its referent, the null text.
-const PARTS: [u8; 60] = [
-    1, 0, 0, 0, 0, 0, 0, 0, 3, 0, 0, 0, 0, 0, 0, 0, 2, 0, 0, 0, 0, 0, 0, 0, 2, 0, 0, 0, 7, 0, 0, 0,
-    2, 0, 0, 0, 4, 0, 0, 0, 2, 0, 0, 0, 0x48, 0, 0x69, 0, 0, 0, 0, 0, 0xFF, 0xFF, 0xFF, 0xFF, 0, 0,
-    0, 0,
-];
-
-#[test]
-fn parts_are_written(rt: HostRuntime) -> Result<(), Fail> {
-    let mut out = NdrOut::new(Vec::new(rt.alloc()));
-    out.u8(1)?;
-    write_scalar(&mut out, &Scalar::I2(7))?;
-    write_text(&mut out, &Bstr::from_bytes(rt.alloc(), b"H\0i\0")?)?;
-    write_text(&mut out, &Bstr::null())?;
-    assert_eq!(rt; out.written(), PARTS.as_slice());
-    Ok(())
+/// The value of a hexadecimal digit.
+fn digit(sign: u8) -> Option<u8> {
+    match sign {
+        b'0'..=b'9' => Some(sign - b'0'),
+        b'a'..=b'f' => Some(sign - b'a' + 10),
+        _ => None,
+    }
 }
 
-#[test]
-fn parts_are_read(rt: HostRuntime) -> Result<(), Fail> {
-    let mut reader = Ndr::new(&PARTS);
-    assert!(rt; read_text(rt.alloc(), &mut reader).is_err());
-    assert_eq!(rt; reader.u8().ok(), Some(1));
-    let seven = read_scalar(rt.alloc(), &mut reader)?;
-    assert_eq!(rt; seven, Scalar::I2(7));
-    assert!(rt; read_scalar(rt.alloc(), &mut reader).is_err());
-    assert_eq!(rt; reader.position(), 30);
-    let hi = read_text(rt.alloc(), &mut reader)?;
-    assert_eq!(rt; hi.as_bytes(), b"H\0i\0".as_slice());
-    assert!(rt; read_text(rt.alloc(), &mut reader)?.is_null());
-    assert_eq!(rt; reader.rest().len(), 0);
-    Ok(())
+/// The bytes that these digits spell; blanks say nothing.
+fn bytes_of(alloc: Global, digits: &str) -> Vec<u8> {
+    let mut bytes = Vec::new(alloc);
+    let mut high = None;
+    for sign in digits.bytes() {
+        high = match (digit(sign), high) {
+            (Some(low), Some(high)) => {
+                let _ = bytes.push(low.wrapping_add(high << 4));
+                None
+            }
+            (Some(first), None) => Some(first),
+            (None, high) => high,
+        };
+    }
+    bytes
 }
 
-// I2, bound (2, 4), two zeros, from the second referent on.
-const ZEROS: [u8; 48] = [
-    0, 0, 2, 0, 1, 0, 0, 0, 1, 0, 0x80, 0, 2, 0, 0, 0, 0, 0, 2, 0, 2, 0, 0, 0, 2, 0, 0, 0, 0, 0, 2,
-    0, 2, 0, 0, 0, 4, 0, 0, 0, 2, 0, 0, 0, 0, 0, 0, 0,
-];
-
-#[test]
-fn arrays_are_parts(rt: HostRuntime) -> Result<(), Fail> {
-    let bound = Bound { count: 2, lower: 4 };
-    let array = SafeArray::create(rt.alloc(), VarType::I2, &[bound])?;
-    let mut out = NdrOut::new(Vec::new(rt.alloc()));
-    write_array(&mut out, &array)?;
-    assert_eq!(rt; out.written(), ZEROS.as_slice());
-    assert_eq!(rt; array_end(&array, 0), 48);
-    let mut reader = Ndr::new(&ZEROS);
-    assert_eq!(rt;
-        read_array(rt.alloc(), &mut reader, VarType::I4).err(),
-        Some(WireFault::BadStub)
-    );
-    assert_eq!(rt;
-        read_array(rt.alloc(), &mut reader, VarType::Decimal).err(),
-        Some(WireFault::BadVarType)
-    );
-    assert_eq!(rt; reader.position(), 0);
-    let zeros = read_array(rt.alloc(), &mut reader, VarType::I2)?;
-    assert_eq!(rt; zeros, array);
-    assert_eq!(rt; reader.rest().len(), 0);
-    Ok(())
+/// Whether a text is read from these bytes and written as them.
+fn is_text(alloc: Global, bytes: &[u8], text: &[u8]) -> bool {
+    let mut out = NdrOut::new(Vec::new(alloc));
+    match read_text(alloc, &mut Ndr::new(bytes)) {
+        Ok(read) => {
+            read.as_bytes() == text && write_text(&mut out, &read).is_ok() && out.written() == bytes
+        }
+        Err(_) => false,
+    }
 }
 
+/// Whether the I2 7 is read from these bytes and written as them.
+fn is_seven(alloc: Global, bytes: &[u8]) -> bool {
+    let mut out = NdrOut::new(Vec::new(alloc));
+    match read_scalar(alloc, &mut Ndr::new(bytes)) {
+        Ok(read) => {
+            read == Scalar::I2(7) && write_scalar(&mut out, &read).is_ok() && out.written() == bytes
+        }
+        Err(_) => false,
+    }
+}
+
+/// Whether an array of I2 is read from these bytes and written as them.
+fn is_array(alloc: Global, bytes: &[u8]) -> bool {
+    let mut out = NdrOut::new(Vec::new(alloc));
+    match read_array(alloc, &mut Ndr::new(bytes), VarType::I2) {
+        Ok(read) => write_array(&mut out, &read).is_ok() && out.written() == bytes,
+        Err(_) => false,
+    }
+}
+
+/// Whether a head of the I2 is written so, and its union read.
+fn is_head(alloc: Global, head: &[u8], union: &[u8]) -> bool {
+    let mut out = NdrOut::new(Vec::new(alloc));
+    write_head(&mut out, 3, 2).is_ok()
+        && out.written() == head
+        && read_union(alloc, 2, &mut Ndr::new(union)).is_ok_and(|read| read == Scalar::I2(7))
+}
+
+/// The text "Hi" and the null text without their referents; the I2 7; two zeros of I2 with the bound (2, 4), from the second referent on;
+/// the head of an I2, and the union that follows it.
 #[test]
-fn heads_and_unions(rt: HostRuntime) -> Result<(), Fail> {
-    let mut out = NdrOut::new(Vec::new(rt.alloc()));
-    write_head(&mut out, 3, 2)?;
-    assert_eq!(rt;
-        out.written(),
-        [3, 0, 0, 0, 0, 0, 0, 0, 2, 0, 0, 0, 0, 0, 0, 0].as_slice()
-    );
-    let mut reader = Ndr::new(&[2, 0, 0, 0, 7, 0]);
-    assert_eq!(rt;
-        read_union(rt.alloc(), 3, &mut reader).err(),
-        Some(ReadFault::BadStub)
-    );
-    assert_eq!(rt;
-        read_union(rt.alloc(), 2, &mut reader).ok(),
-        Some(Scalar::I2(7))
-    );
-    assert_eq!(rt; scalar_len(&Scalar::I2(7)), 22);
-    Ok(())
+fn parts_are_read_and_written(rt: HostRuntime) {
+    let alloc = rt.alloc();
+    let hi = bytes_of(alloc, "02000000 04000000 02000000 48006900");
+    assert!(rt; is_text(alloc, hi.as_slice(), b"H\0i\0"));
+    let null = bytes_of(alloc, "00000000 ffffffff 00000000");
+    assert!(rt; is_text(alloc, null.as_slice(), b""));
+    let seven = bytes_of(alloc, "03000000 00000000 02000000 00000000 02000000 0700");
+    assert!(rt; is_seven(alloc, seven.as_slice()));
+    let zeros =
+        "0000 0200 01000000 0100 8000 02000000 00000200 02000000 02000000 00000200 02000000 04000000 02000000 00000000";
+    assert!(rt; is_array(alloc, bytes_of(alloc, zeros).as_slice()));
+    let head = bytes_of(alloc, "03000000 00000000 0200 000000000000");
+    let union = bytes_of(alloc, "02000000 0700");
+    assert!(rt; is_head(alloc, head.as_slice(), union.as_slice()));
 }

@@ -1,10 +1,10 @@
-use Rattle.std.proofs.Common.{◌+◌, ◌<◌, length, List, ℕ, arith, subst, ap}
+use Rattle.std.proofs.Common.{◌+◌, ◌<◌, length, List, ℕ, arith, subst, ap, ◌∙◌}
 use Rattle.std.proofs.lemmas.Result.{on_ok_weaker}
 use Rattle.oa_disk.specs.Moments.{weakened}
 use Rattle.oa_disk.specs.Switch.{MaySwitch, HasSwitched}
 use Rattle.oa_journal.specs.Bank.{bank_bytes}
 use Rattle.oa_journal.specs.Append.{group_of}
-use Rattle.oa_journal.proofs.Sealing.{length-group_of, length-sealed}
+use Rattle.oa_journal.proofs.Sealing.{length-group_of, length-sealed, group-sealed}
 use Rattle.oa_journal.proofs.Appended.{from_step, from_done}
 use Rattle.oa_journal.proofs.frame.append_group.Goals as goal
 
@@ -34,3 +34,6 @@ pub returns-clause-long : goal.returns-clause-long
 returns-clause-long g c =
     let group = group_of c.args.frame.now in
     omega (arith, ap length c.seal.ensures, length-sealed group, length-group_of c.args.frame.now c.requires.some, c.requires.some)
+
+pub returns-clause-kept : goal.returns-clause-kept
+returns-clause-kept g c = ap group_of c.seal.ensures ∙ group-sealed (group_of c.args.frame.now)

@@ -1,4 +1,4 @@
-use Rattle.std.proofs.Common.{◌≡◌, inl, inr, ◌<◌, ◌≤◌, length, ◌+◌, ◌∙◌, ap, arith, subst}
+use Rattle.std.proofs.Common.{◌≡◌, inl, inr, ◌<◌, length, ◌∙◌, ap, arith, subst}
 use Rattle.oa_disk.specs.Moments.{chained}
 use Rattle.oa_table.specs.Tables.{TableValue, first_table, unlocked_table}
 use Rattle.oa_image.specs.Tables.{table as a_table, table_image}

@@ -1,4 +1,4 @@
-use Rattle.std.proofs.Common.{◌≡◌, inl, inr, ◌∙◌, ℕ, ◌+◌, List, Some, refl, subst, sym, ap, arith}
+use Rattle.std.proofs.Common.{inl, inr, ◌∙◌, ℕ, ◌+◌, List, Some, refl, subst, sym, ap, arith}
 use Rattle.oa_journal.specs.declared.bank.Bank.{Bank}
 use Rattle.oa_journal.specs.Bank.{from_place, IsBank, HasLibrary}
 use Rattle.oa_journal.specs.Damages.{IsDamagedAt}

@@ -1,4 +1,4 @@
-use Rattle.std.proofs.Common.{◌≡◌, inl, ⊎_elim, ◌-◌, ◌∙◌, List, ℕ, subst}
+use Rattle.std.proofs.Common.{inl, ⊎_elim, ◌∙◌, List, ℕ, subst}
 use Rattle.oa_disk.specs.Disk.{Torn}
 use Rattle.oa_disk.specs.Moments.{weakened, chained}
 use Rattle.oa_table.specs.Tables.{unlocked_table}

@@ -1,4 +1,4 @@
-use Rattle.std.proofs.Common.{◌≡◌, ℕ, subst}
+use Rattle.std.proofs.Common.{ℕ, subst}
 use Rattle.oa_disk.specs.Moments.{weakened}
 use Rattle.oa_journal.specs.Append.{group_of, IsWithOrWithout, IsWith}
 use Rattle.oa_store.proofs.Changed.{commit, committed}

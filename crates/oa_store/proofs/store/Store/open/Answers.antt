@@ -1,4 +1,3 @@
-use Rattle.std.proofs.Common.{◌≡◌}
 use Rattle.oa_store.specs.OneStore.{one_store}
 use Rattle.oa_store.proofs.Opened.{refused}
 use Rattle.oa_store.proofs.store.Store.open.Goals as goal

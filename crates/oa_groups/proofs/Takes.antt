@@ -1,0 +1,407 @@
+-- How a server at work goes on.
+use Rattle.std.proofs.Common.{◌≡◌, ◌≢◌, ◌⊎◌, inl, inr, ℕ, ◌+◌, ◌-◌, ◌^◌, ◌<◌, Bool, true, false, true≢false, IsTrue, List, [], ◌∷◌, ◌++◌, length, map, refl, sym, ◌∙◌, ap, subst, arith, length-append, append_assoc}
+use Rattle.std.proofs.lemmas.List.{append-nil, map-append, length-map}
+use Rattle.oa_disk.specs.declared.disk.Disk.{Ghosts}
+use Rattle.oa_journal.specs.Replays.{Replays}
+use Rattle.oa_store.specs.Stores.{IsStore}
+use Rattle.oa_store.specs.declared.store.Store.{Store}
+use Rattle.oa_table.specs.Tables.{TableValue}
+use Rattle.oa_keeper.specs.Kept.{AllHold}
+use Rattle.oa_keeper.proofs.Committed.{no_change}
+use Rattle.oa_groups.specs.Desks.{Desk, IsHeld, IsSettled, IsFailed, IsOver, IsTaken, IsEnded}
+use Rattle.oa_groups.specs.Going.{IsCut, IsGroup, IsEnd, Going, Faulted, Underway}
+use Rattle.oa_groups.specs.Groups.{events_in, fills, groups_of, is_full, joined, rest_of}
+use Rattle.oa_groups.specs.Runs.{IsAfter, IsRun, Run}
+use Rattle.oa_groups.specs.Served.{Goes, IsServed}
+use Rattle.oa_groups.specs.Turns.{Entry, Turns, body_of, entry, reply_of}
+use Rattle.oa_groups.proofs.Entries.{cut_ends, cut_holds, cut_last, cut_one, either, ends_after, events_push, full_group, group_ends, joined_push, run_append, run_replays}
+use Rattle.oa_groups.proofs.Running.{after_all, after_fewer, after_more, run_more, run_on, run_started}
+
+-- no call of the device
+pub goes_nowhere : {D : Type 0} {g : Ghosts D} (store : Store D g) → Goes store store
+goes_nowhere store = record {
+  library = refl;
+  honest = refl;
+  failures = omega arith;
+  stops = λ was is. absurd (true≢false (sym is ∙ was));
+  stays = λ was. (was, refl);
+}
+
+-- one call and then others
+pub goes_on : {D : Type 0} {g : Ghosts D} (old mid new : Store D g) → Goes old mid → Goes mid new → Goes old new
+goes_on {D} {g} old mid new one two = record {
+  library = two.library ∙ one.library;
+  honest = two.honest ∙ one.honest;
+  failures = omega (arith, one.failures, two.failures);
+  stops = λ was is small. by (mid.stopped) refl was is small;
+  stays = λ was. let here = one.stays was in let there = two.stays here.0 in (there.0, there.1 ∙ here.1);
+}
+  where
+    by : (b : Bool) → mid.stopped ≡ b → old.stopped ≡ false → new.stopped ≡ true → g.failures_of new.disk < 2 ^ 64 - 1 → g.failures_of old.disk < g.failures_of new.disk
+    by false at was is small = let rose = two.stops at is small in omega (arith, one.failures, rose)
+    by true at was is small = let rose = one.stops was at (omega (arith, two.failures, small)) in omega (arith, two.failures, rose)
+
+no_entry : {R : Type 0} (held : List (Entry R)) → map reply_of held ≡ [] → held ≡ []
+no_entry [] is = refl
+no_entry (asked ∷ held) is = absurd (cc)
+
+some_entry : {R : Type 0} (held : List (Entry R)) → map reply_of held ≢ [] → 0 < length held
+some_entry [] some = absurd (some refl)
+some_entry (asked ∷ held) some = omega arith
+
+module _ {S R : Type 0} (t : Turns S R) where
+  run_one : (old : S) (asked : Entry R) (new : S) → t.Turn asked old new → Run t old (asked ∷ []) new
+  run_one old asked new turn = (new, turn, refl)
+
+  -- the replies of a run, taken back
+  pub run_withdrawn : (old : S) (held : List (Entry R)) (new : S) → Run t old held new → map t.withdrawn (map reply_of held) ≡ map (λ asked. t.faulted asked.body) held
+  run_withdrawn old [] new run = refl
+  run_withdrawn old (asked ∷ held) new run =
+      ap (λ (r : R). r ∷ map t.withdrawn (map reply_of held)) (t.tells asked old run.0 run.1) ∙ ap (λ (l : List R). t.faulted asked.body ∷ l) (run_withdrawn run.0 held new run.2)
+
+  module _ {D : Type 0} {g : Ghosts D} (only : (d : D) (c : List ℕ) → IsTrue (g.is_honest d) → g.image_since d (g.moment d) c → g.image d c) (start : Desk S R D g) where
+    abbrev library : List ℕ
+    library = start.store.library.items
+
+    abbrev first : S
+    first = start.state
+
+    abbrev Begins : Type 0
+    Begins = AllHold start.store (t.held start.state)
+
+    abbrev Moments : Desk S R D g → List (List (Entry R)) → ℕ → Type 0
+    Moments now groups count = (moments : List ℕ) × IsRun t g.moment g.image_since start.store.disk now.store.disk library first groups count moments
+
+    going_start : (size : ℕ) → start.pending ≡ [] → start.events ≡ [] → Going t (IsCut size) start start [] []
+    going_start size none empty = record {
+      groups = [];
+      held = [];
+      committed = first;
+      cuts = λ later. refl;
+      bodies_are = refl;
+      out_are = refl;
+      pending_are = none;
+      events_are = empty;
+      stands = refl;
+      runs = refl;
+      all = λ begins. begins;
+      moments = λ begins. (_, run_started t g.moment g.image_since library first start.store.disk (λ c since. (start.store.chosen, start.store.bank.gate, begins.1 c (only start.store.disk c begins.0 since))));
+    }
+
+    -- how the requests are cut may be said otherwise
+    going_as : {C : List (List (Entry R)) → List (Entry R) → Type 0} {now : Desk S R D g} {bodies : List (List ℕ)} {out : List R} (was : Going t C start now bodies out)
+        (C' : List (List (Entry R)) → List (Entry R) → Type 0) → C' was.groups was.held → Going t C' start now bodies out
+    going_as was C' cuts = record {
+      groups = was.groups;
+      held = was.held;
+      committed = was.committed;
+      cuts = cuts;
+      bodies_are = was.bodies_are;
+      out_are = was.out_are;
+      pending_are = was.pending_are;
+      events_are = was.events_are;
+      stands = was.stands;
+      runs = was.runs;
+      all = was.all;
+      moments = was.moments;
+    }
+
+    module _ {C : List (List (Entry R)) → List (Entry R) → Type 0} {old : Desk S R D g} {bodies : List (List ℕ)} {out : List R} (same : old.store.library.items ≡ library) (was : Going t C start old bodies out) where
+      -- the events in hand make of what is committed what is held of the state
+      makes : Replays old.events (t.held was.committed) (t.held old.state)
+      makes = subst (λ (l : List ℕ). Replays l (t.held was.committed) (t.held old.state)) (sym was.events_are) (run_replays t was.committed was.held old.state was.runs)
+
+      none_made : length old.events ≡ 0 → t.held old.state ≡ t.held was.committed
+      none_made none = sym (no_change old.events (t.held was.committed) (t.held old.state) none makes)
+
+      under : (c : List ℕ) (table : TableValue) → IsStore c old.store.library.items table → IsStore c library table
+      under c table is = subst (λ (l : List ℕ). IsStore c l table) same is
+
+      -- a request more is held
+      going_held : (C' : List (List (Entry R)) → List (Entry R) → Type 0) (asked : Entry R) (new : Desk S R D g) → C' was.groups (was.held ++ asked ∷ []) → IsHeld t asked old new → Going t C' start new (bodies ++ asked.body ∷ []) out
+      going_held C' asked new cuts one = record {
+        groups = was.groups;
+        held = was.held ++ asked ∷ [];
+        committed = was.committed;
+        cuts = cuts;
+        bodies_are = ap (λ (l : List (List ℕ)). l ++ asked.body ∷ []) was.bodies_are ∙ sym (map-append body_of (joined was.groups ++ was.held) (asked ∷ [])) ∙ ap (λ (l : List (Entry R)). map body_of l) (append_assoc (joined was.groups) was.held (asked ∷ []));
+        out_are = was.out_are;
+        pending_are = one.pending ∙ ap (λ (l : List R). l ++ asked.reply ∷ []) was.pending_are ∙ sym (map-append reply_of was.held (asked ∷ []));
+        events_are = one.events ∙ ap (λ (l : List ℕ). l ++ asked.event) was.events_are ∙ sym (events_push was.held asked);
+        stands = was.stands;
+        runs = run_append t was.committed was.held old.state (asked ∷ []) new.state was.runs (run_one old.state asked new.state one.turn);
+        all = λ begins. one.each (t.held was.committed) none_made (was.all begins);
+        moments = λ begins. let before = was.moments begins in (
+          before.0,
+          subst (λ (l : List (List (Entry R))). IsRun t g.moment g.image_since start.store.disk new.store.disk library first l (length was.groups) before.0) (append-nil was.groups)
+              (run_on t g.moment g.image_since library first start.store.disk old.store.disk new.store.disk was.groups [] (length was.groups) before.0 (λ c. IsStore c old.store.library.items (t.held was.committed)) before.1
+              (one.any_moment (t.held was.committed) none_made (was.all begins))
+              (λ c is. after_more t (length was.groups) library first was.groups [] c (after_all t library first was.groups was.committed c was.stands (under c (t.held was.committed) is)))),
+        );
+      }
+
+      -- the test of the code is that of the cut
+      fills_as : (size : ℕ) (asked : Entry R) (new : Desk S R D g) → IsHeld t asked old new → fills size (length new.pending) (length new.events) ≡ is_full size (was.held ++ asked ∷ [])
+      fills_as size asked new one =
+          let group = was.held ++ asked ∷ [] in
+          let count : length new.pending ≡ length group =
+          omega (arith, ap length one.pending, length-append old.pending (asked.reply ∷ []), ap length was.pending_are, length-map was.held reply_of, length-append was.held (asked ∷ [])) in
+          let bytes : new.events ≡ events_in group = one.events ∙ ap (λ (l : List ℕ). l ++ asked.event) was.events_are ∙ sym (events_push was.held asked) in
+          ap (λ (n : ℕ). fills size n (length new.events)) count ∙ ap (λ (l : List ℕ). fills size (length group) (length l)) bytes
+
+      abbrev grown : List (List (Entry R))
+      grown = was.groups ++ was.held ∷ []
+
+      stood : Run t first (joined grown) old.state
+      stood = subst (λ (l : List (Entry R)). Run t first l old.state) (sym (joined_push was.groups was.held)) (run_append t first (joined was.groups) was.committed was.held old.state was.stands was.runs)
+
+      abbrev Either : List ℕ → Type 0
+      Either c = IsStore c old.store.library.items (t.held was.committed) ⊎ IsStore c old.store.library.items (t.held old.state)
+
+      has : (c : List ℕ) → Either c → IsAfter t (length was.groups) library first grown c
+      has c (inl without) = after_more t (length was.groups) library first was.groups (was.held ∷ []) c (after_all t library first was.groups was.committed c was.stands (under c (t.held was.committed) without))
+      has c (inr with_it) =
+          after_fewer t (length grown) (length was.groups) library first grown c (omega (arith, length-append was.groups (was.held ∷ []))) (after_all t library first grown old.state c stood (under c (t.held old.state) with_it))
+
+      during : (told : List R) (new : Desk S R D g) → IsSettled t told old new → Begins → Moments new grown (length was.groups)
+      during told new one begins =
+          let before = was.moments begins in (
+            before.0,
+            run_on t g.moment g.image_since library first start.store.disk old.store.disk new.store.disk was.groups (was.held ∷ []) (length was.groups) before.0 Either before.1
+                (one.any_moment (t.held was.committed) makes (was.all begins)) has,
+          )
+
+      -- the group in hand was committed, and its replies are handed out
+      going_ends : (C' : List (List (Entry R)) → List (Entry R) → Type 0) (told : List R) (new : Desk S R D g) → new.store.stopped ≡ false → C' grown [] → IsSettled t told old new → Going t C' start new bodies (out ++ told)
+      going_ends C' told new going cuts one =
+          let well = one.well going in
+          record {
+            groups = grown;
+            held = [];
+            committed = new.state;
+            cuts = cuts;
+            bodies_are = was.bodies_are ∙ ap (λ (l : List (Entry R)). map body_of l) (sym (joined_push was.groups was.held) ∙ sym (append-nil (joined grown)));
+            out_are = ap (λ (l : List R). l ++ told) was.out_are ∙ ap (λ (l : List R). map reply_of (joined was.groups) ++ l) (well.0 ∙ was.pending_are) ∙ sym (map-append reply_of (joined was.groups) was.held)
+                ∙ ap (λ (l : List (Entry R)). map reply_of l) (sym (joined_push was.groups was.held));
+            pending_are = well.1;
+            events_are = well.2;
+            stands = subst (λ (s : S). Run t first (joined grown) s) (sym one.state) stood;
+            runs = refl;
+            all = λ begins. subst (λ (s : S). AllHold new.store (t.held s)) (sym one.state) (one.each going (t.held was.committed) makes (was.all begins));
+            moments = λ begins.
+                let on = during told new one begins in
+                let size : length was.groups + 1 ≡ length grown = sym (length-append was.groups (was.held ∷ [])) in
+                let here = one.each going (t.held was.committed) makes (was.all begins) in
+                let more = run_more t g.moment g.image_since library first start.store.disk new.store.disk grown (length was.groups) on.0 on.1
+                (λ c since. after_fewer t (length grown) (length was.groups + 1) library first grown c (omega (arith, size)) (after_all t library first grown old.state c stood
+                (subst (λ (l : List ℕ). IsStore c l (t.held old.state)) (one.goes.library ∙ same) (new.store.chosen, new.store.bank.gate, here.1 c (only new.store.disk c here.0 since))))) in
+                (_, subst (λ (n : ℕ). IsRun t g.moment g.image_since start.store.disk new.store.disk library first grown n (on.0 ++ g.moment new.store.disk ∷ [])) size more);
+          }
+
+      -- it could not be committed, and its replies are taken back
+      going_breaks : (size : ℕ) (told : List R) (new : Desk S R D g) → new.store.stopped ≡ true → IsGroup size was.groups was.held → IsSettled t told old new → Faulted t size start new bodies (out ++ told)
+      going_breaks size told new stopped ends one = record {
+        groups = was.groups;
+        group = was.held;
+        others = [];
+        cuts = ends;
+        bodies_are = was.bodies_are ∙ sym (append-nil (map body_of (joined was.groups ++ was.held)));
+        replies_are = ap (λ (l : List R). l ++ told) was.out_are
+            ∙ ap (λ (l : List R). map reply_of (joined was.groups) ++ l)
+            (one.broken stopped ∙ ap (λ (l : List R). map t.withdrawn l) was.pending_are ∙ run_withdrawn was.committed was.held old.state was.runs ∙ sym (append-nil (map (λ asked. t.faulted asked.body) was.held)));
+        run = subst (λ (s : S). Run t first (joined was.groups ++ was.held) s) (sym one.state) (run_append t first (joined was.groups) was.committed was.held old.state was.stands was.runs);
+        moments = during told new one;
+      }
+
+      -- the checkpoint before its event failed: the group ends with this request
+      going_fails : (size : ℕ) (body : List ℕ) (told : List R) (new : Desk S R D g) → IsCut size was.groups was.held → IsFailed t body told old new → Faulted t size start new (bodies ++ body ∷ []) (out ++ told)
+      going_fails size body told new cuts one =
+          let asked : Entry R = entry body one.reply one.event in
+          let group = was.held ++ asked ∷ [] in
+          record {
+            groups = was.groups;
+            group = group;
+            others = [];
+            cuts = cut_one size was.groups was.held asked cuts;
+            bodies_are = ap (λ (l : List (List ℕ)). l ++ body ∷ []) was.bodies_are ∙ sym (map-append body_of (joined was.groups ++ was.held) (asked ∷ []))
+                ∙ ap (λ (l : List (Entry R)). map body_of l) (append_assoc (joined was.groups) was.held (asked ∷ [])) ∙ sym (append-nil (map body_of (joined was.groups ++ group)));
+            replies_are = ap (λ (l : List R). l ++ told) was.out_are
+                ∙ ap (λ (l : List R). map reply_of (joined was.groups) ++ l)
+                (one.told_are ∙ ap (λ (l : List R). map t.withdrawn l ++ t.faulted body ∷ []) was.pending_are
+                ∙ ap (λ (l : List R). l ++ t.faulted body ∷ []) (run_withdrawn was.committed was.held old.state was.runs)
+                ∙ sym (map-append (λ asked. t.faulted asked.body) was.held (asked ∷ [])) ∙ sym (append-nil (map (λ asked. t.faulted asked.body) group)));
+            run = run_append t first (joined was.groups) was.committed group new.state was.stands (run_append t was.committed was.held old.state (asked ∷ []) new.state was.runs (run_one old.state asked new.state one.turn));
+            moments = λ begins. let before = was.moments begins in (
+              before.0,
+              run_on t g.moment g.image_since library first start.store.disk old.store.disk new.store.disk was.groups (group ∷ []) (length was.groups) before.0 (λ c. IsStore c old.store.library.items (t.held was.committed)) before.1
+                  (one.any_moment (t.held was.committed) none_made (was.all begins))
+                  (λ c is. after_more t (length was.groups) library first was.groups (group ∷ []) c (after_all t library first was.groups was.committed c was.stands (under c (t.held was.committed) is))),
+            );
+          }
+
+    -- after the fault
+    over_moments : (old new : Desk S R D g) (groups : List (List (Entry R))) (count : ℕ) → new.store.disk ≡ old.store.disk → (Begins → Moments old groups count) → Begins → Moments new groups count
+    over_moments old new groups count same moments begins =
+        let before = moments begins in (before.0, subst (λ (d : D). IsRun t g.moment g.image_since start.store.disk d library first groups count before.0) (sym same) before.1)
+
+    faulted_as : (size : ℕ) (old new : Desk S R D g) (bodies : List (List ℕ)) (replies more : List R) → more ≡ replies → new.store.disk ≡ old.store.disk → new.state ≡ old.state
+        → Faulted t size start old bodies replies → Faulted t size start new bodies more
+    faulted_as size old new bodies replies more told disk state was = record {
+      groups = was.groups;
+      group = was.group;
+      others = was.others;
+      cuts = was.cuts;
+      bodies_are = was.bodies_are;
+      replies_are = told ∙ was.replies_are;
+      run = subst (λ (s : S). Run t first (joined was.groups ++ was.group) s) (sym state) was.run;
+      moments = over_moments old new (was.groups ++ was.group ∷ []) (length was.groups) disk was.moments;
+    }
+
+    faulted_more : (size : ℕ) (old new : Desk S R D g) (bodies : List (List ℕ)) (replies : List R) (body : List ℕ) → IsOver old new → Faulted t size start old bodies replies
+        → Faulted t size start new (bodies ++ body ∷ []) (replies ++ t.failed body ∷ [])
+    faulted_more size old new bodies replies body over was = record {
+      groups = was.groups;
+      group = was.group;
+      others = was.others ++ body ∷ [];
+      cuts = was.cuts;
+      bodies_are = ap (λ (l : List (List ℕ)). l ++ body ∷ []) was.bodies_are ∙ append_assoc (map body_of (joined was.groups ++ was.group)) was.others (body ∷ []);
+      replies_are = ap (λ (l : List R). l ++ t.failed body ∷ []) was.replies_are ∙ append_assoc (map reply_of (joined was.groups)) (map (λ asked. t.faulted asked.body) was.group ++ map t.failed was.others) (t.failed body ∷ [])
+          ∙ ap (λ (l : List R). map reply_of (joined was.groups) ++ l) (append_assoc (map (λ asked. t.faulted asked.body) was.group) (map t.failed was.others) (t.failed body ∷ [])
+          ∙ ap (λ (l : List R). map (λ asked. t.faulted asked.body) was.group ++ l) (sym (map-append t.failed was.others (body ∷ []))));
+      run = subst (λ (s : S). Run t first (joined was.groups ++ was.group) s) (sym over.state) was.run;
+      moments = over_moments old new (was.groups ++ was.group ∷ []) (length was.groups) over.disk was.moments;
+    }
+
+    pub underway_start : (size : ℕ) → start.store.stopped ≡ false → start.pending ≡ [] → start.events ≡ [] → Underway t size start start [] []
+    underway_start size going none empty = record {
+      going = λ is. going_start size none empty;
+      broken = λ is. absurd (true≢false (sym is ∙ going));
+      goes = goes_nowhere start.store;
+    }
+
+    -- one request more
+    pub underway_taken : (size : ℕ) (old new : Desk S R D g) (bodies : List (List ℕ)) (out : List R) (body : List ℕ) (told : List R) → Underway t size start old bodies out → IsTaken t size body told old new
+        → Underway t size start new (bodies ++ body ∷ []) (out ++ told)
+    underway_taken size old new bodies out body told so_far (inl kept) =
+        let was = so_far.going kept.was in
+        let asked : Entry R = entry body kept.reply kept.event in
+        let full : is_full size (was.held ++ asked ∷ []) ≡ false = sym (fills_as so_far.goes.library was size asked new kept.held) ∙ kept.short in
+        let now : Going t (IsCut size) start new (bodies ++ body ∷ []) out = going_held so_far.goes.library was (IsCut size) asked new (cut_holds size was.groups was.held asked was.cuts full) kept.held in
+        record {
+          going = λ is. subst (λ (l : List R). Going t (IsCut size) start new (bodies ++ body ∷ []) l) (sym (ap (λ (l : List R). out ++ l) kept.nothing ∙ append-nil out)) now;
+          broken = λ is. absurd (true≢false (sym is ∙ kept.held.going));
+          goes = goes_on start.store old.store new.store so_far.goes kept.held.goes;
+        }
+    underway_taken size old new bodies out body told so_far (inr (inl filled)) =
+        let was = so_far.going filled.was in
+        let asked : Entry R = entry body filled.reply filled.event in
+        let group = was.held ++ asked ∷ [] in
+        let full : is_full size group ≡ true = sym (fills_as so_far.goes.library was size asked filled.mid filled.held) ∙ filled.full in
+        let between = goes_on start.store old.store filled.mid.store so_far.goes filled.held.goes in
+        let here : Going t (λ groups held. IsCut size (groups ++ held ∷ []) []) start filled.mid (bodies ++ body ∷ []) out =
+        going_held so_far.goes.library was (λ groups held. IsCut size (groups ++ held ∷ []) []) asked filled.mid (cut_ends size was.groups was.held asked was.cuts full) filled.held in
+        record {
+          going = λ is. going_ends between.library here (IsCut size) told new is here.cuts filled.settled;
+          broken = λ is. going_breaks between.library here size told new is (full_group size here.groups here.held here.cuts) filled.settled;
+          goes = goes_on start.store filled.mid.store new.store between filled.settled.goes;
+        }
+    underway_taken size old new bodies out body told so_far (inr (inr (inl faulted))) =
+        let was = so_far.going faulted.was in
+        record {
+          going = λ is. absurd (true≢false (sym faulted.failed.stopped ∙ is));
+          broken = λ is. going_fails so_far.goes.library was size body told new was.cuts faulted.failed;
+          goes = goes_on start.store old.store new.store so_far.goes faulted.failed.goes;
+        }
+    underway_taken size old new bodies out body told so_far (inr (inr (inr late))) = record {
+      going = λ is. absurd (true≢false (sym late.over.is ∙ is));
+      broken = λ is. subst (λ (l : List R). Faulted t size start new (bodies ++ body ∷ []) (out ++ l)) (sym late.told_is) (faulted_more size old new bodies out body late.over (so_far.broken late.over.was));
+      goes = goes_on start.store old.store new.store so_far.goes late.over.goes;
+    }
+
+    -- all was answered
+    served_all : (size : ℕ) (now : Desk S R D g) (bodies : List (List ℕ)) (out : List R) → now.pending ≡ [] → now.store.stopped ≡ false → Goes start.store now.store → Going t (IsEnd size) start now bodies out
+        → IsServed t size start.store now.store first now.state bodies out
+    served_all size now bodies out none going goes was =
+        let empty : was.held ≡ [] = no_entry was.held (sym was.pending_are ∙ none) in
+        let whole : joined was.groups ++ was.held ≡ joined (was.groups ++ []) =
+        ap (λ (l : List (Entry R)). joined was.groups ++ l) empty ∙ append-nil (joined was.groups) ∙ ap (λ (l : List (List (Entry R))). joined l) (sym (append-nil was.groups)) in
+        let at_last : was.committed ≡ now.state = subst (λ (l : List (Entry R)). Run t was.committed l now.state) empty was.runs in
+        record {
+          groups = was.groups;
+          faulted = [];
+          others = [];
+          served = record {
+            bodies_are = was.bodies_are ∙ ap (λ (l : List (Entry R)). map body_of l) whole ∙ sym (append-nil (map body_of (joined (was.groups ++ []))));
+            run = subst (λ (l : List (Entry R)). Run t first l now.state) whole (run_append t first (joined was.groups) was.committed was.held now.state was.stands was.runs);
+            groups_are = ap (λ (l : List (Entry R)). groups_of size l) (sym whole) ∙ was.cuts ∙ ap (λ (l : List (Entry R)). was.groups ++ rest_of l) empty;
+            replies_are = was.out_are ∙ sym (append-nil (map reply_of (joined was.groups)));
+          };
+          well = λ is. (refl, refl);
+          fault = λ is. absurd (true≢false (sym is ∙ going));
+          moments = λ begins.
+              let run = was.moments begins in
+              (run.0, subst (λ (l : List (List (Entry R))). IsRun t g.moment g.image_since start.store.disk now.store.disk library first l (length was.groups) run.0) (sym (append-nil was.groups)) run.1);
+          all = λ is begins. subst (λ (s : S). AllHold now.store (t.held s)) at_last (was.all begins);
+          goes = goes;
+        }
+
+    -- or up to a fault
+    served_part : (size : ℕ) (now : Desk S R D g) (bodies : List (List ℕ)) (out : List R) → now.store.stopped ≡ true → Goes start.store now.store → Faulted t size start now bodies out
+        → IsServed t size start.store now.store first now.state bodies out
+    served_part size now bodies out stopped goes was =
+        let whole : joined (was.groups ++ was.group ∷ []) ≡ joined was.groups ++ was.group = joined_push was.groups was.group in
+        record {
+          groups = was.groups;
+          faulted = was.group ∷ [];
+          others = was.others;
+          served = record {
+            bodies_are = was.bodies_are ∙ ap (λ (l : List (Entry R)). map body_of l ++ was.others) (sym whole);
+            run = subst (λ (l : List (Entry R)). Run t first l now.state) (sym whole) was.run;
+            groups_are = ap (λ (l : List (Entry R)). groups_of size l) whole ∙ was.cuts;
+            replies_are = was.replies_are ∙ ap (λ (l : List (Entry R)). map reply_of (joined was.groups) ++ (map (λ asked. t.faulted asked.body) l ++ map t.failed was.others)) (sym (append-nil was.group));
+          };
+          well = λ is. absurd (true≢false (sym stopped ∙ is));
+          fault = λ is. refl;
+          moments = was.moments;
+          all = λ is. absurd (true≢false (sym stopped ∙ is));
+          goes = goes;
+        }
+
+    abbrev Ends : ℕ → Desk S R D g → List (List ℕ) → List R → Type 0
+    Ends size now bodies out = IsServed t size start.store now.store first now.state bodies out
+
+    -- whatever is in hand, and nothing more comes
+    stopped_or_not : (size : ℕ) (now : Desk S R D g) (bodies : List (List ℕ)) (out : List R) → now.pending ≡ [] → Underway t size start now bodies out → Ends size now bodies out
+    stopped_or_not size now bodies out none so_far = by (either now.store.stopped)
+      where
+        by : (now.store.stopped ≡ false) ⊎ (now.store.stopped ≡ true) → Ends size now bodies out
+        by (inl going) =
+            let was = so_far.going going in
+            let last : Going t (IsEnd size) start now bodies out = going_as was (IsEnd size) (cut_last size was.groups was.held was.cuts) in
+            served_all size now bodies out none going so_far.goes last
+        by (inr stopped) = served_part size now bodies out stopped so_far.goes (so_far.broken stopped)
+
+    -- the input has ended
+    pub underway_ended : (size : ℕ) (old new : Desk S R D g) (bodies : List (List ℕ)) (out told : List R) → Underway t size start old bodies out → IsEnded t told old new → Ends size new bodies (out ++ told)
+    underway_ended size old new bodies out told so_far (inl idle) =
+        subst (λ (l : List R). IsServed t size start.store new.store first new.state bodies l) (sym (ap (λ (l : List R). out ++ l) idle.nothing ∙ append-nil out))
+        (subst (λ (s : S). IsServed t size start.store new.store first s bodies out) (sym idle.state)
+        (subst (λ (s : Store D g). IsServed t size start.store s first old.state bodies out) (sym idle.store) (stopped_or_not size old bodies out idle.none so_far)))
+    underway_ended size old new bodies out told so_far (inr (inl last)) = by (either new.store.stopped)
+      where
+        was : Going t (IsCut size) start old bodies out
+        was = so_far.going last.was
+
+        goes : Goes start.store new.store
+        goes = goes_on start.store old.store new.store so_far.goes last.settled.goes
+
+        ends : IsGroup size was.groups was.held
+        ends = group_ends size was.groups was.held (some_entry was.held (λ none. last.some (was.pending_are ∙ none))) was.cuts
+
+        by : (new.store.stopped ≡ false) ⊎ (new.store.stopped ≡ true) → Ends size new bodies (out ++ told)
+        by (inl going) =
+            served_all size new bodies (out ++ told) (last.settled.well going).1 going goes (going_ends so_far.goes.library was (IsEnd size) told new going (ends_after size was.groups was.held ends) last.settled)
+        by (inr stopped) = served_part size new bodies (out ++ told) stopped goes (going_breaks so_far.goes.library was size told new stopped ends last.settled)
+    underway_ended size old new bodies out told so_far (inr (inr left)) =
+        served_part size new bodies (out ++ told) left.over.is (goes_on start.store old.store new.store so_far.goes left.over.goes)
+        (faulted_as size old new bodies out (out ++ told) (ap (λ (l : List R). out ++ l) left.nothing ∙ append-nil out) left.over.disk left.over.state (so_far.broken left.over.was))

@@ -1,0 +1,6 @@
+use Rattle.oa_groups.proofs.Histories.{headline}
+use Rattle.oa_groups.specs.Simple.{simple}
+use Rattle.oa_groups.proofs.laws.headline.Goals as goal
+
+pub returns : goal.returns
+returns c = headline simple

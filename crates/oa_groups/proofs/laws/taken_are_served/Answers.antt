@@ -1,0 +1,12 @@
+use Rattle.oa_groups.proofs.Takes.{underway_start, underway_taken, underway_ended}
+use Rattle.oa_groups.specs.Simple.{simple}
+use Rattle.oa_groups.proofs.laws.taken_are_served.Goals as goal
+
+pub returns-clause-start : goal.returns-clause-start
+returns-clause-start g c size start = underway_start simple {g = g.D.Disk} (λ d f honest since. g.met.D.Disk.only_now d f honest since) start size
+
+pub returns-clause-taken : goal.returns-clause-taken
+returns-clause-taken g c size start = underway_taken simple {g = g.D.Disk} (λ d f honest since. g.met.D.Disk.only_now d f honest since) start size
+
+pub returns-clause-ended : goal.returns-clause-ended
+returns-clause-ended g c size start = underway_ended simple {g = g.D.Disk} (λ d f honest since. g.met.D.Disk.only_now d f honest since) start size

@@ -1,0 +1,111 @@
+-- A server at work: its store and its state, and the group in hand.
+use Rattle.std.specs.Prelude.{◌≡◌, ◌≢◌, ◌⊎◌, ℕ, true, false, List, [], ◌∷◌, ◌++◌, length, map}
+use Rattle.oa_disk.specs.declared.disk.Disk.{Ghosts}
+use Rattle.oa_journal.specs.Replays.{Replays}
+use Rattle.oa_store.specs.declared.store.Store.{Store}
+use Rattle.oa_table.specs.Tables.{TableValue}
+use Rattle.oa_keeper.specs.Kept.{AllHold, LeavesEither, LeavesTable}
+use Rattle.oa_groups.specs.Groups.{fills}
+use Rattle.oa_groups.specs.Served.{Goes}
+use Rattle.oa_groups.specs.Turns.{Entry, Turns, entry}
+
+-- pending: the replies that are held back; events: the bytes of the events that are not committed yet
+pub record Desk (S R D : Type 0) (g : Ghosts D) : Type 0 where
+  pub store : Store D g
+  pub state : S
+  pub pending : List R
+  pub events : List ℕ
+
+-- One request is answered by a turn, and its reply and its event are held. The images go on to hold what they held, which is
+-- what is held of the state while no event is in hand.
+pub record IsHeld {S R D : Type 0} {g : Ghosts D} (t : Turns S R) (asked : Entry R) (old new : Desk S R D g) : Type 0 where
+  pub turn : t.Turn asked old.state new.state
+  pub pending : new.pending ≡ old.pending ++ asked.reply ∷ []
+  pub events : new.events ≡ old.events ++ asked.event
+  pub going : new.store.stopped ≡ false
+  pub any_moment : (committed : TableValue) → (length old.events ≡ 0 → t.held old.state ≡ committed) → AllHold old.store committed → LeavesTable old.store new.store committed
+  pub each : (committed : TableValue) → (length old.events ≡ 0 → t.held old.state ≡ committed) → AllHold old.store committed → AllHold new.store committed
+  pub goes : Goes old.store new.store
+
+-- The group in hand ends, and its replies are told: as they are, or, where it could not be committed, taken back.
+pub record IsSettled {S R D : Type 0} {g : Ghosts D} (t : Turns S R) (told : List R) (old new : Desk S R D g) : Type 0 where
+  pub state : new.state ≡ old.state
+  pub well : new.store.stopped ≡ false → (told ≡ old.pending) × (new.pending ≡ []) × (new.events ≡ [])
+  pub broken : new.store.stopped ≡ true → told ≡ map t.withdrawn old.pending
+  pub any_moment : (committed : TableValue) → Replays old.events committed (t.held old.state) → AllHold old.store committed → LeavesEither old.store new.store committed (t.held old.state)
+  pub each : new.store.stopped ≡ false → (committed : TableValue) → Replays old.events committed (t.held old.state) → AllHold old.store committed → AllHold new.store (t.held old.state)
+  pub goes : Goes old.store new.store
+
+-- The checkpoint before a request's event failed: the group ends with this request, and is taken back. A turn that changes nothing
+-- stands for the request.
+pub record IsFailed {S R D : Type 0} {g : Ghosts D} (t : Turns S R) (body : List ℕ) (told : List R) (old new : Desk S R D g) : Type 0 where
+  pub reply : R
+  pub event : List ℕ
+  pub turn : t.Turn (entry body reply event) old.state new.state
+  pub told_are : told ≡ map t.withdrawn old.pending ++ t.faulted body ∷ []
+  pub stopped : new.store.stopped ≡ true
+  pub any_moment : (committed : TableValue) → (length old.events ≡ 0 → t.held old.state ≡ committed) → AllHold old.store committed → LeavesTable old.store new.store committed
+  pub goes : Goes old.store new.store
+
+-- After a fault nothing is done.
+pub record IsOver {S R D : Type 0} {g : Ghosts D} (old new : Desk S R D g) : Type 0 where
+  pub was : old.store.stopped ≡ true
+  pub is : new.store.stopped ≡ true
+  pub disk : new.store.disk ≡ old.store.disk
+  pub state : new.state ≡ old.state
+  pub goes : Goes old.store new.store
+
+-- the request is held, and the group goes on
+pub record IsKeptBack {S R D : Type 0} {g : Ghosts D} (t : Turns S R) (size : ℕ) (body : List ℕ) (told : List R) (old new : Desk S R D g) : Type 0 where
+  pub was : old.store.stopped ≡ false
+  pub reply : R
+  pub event : List ℕ
+  pub held : IsHeld t (entry body reply event) old new
+  pub short : fills size (length new.pending) (length new.events) ≡ false
+  pub nothing : told ≡ []
+
+-- it is held, and that fills the group, which ends
+pub record IsFilled {S R D : Type 0} {g : Ghosts D} (t : Turns S R) (size : ℕ) (body : List ℕ) (told : List R) (old new : Desk S R D g) : Type 0 where
+  pub was : old.store.stopped ≡ false
+  pub reply : R
+  pub event : List ℕ
+  pub mid : Desk S R D g
+  pub held : IsHeld t (entry body reply event) old mid
+  pub full : fills size (length mid.pending) (length mid.events) ≡ true
+  pub settled : IsSettled t told mid new
+
+-- its checkpoint fails
+pub record IsFaulted {S R D : Type 0} {g : Ghosts D} (t : Turns S R) (body : List ℕ) (told : List R) (old new : Desk S R D g) : Type 0 where
+  pub was : old.store.stopped ≡ false
+  pub failed : IsFailed t body told old new
+
+-- the device has failed before
+pub record IsTooLate {S R D : Type 0} {g : Ghosts D} (t : Turns S R) (body : List ℕ) (told : List R) (old new : Desk S R D g) : Type 0 where
+  pub over : IsOver old new
+  pub told_is : told ≡ t.failed body ∷ []
+
+-- One request is taken, and these replies are handed out.
+abbrev pub IsTaken : {S R D : Type 0} {g : Ghosts D} → Turns S R → ℕ → List ℕ → List R → Desk S R D g → Desk S R D g → Type 0
+IsTaken t size body told old new = IsKeptBack t size body told old new ⊎ (IsFilled t size body told old new ⊎ (IsFaulted t body told old new ⊎ IsTooLate t body told old new))
+
+-- nothing was in hand
+pub record IsIdle {S R D : Type 0} {g : Ghosts D} (told : List R) (old new : Desk S R D g) : Type 0 where
+  pub none : old.pending ≡ []
+  pub nothing : told ≡ []
+  pub store : new.store ≡ old.store
+  pub state : new.state ≡ old.state
+
+-- the group in hand ends
+pub record IsLast {S R D : Type 0} {g : Ghosts D} (t : Turns S R) (told : List R) (old new : Desk S R D g) : Type 0 where
+  pub was : old.store.stopped ≡ false
+  pub some : old.pending ≢ []
+  pub settled : IsSettled t told old new
+
+-- the device has failed before
+pub record IsLeft {S R D : Type 0} {g : Ghosts D} (told : List R) (old new : Desk S R D g) : Type 0 where
+  pub over : IsOver old new
+  pub nothing : told ≡ []
+
+-- The input has ended, and these replies are handed out.
+abbrev pub IsEnded : {S R D : Type 0} {g : Ghosts D} → Turns S R → List R → Desk S R D g → Desk S R D g → Type 0
+IsEnded t told old new = IsIdle told old new ⊎ (IsLast t told old new ⊎ IsLeft told old new)

@@ -1,0 +1,55 @@
+-- What stands while requests are taken.
+use Rattle.std.specs.Prelude.{◌≡◌, ℕ, true, false, List, [], ◌∷◌, ◌++◌, length, map}
+use Rattle.oa_disk.specs.declared.disk.Disk.{Ghosts}
+use Rattle.oa_keeper.specs.Kept.{AllHold}
+use Rattle.oa_groups.specs.Desks.{Desk}
+use Rattle.oa_groups.specs.Groups.{cut, events_in, groups_of, joined, rest_of}
+use Rattle.oa_groups.specs.Runs.{Run, IsRun}
+use Rattle.oa_groups.specs.Served.{Goes}
+use Rattle.oa_groups.specs.Turns.{Entry, Turns, body_of, reply_of}
+
+-- Which groups are whole is known, whatever comes later.
+abbrev pub IsCut : {R : Type 0} → ℕ → List (List (Entry R)) → List (Entry R) → Type 0
+IsCut {R} size groups held = (later : List (Entry R)) → groups_of size (joined groups ++ (held ++ later)) ≡ groups ++ cut size held later
+
+-- The requests in hand are a group.
+abbrev pub IsGroup : {R : Type 0} → ℕ → List (List (Entry R)) → List (Entry R) → Type 0
+IsGroup size groups held = groups_of size (joined groups ++ held) ≡ groups ++ held ∷ []
+
+-- The input ends with the requests in hand.
+abbrev pub IsEnd : {R : Type 0} → ℕ → List (List (Entry R)) → List (Entry R) → Type 0
+IsEnd size groups held = groups_of size (joined groups ++ held) ≡ groups ++ rest_of held
+
+-- Some whole groups were answered, and the requests in hand are held. C says how the requests are cut.
+pub record Going {S R D : Type 0} {g : Ghosts D} (t : Turns S R) (C : List (List (Entry R)) → List (Entry R) → Type 0) (start now : Desk S R D g) (bodies : List (List ℕ)) (out : List R) : Type 0 where
+  pub groups : List (List (Entry R))
+  pub held : List (Entry R)
+  pub committed : S
+  pub cuts : C groups held
+  pub bodies_are : bodies ≡ map body_of (joined groups ++ held)
+  pub out_are : out ≡ map reply_of (joined groups)
+  pub pending_are : now.pending ≡ map reply_of held
+  pub events_are : now.events ≡ events_in held
+  pub stands : Run t start.state (joined groups) committed
+  pub runs : Run t committed held now.state
+  pub all : AllHold start.store (t.held start.state) → AllHold now.store (t.held committed)
+  pub moments : AllHold start.store (t.held start.state)
+      → (moments : List ℕ) × IsRun t g.moment g.image_since start.store.disk now.store.disk start.store.library.items start.state groups (length groups) moments
+
+-- A call of the device failed, in the group behind those that were answered.
+pub record Faulted {S R D : Type 0} {g : Ghosts D} (t : Turns S R) (size : ℕ) (start now : Desk S R D g) (bodies : List (List ℕ)) (replies : List R) : Type 0 where
+  pub groups : List (List (Entry R))
+  pub group : List (Entry R)
+  pub others : List (List ℕ)
+  pub cuts : IsGroup size groups group
+  pub bodies_are : bodies ≡ map body_of (joined groups ++ group) ++ others
+  pub replies_are : replies ≡ map reply_of (joined groups) ++ (map (λ asked. t.faulted asked.body) group ++ map t.failed others)
+  pub run : Run t start.state (joined groups ++ group) now.state
+  pub moments : AllHold start.store (t.held start.state)
+      → (moments : List ℕ) × IsRun t g.moment g.image_since start.store.disk now.store.disk start.store.library.items start.state (groups ++ group ∷ []) (length groups) moments
+
+-- These bodies were taken since the start, and these replies handed out.
+pub record Underway {S R D : Type 0} {g : Ghosts D} (t : Turns S R) (size : ℕ) (start now : Desk S R D g) (bodies : List (List ℕ)) (out : List R) : Type 0 where
+  pub going : now.store.stopped ≡ false → Going t (IsCut size) start now bodies out
+  pub broken : now.store.stopped ≡ true → Faulted t size start now bodies out
+  pub goes : Goes start.store now.store

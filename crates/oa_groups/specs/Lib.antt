@@ -1,0 +1,9 @@
+pub mod Desks
+pub mod Going
+pub mod Groups
+pub mod History
+pub mod Runs
+pub mod Served
+pub mod Sessions
+pub mod Simple
+pub mod Turns

@@ -1,0 +1,8 @@
+use Rattle.oa_image.proofs.Sized.{applied_sized, table_sized}
+use Rattle.oa_image.proofs.laws.images_are_counted.Goals as goal
+
+pub returns-clause-now : goal.returns-clause-now
+returns-clause-now c = table_sized
+
+pub returns-clause-after : goal.returns-clause-after
+returns-clause-after c = applied_sized

@@ -1,0 +1,165 @@
+//! Changes of a table in memory that a store keeps: their events are held, and go out under one gate.
+ghost use Rattle.std.specs.Prelude.{◌≡◌, ◌⊎◌, ◌+◌, ◌-◌, ◌^◌, ◌<◌, ◌≤◌, ◌++◌, [], true, false, length, IsErr, IsErrOf, IsOk, OnErr, OnOk};
+ghost use Rattle.oa_image.specs.Events.{event_image};
+ghost use Rattle.oa_image.specs.Tables.{is_numbered, table_image};
+ghost use Rattle.oa_journal.specs.Append.{group_of};
+ghost use Rattle.oa_journal.specs.Bank.{bank_bytes};
+ghost use Rattle.oa_journal.specs.Replays.{Replays};
+ghost use Rattle.oa_keeper.specs.Kept.{AllHold, HasRoom, Keeps, LeavesEither, LeavesTable};
+ghost use Rattle.oa_keeper.specs.declared.fault.KeepFault.{KeepFault};
+ghost use Rattle.oa_table.specs.Events.{BringsNoLocks, applied};
+ghost use Rattle.oa_table.specs.Tables.{TableValue, unlocked_table};
+
+use crate::{Broken, Frame, KeepFault};
+use oa_disk::Disk;
+use oa_image::laws::numbers_stay;
+use oa_store::{CheckpointFault, Store};
+use oa_table::{Event, Table};
+
+/// Makes room for the events of a group before the first of them: a checkpoint of the table, where one is due. Where events are in hand
+/// nothing is done. The images hold the same table at every moment.
+pub fn make_room<D: Disk>(
+    store: &mut Store<D>,
+    table: &Table,
+    frame: &Frame,
+) -> Result<(), KeepFault>
+    requires goes_on { store.old.stopped ≡ false }
+    requires numbered { is_numbered table.now ≡ true }
+    requires fits { length (table_image table.now) ≤ 14680064 }
+    requires room { HasRoom frame.now store.old }
+
+    // Whatever table the images hold, which is the one in memory while no event is in hand.
+    ensures any_moment { (committed : TableValue) → (length frame.now ≡ 0 → unlocked_table table.now ≡ committed) → AllHold store.old committed → LeavesTable store.old store.new committed }
+    ensures each { store.new.stopped ≡ false → (committed : TableValue) → (length frame.now ≡ 0 → unlocked_table table.now ≡ committed) → AllHold store.old committed → AllHold store.new committed }
+    ensures quiet { 0 < length frame.now → (store.new.disk ≡ store.old.disk) × IsOk result }
+    // No checkpoint is made that is not due.
+    ensures undue { 1572869 ≤ bank_bytes - store.old.bank.gate → (store.new.disk ≡ store.old.disk) × IsOk result }
+    ensures room { OnOk result (1572869 ≤ bank_bytes - store.new.bank.gate) }
+    ensures room_kept { store.new.stopped ≡ false → HasRoom frame.now store.new }
+
+    ensures going { (IsErrOf result KeepFault.Write → ⊥) → store.new.stopped ≡ false }
+    ensures stops { IsErrOf result KeepFault.Write → (store.new.stopped ≡ true) × (D.failures_of store.new.disk < 2 ^ 64 - 1 → D.failures_of store.old.disk < D.failures_of store.new.disk) }
+    ensures library { store.new.library.items ≡ store.old.library.items }
+    ensures honest { D.is_honest store.new.disk ≡ D.is_honest store.old.disk }
+    ensures failures { D.failures_of store.old.disk ≤ D.failures_of store.new.disk }
+{
+    if !frame.is_empty() {
+        return Ok(());
+    }
+    if !store.checkpoint_due() {
+        return Ok(());
+    }
+    match store.checkpoint(table) {
+        Ok(()) => Ok(()),
+        Err(CheckpointFault::Memory) => Err(KeepFault::Memory),
+        Err(CheckpointFault::Device(_) | CheckpointFault::Stopped) => Err(KeepFault::Write),
+    }
+}
+
+/// Makes a change of the table in memory, and adds its event to those in hand. The growths come in this order: the event's bytes, the
+/// table's. Makes no call of the device.
+pub fn change(table: &mut Table, frame: &mut Frame, event: Event) -> Result<(), KeepFault>
+    requires unlocked { BringsNoLocks event }
+    requires applies { IsOk (applied event table.old) }
+    ensures change { Keeps event table.old table.new result }
+    ensures event { OnOk result (frame.new ≡ frame.old ++ event_image event) }
+    ensures same { OnErr result (frame.new ≡ frame.old) }
+    ensures kind { IsErr result → IsErrOf result KeepFault.Memory }
+{
+    let before = frame.len();
+    frame.add(&event)?;
+    if let Err(_) = table.apply(event) {
+        frame.cut(before);
+        return Err(KeepFault::Memory);
+    }
+    Ok(())
+}
+
+/// Makes a change of the table in memory, and holds its event until `commit`. Before the first event of a group a checkpoint is made,
+/// where one is due, with the table before the change; then the growths of the event's bytes and of the table follow.
+pub fn hold<D: Disk>(
+    store: &mut Store<D>,
+    table: &mut Table,
+    frame: &mut Frame,
+    event: Event,
+) -> Result<(), KeepFault>
+    requires goes_on { store.old.stopped ≡ false }
+    requires numbered { is_numbered table.old ≡ true }
+    requires fits { length (table_image table.old) ≤ 14680064 }
+    requires unlocked { BringsNoLocks event }
+    requires applies { IsOk (applied event table.old) }
+    requires room { HasRoom frame.old store.old }
+
+    ensures change { Keeps event table.old table.new result }
+    ensures event { OnOk result (frame.new ≡ frame.old ++ event_image event) }
+    ensures same { OnErr result (frame.new ≡ frame.old) }
+    ensures numbered { is_numbered table.new ≡ true }
+    // Whatever table the images hold, which is the one in memory while no event is in hand, they go on to hold it.
+    ensures any_moment { (committed : TableValue) → (length frame.old ≡ 0 → unlocked_table table.old ≡ committed) → AllHold store.old committed → LeavesTable store.old store.new committed }
+    ensures each { store.new.stopped ≡ false → (committed : TableValue) → (length frame.old ≡ 0 → unlocked_table table.old ≡ committed) → AllHold store.old committed → AllHold store.new committed }
+    ensures quiet { 0 < length frame.old → store.new.disk ≡ store.old.disk }
+    ensures undue { 1572869 ≤ bank_bytes - store.old.bank.gate → store.new.disk ≡ store.old.disk }
+    ensures room { store.new.stopped ≡ false → HasRoom frame.new store.new }
+
+    ensures going { (IsErrOf result KeepFault.Write → ⊥) → store.new.stopped ≡ false }
+    ensures stops { IsErrOf result KeepFault.Write → (store.new.stopped ≡ true) × (D.failures_of store.new.disk < 2 ^ 64 - 1 → D.failures_of store.old.disk < D.failures_of store.new.disk) }
+    ensures library { store.new.library.items ≡ store.old.library.items }
+    ensures honest { D.is_honest store.new.disk ≡ D.is_honest store.old.disk }
+    ensures failures { D.failures_of store.old.disk ≤ D.failures_of store.new.disk }
+{
+    make_room(store, table, frame)?;
+    numbers_stay();
+    change(table, frame, event)
+}
+
+/// Ends a group: its events go out under one gate, with two writes and two syncs. A group without events makes no call of the device.
+/// Afterwards the frame has none, and keeps its memory. Takes none.
+pub fn commit<D: Disk>(store: &mut Store<D>, frame: &mut Frame) -> Result<(), Broken>
+    requires goes_on { store.old.stopped ≡ false }
+    requires room { HasRoom frame.old store.old }
+    requires few { length frame.old ≤ 1572863 }
+
+    // Whatever table the images hold, and whatever the events make of it.
+    ensures any_moment { (committed now : TableValue) → Replays frame.old committed now → AllHold store.old committed → LeavesEither store.old store.new committed now }
+    ensures each { store.new.stopped ≡ false → (committed now : TableValue) → Replays frame.old committed now → AllHold store.old committed → AllHold store.new now }
+    ensures quiet { length frame.old ≡ 0 → (store.new.disk ≡ store.old.disk) × IsOk result }
+    ensures emptied { frame.new ≡ [] }
+
+    ensures going { OnOk result (store.new.stopped ≡ false) }
+    ensures stops { OnErr result ((store.new.stopped ≡ true) × (D.failures_of store.new.disk < 2 ^ 64 - 1 → D.failures_of store.old.disk < D.failures_of store.new.disk)) }
+    ensures library { store.new.library.items ≡ store.old.library.items }
+    ensures honest { D.is_honest store.new.disk ≡ D.is_honest store.old.disk }
+    ensures failures { D.failures_of store.old.disk ≤ D.failures_of store.new.disk }
+{
+    commit_bytes(store, &mut frame.bytes)
+}
+
+/// The same of a frame's bytes.
+fn commit_bytes<D: Disk>(store: &mut Store<D>, bytes: &mut Vec<u8>) -> Result<(), Broken>
+    requires goes_on { store.old.stopped ≡ false }
+    requires len { (length bytes.old.items ≡ 0) ⊎ (5 ≤ length bytes.old.items) }
+    requires room { HasRoom (group_of bytes.old.items) store.old }
+    requires few { length bytes.old.items ≤ 1572868 }
+    ensures any_moment { (committed now : TableValue) → Replays (group_of bytes.old.items) committed now → AllHold store.old committed → LeavesEither store.old store.new committed now }
+    ensures each { store.new.stopped ≡ false → (committed now : TableValue) → Replays (group_of bytes.old.items) committed now → AllHold store.old committed → AllHold store.new now }
+    ensures quiet { length (group_of bytes.old.items) ≡ 0 → (store.new.disk ≡ store.old.disk) × IsOk result }
+    ensures emptied { bytes.new.items ≡ [] }
+    ensures going { OnOk result (store.new.stopped ≡ false) }
+    ensures stops { OnErr result ((store.new.stopped ≡ true) × (D.failures_of store.new.disk < 2 ^ 64 - 1 → D.failures_of store.old.disk < D.failures_of store.new.disk)) }
+    ensures library { store.new.library.items ≡ store.old.library.items }
+    ensures honest { D.is_honest store.new.disk ≡ D.is_honest store.old.disk }
+    ensures failures { D.failures_of store.old.disk ≤ D.failures_of store.new.disk }
+{
+    if bytes.len() <= 5 {
+        bytes.clear();
+        return Ok(());
+    }
+    match store.commit(bytes) {
+        Ok(()) => bytes.clear(),
+        Err(_) => {
+            bytes.clear();
+            return Err(Broken);
+        }
+    }
+    Ok(())
+}

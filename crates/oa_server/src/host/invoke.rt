@@ -1,0 +1,60 @@
+//! INVOKE.
+ghost use Rattle.std.specs.Prelude.{◌≡◌, true, IfOk};
+ghost use Rattle.oa_server.specs.Decisions.{ChangesNoLocks, Decides};
+ghost use Rattle.oa_server.specs.Invoke.{invocation, value_of};
+ghost use Rattle.oa_variant.specs.Variants.{HasZero};
+
+use super::Host;
+use super::cell::BoundCell;
+use crate::decision::{Decision, Undecided};
+use crate::fields::Fields;
+use oa_model::{HResult, ValueType};
+use oa_record::{Call, variant_field};
+use oa_table::{CellName, Event};
+use oa_typelib::Access;
+use oa_variant::Variant;
+use std::alloc::AllocError;
+
+impl Host {
+    /// Decides an INVOKE: a get tells the value of its cell, a put sets it.
+    #[tactic(auto, using(crate::proofs::Zeros::no_locks))]
+    pub(super) fn invocation(&self, call: Call) -> Result<Decision, Undecided>
+        ensures decided { Decides (invocation self.now call) true result }
+        ensures unlocked { IfOk result ChangesNoLocks }
+    {
+        let access = Access::Flags(call.head.flags);
+        let BoundCell {
+            name,
+            declared,
+            value,
+        } = self.find_cell(call, access)?;
+        match value {
+            None => {
+                let fields = self.value_field(&name, declared)?;
+                let code = HResult::S_OK;
+                Ok(Decision::Answer { code, fields })
+            }
+            Some(value) => {
+                let value = value.into_unlocked();
+                let event = Event::Put { name, value };
+                let fields = Fields::none(self.alloc);
+                Ok(Decision::Change { event, fields })
+            }
+        }
+    }
+
+    /// A cell's value as the fields of a reply.
+    fn value_field(&self, name: &CellName, declared: ValueType) -> Result<Fields, AllocError>
+        requires { HasZero declared }
+        ensures { IfOk result (λ fields. fields ≡ value_of self.now name.now declared) }
+    {
+        let bytes = match self.table.get(name) {
+            Some(value) => variant_field(self.alloc, value)?,
+            None => {
+                let zero = Variant::zero(self.alloc, declared)?;
+                variant_field(self.alloc, &zero)?
+            }
+        };
+        Ok(Fields::new(bytes))
+    }
+}

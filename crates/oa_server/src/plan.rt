@@ -1,0 +1,21 @@
+//! What is left of a turn once its body was looked at.
+use crate::fields::Fields;
+use oa_record::Reply;
+use oa_table::Event;
+
+/// What is left of a turn.
+#[derive(Drop)]
+pub(crate) enum Plan {
+    /// Nothing: the body was answered, and what an image holds of the table is as it was.
+    Answered(Reply),
+    /// A change of the table.
+    Change(Planned),
+}
+
+/// A change that is to be made, and then told with this tag and these fields.
+#[derive(Drop)]
+pub(crate) struct Planned {
+    pub tag: u32,
+    pub event: Event,
+    pub fields: Fields,
+}

@@ -1,0 +1,230 @@
+//! The objects of a table, and their changes.
+ghost use Rattle.std.specs.Prelude.{◌≡◌, length, IfOk};
+ghost use Rattle.std.specs.List.Sorted.{IsStrictlySortedBy};
+ghost use Rattle.std.specs.Map.{keys_of};
+ghost use Rattle.std.specs.Option.{option_map};
+ghost use Rattle.std.specs.Ordering.{nat_cmp};
+ghost use Rattle.oa_table.specs.Elements.{element_put, redimensioned_value};
+ghost use Rattle.oa_table.specs.Events.{BringsNoLocks, applied};
+ghost use Rattle.oa_table.specs.Locks.{locked_in, locks_at, with_lock, without_lock};
+ghost use Rattle.oa_table.specs.Objects.{with_change};
+ghost use Rattle.oa_table.specs.Outcomes.{Counts, Does};
+ghost use Rattle.oa_table.specs.Parts.{table_of};
+ghost use Rattle.oa_table.specs.Tables.{first_table, object_at};
+
+use crate::parts::ordered_objects;
+use crate::{CellName, Event, LiveObject, Object, TableFault};
+use oa_array::{ArrayFault, Indices};
+use oa_model::{Bound, GREATEST_OBJECT_NUMBER};
+use oa_variant::{Scalar, Variant};
+use std::alloc::{AllocError, Global};
+use std::collections::BTreeMap;
+use std::collections::btree_map::Iter;
+use std::marker::Model;
+use uuid::Uuid;
+
+/// The next number, and the live objects by their numbers: a table without what is counted of it.
+#[derive(Drop)]
+pub(crate) struct Objects {
+    alloc: Global,
+    next: u32,
+    objects: BTreeMap<u32, LiveObject>,
+}
+
+impl Model for Objects {
+    ghost use Rattle.oa_table.specs.Tables.{TableValue};
+
+    ghost Value = { TableValue };
+
+    ghost view = { λ t. record { next = t.next; objects = t.objects.entries } };
+}
+
+impl Objects {
+    /// The table at first: no objects, and the next number is 1. Takes no memory.
+    pub(crate) fn new(alloc: Global) -> Objects
+        ensures { result ≡ first_table }
+    {
+        Objects {
+            alloc,
+            next: 1,
+            objects: BTreeMap::new(alloc),
+        }
+    }
+
+    /// The objects of a next number and of this list, in order of their numbers and each with its cells in order.
+    pub(crate) fn from_parts(
+        alloc: Global,
+        next: u32,
+        objects: Vec<Object>,
+    ) -> Result<Objects, AllocError>
+        ensures { IfOk result (λ table. table ≡ table_of next objects.items) }
+    {
+        let objects = ordered_objects(alloc, objects)?;
+        Ok(Objects {
+            alloc,
+            next,
+            objects,
+        })
+    }
+
+    /// The number of the next object; above the greatest one where the numbers are used up.
+    pub(crate) fn next(&self) -> u32
+        ensures { result ≡ self.now.next }
+    {
+        self.next
+    }
+
+    /// How many objects are live.
+    pub(crate) fn len(&self) -> usize
+        ensures { result ≡ length self.now.objects }
+    {
+        self.objects.len()
+    }
+
+    /// The objects by rising number, each with its cells. Takes no memory.
+    pub(crate) fn objects(&self) -> Iter<'_, u32, LiveObject>
+        ensures { result ≡ self.now.objects }
+    {
+        self.objects.iter()
+    }
+
+    /// A fact and no work: the numbers of the objects rise.
+    pub(crate) fn numbers_rise(&self)
+        ensures { IsStrictlySortedBy nat_cmp (keys_of self.now.objects) }
+    {
+        let _count = self.objects.len();
+    }
+
+    /// An object, if it is live.
+    pub(crate) fn get(&self, number: u32) -> Option<&LiveObject>
+        ensures { option_map (λ o. o.now) result ≡ object_at number self.now }
+    {
+        self.objects.get(&number)
+    }
+
+    /// Whether an array of an object is locked. Looks at the object's own cells.
+    pub(crate) fn locked(&self, number: u32) -> bool
+        ensures { result ≡ locked_in (object_at number self.now) }
+    {
+        match self.objects.get(&number) {
+            Some(object) => object.is_locked(),
+            None => false,
+        }
+    }
+
+    /// Makes a change: the table is the one after the event. An event that does not apply, or for which no memory is found, is handed
+    /// back with the reason, and nothing changes. A value that is put has no locks.
+    pub(crate) fn apply(&mut self, event: Event) -> Result<(), (Event, TableFault)>
+        requires { BringsNoLocks event }
+        ensures { Does event (applied event self.old) self.old self.new result }
+    {
+        match event {
+            Event::Create { number, class } => self.create(number, class),
+            Event::Release { number } => self.release(number),
+            Event::Put { name, value } => self.put(name, value),
+            Event::PutElement { name, index, value } => self.put_element(name, index, value),
+            Event::Redim { name, bound } => self.redim(name, bound),
+        }
+    }
+
+    /// Adds a lock of the array in a cell, and answers the new count. NoObject where there is no such object, NotArray where the cell was
+    /// never put or holds no array, and else what the array refuses. Takes no memory.
+    pub(crate) fn lock(&mut self, name: &CellName) -> Result<u16, TableFault>
+        ensures { Counts (with_lock name.now self.old) (locks_at name.now) self.old self.new result }
+    {
+        let Some(found) = self.objects.get_mut(&name.object) else {
+            return Err(TableFault::NoObject);
+        };
+        found.lock(&name.place)
+    }
+
+    /// Takes a lock of the array in a cell away, and answers the new count. Refused as `lock` is. Takes no memory.
+    pub(crate) fn unlock(&mut self, name: &CellName) -> Result<u16, TableFault>
+        ensures { Counts (without_lock name.now self.old) (locks_at name.now) self.old self.new result }
+    {
+        let Some(found) = self.objects.get_mut(&name.object) else {
+            return Err(TableFault::NoObject);
+        };
+        found.unlock(&name.place)
+    }
+
+    fn create(&mut self, number: u32, class: Uuid) -> Result<(), (Event, TableFault)>
+        ensures { let event = Event.Create number class in Does event (applied event self.old) self.old self.new result }
+    {
+        if number != self.next || number > GREATEST_OBJECT_NUMBER {
+            return Err((Event::Create { number, class }, TableFault::WrongNumber));
+        }
+        match self
+            .objects
+            .insert(number, LiveObject::new(self.alloc, class))
+        {
+            Ok(_) => {
+                self.next = number + 1;
+                Ok(())
+            }
+            Err(_) => Err((Event::Create { number, class }, TableFault::Memory)),
+        }
+    }
+
+    fn release(&mut self, number: u32) -> Result<(), (Event, TableFault)>
+        ensures { let event = Event.Release number in Does event (applied event self.old) self.old self.new result }
+    {
+        if self.locked(number) {
+            return Err((
+                Event::Release { number },
+                TableFault::Array(ArrayFault::IsLocked),
+            ));
+        }
+        match self.objects.remove(&number) {
+            Some(_) => Ok(()),
+            None => Err((Event::Release { number }, TableFault::NoObject)),
+        }
+    }
+
+    fn put(&mut self, name: CellName, value: Variant) -> Result<(), (Event, TableFault)>
+        ensures { let event = Event.Put name value in Does event (applied event self.old) self.old self.new result }
+    {
+        let CellName { object, place } = name;
+        let Some(found) = self.objects.get_mut(&object) else {
+            let name = CellName { object, place };
+            return Err((Event::Put { name, value }, TableFault::NoObject));
+        };
+        let Err(((place, value), fault)) = found.put(place, value) else {
+            return Ok(());
+        };
+        let name = CellName { object, place };
+        Err((Event::Put { name, value }, fault))
+    }
+
+    fn put_element(
+        &mut self,
+        name: CellName,
+        index: Indices,
+        value: Scalar,
+    ) -> Result<(), (Event, TableFault)>
+        ensures { let event = Event.PutElement name index value in Does event (applied event self.old) self.old self.new result }
+    {
+        let Some(found) = self.objects.get_mut(&name.object) else {
+            return Err((
+                Event::PutElement { name, index, value },
+                TableFault::NoObject,
+            ));
+        };
+        let Err((value, fault)) = found.put_element(&name.place, index.as_slice(), value) else {
+            return Ok(());
+        };
+        Err((Event::PutElement { name, index, value }, fault))
+    }
+
+    fn redim(&mut self, name: CellName, bound: Bound) -> Result<(), (Event, TableFault)>
+        ensures { let event = Event.Redim name bound in Does event (applied event self.old) self.old self.new result }
+    {
+        let Some(found) = self.objects.get_mut(&name.object) else {
+            return Err((Event::Redim { name, bound }, TableFault::NoObject));
+        };
+        let Err((bound, fault)) = found.redim(self.alloc, &name.place, bound) else {
+            return Ok(());
+        };
+        Err((Event::Redim { name, bound }, fault))
+    }
+}

@@ -7,6 +7,8 @@ mod fault;
 mod library;
 mod place;
 mod play;
+mod serve;
+mod session;
 mod shown;
 mod store;
 mod streams;
@@ -61,6 +63,9 @@ fn act(rt: &HostRuntime, name: &str, arguments: &ArgMatches) -> Result<(), Fault
     if name == "play" {
         return plays(rt, arguments);
     }
+    if name == "serve" {
+        return serves(rt, arguments);
+    }
     if name == "format" {
         return formats(rt, arguments);
     }
@@ -74,6 +79,16 @@ fn plays(rt: &HostRuntime, arguments: &ArgMatches) -> Result<(), Fault> {
     play::play(
         rt,
         arguments.get_str("LIB").unwrap_or(""),
+        arguments.get_flag("hex"),
+    )
+}
+
+fn serves(rt: &HostRuntime, arguments: &ArgMatches) -> Result<(), Fault> {
+    serve::serve(
+        rt,
+        arguments.get_str("STORE").unwrap_or(""),
+        arguments.get_str("LIB").unwrap_or(""),
+        arguments.get_one::<u16>("group").unwrap_or(1),
         arguments.get_flag("hex"),
     )
 }

@@ -1,14 +1,18 @@
 -- A group is committed, or a checkpoint made.
+use Rattle.std.proofs.lemmas.List.{append-nil}
 use Rattle.std.specs.List.{AllByRecursion, flat_map}
-use Rattle.std.proofs.Common.{◌≡◌, ◌⊎◌, ℕ, ◌+◌, List, [], ◌∷◌, length, Result, Ok, refl, sym, ◌∙◌, ap, inl, inr, ⊎_elim, arith, length-append}
+use Rattle.std.proofs.Common.{◌≡◌, ◌⊎◌, ℕ, ◌+◌, List, [], ◌∷◌, length, Result, Ok, refl, sym, ◌∙◌, ap, inl, inr, ⊎_elim, arith, length-append, subst, IfOk}
 use Rattle.oa_disk.specs.Disk.{LeavesOnly}
 use Rattle.oa_disk.specs.Moments.{started}
-use Rattle.oa_image.specs.Events.{event}
+use Rattle.oa_image.specs.Events.{event, event_image}
 use Rattle.oa_image.proofs.Lengths.{event_bytes}
+use Rattle.oa_image.proofs.Unlocked.{brings_none}
 use Rattle.oa_journal.specs.Replays.{Replays, applied_all}
 use Rattle.oa_store.specs.Changes.{IsCommit, IsCommitted}
 use Rattle.oa_store.specs.Stores.{IsStoreAt, IsStore}
-use Rattle.oa_table.specs.Tables.{TableValue}
+use Rattle.oa_table.proofs.Unlocked.{event_follows}
+use Rattle.oa_table.specs.Events.{applied}
+use Rattle.oa_table.specs.Tables.{TableValue, unlocked_table}
 use Rattle.oa_table.specs.declared.event.Event.{Event}
 use Rattle.oa_table.specs.declared.fault.TableFault.{TableFault}
 use Rattle.oa_keeper.specs.Kept.{EachIs}
@@ -37,3 +41,14 @@ no_change group before after none replays = by replays.events replays.are.are (s
     by : (es : List Event) → AllByRecursion event.Is es → length (flat_map event.image es) ≡ 0 → applied_all es before ≡ Ok after → before ≡ after
     by [] are empty makes = same (Ok before) (Ok after) before after refl refl makes
     by (e ∷ es) are empty makes = absurd (omega (arith, empty, length-append (event.image e) (flat_map event.image es), event_bytes e are.0))
+
+-- an event makes of what images hold of a table what they hold of the table after it
+pub one_event : (e : Event) (table after : TableValue) → event.Is e → applied e table ≡ Ok after → Replays (event_image e) (unlocked_table table) (unlocked_table after)
+one_event e table after is makes =
+    let follows : applied e (unlocked_table table) ≡ Ok (unlocked_table after) =
+    subst (λ (r : Result TableValue TableFault). IfOk r (λ new. applied e (unlocked_table table) ≡ Ok (unlocked_table new))) makes (event_follows e table (brings_none e is)) in
+    record {
+      events = e ∷ [];
+      are = record { are = (is, tt); whole = sym (append-nil (event_image e)) };
+      makes = rw follows refl;
+    }

@@ -18,7 +18,7 @@ use Rattle.oa_table.specs.Locks.{with_lock, without_lock}
 use Rattle.oa_table.specs.Objects.{changed_if_put, with_change, with_value}
 use Rattle.oa_table.specs.Outcomes.{mapped}
 use Rattle.oa_table.specs.Places.{PlaceValue, place_cmp}
-use Rattle.oa_table.specs.Tables.{ObjectValue, TableValue, cell_at, object_at, unlocked_object, unlocked_table}
+use Rattle.oa_table.specs.Tables.{ObjectValue, TableValue, cell_at, object_at, unlocked_cell, unlocked_entry, unlocked_object, unlocked_table}
 
 -- a change that is not seen through g
 abbrev Unseen : {A : Type 0} → (A → A) → (A → Result A TableFault) → A → Type 0
@@ -99,3 +99,20 @@ lock_stays name table = table_unseen name.place locked_value lock_unseen name.ob
 
 pub unlock_stays : (name : CellName) (table : TableValue) → Unseen unlocked_table (without_lock name) table
 unlock_stays name table = table_unseen name.place released_value unlock_unseen name.object table
+
+-- what an image holds of what it holds
+pub unlocked_twice : (table : TableValue) → unlocked_table (unlocked_table table) ≡ unlocked_table table
+unlocked_twice table = ap (λ (objects : List (ℕ × ObjectValue)). record table { objects = objects }) (objects table.objects)
+  where
+    value : (v : Variant) → unlocked (unlocked v) ≡ unlocked v
+    value (One s) = refl
+    value (AnArray a) = refl
+
+    cells : (cs : List (PlaceValue × Variant)) → map unlocked_cell (map unlocked_cell cs) ≡ map unlocked_cell cs
+    cells [] = refl
+    cells (c ∷ cs) = ap (λ (v : Variant). (c.0, v) ∷ map unlocked_cell (map unlocked_cell cs)) (value c.1) ∙ ap (λ (l : List (PlaceValue × Variant)). unlocked_cell c ∷ l) (cells cs)
+
+    objects : (os : List (ℕ × ObjectValue)) → map unlocked_entry (map unlocked_entry os) ≡ map unlocked_entry os
+    objects [] = refl
+    objects (o ∷ os) =
+        ap (λ (cs : List (PlaceValue × Variant)). (o.0, record o.1 { cells = cs }) ∷ map unlocked_entry (map unlocked_entry os)) (cells o.1.cells) ∙ ap (λ (l : List (ℕ × ObjectValue)). unlocked_entry o ∷ l) (objects os)

@@ -1,10 +1,8 @@
 -- What arguments make of a property fits it: the key its parameters, and a new value its type.
-use Rattle.std.proofs.Common.{◌≡◌, ℕ, ◌+◌, ℤ, Bool, true, false, List, [], ◌∷◌, length, Option, Some, None, Result, Ok, Err, IfOk, IfSome, IsSome, is_some, refl, sym, ap, subst, ◌∙◌}
+use Rattle.std.proofs.Common.{◌≡◌, ℕ, ◌+◌, ℤ, Bool, true, false, List, [], ◌∷◌, length, Option, Some, None, Result, Ok, Err, IfOk, IfSome, refl, sym, subst}
 use Rattle.std.specs.Prelude.{if◌then◌else◌}
-use Rattle.std.specs.List.{AllByRecursion}
 use Rattle.std.specs.Option.{option_and_then, option_map, unwrap_or}
-use Rattle.std.proofs.lemmas.Bool.{and_from, or_right}
-use Rattle.std.proofs.lemmas.Option.{none-some}
+use Rattle.std.proofs.lemmas.Bool.{and_from}
 use Rattle.oa_model.specs.declared.var_type.VarType.{VarType}
 use Rattle.oa_model.specs.declared.var_type.VarType.TheVariants as types
 use Rattle.oa_model.specs.declared.var_type.ValueType.{ValueType}
@@ -12,25 +10,23 @@ use Rattle.oa_model.specs.declared.var_type.ValueType.TheVariants as kinds
 use Rattle.oa_idl.specs.declared.parts.Literal.{Literal}
 use Rattle.oa_idl.specs.declared.parts.Literal.TheVariants as literals
 use Rattle.oa_idl.specs.declared.parts.Parameter.{Parameter}
-use Rattle.oa_variant.specs.Decimals.{DecimalValue}
-use Rattle.oa_variant.specs.Scalars.{fits_type, same_type, type_of, zero_of}
+use Rattle.oa_variant.specs.Scalars.{fits_type}
 use Rattle.oa_variant.specs.Variants.{fits_declared}
 use Rattle.oa_variant.specs.declared.scalar.Scalar.{Scalar}
 use Rattle.oa_variant.specs.declared.scalar.Scalar.TheVariants as scalars
 use Rattle.oa_variant.specs.declared.variant.Variant.{Variant}
 use Rattle.oa_variant.specs.declared.variant.Variant.TheVariants.{One, Array}
 use Rattle.oa_coerce.specs.Answers.{coerced, coerced_scalar}
-use Rattle.oa_coerce.specs.Coercions.{CoercesScalar, Coerces}
 use Rattle.oa_coerce.specs.declared.fault.CoerceFault.{CoerceFault}
 use Rattle.oa_coerce.proofs.Computed.{answer_scalar, answer_value}
 use Rattle.oa_coerce.proofs.Properties.{answer_fits, scalar_fits}
-use Rattle.oa_typelib.specs.Bindable.{AreScalars, HasGoodDefault, IsBindable, IsOne}
-use Rattle.oa_typelib.specs.Defaults.{decimal_from, default_of, default_value, holds_texts, holds_truths, natural, number_as, text_as, truth_as, whole, wide}
+use Rattle.oa_typelib.specs.Bindable.{AreScalars, IsBindable, IsOne}
+use Rattle.oa_typelib.specs.Defaults.{default_of, number_as, text_as, truth_as, wide}
 use Rattle.oa_typelib.specs.MemberValues.{MemberValue}
 use Rattle.oa_typelib.specs.declared.access.Kind.{Kind}
 use Rattle.oa_typelib.specs.declared.access.Kind.TheVariants.{Get, Put}
 use Rattle.oa_bind.specs.declared.fault.BindFault.{BindFault}
-use Rattle.oa_bind.specs.Bindings.{bound, bound_to, missing_value, new_value, new_value_of, parameter_value, scalar_type, told, value_by, value_of, without_default}
+use Rattle.oa_bind.specs.Bindings.{bound, bound_to, new_value, new_value_of, parameter_value, scalar_type, told, value_by, value_of, without_default}
 use Rattle.oa_bind.specs.Calls.{CallValue}
 use Rattle.oa_bind.specs.Given.{Given, argument_for, at, index_of, new_value_id}
 use Rattle.oa_bind.specs.Names.{complete, well_named}

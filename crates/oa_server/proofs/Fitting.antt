@@ -1,7 +1,6 @@
 -- A turn leaves a table that its library can have.
-use Rattle.std.proofs.Common.{rules, ◌≡◌, ℕ, ℤ, Bool, true, false, List, [], ◌∷◌, Option, Some, None, Result, Ok, Err, IfOk, IfSome, IsSome, is_some, inl, inr, refl, sym, ap, subst, ◌∙◌}
+use Rattle.std.proofs.Common.{rules, ◌≡◌, ℕ, Bool, true, false, List, [], ◌∷◌, Option, Some, None, Result, Ok, Err, IfOk, IfSome, is_some, inl, inr, refl, sym, ap, subst, ◌∙◌}
 use Rattle.std.specs.Prelude.{if◌then◌else◌, not}
-use Rattle.std.specs.List.{AllByRecursion}
 use Rattle.std.specs.Option.{option_and_then}
 use Rattle.std.proofs.lemmas.Bool.{and_from}
 use Rattle.std.proofs.lemmas.Option.{none-some}
@@ -15,11 +14,8 @@ use Rattle.oa_idl.specs.Trees.{TreeValue}
 use Rattle.oa_idl.specs.Values.{CoclassValue, InterfaceValue}
 use Rattle.oa_idl.specs.declared.items.Item.{Item}
 use Rattle.oa_idl.specs.declared.items.Item.TheVariants.{Interface, Coclass}
-use Rattle.oa_variant.specs.Scalars.{fits_type, same_type, zero_of}
 use Rattle.oa_variant.specs.Variants.{fits_declared, unlocked, zero_value}
 use Rattle.oa_variant.specs.declared.variant.Variant.{Variant}
-use Rattle.oa_variant.specs.declared.variant.Variant.TheVariants.{One, Array}
-use Rattle.oa_coerce.specs.Coercions.{Coerces}
 use Rattle.oa_typelib.specs.Bindable.{AreSound, IsBindable, IsSoundItem}
 use Rattle.oa_typelib.specs.Checked.{IsChecked}
 use Rattle.oa_typelib.specs.Declarations.{declarations}
@@ -43,15 +39,15 @@ use Rattle.oa_record.specs.declared.request.Request.TheVariants as requests
 use Rattle.oa_table.specs.declared.event.Event.{Event}
 use Rattle.oa_table.specs.declared.event.Event.TheVariants as events
 use Rattle.oa_table.specs.declared.fault.TableFault.{TableFault}
-use Rattle.oa_table.specs.declared.name.CellName.{CellName}
 use Rattle.oa_table.specs.Elements.{redimensioned_value}
 use Rattle.oa_table.specs.Events.{applied}
 use Rattle.oa_table.specs.Places.{PlaceValue}
 use Rattle.oa_table.specs.Tables.{ObjectValue, TableValue, class_in, object_at}
 use Rattle.oa_fits.specs.Brings.{brings_fitting, put_fits}
-use Rattle.oa_fits.specs.Fits.{cell_fits, entered, fits, interface_fits, key_fits, property_fits}
+use Rattle.oa_fits.specs.Fits.{entered, fits, key_fits}
 use Rattle.oa_fits.proofs.Entered.{found_property, selected_entered}
 use Rattle.oa_fits.proofs.Kept.{lock_kept, redim_leaves, unlock_kept, unlocked_alike}
+use Rattle.oa_server.specs.Limits.{allowed}
 use Rattle.oa_server.specs.declared.decision.Decision.{Decision}
 use Rattle.oa_server.specs.declared.decision.Decision.TheVariants.{Answer, Change, Relock}
 use Rattle.oa_server.specs.declared.decision.LockChange.{LockChange}
@@ -59,11 +55,11 @@ use Rattle.oa_server.specs.declared.decision.LockChange.TheVariants.{Lock, Unloc
 use Rattle.oa_server.specs.declared.refusal.Refusal.{Refusal}
 use Rattle.oa_server.specs.declared.host.cell.BoundCell.{BoundCell}
 use Rattle.oa_server.specs.ArrayCells.{as_element, as_refused, element_in, element_type_in, locks_in, put_in}
-use Rattle.oa_server.specs.Cells.{bound_as, call_found, cell_called, member_found, name_of, place_of}
-use Rattle.oa_server.specs.Create.{class_found, is_full}
-use Rattle.oa_server.specs.Decisions.{Outcome, after_event, after_locks, after_outcome, changed, outcome_of, relocked, relocking, with_table}
+use Rattle.oa_server.specs.Cells.{bound_as, call_found, cell_called, member_found, place_of}
+use Rattle.oa_server.specs.Create.{class_found, is_full, fitting}
+use Rattle.oa_server.specs.Decisions.{after_outcome, changed, outcome_of, relocked, relocking, with_table}
 use Rattle.oa_server.specs.Interfaces.{interface_found}
-use Rattle.oa_server.specs.Invoke.{acting, value_of}
+use Rattle.oa_server.specs.Invoke.{acting}
 use Rattle.oa_server.specs.LookUps.{ids_found}
 use Rattle.oa_server.specs.Redimension.{resizing, zero_with}
 use Rattle.oa_server.specs.Refusals.{◌>>=◌, known, unless}
@@ -211,7 +207,7 @@ module _ (state : State) (is : IsChecked state.library) where
       after_both (Brings state) (cell_called state call access) next (λ cell a. let for : IsFor state cell = rw a at (cell_is_for state call access is) in each cell for)
 
   decided_brings : (request : Request) → IfOk (decided state request) (Brings state)
-  decided_brings (requests.Create class) = after_both (Brings state) (class_found state class) _ (λ u a. rw a at (class_known state class))
+  decided_brings (requests.Create class) = after_both (Brings state) (class_found state class) _ (λ u a. after_both (Brings state) (fitting (allowed (events.Create state.table.next class) state.table)) _ (λ v b. rw a at (class_known state class)))
   decided_brings (requests.Release number) = refl
   decided_brings (requests.GetIds call) = after_both (Brings state) (ids_found state call) _ (λ found a. tt)
   decided_brings (requests.Invoke call) = called call (accesses.Flags call.head.flags) _ (λ cell for. invoked state cell for)
@@ -244,11 +240,11 @@ module _ (event_kept : EventKept) where
   outcome_fit : (state : State) (due : Result Decision Refusal) → fits state.library state.table ≡ true → IfOk due (Brings state) → StaysFit state (after_outcome state (outcome_of state due))
   outcome_fit state (Err r) fit brings = (refl, fit)
   outcome_fit state (Ok (Answer code fields)) fit brings = (refl, fit)
-  outcome_fit state (Ok (Change event fields)) fit brings = by (applied event state.table)
+  outcome_fit state (Ok (Change event fields)) fit brings = by (allowed event state.table)
     where
-      by : (r : Result TableValue TableFault) → StaysFit state (after_outcome state (changed event fields r))
+      by : (r : Result TableValue HResult) → StaysFit state (after_outcome state (changed event fields r))
       by (Ok table) = with_fit state (applied event state.table) fit (event_kept state.library state.table event fit brings)
-      by (Err fault) = (refl, fit)
+      by (Err code) = (refl, fit)
   outcome_fit state (Ok (Relock change fields)) fit brings = by (relocked change state.table)
     where
       by : (r : Result TableValue TableFault) → StaysFit state (after_outcome state (relocking change fields r))

@@ -1,5 +1,4 @@
 pub mod Runs
-pub mod Quiet
 pub mod Named
 pub mod Zeros
 pub mod Wants
@@ -10,5 +9,11 @@ pub mod Reached
 pub mod Bound
 pub mod Fitting
 pub mod Planned
-pub mod InMemory
 pub mod Planning
+pub mod Allowed
+pub mod Mapping
+pub mod Held
+pub mod Settled
+pub mod Late
+pub mod Answering
+pub mod InMemory

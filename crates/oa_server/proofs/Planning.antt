@@ -1,12 +1,18 @@
 -- The turn of a body, but for a planned change.
-use Rattle.std.proofs.Common.{◌≡◌, inl, inr, ℕ, true, List, None, Result, sym, ap, ◌∙◌}
+use Rattle.std.proofs.Common.{◌≡◌, inl, inr, ℕ, true, List, None, Result, Ok, refl, sym, ap, ◌∙◌}
 use Rattle.oa_model.specs.Codes.{e_outofmemory}
 use Rattle.oa_record.specs.declared.request.Request.{Request}
 use Rattle.oa_record.specs.Asks.{Asks, tag_at}
 use Rattle.oa_record.specs.Replies.{ReplyValue}
+use Rattle.oa_table.specs.declared.event.Event.{Event}
+use Rattle.oa_table.specs.Events.{BringsNoLocks}
 use Rattle.oa_server.specs.declared.decision.Decision.{Decision}
+use Rattle.oa_server.specs.declared.decision.Decision.TheVariants.{Change}
+use Rattle.oa_server.specs.declared.plan.Plan.{Plan}
+use Rattle.oa_server.specs.declared.plan.Plan.TheVariants.{Answered, Change as AChange}
 use Rattle.oa_server.specs.declared.refusal.Refusal.{Refusal}
 use Rattle.oa_server.specs.Decisions.{after_outcome, outcome_of}
+use Rattle.oa_server.specs.Plans.{Plans, PlansChange}
 use Rattle.oa_server.specs.States.{State}
 use Rattle.oa_server.specs.Steps.{decided, refusal, reply_with, takes_memory}
 use Rattle.oa_server.specs.Turns.{Turn}
@@ -24,3 +30,16 @@ module _ (old : State) (body : List ℕ) (request : Request) (asked : Asks body 
 
   pub starves : (reply : ReplyValue) (new : State) → takes_memory old request ≡ true → reply ≡ refusal (tag_at body) e_outofmemory None → new ≡ old → Turn old body reply new
   starves reply new takes told same = inr (inr (inr (record { may = inr (record { request = request; asked = asked; takes = takes }); answers = told; leaves = same })))
+
+-- a change that was decided
+pub change_planned : (old : State) (body : List ℕ) (request : Request) (event : Event) (fields : List ℕ) (plan : Plan) → Asks body request → decided old request ≡ Ok (Change event fields) → BringsNoLocks event
+    → PlansChange old (tag_at body) event fields plan → Plans old body old plan
+change_planned old body request event fields (Answered reply) asked is none told = (
+  steps old body request asked (Ok (Change event fields)) reply old is (told.2 ∙ rw told.1 refl) (rw told.1 refl),
+  record { table = refl; library = refl },
+)
+change_planned old body request event fields (AChange planned) asked is none told = (
+  rw told.0 (record { request = request; asked = asked; tag = refl; decided_is = is; allows = told.1 }),
+  rw told.0 none,
+  refl,
+)

@@ -1,4 +1,4 @@
--- What becomes of a request: first a decision, which only reads; then the change of the table, which may refuse it.
+-- What becomes of a request: first a decision, which only reads; then the change of the table, which may be refused.
 use Rattle.std.specs.Prelude.{◌≡◌, ℕ, Bool, true, List, [], Option, Some, None, Result, Ok, Err}
 use Rattle.oa_model.specs.declared.hresult.HResult.{HResult}
 use Rattle.oa_model.specs.Codes.{s_ok}
@@ -7,7 +7,6 @@ use Rattle.oa_table.specs.declared.fault.TableFault.{TableFault}
 use Rattle.oa_table.specs.Events.{BringsNoLocks, applied}
 use Rattle.oa_table.specs.Faults.{code_of}
 use Rattle.oa_table.specs.Locks.{with_lock, without_lock}
-use Rattle.oa_table.specs.Outcomes.{Because}
 use Rattle.oa_table.specs.Tables.{TableValue}
 use Rattle.oa_server.specs.declared.decision.Decision.{Decision}
 use Rattle.oa_server.specs.declared.decision.Decision.TheVariants.{Answer, Change, Relock}
@@ -16,6 +15,7 @@ use Rattle.oa_server.specs.declared.decision.LockChange.TheVariants.{Lock, Unloc
 use Rattle.oa_server.specs.declared.decision.Undecided.{Undecided}
 use Rattle.oa_server.specs.declared.decision.Undecided.TheVariants.{Refused, OutOfMemory}
 use Rattle.oa_server.specs.declared.refusal.Refusal.{Refusal}
+use Rattle.oa_server.specs.Limits.{allowed}
 use Rattle.oa_server.specs.States.{State}
 
 -- the table with a lock more or fewer, or why there is none
@@ -38,10 +38,10 @@ IsQuiet o = (o.event ≡ None) × (o.locks ≡ None)
 abbrev pub refused_outcome : Refusal → Outcome
 refused_outcome r = record { event = None; locks = None; code = r.code; index = r.index; fields = [] }
 
--- the table refuses a change, or makes it
-abbrev pub changed : Event → List ℕ → Result TableValue TableFault → Outcome
+-- a change is refused, or made
+abbrev pub changed : Event → List ℕ → Result TableValue HResult → Outcome
 changed event fields (Ok table) = record { event = Some event; locks = None; code = s_ok; index = None; fields = fields }
-changed event fields (Err fault) = refused_outcome (record { code = code_of fault; index = None })
+changed event fields (Err code) = refused_outcome (record { code = code; index = None })
 
 -- the same of a change of locks
 abbrev pub relocking : LockChange → List ℕ → Result TableValue TableFault → Outcome
@@ -51,7 +51,7 @@ relocking change fields (Err fault) = refused_outcome (record { code = code_of f
 abbrev pub outcome_of : State → Result Decision Refusal → Outcome
 outcome_of state (Err r) = refused_outcome r
 outcome_of state (Ok (Answer code fields)) = record { event = None; locks = None; code = code; index = None; fields = fields }
-outcome_of state (Ok (Change event fields)) = changed event fields (applied event state.table)
+outcome_of state (Ok (Change event fields)) = changed event fields (allowed event state.table)
 outcome_of state (Ok (Relock change fields)) = relocking change fields (relocked change state.table)
 
 -- the state after a change
@@ -83,12 +83,12 @@ ChangesNoLocks (Answer code fields) = Unit {0}
 ChangesNoLocks (Change event fields) = BringsNoLocks event
 ChangesNoLocks (Relock change fields) = Unit {0}
 
--- the change is made, or nothing changes and this is the reason
-abbrev pub Makes : Event → State → State → Result (Unit {0}) TableFault → Type 0
-Makes event old new (Ok u) = (applied event old.table ≡ Ok new.table) × (new ≡ record old { table = new.table })
-Makes event old new (Err fault) = (new ≡ old) × Because (applied event old.table) fault
+-- a change of the table is made, or nothing changes
+abbrev pub MakesTable : {E : Type 0} → Event → TableValue → TableValue → Result (Unit {0}) E → Type 0
+MakesTable event old new (Ok u) = applied event old ≡ Ok new
+MakesTable event old new (Err e) = new ≡ old
 
--- the same of a change of locks, which takes no memory
-abbrev pub Relocks : LockChange → State → State → Result (Unit {0}) TableFault → Type 0
-Relocks change old new (Ok u) = (relocked change old.table ≡ Ok new.table) × (new ≡ record old { table = new.table })
-Relocks change old new (Err fault) = (new ≡ old) × (relocked change old.table ≡ Err fault)
+-- the same of a change of locks, which takes no memory, with the reason
+abbrev pub RelocksTable : LockChange → TableValue → TableValue → Result (Unit {0}) TableFault → Type 0
+RelocksTable change old new (Ok u) = relocked change old ≡ Ok new
+RelocksTable change old new (Err fault) = (new ≡ old) × (relocked change old ≡ Err fault)

@@ -1,5 +1,6 @@
 pub mod States
 pub mod Refusals
+pub mod Limits
 pub mod Decisions
 pub mod Interfaces
 pub mod Create
@@ -18,6 +19,11 @@ pub mod Listing
 pub mod Steps
 pub mod Turns
 pub mod Plans
-pub mod Storages
 pub mod Serving
 pub mod Traces
+pub mod Quiet
+pub mod Requests
+pub mod Hands
+pub mod Answers
+pub mod Storages
+pub mod Talks

@@ -1,24 +1,39 @@
 -- What is left of a turn once its body was looked at.
-use Rattle.std.specs.Prelude.{◌≡◌, List, ℕ, Ok}
+use Rattle.std.specs.Prelude.{◌≡◌, List, ℕ, None, Ok, Err, IsOk}
+use Rattle.oa_model.specs.declared.hresult.HResult.{HResult}
 use Rattle.oa_record.specs.declared.request.Request.{Request}
 use Rattle.oa_record.specs.Asks.{Asks, tag_at}
+use Rattle.oa_table.specs.declared.event.Event.{Event}
 use Rattle.oa_table.specs.Events.{BringsNoLocks}
+use Rattle.oa_table.specs.Tables.{unlocked_table}
 use Rattle.oa_server.specs.declared.decision.Decision.TheVariants as decisions
 use Rattle.oa_server.specs.declared.plan.Plan.{Plan}
 use Rattle.oa_server.specs.declared.plan.Plan.TheVariants.{Answered, Change}
 use Rattle.oa_server.specs.declared.plan.Planned.{Planned}
+use Rattle.oa_server.specs.Limits.{allowed}
 use Rattle.oa_server.specs.States.{State}
-use Rattle.oa_server.specs.Steps.{decided}
+use Rattle.oa_server.specs.Steps.{decided, refusal}
 use Rattle.oa_server.specs.Turns.{Turn}
 
--- the body asks a request of which this change is decided
+-- the body asks a request of which this change is decided, and it is allowed
 pub record IsPlanned (state : State) (body : List ℕ) (planned : Planned) : Type 0 where
   pub request : Request
   pub asked : Asks body request
   pub tag : planned.tag ≡ tag_at body
   pub decided_is : decided state request ≡ Ok (decisions.Change planned.event planned.fields)
+  pub allows : IsOk (allowed planned.event state.table)
 
--- the turn was taken, or a change is to be made
+-- what images hold of a state, and its library, are the same
+pub record HoldsSame (old new : State) : Type 0 where
+  pub table : unlocked_table new.table ≡ unlocked_table old.table
+  pub library : new.library ≡ old.library
+
+-- the turn was taken, and changed nothing that images hold; or a change is to be made
 abbrev pub Plans : State → List ℕ → State → Plan → Type 0
-Plans old body new (Answered reply) = Turn old body reply new
+Plans old body new (Answered reply) = Turn old body reply new × HoldsSame old new
 Plans old body new (Change planned) = IsPlanned old body planned × BringsNoLocks planned.event × (new ≡ old)
+
+-- a change that was decided is refused, or to be made
+abbrev pub PlansChange : State → ℕ → Event → List ℕ → Plan → Type 0
+PlansChange state tag event fields (Answered reply) = (code : HResult) × (allowed event state.table ≡ Err code) × (reply ≡ refusal tag code None)
+PlansChange state tag event fields (Change planned) = (planned ≡ record { tag = tag; event = event; fields = fields }) × IsOk (allowed event state.table)

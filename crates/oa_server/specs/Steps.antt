@@ -6,10 +6,11 @@ use Rattle.oa_record.specs.declared.request.Request.TheVariants as requests
 use Rattle.oa_record.specs.Replies.{ReplyValue}
 use Rattle.oa_server.specs.declared.decision.Decision.{Decision}
 use Rattle.oa_server.specs.declared.refusal.Refusal.{Refusal}
-use Rattle.oa_server.specs.Create.{class_found, creation}
+use Rattle.oa_server.specs.Create.{creation}
 use Rattle.oa_server.specs.Decisions.{Outcome, after_outcome, outcome_of}
 use Rattle.oa_server.specs.GetElement.{element_got}
 use Rattle.oa_server.specs.Invoke.{invocation}
+use Rattle.oa_server.specs.Limits.{allowed}
 use Rattle.oa_server.specs.Listing.{listing}
 use Rattle.oa_server.specs.Lock.{locking}
 use Rattle.oa_server.specs.LookUps.{look_up}
@@ -18,7 +19,6 @@ use Rattle.oa_server.specs.Redimension.{redimension}
 use Rattle.oa_server.specs.Release.{ending}
 use Rattle.oa_server.specs.States.{State}
 use Rattle.oa_table.specs.declared.event.Event.TheVariants.{Release}
-use Rattle.oa_table.specs.Events.{applied}
 use Rattle.oa_server.specs.TypeInfo.{information}
 use Rattle.oa_server.specs.Unlock.{unlocking}
 
@@ -57,8 +57,8 @@ after state request = after_outcome state (outcome state request)
 
 -- whether want of memory may be answered: not in place of a refused CREATE or RELEASE
 abbrev pub takes_memory : State → Request → Bool
-takes_memory state (requests.Create class) = is_ok (class_found state class)
-takes_memory state (requests.Release number) = is_ok (applied (Release number) state.table)
+takes_memory state (requests.Create class) = is_ok (creation state class)
+takes_memory state (requests.Release number) = is_ok (allowed (Release number) state.table)
 takes_memory state (requests.GetIds call) = true
 takes_memory state (requests.Invoke call) = true
 takes_memory state (requests.GetElement call indices) = true

@@ -1,28 +1,46 @@
--- Where a server keeps its table beside its memory.
-use Rattle.std.specs.Prelude.{◌≡◌, ℕ, List, [], ◌∷◌, ⊤}
-use Rattle.oa_record.specs.Replies.{ReplyValue, reply_record}
-use Rattle.oa_server.specs.declared.server.Server.{Server}
+-- Where a server keeps its table beside its memory, and what it answers there.
+use Rattle.std.specs.Prelude.{◌≡◌, ℕ, false, true, List, ⊤}
+use Rattle.oa_disk.specs.declared.disk.Disk.{Ghosts}
+use Rattle.oa_groups.specs.Served.{IsServed}
+use Rattle.oa_store.specs.declared.store.Store.{Store}
+use Rattle.oa_record.specs.Replies.{ReplyValue}
 use Rattle.oa_server.specs.declared.storage.Storage.{Storage}
-use Rattle.oa_server.specs.declared.storage.Storage.TheVariants.{Memory}
+use Rattle.oa_server.specs.declared.storage.Storage.TheVariants.{Disk, Memory}
+use Rattle.oa_server.specs.Answers.{IsAnswered, IsLate}
+use Rattle.oa_server.specs.Requests.{requests}
 use Rattle.oa_server.specs.States.{State}
-use Rattle.oa_server.specs.Turns.{Turn}
+use Rattle.oa_server.specs.Turns.{Run, Turn}
 
 -- the table is in memory alone
-abbrev pub InMemory : {D : Type 0} → Storage D → Type 0
+abbrev pub InMemory : {D : Type 0} {g : Ghosts D} → Storage D g → Type 0
 InMemory (Memory disk) = ⊤
+InMemory (Disk store) = ⊥
 
 -- its disk
-abbrev pub disk_of : {D : Type 0} → Storage D → D
+abbrev pub disk_of : {D : Type 0} {g : Ghosts D} → Storage D g → D
 disk_of (Memory disk) = disk
+disk_of (Disk store) = store.disk
 
--- One body is answered: by a turn in memory, where no call of the disk is made.
-abbrev pub Answers : {D : Type 0} → Storage D → Storage D → State → List ℕ → ReplyValue → State → Type 0
+-- the library that the store has
+abbrev pub HasText : {D : Type 0} {g : Ghosts D} → Storage D g → List ℕ → Type 0
+HasText (Memory disk) text = ⊤
+HasText (Disk store) text = store.library.items ≡ text
+
+-- One body is answered: by a turn in memory, where no call of the disk is made, or over a store.
+abbrev pub Answers : {D : Type 0} {g : Ghosts D} → Storage D g → Storage D g → State → List ℕ → ReplyValue → State → Type 0
 Answers (Memory old) (Memory new) before body reply after = (new ≡ old) × Turn before body reply after
+Answers (Disk old) (Disk new) before body reply after = IsAnswered old new before after body reply
+Answers (Memory old) (Disk new) before body reply after = ⊥
+Answers (Disk old) (Memory new) before body reply after = ⊥
 
--- the same, with the bytes of its reply, which have no length before them: every body has one reply, handed out at that body
-abbrev pub answer_written : {D : Type 0} → Server D → List ℕ → List (List ℕ) → Server D → Type 0
-answer_written old body replies new = (reply : ReplyValue) × (replies ≡ reply_record reply ∷ []) × Answers old.storage new.storage old.host body reply new.host
+-- Bodies are answered in groups of a size: by a run in memory; over a store by a run with its moments, up to a fault of the device; after a fault all
+-- are answered that.
+pub record ServesStore {D : Type 0} {g : Ghosts D} (size : ℕ) (old new : Store D g) (before : State) (bodies : List (List ℕ)) (replies : List ReplyValue) (after : State) : Type 0 where
+  pub served : old.stopped ≡ false → IsServed requests size old new before after bodies replies
+  pub late : old.stopped ≡ true → IsLate old new before after bodies replies
 
--- so none is held when the input ends
-abbrev pub none_kept : {D : Type 0} → Server D → List (List ℕ) → Server D → Type 0
-none_kept old replies new = (replies ≡ []) × (new ≡ old)
+abbrev pub Serves : {D : Type 0} {g : Ghosts D} → ℕ → Storage D g → Storage D g → State → List (List ℕ) → List ReplyValue → State → Type 0
+Serves size (Memory old) (Memory new) before bodies replies after = (new ≡ old) × Run before bodies replies after
+Serves size (Disk old) (Disk new) before bodies replies after = ServesStore size old new before bodies replies after
+Serves size (Memory old) (Disk new) before bodies replies after = ⊥
+Serves size (Disk old) (Memory new) before bodies replies after = ⊥

@@ -1,19 +1,28 @@
 //! A library and a table in memory, and one turn after another.
-ghost use Rattle.std.specs.Prelude.{◌≡◌, List, ℕ, [], map, IsOk, IfOk, OnOk, OnErr};
-ghost use Rattle.oa_server.specs.Decisions.{ChangesNoLocks, Decides, Makes, Relocks, after_outcome, changed, relocked, relocking};
-ghost use Rattle.oa_server.specs.Plans.{IsPlanned, Plans};
+ghost use Rattle.std.specs.Prelude.{◌≡◌, List, ℕ, [], map, length, true, false, IsOk, IfOk, OnOk, OnErr};
+ghost use Rattle.oa_groups.specs.Served.{Goes};
+ghost use Rattle.oa_keeper.specs.Kept.{AllHold, HasRoom, LeavesTable};
+ghost use Rattle.oa_server.specs.Decisions.{ChangesNoLocks, Decides, after_outcome, relocked, relocking};
+ghost use Rattle.oa_server.specs.Limits.{IsSound, allowed};
+ghost use Rattle.oa_server.specs.Plans.{HoldsSame, IsPlanned, Plans, PlansChange};
+ghost use Rattle.oa_server.specs.Requests.{HasTurn, IsHeldBack, held_of};
 ghost use Rattle.oa_server.specs.Steps.{decided, reply_with, takes_memory};
 ghost use Rattle.oa_server.specs.Turns.{Run, Turn};
-ghost use Rattle.oa_table.specs.Events.{BringsNoLocks, applied};
-ghost use Rattle.oa_table.specs.Tables.{first_table};
+ghost use Rattle.oa_table.specs.Events.{BringsNoLocks};
+ghost use Rattle.oa_table.specs.Tables.{TableValue, first_table};
 
+use crate::changes::{apply, change_locks, hold_change};
 use crate::decision::{Decision, LockChange, Undecided};
 use crate::fields::Fields;
+use crate::limits::refusal;
 use crate::plan::{Plan, Planned};
 use crate::refusal::Refusal;
+use oa_disk::Disk;
+use oa_keeper::{Broken, Frame, KeepFault};
 use oa_model::HResult;
 use oa_record::{Reply, Request, read_request, tag_of};
-use oa_table::{CellName, Event, Table, TableFault};
+use oa_store::Store;
+use oa_table::{Event, Table};
 use oa_typelib::Library;
 use std::alloc::{AllocError, Global};
 use std::marker::Model;
@@ -42,10 +51,13 @@ pub(crate) struct Host {
 
 impl Model for Host {
     ghost use Rattle.oa_server.specs.States.{State};
+    ghost use Rattle.oa_server.specs.Limits.{IsSound};
 
     ghost Value = { State };
 
     ghost view = { λ s. record { library = s.library; table = s.table } };
+
+    ghost invariant = { λ s. IsSound s.table };
 }
 
 impl Host {
@@ -57,6 +69,18 @@ impl Host {
             alloc,
             library,
             table: Table::new(alloc),
+        }
+    }
+
+    /// A library, and a table that was made before.
+    pub(crate) fn over(alloc: Global, library: Library, table: Table) -> Host
+        requires { IsSound table }
+        ensures { result ≡ record { library = library; table = table } }
+    {
+        Host {
+            alloc,
+            library,
+            table,
         }
     }
 
@@ -86,9 +110,7 @@ impl Host {
             Ok(Decision::Answer { code, fields }) => {
                 Plan::Answered(Reply::new(tag, code, None, fields.into_vec()))
             }
-            Ok(Decision::Change { event, fields }) => {
-                Plan::Change(Planned { tag, event, fields })
-            }
+            Ok(Decision::Change { event, fields }) => self.plan_change(tag, event, fields),
             Ok(Decision::Relock { change, fields }) => {
                 Plan::Answered(self.relock(tag, change, fields))
             }
@@ -99,31 +121,84 @@ impl Host {
         }
     }
 
+    /// One turn over a store. Its event is added to those in hand; before the first of them a checkpoint is made, where one is due. At `Err` the
+    /// checkpoint failed.
+    pub(crate) fn turn_held<D: Disk>(
+        &mut self,
+        store: &mut Store<D>,
+        frame: &mut Frame,
+        body: &[u8],
+    ) -> Result<Reply, Broken>
+        requires goes_on { store.old.stopped ≡ false }
+        requires room { HasRoom frame.old store.old }
+        ensures turn { IfOk result (λ reply. IsHeldBack body.now reply frame.old frame.new self.old self.new) }
+        ensures failed { OnErr result (HasTurn body.now self.old self.new) }
+        ensures same { OnErr result (frame.new ≡ frame.old) }
+        ensures any_moment { (committed : TableValue) → (length frame.old ≡ 0 → held_of self.old ≡ committed) → AllHold store.old committed → LeavesTable store.old store.new committed }
+        ensures each { store.new.stopped ≡ false → (committed : TableValue) → (length frame.old ≡ 0 → held_of self.old ≡ committed) → AllHold store.old committed → AllHold store.new committed }
+        ensures room { store.new.stopped ≡ false → HasRoom frame.new store.new }
+        ensures going { OnOk result (store.new.stopped ≡ false) }
+        ensures stops { OnErr result (store.new.stopped ≡ true) }
+        ensures goes { Goes store.old store.new }
+    {
+        match self.plan(body) {
+            Plan::Answered(reply) => Ok(reply),
+            Plan::Change(planned) => self.hold(store, frame, planned),
+        }
+    }
+
+    /// Makes a planned change in memory and holds its event, and tells it.
+    fn hold<D: Disk>(
+        &mut self,
+        store: &mut Store<D>,
+        frame: &mut Frame,
+        planned: Planned,
+    ) -> Result<Reply, Broken>
+        requires unlocked { BringsNoLocks planned.event }
+        requires allowed { IsOk (allowed planned.event self.old.table) }
+        requires goes_on { store.old.stopped ≡ false }
+        requires room { HasRoom frame.old store.old }
+        ensures turn { IfOk result (λ reply. (body : List ℕ) → IsPlanned self.old body planned → IsHeldBack body reply frame.old frame.new self.old self.new) }
+        ensures failed { OnErr result ((body : List ℕ) → IsPlanned self.old body planned → HasTurn body self.old self.new) }
+        ensures same { OnErr result (frame.new ≡ frame.old) }
+        ensures any_moment { (committed : TableValue) → (length frame.old ≡ 0 → held_of self.old ≡ committed) → AllHold store.old committed → LeavesTable store.old store.new committed }
+        ensures each { store.new.stopped ≡ false → (committed : TableValue) → (length frame.old ≡ 0 → held_of self.old ≡ committed) → AllHold store.old committed → AllHold store.new committed }
+        ensures room { store.new.stopped ≡ false → HasRoom frame.new store.new }
+        ensures going { OnOk result (store.new.stopped ≡ false) }
+        ensures stops { OnErr result (store.new.stopped ≡ true) }
+        ensures goes { Goes store.old store.new }
+    {
+        let Planned { tag, event, fields } = planned;
+        match hold_change(store, &mut self.table, frame, event) {
+            Ok(()) => Ok(Reply::new(tag, HResult::S_OK, None, fields.into_vec())),
+            Err(KeepFault::Memory) => {
+                Ok(Reply::bare(self.alloc, tag, HResult::E_OUTOFMEMORY, None))
+            }
+            Err(KeepFault::Write) => Err(Broken),
+        }
+    }
+
+    /// A change that was decided: it is refused, or to be made.
+    fn plan_change(&self, tag: u32, event: Event, fields: Fields) -> Plan
+        ensures { PlansChange self.now tag event fields result }
+    {
+        match refusal(&self.table, &event) {
+            Some(code) => Plan::Answered(Reply::bare(self.alloc, tag, code, None)),
+            None => Plan::Change(Planned { tag, event, fields }),
+        }
+    }
+
     /// Makes a change in memory, and tells it.
     fn make(&mut self, planned: Planned) -> Reply
-        requires { BringsNoLocks planned.event }
+        requires unlocked { BringsNoLocks planned.event }
+        requires allowed { IsOk (allowed planned.event self.old.table) }
         ensures { (body : List ℕ) → IsPlanned self.old body planned → Turn self.old body result self.new }
     {
         let Planned { tag, event, fields } = planned;
-        let Ok(reply) = self.change(tag, event, fields) else {
+        let Ok(()) = apply(&mut self.table, event) else {
             return Reply::bare(self.alloc, tag, HResult::E_OUTOFMEMORY, None);
         };
-        reply
-    }
-
-    /// Makes a change and tells it with these fields, or why the table refuses it. An Err changes nothing.
-    fn change(&mut self, tag: u32, event: Event, fields: Fields) -> Result<Reply, AllocError>
-        requires { BringsNoLocks event }
-        ensures reply { IfOk result (λ reply. reply ≡ reply_with tag (changed event fields (applied event self.old.table))) }
-        ensures state { OnOk result (self.new ≡ after_outcome self.old (changed event fields (applied event self.old.table))) }
-        ensures err { OnErr result (self.new ≡ self.old) }
-        ensures may { OnErr result (IsOk (applied event self.old.table)) }
-    {
-        match self.apply(event) {
-            Ok(()) => Ok(Reply::new(tag, HResult::S_OK, None, fields.into_vec())),
-            Err(TableFault::Memory) => Err(AllocError),
-            Err(fault) => Ok(Reply::bare(self.alloc, tag, fault.code(), None)),
-        }
+        Reply::new(tag, HResult::S_OK, None, fields.into_vec())
     }
 
     /// One turn after another. Err only where memory is refused before anything was done.
@@ -168,53 +243,15 @@ impl Host {
         }
     }
 
-    /// Makes a change: the only call that changes what the table holds.
-    fn apply(&mut self, event: Event) -> Result<(), TableFault>
-        requires { BringsNoLocks event }
-        ensures { Makes event self.old self.new result }
-    {
-        match self.table.apply(event) {
-            Ok(()) => Ok(()),
-            Err((_, fault)) => Err(fault),
-        }
-    }
-
     /// Changes the locks of an array and tells it with these fields, or why the table refuses it. Takes no memory.
     fn relock(&mut self, tag: u32, change: LockChange, fields: Fields) -> Reply
         ensures reply { result ≡ reply_with tag (relocking change fields (relocked change self.old.table)) }
         ensures state { self.new ≡ after_outcome self.old (relocking change fields (relocked change self.old.table)) }
+        ensures same { HoldsSame self.old self.new }
     {
-        match self.change_locks(change) {
+        match change_locks(&mut self.table, change) {
             Ok(()) => Reply::new(tag, HResult::S_OK, None, fields.into_vec()),
             Err(fault) => Reply::bare(self.alloc, tag, fault.code(), None),
-        }
-    }
-
-    /// Changes the locks of an array.
-    fn change_locks(&mut self, change: LockChange) -> Result<(), TableFault>
-        ensures { Relocks change self.old self.new result }
-    {
-        match change {
-            LockChange::Lock(name) => self.lock(name),
-            LockChange::Unlock(name) => self.unlock(name),
-        }
-    }
-
-    fn lock(&mut self, name: CellName) -> Result<(), TableFault>
-        ensures { Relocks (LockChange.Lock name) self.old self.new result }
-    {
-        match self.table.lock(&name) {
-            Ok(_) => Ok(()),
-            Err(fault) => Err(fault),
-        }
-    }
-
-    fn unlock(&mut self, name: CellName) -> Result<(), TableFault>
-        ensures { Relocks (LockChange.Unlock name) self.old self.new result }
-    {
-        match self.table.unlock(&name) {
-            Ok(_) => Ok(()),
-            Err(fault) => Err(fault),
         }
     }
 
@@ -223,19 +260,5 @@ impl Host {
         ensures { result ≡ record { tag = tag; code = refusal.code; index = refusal.index; body = [] } }
     {
         Reply::bare(self.alloc, tag, refusal.code, refusal.index)
-    }
-}
-
-#[cfg(test)]
-impl Host {
-    /// A library and a table.
-    pub(crate) fn over(alloc: Global, library: Library, table: Table) -> Host
-        ensures { result ≡ record { library = library; table = table } }
-    {
-        Host {
-            alloc,
-            library,
-            table,
-        }
     }
 }

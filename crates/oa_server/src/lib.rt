@@ -1,10 +1,15 @@
 //! An automation object server: requests to a table, and sessions over a reader and a writer.
 #![tactic(auto)]
 
+mod changes;
+mod clerk;
 mod decision;
 mod fields;
+mod hand;
 mod host;
+mod keeping;
 pub mod laws;
+mod limits;
 mod plan;
 mod refusal;
 mod server;

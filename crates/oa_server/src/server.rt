@@ -1,14 +1,18 @@
 //! The server: a library and a table in memory, and where the table is kept.
-ghost use Rattle.std.specs.Prelude.{◌≡◌, ◌≤◌, map, IfOk, OnErr};
-ghost use Rattle.oa_server.specs.Storages.{Answers, InMemory, disk_of};
+ghost use Rattle.std.specs.Prelude.{◌≡◌, ◌≤◌, map, IfOk, OnErr, false};
+ghost use Rattle.oa_idl.specs.Canonical.{canonical};
+ghost use Rattle.oa_server.specs.Limits.{IsSound};
+ghost use Rattle.oa_server.specs.Storages.{Answers, InMemory, Serves, disk_of};
 ghost use Rattle.oa_server.specs.Turns.{Run, Turn};
+ghost use Rattle.oa_server.specs.declared.storage.Storage.TheVariants.{Disk as ADisk};
 ghost use Rattle.oa_table.specs.Tables.{first_table};
 
+use crate::clerk::{Clerk, answer_with, run_with};
 use crate::host::Host;
 use crate::storage::Storage;
 use oa_disk::{Disk, NoDisk};
 use oa_record::Reply;
-#[cfg(test)]
+use oa_store::Store;
 use oa_table::Table;
 use oa_typelib::Library;
 use std::alloc::{AllocError, Global};
@@ -16,61 +20,73 @@ use std::alloc::{AllocError, Global};
 /// An automation object server: in memory, or over a disk that keeps its table.
 #[derive(Drop)]
 pub struct Server<D: Disk> {
-    pub(crate) host: Host,
-    pub(crate) storage: Storage<D>,
+    pub(crate) clerk: Clerk<D>,
 }
 
 impl Server<NoDisk> {
     /// A server of this library in memory, with no objects. It makes no call of a disk.
     pub fn in_memory(alloc: Global, library: Library) -> Server<NoDisk>
-        ensures state { result.host ≡ record { library = library; table = first_table } }
-        ensures memory { InMemory result.storage }
+        ensures state { result.clerk.host ≡ record { library = library; table = first_table } }
+        ensures memory { InMemory result.clerk.storage }
     {
+        let host = Host::new(alloc, library);
         Server {
-            host: Host::new(alloc, library),
-            storage: Storage::Memory(NoDisk::new()),
+            clerk: Clerk::new(host, Storage::Memory(NoDisk::new())),
         }
     }
 }
 
 impl<D: Disk> Server<D> {
+    /// A server of this library over a store of its text, with the table that was read from it.
+    pub(crate) fn over_store(
+        alloc: Global,
+        library: Library,
+        table: Table,
+        store: Store<D>,
+    ) -> Server<D>
+        requires sound { IsSound table }
+        requires text { store.library.items ≡ canonical library }
+        ensures state { result.clerk.host ≡ record { library = library; table = table } }
+        ensures store { result.clerk.storage ≡ ADisk store }
+    {
+        let host = Host::over(alloc, library, table);
+        Server {
+            clerk: Clerk::new(host, Storage::Disk(store)),
+        }
+    }
+
     /// The disk as it is. This makes no call.
     pub fn into_disk(self) -> D
-        ensures { result ≡ disk_of self.storage }
+        ensures { result ≡ disk_of self.clerk.storage }
     {
-        let Server { storage, .. } = self;
-        match storage {
-            Storage::Memory(disk) => disk,
-        }
+        let Server { clerk } = self;
+        clerk.into_disk()
     }
 
-    /// Answers one body. Want of memory is told in the reply, which then leaves the server as it was.
+    /// Answers one body: over a store a group of one, which is committed before this returns. Want of memory is told in the reply, which then leaves
+    /// the server as it was.
     pub fn answer(&mut self, body: &[u8]) -> Reply
-        ensures answers { Answers self.old.storage self.new.storage self.old.host body.now result self.new.host }
-        ensures memory { InMemory self.old.storage → Turn self.old.host body.now result self.new.host }
+        ensures answers { Answers self.old.clerk.storage self.new.clerk.storage self.old.clerk.host body.now result self.new.clerk.host }
+        ensures memory { InMemory self.old.clerk.storage → Turn self.old.clerk.host body.now result self.new.clerk.host }
     {
-        match &mut self.storage {
-            Storage::Memory(_) => self.host.turn(body),
-        }
+        answer_with(&mut self.clerk.host, &mut self.clerk.storage, body)
     }
 
-    /// Answers bodies in turn. `group` is from 1 to 1,024 and makes no difference here: without a disk every request is a group of its own.
-    /// Err only where memory is refused before anything was done.
+    /// Answers bodies in turn. `group` is from 1 to 1,024: the changes of so many requests are committed together, and their replies stand behind that.
+    /// In memory it makes no difference. Err only where memory is refused before anything was done.
     pub fn run(&mut self, bodies: &[Vec<u8>], group: usize) -> Result<Vec<Reply>, AllocError>
         requires positive { 1 ≤ group }
         requires small { group ≤ 1024 }
-        ensures memory { InMemory self.old.storage → IfOk result (λ replies. Run self.old.host (map (λ b. b.items) bodies.now) replies.items self.new.host) }
-        ensures err { OnErr result (self.new ≡ self.old) }
+        ensures serves { IfOk result (λ replies. Serves group self.old.clerk.storage self.new.clerk.storage self.old.clerk.host (map (λ b. b.items) bodies.now) replies.items self.new.clerk.host) }
+        ensures memory { InMemory self.old.clerk.storage → IfOk result (λ replies. Run self.old.clerk.host (map (λ b. b.items) bodies.now) replies.items self.new.clerk.host) }
+        ensures err { OnErr result ((self.new.clerk.storage ≡ self.old.clerk.storage) × (self.new.clerk.host ≡ self.old.clerk.host)) }
     {
-        let _ = group;
-        match &mut self.storage {
-            Storage::Memory(_) => self.host.run(bodies),
-        }
+        run_with(&mut self.clerk.host, &mut self.clerk.storage, bodies, group)
     }
 
     /// The allocator that the server was made with.
     pub(crate) fn allocator(&self) -> Global {
-        self.host.allocator()
+        self.clerk.host.allocator()
     }
 }
 
@@ -78,12 +94,13 @@ impl<D: Disk> Server<D> {
 impl Server<NoDisk> {
     /// A server of this library and this table.
     pub(crate) fn over(alloc: Global, library: Library, table: Table) -> Server<NoDisk>
-        ensures state { result.host ≡ record { library = library; table = table } }
-        ensures memory { InMemory result.storage }
+        requires { IsSound table }
+        ensures state { result.clerk.host ≡ record { library = library; table = table } }
+        ensures memory { InMemory result.clerk.storage }
     {
+        let host = Host::over(alloc, library, table);
         Server {
-            host: Host::over(alloc, library, table),
-            storage: Storage::Memory(NoDisk::new()),
+            clerk: Clerk::new(host, Storage::Memory(NoDisk::new())),
         }
     }
 }

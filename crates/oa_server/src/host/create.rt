@@ -6,6 +6,7 @@ ghost use Rattle.oa_server.specs.Decisions.{ChangesNoLocks, Decides};
 use super::Host;
 use crate::decision::{Decision, Undecided};
 use crate::fields::Fields;
+use crate::limits::refusal;
 use crate::refusal::Refusal;
 use oa_model::{HResult, MAX_LIVE_OBJECTS};
 use oa_record::number_field;
@@ -15,13 +16,16 @@ use uuid::Uuid;
 impl Host {
     /// Decides a CREATE: a new object with the next number. Memory is wanted only where it can be made.
     pub(super) fn creation(&self, class: Uuid) -> Result<Decision, Undecided>
-        ensures decided { Decides (creation self.now class) (is_ok (class_found self.now class)) result }
+        ensures decided { Decides (creation self.now class) (is_ok (creation self.now class)) result }
         ensures unlocked { IfOk result ChangesNoLocks }
     {
         self.find_class(&class)?;
         let number = self.table.next();
-        let fields = Fields::new(number_field(self.alloc, number)?);
         let event = Event::Create { number, class };
+        if let Some(code) = refusal(&self.table, &event) {
+            return Err(Undecided::Refused(Refusal::of(code)));
+        }
+        let fields = Fields::new(number_field(self.alloc, number)?);
         Ok(Decision::Change { event, fields })
     }
 

@@ -6,4 +6,4 @@ use Rattle.oa_server.proofs.server.Server.session.Goals as goal
 
 pub returns-clause-memory : goal.returns-clause-memory
 returns-clause-memory g c here =
-    session_in_memory (frames c.args.framing) last_written _ _ _ _ c.args.self.now c.serve.new.server c.serve.result here (search rules)
+    session_in_memory (frames c.args.framing) last_written _ _ _ _ c.args.self.now.clerk c.serve.new.server c.serve.result here (search rules)

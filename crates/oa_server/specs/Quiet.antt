@@ -2,16 +2,17 @@
 use Rattle.std.proofs.Common.{◌≡◌, ℕ, ◌==◌, Bool, true, false, List, [], ◌∷◌, Result, Ok, Err, refl, sym, ap, ◌∙◌, subst, inl, inr, true≢false}
 use Rattle.std.specs.Prelude.{◌&&◌, not, if◌then◌else◌}
 use Rattle.std.proofs.lemmas.Bool.Decides.{eqb_tells}
+use Rattle.oa_model.specs.declared.hresult.HResult.{HResult}
 use Rattle.oa_record.specs.declared.request.Request.{Request}
 use Rattle.oa_record.specs.Asks.{tag_at}
 use Rattle.oa_record.specs.Replies.{ReplyValue}
 use Rattle.oa_table.specs.declared.fault.TableFault.{TableFault}
-use Rattle.oa_table.specs.Events.{applied}
 use Rattle.oa_table.specs.Tables.{TableValue}
 use Rattle.oa_server.specs.declared.decision.Decision.{Decision}
 use Rattle.oa_server.specs.declared.decision.Decision.TheVariants.{Answer, Change, Relock}
 use Rattle.oa_server.specs.declared.refusal.Refusal.{Refusal}
 use Rattle.oa_server.specs.Decisions.{IsQuiet, Outcome, after_outcome, changed, outcome_of, relocked, relocking}
+use Rattle.oa_server.specs.Limits.{allowed}
 use Rattle.oa_server.specs.States.{State}
 use Rattle.oa_server.specs.Steps.{decided, outcome, reply_of}
 use Rattle.oa_server.specs.Turns.{Turn, Run}
@@ -20,11 +21,11 @@ use Rattle.oa_server.specs.Traces.{done_bodies, done_replies, kept_bodies, kept_
 quiet_outcome : (state : State) (due : Result Decision Refusal) → ((outcome_of state due).code.0 ≡ 0 → ⊥) → IsQuiet (outcome_of state due)
 quiet_outcome state (Err r) n = (refl, refl)
 quiet_outcome state (Ok (Answer code fields)) n = (refl, refl)
-quiet_outcome state (Ok (Change event fields)) n = by (applied event state.table) n
+quiet_outcome state (Ok (Change event fields)) n = by (allowed event state.table) n
   where
-    by : (due : Result TableValue TableFault) → ((changed event fields due).code.0 ≡ 0 → ⊥) → IsQuiet (changed event fields due)
+    by : (due : Result TableValue HResult) → ((changed event fields due).code.0 ≡ 0 → ⊥) → IsQuiet (changed event fields due)
     by (Ok table) m = absurd (m refl)
-    by (Err fault) m = (refl, refl)
+    by (Err code) m = (refl, refl)
 quiet_outcome state (Ok (Relock change fields)) n = by (relocked change state.table) n
   where
     by : (due : Result TableValue TableFault) → ((relocking change fields due).code.0 ≡ 0 → ⊥) → IsQuiet (relocking change fields due)

@@ -1,0 +1,53 @@
+-- A turn over a store.
+use Rattle.std.proofs.Common.{◌≡◌, ℕ, ◌≤◌, ◌++◌, List, [], length, None, Ok, refl, sym, ap, ◌∙◌, subst, arith}
+use Rattle.std.proofs.lemmas.List.{append-nil}
+use Rattle.oa_image.specs.Events.{event_image}
+use Rattle.oa_journal.specs.Replays.{Replays}
+use Rattle.oa_model.specs.Codes.{e_outofmemory, s_ok}
+use Rattle.oa_record.specs.Replies.{ReplyValue}
+use Rattle.oa_table.specs.Events.{applied}
+use Rattle.oa_table.specs.Tables.{TableValue}
+use Rattle.oa_server.specs.declared.plan.Planned.{Planned}
+use Rattle.oa_server.specs.Plans.{HoldsSame, IsPlanned}
+use Rattle.oa_server.specs.Requests.{HasTurn, IsHeldBack, held_of}
+use Rattle.oa_server.specs.States.{State}
+use Rattle.oa_server.specs.Steps.{refusal}
+use Rattle.oa_server.specs.Turns.{Turn}
+use Rattle.oa_server.proofs.Planned.{done, lacks}
+
+-- no events
+no_events : (before after : TableValue) → after ≡ before → Replays [] before after
+no_events before after same = subst (λ (t : TableValue). Replays [] before t) (sym same) (record { events = []; are = record { are = tt; whole = refl }; makes = refl })
+
+-- a turn that changes nothing that images hold
+pub answered : (body : List ℕ) (reply : ReplyValue) (events : List ℕ) (old new : State) → Turn old body reply new → HoldsSame old new → IsHeldBack body reply events events old new
+answered body reply events old new turn same = record {
+  event = [];
+  asked = record { turn = turn; replays = no_events (held_of old) (held_of new) same.table };
+  added = sym (append-nil events);
+  small = omega arith;
+}
+
+module _ (old : State) (body : List ℕ) (planned : Planned) (is : IsPlanned old body planned) where
+  -- a change that is made
+  pub held : (new : State) (reply : ReplyValue) (events events' : List ℕ) → applied planned.event old.table ≡ Ok new.table → new ≡ record old { table = new.table }
+      → reply ≡ record { tag = planned.tag; code = s_ok; index = None; body = planned.fields } → Replays (event_image planned.event) (held_of old) (held_of new) → length (event_image planned.event) ≤ 1048576
+      → events' ≡ events ++ event_image planned.event → IsHeldBack body reply events events' old new
+  held new reply events events' at leaves told replays small added =
+      record { event = event_image planned.event; asked = record { turn = done old body planned is new reply at leaves told; replays = replays }; added = added; small = small }
+
+  -- memory was refused
+  pub starved : (new : State) (reply : ReplyValue) (events events' : List ℕ) → new ≡ old → events' ≡ events → reply ≡ refusal planned.tag e_outofmemory None → IsHeldBack body reply events events' old new
+  starved new reply events events' same none told = record {
+    event = [];
+    asked = record { turn = lacks old body planned is new reply told same; replays = no_events (held_of old) (held_of new) (ap held_of same) };
+    added = none ∙ sym (append-nil events);
+    small = omega arith;
+  }
+
+  -- some turn
+  pub has_turn : (new : State) → new ≡ old → HasTurn body old new
+  has_turn new same = record {
+    reply = refusal planned.tag e_outofmemory None;
+    asked = record { turn = lacks old body planned is new (refusal planned.tag e_outofmemory None) refl same; replays = no_events (held_of old) (held_of new) (ap held_of same) };
+  }

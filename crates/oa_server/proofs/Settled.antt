@@ -1,0 +1,77 @@
+-- A group in hand, and its end.
+use Rattle.std.proofs.Common.{rules, ◌≡◌, ℕ, ◌-◌, ◌^◌, ◌<◌, ◌≤◌, ◌++◌, true, false, true≢false, List, [], ◌∷◌, length, map, refl, sym, ◌∙◌, arith}
+use Rattle.oa_disk.specs.declared.disk.Disk.{Ghosts}
+use Rattle.oa_groups.specs.Desks.{IsHeld, IsSettled}
+use Rattle.oa_groups.specs.Groups.{fills}
+use Rattle.oa_groups.specs.Served.{Goes}
+use Rattle.oa_groups.specs.Turns.{entry}
+use Rattle.oa_journal.specs.Replays.{Replays}
+use Rattle.oa_keeper.specs.Kept.{AllHold, LeavesEither, LeavesTable}
+use Rattle.oa_record.specs.Replies.{ReplyValue}
+use Rattle.oa_store.specs.declared.store.Store.{Store}
+use Rattle.oa_table.specs.Tables.{TableValue}
+use Rattle.oa_server.specs.Hands.{IsReady, desk}
+use Rattle.oa_server.specs.Requests.{IsHeldBack, held_of, requests, withdrawn}
+use Rattle.oa_server.specs.States.{State}
+
+-- a group that goes on has a place
+pub few_held : (size count bytes : ℕ) → fills size count bytes ≡ false → count < size
+unfolding fills
+few_held size count bytes small = search rules
+
+module _ {D : Type 0} {g : Ghosts D} (old new : Store D g) (was : old.stopped ≡ false) where
+  -- what a call says of the device
+  pub goes : new.library.items ≡ old.library.items → g.is_honest new.disk ≡ g.is_honest old.disk → g.failures_of old.disk ≤ g.failures_of new.disk
+      → (new.stopped ≡ true → g.failures_of new.disk < 2 ^ 64 - 1 → g.failures_of old.disk < g.failures_of new.disk) → Goes old new
+  goes library honest failures stops = record { library = library; honest = honest; failures = failures; stops = λ going. stops; stays = λ stopped. absurd (true≢false (sym stopped ∙ was)) }
+
+  module _ (state : State) (pending : List ReplyValue) (events events' : List ℕ) (says : Goes old new)
+      (any_moment : (committed now : TableValue) → Replays events committed now → AllHold old committed → LeavesEither old new committed now)
+      (each : new.stopped ≡ false → (committed now : TableValue) → Replays events committed now → AllHold old committed → AllHold new now) where
+    -- the group is committed
+    pub settled : events' ≡ [] → new.stopped ≡ false → IsSettled requests pending (desk old state pending events) (desk new state [] events')
+    settled empty going = record {
+      state = refl;
+      well = λ goes_on. (refl, refl, empty);
+      broken = λ stopped. absurd (true≢false (sym stopped ∙ going));
+      any_moment = λ committed replays all. any_moment committed (held_of state) replays all;
+      each = λ goes_on committed replays all. each goes_on committed (held_of state) replays all;
+      goes = says;
+    }
+
+    -- it is taken back
+    pub taken_back : (told : List ReplyValue) → told ≡ map withdrawn pending → new.stopped ≡ true → IsSettled requests told (desk old state pending events) (desk new state [] events')
+    taken_back told back stopped = record {
+      state = refl;
+      well = λ goes_on. absurd (true≢false (sym stopped ∙ goes_on));
+      broken = λ stops. back;
+      any_moment = λ committed replays all. any_moment committed (held_of state) replays all;
+      each = λ goes_on committed replays all. each goes_on committed (held_of state) replays all;
+      goes = says;
+    }
+
+-- nothing in hand
+pub ready_none : {D : Type 0} {g : Ghosts D} (store : Store D g) (size places : ℕ) → 1 ≤ size → size ≤ places → IsReady store size places [] []
+ready_none store size places some place = record {
+  place = place;
+  few = omega (arith, some);
+  room = λ going filled. absurd (omega (arith, filled));
+  small = λ going. omega arith;
+  late = λ stopped. refl;
+}
+
+-- a request is held
+pub held_one : {D : Type 0} {g : Ghosts D} (old new : Store D g) (body : List ℕ) (reply : ReplyValue) (before after : State) (pending pending' : List ReplyValue) (events events' : List ℕ)
+    (turn : IsHeldBack body reply events events' before after) → pending' ≡ pending ++ reply ∷ [] → new.stopped ≡ false
+    → ((committed : TableValue) → (length events ≡ 0 → held_of before ≡ committed) → AllHold old committed → LeavesTable old new committed)
+    → ((committed : TableValue) → (length events ≡ 0 → held_of before ≡ committed) → AllHold old committed → AllHold new committed)
+    → Goes old new → IsHeld requests (entry body reply turn.event) (desk old before pending events) (desk new after pending' events')
+held_one old new body reply before after pending pending' events events' turn more going any_moment each says = record {
+  turn = turn.asked;
+  pending = more;
+  events = turn.added;
+  going = going;
+  any_moment = any_moment;
+  each = each;
+  goes = says;
+}

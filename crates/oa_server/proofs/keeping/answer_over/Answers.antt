@@ -1,0 +1,28 @@
+use Rattle.std.proofs.Common.{rules, true≢false, sym, ◌∙◌}
+use Rattle.oa_server.proofs.Answering.{checkpoint_failed, commit_failed, committed}
+use Rattle.oa_server.proofs.Settled.{goes}
+use Rattle.oa_server.proofs.keeping.answer_over.Goals as goal
+
+pub returns-in_default : goal.returns-in_default
+returns-in_default g c =
+    checkpoint_failed c.args.store.now c.turn_held.new.store (search rules) c.args.host.now c.turn_held.new.self c.args.body.now c.new-frame.result c.new-frame.ensures c.turn_held.ensures.goes c.turn_held.ensures.any_moment c.bare-in_default.result (search rules) c.in_default.ensures.failed
+    c.in_default.ensures.stops
+
+pub returns-in_default-commit : goal.returns-in_default-commit
+returns-in_default-commit g c =
+    let said = c.in-Ok.ensures in
+    let mid = c.turn_held.new.store in
+    let new = c.commit.new.store in
+    let then = goes mid new said.going c.commit.ensures.library c.commit.ensures.honest c.commit.ensures.failures (λ stopped. c.in_default-commit.ensures.stops.1) in
+    commit_failed c.args.store.now mid (search rules) c.args.host.now c.turn_held.new.self c.args.body.now c.new-frame.result c.new-frame.ensures said.goes said.any_moment new c.in-Ok.reply c.turn_held.new.frame said.turn then (said.each said.going)
+    c.commit.ensures.any_moment c.commit.ensures.each c.bare-in_default-commit.result (search rules) c.in_default-commit.ensures.stops.0
+
+pub returns : goal.returns
+returns g c =
+    let said = c.in-Ok.ensures in
+    let mid = c.turn_held.new.store in
+    let new = c.commit.new.store in
+    let going = c.in-Ok-commit.ensures.going in
+    let then = goes mid new said.going c.commit.ensures.library c.commit.ensures.honest c.commit.ensures.failures (λ stopped. absurd (true≢false (sym stopped ∙ going))) in
+    committed c.args.store.now mid (search rules) c.args.host.now c.turn_held.new.self c.args.body.now c.new-frame.result c.new-frame.ensures said.goes said.any_moment new c.in-Ok.reply c.turn_held.new.frame said.turn then (said.each said.going)
+    c.commit.ensures.any_moment c.commit.ensures.each going

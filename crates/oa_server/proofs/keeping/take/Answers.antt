@@ -1,0 +1,35 @@
+use Rattle.std.proofs.Common.{rules, inl, inr, refl}
+use Rattle.oa_server.specs.Hands.{desk}
+use Rattle.oa_server.proofs.Settled.{held_one}
+use Rattle.oa_server.proofs.keeping.take.Goals as goal
+
+pub returns-then-not-is_full-clause-held : goal.returns-then-not-is_full-clause-held
+returns-then-not-is_full-clause-held g c is =
+    let hand = c.args.hand.now in
+    let said = c.in-Ok.ensures in
+    inl (record {
+      was = search rules;
+      reply = c.in-Ok.reply;
+      event = said.turn.event;
+      held =
+          held_one c.args.store.now c.turn_held.new.store c.args.body.now c.in-Ok.reply c.args.host.now c.turn_held.new.self hand.replies.items c.push_reserved-in-Ok.new.self.items hand.frame c.turn_held.new.frame said.turn
+          (search rules) said.going said.any_moment (said.each said.going) said.goes;
+      short = search rules;
+      nothing = refl;
+    })
+
+pub returns-else-not-is_full-clause-told : goal.returns-else-not-is_full-clause-told
+returns-else-not-is_full-clause-told g c is =
+    let hand = c.args.hand.now in
+    let said = c.in-Ok.ensures in
+    inr (inl (record {
+      was = search rules;
+      reply = c.in-Ok.reply;
+      event = said.turn.event;
+      mid = desk c.turn_held.new.store c.turn_held.new.self c.push_reserved-in-Ok.new.self.items c.turn_held.new.frame;
+      held =
+          held_one c.args.store.now c.turn_held.new.store c.args.body.now c.in-Ok.reply c.args.host.now c.turn_held.new.self hand.replies.items c.push_reserved-in-Ok.new.self.items hand.frame c.turn_held.new.frame said.turn
+          (search rules) said.going said.any_moment (said.each said.going) said.goes;
+      full = search rules;
+      settled = c.settle.ensures.settled;
+    }))

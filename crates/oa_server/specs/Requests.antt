@@ -1,0 +1,78 @@
+-- The requests of a server, as the theory of groups sees them.
+use Rattle.std.specs.Prelude.{◌≡◌, ℕ, ◌==◌, ◌≤◌, ◌++◌, Bool, false, List, [], length, None}
+use Rattle.std.proofs.Common.{ap, inl, inr, sym, ◌∙◌, true≢false}
+use Rattle.oa_groups.specs.Turns.{Entry, Turns, entry}
+use Rattle.oa_journal.specs.Replays.{Replays}
+use Rattle.oa_keeper.proofs.Relocked.{unlocked_twice}
+use Rattle.oa_model.specs.Codes.{e_fail, stg_e_writefault}
+use Rattle.oa_record.specs.Asks.{tag_at}
+use Rattle.oa_record.specs.Replies.{ReplyValue}
+use Rattle.oa_table.specs.Tables.{TableValue, unlocked_table}
+use Rattle.oa_server.specs.Quiet.{quiet_turn}
+use Rattle.oa_server.specs.States.{State}
+use Rattle.oa_server.specs.Steps.{refusal}
+use Rattle.oa_server.specs.Turns.{Turn}
+
+-- what images hold of a state: its table without locks
+abbrev pub held_of : State → TableValue
+held_of state = unlocked_table state.table
+
+-- A turn, with the bytes of the event that it made: they make of what images hold before it what they hold after it.
+pub record IsAsked (asked : Entry ReplyValue) (old new : State) : Type 0 where
+  pub turn : Turn old asked.body asked.reply new
+  pub replays : Replays asked.event (held_of old) (held_of new)
+
+-- a turn, whose event is added to those in hand
+pub record IsHeldBack (body : List ℕ) (reply : ReplyValue) (events events' : List ℕ) (old new : State) : Type 0 where
+  pub event : List ℕ
+  pub asked : IsAsked (entry body reply event) old new
+  pub added : events' ≡ events ++ event
+  pub small : length event ≤ 1048576
+
+-- some turn of the body that leaves what images hold
+pub record HasTurn (body : List ℕ) (old new : State) : Type 0 where
+  pub reply : ReplyValue
+  pub asked : IsAsked (entry body reply []) old new
+
+-- the reply to a body in whose group the device has failed, and to one behind that group
+abbrev pub faulted : List ℕ → ReplyValue
+faulted body = refusal (tag_at body) stg_e_writefault None
+
+abbrev pub failed : List ℕ → ReplyValue
+failed body = refusal (tag_at body) e_fail None
+
+-- a reply that is taken back
+abbrev pub withdrawn : ReplyValue → ReplyValue
+withdrawn reply = refusal reply.tag stg_e_writefault None
+
+abbrev pub is_done : ReplyValue → Bool
+is_done reply = reply.code.0 == 0
+
+-- locks end with a session
+abbrev pub opened : State → State
+opened state = record state { table = unlocked_table state.table }
+
+-- a reply has its body's tag
+pub turn_tag : (old new : State) (body : List ℕ) (reply : ReplyValue) → Turn old body reply new → reply.tag ≡ tag_at body
+turn_tag old new body reply (inl s) = ap (λ (r : ReplyValue). r.tag) s.answers
+turn_tag old new body reply (inr (inl s)) = ap (λ (r : ReplyValue). r.tag) s.answers
+turn_tag old new body reply (inr (inr (inl s))) = ap (λ (r : ReplyValue). r.tag) s.answers
+turn_tag old new body reply (inr (inr (inr s))) = ap (λ (r : ReplyValue). r.tag) s.answers
+
+pub not_done : (reply : ReplyValue) → is_done reply ≡ false → reply.code.0 ≡ 0 → ⊥
+not_done reply is e = true≢false (ap (λ (n : ℕ). n == 0) (sym e) ∙ is)
+
+abbrev pub requests : Turns State ReplyValue
+requests = record {
+  held = held_of;
+  Turn = IsAsked;
+  faulted = faulted;
+  failed = failed;
+  withdrawn = withdrawn;
+  is_done = is_done;
+  opened = opened;
+  reopens = λ state. unlocked_twice state.table;
+  replays = λ asked old new one. one.replays;
+  tells = λ asked old new one. ap (λ (tag : ℕ). refusal tag stg_e_writefault None) (turn_tag old new asked.body asked.reply one.turn);
+  leaves = λ asked old new one is. quiet_turn old new asked.body asked.reply one.turn (not_done asked.reply is);
+}

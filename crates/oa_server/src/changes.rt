@@ -1,0 +1,103 @@
+//! The ways in which a table changes.
+ghost use Rattle.std.specs.Prelude.{◌≡◌, ◌≤◌, ◌++◌, IsErrOf, IsOk, OnErr, OnOk, false, length, true};
+ghost use Rattle.oa_groups.specs.Served.{Goes};
+ghost use Rattle.oa_image.specs.Events.{event_image};
+ghost use Rattle.oa_journal.specs.Replays.{Replays};
+ghost use Rattle.oa_keeper.specs.Kept.{AllHold, HasRoom, LeavesTable};
+ghost use Rattle.oa_keeper.specs.declared.fault.KeepFault.{KeepFault};
+ghost use Rattle.oa_server.specs.Decisions.{MakesTable, RelocksTable};
+ghost use Rattle.oa_server.specs.Limits.{IsSound, allowed};
+ghost use Rattle.oa_server.specs.declared.decision.LockChange.TheVariants.{Lock as ALock, Unlock as AnUnlock};
+ghost use Rattle.oa_table.specs.Events.{BringsNoLocks};
+ghost use Rattle.oa_table.specs.Tables.{TableValue, unlocked_table};
+
+use crate::decision::LockChange;
+use oa_disk::Disk;
+use oa_image::laws::is_event;
+use oa_keeper::{Frame, KeepFault, hold};
+use oa_store::Store;
+use oa_table::{CellName, Event, Table, TableFault};
+use std::alloc::AllocError;
+
+/// Makes a change that is allowed. Err only where memory is refused; then nothing changes.
+pub(crate) fn apply(table: &mut Table, event: Event) -> Result<(), AllocError>
+    requires unlocked { BringsNoLocks event }
+    requires allowed { IsOk (allowed event table.old) }
+    requires sound { IsSound table.old }
+    ensures change { MakesTable event table.old table.new result }
+    ensures sound { IsSound table.new }
+{
+    if let Err(_) = table.apply(event) {
+        return Err(AllocError);
+    }
+    Ok(())
+}
+
+/// Changes the locks of an array. Takes no memory.
+pub(crate) fn change_locks(table: &mut Table, change: LockChange) -> Result<(), TableFault>
+    requires sound { IsSound table.old }
+    ensures change { RelocksTable change table.old table.new result }
+    ensures same { unlocked_table table.new ≡ unlocked_table table.old }
+    ensures sound { IsSound table.new }
+{
+    match change {
+        LockChange::Lock(name) => lock(table, name),
+        LockChange::Unlock(name) => unlock(table, name),
+    }
+}
+
+fn lock(table: &mut Table, name: CellName) -> Result<(), TableFault>
+    requires sound { IsSound table.old }
+    ensures change { RelocksTable (ALock name) table.old table.new result }
+    ensures same { unlocked_table table.new ≡ unlocked_table table.old }
+    ensures sound { IsSound table.new }
+{
+    match table.lock(&name) {
+        Ok(_) => Ok(()),
+        Err(fault) => Err(fault),
+    }
+}
+
+fn unlock(table: &mut Table, name: CellName) -> Result<(), TableFault>
+    requires sound { IsSound table.old }
+    ensures change { RelocksTable (AnUnlock name) table.old table.new result }
+    ensures same { unlocked_table table.new ≡ unlocked_table table.old }
+    ensures sound { IsSound table.new }
+{
+    match table.unlock(&name) {
+        Ok(_) => Ok(()),
+        Err(fault) => Err(fault),
+    }
+}
+
+/// Makes a change that is allowed, and holds its event in a frame, behind a checkpoint where one is due. At `Write` the checkpoint failed.
+pub(crate) fn hold_change<D: Disk>(
+    store: &mut Store<D>,
+    table: &mut Table,
+    frame: &mut Frame,
+    event: Event,
+) -> Result<(), KeepFault>
+    requires unlocked { BringsNoLocks event }
+    requires allowed { IsOk (allowed event table.old) }
+    requires sound { IsSound table.old }
+    requires goes_on { store.old.stopped ≡ false }
+    requires room { HasRoom frame.old store.old }
+    ensures change { MakesTable event table.old table.new result }
+    ensures sound { IsSound table.new }
+    ensures replays { OnOk result (Replays (event_image event) (unlocked_table table.old) (unlocked_table table.new)) }
+    ensures small { OnOk result (length (event_image event) ≤ 1048576) }
+    ensures event { OnOk result (frame.new ≡ frame.old ++ event_image event) }
+    ensures same { OnErr result (frame.new ≡ frame.old) }
+    ensures any_moment { (committed : TableValue) → (length frame.old ≡ 0 → unlocked_table table.old ≡ committed) → AllHold store.old committed → LeavesTable store.old store.new committed }
+    ensures each { store.new.stopped ≡ false → (committed : TableValue) → (length frame.old ≡ 0 → unlocked_table table.old ≡ committed) → AllHold store.old committed → AllHold store.new committed }
+    ensures room { store.new.stopped ≡ false → HasRoom frame.new store.new }
+    ensures going { (IsErrOf result KeepFault.Write → ⊥) → store.new.stopped ≡ false }
+    ensures stops { IsErrOf result KeepFault.Write → store.new.stopped ≡ true }
+    ensures goes { Goes store.old store.new }
+{
+    is_event(&event);
+    match hold(store, table, frame, event) {
+        Ok(()) => Ok(()),
+        Err(fault) => Err(fault),
+    }
+}

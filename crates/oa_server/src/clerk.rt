@@ -1,0 +1,68 @@
+//! A server at work.
+ghost use Rattle.std.specs.Prelude.{◌≡◌, ◌≤◌, map, IfOk, OnErr, false, true};
+ghost use Rattle.oa_server.specs.Storages.{Answers, InMemory, Serves, disk_of};
+ghost use Rattle.oa_server.specs.Turns.{Run, Turn};
+
+use crate::host::Host;
+use crate::keeping::{answer_over, run_over};
+use crate::storage::Storage;
+use oa_disk::Disk;
+use oa_record::Reply;
+use std::alloc::AllocError;
+
+/// A library and a table in memory, and where the table is kept.
+#[derive(Drop)]
+pub(crate) struct Clerk<D: Disk> {
+    pub host: Host,
+    pub storage: Storage<D>,
+}
+
+impl<D: Disk> Clerk<D> {
+    /// A server of these parts.
+    pub(crate) fn new(host: Host, storage: Storage<D>) -> Clerk<D>
+        ensures host { result.host ≡ host }
+        ensures storage { result.storage ≡ storage }
+    {
+        Clerk { host, storage }
+    }
+
+    /// The disk as it is. This makes no call.
+    pub(crate) fn into_disk(self) -> D
+        ensures { result ≡ disk_of self.storage }
+    {
+        let Clerk { storage, .. } = self;
+        match storage {
+            Storage::Memory(disk) => disk,
+            Storage::Disk(store) => store.into_disk(),
+        }
+    }
+}
+
+/// Answers one body.
+pub(crate) fn answer_with<D: Disk>(host: &mut Host, storage: &mut Storage<D>, body: &[u8]) -> Reply
+    ensures answers { Answers storage.old storage.new host.old body.now result host.new }
+    ensures memory { InMemory storage.old → Turn host.old body.now result host.new }
+{
+    match storage {
+        Storage::Memory(_) => host.turn(body),
+        Storage::Disk(store) => answer_over(host, store, body),
+    }
+}
+
+/// Answers bodies in groups of so many. Err only where memory is refused before anything was done.
+pub(crate) fn run_with<D: Disk>(
+    host: &mut Host,
+    storage: &mut Storage<D>,
+    bodies: &[Vec<u8>],
+    group: usize,
+) -> Result<Vec<Reply>, AllocError>
+    requires positive { 1 ≤ group }
+    ensures serves { IfOk result (λ replies. Serves group storage.old storage.new host.old (map (λ b. b.items) bodies.now) replies.items host.new) }
+    ensures memory { InMemory storage.old → IfOk result (λ replies. Run host.old (map (λ b. b.items) bodies.now) replies.items host.new) }
+    ensures err { OnErr result ((storage.new ≡ storage.old) × (host.new ≡ host.old)) }
+{
+    match storage {
+        Storage::Memory(_) => host.run(bodies),
+        Storage::Disk(store) => run_over(host, store, bodies, group),
+    }
+}

@@ -1,0 +1,64 @@
+//! The group in hand of a server over a store.
+ghost use Rattle.std.specs.Prelude.{◌≡◌, ◌<◌, ◌≤◌, [], IfOk, false, length, map, vec_capacity};
+ghost use Rattle.oa_groups.specs.Groups.{fills};
+ghost use Rattle.oa_server.specs.Requests.{withdrawn};
+
+use oa_groups::is_full;
+use oa_keeper::Frame;
+use oa_model::HResult;
+use oa_record::Reply;
+use std::alloc::{AllocError, Global};
+
+/// The group in hand: its events, which are not committed yet, and its replies, which are held back.
+#[derive(Drop)]
+pub(crate) struct Hand {
+    /// The events.
+    pub frame: Frame,
+    /// The replies.
+    pub replies: Vec<Reply>,
+    /// How many requests a group has at most.
+    pub size: usize,
+}
+
+impl Hand {
+    /// A hand without a request, with the places of a group's replies.
+    pub(crate) fn new(alloc: Global, size: usize) -> Result<Hand, AllocError>
+        ensures replies { IfOk result (λ hand. hand.replies.items ≡ []) }
+        ensures places { IfOk result (λ hand. size ≤ vec_capacity hand.replies) }
+        ensures frame { IfOk result (λ hand. hand.frame ≡ []) }
+        ensures size { IfOk result (λ hand. hand.size ≡ size) }
+    {
+        let replies = Vec::with_capacity(alloc, size)?;
+        Ok(Hand {
+            frame: Frame::new(alloc),
+            replies,
+            size,
+        })
+    }
+
+    /// Whether the group is whole.
+    pub(crate) fn is_full(&self) -> bool
+        ensures fills { result ≡ fills self.now.size (length self.now.replies.items) (length self.now.frame) }
+        ensures few { result ≡ false → length self.now.frame < 524288 }
+        ensures place { result ≡ false → length self.now.replies.items < self.now.size }
+    {
+        is_full(self.size, self.replies.len(), self.frame.len())
+    }
+}
+
+/// Takes back the replies of a group that could not be committed. Takes no memory.
+pub(crate) fn withdraw(alloc: Global, replies: &mut Vec<Reply>)
+    ensures items { replies.new.items ≡ map withdrawn replies.old.items }
+    ensures len { length replies.new.items ≡ length replies.old.items }
+    ensures places { vec_capacity replies.new ≡ vec_capacity replies.old }
+{
+    take_back(alloc, replies);
+}
+
+fn take_back(alloc: Global, replies: &mut [Reply])
+    ensures { replies.new ≡ map withdrawn replies.old }
+{
+    for reply in replies.iter_mut() {
+        *reply = Reply::bare(alloc, reply.tag(), HResult::STG_E_WRITEFAULT, None);
+    }
+}

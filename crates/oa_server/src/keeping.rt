@@ -1,0 +1,182 @@
+//! A server over a store: groups of requests whose events go out under one gate, and whose replies are held back until then.
+ghost use Rattle.std.specs.Prelude.{◌≡◌, ◌≤◌, ◌<◌, ◌+◌, ◌++◌, [], IfOk, OnErr, false, length, map, true, vec_capacity};
+ghost use Rattle.oa_groups.specs.Desks.{IsEnded, IsSettled, IsTaken};
+ghost use Rattle.oa_groups.specs.Served.{IsServed};
+ghost use Rattle.oa_keeper.specs.Kept.{HasRoom};
+ghost use Rattle.oa_server.specs.Answers.{IsAnswered, IsLate};
+ghost use Rattle.oa_server.specs.Hands.{HandsOut, IsReady, desk};
+ghost use Rattle.oa_server.specs.Requests.{requests};
+
+use crate::hand::{Hand, withdraw};
+use crate::host::Host;
+use oa_disk::Disk;
+use oa_keeper::{Broken, Frame, commit};
+use oa_model::HResult;
+use oa_record::{Reply, tag_of};
+use oa_store::Store;
+use std::alloc::AllocError;
+
+/// Answers one body: a group of one, whose frame is its own. After a fault of the device the answer is that the store has failed, and nothing is
+/// done.
+pub(crate) fn answer_over<D: Disk>(host: &mut Host, store: &mut Store<D>, body: &[u8]) -> Reply
+    ensures { IsAnswered store.old store.new host.old host.new body.now result }
+{
+    if store.has_stopped() {
+        return Reply::bare(host.allocator(), tag_of(body), HResult::E_FAIL, None);
+    }
+    let mut frame = Frame::new(host.allocator());
+    let Ok(reply) = host.turn_held(store, &mut frame, body) else {
+        return Reply::bare(
+            host.allocator(),
+            tag_of(body),
+            HResult::STG_E_WRITEFAULT,
+            None,
+        );
+    };
+    let Ok(()) = commit(store, &mut frame) else {
+        return Reply::bare(
+            host.allocator(),
+            tag_of(body),
+            HResult::STG_E_WRITEFAULT,
+            None,
+        );
+    };
+    reply
+}
+
+/// Ends the group in hand: its events go out, and its replies may be handed out, or are taken back.
+fn settle<D: Disk>(host: &Host, store: &mut Store<D>, hand: &mut Hand)
+    requires goes_on { store.old.stopped ≡ false }
+    requires room { HasRoom hand.old.frame store.old }
+    requires few { length hand.old.frame ≤ 1572863 }
+    ensures settled { IsSettled requests hand.new.replies.items (desk store.old host.now hand.old.replies.items hand.old.frame) (desk store.new host.now [] hand.new.frame) }
+    ensures frame { hand.new.frame ≡ [] }
+    ensures len { length hand.new.replies.items ≡ length hand.old.replies.items }
+    ensures places { vec_capacity hand.new.replies ≡ vec_capacity hand.old.replies }
+    ensures size { hand.new.size ≡ hand.old.size }
+{
+    if let Err(_) = commit(store, &mut hand.frame) {
+        withdraw(host.allocator(), &mut hand.replies);
+    }
+}
+
+/// Takes one request. Where that ends the group in hand, its replies are to be handed out, those that are in hand then.
+pub(crate) fn take<D: Disk>(
+    host: &mut Host,
+    store: &mut Store<D>,
+    hand: &mut Hand,
+    body: &[u8],
+) -> bool
+    requires ready { IsReady store.old hand.old.size (vec_capacity hand.old.replies) hand.old.replies.items hand.old.frame }
+    ensures held { result ≡ false → IsTaken requests hand.old.size body.now [] (desk store.old host.old hand.old.replies.items hand.old.frame) (desk store.new host.new hand.new.replies.items hand.new.frame) }
+    ensures told { result ≡ true → IsTaken requests hand.old.size body.now hand.new.replies.items (desk store.old host.old hand.old.replies.items hand.old.frame) (desk store.new host.new [] hand.new.frame) }
+    ensures ready { result ≡ false → IsReady store.new hand.new.size (vec_capacity hand.new.replies) hand.new.replies.items hand.new.frame }
+    ensures cleared { result ≡ true → IsReady store.new hand.new.size (vec_capacity hand.new.replies) [] hand.new.frame }
+    ensures one { length hand.new.replies.items ≡ length hand.old.replies.items + 1 }
+    ensures size { hand.new.size ≡ hand.old.size }
+{
+    if store.has_stopped() {
+        let reply = Reply::bare(host.allocator(), tag_of(body), HResult::E_FAIL, None);
+        hand.replies.push_reserved(reply);
+        return true;
+    }
+    match host.turn_held(store, &mut hand.frame, body) {
+        Ok(reply) => {
+            hand.replies.push_reserved(reply);
+            if !hand.is_full() {
+                return false;
+            }
+            settle(host, store, hand);
+            true
+        }
+        Err(_) => {
+            let reply = Reply::bare(
+                host.allocator(),
+                tag_of(body),
+                HResult::STG_E_WRITEFAULT,
+                None,
+            );
+            withdraw(host.allocator(), &mut hand.replies);
+            hand.replies.push_reserved(reply);
+            true
+        }
+    }
+}
+
+/// The input has ended: what is in hand is a group, whose replies are to be handed out.
+pub(crate) fn finish<D: Disk>(host: &Host, store: &mut Store<D>, hand: &mut Hand)
+    requires ready { IsReady store.old hand.old.size (vec_capacity hand.old.replies) hand.old.replies.items hand.old.frame }
+    ensures ended { IsEnded requests hand.new.replies.items (desk store.old host.now hand.old.replies.items hand.old.frame) (desk store.new host.now [] hand.new.frame) }
+    ensures cleared { IsReady store.new hand.new.size (vec_capacity hand.new.replies) [] hand.new.frame }
+    ensures len { length hand.new.replies.items ≡ length hand.old.replies.items }
+    ensures size { hand.new.size ≡ hand.old.size }
+{
+    if hand.replies.is_empty() {
+        return;
+    }
+    settle(host, store, hand);
+}
+
+/// Takes one request, and hands the replies of a group that has ended out.
+fn take_on<D: Disk>(
+    host: &mut Host,
+    store: &mut Store<D>,
+    hand: &mut Hand,
+    body: &[u8],
+    out: &mut Vec<Reply>,
+)
+    requires ready { IsReady store.old hand.old.size (vec_capacity hand.old.replies) hand.old.replies.items hand.old.frame }
+    requires places { length out.old.items + length hand.old.replies.items < vec_capacity out.old }
+    ensures taken { HandsOut (λ told. IsTaken requests hand.old.size body.now told (desk store.old host.old hand.old.replies.items hand.old.frame) (desk store.new host.new hand.new.replies.items hand.new.frame)) out.old.items out.new.items }
+    ensures ready { IsReady store.new hand.new.size (vec_capacity hand.new.replies) hand.new.replies.items hand.new.frame }
+    ensures one { length out.new.items + length hand.new.replies.items ≡ length out.old.items + length hand.old.replies.items + 1 }
+    ensures places { vec_capacity out.old ≤ vec_capacity out.new }
+    ensures size { hand.new.size ≡ hand.old.size }
+{
+    if take(host, store, hand, body) {
+        hand_out(&mut hand.replies, out);
+    }
+}
+
+/// The input has ended: the replies in hand are handed out too.
+fn finish_on<D: Disk>(host: &Host, store: &mut Store<D>, hand: &mut Hand, out: &mut Vec<Reply>)
+    requires ready { IsReady store.old hand.old.size (vec_capacity hand.old.replies) hand.old.replies.items hand.old.frame }
+    requires places { length out.old.items + length hand.old.replies.items ≤ vec_capacity out.old }
+    ensures ended { HandsOut (λ told. IsEnded requests told (desk store.old host.now hand.old.replies.items hand.old.frame) (desk store.new host.now hand.new.replies.items hand.new.frame)) out.old.items out.new.items }
+{
+    finish(host, store, hand);
+    hand_out(&mut hand.replies, out);
+}
+
+/// Moves the replies to those that were handed out.
+fn hand_out(replies: &mut Vec<Reply>, out: &mut Vec<Reply>)
+    requires { length out.old.items + length replies.old.items ≤ vec_capacity out.old }
+    ensures out { out.new.items ≡ out.old.items ++ replies.old.items }
+    ensures emptied { replies.new.items ≡ [] }
+    ensures place { vec_capacity replies.new ≡ vec_capacity replies.old }
+    ensures places { vec_capacity out.old ≤ vec_capacity out.new }
+{
+    out.append(replies).unwrap();
+}
+
+/// Answers bodies in groups of so many. Err only where memory is refused before anything was done.
+pub(crate) fn run_over<D: Disk>(
+    host: &mut Host,
+    store: &mut Store<D>,
+    bodies: &[Vec<u8>],
+    group: usize,
+) -> Result<Vec<Reply>, AllocError>
+    requires positive { 1 ≤ group }
+    ensures served { store.old.stopped ≡ false → IfOk result (λ replies. IsServed requests group store.old store.new host.old host.new (map (λ b. b.items) bodies.now) replies.items) }
+    ensures late { store.old.stopped ≡ true → IfOk result (λ replies. IsLate store.old store.new host.old host.new (map (λ b. b.items) bodies.now) replies.items) }
+    ensures err { OnErr result ((store.new ≡ store.old) × (host.new ≡ host.old)) }
+{
+    let alloc = host.allocator();
+    let mut out = Vec::with_capacity(alloc, bodies.len())?;
+    let mut hand = Hand::new(alloc, group)?;
+    'bodies: for body in bodies {
+        take_on(host, store, &mut hand, body, &mut out);
+    }
+    finish_on(host, store, &mut hand, &mut out);
+    Ok(out)
+}

@@ -1,0 +1,40 @@
+//! The limits on what a change makes.
+ghost use Rattle.std.specs.Prelude.{◌≡◌, Ok, length};
+ghost use Rattle.oa_image.specs.Tables.{table_image};
+ghost use Rattle.oa_table.specs.Events.{applied};
+ghost use Rattle.oa_table.specs.Tables.{TableValue};
+ghost use Rattle.oa_server.specs.Limits.{Refuses, allowed};
+
+use oa_image::event_len;
+use oa_keeper::refusal_of;
+use oa_model::HResult;
+use oa_table::{Event, Table};
+
+/// The most bytes of an event's image.
+const MAX_EVENT_BYTES: usize = 1_048_576;
+
+/// The most bytes of a table's image.
+const MAX_TABLE_BYTES: u64 = 14_680_064;
+
+/// Why an event is not allowed; None where it is. Takes no memory.
+pub(crate) fn refusal(table: &Table, event: &Event) -> Option<HResult>
+    ensures { Refuses (allowed event.now table.now) result }
+{
+    if let Some(fault) = refusal_of(table, event) {
+        return Some(fault.code());
+    }
+    if event_len(event) > MAX_EVENT_BYTES {
+        return Some(HResult::E_INVALIDARG);
+    }
+    if size_after(table, event) > MAX_TABLE_BYTES {
+        return Some(HResult::STG_E_MEDIUMFULL);
+    }
+    None
+}
+
+/// How many bytes the image of the table has after an event that applies.
+fn size_after(table: &Table, event: &Event) -> u64
+    ensures { (new : TableValue) → applied event.now table.now ≡ Ok new → result ≡ length (table_image new) }
+{
+    table.size_after(event)
+}

@@ -11,7 +11,7 @@ import struct
 import tempfile
 
 import wire
-from running import CALLED, CREATE, CREATED, REPLIES, REQUESTS, SMALL, Talk, case, ends, fill, run, run_in, short, tell, text_of, within
+from running import CALLED, CREATE, CREATED, REPLIES, REQUESTS, SMALL, Talk, case, ends, fill, run, run_in, short, taken, tell, text_of, within
 from store import LEAST
 
 FULL = text_of("full.idl")
@@ -20,16 +20,19 @@ STUB = b"00000000" + b"f7060780" + b"ffffffff" + b"00000000"
 LINE_LIMIT = 2_097_152
 
 
+GROUPS = taken(1, 3, 1_024)
+
+
 def play(name, given, status, out, err, library=SMALL, words=("--hex",), **how):
     """A session with objects in memory, and the same over new stores, with groups of several sizes: the replies are the same bytes."""
     case(name, ["play", "lib.idl", *words], status, out, err, given=given, files={"lib.idl": library}, **how)
-    for group in ("1", "3", "1024"):
+    for group in GROUPS:
         with tempfile.TemporaryDirectory() as room:
             fill(room, {"lib.idl": library})
             with open(f"{room}/it.store", "wb") as file:
                 file.truncate(LEAST)
             run_in(room, ["format", "it.store", "lib.idl"])
-            got = run_in(room, ["serve", "it.store", "lib.idl", "--group", group, *words], given=given, **how)
+            got = run_in(room, ["serve", "it.store", "lib.idl", "--group", str(group), *words], given=given, **how)
             tell(f"{name}: over a store, groups of {group}", got == (status, out, err), f"wanted {status, short(out), err}, got {got[0], short(got[1]), short(got[2])}")
 
 

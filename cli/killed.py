@@ -3,7 +3,7 @@
 
     python3 cli/killed.py [PROGRAM] [--times N] [--seed S]
 
-PROGRAM is crates/oaut/out/oaut where none is given, N is 300. Each time a server is started on one store, with groups of 1, 3, 64 or 1,024. It reads back what the store should
+PROGRAM is crates/oaut/out/oaut where none is given, N is 300. Each time a server is started on one store, with groups of 1, 3, 64 or 1,024, as far as it takes them. It reads back what the store should
 hold, takes puts as fast as it can, small ones and long texts, so that checkpoints fall among them, and gets the signal 9. Then the store is read by `oaut dump` and by
 cli/store.py. It has to hold what a first part of the puts has left, in which every acknowledged one is, and which ends where a group ends.
 
@@ -164,8 +164,9 @@ def main():
         subprocess.run([program, "serve", "it.store", "lib.idl"], cwd=room, check=True, input=made, stdout=subprocess.DEVNULL)
         found, values, _ = held(room)
         number = 1
+        groups = [it for it in GROUPS if subprocess.run([program, "serve", "none", "none", "--group", str(it)], stderr=subprocess.DEVNULL).returncode != 2]
         for time_ in range(given.times):
-            group, long = GROUPS[time_ % len(GROUPS)], time_ // len(GROUPS) % 2 == 1
+            group, long = groups[time_ % len(groups)], time_ // len(groups) % 2 == 1
             try:
                 session = Session(program, room, group, number, values, long)
                 until = draw.random() * (200 if long else 100 + 20 * group)
@@ -194,7 +195,7 @@ def main():
                 return 1
             acknowledged, behind, switched = acknowledged + count, behind + there - count, switched + (found.chosen != before)
             number += session.asked
-    print(f"{given.times} kills: {acknowledged} acknowledged puts were all there, {behind} more with them, in whole groups; {switched} sessions ended in the other bank")
+    print(f"{given.times} kills, groups of {', '.join(map(str, groups))}: {acknowledged} acknowledged puts were all there, {behind} more with them, in whole groups; {switched} sessions ended in the other bank")
     return 0
 
 

@@ -60,6 +60,11 @@ def within(bytes):
     return lambda: resource.setrlimit(resource.RLIMIT_AS, (bytes, bytes))
 
 
+def taken(*sizes):
+    """Those of some sizes of groups that the program takes."""
+    return [it for it in sizes if run(["serve", "none.store", "none.idl", "--group", str(it)])[0] != 2]
+
+
 class Talk:
     """A session over pipes, in a new folder where none is given: what is sent is sent at once, and what is waited for is waited for no longer than
     the time."""

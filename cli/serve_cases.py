@@ -15,13 +15,16 @@ import store
 import wire
 from calls import OUT, STRACE, Calls, each_fails, held, text_held
 from oaut import REDIM, ask_call, ask_create
-from running import CREATE, CREATED, REPLIES, REQUESTS, SMALL, Talk, case, ends, fault, fill, leaves, run, run_in, tell, text_of, within
+from running import CREATE, CREATED, REPLIES, REQUESTS, SMALL, Talk, case, ends, fault, fill, leaves, run, run_in, taken, tell, text_of
 
 SMALL_TEXT, FULL, FULL_TEXT = text_of("small.canonical.idl"), text_of("full.idl"), text_of("full.canonical.idl")
 NEW = bytes(store.formatted(SMALL_TEXT))
 CLASS, FACE = (bytes.fromhex("443322116655887799aabbccddeeff" + last) for last in ("03", "02"))
 CREATED_1 = b"\1" + struct.pack("<I", 1) + CLASS
 WRITE_FAULT, FAILED = 0x8003_001D, 0x8000_4005
+GROUPS = taken(1, 2, 3, 4, 1_024)
+if GROUPS == [1]:
+    print("groups of more than 1 are refused: they are left out")
 
 
 def put_of(value):
@@ -59,14 +62,14 @@ def serves(name, given, status, out, err, disk, left, *more, library=SMALL, **ho
 
 PUT_7 = put_of(7)
 two, one_group = (bytes(store.add(bytearray(NEW), *groups)) for groups in ((CREATED_1, PUT_7), (CREATED_1 + PUT_7,)))
-for group, left in (("1", two), ("2", two), ("3", one_group), ("4", one_group), ("1024", one_group)):
-    serves(f"the first path, groups of {group}", REQUESTS, 0, REPLIES, b"", NEW, left, "--hex", "--group", group)
+for group in GROUPS:
+    serves(f"the first path, groups of {group}", REQUESTS, 0, REPLIES, b"", NEW, two if group < 3 else one_group, "--hex", "--group", str(group))
 serves("the first path, no group named", REQUESTS, 0, REPLIES, b"", NEW, two, "--hex")
 serves("no requests", b"", 0, b"", b"", two, two)
 serves("what stood in the store is there", get(1) + CREATE + b"\n", 0, got(1, 7) + wire.reply(1, fields=struct.pack("<II", 2, 0)), b"", two, store.add(bytearray(two), b"\1" + struct.pack("<I", 2) + CLASS), "--hex")
 BAD = wire.put(5, 1, 1, wire.scalar(wire.NULL))
 serves("a refused put leaves no trace", BAD + get(6), 0, wire.reply(5, 0x8002_0005, 0) + got(6, 7), b"", two, two, "--hex")
-for group in ("1", "3", "1024"):
+for group in map(str, GROUPS):
     cut = put(1, 8) + get(2) + b"0"
     serves(f"the group in hand is committed before bad hex ends the session, groups of {group}", cut, 4, wire.reply(1) + got(2, 8), fault("bad hex on line 3"), two, store.add(bytearray(two), put_of(8)), "--hex", "--group", group)
     record = struct.pack("<I", len(put(1, 8)) // 2) + bytes.fromhex(put(1, 8).decode())
@@ -74,23 +77,31 @@ for group in ("1", "3", "1024"):
     stub = struct.pack("<IIIII", 16, 0, 0x8007_06F7, 0xFFFF_FFFF, 0)
     serves(f"records: and before a record that is cut, groups of {group}", record + b"\7", 4, struct.pack("<I", 16) + answer + stub, fault("record cut"), two, store.add(bytearray(two), put_of(8)), "--group", group)
 with open("/dev/full", "wb") as full:
-    serves("the group in hand is committed where nobody takes its replies", put(1, 8), 1, None, fault("write fault"), two, store.add(bytearray(two), put_of(8)), "--hex", "--group", "3", stdout=full)
+    serves("the group in hand is committed where nobody takes its replies", put(1, 8), 1, None, fault("write fault"), two, store.add(bytearray(two), put_of(8)), "--hex", "--group", str(GROUPS[-1]), stdout=full)
 for fd, status, text in ((0, 1, "read fault"), (1, 1, "write fault")):
     left = two if fd == 0 else bytes(store.add(bytearray(two), put_of(8)))
     serves(f"stream {fd} is closed, and the store is not taken for it", put(1, 8), status, b"", fault(text), two, left, "--hex", before=lambda fd=fd: os.close(fd))
 
 with tempfile.TemporaryDirectory() as room:
     fill(room, {"it.store": two})
-    with Talk(SMALL, ("--hex", "--group", "3"), room=room, command=("serve", "it.store")) as session:
-        session.send(put(1, 8) + get(2))
-        early = select.select([session.process.stdout], [], [], 0.5)[0]
-        before = text_held(room)
-        session.send(put(3, 9))
-        replies = b"".join(session.line() for _ in range(3))
-        tell("serve: the replies of a group come together, once it is committed", (early, before, replies, text_held(room)) == ([], table(7), wire.reply(1) + got(2, 8) + wire.reply(3), table(9)), (early, before, replies))
-        session.send(put(4, 10))
-        session.process.stdin.close()
-        tell("serve: the end of the input ends a group", (session.line(), session.status(), text_held(room)) == (wire.reply(4), 0, table(10)))
+    with Talk(SMALL, ("--hex",), room=room, command=("serve", "it.store")) as session:
+        for asked, answered, now in ((put(1, 8), wire.reply(1), 8), (get(2), got(2, 8), 8), (put(3, 9), wire.reply(3), 9)):
+            session.send(asked)
+            replies = session.line()
+            tell("serve: a reply comes before the next request is sent, and the store has what it tells", (replies, text_held(room)) == (answered, table(now)), replies)
+if 3 in GROUPS:
+    with tempfile.TemporaryDirectory() as room:
+        fill(room, {"it.store": two})
+        with Talk(SMALL, ("--hex", "--group", "3"), room=room, command=("serve", "it.store")) as session:
+            session.send(put(1, 8) + get(2))
+            early = select.select([session.process.stdout], [], [], 0.5)[0]
+            before = text_held(room)
+            session.send(put(3, 9))
+            replies = b"".join(session.line() for _ in range(3))
+            tell("serve: the replies of a group come together, once it is committed", (early, before, replies, text_held(room)) == ([], table(7), wire.reply(1) + got(2, 8) + wire.reply(3), table(9)), (early, before, replies))
+            session.send(put(4, 10))
+            session.process.stdin.close()
+            tell("serve: the end of the input ends a group", (session.line(), session.status(), text_held(room)) == (wire.reply(4), 0, table(10)))
 
 # --- what is refused, and in which order
 
@@ -211,7 +222,7 @@ if STRACE is None:
     print("strace is not there: the calls of the system are not looked at, and no call is made to fail")
 else:
     files = {"lib.idl": FULL, "it.store": START}
-    for size in (1, 3, 1_024):
+    for size in GROUPS:
         with tempfile.TemporaryDirectory() as room:
             fill(room, files)
             calls = Calls(room, words("--hex", "--group", str(size)), given=LINES)
@@ -231,9 +242,10 @@ else:
     files = {"lib.idl": FULL, "it.store": bytes(due)}
     event, asked = text_put(b"ab")
     asked = get(2) + asked + get(3)
+    size = 3 if 3 in GROUPS else 1
     with tempfile.TemporaryDirectory() as room:
         fill(room, files)
-        made = Calls(room, words("--hex", "--group", "3"), given=asked).does()
+        made = Calls(room, words("--hex", "--group", str(size)), given=asked).does()
     opening = next(place for place, it in enumerate(made) if it[0] == "write")
     rest = [it for it in made[opening:] if it != OUT]
     pieces = [it for it in rest if it[0] == "write" and it[1] >= store.BANKS + store.BANK][:-2]  # the group follows in that bank
@@ -247,16 +259,17 @@ else:
         """The checkpoint comes before the group's first event, that of its second request."""
         if place < opening:
             return
-        codes = [WRITE_FAULT, WRITE_FAULT, FAILED if place < opening + settles else WRITE_FAULT]
-        wanted = b"".join(wire.reply(tag, code) for tag, code in zip((2, 1, 3), codes))
+        alone = size == 1 or place < opening + settles
+        first = got(2, 0) if size == 1 else wire.reply(2, WRITE_FAULT)
+        wanted = first + wire.reply(1, WRITE_FAULT) + wire.reply(3, FAILED if alone else WRITE_FAULT)
         now = text_held(room)
         tell(f"serve: failed is call {place - opening} of a checkpoint and a group, {what}", answer == (0, wanted, b"") and now in ([before] if place < opening + settles + 2 else [before, after]), answer)
 
     def checkpoint_killed(place, what, answer, room):
         if place >= opening:
-            tell(f"serve: killed at call {place - opening} of a checkpoint and a group, {what}", (answer[1], text_held(room)) == (b"", after if place == opening + settles + 3 else before), answer)
+            tell(f"serve: killed at call {place - opening} of a checkpoint and a group, {what}", answer[1] in (b"", got(2, 0)) and text_held(room) == (after if place == opening + settles + 3 else before), answer)
 
-    each_fails(words("--hex", "--group", "3"), files, checkpoint_fails, given=asked)
-    each_fails(words("--hex", "--group", "3"), files, checkpoint_killed, "signal=KILL", given=asked)
+    each_fails(words("--hex", "--group", str(size)), files, checkpoint_fails, given=asked)
+    each_fails(words("--hex", "--group", str(size)), files, checkpoint_killed, "signal=KILL", given=asked)
 
 ends()

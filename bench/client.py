@@ -1,10 +1,11 @@
 #!/usr/bin/env python3
-"""Times puts and gets of a long property from Python, in batches and one by one, over the pipes of the built program.
+"""Times puts and gets of a long property from Python, in batches and one by one, over the pipes of the built program: with objects in memory, and with a store in FOLDER.
 
-    python3 bench/client.py [PROGRAM [PUTS]]      PROGRAM is crates/oaut/out/oaut where none is given
+    python3 bench/client.py [PROGRAM [PUTS [FOLDER]]]      PROGRAM is crates/oaut/out/oaut where none is given, PUTS 300,000, FOLDER the current one
 """
 import os
 import sys
+import tempfile
 import time
 
 ROOT = os.path.dirname(os.path.dirname(os.path.abspath(__file__)))
@@ -13,6 +14,8 @@ import oaut
 
 PROGRAM = os.path.abspath(sys.argv[1]) if len(sys.argv) > 1 else f"{ROOT}/crates/oaut/out/oaut"
 PUTS = int(sys.argv[2]) if len(sys.argv) > 2 else 300_000
+FOLDER = sys.argv[3] if len(sys.argv) > 3 else "."
+LIBRARY = f"{ROOT}/examples/small.idl"
 
 
 def timed(what, count, act):
@@ -22,24 +25,38 @@ def timed(what, count, act):
     print(f"{what}: {count} in {seconds:.3f} s: {count / seconds:,.0f} a second ({count / own:,.0f} by the client's own processor time)")
 
 
-with oaut.play(f"{ROOT}/examples/small.idl", program=PROGRAM) as server:
-    item = server.create("Item")
-
-    def puts():
-        with server.batch():
-            for number in range(PUTS):
-                item.Count = number
-
-    def gets():
-        with server.batch():
-            for _ in range(PUTS):
-                item.Count
-
-    def puts_alone():
-        for number in range(PUTS // 10):
+def puts(count):
+    with server.batch():
+        for number in range(count):
             item.Count = number
 
-    timed("puts in batches of 1,024", PUTS, puts)
+
+def gets(count):
+    with server.batch():
+        for _ in range(count):
+            item.Count
+
+
+def puts_alone(count):
+    for number in range(count):
+        item.Count = number
+
+
+with oaut.play(LIBRARY, program=PROGRAM) as server:
+    item = server.create("Item")
+    timed("puts in batches of 1,024", PUTS, lambda: puts(PUTS))
     assert item.Count == PUTS - 1
-    timed("gets in batches of 1,024", PUTS, gets)
-    timed("puts one by one", PUTS // 10, puts_alone)
+    timed("gets in batches of 1,024", PUTS, lambda: gets(PUTS))
+    timed("puts one by one", PUTS // 10, lambda: puts_alone(PUTS // 10))
+
+with tempfile.TemporaryDirectory(dir=FOLDER) as room:
+    store = f"{room}/it.store"
+    oaut.make_store(store, LIBRARY, program=PROGRAM)
+    with oaut.serve(store, LIBRARY, group=1_024, program=PROGRAM) as server:
+        item = server.create("Item")
+        timed("puts into a store, in batches and groups of 1,024", PUTS // 3, lambda: puts(PUTS // 3))
+        assert item.Count == PUTS // 3 - 1
+    with oaut.serve(store, LIBRARY, program=PROGRAM) as server:
+        (item,) = server.objects()
+        timed("puts into a store, one by one", PUTS // 100, lambda: puts_alone(PUTS // 100))
+        assert item.Count == PUTS // 100 - 1

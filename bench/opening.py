@@ -35,23 +35,24 @@ def opened(room, groups):
     with open(path, "wb") as file:
         file.write(disk)
     wanted = "next 2\nobject 1 %s\n" % store.guid_text(ITEM) + ("cell %s 1 - 0300%s\n" % (store.guid_text(FACE), struct.pack("<I", groups - 1).hex()) if groups else "")
-    times, peak = [], 0
+    times = []
     for _ in range(5):
         started = time.perf_counter()
-        child = subprocess.Popen([PROGRAM, "dump", path], stdout=subprocess.PIPE)
-        said = child.stdout.read()
-        _, status, used = os.wait4(child.pid, 0)
+        said = subprocess.run([PROGRAM, "dump", path], check=True, stdout=subprocess.PIPE).stdout
         times.append(time.perf_counter() - started)
-        peak = max(peak, used.ru_maxrss)
-        child.stdout.close()
-        child.returncode = os.waitstatus_to_exitcode(status)
-        assert (child.returncode, said.decode()) == (0, wanted), said[:200]
-    return min(times), peak
+        assert said.decode() == wanted, said[:200]
+    return min(times), peak_of(PROGRAM, "dump", path)
+
+
+def peak_of(*words):
+    """The most memory that a program takes, in KiB. It is started by a small process, since what starts it counts too."""
+    act = "import os, sys; print(os.wait4(os.posix_spawn(sys.argv[1], sys.argv[1:], os.environ), 0)[2].ru_maxrss, file=sys.stderr)"
+    return int(subprocess.run([sys.executable, "-S", "-c", act, *words], check=True, stdout=subprocess.DEVNULL, stderr=subprocess.PIPE).stderr)
 
 
 with tempfile.TemporaryDirectory(dir=".") as room:
-    empty, _ = opened(room, 0)
-    print(f"no groups: {empty:.3f} s")
+    empty, peak = opened(room, 0)
+    print(f"no groups: {empty:.3f} s; {peak / 1024:.1f} MiB at most")
     for groups in (GROUPS // 2, GROUPS):
         seconds, peak = opened(room, groups)
         print(f"{groups:,} groups, {38 * groups / 1e6:.1f} MB: {seconds - empty:.3f} s more, {(seconds - empty) / groups * 1e9:.0f} ns a group; {peak / 1024:.1f} MiB at most")

@@ -11,7 +11,8 @@ import struct
 import tempfile
 
 import wire
-from running import CALLED, CREATE, CREATED, REPLIES, REQUESTS, SMALL, Talk, case, ends, run, tell, text_of, within
+from running import CALLED, CREATE, CREATED, REPLIES, REQUESTS, SMALL, Talk, case, ends, fill, run, run_in, short, taken, tell, text_of, within
+from store import LEAST
 
 FULL = text_of("full.idl")
 CANONICAL = text_of("full.canonical.idl")
@@ -19,8 +20,20 @@ STUB = b"00000000" + b"f7060780" + b"ffffffff" + b"00000000"
 LINE_LIMIT = 2_097_152
 
 
-def play(name, given, status, out, err, library=SMALL, **how):
-    case(name, ["play", "lib.idl", "--hex"], status, out, err, given=given, files={"lib.idl": library}, **how)
+GROUPS = taken(1, 3, 1_024)
+
+
+def play(name, given, status, out, err, library=SMALL, words=("--hex",), **how):
+    """A session with objects in memory, and the same over new stores, with groups of several sizes: the replies are the same bytes."""
+    case(name, ["play", "lib.idl", *words], status, out, err, given=given, files={"lib.idl": library}, **how)
+    for group in GROUPS:
+        with tempfile.TemporaryDirectory() as room:
+            fill(room, {"lib.idl": library})
+            with open(f"{room}/it.store", "wb") as file:
+                file.truncate(LEAST)
+            run_in(room, ["format", "it.store", "lib.idl"])
+            got = run_in(room, ["serve", "it.store", "lib.idl", "--group", str(group), *words], given=given, **how)
+            tell(f"{name}: over a store, groups of {group}", got == (status, out, err), f"wanted {status, short(out), err}, got {got[0], short(got[1]), short(got[2])}")
 
 
 def checked(name, library, status, out, err, **how):
@@ -131,7 +144,7 @@ def records(lines):
 
 
 def play_records(name, given, status, out, err, library=SMALL, **how):
-    case(f"records: {name}", ["play", "lib.idl"], status, out, err, given=given, files={"lib.idl": library}, **how)
+    play(f"records: {name}", given, status, out, err, library, (), **how)
 
 
 ASKED, ANSWERED, STUB_RECORD = records(CREATE), records(CREATED), records(STUB)

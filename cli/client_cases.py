@@ -381,7 +381,28 @@ item_of(grouped).Count = 7
 same("a get behind a filled group", item_of(grouped).Any, I4(7))
 grouped.close()
 lines = grouped._writer.content.splitlines()
-same("a group is filled by requests that change nothing", [line[8:16] for line in lines], [b"04000000", b"0a000000", b"0a000000"] * 2)
+PUT_, FILL_ = b"04000000", b"0a000000"
+same("a group is filled by requests that change nothing", [line[8:16] for line in lines], [PUT_, FILL_, FILL_] * 2)
+
+
+def sent_in_groups(size, *exchanges):
+    """Opcodes of what is sent to a server with groups of a size, in some exchanges of puts, or of what else is to be sent."""
+    sent = Kept()
+    server = oaut.Server(io.BytesIO(), sent, "lines", size)
+    server._library = LIBRARY
+    server._read = lambda: b"\0\0\0\0" + DONE
+    server._wrong_tag = lambda body: None
+    for exchange in exchanges:
+        server._exchange(exchange if isinstance(exchange, list) else [oaut.ask_invoke(1, 1, 4, (-3,), (oaut.spell(I4(7)),))] * exchange)
+    return [line[8:16] for line in sent.getvalue().splitlines()]
+
+
+same("a batch as long as a group needs none", sent_in_groups(3, 3), [PUT_] * 3)
+same("the last of several groups is filled", sent_in_groups(3, 4, 5), [PUT_] * 4 + [FILL_] * 2 + [PUT_] * 5 + [FILL_])
+long_put = [oaut.ask_invoke(1, 2, 4, (-3,), (oaut.spell("a" * 131_072),))]
+same("where a group may have ended by its bytes, it is filled wherever it began", [len(sent_in_groups(3, *([long_put] * 3))), len(sent_in_groups(3, long_put * 3))], [9, 5])
+redim = [oaut.ask_call(oaut.REDIM, 1, 3, 2, (), ()) + struct.pack("<Ii", 65_536, 0)]
+same("a REDIM may make more", [len(sent_in_groups(3, redim)), len(sent_in_groups(3, redim, 3))], [3, 8])
 
 # --- libraries
 
@@ -647,6 +668,59 @@ with oaut.play(FULL, program=PROGRAM, framing="raw") as server:
         laters = [item.Name for _ in range(20)]
     same("a session over the raw stream", [it.value for it in laters], ["a" * 131_072] * 20)
 
+# --- stores
+
+with tempfile.TemporaryDirectory() as room:
+    STORE = f"{room}/it.store"
+    serve = lambda **how: oaut.serve(STORE, FULL, program=PROGRAM, **how)
+    raises("a store that is not there", oaut.Stopped, serve, status=1, fault=f"oaut: cannot read {STORE}")
+    raises("no store for a library that is not there", oaut.Stopped, lambda: oaut.make_store(STORE, "/none.idl", program=PROGRAM), status=1, fault="oaut: cannot read /none.idl")
+    oaut.make_store(STORE, FULL, program=PROGRAM)
+    with serve() as server:
+        same("a new store has no objects", server.objects(), [])
+        item = server.create("Item")
+        item.Count = 7
+        item.Grid = Array(I2, [(2, -1), (3, 5)], range(1, 7))
+        item.Cell[5, "k"] = "x"
+        item.Grid.lock()
+        raises("a put that is refused", oaut.Overflow, lambda: setattr(item, "Count", 2**31))
+    taken = [it for it in (1, 3, 64, 1_024) if subprocess.run([PROGRAM, "serve", "none", "none", "--group", str(it)], capture_output=True).returncode != 2]
+    for group in (None, *taken):
+        for framing in ("raw", "lines"):
+            with serve(group=group, framing=framing) as server:
+                (item,) = server.objects()
+                item.Grid.redim(2, -1)  # no lock outlives its session
+                same(f"what a store keeps, groups of {group}, {framing}", [item.number, item.Count, item.Cell[5, "k"], item.Grid.value], [1, I4(7), "x", Array(I2, [(2, -1), (3, 5)], range(1, 7))])
+                with server.batch(50) as batch:
+                    for number in range(130):
+                        item.Count = number
+                        later = item.Count
+                same(f"a batch over groups of {group}, {framing}", [later.value, item.Count], [129, 129])
+                with server.batch():
+                    for _ in range(6):
+                        item.Name = "a" * 131_072  # a group that ends by its bytes
+                    later = item.Name
+                same(f"long texts in groups of {group}, {framing}", later.value, "a" * 131_072)
+                item.Count = 7
+    server = serve(group=taken[-1])
+    item = server.object(1, "Item")
+    item.Count = 8
+    os.kill(server._child.pid, signal.SIGKILL)
+    server._child.wait()
+    raises("a server that was killed", oaut.Stopped, lambda: item.Count, status=-signal.SIGKILL)
+    with serve() as server:
+        same("what was put before a kill", server.object(1, "Item").Count, I4(8))
+        server.object(1, "Item").release()
+        same("a number is not used again after a stop", server.create("Item").number, 2)
+    raises("another library", oaut.Stopped, lambda: oaut.serve(STORE, f"{ROOT}/examples/small.idl", program=PROGRAM), status=3, fault="oaut: library differs")
+    with open(STORE, "r+b") as file:
+        file.seek(8_192)
+        file.write(b"X")
+    raises("a store that is damaged", oaut.Stopped, serve, status=3, fault="oaut: damaged at 8192")
+    oaut.make_store(STORE, FULL, program=PROGRAM)
+    with serve() as server:
+        same("a store that begins anew", [server.objects(), server.create("Item").number], [[], 1])
+
 # --- ends
 
 server = play(FULL)
@@ -763,6 +837,10 @@ with tempfile.NamedTemporaryFile("w") as file:
         command(["talk", FULL, "--program", PROGRAM, "--batch", file.name], ""),
         (1, "<Item 1>\n", "line 2: DISP_E_TYPEMISMATCH (0x80020005), argument 0 (the new value)\n"),
     )
+with tempfile.TemporaryDirectory() as room:
+    oaut.make_store(f"{room}/it.store", FULL, program=PROGRAM)
+    for given, said in (("create Item\nput 1 Count 7\n", "<Item 1>\n"), ("list\nget 1 Count\n", "<Item 1>\nI4(7)\n")):
+        same("a prompt over a store", command(["talk", FULL, "--store", f"{room}/it.store", "--program", PROGRAM], given), (0, said, ""))
 for line in ("nothing", "get 5 Count", "get 1 none", "put 1 Count", "put 1 Count )", "get 1 Cell[", "create None", "get x", "get 1"):
     status, out, err = command(["talk", FULL, "--program", PROGRAM], f"create Item\n{line}\n")
     tell(f"a command that is none: {line}", (status, out) == (1, "<Item 1>\n") and err.startswith("line 2: ") and "Traceback" not in err, (status, out, err))
@@ -772,6 +850,14 @@ with tempfile.NamedTemporaryFile("w") as file:
     example = [sys.executable, f"{ROOT}/examples/counters.py", "--program", PROGRAM, "--rounds", "1", file.name]
     done = subprocess.run(example, env={**os.environ, "PYTHONPATH": f"{ROOT}/clients/python"}, capture_output=True, text=True, timeout=60)
     same("the example", (done.returncode, done.stdout, done.stderr), (0, "eth0 received: 5\neth0 sent: 7\n", ""))
+with tempfile.TemporaryDirectory() as room:
+    # the second time the machine counts on, the third time it has started anew
+    for received, sent, totals in ((5, 7, (5, 7)), (9, 8, (9, 8)), (2, 1, (11, 9))):
+        with open(f"{room}/counters", "w") as file:
+            file.write(f"two\nlines\n  eth0: {received} 0 0 0 0 0 0 0 {sent} 0 0 0 0 0 0 0\n")
+        example = [sys.executable, f"{ROOT}/examples/counters.py", "--program", PROGRAM, "--store", f"{room}/it.store", "--rounds", "1", f"{room}/counters"]
+        done = subprocess.run(example, env={**os.environ, "PYTHONPATH": f"{ROOT}/clients/python"}, capture_output=True, text=True, timeout=60)
+        same(f"the example over a store, {received} and {sent} counted", (done.returncode, done.stdout, done.stderr), (0, "eth0 received: %d\neth0 sent: %d\n" % totals, ""))
 with open(f"{ROOT}/examples/first.hex") as asked, open(f"{ROOT}/examples/first.out") as answered:
     FIRST, REPLIES = asked.read(), answered.read()
 status, out, err = command(["talk", FULL, "--program", PROGRAM, "-v"], "create Item\nget 1 Count\n")

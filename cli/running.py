@@ -48,16 +48,21 @@ def run_in(room, words, given=b"", stdin=None, stdout=None, before=None, under=(
     return done.returncode, done.stdout, done.stderr
 
 
-def run(words, files=None, **how):
+def run(words, given=b"", files=None, **how):
     """The same in a new folder that holds the files."""
     with tempfile.TemporaryDirectory() as room:
         fill(room, files or {})
-        return run_in(room, words, **how)
+        return run_in(room, words, given, **how)
 
 
 def within(bytes):
     """What limits the memory of the program, as a call in its process."""
     return lambda: resource.setrlimit(resource.RLIMIT_AS, (bytes, bytes))
+
+
+def taken(*sizes):
+    """Those of some sizes of groups that the program takes."""
+    return [it for it in sizes if run(["serve", "none.store", "none.idl", "--group", str(it)])[0] != 2]
 
 
 class Talk:

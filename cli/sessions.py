@@ -1,6 +1,7 @@
 #!/usr/bin/env python3
 """Random sessions over all opcodes, against a small model of the server that is written from docs/records.md, docs/binding.md,
-docs/coercion.md, docs/arrays.md and docs/images.md alone. One of twelve has long texts.
+docs/coercion.md, docs/arrays.md and docs/images.md alone. One of twelve has long texts. Each is held in memory, and again over a store, with a stop behind each quarter: what
+the store holds is compared with the model's objects, too.
 
     python3 cli/sessions.py [PROGRAM [FIRST COUNT]]      sessions with the seeds FIRST, FIRST + 1, ..; by default 0 and 24
 
@@ -14,6 +15,7 @@ import subprocess
 import sys
 import tempfile
 
+import store
 import wire
 from oaut import ARRAY, CELLS, GETELEM, LOCK, PUTELEM, REDIM, UNLOCK, ask_call, ask_create, ask_ids, ask_list, ask_release, ask_type_info
 import oaut
@@ -567,6 +569,10 @@ class Large(Session):
         return self.bytes_of(oaut.INVOKE, call), lambda: model.invoke(call)
 
 
+def session_of(seed):
+    return Large(seed) if seed % 12 == 11 else Session(seed)
+
+
 def played(bodies, raw):
     with tempfile.TemporaryDirectory() as room:
         with open(f"{room}/lib.idl", "wb") as file:
@@ -585,10 +591,59 @@ def replies_of(out, framing):
     return found
 
 
+def kept(it):
+    """A value of the model as cli/store.py has it."""
+    if isinstance(it, Array):
+        cells = [kept(cell) for cell in it.cells]
+        return store.Array(it.vt, it.bounds, cells if it.vt == VARIANT else [content for _, content in cells])
+    vt, found = it
+    if vt in store.NUMBERS:
+        return vt, struct.pack("<" + store.NUMBERS[vt], found)
+    if vt == BOOL:
+        return vt, bytes([found != 0])
+    if vt == BSTR:
+        return vt, struct.pack("<I", store.NO_TEXT if found is None else len(found)) + (found or b"")
+    if vt == DECIMAL:
+        scale, sign, magnitude = found
+        return vt, struct.pack("<BBIQ", scale, sign != 0, magnitude >> 64, magnitude & 2**64 - 1)
+    return vt, b""
+
+
+def dump_of(model):
+    """What `oaut dump` is to print of the model's objects."""
+    objects = {number: (guid.bytes_le, {(face.bytes_le, dispid, tuple(map(kept, key))): kept(it) for (face, dispid, key), it in cells.items()}) for number, (guid, cells) in model.objects.items()}
+    return "".join(store.lines(store.Store(b"", model.next, objects, 0, 0, [])))
+
+
+def stored(seed):
+    """What is wrong with a session over a store; None where nothing is."""
+    session, dice = session_of(seed), random.Random(seed)
+    with tempfile.TemporaryDirectory() as room:
+        with open(f"{room}/lib.idl", "wb") as file:
+            file.write(LIBRARY)
+        call = lambda words, **how: subprocess.run([PROGRAM, *words], cwd=room, stdout=subprocess.PIPE, timeout=120, **how)
+        call(["format", "it.store", "lib.idl"])
+        for part in range(4):
+            group, framing = dice.choice(["1", "2", "3", "64", "1024"]), oaut.FRAMINGS[dice.choice(["raw", "lines"])]
+            turns = [session.turn(tag) for tag in range(1, REQUESTS // 4 + 1)]
+            told = call(["serve", "it.store", "lib.idl", "--group", group, *framing.words], input=framing.pack([body for body, _ in turns]))
+            if (told.returncode, told.stdout) != (0, framing.pack([due for _, due in turns])):
+                return f"quarter {part}, groups of {group}: status {told.returncode}, and the replies differ"
+            said, due = call(["dump", "it.store"]), dump_of(session.model)
+            with open(f"{room}/it.store", "rb") as file:
+                if (said.returncode, said.stdout.decode(), store.dump(file.read())) != (0, due, due):
+                    return f"quarter {part}, groups of {group}: the store does not hold the model's objects"
+            for _, cells in session.model.objects.values():
+                for it in cells.values():
+                    if isinstance(it, Array):
+                        it.locks = 0
+    return None
+
+
 def main():
     failed, codes = 0, {}
     for seed in range(FIRST, FIRST + COUNT):
-        session = Large(seed) if seed % 12 == 11 else Session(seed)
+        session = session_of(seed)
         turns = [session.turn(tag) for tag in range(1, REQUESTS + 1)]
         found = replies_of(*played([body for body, _ in turns], raw=seed % 2 == 1))
         for at, ((body, due), got) in enumerate(zip(turns, found)):
@@ -601,10 +656,14 @@ def main():
         if len(found) != len(turns):
             print(f"FAILED seed {seed}: {len(found)} replies to {len(turns)} requests")
             failed += 1
+        wrong = stored(seed)
+        if wrong:
+            print(f"FAILED seed {seed}, over a store: {wrong}")
+            failed += 1
     if len(sys.argv) > 4:
         for code, count in sorted(codes.items()):
             print(f"{code:08x} {count}")
-    print(f"{COUNT} sessions of {REQUESTS} requests, {failed} differ")
+    print(f"{COUNT} sessions of {REQUESTS} requests, in memory and over a store, {failed} differ")
     sys.exit(1 if failed else 0)
 
 

@@ -1,9 +1,10 @@
 #!/usr/bin/env python3
 """Keeps totals of a machine's network counters in a server, in rounds of a second, and prints them.
 
-    PYTHONPATH=clients/python python3 examples/counters.py [--program PROGRAM] [--rounds N] [FILE]
+    PYTHONPATH=clients/python python3 examples/counters.py [--program PROGRAM] [--store STORE] [--rounds N] [FILE]
 
-FILE is /proc/net/dev where none is given. A machine counts from 0 again when it starts; `Total` goes on from there.
+FILE is /proc/net/dev where none is given. A machine counts from 0 again when it starts; a total goes on from there. With STORE, a file that is made where it is not there, the totals
+outlive a stop of this script, of the server and of the machine.
 """
 import argparse
 import os
@@ -24,6 +25,26 @@ def counters_of(path):
             yield f"{name.strip()} sent", int(words[8])
 
 
+def session(program, store):
+    """A server that keeps its objects in a store, or in memory where none is named."""
+    if store is None:
+        return oaut.play(LIBRARY, program=program)
+    if not os.path.exists(store):
+        oaut.make_store(store, LIBRARY, program=program)
+    return oaut.serve(store, LIBRARY, program=program)
+
+
+def found(server):
+    """The counters that the server has already, by their names. One whose making was stopped before its name was put is given up."""
+    counters = server.objects()
+    with server.batch():
+        names = [it.Name for it in counters]
+    for counter, name in zip(counters, names):
+        if name.value is None:
+            counter.release()
+    return {name.value: counter for counter, name in zip(counters, names) if name.value is not None}
+
+
 def keep(server, known, counts):
     """Brings the totals up to what the machine counts now: one batch of gets, one of puts."""
     for name, _ in counts:
@@ -31,23 +52,24 @@ def keep(server, known, counts):
             known[name] = server.create("Counter")
             known[name].Name = name
     with server.batch():
-        before = [(known[name], known[name].Total, known[name].Last, count) for name, count in counts]
+        before = [(known[name], known[name].Counts.value, count) for name, count in counts]
     with server.batch():
-        for counter, total, last, count in before:
-            counter.Total = total.value + (count - last.value if count >= last.value else count)
-            counter.Last = count
+        for counter, held, count in before:
+            total, last = held.value or (0, 0)
+            counter.Counts = [total + (count - last if count >= last else count), count]
 
 
 parser = argparse.ArgumentParser()
 parser.add_argument("--program", default="oaut")
+parser.add_argument("--store")
 parser.add_argument("--rounds", type=int, default=3)
 parser.add_argument("file", nargs="?", default="/proc/net/dev")
 given = parser.parse_args()
-with oaut.play(LIBRARY, program=given.program) as server:
-    known = {}
+with session(given.program, given.store) as server:
+    known = found(server)
     for place in range(given.rounds):
         if place:
             time.sleep(1)
         keep(server, known, list(counters_of(given.file)))
-    for counter in known.values():
-        print(f"{counter.Name}: {counter.Total}")
+    for name, counter in known.items():
+        print(f"{name}: {counter.Counts[0]}")

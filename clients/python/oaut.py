@@ -32,6 +32,7 @@ TEXT_LIMIT = 262_144
 CELL_LIMIT = 65_536
 BATCH = 1_024
 NO_INDEX = 0xFFFF_FFFF
+GROUP_BYTES = 524_288
 NULL_LENGTH = 0xFFFF_FFFF
 
 # --- faults
@@ -1035,6 +1036,9 @@ class Library:
         self.interfaces = [it for it in descriptions if isinstance(it, Interface)]
         self.coclasses = [it for it in descriptions if isinstance(it, Coclass)]
         self._members = {}
+        parameters = [it for interface in self.interfaces for form in interface.forms for it in form.parameters]
+        # what defaults may add to the event of one request
+        self._defaults = sum(len(spell(it.default, it.vt)) for it in parameters if it.flags & HAS_DEFAULT)
 
     def coclass(self, which):
         """The coclass of a name or a GUID (a UUID, or its text). Raises LookupError where there is none."""
@@ -1227,6 +1231,8 @@ class Server:
         self._child, self._errors = child, errors
         self._tag = 1
         self._owed = 0
+        # how many requests the server's group has, None where that is not known, and more bytes than its events have
+        self._hand, self._weight = 0, 0
         self._busy = False
         self._end = None
         self._batch = None
@@ -1313,7 +1319,7 @@ class Server:
             for body in bodies:
                 self.trace(">", body)
         # a server that holds replies back for a group gives these only once its group is full
-        fill = [_FILL] * (self._group - 1)
+        fill = [_FILL] * self._filled(bodies)
         data = self._framing.pack(bodies + fill)
         owed, self._owed = self._owed, len(fill)
         writing = None
@@ -1341,6 +1347,30 @@ class Server:
                 self.trace("<", body)
         self._busy = False
         return replies
+
+    def _filled(self, bodies):
+        """How many requests that change nothing have to follow these. A group ends with its last request, or earlier behind one that brings its events to so many
+        bytes. Where that may have been, they are enough wherever it has ended."""
+        for body in bodies if self._group > 1 else ():
+            if self._hand is None:
+                break
+            self._hand += 1
+            self._weight += self._most(body)
+            if self._weight >= GROUP_BYTES:
+                self._hand = None
+            elif self._hand == self._group:
+                self._hand = self._weight = 0
+        if self._hand is None:
+            return self._group - 1
+        count, self._hand, self._weight = -self._hand % self._group, 0, 0
+        return count
+
+    def _most(self, body):
+        """No fewer bytes than the event of a request has: those of the request and its defaults, but for the array that a REDIM of one that was never put makes."""
+        opcode = int.from_bytes(body[4:6], "little")
+        if opcode == TYPEINFO:
+            return 0
+        return GROUP_BYTES if self._library is None or opcode == REDIM else len(body) + self._library._defaults
 
     def _write(self, data):
         left = memoryview(data)
@@ -1397,9 +1427,15 @@ class Server:
         status = self._child.wait()
         self._reader.close()
         self._errors.seek(0)
-        lines = self._errors.read().decode("utf-8", "replace").splitlines()
+        said = self._errors.read()
         self._errors.close()
-        return status, next((it for it in lines if it.startswith("oaut: ")), lines[0] if lines else None)
+        return status, _fault_line(said)
+
+
+def _fault_line(said):
+    """The line of standard error that tells the fault."""
+    lines = said.decode("utf-8", "replace").splitlines()
+    return next((it for it in lines if it.startswith("oaut: ")), lines[0] if lines else None)
 
 
 # a request that changes nothing: a TYPEINFO of an index that no library has
@@ -1634,8 +1670,17 @@ def play(library, program="oaut", framing=FRAMING):
     return _start(["play", library], program, framing)
 
 
+def make_store(store, library, program="oaut"):
+    """Makes a file the store of a library, without objects, by `oaut format`: a new file, or one that is there, whose objects are gone then. Raises Stopped where
+    the program refuses."""
+    done = subprocess.run([program, "format", store, library], stdin=subprocess.DEVNULL, stdout=subprocess.DEVNULL, stderr=subprocess.PIPE)
+    if done.returncode:
+        raise Stopped("no store was made", _fault_line(done.stderr), done.returncode)
+
+
 def serve(store, library, group=None, program="oaut", framing=FRAMING):
-    """A session of `oaut serve`, whose objects a store keeps; `group` requests are committed together. The program has no stores yet."""
+    """A session of `oaut serve` with a store's file and its library's: what was acknowledged is on the device, and the next session has it. `group` requests are
+    committed together, 1 where none is said: a batch as long as a group costs one commit. Raises Stopped where the program refuses the library or the store."""
     return _start(["serve", store, library, *([] if group is None else ["--group", str(group)])], program, framing, group or 1)
 
 
@@ -2053,7 +2098,8 @@ def _prompted():
 def _talk(arguments):
     """The prompt. Gives the program's exit status: 1 where a command of a file fails, which ends it."""
     interactive = arguments.batch is None and sys.stdin.isatty()
-    with play(arguments.library, arguments.program, arguments.framing) as server:
+    start = play if arguments.store is None else lambda *rest: serve(arguments.store, rest[0], 1, *rest[1:])
+    with start(arguments.library, arguments.program, arguments.framing) as server:
         talk = _Talk(server)
         if arguments.verbose:
             server.trace = lambda side, body: print(side, body.hex())
@@ -2105,6 +2151,7 @@ def main(words=None):
     commands = parser.add_subparsers(dest="command", required=True)
     talk = commands.add_parser("talk", help="a prompt over a session of `oaut play LIB`")
     talk.add_argument("library", metavar="LIB")
+    talk.add_argument("--store", metavar="STORE", help="a store that keeps the objects, by `oaut serve`")
     talk.add_argument("--program", default="oaut", help="the program, where it is not `oaut` on the path")
     talk.add_argument("--batch", metavar="FILE", help="take the commands of a file (- is standard input), stop at the first that fails")
     talk.add_argument("-v", "--verbose", action="store_true", help="print each record's bytes")

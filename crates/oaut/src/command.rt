@@ -1,6 +1,6 @@
 // The command line.
 use crate::fault::Fault;
-use clap::{Arg, ArgAction, Command};
+use clap::{Arg, ArgAction, Command, value_parser};
 use std::alloc::{AllocError, Global};
 use std::env;
 use std::io::ErrorKind;
@@ -81,6 +81,28 @@ fn format<'a>(alloc: Global) -> Result<Command<'a>, AllocError> {
         .arg(library_or_input(alloc))
 }
 
+fn serve<'a>(alloc: Global) -> Result<Command<'a>, AllocError> {
+    let group = Arg::new(alloc, "group")
+        .long("group")
+        .value_name("N")
+        .value_parser(value_parser!(u16).range(1..=1024))
+        .default_value("1")
+        .help(
+            "Commit N requests together, from 1 to 1024, and hold their replies back until then; a group ends early with the input, or behind events of 524,288 bytes",
+        );
+    Command::new(alloc, "serve")
+        .about(
+            "Answers the requests of standard input on standard output, with objects that a store keeps",
+        )
+        .after_help(
+            "A reply tells that what it changed is on the device. Requests and replies are as those of play.\n\nExample:\n  oaut format items.store examples/small.idl\n  oaut serve items.store examples/small.idl --hex < examples/first.hex",
+        )
+        .arg(word(alloc, "STORE", "The store's file, as format made it"))?
+        .arg(library(alloc))?
+        .arg(group)?
+        .arg(hex(alloc))
+}
+
 fn dump<'a>(alloc: Global) -> Result<Command<'a>, AllocError> {
     Command::new(alloc, "dump")
         .about("Writes the objects of a store and their cells on standard output, one line each")
@@ -109,6 +131,7 @@ pub(crate) fn command<'a>(alloc: Global) -> Result<Command<'a>, AllocError> {
         .disable_help_subcommand(true)
         .subcommand_required(true);
     let command = with(command, play(alloc))?;
+    let command = with(command, serve(alloc))?;
     let command = with(command, format(alloc))?;
     let command = with(command, dump(alloc))?;
     with(command, check(alloc))

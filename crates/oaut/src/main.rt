@@ -7,6 +7,8 @@ mod fault;
 mod library;
 mod place;
 mod play;
+mod serve;
+mod session;
 mod shown;
 mod store;
 mod streams;
@@ -49,33 +51,64 @@ fn run(rt: &HostRuntime) -> Result<ExitCode, Fault> {
 
 /// Carries out the command that was matched. It stands apart, since all that `run` holds is dropped at each of its exits.
 fn perform(rt: &HostRuntime, matches: &ArgMatches) -> Result<ExitCode, Fault> {
-    match matches.subcommand() {
-        Some(("play", arguments)) => {
-            play::play(
-                rt,
-                arguments.get_str("LIB").unwrap_or(""),
-                arguments.get_flag("hex"),
-            )?
-        }
-        Some(("format", arguments)) => {
-            store::format_store(
-                rt,
-                arguments.get_str("STORE").unwrap_or(""),
-                arguments.get_str("LIB").unwrap_or(""),
-            )?
-        }
-        Some(("dump", arguments)) => dump::write_dump(
-            rt,
-            arguments.get_str("STORE").unwrap_or(""),
-        )?,
-        Some(("check", arguments)) => {
-            text::write_text(
-                rt,
-                arguments.get_str("LIB").unwrap_or(""),
-                arguments.get_flag("where"),
-            )?
-        }
-        _ => return Ok(ExitCode::from(2)),
-    }
+    let Some((name, arguments)) = matches.subcommand() else {
+        return Ok(ExitCode::from(2));
+    };
+    act(rt, name, arguments)?;
     Ok(ExitCode::SUCCESS)
+}
+
+/// Carries out a command. The words of each are taken in a function of its own, since a proof sees all that one function holds at once.
+fn act(rt: &HostRuntime, name: &str, arguments: &ArgMatches) -> Result<(), Fault> {
+    if name == "play" {
+        return plays(rt, arguments);
+    }
+    if name == "serve" {
+        return serves(rt, arguments);
+    }
+    if name == "format" {
+        return formats(rt, arguments);
+    }
+    if name == "dump" {
+        return dumps(rt, arguments);
+    }
+    checks(rt, arguments)
+}
+
+fn plays(rt: &HostRuntime, arguments: &ArgMatches) -> Result<(), Fault> {
+    play::play(
+        rt,
+        arguments.get_str("LIB").unwrap_or(""),
+        arguments.get_flag("hex"),
+    )
+}
+
+fn serves(rt: &HostRuntime, arguments: &ArgMatches) -> Result<(), Fault> {
+    serve::serve(
+        rt,
+        arguments.get_str("STORE").unwrap_or(""),
+        arguments.get_str("LIB").unwrap_or(""),
+        arguments.get_one::<u16>("group").unwrap_or(1),
+        arguments.get_flag("hex"),
+    )
+}
+
+fn formats(rt: &HostRuntime, arguments: &ArgMatches) -> Result<(), Fault> {
+    store::format_store(
+        rt,
+        arguments.get_str("STORE").unwrap_or(""),
+        arguments.get_str("LIB").unwrap_or(""),
+    )
+}
+
+fn dumps(rt: &HostRuntime, arguments: &ArgMatches) -> Result<(), Fault> {
+    dump::write_dump(rt, arguments.get_str("STORE").unwrap_or(""))
+}
+
+fn checks(rt: &HostRuntime, arguments: &ArgMatches) -> Result<(), Fault> {
+    text::write_text(
+        rt,
+        arguments.get_str("LIB").unwrap_or(""),
+        arguments.get_flag("where"),
+    )
 }

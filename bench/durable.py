@@ -1,0 +1,199 @@
+#!/usr/bin/env python3
+"""Times puts into a store, beside what the same bytes cost when they are written by hand and what SQLite makes of as many puts.
+
+    python3 bench/durable.py [PROGRAM [FOLDER [SECONDS]]]
+
+PROGRAM is crates/oaut/out/oaut where none is given, FOLDER the one that the files are made in (the current one), SECONDS how long each measurement goes on (2).
+Three ways take turns on one file system, each with groups of 1, 16, 256 and 1,024 puts of a long:
+
+- store: `oaut serve --group N`, over pipes, as fast as it answers;
+- calls: for each group a frame of its bytes by `pwrite`, `fdatasync`, its gate by `pwrite`, `fdatasync`, in a file whose blocks are there: the least that this order of writes costs;
+- SQLite: in a WAL with `synchronous = FULL`, one transaction of N updates of rows by their key.
+
+Each is measured three times, and the middle one is printed. Then the latency of one put that is waited for, from the client's write to its read: the median and the 99th percentile.
+"""
+import os
+import sqlite3
+import statistics
+import struct
+import subprocess
+import sys
+import tempfile
+import threading
+import time
+import uuid
+
+ROOT = os.path.dirname(os.path.dirname(os.path.abspath(__file__)))
+sys.path.append(f"{ROOT}/cli")
+import store
+import wire
+from oaut import PROPERTYPUT, ask_create, ask_invoke
+
+PROGRAM = os.path.abspath(sys.argv[1]) if len(sys.argv) > 1 else f"{ROOT}/crates/oaut/out/oaut"
+FOLDER = sys.argv[2] if len(sys.argv) > 2 else "."
+SECONDS = float(sys.argv[3]) if len(sys.argv) > 3 else 2
+GROUPS = [it for it in (1, 16, 256, 1_024) if subprocess.run([PROGRAM, "serve", "none", "none", "--group", str(it)], stderr=subprocess.DEVNULL).returncode != 2]
+EVENT = 33  # the bytes of the put of a long
+ITEM = bytes.fromhex("443322116655887799aabbccddeeff03")
+REPLY = 20
+
+
+def record(body):
+    return struct.pack("<I", len(body)) + body
+
+
+CREATE = record(struct.pack("<I", 1) + ask_create(uuid.UUID(bytes_le=ITEM)))
+PUT = record(struct.pack("<I", 2) + ask_invoke(1, 1, PROPERTYPUT, [-3], [wire.scalar(wire.I4, 7)]))
+
+
+class Serve:
+    """A session over a new store, with one object."""
+
+    def __init__(self, room, group):
+        path = f"{room}/it.store"
+        if os.path.exists(path):
+            os.unlink(path)
+        library = f"{ROOT}/examples/small.idl"
+        subprocess.run([PROGRAM, "format", path, library], check=True, stdout=subprocess.DEVNULL)
+        subprocess.run([PROGRAM, "serve", path, library], check=True, input=CREATE, stdout=subprocess.DEVNULL)
+        self.child = subprocess.Popen([PROGRAM, "serve", path, library, "--group", str(group)], stdin=subprocess.PIPE, stdout=subprocess.PIPE, bufsize=0)
+
+    def __enter__(self):
+        return self
+
+    def __exit__(self, *_):
+        self.child.stdin.close()
+        while self.child.stdout.read(1 << 16):
+            pass
+        self.child.stdout.close()
+        assert self.child.wait() == 0
+
+    def hear(self, count):
+        heard = b""
+        while len(heard) < count:
+            heard += self.child.stdout.read(count - len(heard))
+        return heard
+
+    def puts(self, group):
+        """Puts a second, from the first reply on."""
+        over, some = False, PUT * max(group, 64)
+
+        def feed():
+            while not over:
+                self.child.stdin.write(some)
+
+        feeding = threading.Thread(target=feed)
+        feeding.start()
+        self.hear(REPLY)
+        heard, started = 0, time.perf_counter()
+        while (now := time.perf_counter()) < started + SECONDS:
+            heard += len(self.child.stdout.read(1 << 16))
+        over = True
+        # what still comes lets the feeding end
+        threading.Thread(target=lambda: [None for _ in iter(lambda: self.child.stdout.read(1 << 16), b"")], daemon=True).start()
+        feeding.join()
+        return heard / REPLY / (now - started)
+
+    def latencies(self):
+        self.child.stdin.write(PUT)
+        self.hear(REPLY)
+        found, until = [], time.perf_counter() + SECONDS
+        while time.perf_counter() < until:
+            started = time.perf_counter()
+            self.child.stdin.write(PUT)
+            self.hear(REPLY)
+            found.append(time.perf_counter() - started)
+        return found
+
+
+class Calls:
+    """A file of a store's length, whose bank is written as a commit does it."""
+
+    def __init__(self, room):
+        self.file = os.open(f"{room}/it.calls", os.O_RDWR | os.O_CREAT)
+        if os.fstat(self.file).st_size < store.LEAST:
+            os.pwrite(self.file, bytes(store.LEAST), 0)
+            os.fsync(self.file)
+        self.at = store.BANKS
+
+    def commit(self, group):
+        body = bytes(4 + EVENT * group + 1)
+        if self.at + 1 + len(body) > store.BANKS + store.BANK:
+            self.at = store.BANKS
+        os.pwrite(self.file, body, self.at + 1)
+        os.fdatasync(self.file)
+        os.pwrite(self.file, b"\1", self.at)
+        os.fdatasync(self.file)
+        self.at += len(body)
+
+    def puts(self, group):
+        return repeated(lambda: self.commit(group)) * group
+
+    def latencies(self):
+        return timed(lambda: self.commit(1))
+
+
+class Sqlite:
+    """A table of one row."""
+
+    def __init__(self, room):
+        self.base = sqlite3.connect(f"{room}/it.sqlite", isolation_level=None)
+        self.base.execute("PRAGMA journal_mode = WAL")
+        self.base.execute("PRAGMA synchronous = FULL")
+        self.base.execute("CREATE TABLE IF NOT EXISTS cells (object INTEGER, dispid INTEGER, value INTEGER, PRIMARY KEY (object, dispid)) WITHOUT ROWID")
+        self.base.execute("INSERT OR IGNORE INTO cells VALUES (1, 1, 0)")
+        self.count = 0
+
+    def commit(self, group):
+        self.base.execute("BEGIN IMMEDIATE")
+        for _ in range(group):
+            self.count += 1
+            self.base.execute("UPDATE cells SET value = ? WHERE object = 1 AND dispid = 1", (self.count,))
+        self.base.execute("COMMIT")
+
+    def puts(self, group):
+        return repeated(lambda: self.commit(group)) * group
+
+    def latencies(self):
+        return timed(lambda: self.commit(1))
+
+
+def repeated(act):
+    """How often a second something can be done."""
+    count, started = 0, time.perf_counter()
+    while (now := time.perf_counter()) < started + SECONDS:
+        act()
+        count += 1
+    return count / (now - started)
+
+
+def timed(act):
+    found, until = [], time.perf_counter() + SECONDS
+    while time.perf_counter() < until:
+        started = time.perf_counter()
+        act()
+        found.append(time.perf_counter() - started)
+    return found
+
+
+def serve_puts(room, group):
+    with Serve(room, group) as session:
+        return session.puts(group)
+
+
+def serve_latencies(room):
+    with Serve(room, 1) as session:
+        return session.latencies()
+
+
+with tempfile.TemporaryDirectory(dir=FOLDER) as room:
+    calls, base = Calls(room), Sqlite(room)
+    print(f"puts a second on {os.path.abspath(FOLDER)}, SQLite {sqlite3.sqlite_version}")
+    print(f"{'group':>5} {'store':>10} {'calls':>10} {'SQLite':>10}")
+    for group in GROUPS:
+        rounds = [(serve_puts(room, group), calls.puts(group), base.puts(group)) for _ in range(3)]
+        print(f"{group:5}", *(f"{statistics.median(it):10,.0f}" for it in zip(*rounds)))
+    print("one put, in microseconds: median, 99th percentile")
+    for name, found in (("store", serve_latencies(room)), ("calls", calls.latencies()), ("SQLite", base.latencies())):
+        found = sorted(it * 1e6 for it in found)
+        print(f"{name:>6} {statistics.median(found):8,.0f} {found[len(found) * 99 // 100]:8,.0f}")

@@ -1,0 +1,275 @@
+#!/usr/bin/env python3
+"""The cases of `serve`: sessions whose objects a store keeps, what they leave in its file, and what a device that fails or a kill makes of them.
+
+    python3 cli/serve_cases.py [PROGRAM]      PROGRAM is crates/oaut/out/oaut, as `rt ci` leaves it, where none is given
+
+The file is read by cli/store.py, which shares no code with the program. Which calls of the system are made is seen by strace; where that is not there, a line says so.
+"""
+import os
+import select
+import struct
+import tempfile
+import uuid
+
+import store
+import wire
+from calls import OUT, STRACE, Calls, each_fails, held, text_held
+from oaut import REDIM, ask_call, ask_create
+from running import CREATE, CREATED, REPLIES, REQUESTS, SMALL, Talk, case, ends, fault, fill, leaves, run, run_in, taken, tell, text_of
+
+SMALL_TEXT, FULL, FULL_TEXT = text_of("small.canonical.idl"), text_of("full.idl"), text_of("full.canonical.idl")
+NEW = bytes(store.formatted(SMALL_TEXT))
+CLASS, FACE = (bytes.fromhex("443322116655887799aabbccddeeff" + last) for last in ("03", "02"))
+CREATED_1 = b"\1" + struct.pack("<I", 1) + CLASS
+WRITE_FAULT, FAILED = 0x8003_001D, 0x8000_4005
+GROUPS = taken(1, 2, 3, 4, 1_024)
+if GROUPS == [1]:
+    print("groups of more than 1 are refused: they are left out")
+
+
+def put_of(value):
+    """The event that puts a long into object 1."""
+    return b"\3" + struct.pack("<I", 1) + FACE + struct.pack("<iHHi", 1, 0, 3, value)
+
+
+def put(tag, value):
+    return wire.put(tag, 1, 1, wire.scalar(wire.I4, value))
+
+
+def get(tag):
+    return wire.get(tag, 1, 1)
+
+
+def got(tag, value):
+    return wire.reply(tag, fields=wire.field(wire.scalar(wire.I4, value)))
+
+
+def table(value=None, next=2):
+    """The dump of a store with object 1, whose Count was put."""
+    cell = "" if value is None else "cell %s 1 - 0300%s\n" % (store.guid_text(FACE), struct.pack("<i", value).hex())
+    return f"next {next}\nobject 1 {store.guid_text(CLASS)}\n{cell}"
+
+
+def words(*more):
+    return ["serve", "it.store", "lib.idl", *more]
+
+
+def serves(name, given, status, out, err, disk, left, *more, library=SMALL, **how):
+    leaves(f"serve: {name}", words(*more), status, out, err, {"lib.idl": library, "it.store": disk}, {"it.store": bytes(left)}, given=given, **how)
+
+
+# --- sessions
+
+PUT_7 = put_of(7)
+two, one_group = (bytes(store.add(bytearray(NEW), *groups)) for groups in ((CREATED_1, PUT_7), (CREATED_1 + PUT_7,)))
+for group in GROUPS:
+    serves(f"the first path, groups of {group}", REQUESTS, 0, REPLIES, b"", NEW, two if group < 3 else one_group, "--hex", "--group", str(group))
+serves("the first path, no group named", REQUESTS, 0, REPLIES, b"", NEW, two, "--hex")
+serves("no requests", b"", 0, b"", b"", two, two)
+serves("what stood in the store is there", get(1) + CREATE + b"\n", 0, got(1, 7) + wire.reply(1, fields=struct.pack("<II", 2, 0)), b"", two, store.add(bytearray(two), b"\1" + struct.pack("<I", 2) + CLASS), "--hex")
+BAD = wire.put(5, 1, 1, wire.scalar(wire.NULL))
+serves("a refused put leaves no trace", BAD + get(6), 0, wire.reply(5, 0x8002_0005, 0) + got(6, 7), b"", two, two, "--hex")
+for group in map(str, GROUPS):
+    cut = put(1, 8) + get(2) + b"0"
+    serves(f"the group in hand is committed before bad hex ends the session, groups of {group}", cut, 4, wire.reply(1) + got(2, 8), fault("bad hex on line 3"), two, store.add(bytearray(two), put_of(8)), "--hex", "--group", group)
+    record = struct.pack("<I", len(put(1, 8)) // 2) + bytes.fromhex(put(1, 8).decode())
+    answer = bytes.fromhex(wire.reply(1).decode())
+    stub = struct.pack("<IIIII", 16, 0, 0x8007_06F7, 0xFFFF_FFFF, 0)
+    serves(f"records: and before a record that is cut, groups of {group}", record + b"\7", 4, struct.pack("<I", 16) + answer + stub, fault("record cut"), two, store.add(bytearray(two), put_of(8)), "--group", group)
+with open("/dev/full", "wb") as full:
+    serves("the group in hand is committed where nobody takes its replies", put(1, 8), 1, None, fault("write fault"), two, store.add(bytearray(two), put_of(8)), "--hex", "--group", str(GROUPS[-1]), stdout=full)
+for fd, status, text in ((0, 1, "read fault"), (1, 1, "write fault")):
+    left = two if fd == 0 else bytes(store.add(bytearray(two), put_of(8)))
+    serves(f"stream {fd} is closed, and the store is not taken for it", put(1, 8), status, b"", fault(text), two, left, "--hex", before=lambda fd=fd: os.close(fd))
+
+with tempfile.TemporaryDirectory() as room:
+    fill(room, {"it.store": two})
+    with Talk(SMALL, ("--hex",), room=room, command=("serve", "it.store")) as session:
+        for asked, answered, now in ((put(1, 8), wire.reply(1), 8), (get(2), got(2, 8), 8), (put(3, 9), wire.reply(3), 9)):
+            session.send(asked)
+            replies = session.line()
+            tell("serve: a reply comes before the next request is sent, and the store has what it tells", (replies, text_held(room)) == (answered, table(now)), replies)
+if 3 in GROUPS:
+    with tempfile.TemporaryDirectory() as room:
+        fill(room, {"it.store": two})
+        with Talk(SMALL, ("--hex", "--group", "3"), room=room, command=("serve", "it.store")) as session:
+            session.send(put(1, 8) + get(2))
+            early = select.select([session.process.stdout], [], [], 0.5)[0]
+            before = text_held(room)
+            session.send(put(3, 9))
+            replies = b"".join(session.line() for _ in range(3))
+            tell("serve: the replies of a group come together, once it is committed", (early, before, replies, text_held(room)) == ([], table(7), wire.reply(1) + got(2, 8) + wire.reply(3), table(9)), (early, before, replies))
+            session.send(put(4, 10))
+            session.process.stdin.close()
+            tell("serve: the end of the input ends a group", (session.line(), session.status(), text_held(room)) == (wire.reply(4), 0, table(10)))
+
+# --- what is refused, and in which order
+
+for refusal in ("0", "1025", "-1", "x", ""):
+    status, out, err = run(words("--group", refusal), files={"lib.idl": SMALL, "it.store": NEW})
+    tell(f"serve: a group of {refusal!r} is refused", (status, out, err.startswith(b"error: ")) == (2, b"", True), (status, out, err))
+case("serve: a library that is refused goes before a store that is not there", words(), 2, b"", fault("syntax at byte 0"), files={"lib.idl": b"library"})
+case("serve: a library that is not there", words(), 1, b"", fault("cannot read lib.idl"), files={"it.store": NEW})
+case("serve: a store that is not there", words(), 1, b"", fault("cannot read it.store"), files={"lib.idl": SMALL})
+case("serve: standard input cannot hold library and requests", ["serve", "it.store", "-"], 2, b"", fault("standard input holds the requests, so LIB cannot be -"), files={"it.store": NEW}, given=SMALL)
+for name, disk, text in (
+    ("a disk of zeros", bytes(store.LEAST), "not a store"),
+    ("a file of 100 bytes", two[:100], "not a store"),
+    ("another library", bytes(store.formatted(FULL_TEXT)), "library differs"),
+    ("another library whose snapshot is damaged", bytes(store.formatted(FULL_TEXT)).replace(FULL_TEXT + b"\1", FULL_TEXT + b"\0"), "library differs"),
+    ("a byte of the library", two[:8224] + b"\0" + two[8225:], "library differs"),
+    ("a bank's first byte", two[:8192] + b"\0" + two[8193:], "damaged at 8192"),
+    ("a snapshot", two[:8503] + bytes(4) + two[8507:], "damaged at 8503"),
+    ("a group", two[:8516] + b"\x09" + two[8517:], "damaged at 8511"),
+):
+    serves(f"{name}: {text}", REQUESTS, 3, b"", fault(text), disk, disk, "--hex")
+elsewhere = NEW[:8511] + b"\1" + struct.pack("<I", 21) + b"\1" + struct.pack("<I", 1) + bytes(16) + NEW[8511 + 26 :]
+serves("an object of a coclass that the library does not have", REQUESTS, 3, b"", fault("damaged at 0"), elsewhere, elsewhere, "--hex")
+
+# --- checkpoints
+
+TEXT_NAME = 2
+
+
+def text_put(value):
+    """The event that puts a text into object 1 of the full library, and the request."""
+    name = struct.pack("<I", 1) + FACE + struct.pack("<iH", TEXT_NAME, 0)
+    return b"\3" + name + struct.pack("<HI", 8, len(value)) + value, wire.put(1, 1, TEXT_NAME, wire.scalar(wire.BSTR, value))
+
+
+LONGEST = bytes(262_144)
+nearly = store.add(store.formatted(FULL_TEXT), CREATED_1, *[text_put(LONGEST)[0]] * 57)
+room_left = store.BANKS + store.BANK - store.read(nearly).gate
+fills = text_put(bytes(room_left - 1_572_869 - 38))[0]
+at_limit, due = store.add(bytearray(nearly), fills), store.add(bytearray(nearly), fills + text_put(b"")[0])
+for name, disk, chosen in (("is not due at a room of 1,572,869 bytes", at_limit, 0), ("is due below", due, 1)):
+    with tempfile.TemporaryDirectory() as room:
+        fill(room, {"lib.idl": FULL, "it.store": bytes(disk)})
+        answer = run_in(room, words("--hex"), given=text_put(b"ab")[1])
+        found = store.read(held(room))
+        tell(f"serve: a checkpoint {name}", (answer, found.chosen, len(found.groups) > 1) == ((0, wire.reply(1), b""), chosen, chosen == 0), (answer, found.chosen, store.BANKS + store.BANK - store.read(disk).gate))
+        tell(f"serve: a checkpoint {name}: what is there", store.dump(held(room)) == store.dump(store.add(bytearray(at_limit), text_put(b"ab")[0])))
+
+# --- the calls of the system, and a device that fails
+
+COMMIT = ["write", "sync", "write", "sync"]
+OPENING = [("sync",), ("sync",), ("read", 0, 1), ("read", 4096, 1)]
+GRID = wire.array(wire.I2, [(2, -1), (3, 5)], range(1, 7))
+HI = b"H\0i\0"
+
+
+def cell(dispid):
+    """The image of a cell's name in object 1."""
+    return struct.pack("<I", 1) + FACE + struct.pack("<iH", dispid, 0)
+
+
+# of each request: its line, its reply, and its event
+SESSION = [
+    (wire.line(1, ask_create(uuid.UUID(bytes_le=CLASS))), wire.reply(1, fields=struct.pack("<II", 1, 0)), CREATED_1),
+    (put(2, 7), wire.reply(2), put_of(7)),
+    (wire.put(3, 1, 2, wire.scalar(wire.BSTR, HI)), wire.reply(3), b"\3" + cell(2) + struct.pack("<HI", 8, 4) + HI),
+    (wire.put(4, 1, 8, GRID), wire.reply(4), b"\3" + cell(8) + struct.pack("<HHIiIi6h", 0x2002, 2, 2, -1, 3, 5, *range(1, 7))),
+    (get(5), got(5, 7), b""),
+    (wire.line(6, ask_call(REDIM, 1, 8, 2, (), ()) + struct.pack("<Ii", 3, 10)), wire.reply(6), b"\5" + cell(8) + struct.pack("<Ii", 3, 10)),
+    (put(7, 8), wire.reply(7), put_of(8)),
+    (get(8), got(8, 8), b""),
+    (get(9), got(9, 8), b""),
+    (wire.release(10, 1), wire.reply(10), b"\2" + struct.pack("<I", 1)),
+]
+LINES, ANSWERS = (b"".join(it[part] for it in SESSION) for part in (0, 1))
+START = bytes(store.formatted(FULL_TEXT))
+
+
+def groups_with_events(size):
+    """The places of the requests of each group that has an event."""
+    groups = [range(start, min(start + size, len(SESSION))) for start in range(0, len(SESSION), size)]
+    return [it for it in groups if any(SESSION[place][2] for place in it)]
+
+
+def table_after(count):
+    """The dump behind so many requests of the session."""
+    events = b"".join(event for _, _, event in SESSION[:count])
+    return store.dump(store.add(bytearray(START), events) if events else START)
+
+
+def judged(size, opening, killed):
+    """The judge of one call that fails, or at which the program is killed, in the session with groups of a size."""
+    groups = groups_with_events(size)
+
+    def judge(place, what, answer, room):
+        name = f"serve: {'killed at' if killed else 'failed is'} call {place}, {what}, groups of {size}"
+        now = text_held(room)
+        if place < opening:
+            text = "cannot read it.store" if place == 0 else f"device fault 0x8003001{'d' if what[0] == 'sync' else 'e'}"
+            wanted = answer[1] == b"" if killed else answer == (1, b"", fault(text))
+            tell(name, wanted and now == table_after(0), (answer, now))
+            return
+        number, call = divmod(place - opening, len(COMMIT))
+        group = groups[number]
+        before = b"".join(it[1] for it in SESSION[: group.start])
+        if killed:
+            # replies may wait for the next wait, and the gate is in the system's cache once it was written
+            tell(name, before.startswith(answer[1]) and now == table_after(group.stop if call == 3 else group.start), (answer, now))
+            return
+        codes = [(place + 1, WRITE_FAULT if place in group else FAILED) for place in range(group.start, len(SESSION))]
+        wanted = before + b"".join(wire.reply(*it) for it in codes)
+        tell(name, answer == (0, wanted, b"") and now in ([table_after(group.start)] if call < 2 else [table_after(group.start), table_after(group.stop)]), (answer, now))
+
+    return judge
+
+
+if STRACE is None:
+    print("strace is not there: the calls of the system are not looked at, and no call is made to fail")
+else:
+    files = {"lib.idl": FULL, "it.store": START}
+    for size in GROUPS:
+        with tempfile.TemporaryDirectory() as room:
+            fill(room, files)
+            calls = Calls(room, words("--hex", "--group", str(size)), given=LINES)
+            tell(f"serve: the session of every kind of event, groups of {size}", (calls.answer, text_held(room)) == ((0, ANSWERS, b""), table_after(len(SESSION))), calls.answer)
+        made = calls.does()
+        opening = next(place for place, it in enumerate(made) if it[0] == "write")
+        tell(f"serve: an opening writes nothing, groups of {size}", made[:4] == OPENING and all(it[0] == "read" for it in made[4:opening]), made[:opening])
+        rest = [it for it in made[opening:] if it != OUT]
+        tell(f"serve: two writes and two syncs a group with an event, and none for gets, groups of {size}", [it[0] for it in rest] == COMMIT * len(groups_with_events(size)), rest)
+        last = len(made) - 1 - made[::-1].index(("sync",))
+        tell(f"serve: the last reply follows the last sync, groups of {size}", OUT in made[last:], made[last:])
+        if size == 1:
+            gate = store.BANKS + 32 + len(FULL_TEXT) + 8
+            tell("serve: a frame behind the gate, and then the gate", [it[1:] for it in rest if it[0] == "write"][:2] == [(gate + 1, 4 + 21 + 1), (gate, 1)], rest)
+        for killed in (False, True):
+            each_fails(words("--hex", "--group", str(size)), files, judged(size, opening, killed), "signal=KILL" if killed else "error=EIO", given=LINES)
+    files = {"lib.idl": FULL, "it.store": bytes(due)}
+    event, asked = text_put(b"ab")
+    asked = get(2) + asked + get(3)
+    size = 3 if 3 in GROUPS else 1
+    with tempfile.TemporaryDirectory() as room:
+        fill(room, files)
+        made = Calls(room, words("--hex", "--group", str(size)), given=asked).does()
+    opening = next(place for place, it in enumerate(made) if it[0] == "write")
+    rest = [it for it in made[opening:] if it != OUT]
+    pieces = [it for it in rest if it[0] == "write" and it[1] >= store.BANKS + store.BANK][:-2]  # the group follows in that bank
+    settles = len(pieces) + 3
+    length = 32 + len(FULL_TEXT) + 8 + 24 + 28 + 1
+    tell("serve: a checkpoint writes the other bank from its start", pieces[0][1] == store.BANKS + store.BANK and sum(it[2] for it in pieces) == length, pieces)
+    tell("serve: and syncs it, writes its number, syncs, and then the group goes into it", [it[0] for it in rest[len(pieces) :]] == ["sync", "write", "sync", *COMMIT] and rest[len(pieces) + 1] == ("write", 4096, 1), rest)
+    before, after = store.dump(due), store.dump(store.add(bytearray(at_limit), event))
+
+    def checkpoint_fails(place, what, answer, room):
+        """The checkpoint comes before the group's first event, that of its second request."""
+        if place < opening:
+            return
+        alone = size == 1 or place < opening + settles
+        first = got(2, 0) if size == 1 else wire.reply(2, WRITE_FAULT)
+        wanted = first + wire.reply(1, WRITE_FAULT) + wire.reply(3, FAILED if alone else WRITE_FAULT)
+        now = text_held(room)
+        tell(f"serve: failed is call {place - opening} of a checkpoint and a group, {what}", answer == (0, wanted, b"") and now in ([before] if place < opening + settles + 2 else [before, after]), answer)
+
+    def checkpoint_killed(place, what, answer, room):
+        if place >= opening:
+            tell(f"serve: killed at call {place - opening} of a checkpoint and a group, {what}", answer[1] in (b"", got(2, 0)) and text_held(room) == (after if place == opening + settles + 3 else before), answer)
+
+    each_fails(words("--hex", "--group", str(size)), files, checkpoint_fails, given=asked)
+    each_fails(words("--hex", "--group", str(size)), files, checkpoint_killed, "signal=KILL", given=asked)
+
+ends()

@@ -1,0 +1,37 @@
+// Sessions over standard input and output.
+ghost use Rattle.std.specs.Prelude.{◌≤◌};
+
+use crate::fault::Fault;
+use oa_disk::Disk;
+use oa_server::{End, Server};
+use oa_stream::{Ahead, Behind, Inlet, Outlet};
+use std::io;
+
+/// Answers the requests of standard input on standard output, until the input ends or is refused: records, or lines of hexadecimal digits, so many of them
+/// committed together.
+pub(crate) fn hold<D: Disk + Drop>(
+    rt: &HostRuntime,
+    server: &mut Server<D>,
+    group: usize,
+    hex: bool,
+) -> Result<(), Fault>
+    requires positive { 1 ≤ group }
+    requires small { group ≤ 1024 }
+{
+    let alloc = rt.alloc();
+    let mut reader = Ahead::new(alloc, Inlet::new(rt.reader()))?;
+    let mut writer = Behind::new(alloc, Outlet::new(io::writer(rt)))?;
+    let served = if hex {
+        server.serve_hex(&mut reader, &mut writer, group)?
+    } else {
+        server.serve(&mut reader, &mut writer, group)?
+    };
+    match served.why {
+        End::Closed => Ok(()),
+        End::Cut => Err(Fault::Cut),
+        End::TooLong => Err(Fault::TooLong),
+        End::BadHex(line) => Err(Fault::BadHex(line)),
+        End::ReadFault => Err(Fault::Read),
+        End::WriteFault => Err(Fault::Write),
+    }
+}

@@ -11,7 +11,7 @@ import struct
 import tempfile
 
 import wire
-from running import CALLED, CREATE, CREATED, REPLIES, REQUESTS, SMALL, Talk, case, ends, fill, run, run_in, short, taken, tell, text_of, within
+from running import CALLED, CREATE, CREATED, REPLIES, REQUESTS, ROOT, SMALL, Talk, case, ends, fill, run, run_in, short, taken, tell, text_of, within
 from store import LEAST
 
 FULL = text_of("full.idl")

@@ -25,6 +25,8 @@ ROOT = os.path.dirname(os.path.dirname(os.path.abspath(__file__)))
 PROGRAM = os.path.abspath(sys.argv[1]) if len(sys.argv) > 1 else f"{ROOT}/crates/oaut/out/oaut"
 FIRST, COUNT = (int(sys.argv[2]), int(sys.argv[3])) if len(sys.argv) > 3 else (0, 24)
 REQUESTS = 250
+# the sizes of groups that the program takes
+GROUPS = [it for it in ("1", "2", "3", "64", "1024") if subprocess.run([PROGRAM, "serve", "none", "none", "--group", it], stderr=subprocess.DEVNULL).returncode != 2]
 
 EMPTY, NULL, I2, I4, CY, BSTR, ERROR, BOOL, VARIANT, DECIMAL = 0, 1, 2, 3, 6, 8, 10, 11, 12, 14
 I1, UI1, UI2, UI4, I8, UI8, INT, UINT = 16, 17, 18, 19, 20, 21, 22, 23
@@ -624,7 +626,7 @@ def stored(seed):
         call = lambda words, **how: subprocess.run([PROGRAM, *words], cwd=room, stdout=subprocess.PIPE, timeout=120, **how)
         call(["format", "it.store", "lib.idl"])
         for part in range(4):
-            group, framing = dice.choice(["1", "2", "3", "64", "1024"]), oaut.FRAMINGS[dice.choice(["raw", "lines"])]
+            group, framing = dice.choice(GROUPS), oaut.FRAMINGS[dice.choice(["raw", "lines"])]
             turns = [session.turn(tag) for tag in range(1, REQUESTS // 4 + 1)]
             told = call(["serve", "it.store", "lib.idl", "--group", group, *framing.words], input=framing.pack([body for body, _ in turns]))
             if (told.returncode, told.stdout) != (0, framing.pack([due for _, due in turns])):

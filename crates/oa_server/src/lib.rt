@@ -27,8 +27,6 @@ mod call_tests;
 #[cfg(test)]
 mod info_tests;
 #[cfg(test)]
-mod opening_tests;
-#[cfg(test)]
 mod session_tests;
 #[cfg(test)]
 mod tests;

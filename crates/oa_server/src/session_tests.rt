@@ -1,6 +1,5 @@
 // Sessions of a small library, as tables of requests and replies.
-ghost use Rattle.std.specs.Prelude.{◌≡◌, ◌≤◌, false, IfOk};
-ghost use Rattle.oa_server.specs.Limits.{IsSound};
+ghost use Rattle.std.specs.Prelude.{◌≡◌, ◌≤◌, false};
 
 use crate::tests::{Halting, Refusing, Small};
 use crate::{End, Served, Server};
@@ -8,7 +7,6 @@ use oa_disk::NoDisk;
 use oa_idl::parse;
 use oa_record::Reply;
 use oa_stream::{Ahead, Gathered, Inlet, Outlet};
-use oa_table::Table;
 use oa_typelib::check;
 use std::alloc::{AllocError, Global};
 use std::io::{ErrorKind, Read};
@@ -389,37 +387,6 @@ fn objects_have_a_limit(rt: HostRuntime) -> Result<(), Fail> {
     }
     let replies = answered(rt.alloc(), &mut server, &LAST)?;
     let want = wanted(rt.alloc(), &LAST)?;
-    assert_eq!(rt; replies.as_str(), want.as_str());
-    Ok(())
-}
-
-/// CREATEs where the last number is the next one: it is given, and then there is none.
-const NUMBERS: [(&str, &str); 3] = [
-    (
-        "0100000001000000 G03",
-        "0100000000000000ffffffff00000000 feffffff00000000",
-    ),
-    ("0200000001000000 G03", "02000000ffff0080ffffffff00000000"),
-    (
-        "030000000b000000",
-        "0300000000000000ffffffff00000000 0100000000000000 feffffff00000000 G03",
-    ),
-];
-
-/// A table without objects whose next number is the last one.
-fn nearly_used_up(alloc: Global) -> Result<Table, AllocError>
-    ensures { IfOk result (λ table. IsSound table) }
-{
-    Table::from_parts(alloc, 4_294_967_294, Vec::new(alloc))
-}
-
-#[test]
-fn numbers_are_used_up(rt: HostRuntime) -> Result<(), Fail> {
-    let alloc = rt.alloc();
-    let tree = parse(alloc, SMALL)?;
-    let mut server = Server::over(alloc, check(alloc, tree)?, nearly_used_up(alloc)?);
-    let replies = answered(alloc, &mut server, &NUMBERS)?;
-    let want = wanted(alloc, &NUMBERS)?;
     assert_eq!(rt; replies.as_str(), want.as_str());
     Ok(())
 }

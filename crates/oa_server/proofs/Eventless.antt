@@ -1,5 +1,5 @@
 -- What a body made of events.
-use Rattle.std.proofs.Common.{◌≡◌, ℕ, ◌==◌, true, false, true≢false, List, [], Some, None, Result, Ok, Err, refl, sym, ap, ◌∙◌}
+use Rattle.std.proofs.Common.{◌≡◌, ℕ, ◌==◌, true, false, true≢false, List, [], None, Result, Ok, Err, refl, sym, ap, ◌∙◌}
 use Rattle.oa_image.specs.Events.{event_image}
 use Rattle.oa_model.specs.declared.hresult.HResult.{HResult}
 use Rattle.oa_record.specs.Asks.{Asks}
@@ -20,7 +20,7 @@ use Rattle.oa_server.specs.declared.plan.Planned.{Planned}
 use Rattle.oa_server.specs.declared.refusal.Refusal.{Refusal}
 use Rattle.oa_server.specs.Decisions.{changed, outcome_of, relocked, relocking}
 use Rattle.oa_server.specs.Limits.{allowed}
-use Rattle.oa_server.specs.Plans.{HasNoEvent, IsPlanned, PlansChange}
+use Rattle.oa_server.specs.Plans.{HasNoEvent, PlansChange}
 use Rattle.oa_server.specs.Requests.{HasEvent, bytes_of, is_done}
 use Rattle.oa_server.specs.States.{State}
 use Rattle.oa_server.specs.Steps.{decided, outcome}

@@ -1,57 +1,66 @@
 -- A session of a server in memory is one of turns.
-use Rattle.std.proofs.Common.{ℕ, List, [], ◌∷◌, ap}
+use Rattle.std.proofs.Common.{ℕ, List, [], ◌∷◌, sym, ap, subst}
 use Rattle.oa_disk.specs.declared.disk.Disk.{Ghosts}
 use Rattle.oa_frame.specs.Framings.{Frames}
 use Rattle.oa_frame.specs.Sessions as sessions
 use Rattle.oa_frame.specs.declared.session.Served.{Served}
-use Rattle.oa_record.specs.Replies.{ReplyValue}
 use Rattle.oa_stream.specs.Source.{Input}
 use Rattle.oa_stream.specs.Sink.{Output}
 use Rattle.oa_server.specs.declared.clerk.Clerk.{Clerk}
+use Rattle.oa_server.specs.declared.hand.Hand.{Hand}
 use Rattle.oa_server.specs.declared.storage.Storage.{Storage}
 use Rattle.oa_server.specs.declared.storage.Storage.TheVariants.{Disk, Memory}
 use Rattle.oa_server.specs.Serving.{none_held, turn_written}
 use Rattle.oa_server.specs.States.{State}
-use Rattle.oa_server.specs.Storages.{Answers, InMemory}
-use Rattle.oa_server.specs.Talks.{answer_written, none_kept}
-use Rattle.oa_server.specs.Turns.{Turn}
+use Rattle.oa_server.specs.Storages.{InMemory}
+use Rattle.oa_server.specs.Talks.{Ended, Taken, ended_written, taken_written}
 
-pub record StaysInMemory {D : Type 0} {g : Ghosts D} (new : Storage D g) (before : State) (body : List ℕ) (reply : ReplyValue) (after : State) : Type 0 where
-  pub turn : Turn before body reply after
+pub record StaysInMemory {D : Type 0} {g : Ghosts D} (new : Storage D g) (before : State) (body : List ℕ) (replies : List (List ℕ)) (after : State) : Type 0 where
+  pub turn : turn_written before body replies after
   pub memory : InMemory new
 
-pub in_memory : {D : Type 0} {g : Ghosts D} (old new : Storage D g) (before : State) (body : List ℕ) (reply : ReplyValue) (after : State) → InMemory old → Answers old new before body reply after
-    → StaysInMemory new before body reply after
-in_memory (Memory one) (Memory two) before body reply after here is = record { turn = is.1; memory = tt }
-in_memory (Memory one) (Disk two) before body reply after here is = absurd is
-in_memory (Disk one) two before body reply after here is = absurd here
+module _ {D : Type 0} {g : Ghosts D} where
+  in_memory : (old new : Storage D g) (before after : State) (hand hand' : Hand) (body : List ℕ) (replies : List (List ℕ)) → InMemory old → Taken old before hand body replies new after hand'
+      → StaysInMemory new before body replies after
+  in_memory (Memory one) new before after hand hand' body replies here is = record { turn = is.1; memory = subst (λ (s : Storage D g). InMemory s) (sym is.0) tt }
+  in_memory (Disk one) new before after hand hand' body replies here is = absurd here
 
-run_in_memory : {D : Type 0} {g : Ghosts D} (old new : Clerk D g) (bodies : List (List ℕ)) (handed : List (List (List ℕ))) → InMemory old.storage → sessions.Run answer_written old bodies handed new
-    → sessions.Run turn_written old.host bodies handed new.host
-run_in_memory {D} {g} old new [] [] here run = ap (λ (s : Clerk D g). s.host) run
-run_in_memory old new (body ∷ bodies) (replies ∷ handed) here run =
-    let one = in_memory old.storage run.0.storage old.host body run.1.0 run.0.host here run.1.2 in
-    (run.0.host, (run.1.0, run.1.1, one.turn), run_in_memory run.0 new bodies handed one.memory run.2)
-run_in_memory old new [] (replies ∷ handed) here run = absurd run
-run_in_memory old new (body ∷ bodies) [] here run = absurd run
+  ended_in_memory : (old new : Storage D g) (before after : State) (hand hand' : Hand) (replies : List (List ℕ)) → InMemory old → Ended old before hand replies new after hand' → none_held before replies after
+  ended_in_memory (Memory one) new before after hand hand' replies here is = is.1
+  ended_in_memory (Disk one) new before after hand hand' replies here is = absurd here
 
-pub session_in_memory : {D : Type 0} {g : Ghosts D} (f : Frames) (last : List ℕ) (input input' : Input) (out out' : Output) (old new : Clerk D g) (served : Served) → InMemory old.storage
-    → sessions.Session f answer_written none_kept last input input' out out' old new served → sessions.Session f turn_written none_held last input input' out out' old.host new.host served
-session_in_memory {D} {g} f last input input' out out' old new served here is = record {
-  bodies = is.bodies;
-  handed = is.handed;
-  held = is.held;
-  mid = is.mid.host;
-  stop = is.stop;
-  over = is.over;
-  run = run_in_memory old is.mid is.bodies is.handed here is.run;
-  ended = (is.ended.0, ap (λ (s : Clerk D g). s.host) is.ended.1);
-  count = is.count;
-  read = is.read;
-  can = is.can;
-  calls = is.calls;
-  few = is.few;
-  cause = is.cause;
-  sound = is.sound;
-  written = is.written;
-}
+  pub record RunsInMemory (old new : Clerk D g) (bodies : List (List ℕ)) (handed : List (List (List ℕ))) : Type 0 where
+    pub run : sessions.Run turn_written old.host bodies handed new.host
+    pub memory : InMemory new.storage
+
+  run_in_memory : (old new : Clerk D g) (bodies : List (List ℕ)) (handed : List (List (List ℕ))) → InMemory old.storage → sessions.Run taken_written old bodies handed new → RunsInMemory old new bodies handed
+  run_in_memory old new [] [] here run = record { run = ap (λ (s : Clerk D g). s.host) run; memory = subst (λ (s : Clerk D g). InMemory s.storage) (sym run) here }
+  run_in_memory old new (body ∷ bodies) (replies ∷ handed) here run =
+      let one = in_memory old.storage run.0.storage old.host run.0.host old.hand run.0.hand body replies here run.1 in
+      let rest = run_in_memory run.0 new bodies handed one.memory run.2 in
+      record { run = (run.0.host, one.turn, rest.run); memory = rest.memory }
+  run_in_memory old new [] (replies ∷ handed) here run = absurd run
+  run_in_memory old new (body ∷ bodies) [] here run = absurd run
+
+  pub session_in_memory : (f : Frames) (last : List ℕ) (input input' : Input) (out out' : Output) (old new : Clerk D g) (served : Served) → InMemory old.storage
+      → sessions.Session f taken_written ended_written last input input' out out' old new served → sessions.Session f turn_written none_held last input input' out out' old.host new.host served
+  session_in_memory f last input input' out out' old new served here is =
+      let runs = run_in_memory old is.mid is.bodies is.handed here is.run in
+      record {
+        bodies = is.bodies;
+        handed = is.handed;
+        held = is.held;
+        mid = is.mid.host;
+        stop = is.stop;
+        over = is.over;
+        run = runs.run;
+        ended = ended_in_memory is.mid.storage new.storage is.mid.host new.host is.mid.hand new.hand is.held runs.memory is.ended;
+        count = is.count;
+        read = is.read;
+        can = is.can;
+        calls = is.calls;
+        few = is.few;
+        cause = is.cause;
+        sound = is.sound;
+        written = is.written;
+      }

@@ -20,4 +20,6 @@ pub mod Held
 pub mod Settled
 pub mod Late
 pub mod Answering
+pub mod Put
 pub mod InMemory
+pub mod Talking

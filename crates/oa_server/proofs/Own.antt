@@ -14,7 +14,6 @@ use Rattle.oa_bind.specs.declared.fault.BindFault.{BindFault}
 use Rattle.oa_coerce.specs.Refusals.{code_of as coercion_code}
 use Rattle.oa_coerce.specs.declared.fault.CoerceFault.{CoerceFault}
 use Rattle.oa_coerce.specs.declared.fault.CoerceFault.TheVariants as coercions
-use Rattle.oa_model.specs.declared.bound.Bound.{Bound}
 use Rattle.oa_model.specs.declared.hresult.HResult.{HResult}
 use Rattle.oa_model.specs.declared.var_type.ValueType.{ValueType}
 use Rattle.oa_model.specs.declared.var_type.ValueType.TheVariants as kinds
@@ -28,7 +27,6 @@ use Rattle.oa_table.specs.declared.event.Event.{Event}
 use Rattle.oa_table.specs.declared.event.Event.TheVariants as events
 use Rattle.oa_table.specs.declared.fault.TableFault.{TableFault}
 use Rattle.oa_table.specs.declared.fault.TableFault.TheVariants as tables
-use Rattle.oa_table.specs.declared.name.CellName.{CellName}
 use Rattle.oa_table.specs.Elements.{redimensioned_value}
 use Rattle.oa_table.specs.Events.{applied}
 use Rattle.oa_table.specs.Faults.{code_of as table_code}
@@ -67,28 +65,21 @@ use Rattle.oa_server.specs.Invoke.{acting}
 use Rattle.oa_server.specs.TypeInfo.{description_of}
 use Rattle.oa_server.specs.declared.decision.Decision.{Decision}
 use Rattle.oa_server.specs.declared.decision.Decision.TheVariants.{Answer, Change, Relock}
-use Rattle.oa_server.specs.declared.decision.LockChange.{LockChange}
 use Rattle.oa_server.specs.declared.host.cell.BoundCell.{BoundCell}
 use Rattle.oa_server.specs.declared.refusal.Refusal.{Refusal}
 use Rattle.oa_server.specs.ArrayCells as array_cells
 use Rattle.oa_server.specs.Cells.{call_found, cell_called, member_found}
-use Rattle.oa_server.specs.Create.{class_found, creation, fitting}
+use Rattle.oa_server.specs.Create.{class_found, fitting}
 use Rattle.oa_server.specs.Decisions.{changed, outcome_of, relocked, relocking}
-use Rattle.oa_server.specs.GetElement.{element_got, reading}
 use Rattle.oa_server.specs.Interfaces.{interface_found}
-use Rattle.oa_server.specs.Invoke.{invocation}
 use Rattle.oa_server.specs.Limits.{allowed, limited, within_limits}
-use Rattle.oa_server.specs.Lock.{adding, locking}
-use Rattle.oa_server.specs.LookUps.{ids_answer, ids_found, look_up}
+use Rattle.oa_server.specs.LookUps.{ids_found}
 use Rattle.oa_server.specs.OwnCodes.{is_own}
-use Rattle.oa_server.specs.PutElement.{element_put, setting}
-use Rattle.oa_server.specs.Redimension.{redimension, resizing, zero_with}
+use Rattle.oa_server.specs.Redimension.{resizing, zero_with}
 use Rattle.oa_server.specs.Refusals.{◌>>=◌, known, unless}
 use Rattle.oa_server.specs.States.{State}
-use Rattle.oa_server.specs.Steps.{decided, outcome, reply_of}
+use Rattle.oa_server.specs.Steps.{decided, reply_of}
 use Rattle.oa_server.specs.Turns.{Turn}
-use Rattle.oa_server.specs.TypeInfo.{information}
-use Rattle.oa_server.specs.Unlock.{taking, unlocking}
 
 -- a refusal's code is own
 abbrev Own : {A : Type 0} → Result A Refusal → Type 0

@@ -60,6 +60,9 @@ ready_none store size places some place = record {
   late = λ stopped. refl;
 }
 
+pub ready_at : {D : Type 0} {g : Ghosts D} (store : Store D g) (size places : ℕ) (pending : List ReplyValue) (events : List ℕ) → 1 ≤ size → size ≤ places → pending ≡ [] → events ≡ [] → IsReady store size places pending events
+ready_at store size places pending events some place none empty = rw (none, empty) (ready_none store size places some place)
+
 -- a request is held
 pub held_one : {D : Type 0} {g : Ghosts D} (old new : Store D g) (body : List ℕ) (reply : ReplyValue) (before after : State) (pending pending' : List ReplyValue) (events events' : List ℕ)
     (turn : IsHeldBack body reply events events' before after) → pending' ≡ pending ++ reply ∷ [] → new.stopped ≡ false

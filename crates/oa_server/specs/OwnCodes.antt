@@ -1,5 +1,5 @@
 -- The codes that tell of the device, which no step answers.
-use Rattle.std.specs.Prelude.{ℕ, ◌==◌, ◌&&◌, not, Bool}
+use Rattle.std.specs.Prelude.{◌==◌, ◌&&◌, not, Bool}
 use Rattle.oa_model.specs.declared.hresult.HResult.{HResult}
 use Rattle.oa_model.specs.Codes.{e_fail, stg_e_writefault}
 

@@ -1,14 +1,101 @@
 -- Sessions of a server over streams, in memory and over a store.
-use Rattle.std.specs.Prelude.{◌≡◌, ℕ, List, [], ◌∷◌}
+use Rattle.std.specs.Prelude.{◌≡◌, ℕ, List, ◌++◌, map, vec_capacity, Result, ⊤}
 use Rattle.oa_disk.specs.declared.disk.Disk.{Ghosts}
+use Rattle.oa_frame.specs.Framings.{Frames}
+use Rattle.oa_frame.specs.Sessions.{Session, joined, spelled_all}
+use Rattle.oa_frame.specs.declared.session.Served.{Served}
+use Rattle.oa_groups.specs.Desks.{IsEnded, IsTaken}
 use Rattle.oa_record.specs.Replies.{ReplyValue, reply_record}
+use Rattle.oa_stream.specs.Sink.{Output, Puts}
+use Rattle.oa_stream.specs.Source.{Input}
+use Rattle.oa_stream.specs.declared.sink.Unwritten.{Unwritten}
 use Rattle.oa_server.specs.declared.clerk.Clerk.{Clerk}
-use Rattle.oa_server.specs.Storages.{Answers}
+use Rattle.oa_server.specs.declared.hand.Hand.{Hand}
+use Rattle.oa_server.specs.declared.storage.Storage.{Storage}
+use Rattle.oa_server.specs.declared.storage.Storage.TheVariants.{Disk, Memory}
+use Rattle.oa_server.specs.Hands.{IsReady, desk}
+use Rattle.oa_server.specs.Requests.{requests}
+use Rattle.oa_server.specs.Serving.{none_held, turn_written}
+use Rattle.oa_server.specs.States.{State}
+use Rattle.oa_server.specs.Storages.{Serves}
 
--- one body is answered, with the bytes of its reply, which have no length before them: every body has one reply, handed out at that body
-abbrev pub answer_written : {D : Type 0} {g : Ghosts D} → Clerk D g → List ℕ → List (List ℕ) → Clerk D g → Type 0
-answer_written old body replies new = (reply : ReplyValue) × (replies ≡ reply_record reply ∷ []) × Answers old.storage new.storage old.host body reply new.host
+-- the hand can take one request more
+abbrev pub HandIsReady : {D : Type 0} {g : Ghosts D} → Storage D g → Hand → Type 0
+HandIsReady (Memory disk) hand = ⊤
+HandIsReady (Disk store) hand = IsReady store hand.size (vec_capacity hand.replies) hand.replies.items hand.frame
 
--- so none is held when the input ends
-abbrev pub none_kept : {D : Type 0} {g : Ghosts D} → Clerk D g → List (List ℕ) → Clerk D g → Type 0
-none_kept old replies new = (replies ≡ []) × (new ≡ old)
+-- One body is taken into the group in hand, and these replies are handed out.
+abbrev pub TakenIn : {D : Type 0} {g : Ghosts D} → Storage D g → State → Hand → List ℕ → List ReplyValue → Storage D g → State → Hand → Type 0
+TakenIn (Disk old) before hand body told (Disk new) after hand' = IsTaken requests hand.size body told (desk old before hand.replies.items hand.frame) (desk new after hand'.replies.items hand'.frame)
+TakenIn (Disk old) before hand body told (Memory new) after hand' = ⊥
+TakenIn (Memory old) before hand body told new after hand' = ⊥
+
+abbrev pub EndedIn : {D : Type 0} {g : Ghosts D} → Storage D g → State → Hand → List ReplyValue → Storage D g → State → Hand → Type 0
+EndedIn (Disk old) before hand told (Disk new) after hand' = IsEnded requests told (desk old before hand.replies.items hand.frame) (desk new after hand'.replies.items hand'.frame)
+EndedIn (Disk old) before hand told (Memory new) after hand' = ⊥
+EndedIn (Memory old) before hand told new after hand' = ⊥
+
+-- the same, with the bytes of the replies, which have no length before them
+pub record IsTakenOver {D : Type 0} {g : Ghosts D} (old : Storage D g) (before : State) (hand : Hand) (body : List ℕ) (replies : List (List ℕ)) (new : Storage D g) (after : State) (hand' : Hand) : Type 0 where
+  pub told : List ReplyValue
+  pub are : replies ≡ map reply_record told
+  pub size : hand'.size ≡ hand.size
+  pub ready : HandIsReady new hand'
+  pub taken : TakenIn old before hand body told new after hand'
+
+pub record IsEndedOver {D : Type 0} {g : Ghosts D} (old : Storage D g) (before : State) (hand : Hand) (replies : List (List ℕ)) (new : Storage D g) (after : State) (hand' : Hand) : Type 0 where
+  pub told : List ReplyValue
+  pub are : replies ≡ map reply_record told
+  pub ended : EndedIn old before hand told new after hand'
+
+-- In memory every body has one reply, handed out at that body. Over a store this is said of a hand that can take one request more.
+abbrev pub Taken : {D : Type 0} {g : Ghosts D} → Storage D g → State → Hand → List ℕ → List (List ℕ) → Storage D g → State → Hand → Type 0
+Taken (Memory old) before hand body replies new after hand' = (new ≡ Memory old) × turn_written before body replies after
+Taken (Disk old) before hand body replies new after hand' = HandIsReady (Disk old) hand → IsTakenOver (Disk old) before hand body replies new after hand'
+
+-- So none is held when the input ends. Over a store the group in hand ends, and its replies are handed out.
+abbrev pub Ended : {D : Type 0} {g : Ghosts D} → Storage D g → State → Hand → List (List ℕ) → Storage D g → State → Hand → Type 0
+Ended (Memory old) before hand replies new after hand' = (new ≡ Memory old) × none_held before replies after
+Ended (Disk old) before hand replies new after hand' = HandIsReady (Disk old) hand → IsEndedOver (Disk old) before hand replies new after hand'
+
+abbrev pub taken_written : {D : Type 0} {g : Ghosts D} → Clerk D g → List ℕ → List (List ℕ) → Clerk D g → Type 0
+taken_written old body replies new = Taken old.storage old.host old.hand body replies new.storage new.host new.hand
+
+abbrev pub ended_written : {D : Type 0} {g : Ghosts D} → Clerk D g → List (List ℕ) → Clerk D g → Type 0
+ended_written old replies new = Ended old.storage old.host old.hand replies new.storage new.host new.hand
+
+-- what is handed out was put on a writer, or the writer failed in it
+pub record PutsTaken {D : Type 0} {g : Ghosts D} (f : Frames) (old : Storage D g) (before : State) (hand : Hand) (body : List ℕ) (new : Storage D g) (after : State) (hand' : Hand)
+    (result : Result (Unit {0}) Unwritten) (out out' : Output) : Type 0 where
+  pub replies : List (List ℕ)
+  pub turned : Taken old before hand body replies new after hand'
+  pub put : Puts result out out' (spelled_all f.spelled replies)
+
+pub record PutsAlone (f : Frames) (before : State) (body : List ℕ) (after : State) (result : Result (Unit {0}) Unwritten) (out out' : Output) : Type 0 where
+  pub replies : List (List ℕ)
+  pub turned : turn_written before body replies after
+  pub put : Puts result out out' (spelled_all f.spelled replies)
+
+pub record PutsEnded {D : Type 0} {g : Ghosts D} (f : Frames) (old : Storage D g) (before : State) (hand : Hand) (new : Storage D g) (after : State) (hand' : Hand)
+    (result : Result (Unit {0}) Unwritten) (out out' : Output) : Type 0 where
+  pub held : List (List ℕ)
+  pub ended : Ended old before hand held new after hand'
+  pub put : Puts result out out' (spelled_all f.spelled held)
+
+pub record LeavesEnded {D : Type 0} {g : Ghosts D} (old : Storage D g) (before : State) (hand : Hand) (new : Storage D g) (after : State) (hand' : Hand) : Type 0 where
+  pub held : List (List ℕ)
+  pub ended : Ended old before hand held new after hand'
+
+-- what was read and written, whatever the server does
+abbrev pub any_turn : Unit {0} → List ℕ → List (List ℕ) → Unit {0} → Type 0
+any_turn old body replies new = Unit {0}
+
+abbrev pub any_end : Unit {0} → List (List ℕ) → Unit {0} → Type 0
+any_end old replies new = Unit {0}
+
+-- A whole session: what was read and written, and that these replies are what serving the bodies that were read in groups of this size makes.
+pub record ServesSession {D : Type 0} {g : Ghosts D} (f : Frames) (last : List ℕ) (input input' : Input) (out out' : Output) (size : ℕ) (old new : Storage D g) (before after : State) (served : Served) : Type 0 where
+  pub io : Session f any_turn any_end last input input' out out' tt tt served
+  pub told : List ReplyValue
+  pub replies_are : joined io.handed ++ io.held ≡ map reply_record told
+  pub serves : Serves size old new before io.bodies told after

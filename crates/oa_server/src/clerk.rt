@@ -3,27 +3,34 @@ ghost use Rattle.std.specs.Prelude.{◌≡◌, ◌≤◌, map, IfOk, OnErr, fals
 ghost use Rattle.oa_server.specs.Storages.{Answers, InMemory, Serves, disk_of};
 ghost use Rattle.oa_server.specs.Turns.{Run, Turn};
 
+use crate::hand::Hand;
 use crate::host::Host;
 use crate::keeping::{answer_over, run_over};
 use crate::storage::Storage;
 use oa_disk::Disk;
 use oa_record::Reply;
-use std::alloc::AllocError;
+use std::alloc::{AllocError, Global};
 
-/// A library and a table in memory, and where the table is kept.
+/// A library and a table in memory, where the table is kept, and the group in hand.
 #[derive(Drop)]
 pub(crate) struct Clerk<D: Disk> {
     pub host: Host,
     pub storage: Storage<D>,
+    /// The group in hand of a session over a store.
+    pub hand: Hand,
 }
 
 impl<D: Disk> Clerk<D> {
     /// A server of these parts.
-    pub(crate) fn new(host: Host, storage: Storage<D>) -> Clerk<D>
+    pub(crate) fn new(alloc: Global, host: Host, storage: Storage<D>) -> Clerk<D>
         ensures host { result.host ≡ host }
         ensures storage { result.storage ≡ storage }
     {
-        Clerk { host, storage }
+        Clerk {
+            host,
+            storage,
+            hand: Hand::none(alloc),
+        }
     }
 
     /// The disk as it is. This makes no call.

@@ -36,6 +36,19 @@ impl Hand {
         })
     }
 
+    /// A hand that takes no requests. Takes no memory.
+    pub(crate) fn none(alloc: Global) -> Hand
+        ensures replies { result.replies.items ≡ [] }
+        ensures frame { result.frame ≡ [] }
+        ensures size { result.size ≡ 0 }
+    {
+        Hand {
+            frame: Frame::new(alloc),
+            replies: Vec::new(alloc),
+            size: 0,
+        }
+    }
+
     /// Whether the group is whole.
     pub(crate) fn is_full(&self) -> bool
         ensures fills { result ≡ fills self.now.size (length self.now.replies.items) (length self.now.frame) }

@@ -31,7 +31,7 @@ impl Server<NoDisk> {
     {
         let host = Host::new(alloc, library);
         Server {
-            clerk: Clerk::new(host, Storage::Memory(NoDisk::new())),
+            clerk: Clerk::new(alloc, host, Storage::Memory(NoDisk::new())),
         }
     }
 }
@@ -51,7 +51,7 @@ impl<D: Disk> Server<D> {
     {
         let host = Host::over(alloc, library, table);
         Server {
-            clerk: Clerk::new(host, Storage::Disk(store)),
+            clerk: Clerk::new(alloc, host, Storage::Disk(store)),
         }
     }
 
@@ -100,7 +100,7 @@ impl Server<NoDisk> {
     {
         let host = Host::over(alloc, library, table);
         Server {
-            clerk: Clerk::new(host, Storage::Memory(NoDisk::new())),
+            clerk: Clerk::new(alloc, host, Storage::Memory(NoDisk::new())),
         }
     }
 }

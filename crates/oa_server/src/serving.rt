@@ -1,25 +1,33 @@
 //! Sessions over streams.
-ghost use Rattle.std.specs.Prelude.{◌≡◌, ◌≤◌, IfOk, OnErr, false, length};
+ghost use Rattle.std.specs.Prelude.{◌≡◌, ◌≤◌, IfOk, OnErr, false, length, map};
 ghost use Rattle.oa_stream.specs.Ahead.{ahead};
+ghost use Rattle.oa_stream.specs.Sink.{Puts};
 ghost use Rattle.oa_frame.specs.Framings.{frames, hex_lines, records};
-ghost use Rattle.oa_frame.specs.Sessions.{Session};
+ghost use Rattle.oa_frame.specs.Sessions.{Session, spelled_all};
+ghost use Rattle.oa_record.specs.Replies.{reply_record};
 ghost use Rattle.oa_server.specs.Serving.{last_written, none_held, turn_written};
+ghost use Rattle.oa_server.specs.Talks.{LeavesEnded, PutsAlone, PutsEnded, PutsTaken, ServesSession, ended_written, taken_written};
 ghost use Rattle.oa_server.specs.Storages.{InMemory};
-ghost use Rattle.oa_server.specs.Talks.{answer_written, none_kept};
+ghost use Rattle.oa_server.specs.declared.storage.Storage.TheVariants.{Disk as ADisk};
 
 use crate::Server;
-use crate::clerk::{Clerk, answer_with};
+use crate::clerk::Clerk;
+use crate::hand::Hand;
+use crate::host::Host;
+use crate::keeping::{finish, is_ready, take};
+use crate::storage::Storage;
 use oa_disk::Disk;
 use oa_frame::{Framing, Responder, Served, put_reply, serve};
 use oa_model::{HResult, MAX_LINE_CHARACTERS, MAX_REQUEST_BYTES};
 use oa_record::Reply;
+use oa_store::Store;
 use oa_stream::{Ahead, Sink, Source, Unwritten};
 use std::alloc::{AllocError, Global};
 
 impl<D: Disk> Responder for Clerk<D> {
-    ghost turn = { answer_written };
+    ghost turn = { taken_written };
 
-    ghost ends = { none_kept };
+    ghost ends = { ended_written };
 
     fn respond<W: Sink>(
         &mut self,
@@ -27,21 +35,165 @@ impl<D: Disk> Responder for Clerk<D> {
         body: &[u8],
         writer: &mut W,
     ) -> Result<(), Unwritten> {
-        let reply = answer_with(&mut self.host, &mut self.storage, body);
-        put_reply(framing, writer, &reply.head(), reply.body())
+        respond_with(
+            &mut self.host,
+            &mut self.storage,
+            &mut self.hand,
+            framing,
+            body,
+            writer,
+        )
     }
 
-    fn finish<W: Sink>(&mut self, _: Framing, _: &mut W) -> Result<(), Unwritten> {
-        Ok(())
+    fn finish<W: Sink>(&mut self, framing: Framing, writer: &mut W) -> Result<(), Unwritten> {
+        finish_with(
+            &self.host,
+            &mut self.storage,
+            &mut self.hand,
+            framing,
+            writer,
+        )
     }
 
-    fn abandon(&mut self) {}
+    fn abandon(&mut self) {
+        abandon_with(&self.host, &mut self.storage, &mut self.hand);
+    }
+}
+
+/// Answers one body. In memory its reply is written; over a store it is held until its group ends, and then all replies of the group are written.
+fn respond_with<D: Disk, W: Sink>(
+    host: &mut Host,
+    storage: &mut Storage<D>,
+    hand: &mut Hand,
+    framing: Framing,
+    body: &[u8],
+    writer: &mut W,
+) -> Result<(), Unwritten>
+    requires unbroken { (W.out writer.old).broken ≡ false }
+    ensures taken { PutsTaken (frames framing) storage.old host.old hand.old body.now storage.new host.new hand.new result (W.out writer.old) (W.out writer.new) }
+{
+    match storage {
+        Storage::Memory(_) => respond_alone(host, framing, body, writer),
+        Storage::Disk(store) => respond_over(host, store, hand, framing, body, writer),
+    }
+}
+
+/// Answers one body in memory.
+fn respond_alone<W: Sink>(
+    host: &mut Host,
+    framing: Framing,
+    body: &[u8],
+    writer: &mut W,
+) -> Result<(), Unwritten>
+    requires unbroken { (W.out writer.old).broken ≡ false }
+    ensures { PutsAlone (frames framing) host.old body.now host.new result (W.out writer.old) (W.out writer.new) }
+{
+    let reply = host.turn(body);
+    put_reply(framing, writer, &reply.head(), reply.body())
+}
+
+/// Takes one body into the group in hand, and writes the replies of a group that has ended.
+fn respond_over<D: Disk, W: Sink>(
+    host: &mut Host,
+    store: &mut Store<D>,
+    hand: &mut Hand,
+    framing: Framing,
+    body: &[u8],
+    writer: &mut W,
+) -> Result<(), Unwritten>
+    requires unbroken { (W.out writer.old).broken ≡ false }
+    ensures taken { PutsTaken (frames framing) (ADisk store.old) host.old hand.old body.now (ADisk store.new) host.new hand.new result (W.out writer.old) (W.out writer.new) }
+{
+    // Else no session is on, and nothing is said of what becomes of a body.
+    if !is_ready(store, hand) {
+        return Ok(());
+    }
+    if !take(host, store, hand, body) {
+        return Ok(());
+    }
+    let put = put_replies(framing, writer, &hand.replies);
+    hand.replies.clear();
+    put
+}
+
+/// The reading has ended: over a store the group in hand is committed, and then its replies are written.
+fn finish_with<D: Disk, W: Sink>(
+    host: &Host,
+    storage: &mut Storage<D>,
+    hand: &mut Hand,
+    framing: Framing,
+    writer: &mut W,
+) -> Result<(), Unwritten>
+    requires unbroken { (W.out writer.old).broken ≡ false }
+    ensures ended { PutsEnded (frames framing) storage.old host.now hand.old storage.new host.now hand.new result (W.out writer.old) (W.out writer.new) }
+{
+    match storage {
+        Storage::Memory(_) => Ok(()),
+        Storage::Disk(store) => finish_over(host, store, hand, framing, writer),
+    }
+}
+
+/// The same over a store.
+fn finish_over<D: Disk, W: Sink>(
+    host: &Host,
+    store: &mut Store<D>,
+    hand: &mut Hand,
+    framing: Framing,
+    writer: &mut W,
+) -> Result<(), Unwritten>
+    requires unbroken { (W.out writer.old).broken ≡ false }
+    ensures ended { PutsEnded (frames framing) (ADisk store.old) host.now hand.old (ADisk store.new) host.now hand.new result (W.out writer.old) (W.out writer.new) }
+{
+    if !is_ready(store, hand) {
+        return Ok(());
+    }
+    finish(host, store, hand);
+    let put = put_replies(framing, writer, &hand.replies);
+    hand.replies.clear();
+    put
+}
+
+/// The writer has failed: over a store the group in hand is committed, and nobody gets its replies.
+fn abandon_with<D: Disk>(host: &Host, storage: &mut Storage<D>, hand: &mut Hand)
+    ensures ended { LeavesEnded storage.old host.now hand.old storage.new host.now hand.new }
+{
+    match storage {
+        Storage::Memory(_) => {}
+        Storage::Disk(store) => abandon_over(host, store, hand),
+    }
+}
+
+/// The same over a store.
+fn abandon_over<D: Disk>(host: &Host, store: &mut Store<D>, hand: &mut Hand)
+    ensures ended { LeavesEnded (ADisk store.old) host.now hand.old (ADisk store.new) host.now hand.new }
+{
+    if !is_ready(store, hand) {
+        return;
+    }
+    finish(host, store, hand);
+    hand.replies.clear();
+}
+
+/// Writes replies one after another.
+fn put_replies<W: Sink>(
+    framing: Framing,
+    writer: &mut W,
+    replies: &[Reply],
+) -> Result<(), Unwritten>
+    requires unbroken { (W.out writer.old).broken ≡ false }
+    ensures { Puts result (W.out writer.old) (W.out writer.new) (spelled_all (frames framing).spelled (map reply_record replies.now)) }
+{
+    'replies: for reply in replies {
+        put_reply(framing, writer, &reply.head(), reply.body())?;
+    }
+    Ok(())
 }
 
 impl<D: Disk> Server<D> {
-    /// Answers the bodies of a reader, a line of hexadecimal digits each, by lines on a writer. `group` is from 1 to 1,024; until sessions
-    /// hold replies back every request is a group of its own: its reply is written before the next line is read. All replies are handed on before
-    /// each wait for more input. Err only where memory is refused before anything was read.
+    /// Answers the bodies of a reader, a line of hexadecimal digits each, by lines on a writer. `group` is from 1 to 1,024: over a store the changes
+    /// of so many requests are committed together, and their replies are written behind that; in memory each reply is written before the next
+    /// line is read. At the end what is in hand is committed and its replies are written. All replies that are written are handed on before each
+    /// wait for more input. Err only where memory is refused before anything was read.
     pub fn serve_hex<R: Source + Drop, W: Sink>(
         &mut self,
         reader: &mut Ahead<R>,
@@ -52,16 +204,15 @@ impl<D: Disk> Server<D> {
         requires small { group ≤ 1024 }
         requires unbroken { (ahead R.input reader.old).faulted ≡ false }
         requires unbroken_writer { (W.out writer.old).broken ≡ false }
-        ensures session { IfOk result (λ served. Session hex_lines answer_written none_kept last_written (ahead R.input reader.old) (ahead R.input reader.new)
-            (W.out writer.old) (W.out writer.new) self.old.clerk self.new.clerk served) }
+        ensures session { IfOk result (λ served. ServesSession hex_lines last_written (ahead R.input reader.old) (ahead R.input reader.new) (W.out writer.old) (W.out writer.new)
+            group self.old.clerk.storage self.new.clerk.storage self.old.clerk.host self.new.clerk.host served) }
         ensures memory { InMemory self.old.clerk.storage → IfOk result (λ served. Session hex_lines turn_written none_held last_written (ahead R.input reader.old) (ahead R.input reader.new)
             (W.out writer.old) (W.out writer.new) self.old.clerk.host self.new.clerk.host served) }
         ensures input { OnErr result (ahead R.input reader.new ≡ ahead R.input reader.old) }
         ensures output { OnErr result (W.out writer.new ≡ W.out writer.old) }
-        ensures state { OnErr result (self.new ≡ self.old) }
+        ensures state { OnErr result ((self.new.clerk.storage ≡ self.old.clerk.storage) × (self.new.clerk.host ≡ self.old.clerk.host)) }
     {
-        let _ = group;
-        self.session(Framing::HexLines, reader, writer)
+        session_with(&mut self.clerk, Framing::HexLines, reader, writer, group)
     }
 
     /// The same of records: each body and each reply stands behind its length, a u32. A length of 0 ends the session.
@@ -75,49 +226,46 @@ impl<D: Disk> Server<D> {
         requires small { group ≤ 1024 }
         requires unbroken { (ahead R.input reader.old).faulted ≡ false }
         requires unbroken_writer { (W.out writer.old).broken ≡ false }
-        ensures session { IfOk result (λ served. Session records answer_written none_kept last_written (ahead R.input reader.old) (ahead R.input reader.new)
-            (W.out writer.old) (W.out writer.new) self.old.clerk self.new.clerk served) }
+        ensures session { IfOk result (λ served. ServesSession records last_written (ahead R.input reader.old) (ahead R.input reader.new) (W.out writer.old) (W.out writer.new)
+            group self.old.clerk.storage self.new.clerk.storage self.old.clerk.host self.new.clerk.host served) }
         ensures memory { InMemory self.old.clerk.storage → IfOk result (λ served. Session records turn_written none_held last_written (ahead R.input reader.old) (ahead R.input reader.new)
             (W.out writer.old) (W.out writer.new) self.old.clerk.host self.new.clerk.host served) }
         ensures input { OnErr result (ahead R.input reader.new ≡ ahead R.input reader.old) }
         ensures output { OnErr result (W.out writer.new ≡ W.out writer.old) }
-        ensures state { OnErr result (self.new ≡ self.old) }
+        ensures state { OnErr result ((self.new.clerk.storage ≡ self.old.clerk.storage) × (self.new.clerk.host ≡ self.old.clerk.host)) }
     {
-        let _ = group;
-        self.session(Framing::Records, reader, writer)
+        session_with(&mut self.clerk, Framing::Records, reader, writer, group)
     }
+}
 
-    /// A session in either framing.
-    fn session<R: Source + Drop, W: Sink>(
-        &mut self,
-        framing: Framing,
-        reader: &mut Ahead<R>,
-        writer: &mut W,
-    ) -> Result<Served, AllocError>
-        requires unbroken { (ahead R.input reader.old).faulted ≡ false }
-        requires unbroken_writer { (W.out writer.old).broken ≡ false }
-        ensures session { IfOk result (λ served. Session (frames framing) answer_written none_kept last_written (ahead R.input reader.old) (ahead R.input reader.new)
-            (W.out writer.old) (W.out writer.new) self.old.clerk self.new.clerk served) }
-        ensures memory { InMemory self.old.clerk.storage → IfOk result (λ served. Session (frames framing) turn_written none_held last_written (ahead R.input reader.old) (ahead R.input reader.new)
-            (W.out writer.old) (W.out writer.new) self.old.clerk.host self.new.clerk.host served) }
-        ensures input { OnErr result (ahead R.input reader.new ≡ ahead R.input reader.old) }
-        ensures output { OnErr result (W.out writer.new ≡ W.out writer.old) }
-        ensures state { OnErr result (self.new ≡ self.old) }
-    {
-        let alloc = self.allocator();
-        let mut line = Vec::with_capacity(alloc, MAX_LINE_CHARACTERS as usize + 1)?;
-        let mut body = zeros(alloc, MAX_REQUEST_BYTES as usize)?;
-        let last = Reply::bare(alloc, 0, HResult::BAD_STUB_DATA, None).head();
-        Ok(serve(
-            &mut self.clerk,
-            framing,
-            &last,
-            reader,
-            writer,
-            &mut line,
-            &mut body,
-        ))
-    }
+/// A session in either framing.
+fn session_with<D: Disk, R: Source + Drop, W: Sink>(
+    clerk: &mut Clerk<D>,
+    framing: Framing,
+    reader: &mut Ahead<R>,
+    writer: &mut W,
+    group: usize,
+) -> Result<Served, AllocError>
+    requires positive { 1 ≤ group }
+    requires unbroken { (ahead R.input reader.old).faulted ≡ false }
+    requires unbroken_writer { (W.out writer.old).broken ≡ false }
+    ensures session { IfOk result (λ served. ServesSession (frames framing) last_written (ahead R.input reader.old) (ahead R.input reader.new) (W.out writer.old) (W.out writer.new)
+        group clerk.old.storage clerk.new.storage clerk.old.host clerk.new.host served) }
+    ensures memory { InMemory clerk.old.storage → IfOk result (λ served. Session (frames framing) turn_written none_held last_written (ahead R.input reader.old) (ahead R.input reader.new)
+        (W.out writer.old) (W.out writer.new) clerk.old.host clerk.new.host served) }
+    ensures input { OnErr result (ahead R.input reader.new ≡ ahead R.input reader.old) }
+    ensures output { OnErr result (W.out writer.new ≡ W.out writer.old) }
+    ensures state { OnErr result ((clerk.new.storage ≡ clerk.old.storage) × (clerk.new.host ≡ clerk.old.host)) }
+{
+    let alloc = clerk.host.allocator();
+    let mut line = Vec::with_capacity(alloc, MAX_LINE_CHARACTERS as usize + 1)?;
+    let mut body = zeros(alloc, MAX_REQUEST_BYTES as usize)?;
+    let hand = Hand::new(alloc, group)?;
+    clerk.hand = hand;
+    let last = Reply::bare(alloc, 0, HResult::BAD_STUB_DATA, None).head();
+    let served = serve(clerk, framing, &last, reader, writer, &mut line, &mut body);
+    clerk.hand = Hand::none(alloc);
+    Ok(served)
 }
 
 /// This many zeros.

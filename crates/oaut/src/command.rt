@@ -85,10 +85,10 @@ fn serve<'a>(alloc: Global) -> Result<Command<'a>, AllocError> {
     let group = Arg::new(alloc, "group")
         .long("group")
         .value_name("N")
-        .value_parser(value_parser!(u16).range(1..=1))
+        .value_parser(value_parser!(u16).range(1..=1024))
         .default_value("1")
         .help(
-            "Commit N requests together; 1 is all that this version takes: each request is committed before its reply",
+            "Commit N requests together, from 1 to 1024, and write their replies behind that; with 1 each request is committed before its reply",
         );
     Command::new(alloc, "serve")
         .about(

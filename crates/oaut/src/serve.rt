@@ -6,8 +6,8 @@ use crate::store::found;
 use crate::streams::Streams;
 use oa_server::Server;
 
-/// The greatest number of requests that are committed together: sessions answer one by one, each committed before its reply.
-const MOST: u16 = 1;
+/// The greatest number of requests that are committed together.
+const MOST: u16 = 1024;
 
 /// Holds a session over a store of a library, so many requests committed together.
 pub(crate) fn serve(

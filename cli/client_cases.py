@@ -8,6 +8,7 @@ The last line counts the cases.
 import contextlib
 import io
 import os
+import random
 import signal
 import socket
 import struct
@@ -391,6 +392,7 @@ def sent_in_groups(size, *exchanges):
     server = oaut.Server(io.BytesIO(), sent, "lines", size)
     server._library = LIBRARY
     server._read = lambda: b"\0\0\0\0" + DONE
+    server._skip = lambda count: None
     server._wrong_tag = lambda body: None
     for exchange in exchanges:
         server._exchange(exchange if isinstance(exchange, list) else [oaut.ask_invoke(1, 1, 4, (-3,), (oaut.spell(I4(7)),))] * exchange)
@@ -702,6 +704,39 @@ with tempfile.TemporaryDirectory() as room:
                     later = item.Name
                 same(f"long texts in groups of {group}, {framing}", later.value, "a" * 131_072)
                 item.Count = 7
+    for group in taken:
+        # batches of every length beside groups of every length: each request is answered before the next exchange, and gets see the puts before them
+        draw = random.Random(group)
+        with serve(group=group) as server:
+            (item,) = server.objects()
+            last, name, wrong = 7, item.Name, 0
+            for turn in range(24):
+                with server.batch(draw.choice([7, 1_024, group, 2 * group])) as batch:
+                    seen = []
+                    for _ in range(draw.choice([1, 2, 3, 5, group - 1, group, group + 1])):
+                        what = draw.random()
+                        if what < 0.4:
+                            item.Count = last = draw.randrange(1_000_000)
+                        elif what < 0.41:
+                            item.Name = name = "n" * draw.choice([0, 1, 131_072])
+                        elif what < 0.42 and turn > 12:
+                            item.Grid.redim(draw.choice([0, 2, 20_000]))  # from here on a group may have ended by its bytes
+                        else:
+                            seen.append((item.Count, last))
+                wrong += sum(it.value != due for it, due in seen)
+                if draw.random() < 0.5:
+                    item.Count = last = turn
+                    wrong += item.Count != last
+            raises(f"a put that is refused, groups of {group}", oaut.Overflow, lambda: setattr(item, "Count", 2**31), index=0, argument="the new value")
+            with server.batch() as batch:
+                item.Count = last = group
+            same(f"batches beside groups of {group}", wrong, 0)
+        with serve(group=group) as server:
+            (item,) = server.objects()
+            same(f"what batches beside groups of {group} left", [item.Count, item.Name], [I4(last), name])
+            item.Name = "a" * 131_072
+            item.Grid = Array(I2, [(2, -1), (3, 5)], range(1, 7))
+            item.Count = 7
     server = serve(group=taken[-1])
     item = server.object(1, "Item")
     item.Count = 8
@@ -714,9 +749,11 @@ with tempfile.TemporaryDirectory() as room:
         same("a number is not used again after a stop", server.create("Item").number, 2)
     raises("another library", oaut.Stopped, lambda: oaut.serve(STORE, f"{ROOT}/examples/small.idl", program=PROGRAM), status=3, fault="oaut: library differs")
     with open(STORE, "r+b") as file:
-        file.seek(8_192)
+        file.seek(4_096)
+        bank = 8_192 + 16_777_216 * (file.read(1)[0] % 2)
+        file.seek(bank)
         file.write(b"X")
-    raises("a store that is damaged", oaut.Stopped, serve, status=3, fault="oaut: damaged at 8192")
+    raises("a store that is damaged", oaut.Stopped, serve, status=3, fault=f"oaut: damaged at {bank}")
     oaut.make_store(STORE, FULL, program=PROGRAM)
     with serve() as server:
         same("a store that begins anew", [server.objects(), server.create("Item").number], [[], 1])

@@ -9,12 +9,15 @@ import contextlib
 import io
 import os
 import random
+import shutil
 import signal
 import socket
 import struct
 import subprocess
 import sys
 import tempfile
+import threading
+import time
 from decimal import Decimal
 
 ROOT = os.path.dirname(os.path.dirname(os.path.abspath(__file__)))
@@ -799,6 +802,65 @@ with subprocess.Popen([PROGRAM, "play", FULL], stdin=theirs, stdout=theirs) as c
         raises("a socket whose server ends", oaut.Stopped, lambda: item.Count)
     same("the server's status", child.wait(10), 0)
 ours.close()
+
+# --- behind a socket that systemd holds
+
+
+@contextlib.contextmanager
+def activated(path, *words):
+    """A program that systemd's tool starts for a socket with this path."""
+    with subprocess.Popen([ACTIVATE, "-l", path, *words], stdout=subprocess.DEVNULL, stderr=subprocess.DEVNULL) as child:
+        until = time.monotonic() + 20
+        while not os.path.exists(path) and time.monotonic() < until:
+            time.sleep(0.01)
+        try:
+            yield
+        finally:
+            child.terminate()
+
+
+@contextlib.contextmanager
+def connected(path):
+    """A session over a socket's path."""
+    with socket.socket(socket.AF_UNIX) as sock:
+        sock.settimeout(60)
+        sock.connect(path)
+        with oaut.connect(sock.makefile("rb"), sock.makefile("wb")) as server:
+            yield server
+
+
+ACTIVATE = shutil.which("systemd-socket-activate")
+if ACTIVATE is None:
+    print("systemd-socket-activate is not there: sockets of systemd are not tried")
+else:
+    with tempfile.TemporaryDirectory() as room:
+        oaut.make_store(f"{room}/it.store", FULL, program=PROGRAM)
+        serves = [PROGRAM, "serve", f"{room}/it.store", FULL]
+        with activated(f"{room}/each", "--accept", "--inetd", *serves):
+            for count in (0, 1):
+                with connected(f"{room}/each") as server:
+                    same(f"a client with a process of its own, behind {count}", len(server.objects()), count)
+                    server.create("Item").Count = 7
+                deadline = time.monotonic() + 20
+                while subprocess.run([PROGRAM, "dump", f"{room}/it.store"], capture_output=True).stdout.count(b"object") <= count and time.monotonic() < deadline:
+                    time.sleep(0.01)
+        with activated(f"{room}/queue", sys.executable, f"{ROOT}/examples/one_at_a_time.py", *serves):
+            told = []
+
+            def second():
+                with connected(f"{room}/queue") as server:
+                    told.append(server.object(1, "Item").Count)
+
+            with connected(f"{room}/queue") as server:
+                waiting = threading.Thread(target=second)
+                waiting.start()
+                item = server.object(1, "Item")
+                for number in range(100):
+                    item.Count = number
+                    time.sleep(0.001)
+                early = list(told)
+            waiting.join(60)
+            same("a client that waits until the one before has gone", [early, told], [[], [99]])
 
 # --- python3 -m oaut
 

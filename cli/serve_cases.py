@@ -15,7 +15,7 @@ import store
 import wire
 from calls import OUT, STRACE, Calls, each_fails, held, text_held
 from oaut import REDIM, ask_call, ask_create
-from running import CREATE, CREATED, REPLIES, REQUESTS, SMALL, Talk, case, ends, fault, fill, leaves, run, run_in, short, taken, tell, text_of
+from running import CREATE, CREATED, REPLIES, REQUESTS, SMALL, Talk, case, ends, fault, fill, leaves, run, run_in, short, taken, tell, text_of, within
 
 SMALL_TEXT, FULL, FULL_TEXT = text_of("small.canonical.idl"), text_of("full.idl"), text_of("full.canonical.idl")
 NEW = bytes(store.formatted(SMALL_TEXT))
@@ -168,6 +168,26 @@ if 3 in GROUPS:
             told = waits, session.line(session.process.stderr), session.status(), text_held(room)
             tell("serve: a writer that fails is found where a group ends, and the group stands", told == (True, fault("write fault"), 1, table(9)), told)
 
+# --- memory that is refused within a group
+
+OUT_OF_MEMORY, HOLDERS, BYTES = 0x8007_000E, 64, 2
+ARRAYS, array = text_of("arrays.idl"), wire.array(wire.UI1, [(65_536, 0)], [7] * 65_536)
+asked = (CREATE + b"\n") * HOLDERS + b"".join(wire.put(number, number, BYTES, array) for number in range(1, HOLDERS + 1))
+for group in (1, 4) if 4 in GROUPS else (1,):
+    for mega in range(40, 140, 4):  # more and more memory, until some of the arrays can be kept, and not all
+        with tempfile.TemporaryDirectory() as room:
+            fill(room, {"lib.idl": ARRAYS})
+            run_in(room, ["format", "it.store", "lib.idl"])
+            status, out, err = run_in(room, words("--hex", "--group", str(group)), given=asked, before=within(1_000_000 * mega))
+            answers = (out or b"").splitlines(keepends=True)[HOLDERS:]
+            kept = {number for number, answer in enumerate(answers, 1) if answer == wire.reply(number)}
+            refused = {number for number, answer in enumerate(answers, 1) if answer == wire.reply(number, OUT_OF_MEMORY)}
+            if status != 0 or not kept:
+                continue
+            with_cells = {number for number, (_, cells) in store.read(held(room)).objects.items() if cells}
+            break
+    tell(f"serve: who is refused for memory is alone refused, groups of {group}", bool(refused) and len(kept) + len(refused) == HOLDERS and with_cells == kept and (status, err) == (0, b""), (mega, status, err, len(kept), len(refused)))
+
 # --- what is refused, and in which order
 
 for refusal in ("0", "1025", "-1", "x", ""):
@@ -295,6 +315,11 @@ else:
             tell("serve: a frame behind the gate, and then the gate", [it[1:] for it in rest if it[0] == "write"][:2] == [(gate + 1, 4 + 21 + 1), (gate, 1)], rest)
         for killed in (False, True):
             each_fails(words("--hex", "--group", str(size)), files, judged(size, opening, killed), "signal=KILL" if killed else "error=EIO", given=LINES)
+    with tempfile.TemporaryDirectory() as room:
+        fill(room, {"lib.idl": SMALL, "it.store": NEW})
+        made = Calls(room, words("--hex"), given=REQUESTS).does()
+    written = [("write", 8_512, 26), ("sync",), ("write", 8_511, 1), ("sync",), ("write", 8_538, 38), ("sync",), ("write", 8_537, 1), ("sync",)]
+    tell("serve: the calls of a create and a put, place by place", [it for it in made[made.index(("write", 8_512, 26)) :] if it != OUT] == written, made)
     files = {"lib.idl": FULL, "it.store": WITH_ITEM}
     # a group of texts that ends by its bytes, gets alone, and a put between two gets
     LONG_TEXTS = b"".join(text_put(bytes(length), tag)[1] for tag, length in enumerate((262_144, 262_144, 1)))

@@ -714,9 +714,12 @@ with tempfile.TemporaryDirectory() as room:
         same("a number is not used again after a stop", server.create("Item").number, 2)
     raises("another library", oaut.Stopped, lambda: oaut.serve(STORE, f"{ROOT}/examples/small.idl", program=PROGRAM), status=3, fault="oaut: library differs")
     with open(STORE, "r+b") as file:
-        file.seek(8_192)
+        # the bank in use: the texts above have filled one, and perhaps several
+        file.seek(4_096)
+        bank = 8_192 + 16_777_216 * (file.read(1)[0] % 2)
+        file.seek(bank)
         file.write(b"X")
-    raises("a store that is damaged", oaut.Stopped, serve, status=3, fault="oaut: damaged at 8192")
+    raises("a store that is damaged", oaut.Stopped, serve, status=3, fault=f"oaut: damaged at {bank}")
     oaut.make_store(STORE, FULL, program=PROGRAM)
     with serve() as server:
         same("a store that begins anew", [server.objects(), server.create("Item").number], [[], 1])

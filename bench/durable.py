@@ -4,11 +4,12 @@
     python3 bench/durable.py [PROGRAM [FOLDER [SECONDS]]]
 
 PROGRAM is crates/oaut/out/oaut where none is given, FOLDER the one that the files are made in (the current one), SECONDS how long each measurement goes on (2).
-Three ways take turns on one file system, each with groups of 1, 16, 256 and 1,024 puts of a long:
+Four ways take turns on one file system, each with groups of 1, 16, 256 and 1,024 puts of a long:
 
 - store: `oaut serve --group N`, over pipes, as fast as it answers;
 - calls: for each group a frame of its bytes by `pwrite`, `fdatasync`, its gate by `pwrite`, `fdatasync`, in a file whose blocks are there: the least that this order of writes costs;
-- SQLite: in a WAL with `synchronous = FULL`, one transaction of N updates of a row by its key, by one call of Python's module.
+- SQLite: in a WAL with `synchronous = FULL`, one transaction of N updates of a row by its key, by one call of Python's module (`executemany`), so with no step of Python an update;
+- each: the same with a call an update, as a script does it whose updates come one by one.
 
 Each is measured three times, and the middle one is printed, and how many times the others' the store's is. Then the latency of one put that is waited for, from the client's write to its read: the median and the 99th percentile.
 """
@@ -144,15 +145,19 @@ class Sqlite:
         self.base.execute("INSERT OR IGNORE INTO cells VALUES (1, 1, 0)")
         self.count = 0
 
-    def commit(self, group):
+    def commit(self, group, each=False):
+        update, rows = "UPDATE cells SET value = ? WHERE object = 1 AND dispid = 1", [(self.count + it,) for it in range(group)]
         self.base.execute("BEGIN IMMEDIATE")
-        # one statement that is prepared once, and no step of Python for each row
-        self.base.executemany("UPDATE cells SET value = ? WHERE object = 1 AND dispid = 1", [(self.count + it,) for it in range(group)])
-        self.count += group
+        if each:
+            for row in rows:
+                self.base.execute(update, row)
+        else:
+            self.base.executemany(update, rows)
         self.base.execute("COMMIT")
+        self.count += group
 
-    def puts(self, group):
-        return repeated(lambda: self.commit(group)) * group
+    def puts(self, group, each=False):
+        return repeated(lambda: self.commit(group, each)) * group
 
     def latencies(self):
         return timed(lambda: self.commit(1))
@@ -189,11 +194,11 @@ def serve_latencies(room):
 with tempfile.TemporaryDirectory(dir=FOLDER) as room:
     calls, base = Calls(room), Sqlite(room)
     print(f"puts a second on {os.path.abspath(FOLDER)}, SQLite {sqlite3.sqlite_version}")
-    print(f"{'group':>5} {'store':>10} {'calls':>10} {'SQLite':>10} {'by calls':>9} {'by SQLite':>9}")
+    print(f"{'group':>5} {'store':>10} {'calls':>10} {'SQLite':>10} {'each':>10} {'by calls':>9} {'by SQLite':>9} {'by each':>9}")
     for group in GROUPS:
-        rounds = [(serve_puts(room, group), calls.puts(group), base.puts(group)) for _ in range(3)]
+        rounds = [(serve_puts(room, group), calls.puts(group), base.puts(group), base.puts(group, True)) for _ in range(3)]
         found = [statistics.median(it) for it in zip(*rounds)]
-        print(f"{group:5}", *(f"{it:10,.0f}" for it in found), f"{found[0] / found[1]:9.2f} {found[0] / found[2]:9.2f}")
+        print(f"{group:5}", *(f"{it:10,.0f}" for it in found), *(f"{found[0] / it:9.2f}" for it in found[1:]))
     print("one put, in microseconds: median, 99th percentile")
     for name, found in (("store", serve_latencies(room)), ("calls", calls.latencies()), ("SQLite", base.latencies())):
         found = sorted(it * 1e6 for it in found)

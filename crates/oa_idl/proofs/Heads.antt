@@ -40,9 +40,6 @@ same_heads a text more f = then_heads (passes a) true text more (λ front left h
 pub this_some : {test : Word → Bool} {G : List Word → Type 0} (text : List Word) → Then (this test) G text → 0 < length text
 this_some text f = omega (arith, ap length f.parts, ap length f.first.parts, length-append f.front f.back)
 
-pub only_some : {test : Word → Bool} (text : List Word) → this test text → 0 < length text
-only_some text f = omega (arith, ap length f.parts)
-
 pub one_heads : {A : Type 0} (meaning : Word → Option A) (test : Word → Bool) (x : A) → ((w : Word) → meaning w ≡ Some x → test w ≡ false) → (text more : List Word) → one meaning x text → heads test (text ++ more) ≡ false
 one_heads meaning test x apart text more f = ap (λ (ws : List Word). heads test (ws ++ more)) f.parts ∙ apart f.word f.is
 

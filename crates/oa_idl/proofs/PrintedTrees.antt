@@ -2,7 +2,7 @@
 use Rattle.std.proofs.Common.{◌≡◌, ℕ, Bool, true, false, List, [], ◌∷◌, ◌++◌, refl, sym, ap, subst, ◌∙◌, append_assoc}
 use Rattle.std.specs.Prelude.{codes}
 use Rattle.std.specs.Fmt.{decimal}
-use Rattle.std.specs.List.{AllByRecursion}
+use Rattle.std.specs.List.{AllByRecursion, flat_map}
 use Rattle.std.proofs.Math.Logic.{inl, inr}
 use Rattle.std.proofs.lemmas.List.{append-nil}
 use Rattle.oa_idl.specs.declared.sign.Sign.TheVariants as signs
@@ -25,7 +25,7 @@ use Rattle.oa_idl.specs.Words.{passes, name_of, end_word}
 use Rattle.oa_idl.specs.Grammar.{sign, head_attribute, no_head, head, one_more, closing, property, method, methods, members, interface, entry_word, named, entry_by, entry, entry_grow, no_entry, last_entry, coclass, item, Content, element, semicolon_after, no_items, elements_grow, items_in, elements, library}
 use Rattle.oa_idl.specs.Grammar.HeadAttribute.{Guid, Numbered}
 use Rattle.oa_idl.specs.Grammar.Content.{OfItem}
-use Rattle.oa_idl.specs.Canonical.{texts, property_text, method_text, entry_word_text, entry_text, digits_text, guid_text, title_text, interface_line, properties_line, properties_text, methods_text, interface_text, coclass_text, item_text, version_text, canonical}
+use Rattle.oa_idl.specs.Canonical.{property_text, method_text, entry_word_text, entry_text, digits_text, guid_text, title_text, interface_line, properties_line, properties_text, methods_text, interface_text, coclass_text, item_text, version_text, canonical}
 use Rattle.oa_idl.specs.Limits.{Keeps}
 use Rattle.oa_idl.specs.IsTree.{MayBeText, IsTree}
 use Rattle.oa_idl.specs.Printable.{IsGuid, IsVersion, IsName, IsProperty, IsMethod, AreEntries, IsItem, IsPrintable}
@@ -64,13 +64,13 @@ library_head_spelled g v x h k = attributes_spelled {attribute = head_attribute 
 
 methods_spelled : (n : ℕ) (ms : List MethodValue) (x : List ℕ) → AllByRecursion IsMethod ms → Spells (methods n ms) (methods_text ms ++ x) x
 unfolding methods_text is_in run passes
-methods_spelled n ms x h = at (ap (λ (bs : List ℕ). codes "methods:\n" ++ bs) (append_assoc (texts method_text ms) (codes "}\n") x))
-    (said (λ ws f. inl f) (sign_word signs.Methods (codes "methods") 58 (10 ∷ (texts method_text ms ++ 125 ∷ 10 ∷ x)) (refl, refl) (refl, refl) refl ▹ colon_mark
+methods_spelled n ms x h = at (ap (λ (bs : List ℕ). codes "methods:\n" ++ bs) (append_assoc (flat_map method_text ms) (codes "}\n") x))
+    (said (λ ws f. inl f) (sign_word signs.Methods (codes "methods") 58 (10 ∷ (flat_map method_text ms ++ 125 ∷ 10 ∷ x)) (refl, refl) (refl, refl) refl ▹ colon_mark
     ▹ line (all_spelled method one_more nowhere closing method_text IsMethod tt (125 ∷ 10 ∷ x) x method_spelled (λ s. then_line finish_mark) n ms h)))
 
 members_spelled : (ps : List Property) (ms : List MethodValue) (x : List ℕ) → AllByRecursion IsProperty ps → AllByRecursion IsMethod ms → Spells (members ps ms) (properties_text ps ++ (methods_text ms ++ x)) x
 unfolding properties_text properties_line is_in run passes
-members_spelled ps ms x h k = said (λ ws f. inl f) (sign_word signs.Properties (codes "properties") 58 (10 ∷ (texts property_text ps ++ (methods_text ms ++ x))) (refl, refl) (refl, refl) refl ▹ colon_mark
+members_spelled ps ms x h k = said (λ ws f. inl f) (sign_word signs.Properties (codes "properties") 58 (10 ∷ (flat_map property_text ps ++ (methods_text ms ++ x))) (refl, refl) (refl, refl) refl ▹ colon_mark
     ▹ line (all_spelled property one_more nowhere methods property_text IsProperty ms (methods_text ms ++ x) x property_spelled (λ s. methods_spelled s ms x k) 0 ps h))
 
 semicolon_ends : (x : List ℕ) → Ends (59 ∷ x)
@@ -101,16 +101,15 @@ entry_layout : (e : Entry) (x : List ℕ) → entry_text e ++ x ≡ entry_word_t
 unfolding entry_text
 entry_layout e x = append_assoc (entry_word_text e.is_default ++ e.interface) (codes ";\n") x ∙ append_assoc (entry_word_text e.is_default) e.interface (59 ∷ 10 ∷ x)
 
-entries_spelled : (s : EntriesSeen) (es : List Entry) (x : List ℕ) → AreEntries s es → Spells (listed entry entry_grow nowhere last_entry s es tt) (texts entry_text es ++ 125 ∷ 10 ∷ x) x
-unfolding texts
+entries_spelled : (s : EntriesSeen) (es : List Entry) (x : List ℕ) → AreEntries s es → Spells (listed entry entry_grow nowhere last_entry s es tt) (flat_map entry_text es ++ 125 ∷ 10 ∷ x) x
 entries_spelled s [] x h = said (λ ws f. (h, f)) (then_line finish_mark)
-entries_spelled s (e ∷ es) x h = at (append_assoc (entry_text e) (texts entry_text es) (125 ∷ 10 ∷ x) ∙ entry_layout e (texts entry_text es ++ 125 ∷ 10 ∷ x))
-    (said (λ ws f. (h.0, f)) (entry_form_spelled e.is_default e (texts entry_text es ++ 125 ∷ 10 ∷ x) h.1) ▹ left_out ▹ entries_spelled (entry_grow s e) es x h.2)
+entries_spelled s (e ∷ es) x h = at (append_assoc (entry_text e) (flat_map entry_text es) (125 ∷ 10 ∷ x) ∙ entry_layout e (flat_map entry_text es ++ 125 ∷ 10 ∷ x))
+    (said (λ ws f. (h.0, f)) (entry_form_spelled e.is_default e (flat_map entry_text es ++ 125 ∷ 10 ∷ x) h.1) ▹ left_out ▹ entries_spelled (entry_grow s e) es x h.2)
 
-pub coclass_spelled : (name : List ℕ) (es : List Entry) (x : List ℕ) → IsName name → AreEntries no_entry es → Spells (coclass name es) (codes "\ncoclass " ++ (name ++ (codes " {\n" ++ (texts entry_text es ++ 125 ∷ 10 ∷ x)))) x
+pub coclass_spelled : (name : List ℕ) (es : List Entry) (x : List ℕ) → IsName name → AreEntries no_entry es → Spells (coclass name es) (codes "\ncoclass " ++ (name ++ (codes " {\n" ++ (flat_map entry_text es ++ 125 ∷ 10 ∷ x)))) x
 unfolding is_in run passes
-coclass_spelled name es x n h = line (sign_word signs.Coclass (codes "coclass") 32 (name ++ (codes " {\n" ++ (texts entry_text es ++ 125 ∷ 10 ∷ x))) (refl, refl) (refl, refl) refl
-    ▹ blank (name_spelled name 32 (codes "{\n" ++ (texts entry_text es ++ 125 ∷ 10 ∷ x)) n (refl, refl)) ▹ blank begin_mark ▹ line (entries_spelled no_entry es x h) ▹ nothing_spelled)
+coclass_spelled name es x n h = line (sign_word signs.Coclass (codes "coclass") 32 (name ++ (codes " {\n" ++ (flat_map entry_text es ++ 125 ∷ 10 ∷ x))) (refl, refl) (refl, refl) refl
+    ▹ blank (name_spelled name 32 (codes "{\n" ++ (flat_map entry_text es ++ 125 ∷ 10 ∷ x)) n (refl, refl)) ▹ blank begin_mark ▹ line (entries_spelled no_entry es x h) ▹ nothing_spelled)
 
 -- ---- items
 
@@ -127,10 +126,10 @@ unfolding interface_text interface_line
 interface_layout d x = append_assoc (title_text d.guid interface_line d.name ++ properties_text d.properties) (methods_text d.methods) x ∙ append_assoc (title_text d.guid interface_line d.name) (properties_text d.properties) (methods_text d.methods ++ x)
     ∙ title_layout d.guid interface_line d.name (properties_text d.properties ++ (methods_text d.methods ++ x))
 
-coclass_layout : (c : CoclassValue) (x : List ℕ) → coclass_text c ++ x ≡ codes "[uuid(" ++ (digits_text c.guid ++ 41 ∷ 93 ∷ (codes "\ncoclass " ++ (c.name ++ (codes " {\n" ++ (texts entry_text c.entries ++ 125 ∷ 10 ∷ x)))))
+coclass_layout : (c : CoclassValue) (x : List ℕ) → coclass_text c ++ x ≡ codes "[uuid(" ++ (digits_text c.guid ++ 41 ∷ 93 ∷ (codes "\ncoclass " ++ (c.name ++ (codes " {\n" ++ (flat_map entry_text c.entries ++ 125 ∷ 10 ∷ x)))))
 unfolding coclass_text
-coclass_layout c x = append_assoc (title_text c.guid (codes "]\ncoclass ") c.name ++ texts entry_text c.entries) (codes "}\n") x ∙ append_assoc (title_text c.guid (codes "]\ncoclass ") c.name) (texts entry_text c.entries) (125 ∷ 10 ∷ x)
-    ∙ title_layout c.guid (codes "]\ncoclass ") c.name (texts entry_text c.entries ++ 125 ∷ 10 ∷ x)
+coclass_layout c x = append_assoc (title_text c.guid (codes "]\ncoclass ") c.name ++ flat_map entry_text c.entries) (codes "}\n") x ∙ append_assoc (title_text c.guid (codes "]\ncoclass ") c.name) (flat_map entry_text c.entries) (125 ∷ 10 ∷ x)
+    ∙ title_layout c.guid (codes "]\ncoclass ") c.name (flat_map entry_text c.entries ++ 125 ∷ 10 ∷ x)
 
 item_spelled : (i : Item) (x : List ℕ) → IsItem i → Spells (item i) (item_text i ++ x) x
 unfolding item_text
@@ -151,15 +150,14 @@ items_back : (is : List Item) → is ≡ items_in (contents is)
 items_back [] = refl
 items_back (i ∷ is) = ap (λ (xs : List Item). i ∷ xs) (items_back is)
 
-items_spelled : (s : ItemsSeen) (is : List Item) (x : List ℕ) → AllByRecursion IsItem is → Spells (listed (λ s. element) elements_grow semicolon_after closing s (contents is) tt) (texts item_text is ++ 125 ∷ 10 ∷ x) x
-unfolding texts
+items_spelled : (s : ItemsSeen) (is : List Item) (x : List ℕ) → AllByRecursion IsItem is → Spells (listed (λ s. element) elements_grow semicolon_after closing s (contents is) tt) (flat_map item_text is ++ 125 ∷ 10 ∷ x) x
 items_spelled s [] x h = then_line finish_mark
-items_spelled s (i ∷ is) x h = at (append_assoc (item_text i) (texts item_text is) (125 ∷ 10 ∷ x)) (element_spelled i (texts item_text is ++ 125 ∷ 10 ∷ x) h.0 ▹ left_out ▹ items_spelled (elements_grow s (OfItem i)) is x h.1)
+items_spelled s (i ∷ is) x h = at (append_assoc (item_text i) (flat_map item_text is) (125 ∷ 10 ∷ x)) (element_spelled i (flat_map item_text is ++ 125 ∷ 10 ∷ x) h.0 ▹ left_out ▹ items_spelled (elements_grow s (OfItem i)) is x h.1)
 
 given_spelled : {P : Type 0} {x : List ℕ} → P → Spells (given P) x x
 given_spelled p ws h = record { words = []; form = record { fact = p; none = refl }; has = h }
 
-elements_spelled : (is : List Item) (x : List ℕ) → AllByRecursion IsItem is → Spells (elements is) (texts item_text is ++ 125 ∷ 10 ∷ x) x
+elements_spelled : (is : List Item) (x : List ℕ) → AllByRecursion IsItem is → Spells (elements is) (flat_map item_text is ++ 125 ∷ 10 ∷ x) x
 unfolding elements
 elements_spelled is x h = with_spelled (λ es. listed (λ s. element) elements_grow semicolon_after closing no_items es tt) (λ es. given (is ≡ items_in es)) (contents is) (items_spelled no_items is x h) (given_spelled (items_back is))
 
@@ -170,10 +168,10 @@ unfolding version_text
 version_layout v y = append_assoc (codes ", version(" ++ decimal v.major ++ codes "." ++ decimal v.minor) (codes ")]\nlibrary ") y ∙ append_assoc (codes ", version(" ++ decimal v.major ++ codes ".") (decimal v.minor) (codes ")]\nlibrary " ++ y)
     ∙ append_assoc (codes ", version(" ++ decimal v.major) (codes ".") (decimal v.minor ++ (codes ")]\nlibrary " ++ y))
 
-tree_layout : (t : TreeValue) → canonical t ≡ codes "[uuid(" ++ (digits_text t.guid ++ (codes "), version(" ++ (decimal t.version.major ++ 46 ∷ (decimal t.version.minor ++ 41 ∷ 93 ∷ (codes "\nlibrary " ++ (t.name ++ (codes " {\n" ++ (texts item_text t.items ++ 125 ∷ 10 ∷ []))))))))
+tree_layout : (t : TreeValue) → canonical t ≡ codes "[uuid(" ++ (digits_text t.guid ++ (codes "), version(" ++ (decimal t.version.major ++ 46 ∷ (decimal t.version.minor ++ 41 ∷ 93 ∷ (codes "\nlibrary " ++ (t.name ++ (codes " {\n" ++ (flat_map item_text t.items ++ 125 ∷ 10 ∷ []))))))))
 unfolding canonical
-tree_layout t = append_assoc (title_text t.guid (version_text t.version) t.name) (texts item_text t.items) (codes "}\n") ∙ title_layout t.guid (version_text t.version) t.name (texts item_text t.items ++ 125 ∷ 10 ∷ [])
-    ∙ ap (λ (bs : List ℕ). codes "[uuid(" ++ (digits_text t.guid ++ 41 ∷ bs)) (version_layout t.version (t.name ++ (codes " {\n" ++ (texts item_text t.items ++ 125 ∷ 10 ∷ []))))
+tree_layout t = append_assoc (title_text t.guid (version_text t.version) t.name) (flat_map item_text t.items) (codes "}\n") ∙ title_layout t.guid (version_text t.version) t.name (flat_map item_text t.items ++ 125 ∷ 10 ∷ [])
+    ∙ ap (λ (bs : List ℕ). codes "[uuid(" ++ (digits_text t.guid ++ 41 ∷ bs)) (version_layout t.version (t.name ++ (codes " {\n" ++ (flat_map item_text t.items ++ 125 ∷ 10 ∷ []))))
 
 -- all of a library but the end of its text
 abbrev opened : TreeValue → List Word → Type 0
@@ -181,8 +179,8 @@ opened t = head true (head_at t.guid t.version) ▸ sign signs.Library ▸ one n
 
 tree_spelled : (t : TreeValue) → IsPrintable t → Spells (opened t) (canonical t) []
 unfolding is_in run passes
-tree_spelled t h = at (tree_layout t) (library_head_spelled t.guid t.version _ h.guid h.version ▹ line (sign_word signs.Library (codes "library") 32 (t.name ++ (codes " {\n" ++ (texts item_text t.items ++ 125 ∷ 10 ∷ []))) (refl, refl) (refl, refl) refl)
-    ▹ blank (name_spelled t.name 32 (codes "{\n" ++ (texts item_text t.items ++ 125 ∷ 10 ∷ [])) h.name (refl, refl)) ▹ blank begin_mark ▹ line (elements_spelled t.items [] h.items))
+tree_spelled t h = at (tree_layout t) (library_head_spelled t.guid t.version _ h.guid h.version ▹ line (sign_word signs.Library (codes "library") 32 (t.name ++ (codes " {\n" ++ (flat_map item_text t.items ++ 125 ∷ 10 ∷ []))) (refl, refl) (refl, refl) refl)
+    ▹ blank (name_spelled t.name 32 (codes "{\n" ++ (flat_map item_text t.items ++ 125 ∷ 10 ∷ [])) h.name (refl, refl)) ▹ blank begin_mark ▹ line (elements_spelled t.items [] h.items))
 
 goes_on : {F G H : List Word → Type 0} (after : List Word) → ((ws : List Word) → G ws → H (ws ++ after)) → (ws : List Word) → (F ▸ G) ws → (F ▸ H) (ws ++ after)
 goes_on after next ws f = record { front = f.front; back = f.back ++ after; parts = ap (λ (vs : List Word). vs ++ after) f.parts ∙ append_assoc f.front f.back after; first = f.first; second = next f.back f.second }

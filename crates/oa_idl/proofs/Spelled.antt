@@ -1,6 +1,6 @@
 -- Bytes that spell a form: its words stand at their front, before those of the bytes that follow.
 use Rattle.std.proofs.Common.{◌≡◌, ℕ, suc, ◌+◌, ◌<◌, Bool, true, List, [], ◌∷◌, ◌++◌, length, take, drop, Option, Some, refl, sym, ap, subst, ◌∙◌, append_assoc, arith}
-use Rattle.std.specs.List.{AllByRecursion}
+use Rattle.std.specs.List.{AllByRecursion, flat_map}
 use Rattle.std.proofs.Math.Logic.{inr}
 use Rattle.std.proofs.Math.Seq.{take-append_seam, drop-append_seam}
 use Rattle.oa_idl.specs.declared.lexer.Kind.{Kind}
@@ -14,7 +14,6 @@ use Rattle.oa_idl.specs.Forms.{Form, Then, ◌▸◌, nothing, given, this, one,
 use Rattle.oa_idl.specs.Forms as forms
 use Rattle.oa_idl.specs.Words.{passes}
 use Rattle.oa_idl.specs.Grammar.{sign, next_attribute, last_attribute, attributes}
-use Rattle.oa_idl.specs.Canonical.{texts}
 use Rattle.oa_idl.specs.Printable.{IsNameText}
 use Rattle.oa_idl.proofs.PrintedTokens.{word, HasWords, Ends, name_front}
 use Rattle.oa_idl.proofs.PrintedTokens.HasWords.{Skip, Take}
@@ -144,11 +143,10 @@ whole_word {F} k text x some is f = one_word k (length text) (text ++ x) x text 
 -- a list whose items do not depend on those before
 pub all_spelled : {S A B : Type 0} (F : A → List forms.Word → Type 0) (grow : S → A → S) (apart : A → forms.Word → Bool) (E : S → B → List forms.Word → Type 0) (text : A → List ℕ) (P : A → Type 0) (b : B) (y z : List ℕ)
     → ((a : A) (x : List ℕ) → P a → Spells (F a) (text a ++ x) x) → ((s : S) → Spells (E s b) y z)
-    → (s : S) (all : List A) → AllByRecursion P all → Spells (listed (λ s. F) grow apart E s all b) (texts text all ++ y) z
-unfolding texts
+    → (s : S) (all : List A) → AllByRecursion P all → Spells (listed (λ s. F) grow apart E s all b) (flat_map text all ++ y) z
 all_spelled F grow apart E text P b y z each ends s [] h = ends s
 all_spelled F grow apart E text P b y z each ends s (a ∷ all) h =
-    at (append_assoc (text a) (texts text all) y) (each a (texts text all ++ y) h.0 ▹ (left_out ▹ all_spelled F grow apart E text P b y z each ends (grow s a) all h.1))
+    at (append_assoc (text a) (flat_map text all) y) (each a (flat_map text all ++ y) h.0 ▹ (left_out ▹ all_spelled F grow apart E text P b y z each ends (grow s a) all h.1))
 
 -- ---- attributes
 

@@ -330,9 +330,6 @@ not_after Import (w ∷ words) h = refl
 not_after (OfItem x) [] h = refl
 not_after (OfItem x) (w ∷ words) h = h
 
-abbrev contents_of : List Content × Unit {0} → List Content
-contents_of p = p.0
-
 contents_parses : {n : ℕ} → Parses n Always (λ p. listed (λ s. element) elements_grow semicolon_after closing no_items p.0 p.1) (λ l p. KeepsFrom elements_grow (λ s x. ContentKeeps s l x) Nothing no_items p.0 p.1) (λ p. KeepsFrom elements_grow ContentKept Nothing no_items p.0 p.1) (list_at (passes signs.Finish) semicolon_after element_at elements_grow closing_at no_items)
 contents_parses {n} = list_parses elements_grow (passes signs.Finish) semicolon_after (λ n s. element_parses s) closing_parses (λ s x text f. element_some x text f) (λ s x text more f. element_heads signs.Finish refl refl x text more f)
     (λ s b text more f. this_heads (passes signs.Finish) text more f) (λ y s x text more f. not_after y (text ++ more) (element_heads signs.Semicolon refl refl x text more f)) (λ y s b text more f. not_after y (text ++ more) (one_sign_heads signs.Semicolon signs.Finish refl text more f)) n no_items

@@ -9,8 +9,9 @@ ghost use Rattle.oa_record.specs.declared.request.Request.{Request as ARequest};
 ghost use Rattle.oa_record.specs.Replies.{ReplyValue};
 ghost use Rattle.oa_fits.specs.Fits.{fits};
 ghost use Rattle.oa_server.specs.Decisions.{IsQuiet};
+ghost use Rattle.oa_server.specs.Openings.{CanBegin};
 ghost use Rattle.oa_server.specs.OwnCodes.{is_own};
-ghost use Rattle.oa_server.specs.Requests.{held_of, requests};
+ghost use Rattle.oa_server.specs.Requests.{held_of, opened, requests};
 ghost use Rattle.oa_server.specs.States.{State};
 ghost use Rattle.oa_server.specs.Steps.{outcome, reply_of};
 ghost use Rattle.oa_server.specs.Traces.{done_bodies, done_replies, kept_bodies, kept_replies};
@@ -19,6 +20,8 @@ ghost use Rattle.oa_disk.specs.Disk.{LeavesOnly};
 ghost use Rattle.oa_keeper.specs.Kept.{AllHold};
 ghost use Rattle.oa_store.specs.Stores.{IsStore};
 ghost use Rattle.oa_store.specs.declared.store.Store.{Store as AStore};
+ghost use Rattle.oa_idl.specs.Trees.{TreeValue};
+ghost use Rattle.oa_table.specs.Tables.{first_table};
 ghost use Rattle.oa_typelib.specs.Checked.{IsChecked};
 
 use oa_disk::Disk;
@@ -40,6 +43,17 @@ pub fn fits_stays()
         → (new.library ≡ old.library) × (fits new.library new.table ≡ true) }
     ensures run { (old new : State) (bodies : List (List ℕ)) (replies : List ReplyValue) → IsChecked old.library → fits old.library old.table ≡ true → Run old bodies replies new
         → (new.library ≡ old.library) × (fits new.library new.table ≡ true) }
+{
+    changes_that_fit();
+}
+
+/// What was served can be served again, whatever its sessions were and wherever they stopped: from a state with which a server can begin, each turn leaves one, and so do those of groups;
+/// an opening, with which locks end, finds one; and a new store has one.
+pub fn what_was_served_is_served_again()
+    ensures turn { (old new : State) (body : List ℕ) (reply : ReplyValue) → CanBegin old → Turn old body reply new → (new.library ≡ old.library) × CanBegin new }
+    ensures groups { (old new : State) (entries : List (Entry ReplyValue)) → CanBegin old → RunOf requests old entries new → (new.library ≡ old.library) × CanBegin new }
+    ensures opened { (state : State) → CanBegin state → CanBegin (opened state) }
+    ensures first { (library : TreeValue) → IsChecked library → CanBegin (record { library = library; table = first_table }) }
 {
     changes_that_fit();
 }

@@ -7,7 +7,7 @@ use Rattle.oa_store.specs.Stores.{IsStore}
 use Rattle.oa_store.specs.declared.store.Store.{Store}
 use Rattle.oa_keeper.specs.Kept.{AllHold}
 use Rattle.oa_groups.specs.Groups.{joined}
-use Rattle.oa_groups.specs.History.{IsServedFrom, Session}
+use Rattle.oa_groups.specs.History.{IsStopped, Session}
 use Rattle.oa_groups.specs.Runs.{IsAfter, IsRun, Run}
 use Rattle.oa_groups.specs.Served.{IsServed}
 use Rattle.oa_groups.specs.Sessions.{by_then, Call, Calls, IsCalled, IsSession, Sitting}
@@ -40,6 +40,21 @@ come_all moment (m ∷ moments) below = by (nat_le m moment) refl (come_all mome
     by : (b : Bool) → nat_le m moment ≡ b → by_then moment moments ≡ length moments → (if b then suc (by_then moment moments) else 0) ≡ suc (length moments)
     by true is rest = ap suc rest
     by false is rest = let no : moment < m = search (is, rules) in absurd (omega (arith, no, below 0 m refl))
+
+-- those at the front have come
+come_front : (moment : ℕ) (moments others : List ℕ) → ((j k : ℕ) → slice_get moments j ≡ Some k → k ≤ moment) → length moments ≤ by_then moment (moments ++ others)
+come_front moment [] others below = omega arith
+come_front moment (m ∷ moments) others below = by (nat_le m moment) refl (come_front moment moments others (λ j k is. below (suc j) k is))
+  where
+    by : (b : Bool) → nat_le m moment ≡ b → length moments ≤ by_then moment (moments ++ others) → suc (length moments) ≤ (if b then suc (by_then moment (moments ++ others)) else 0)
+    by true is rest = omega (arith, rest)
+    by false is rest = let no : moment < m = search (is, rules) in absurd (omega (arith, no, below 0 m refl))
+
+-- all moments but the start's, and more behind them
+come_before : (moment count : ℕ) (moments others all : List ℕ) → all ≡ moments ++ others → length moments ≡ count + 1 → ((j k : ℕ) → slice_get moments j ≡ Some k → k ≤ moment) → count ≤ by_then moment (drop 1 all)
+come_before moment count [] others all are size below = absurd (omega (arith, size))
+come_before moment count (m0 ∷ rest) others all are size below =
+    let come = come_front moment rest others (λ j k is. below (suc j) k is) in subst (λ (l : List ℕ). count ≤ by_then moment (drop 1 l)) (sym are) (omega (arith, size, come))
 
 module _ {S R : Type 0} (t : Turns S R) where
   -- one call more
@@ -91,7 +106,7 @@ module _ {S R : Type 0} (t : Turns S R) where
 
   module _ {D : Type 0} {g : Ghosts D} (start : D) (mid new : Store D g) (library : List ℕ) (first last after : S) (calls : List (Call R)) (call : Call R) (was : Sitting t start mid library first last calls)
       (is : IsServed t call.size mid new last after call.bodies call.replies) where
-    abbrev pub chained : (moments : List ℕ) × IsRun t g.moment g.image_since start new.disk library first (was.session.groups ++ (is.groups ++ is.faulted)) (length was.session.groups + length is.groups) moments
+    abbrev pub chained : (moments : List ℕ) × ((later : List ℕ) × (moments ≡ was.session.moments ++ later)) × IsRun t g.moment g.image_since start new.disk library first (was.session.groups ++ (is.groups ++ is.faulted)) (length was.session.groups + length is.groups) moments
     chained =
         let own = is.moments was.all in
         run_joined t g.moment g.image_since library first last start mid.disk new.disk was.session.groups (is.groups ++ is.faulted) (length is.groups) was.session.moments own.0 was.run
@@ -106,8 +121,12 @@ module _ {S R : Type 0} (t : Turns S R) where
       served = calls_push first calls was.session.groups was.session.count last call (is.groups ++ is.faulted) (length is.groups) after was.session.served
           (record { answered = is.groups; faulted = is.faulted; others = is.others; served = is.served; groups_are = refl; count_is = refl });
       moments = chained.0;
-      run = subst (λ (n : ℕ). IsRun t g.moment g.image_since start new.disk library first (was.session.groups ++ (is.groups ++ is.faulted)) (n + length is.groups) chained.0) (sym was.whole) chained.1;
+      run = subst (λ (n : ℕ). IsRun t g.moment g.image_since start new.disk library first (was.session.groups ++ (is.groups ++ is.faulted)) (n + length is.groups) chained.0) (sym was.whole) chained.2;
     }
+
+    -- all that was answered before it counts from then on
+    pub session_stands : (m : ℕ) → g.moment mid.disk ≤ m → was.session.count ≤ by_then m (drop 1 session_called.moments)
+    session_stands m le = come_before m was.session.count was.session.moments chained.1.0 chained.0 chained.1.1 was.session.run.one_each (λ j k at. omega (arith, was.session.run.past j k at, le))
 
     -- and without a fault the session goes on
     pub session_goes_on : new.stopped ≡ false → Sitting t start new library first after (calls ++ call ∷ [])
@@ -138,12 +157,24 @@ module _ {S R : Type 0} (t : Turns S R) where
       by (m0 ∷ rest) size below = come_all m rest (λ j k is. below (suc j) k is) ∙ omega (arith, size)
 
   -- as a link of the history of a store
-  pub session_left : {D : Type 0} (moment : D → ℕ) (image_since : D → ℕ → List ℕ → Type 0) (old new : D) (library : List ℕ) (first : S) (calls : List (Call R)) (last : S)
-      → IsSession t moment image_since old new library first calls last → (m : ℕ) (c : List ℕ) → moment old ≤ m → ((k : ℕ) → k ≤ m → image_since new k c)
-      → (session : Session R) × (session.calls ≡ calls) × IsServedFrom t first session × IsAfter t session.count library first session.groups c
-  session_left moment image_since old new library first calls last session m c later since = (
+  pub session_left : {D : Type 0} (g : Ghosts D) (old new : D) (library : List ℕ) (first : S) (calls : List (Call R)) (last : S) (session : IsSession t g.moment g.image_since old new library first calls last) (m : ℕ) (c : List ℕ)
+      → g.moment old ≤ m → ((k : ℕ) → k ≤ m → g.image_since new k c)
+      → (link : Session R) × (link.calls ≡ calls) × (link.groups ≡ session.groups) × IsStopped t g library first link (g.contents old) c × IsAfter t link.count library first link.groups c
+  session_left g old new library first calls last session m c later since = (
     record { calls = calls; groups = session.groups; count = by_then m (drop 1 session.moments) },
     refl,
-    (session.count, last, session.served),
-    session_stopped moment image_since old new library first calls last session m c later since,
+    refl,
+    record {
+      start = old;
+      now = new;
+      begins = refl;
+      last = last;
+      work = session;
+      groups_are = refl;
+      stop = m;
+      began = later;
+      count_is = refl;
+      may_be_left = since;
+    },
+    session_stopped g.moment g.image_since old new library first calls last session m c later since,
   )

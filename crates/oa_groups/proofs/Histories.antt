@@ -1,5 +1,6 @@
 -- Sessions that were stopped.
-use Rattle.std.proofs.Common.{◌≡◌, ◌≤◌, ℕ, zero, suc, Bool, true, false, if◌then◌else◌, List, [], ◌∷◌, ◌++◌, length, take, refl, sym, ◌∙◌, ap, subst, arith, append_assoc}
+use Rattle.std.proofs.Common.{◌≡◌, ℕ, Bool, true, false, if◌then◌else◌, List, [], ◌∷◌, refl, subst}
+use Rattle.oa_disk.specs.declared.disk.Disk.{Ghosts}
 use Rattle.oa_store.specs.Stores.{IsStore}
 use Rattle.oa_groups.specs.Groups.{joined}
 use Rattle.oa_groups.specs.History.{Session, Keeps, KeepsEach, RunEach, Sessions, accepted, accepted_each}
@@ -23,21 +24,22 @@ module _ {S R : Type 0} (t : Turns S R) where
   pub keeps : (session : Session R) (library : List ℕ) (first : S) (image : List ℕ) (is : IsAfter t session.count library first session.groups image) → Keeps session (joined is.done)
   keeps session library first image is = record { done = is.done; later = is.later; groups_are = is.groups_are; kept_are = refl; enough = is.enough }
 
-  runs_each : (library : List ℕ) (state : S) (old : List ℕ) (sessions : List (Session R)) (new : List ℕ) → Sessions t library state old sessions new → IsStore old library (t.held state)
-      → (kept : List (List (Entry R))) × (last : S) × KeepsEach sessions kept × RunEach t state kept last × IsStore new library (t.held last)
-  runs_each library state old [] new same is = ([], state, tt, refl, subst (λ (c : List ℕ). IsStore c library (t.held state)) same is)
-  runs_each library state old (session ∷ sessions) new all is =
-      let after = all.2 in
-      let rest = runs_each library after.state all.1 sessions new all.3 after.holds in (
-        joined after.done ∷ rest.0,
-        rest.1,
-        (keeps session library (t.opened state) all.1 after, rest.2),
-        (after.state, after.run, rest.3),
-        rest.4,
-      )
+  module _ {D : Type 0} (g : Ghosts D) where
+    runs_each : (library : List ℕ) (state : S) (old : List ℕ) (sessions : List (Session R)) (new : List ℕ) → Sessions t g library state old sessions new → IsStore old library (t.held state)
+        → (kept : List (List (Entry R))) × (last : S) × KeepsEach sessions kept × RunEach t state kept last × IsStore new library (t.held last)
+    runs_each library state old [] new same is = ([], state, tt, refl, subst (λ (c : List ℕ). IsStore c library (t.held state)) same is)
+    runs_each library state old (session ∷ sessions) new all is =
+        let after = all.2 in
+        let rest = runs_each library after.state all.0 sessions new all.3 after.holds in (
+          joined after.done ∷ rest.0,
+          rest.1,
+          (keeps session library (t.opened state) all.0 after, rest.2),
+          (after.state, after.run, rest.3),
+          rest.4,
+        )
 
-  -- Wherever sessions are stopped, each opened on what the stop of the one before has left.
-  pub headline : (library : List ℕ) (state : S) (old : List ℕ) (sessions : List (Session R)) (new : List ℕ) → Sessions t library state old sessions new → IsStore old library (t.held state)
-      → (kept : List (List (Entry R))) × (last : S) × KeepsEach sessions kept × RunEach t state kept last × RunEach t state (accepted_each t kept) last × IsStore new library (t.held last)
-  headline library state old sessions new all is =
-      let runs = runs_each library state old sessions new all is in (runs.0, runs.1, runs.2, runs.3, each_no_trace state runs.0 runs.1 runs.3, runs.4)
+    -- Wherever sessions are stopped, each opened on what the stop of the one before has left.
+    pub headline : (library : List ℕ) (state : S) (old : List ℕ) (sessions : List (Session R)) (new : List ℕ) → Sessions t g library state old sessions new → IsStore old library (t.held state)
+        → (kept : List (List (Entry R))) × (last : S) × KeepsEach sessions kept × RunEach t state kept last × RunEach t state (accepted_each t kept) last × IsStore new library (t.held last)
+    headline library state old sessions new all is =
+        let runs = runs_each library state old sessions new all is in (runs.0, runs.1, runs.2, runs.3, each_no_trace state runs.0 runs.1 runs.3, runs.4)

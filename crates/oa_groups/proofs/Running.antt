@@ -163,13 +163,14 @@ module _ {S R : Type 0} (t : Turns S R) where
     -- one call of run behind another
     pub run_joined : (old mid new : D) (groups more : List (List (Entry R))) (count : ℕ) (moments others : List ℕ) → Run t first (joined groups) state
         → IsRun t moment image_since old mid library first groups (length groups) moments → IsRun t moment image_since mid new library state more count others
-        → (x : List ℕ) × IsRun t moment image_since old new library first (groups ++ more) (length groups + count) x
+        → (x : List ℕ) × ((y : List ℕ) × (x ≡ moments ++ y)) × IsRun t moment image_since old new library first (groups ++ more) (length groups + count) x
     run_joined old mid new groups more count moments [] stands run next = absurd (none_there next.start)
       where
         none_there : slice_get [] 0 ≡ Some (moment mid) → ⊥
         none_there e = absurd (cc)
     run_joined old mid new groups more count moments (m ∷ others) stands run next = (
       moments ++ others,
+      (others, refl),
       record {
         start = get_front moments others (moment old) run.start;
         rises = rises_join (moment old) moments (moment mid) others run.rises run.past (run.past 0 _ run.start) (rises_lower m (moment mid) others next.rises.0 next.rises.1);

@@ -8,10 +8,10 @@ use Rattle.oa_store.specs.declared.store.Store.{Store}
 use Rattle.oa_table.specs.Tables.{TableValue}
 use Rattle.oa_keeper.specs.Kept.{AllHold}
 use Rattle.oa_keeper.proofs.Committed.{no_change}
-use Rattle.oa_groups.specs.Desks.{Desk, IsHeld, IsSettled, IsFailed, IsOver, IsTaken, IsEnded}
+use Rattle.oa_groups.specs.Desks.{CallsFor, Desk, IsHeld, IsSettled, IsFailed, IsOver, IsTaken, IsEnded}
 use Rattle.oa_groups.specs.Going.{IsCut, IsGroup, IsEnd, Going, Faulted, Underway}
-use Rattle.oa_groups.specs.Groups.{events_in, fills, groups_of, is_full, joined, rest_of}
-use Rattle.oa_groups.specs.Runs.{IsAfter, IsRun, Run}
+use Rattle.oa_groups.specs.Groups.{IsWhole, events_in, fills, groups_of, is_full, joined, rest_of}
+use Rattle.oa_groups.specs.Runs.{AllQuiet, IsAfter, IsRun, Run}
 use Rattle.oa_groups.specs.Served.{Goes, IsServed}
 use Rattle.oa_groups.specs.Turns.{Entry, Turns, body_of, entry, reply_of}
 use Rattle.oa_groups.proofs.Entries.{cut_ends, cut_holds, cut_last, cut_one, either, ends_after, events_push, full_group, group_ends, joined_push, run_append, run_replays}
@@ -25,6 +25,7 @@ goes_nowhere store = record {
   failures = omega arith;
   stops = λ was is. absurd (true≢false (sym is ∙ was));
   stays = λ was. (was, refl);
+  unfailed = λ going. refl;
 }
 
 -- one call and then others
@@ -35,11 +36,31 @@ goes_on {D} {g} old mid new one two = record {
   failures = omega (arith, one.failures, two.failures);
   stops = λ was is small. by (mid.stopped) refl was is small;
   stays = λ was. let here = one.stays was in let there = two.stays here.0 in (there.0, there.1 ∙ here.1);
+  unfailed = λ going. two.unfailed going ∙ one.unfailed (on mid.stopped refl going);
 }
   where
     by : (b : Bool) → mid.stopped ≡ b → old.stopped ≡ false → new.stopped ≡ true → g.failures_of new.disk < 2 ^ 64 - 1 → g.failures_of old.disk < g.failures_of new.disk
     by false at was is small = let rose = two.stops at is small in omega (arith, one.failures, rose)
     by true at was is small = let rose = one.stops was at (omega (arith, two.failures, small)) in omega (arith, two.failures, rose)
+
+    -- what has stopped does not go on
+    on : (b : Bool) → mid.stopped ≡ b → new.stopped ≡ false → mid.stopped ≡ false
+    on false at going = at
+    on true at going = absurd (true≢false (sym (two.stays at).0 ∙ going))
+
+no_group : {X : Type 0} (x : X) → [] ≡ x ∷ [] → ⊥
+no_group x e = absurd cc
+
+one_group : {X : Type 0} (x y : X) → x ∷ [] ≡ y ∷ [] → x ≡ y
+one_group x y e = cc
+
+no_bytes : (bytes : List ℕ) → length bytes ≡ 0 → bytes ≡ []
+no_bytes [] none = refl
+no_bytes (b ∷ bytes) none = absurd (omega (arith, none))
+
+-- a group that is not full at its fault has no event
+joined_events : {R : Type 0} (held : List (Entry R)) (asked : Entry R) → length (events_in held) ≡ 0 → asked.event ≡ [] → events_in (held ++ asked ∷ []) ≡ []
+joined_events held asked none empty = events_push held asked ∙ ap (λ (l : List ℕ). events_in held ++ l) empty ∙ append-nil (events_in held) ∙ no_bytes (events_in held) none
 
 no_entry : {R : Type 0} (held : List (Entry R)) → map reply_of held ≡ [] → held ≡ []
 no_entry [] is = refl
@@ -50,6 +71,18 @@ some_entry [] some = absurd (some refl)
 some_entry (asked ∷ held) some = omega arith
 
 module _ {S R : Type 0} (t : Turns S R) where
+  quiet_front : (front back : List (Entry R)) → AllQuiet t (front ++ back) → AllQuiet t front
+  quiet_front [] back quiet = tt
+  quiet_front (asked ∷ front) back quiet = (quiet.0, quiet.1, quiet_front front back quiet.2)
+
+  quiet_back : (front back : List (Entry R)) → AllQuiet t (front ++ back) → AllQuiet t back
+  quiet_back [] back quiet = quiet
+  quiet_back (asked ∷ front) back quiet = quiet_back front back quiet.2
+
+  quiet_bytes : (entries : List (Entry R)) → AllQuiet t entries → length (events_in entries) ≡ 0
+  quiet_bytes [] quiet = refl
+  quiet_bytes (asked ∷ entries) quiet = ap (λ (l : List ℕ). length (l ++ events_in entries)) quiet.0 ∙ quiet_bytes entries quiet.2
+
   run_one : (old : S) (asked : Entry R) (new : S) → t.Turn asked old new → Run t old (asked ∷ []) new
   run_one old asked new turn = (new, turn, refl)
 
@@ -84,6 +117,7 @@ module _ {S R : Type 0} (t : Turns S R) where
       events_are = empty;
       stands = refl;
       runs = refl;
+      quiet = λ quiet. refl;
       all = λ begins. begins;
       moments = λ begins. (_, run_started t g.moment g.image_since library first start.store.disk (λ c since. (start.store.chosen, start.store.bank.gate, begins.1 c (only start.store.disk c begins.0 since))));
     }
@@ -102,6 +136,7 @@ module _ {S R : Type 0} (t : Turns S R) where
       events_are = was.events_are;
       stands = was.stands;
       runs = was.runs;
+      quiet = was.quiet;
       all = was.all;
       moments = was.moments;
     }
@@ -117,6 +152,18 @@ module _ {S R : Type 0} (t : Turns S R) where
       under : (c : List ℕ) (table : TableValue) → IsStore c old.store.library.items table → IsStore c library table
       under c table is = subst (λ (l : List ℕ). IsStore c l table) same is
 
+      -- without an event nothing is called
+      still : (asked : Entry R) (new : Desk S R D g) → IsHeld t asked old new → AllQuiet t ((joined was.groups ++ was.held) ++ asked ∷ []) → new.store.disk ≡ start.store.disk
+      still asked new one quiet = by one.calls ∙ was.quiet (quiet_front (joined was.groups ++ was.held) (asked ∷ []) quiet)
+        where
+          own : AllQuiet t (asked ∷ [])
+          own = quiet_back (joined was.groups ++ was.held) (asked ∷ []) quiet
+
+          by : CallsFor old.store new.store asked.event (t.is_starved asked.reply) → new.store.disk ≡ old.store.disk
+          by (inl same) = same
+          by (inr (inl some)) = absurd (omega (arith, some, ap length own.0))
+          by (inr (inr starved)) = absurd (true≢false (sym starved ∙ own.1))
+
       -- a request more is held
       going_held : (C' : List (List (Entry R)) → List (Entry R) → Type 0) (asked : Entry R) (new : Desk S R D g) → C' was.groups (was.held ++ asked ∷ []) → IsHeld t asked old new → Going t C' start new (bodies ++ asked.body ∷ []) out
       going_held C' asked new cuts one = record {
@@ -130,6 +177,8 @@ module _ {S R : Type 0} (t : Turns S R) where
         events_are = one.events ∙ ap (λ (l : List ℕ). l ++ asked.event) was.events_are ∙ sym (events_push was.held asked);
         stands = was.stands;
         runs = run_append t was.committed was.held old.state (asked ∷ []) new.state was.runs (run_one old.state asked new.state one.turn);
+        quiet = λ quiet. still asked new one
+            (subst (λ (l : List (Entry R)). AllQuiet t l) (sym (append_assoc (joined was.groups) was.held (asked ∷ []))) quiet);
         all = λ begins. one.each (t.held was.committed) none_made (was.all begins);
         moments = λ begins. let before = was.moments begins in (
           before.0,
@@ -187,6 +236,9 @@ module _ {S R : Type 0} (t : Turns S R) where
             events_are = well.2;
             stands = subst (λ (s : S). Run t first (joined grown) s) (sym one.state) stood;
             runs = refl;
+            quiet = λ quiet.
+                let before = subst (λ (l : List (Entry R)). AllQuiet t l) (append-nil (joined grown) ∙ joined_push was.groups was.held) quiet in
+                one.quiet (ap length was.events_are ∙ quiet_bytes was.held (quiet_back (joined was.groups) was.held before)) ∙ was.quiet before;
             all = λ begins. subst (λ (s : S). AllHold new.store (t.held s)) (sym one.state) (one.each going (t.held was.committed) makes (was.all begins));
             moments = λ begins.
                 let on = during told new one begins in
@@ -199,12 +251,14 @@ module _ {S R : Type 0} (t : Turns S R) where
           }
 
       -- it could not be committed, and its replies are taken back
-      going_breaks : (size : ℕ) (told : List R) (new : Desk S R D g) → new.store.stopped ≡ true → IsGroup size was.groups was.held → IsSettled t told old new → Faulted t size start new bodies (out ++ told)
-      going_breaks size told new stopped ends one = record {
+      going_breaks : (size : ℕ) (W : List (Entry R) → List (List ℕ) → Type 0) (told : List R) (new : Desk S R D g) → W was.held [] → new.store.stopped ≡ true → IsGroup size was.groups was.held → IsSettled t told old new
+          → Faulted t size W start new bodies (out ++ told)
+      going_breaks size W told new whole stopped ends one = record {
         groups = was.groups;
         group = was.held;
         others = [];
         cuts = ends;
+        whole = whole;
         bodies_are = was.bodies_are ∙ sym (append-nil (map body_of (joined was.groups ++ was.held)));
         replies_are = ap (λ (l : List R). l ++ told) was.out_are
             ∙ ap (λ (l : List R). map reply_of (joined was.groups) ++ l)
@@ -214,7 +268,7 @@ module _ {S R : Type 0} (t : Turns S R) where
       }
 
       -- the checkpoint before its event failed: the group ends with this request
-      going_fails : (size : ℕ) (body : List ℕ) (told : List R) (new : Desk S R D g) → IsCut size was.groups was.held → IsFailed t body told old new → Faulted t size start new (bodies ++ body ∷ []) (out ++ told)
+      going_fails : (size : ℕ) (body : List ℕ) (told : List R) (new : Desk S R D g) → IsCut size was.groups was.held → IsFailed t body told old new → Faulted t size (λ group others. IsWhole size group) start new (bodies ++ body ∷ []) (out ++ told)
       going_fails size body told new cuts one =
           let asked : Entry R = entry body one.reply one.event in
           let group = was.held ++ asked ∷ [] in
@@ -223,6 +277,7 @@ module _ {S R : Type 0} (t : Turns S R) where
             group = group;
             others = [];
             cuts = cut_one size was.groups was.held asked cuts;
+            whole = inr (joined_events was.held asked (sym (ap length was.events_are) ∙ one.first) one.none);
             bodies_are = ap (λ (l : List (List ℕ)). l ++ body ∷ []) was.bodies_are ∙ sym (map-append body_of (joined was.groups ++ was.held) (asked ∷ []))
                 ∙ ap (λ (l : List (Entry R)). map body_of l) (append_assoc (joined was.groups) was.held (asked ∷ [])) ∙ sym (append-nil (map body_of (joined was.groups ++ group)));
             replies_are = ap (λ (l : List R). l ++ told) was.out_are
@@ -244,26 +299,28 @@ module _ {S R : Type 0} (t : Turns S R) where
     over_moments old new groups count same moments begins =
         let before = moments begins in (before.0, subst (λ (d : D). IsRun t g.moment g.image_since start.store.disk d library first groups count before.0) (sym same) before.1)
 
-    faulted_as : (size : ℕ) (old new : Desk S R D g) (bodies : List (List ℕ)) (replies more : List R) → more ≡ replies → new.store.disk ≡ old.store.disk → new.state ≡ old.state
-        → Faulted t size start old bodies replies → Faulted t size start new bodies more
-    faulted_as size old new bodies replies more told disk state was = record {
+    faulted_as : (size : ℕ) (W W' : List (Entry R) → List (List ℕ) → Type 0) → ((group : List (Entry R)) (others : List (List ℕ)) → W group others → W' group others) → (old new : Desk S R D g) (bodies : List (List ℕ)) (replies more : List R) → more ≡ replies → new.store.disk ≡ old.store.disk → new.state ≡ old.state
+        → Faulted t size W start old bodies replies → Faulted t size W' start new bodies more
+    faulted_as size W W' weaker old new bodies replies more told disk state was = record {
       groups = was.groups;
       group = was.group;
       others = was.others;
       cuts = was.cuts;
+      whole = weaker was.group was.others was.whole;
       bodies_are = was.bodies_are;
       replies_are = told ∙ was.replies_are;
       run = subst (λ (s : S). Run t first (joined was.groups ++ was.group) s) (sym state) was.run;
       moments = over_moments old new (was.groups ++ was.group ∷ []) (length was.groups) disk was.moments;
     }
 
-    faulted_more : (size : ℕ) (old new : Desk S R D g) (bodies : List (List ℕ)) (replies : List R) (body : List ℕ) → IsOver old new → Faulted t size start old bodies replies
-        → Faulted t size start new (bodies ++ body ∷ []) (replies ++ t.failed body ∷ [])
+    faulted_more : (size : ℕ) (old new : Desk S R D g) (bodies : List (List ℕ)) (replies : List R) (body : List ℕ) → IsOver old new → Faulted t size (λ group others. IsWhole size group) start old bodies replies
+        → Faulted t size (λ group others. IsWhole size group) start new (bodies ++ body ∷ []) (replies ++ t.failed body ∷ [])
     faulted_more size old new bodies replies body over was = record {
       groups = was.groups;
       group = was.group;
       others = was.others ++ body ∷ [];
       cuts = was.cuts;
+      whole = was.whole;
       bodies_are = ap (λ (l : List (List ℕ)). l ++ body ∷ []) was.bodies_are ∙ append_assoc (map body_of (joined was.groups ++ was.group)) was.others (body ∷ []);
       replies_are = ap (λ (l : List R). l ++ t.failed body ∷ []) was.replies_are ∙ append_assoc (map reply_of (joined was.groups)) (map (λ asked. t.faulted asked.body) was.group ++ map t.failed was.others) (t.failed body ∷ [])
           ∙ ap (λ (l : List R). map reply_of (joined was.groups) ++ l) (append_assoc (map (λ asked. t.faulted asked.body) was.group) (map t.failed was.others) (t.failed body ∷ [])
@@ -298,11 +355,11 @@ module _ {S R : Type 0} (t : Turns S R) where
         let group = was.held ++ asked ∷ [] in
         let full : is_full size group ≡ true = sym (fills_as so_far.goes.library was size asked filled.mid filled.held) ∙ filled.full in
         let between = goes_on start.store old.store filled.mid.store so_far.goes filled.held.goes in
-        let here : Going t (λ groups held. IsCut size (groups ++ held ∷ []) []) start filled.mid (bodies ++ body ∷ []) out =
-        going_held so_far.goes.library was (λ groups held. IsCut size (groups ++ held ∷ []) []) asked filled.mid (cut_ends size was.groups was.held asked was.cuts full) filled.held in
+        let here : Going t (λ groups held. IsCut size (groups ++ held ∷ []) [] × (is_full size held ≡ true)) start filled.mid (bodies ++ body ∷ []) out =
+        going_held so_far.goes.library was (λ groups held. IsCut size (groups ++ held ∷ []) [] × (is_full size held ≡ true)) asked filled.mid (cut_ends size was.groups was.held asked was.cuts full, full) filled.held in
         record {
-          going = λ is. going_ends between.library here (IsCut size) told new is here.cuts filled.settled;
-          broken = λ is. going_breaks between.library here size told new is (full_group size here.groups here.held here.cuts) filled.settled;
+          going = λ is. going_ends between.library here (IsCut size) told new is here.cuts.0 filled.settled;
+          broken = λ is. going_breaks between.library here size (λ group others. IsWhole size group) told new (inl here.cuts.1) is (full_group size here.groups here.held here.cuts.0) filled.settled;
           goes = goes_on start.store filled.mid.store new.store between filled.settled.goes;
         }
     underway_taken size old new bodies out body told so_far (inr (inr (inl faulted))) =
@@ -314,7 +371,7 @@ module _ {S R : Type 0} (t : Turns S R) where
         }
     underway_taken size old new bodies out body told so_far (inr (inr (inr late))) = record {
       going = λ is. absurd (true≢false (sym late.over.is ∙ is));
-      broken = λ is. subst (λ (l : List R). Faulted t size start new (bodies ++ body ∷ []) (out ++ l)) (sym late.told_is) (faulted_more size old new bodies out body late.over (so_far.broken late.over.was));
+      broken = λ is. subst (λ (l : List R). Faulted t size (λ group others. IsWhole size group) start new (bodies ++ body ∷ []) (out ++ l)) (sym late.told_is) (faulted_more size old new bodies out body late.over (so_far.broken late.over.was));
       goes = goes_on start.store old.store new.store so_far.goes late.over.goes;
     }
 
@@ -334,10 +391,12 @@ module _ {S R : Type 0} (t : Turns S R) where
             bodies_are = was.bodies_are ∙ ap (λ (l : List (Entry R)). map body_of l) whole ∙ sym (append-nil (map body_of (joined (was.groups ++ []))));
             run = subst (λ (l : List (Entry R)). Run t first l now.state) whole (run_append t first (joined was.groups) was.committed was.held now.state was.stands was.runs);
             groups_are = ap (λ (l : List (Entry R)). groups_of size l) (sym whole) ∙ was.cuts ∙ ap (λ (l : List (Entry R)). was.groups ++ rest_of l) empty;
+            whole = λ group is. absurd (no_group group is);
             replies_are = was.out_are ∙ sym (append-nil (map reply_of (joined was.groups)));
           };
           well = λ is. (refl, refl);
           fault = λ is. absurd (true≢false (sym is ∙ going));
+          quiet = λ is quiet. was.quiet (subst (λ (l : List (Entry R)). AllQuiet t l) (sym (ap (λ (l : List (Entry R)). joined was.groups ++ l) empty ∙ append-nil (joined was.groups))) quiet);
           moments = λ begins.
               let run = was.moments begins in
               (run.0, subst (λ (l : List (List (Entry R))). IsRun t g.moment g.image_since start.store.disk now.store.disk library first l (length was.groups) run.0) (sym (append-nil was.groups)) run.1);
@@ -346,7 +405,7 @@ module _ {S R : Type 0} (t : Turns S R) where
         }
 
     -- or up to a fault
-    served_part : (size : ℕ) (now : Desk S R D g) (bodies : List (List ℕ)) (out : List R) → now.store.stopped ≡ true → Goes start.store now.store → Faulted t size start now bodies out
+    served_part : (size : ℕ) (now : Desk S R D g) (bodies : List (List ℕ)) (out : List R) → now.store.stopped ≡ true → Goes start.store now.store → Faulted t size (λ group others. (others ≡ []) ⊎ IsWhole size group) start now bodies out
         → IsServed t size start.store now.store first now.state bodies out
     served_part size now bodies out stopped goes was =
         let whole : joined (was.groups ++ was.group ∷ []) ≡ joined was.groups ++ was.group = joined_push was.groups was.group in
@@ -358,10 +417,12 @@ module _ {S R : Type 0} (t : Turns S R) where
             bodies_are = was.bodies_are ∙ ap (λ (l : List (Entry R)). map body_of l ++ was.others) (sym whole);
             run = subst (λ (l : List (Entry R)). Run t first l now.state) (sym whole) was.run;
             groups_are = ap (λ (l : List (Entry R)). groups_of size l) whole ∙ was.cuts;
+            whole = λ group is. subst (λ (l : List (Entry R)). (was.others ≡ []) ⊎ IsWhole size l) (one_group was.group group is) was.whole;
             replies_are = was.replies_are ∙ ap (λ (l : List (Entry R)). map reply_of (joined was.groups) ++ (map (λ asked. t.faulted asked.body) l ++ map t.failed was.others)) (sym (append-nil was.group));
           };
           well = λ is. absurd (true≢false (sym stopped ∙ is));
           fault = λ is. refl;
+          quiet = λ is. absurd (true≢false (sym stopped ∙ is));
           moments = was.moments;
           all = λ is. absurd (true≢false (sym stopped ∙ is));
           goes = goes;
@@ -379,7 +440,7 @@ module _ {S R : Type 0} (t : Turns S R) where
             let was = so_far.going going in
             let last : Going t (IsEnd size) start now bodies out = going_as was (IsEnd size) (cut_last size was.groups was.held was.cuts) in
             served_all size now bodies out none going so_far.goes last
-        by (inr stopped) = served_part size now bodies out stopped so_far.goes (so_far.broken stopped)
+        by (inr stopped) = served_part size now bodies out stopped so_far.goes (faulted_as size (λ group others. IsWhole size group) (λ group others. (others ≡ []) ⊎ IsWhole size group) (λ group others is. inr is) now now bodies out out refl refl refl (so_far.broken stopped))
 
     -- the input has ended
     pub underway_ended : (size : ℕ) (old new : Desk S R D g) (bodies : List (List ℕ)) (out told : List R) → Underway t size start old bodies out → IsEnded t told old new → Ends size new bodies (out ++ told)
@@ -401,7 +462,7 @@ module _ {S R : Type 0} (t : Turns S R) where
         by : (new.store.stopped ≡ false) ⊎ (new.store.stopped ≡ true) → Ends size new bodies (out ++ told)
         by (inl going) =
             served_all size new bodies (out ++ told) (last.settled.well going).1 going goes (going_ends so_far.goes.library was (IsEnd size) told new going (ends_after size was.groups was.held ends) last.settled)
-        by (inr stopped) = served_part size new bodies (out ++ told) stopped goes (going_breaks so_far.goes.library was size told new stopped ends last.settled)
+        by (inr stopped) = served_part size new bodies (out ++ told) stopped goes (going_breaks so_far.goes.library was size (λ group others. (others ≡ []) ⊎ IsWhole size group) told new (inl refl) stopped ends last.settled)
     underway_ended size old new bodies out told so_far (inr (inr left)) =
         served_part size new bodies (out ++ told) left.over.is (goes_on start.store old.store new.store so_far.goes left.over.goes)
-        (faulted_as size old new bodies out (out ++ told) (ap (λ (l : List R). out ++ l) left.nothing ∙ append-nil out) left.over.disk left.over.state (so_far.broken left.over.was))
+        (faulted_as size (λ group others. IsWhole size group) (λ group others. (others ≡ []) ⊎ IsWhole size group) (λ group others is. inr is) old new bodies out (out ++ told) (ap (λ (l : List R). out ++ l) left.nothing ∙ append-nil out) left.over.disk left.over.state (so_far.broken left.over.was))

@@ -1,5 +1,5 @@
 -- A server at work: its store and its state, and the group in hand.
-use Rattle.std.specs.Prelude.{◌≡◌, ◌≢◌, ◌⊎◌, ℕ, true, false, List, [], ◌∷◌, ◌++◌, length, map}
+use Rattle.std.specs.Prelude.{◌≡◌, ◌≢◌, ◌⊎◌, ◌<◌, ℕ, Bool, true, false, List, [], ◌∷◌, ◌++◌, length, map}
 use Rattle.oa_disk.specs.declared.disk.Disk.{Ghosts}
 use Rattle.oa_journal.specs.Replays.{Replays}
 use Rattle.oa_store.specs.declared.store.Store.{Store}
@@ -16,6 +16,10 @@ pub record Desk (S R D : Type 0) (g : Ghosts D) : Type 0 where
   pub pending : List R
   pub events : List ℕ
 
+-- The device was called for an event alone, or for one that would have been but for memory.
+abbrev pub CallsFor : {D : Type 0} {g : Ghosts D} → Store D g → Store D g → List ℕ → Bool → Type 0
+CallsFor old new event starved = (new.disk ≡ old.disk) ⊎ ((0 < length event) ⊎ (starved ≡ true))
+
 -- One request is answered by a turn, and its reply and its event are held. The images go on to hold what they held, which is
 -- what is held of the state while no event is in hand.
 pub record IsHeld {S R D : Type 0} {g : Ghosts D} (t : Turns S R) (asked : Entry R) (old new : Desk S R D g) : Type 0 where
@@ -23,6 +27,7 @@ pub record IsHeld {S R D : Type 0} {g : Ghosts D} (t : Turns S R) (asked : Entry
   pub pending : new.pending ≡ old.pending ++ asked.reply ∷ []
   pub events : new.events ≡ old.events ++ asked.event
   pub going : new.store.stopped ≡ false
+  pub calls : CallsFor old.store new.store asked.event (t.is_starved asked.reply)
   pub any_moment : (committed : TableValue) → (length old.events ≡ 0 → t.held old.state ≡ committed) → AllHold old.store committed → LeavesTable old.store new.store committed
   pub each : (committed : TableValue) → (length old.events ≡ 0 → t.held old.state ≡ committed) → AllHold old.store committed → AllHold new.store committed
   pub goes : Goes old.store new.store
@@ -32,16 +37,20 @@ pub record IsSettled {S R D : Type 0} {g : Ghosts D} (t : Turns S R) (told : Lis
   pub state : new.state ≡ old.state
   pub well : new.store.stopped ≡ false → (told ≡ old.pending) × (new.pending ≡ []) × (new.events ≡ [])
   pub broken : new.store.stopped ≡ true → told ≡ map t.withdrawn old.pending
+  pub quiet : length old.events ≡ 0 → new.store.disk ≡ old.store.disk
   pub any_moment : (committed : TableValue) → Replays old.events committed (t.held old.state) → AllHold old.store committed → LeavesEither old.store new.store committed (t.held old.state)
   pub each : new.store.stopped ≡ false → (committed : TableValue) → Replays old.events committed (t.held old.state) → AllHold old.store committed → AllHold new.store (t.held old.state)
   pub goes : Goes old.store new.store
 
--- The checkpoint before a request's event failed: the group ends with this request, and is taken back. A turn that changes nothing
--- stands for the request.
+-- The checkpoint before a request's event failed: it is the first event of the group, which ends with this request, and is taken back. A turn
+-- without an event that changes nothing that images hold stands for the request.
 pub record IsFailed {S R D : Type 0} {g : Ghosts D} (t : Turns S R) (body : List ℕ) (told : List R) (old new : Desk S R D g) : Type 0 where
   pub reply : R
   pub event : List ℕ
   pub turn : t.Turn (entry body reply event) old.state new.state
+  pub first : length old.events ≡ 0
+  pub none : event ≡ []
+  pub same : t.held new.state ≡ t.held old.state
   pub told_are : told ≡ map t.withdrawn old.pending ++ t.faulted body ∷ []
   pub stopped : new.store.stopped ≡ true
   pub any_moment : (committed : TableValue) → (length old.events ≡ 0 → t.held old.state ≡ committed) → AllHold old.store committed → LeavesTable old.store new.store committed

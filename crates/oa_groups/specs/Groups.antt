@@ -1,5 +1,5 @@
 -- Where a list of requests is cut into groups.
-use Rattle.std.specs.Prelude.{ℕ, Bool, ◌||◌, nat_le, if◌then◌else◌, List, [], ◌∷◌, ◌++◌, length}
+use Rattle.std.specs.Prelude.{◌≡◌, ◌⊎◌, ℕ, Bool, true, ◌||◌, nat_le, if◌then◌else◌, List, [], ◌∷◌, ◌++◌, length}
 use Rattle.oa_groups.specs.Turns.{Entry}
 
 -- the bytes of their events, one behind the other
@@ -13,6 +13,10 @@ fills size count bytes = nat_le size count || nat_le 524288 bytes
 
 abbrev pub is_full : {R : Type 0} → ℕ → List (Entry R) → Bool
 is_full size held = fills size (length held) (length (events_in held))
+
+-- The requests are a group, whatever comes behind them: it is full, or it has no event, and the checkpoint before its first one has failed.
+abbrev pub IsWhole : {R : Type 0} → ℕ → List (Entry R) → Type 0
+IsWhole size group = (is_full size group ≡ true) ⊎ (events_in group ≡ [])
 
 -- what is held when the input ends is a group
 abbrev pub rest_of : {R : Type 0} → List (Entry R) → List (List (Entry R))

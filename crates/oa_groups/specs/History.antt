@@ -1,12 +1,13 @@
 -- Stop, open, go on, stop again.
-use Rattle.std.specs.Prelude.{◌≡◌, ◌≤◌, ℕ, if◌then◌else◌, List, [], ◌∷◌, ◌++◌, length}
+use Rattle.std.specs.Prelude.{◌≡◌, ◌≤◌, ℕ, if◌then◌else◌, List, [], ◌∷◌, ◌++◌, drop, length}
+use Rattle.oa_disk.specs.declared.disk.Disk.{Ghosts}
 use Rattle.oa_groups.specs.Groups.{joined}
 use Rattle.oa_groups.specs.Runs.{Run, IsAfter}
-use Rattle.oa_groups.specs.Sessions.{Call, Calls}
+use Rattle.oa_groups.specs.Sessions.{Call, IsSession, by_then}
 use Rattle.oa_groups.specs.Turns.{Entry, Turns}
 
 -- one session: its calls with their replies, the groups of requests that these are cut into, and how many of the groups were answered
--- before it was stopped
+-- by the moment of its stop
 pub record Session (R : Type 0) : Type 0 where
   pub calls : List (Call R)
   pub groups : List (List (Entry R))
@@ -20,16 +21,26 @@ pub record Keeps {R : Type 0} (session : Session R) (kept : List (Entry R)) : Ty
   pub kept_are : kept ≡ joined done
   pub enough : session.count ≤ length done
 
--- the calls are served, group for group, from this state
-abbrev pub IsServedFrom : {S R : Type 0} → Turns S R → S → Session R → Type 0
-IsServedFrom {S} t state session = (count : ℕ) × (last : S) × Calls t state session.calls session.groups count last
+-- A session began on a disk with these contents, and was stopped at a moment: what is left is what a crash at that moment may leave, and
+-- its groups count that were answered by then.
+pub record IsStopped {S R D : Type 0} (t : Turns S R) (g : Ghosts D) (library : List ℕ) (first : S) (session : Session R) (found left : List ℕ) : Type 0 where
+  pub start : D
+  pub now : D
+  pub begins : g.contents start ≡ found
+  pub last : S
+  pub work : IsSession t g.moment g.image_since start now library first session.calls last
+  pub groups_are : session.groups ≡ work.groups
+  pub stop : ℕ
+  pub began : g.moment start ≤ stop
+  pub count_is : session.count ≡ by_then stop (drop 1 work.moments)
+  pub may_be_left : (m : ℕ) → m ≤ stop → g.image_since now m left
 
--- One session after the other, each opened on what the stop of the one before has left, and at the state that this holds. That a session's
--- count is that of the groups answered by the moment of its stop is the law `a_stop_keeps_what_was_answered`.
-abbrev pub Sessions : {S R : Type 0} → Turns S R → List ℕ → S → List ℕ → List (Session R) → List ℕ → Type 0
-Sessions t library state old [] new = old ≡ new
-Sessions t library state old (session ∷ sessions) new =
-    IsServedFrom t (t.opened state) session × (mid : List ℕ) × (after : IsAfter t session.count library (t.opened state) session.groups mid) × Sessions t library after.state mid sessions new
+-- One session after the other, each opened on what the stop of the one before has left, and at the state that this holds. That what a stop leaves
+-- holds the groups that count is the law `a_stop_keeps_what_was_answered`.
+abbrev pub Sessions : {S R D : Type 0} → Turns S R → Ghosts D → List ℕ → S → List ℕ → List (Session R) → List ℕ → Type 0
+Sessions t g library state old [] new = old ≡ new
+Sessions t g library state old (session ∷ sessions) new =
+    (mid : List ℕ) × IsStopped t g library (t.opened state) session old mid × (after : IsAfter t session.count library (t.opened state) session.groups mid) × Sessions t g library after.state mid sessions new
 
 -- what is kept of each session
 abbrev pub KeepsEach : {R : Type 0} → List (Session R) → List (List (Entry R)) → Type 0

@@ -1,5 +1,5 @@
 -- Runs of a server, and what the images of its disk hold at each moment of one.
-use Rattle.std.specs.Prelude.{◌≡◌, ◌⊎◌, ℕ, ◌+◌, ◌≤◌, List, [], ◌∷◌, ◌++◌, length, Some, slice_get}
+use Rattle.std.specs.Prelude.{◌≡◌, ◌⊎◌, ℕ, false, ◌+◌, ◌≤◌, List, [], ◌∷◌, ◌++◌, length, Some, slice_get}
 use Rattle.oa_store.specs.Stores.{IsStore}
 use Rattle.oa_groups.specs.Groups.{joined}
 use Rattle.oa_groups.specs.Turns.{Entry, Turns}
@@ -8,6 +8,11 @@ use Rattle.oa_groups.specs.Turns.{Entry, Turns}
 abbrev pub Run : {S R : Type 0} → Turns S R → S → List (Entry R) → S → Type 0
 Run t old [] new = old ≡ new
 Run {S} t old (asked ∷ entries) new = (mid : S) × t.Turn asked old mid × Run t mid entries new
+
+-- none of these requests made an event, and to none memory was refused
+abbrev pub AllQuiet : {S R : Type 0} → Turns S R → List (Entry R) → Type 0
+AllQuiet t [] = Unit {0}
+AllQuiet t (asked ∷ entries) = (asked.event ≡ []) × (t.is_starved asked.reply ≡ false) × AllQuiet t entries
 
 -- The image is a store of what is held of the state after so many of the groups, or more.
 pub record IsAfter {S R : Type 0} (t : Turns S R) (count : ℕ) (library : List ℕ) (first : S) (groups : List (List (Entry R))) (image : List ℕ) : Type 0 where

@@ -1,10 +1,10 @@
 -- What a call answers that takes a list of requests, and what a stop at any moment of it leaves.
-use Rattle.std.specs.Prelude.{◌≡◌, ℕ, ◌-◌, ◌^◌, ◌<◌, ◌≤◌, true, false, List, [], ◌++◌, length, map}
+use Rattle.std.specs.Prelude.{◌≡◌, ◌⊎◌, ℕ, ◌-◌, ◌^◌, ◌<◌, ◌≤◌, true, false, List, [], ◌∷◌, ◌++◌, length, map}
 use Rattle.oa_disk.specs.declared.disk.Disk.{Ghosts}
 use Rattle.oa_store.specs.declared.store.Store.{Store}
 use Rattle.oa_keeper.specs.Kept.{AllHold}
-use Rattle.oa_groups.specs.Groups.{groups_of, joined}
-use Rattle.oa_groups.specs.Runs.{Run, IsRun}
+use Rattle.oa_groups.specs.Groups.{IsWhole, groups_of, joined}
+use Rattle.oa_groups.specs.Runs.{AllQuiet, Run, IsRun}
 use Rattle.oa_groups.specs.Turns.{Entry, Turns, body_of, reply_of}
 
 -- The replies to these bodies are those of a run, group for group. Where a call of the device failed, the run goes to the end
@@ -13,6 +13,8 @@ pub record Served {S R : Type 0} (t : Turns S R) (size : ℕ) (first : S) (bodie
   pub bodies_are : bodies ≡ map body_of (joined (groups ++ faulted)) ++ others
   pub run : Run t first (joined (groups ++ faulted)) last
   pub groups_are : groups_of size (joined (groups ++ faulted)) ≡ groups ++ faulted
+  -- what comes behind the fault's group is none of it
+  pub whole : (group : List (Entry R)) → faulted ≡ group ∷ [] → (others ≡ []) ⊎ IsWhole size group
   pub replies_are : replies ≡ map reply_of (joined groups) ++ (map (λ asked. t.faulted asked.body) (joined faulted) ++ map t.failed others)
 
 -- What every call says of the device.
@@ -23,6 +25,8 @@ pub record Goes {D : Type 0} {g : Ghosts D} (old new : Store D g) : Type 0 where
   -- it stops only where a call has failed, and then for good
   pub stops : old.stopped ≡ false → new.stopped ≡ true → g.failures_of new.disk < 2 ^ 64 - 1 → g.failures_of old.disk < g.failures_of new.disk
   pub stays : old.stopped ≡ true → (new.stopped ≡ true) × (new.disk ≡ old.disk)
+  -- no failed call goes untold
+  pub unfailed : new.stopped ≡ false → g.failures_of new.disk ≡ g.failures_of old.disk
 
 -- A call on a store that has not stopped: its replies are served, and there are the moments of its groups.
 pub record IsServed {S R D : Type 0} {g : Ghosts D} (t : Turns S R) (size : ℕ) (old new : Store D g) (before after : S) (bodies : List (List ℕ)) (replies : List R) : Type 0 where
@@ -33,6 +37,8 @@ pub record IsServed {S R D : Type 0} {g : Ghosts D} (t : Turns S R) (size : ℕ)
   pub served : Served t size before bodies replies after groups faulted others
   pub well : new.stopped ≡ false → (faulted ≡ []) × (others ≡ [])
   pub fault : new.stopped ≡ true → length faulted ≡ 1
+  -- requests that make no event make no call of the device
+  pub quiet : new.stopped ≡ false → AllQuiet t (joined groups) → new.disk ≡ old.disk
   pub moments : AllHold old (t.held before) → (moments : List ℕ) × IsRun t g.moment g.image_since old.disk new.disk old.library.items before (groups ++ faulted) (length groups) moments
   -- and the next call may begin
   pub all : new.stopped ≡ false → AllHold old (t.held before) → AllHold new (t.held after)

@@ -39,6 +39,7 @@ simple = record {
   failed = λ body. false;
   withdrawn = λ reply. false;
   is_done = λ reply. reply;
+  is_starved = λ reply. false;
   opened = λ table. table;
   reopens = λ table. refl;
   replays = replays;

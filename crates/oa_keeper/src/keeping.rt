@@ -42,6 +42,8 @@ pub fn make_room<D: Disk>(
     ensures library { store.new.library.items ≡ store.old.library.items }
     ensures honest { D.is_honest store.new.disk ≡ D.is_honest store.old.disk }
     ensures failures { D.failures_of store.old.disk ≤ D.failures_of store.new.disk }
+    // No failed call goes untold.
+    ensures unfailed { store.new.stopped ≡ false → D.failures_of store.new.disk ≡ D.failures_of store.old.disk }
 {
     if !frame.is_empty() {
         return Ok(());
@@ -98,6 +100,8 @@ pub fn hold<D: Disk>(
     ensures any_moment { (committed : TableValue) → (length frame.old ≡ 0 → unlocked_table table.old ≡ committed) → AllHold store.old committed → LeavesTable store.old store.new committed }
     ensures each { store.new.stopped ≡ false → (committed : TableValue) → (length frame.old ≡ 0 → unlocked_table table.old ≡ committed) → AllHold store.old committed → AllHold store.new committed }
     ensures quiet { 0 < length frame.old → store.new.disk ≡ store.old.disk }
+    // It is the first event of a group before which a checkpoint fails.
+    ensures first { IsErrOf result KeepFault.Write → length frame.old ≡ 0 }
     ensures undue { 1572869 ≤ bank_bytes - store.old.bank.gate → store.new.disk ≡ store.old.disk }
     ensures room { store.new.stopped ≡ false → HasRoom frame.new store.new }
 
@@ -106,6 +110,8 @@ pub fn hold<D: Disk>(
     ensures library { store.new.library.items ≡ store.old.library.items }
     ensures honest { D.is_honest store.new.disk ≡ D.is_honest store.old.disk }
     ensures failures { D.failures_of store.old.disk ≤ D.failures_of store.new.disk }
+    // No failed call goes untold.
+    ensures unfailed { store.new.stopped ≡ false → D.failures_of store.new.disk ≡ D.failures_of store.old.disk }
 {
     make_room(store, table, frame)?;
     numbers_stay();
@@ -130,6 +136,8 @@ pub fn commit<D: Disk>(store: &mut Store<D>, frame: &mut Frame) -> Result<(), Br
     ensures library { store.new.library.items ≡ store.old.library.items }
     ensures honest { D.is_honest store.new.disk ≡ D.is_honest store.old.disk }
     ensures failures { D.failures_of store.old.disk ≤ D.failures_of store.new.disk }
+    // No failed call goes untold.
+    ensures unfailed { store.new.stopped ≡ false → D.failures_of store.new.disk ≡ D.failures_of store.old.disk }
 {
     commit_bytes(store, &mut frame.bytes)
 }
@@ -149,6 +157,8 @@ fn commit_bytes<D: Disk>(store: &mut Store<D>, bytes: &mut Vec<u8>) -> Result<()
     ensures library { store.new.library.items ≡ store.old.library.items }
     ensures honest { D.is_honest store.new.disk ≡ D.is_honest store.old.disk }
     ensures failures { D.failures_of store.old.disk ≤ D.failures_of store.new.disk }
+    // No failed call goes untold.
+    ensures unfailed { store.new.stopped ≡ false → D.failures_of store.new.disk ≡ D.failures_of store.old.disk }
 {
     if bytes.len() <= 5 {
         bytes.clear();

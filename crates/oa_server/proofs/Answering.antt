@@ -1,5 +1,5 @@
 -- One body is answered over a store.
-use Rattle.std.proofs.Common.{◌≡◌, ◌⊎◌, inl, inr, ℕ, true, false, true≢false, IsTrue, List, [], ◌∷◌, ◌++◌, length, refl, sym, ap, ◌∙◌, subst}
+use Rattle.std.proofs.Common.{◌≡◌, ◌⊎◌, ◌<◌, inl, inr, ℕ, Bool, true, false, true≢false, IsTrue, List, [], ◌∷◌, ◌++◌, length, refl, sym, ap, ◌∙◌, subst, arith}
 use Rattle.oa_disk.specs.declared.disk.Disk.{Ghosts}
 use Rattle.oa_disk.specs.Moments.{chained, weakened}
 use Rattle.oa_groups.specs.Desks.{Desk, IsSettled, IsTaken}
@@ -15,8 +15,13 @@ use Rattle.oa_store.specs.declared.store.Store.{Store}
 use Rattle.oa_table.specs.Tables.{TableValue}
 use Rattle.oa_server.specs.Answers.{IsAnswered}
 use Rattle.oa_server.specs.Hands.{desk}
-use Rattle.oa_server.specs.Requests.{HasTurn, IsHeldBack, faulted, held_of, requests}
+use Rattle.oa_server.specs.Requests.{HasTurn, IsHeldBack, bytes_of, faulted, held_of, is_done, is_starved, requests}
+use Rattle.oa_record.specs.Asks.{Asks}
+use Rattle.oa_record.specs.declared.request.Request.{Request}
 use Rattle.oa_server.specs.States.{State}
+use Rattle.oa_server.specs.Steps.{outcome}
+use Rattle.oa_server.specs.Turns.{Turn}
+use Rattle.oa_server.proofs.Settled.{called_for}
 
 -- one request is a group of one
 full_one : (bytes : ℕ) → fills 1 1 bytes ≡ true
@@ -45,16 +50,18 @@ module _ {D : Type 0} {g : Ghosts D} (only : (d : D) (c : List ℕ) → IsTrue (
         (leaves (held_of before) (λ none. refl) all) (λ c is. inl is);
     each = λ no going. absurd (true≢false (sym stopped ∙ going));
     goes = first;
+    quiet = λ no going. absurd (true≢false (sym stopped ∙ going));
     served = λ no. alone mid reply start (inr (inr (inl (record {
       was = was;
-      failed = record { reply = some.reply; event = []; turn = some.asked; told_are = ap (λ (r : ReplyValue). r ∷ []) told; stopped = stopped; any_moment = leaves; goes = first };
+      failed = record { reply = some.reply; event = []; turn = some.asked; first = ap length empty; none = refl; same = some.same; told_are = ap (λ (r : ReplyValue). r ∷ []) told; stopped = stopped; any_moment = leaves; goes = first };
     }))));
   }
 
   module _ (on : mid.stopped ≡ false) (new : Store D g) (due : ReplyValue) (events : List ℕ) (turn : IsHeldBack body due start events before after) (then : Goes mid new)
       (holds : (committed : TableValue) → (length start ≡ 0 → held_of before ≡ committed) → AllHold old committed → AllHold mid committed)
       (either : (committed now : TableValue) → Replays events committed now → AllHold mid committed → LeavesEither mid new committed now)
-      (each : new.stopped ≡ false → (committed now : TableValue) → Replays events committed now → AllHold mid committed → AllHold new now) where
+      (each : new.stopped ≡ false → (committed now : TableValue) → Replays events committed now → AllHold mid committed → AllHold new now)
+      (calls : (mid.disk ≡ old.disk) ⊎ ((length start < length events) ⊎ (is_starved due ≡ true))) (still : length events ≡ 0 → new.disk ≡ mid.disk) where
     replays : Replays events (held_of before) (held_of after)
     replays =
         let added : events ≡ turn.event = turn.added ∙ ap (λ (l : List ℕ). l ++ turn.event) empty in
@@ -74,10 +81,33 @@ module _ {D : Type 0} {g : Ghosts D} (only : (d : D) (c : List ℕ) → IsTrue (
       reply = due;
       event = turn.event;
       mid = desk mid after (due ∷ []) events;
-      held = record { turn = turn.asked; pending = refl; events = turn.added; going = on; any_moment = leaves; each = holds; goes = first };
+      held = record { turn = turn.asked; pending = refl; events = turn.added; going = on; calls = called_for old mid body due before after start events turn calls; any_moment = leaves; each = holds; goes = first };
       full = full_one (length events);
       settled = settled;
     })))
+
+    -- the body makes no event
+    eventless : ((request : Request) → Asks body request → bytes_of (outcome before request).event ≡ []) → turn.event ≡ []
+    eventless none = by (is_done due) refl turn.asked.turn
+      where
+        by : (b : Bool) → is_done due ≡ b → Turn before body due after → turn.event ≡ []
+        by false is one = turn.asked.made.undone is
+        by true is (inl one) = turn.asked.made.done one.request one.asked is ∙ none one.request one.asked
+        by true is (inr (inl one)) = absurd (true≢false (sym is ∙ ap is_done one.answers))
+        by true is (inr (inr (inl one))) = absurd (true≢false (sym is ∙ ap is_done one.answers))
+        by true is (inr (inr (inr one))) = absurd (true≢false (sym is ∙ ap is_done one.answers))
+
+    -- then nothing is called
+    silent : ((request : Request) → Asks body request → bytes_of (outcome before request).event ≡ []) → is_starved due ≡ false → new.disk ≡ old.disk
+    silent none well = still (ap length all) ∙ by calls
+      where
+        all : events ≡ []
+        all = turn.added ∙ ap (λ (l : List ℕ). l ++ turn.event) empty ∙ eventless none
+
+        by : (mid.disk ≡ old.disk) ⊎ ((length start < length events) ⊎ (is_starved due ≡ true)) → mid.disk ≡ old.disk
+        by (inl same) = same
+        by (inr (inl more)) = absurd (omega (arith, more, ap length all))
+        by (inr (inr starved)) = absurd (true≢false (sym starved ∙ well))
 
     -- its commit failed
     pub commit_failed : (reply : ReplyValue) → reply ≡ faulted body → new.stopped ≡ true → IsAnswered old new before after body reply
@@ -88,10 +118,12 @@ module _ {D : Type 0} {g : Ghosts D} (only : (d : D) (c : List ℕ) → IsTrue (
       any_moment = λ no. meanwhile;
       each = λ no going. absurd (true≢false (sym stopped ∙ going));
       goes = goes_on old mid new first then;
+      quiet = λ no going. absurd (true≢false (sym stopped ∙ going));
       served = λ no. filled reply (record {
         state = refl;
         well = λ going. absurd (true≢false (sym stopped ∙ going));
         broken = λ yes. ap (λ (r : ReplyValue). r ∷ []) (told ∙ sym (requests.tells (entry body due turn.event) before after turn.asked));
+        quiet = still;
         any_moment = λ committed makes all. either committed (held_of after) makes all;
         each = λ going. absurd (true≢false (sym stopped ∙ going));
         goes = then;
@@ -107,10 +139,12 @@ module _ {D : Type 0} {g : Ghosts D} (only : (d : D) (c : List ℕ) → IsTrue (
       any_moment = λ no. meanwhile;
       each = λ no yes all. each yes (held_of before) (held_of after) replays (holds (held_of before) (λ none. refl) all);
       goes = goes_on old mid new first then;
+      quiet = λ no yes none well. silent none well;
       served = λ no. filled due (record {
         state = refl;
         well = λ yes. (refl, refl, refl);
         broken = λ stopped. absurd (true≢false (sym stopped ∙ going));
+        quiet = still;
         any_moment = λ committed makes all. either committed (held_of after) makes all;
         each = λ yes committed makes all. each yes committed (held_of after) makes all;
         goes = then;

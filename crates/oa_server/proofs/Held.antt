@@ -63,4 +63,5 @@ module _ (one_request : (body : List ℕ) (p q : Request) → Asks body p → As
   has_turn new same = record {
     reply = refusal planned.tag e_outofmemory None;
     asked = record { turn = lacks old body planned is new (refusal planned.tag e_outofmemory None) refl same; made = undone old body (refusal planned.tag e_outofmemory None) refl; replays = no_events (held_of old) (held_of new) (ap held_of same) };
+    same = ap held_of same;
   }

@@ -23,3 +23,5 @@ pub mod Answering
 pub mod Put
 pub mod InMemory
 pub mod Talking
+pub mod Beginning
+pub mod Parting

@@ -1,9 +1,9 @@
 -- What an opening answers, where each image is a store of one of two tables.
-use Rattle.std.proofs.Common.{◌≡◌, ◌⊎◌, ⊎_elim, ◌<◌, ℕ, List, length, true, inl, inr, refl, sym, subst, ◌∙◌, arith}
+use Rattle.std.proofs.Common.{◌≡◌, ◌⊎◌, ⊎_elim, ℕ, List, length, inl, inr, sym, subst, arith}
 use Rattle.oa_idl.specs.Canonical.{canonical}
 use Rattle.oa_idl.specs.Trees.{TreeValue}
 use Rattle.oa_store.specs.OneStore.{one_store}
-use Rattle.oa_store.specs.Stores.{IsForeign, IsStore, IsStoreAt}
+use Rattle.oa_store.specs.Stores.{IsForeign, IsStore}
 use Rattle.oa_table.specs.Tables.{TableValue}
 use Rattle.oa_server.specs.Openings.{CanServe, HoldsEither}
 

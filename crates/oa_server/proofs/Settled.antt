@@ -1,7 +1,7 @@
 -- A group in hand, and its end.
-use Rattle.std.proofs.Common.{rules, ◌≡◌, ℕ, ◌-◌, ◌^◌, ◌<◌, ◌≤◌, ◌++◌, true, false, true≢false, List, [], ◌∷◌, length, map, refl, sym, ◌∙◌, arith}
+use Rattle.std.proofs.Common.{rules, ◌≡◌, ◌⊎◌, inl, inr, ℕ, ◌-◌, ◌^◌, ◌<◌, ◌≤◌, ◌++◌, true, false, true≢false, List, [], ◌∷◌, length, map, refl, sym, ap, ◌∙◌, arith, length-append}
 use Rattle.oa_disk.specs.declared.disk.Disk.{Ghosts}
-use Rattle.oa_groups.specs.Desks.{IsHeld, IsSettled}
+use Rattle.oa_groups.specs.Desks.{CallsFor, IsHeld, IsSettled}
 use Rattle.oa_groups.specs.Groups.{fills}
 use Rattle.oa_groups.specs.Served.{Goes}
 use Rattle.oa_groups.specs.Turns.{entry}
@@ -11,7 +11,7 @@ use Rattle.oa_record.specs.Replies.{ReplyValue}
 use Rattle.oa_store.specs.declared.store.Store.{Store}
 use Rattle.oa_table.specs.Tables.{TableValue}
 use Rattle.oa_server.specs.Hands.{IsReady, desk}
-use Rattle.oa_server.specs.Requests.{IsHeldBack, held_of, requests, withdrawn}
+use Rattle.oa_server.specs.Requests.{IsHeldBack, held_of, is_starved, requests, withdrawn}
 use Rattle.oa_server.specs.States.{State}
 
 -- a group that goes on has a place
@@ -22,18 +22,21 @@ few_held size count bytes small = search rules
 module _ {D : Type 0} {g : Ghosts D} (old new : Store D g) (was : old.stopped ≡ false) where
   -- what a call says of the device
   pub goes : new.library.items ≡ old.library.items → g.is_honest new.disk ≡ g.is_honest old.disk → g.failures_of old.disk ≤ g.failures_of new.disk
-      → (new.stopped ≡ true → g.failures_of new.disk < 2 ^ 64 - 1 → g.failures_of old.disk < g.failures_of new.disk) → Goes old new
-  goes library honest failures stops = record { library = library; honest = honest; failures = failures; stops = λ going. stops; stays = λ stopped. absurd (true≢false (sym stopped ∙ was)) }
+      → (new.stopped ≡ true → g.failures_of new.disk < 2 ^ 64 - 1 → g.failures_of old.disk < g.failures_of new.disk)
+      → (new.stopped ≡ false → g.failures_of new.disk ≡ g.failures_of old.disk) → Goes old new
+  goes library honest failures stops unfailed =
+      record { library = library; honest = honest; failures = failures; stops = λ going. stops; stays = λ stopped. absurd (true≢false (sym stopped ∙ was)); unfailed = unfailed }
 
   module _ (state : State) (pending : List ReplyValue) (events events' : List ℕ) (says : Goes old new)
       (any_moment : (committed now : TableValue) → Replays events committed now → AllHold old committed → LeavesEither old new committed now)
-      (each : new.stopped ≡ false → (committed now : TableValue) → Replays events committed now → AllHold old committed → AllHold new now) where
+      (each : new.stopped ≡ false → (committed now : TableValue) → Replays events committed now → AllHold old committed → AllHold new now) (quiet : length events ≡ 0 → new.disk ≡ old.disk) where
     -- the group is committed
     pub settled : events' ≡ [] → new.stopped ≡ false → IsSettled requests pending (desk old state pending events) (desk new state [] events')
     settled empty going = record {
       state = refl;
       well = λ goes_on. (refl, refl, empty);
       broken = λ stopped. absurd (true≢false (sym stopped ∙ going));
+      quiet = quiet;
       any_moment = λ committed replays all. any_moment committed (held_of state) replays all;
       each = λ goes_on committed replays all. each goes_on committed (held_of state) replays all;
       goes = says;
@@ -45,6 +48,7 @@ module _ {D : Type 0} {g : Ghosts D} (old new : Store D g) (was : old.stopped �
       state = refl;
       well = λ goes_on. absurd (true≢false (sym stopped ∙ goes_on));
       broken = λ stops. back;
+      quiet = quiet;
       any_moment = λ committed replays all. any_moment committed (held_of state) replays all;
       each = λ goes_on committed replays all. each goes_on committed (held_of state) replays all;
       goes = says;
@@ -63,17 +67,25 @@ ready_none store size places some place = record {
 pub ready_at : {D : Type 0} {g : Ghosts D} (store : Store D g) (size places : ℕ) (pending : List ReplyValue) (events : List ℕ) → 1 ≤ size → size ≤ places → pending ≡ [] → events ≡ [] → IsReady store size places pending events
 ready_at store size places pending events some place none empty = rw (none, empty) (ready_none store size places some place)
 
+-- for what the device was called
+pub called_for : {D : Type 0} {g : Ghosts D} (old new : Store D g) (body : List ℕ) (reply : ReplyValue) (before after : State) (events events' : List ℕ) (turn : IsHeldBack body reply events events' before after)
+    → (new.disk ≡ old.disk) ⊎ ((length events < length events') ⊎ (is_starved reply ≡ true)) → CallsFor old new turn.event (is_starved reply)
+called_for old new body reply before after events events' turn (inl same) = inl same
+called_for old new body reply before after events events' turn (inr (inl more)) = inr (inl (omega (arith, more, ap length turn.added, length-append events turn.event)))
+called_for old new body reply before after events events' turn (inr (inr starved)) = inr (inr starved)
+
 -- a request is held
 pub held_one : {D : Type 0} {g : Ghosts D} (old new : Store D g) (body : List ℕ) (reply : ReplyValue) (before after : State) (pending pending' : List ReplyValue) (events events' : List ℕ)
     (turn : IsHeldBack body reply events events' before after) → pending' ≡ pending ++ reply ∷ [] → new.stopped ≡ false
     → ((committed : TableValue) → (length events ≡ 0 → held_of before ≡ committed) → AllHold old committed → LeavesTable old new committed)
     → ((committed : TableValue) → (length events ≡ 0 → held_of before ≡ committed) → AllHold old committed → AllHold new committed)
-    → Goes old new → IsHeld requests (entry body reply turn.event) (desk old before pending events) (desk new after pending' events')
-held_one old new body reply before after pending pending' events events' turn more going any_moment each says = record {
+    → (new.disk ≡ old.disk) ⊎ ((length events < length events') ⊎ (is_starved reply ≡ true)) → Goes old new → IsHeld requests (entry body reply turn.event) (desk old before pending events) (desk new after pending' events')
+held_one old new body reply before after pending pending' events events' turn more going any_moment each calls says = record {
   turn = turn.asked;
   pending = more;
   events = turn.added;
   going = going;
+  calls = called_for old new body reply before after events events' turn calls;
   any_moment = any_moment;
   each = each;
   goes = says;

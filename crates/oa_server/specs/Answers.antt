@@ -3,10 +3,13 @@ use Rattle.std.specs.Prelude.{◌≡◌, ℕ, true, false, List, [], ◌∷◌, 
 use Rattle.oa_disk.specs.declared.disk.Disk.{Ghosts}
 use Rattle.oa_groups.specs.Served.{Goes, IsServed}
 use Rattle.oa_keeper.specs.Kept.{AllHold, LeavesEither}
+use Rattle.oa_record.specs.Asks.{Asks}
 use Rattle.oa_record.specs.Replies.{ReplyValue}
+use Rattle.oa_record.specs.declared.request.Request.{Request}
 use Rattle.oa_store.specs.declared.store.Store.{Store}
-use Rattle.oa_server.specs.Requests.{failed, faulted, held_of, requests}
+use Rattle.oa_server.specs.Requests.{bytes_of, failed, faulted, held_of, is_starved, requests}
 use Rattle.oa_server.specs.States.{State}
+use Rattle.oa_server.specs.Steps.{outcome}
 use Rattle.oa_server.specs.Turns.{Turn}
 
 -- After a fault of the device a body is answered that the store has failed, and nothing is done. Before one it is answered by a turn, or a call of
@@ -20,6 +23,8 @@ pub record IsAnswered {D : Type 0} {g : Ghosts D} (old new : Store D g) (before 
   -- and without a fault, at the end, the one after
   pub each : old.stopped ≡ false → new.stopped ≡ false → AllHold old (held_of before) → AllHold new (held_of after)
   pub goes : Goes old new
+  -- A body that makes no event makes no call of the device. (Where memory is refused to one that would make an event, a checkpoint may have come first.)
+  pub quiet : old.stopped ≡ false → new.stopped ≡ false → ((request : Request) → Asks body request → bytes_of (outcome before request).event ≡ []) → is_starved reply ≡ false → new.disk ≡ old.disk
   -- it is a group of one, with its moments
   pub served : old.stopped ≡ false → IsServed requests 1 old new before after (body ∷ []) (reply ∷ [])
 

@@ -4,7 +4,7 @@ use Rattle.std.proofs.Common.{ap, inl, inr, sym, ◌∙◌, true≢false}
 use Rattle.oa_groups.specs.Turns.{Entry, Turns, entry}
 use Rattle.oa_journal.specs.Replays.{Replays}
 use Rattle.oa_keeper.proofs.Relocked.{unlocked_twice}
-use Rattle.oa_model.specs.Codes.{e_fail, stg_e_writefault}
+use Rattle.oa_model.specs.Codes.{e_fail, e_outofmemory, stg_e_writefault}
 use Rattle.oa_image.specs.Events.{event_image}
 use Rattle.oa_record.specs.Asks.{Asks, tag_at}
 use Rattle.oa_record.specs.Replies.{ReplyValue}
@@ -23,6 +23,10 @@ held_of state = unlocked_table state.table
 -- a reply with S_OK
 abbrev pub is_done : ReplyValue → Bool
 is_done reply = reply.code.0 == 0
+
+-- a reply that says that memory was refused
+abbrev pub is_starved : ReplyValue → Bool
+is_starved reply = reply.code.0 == e_outofmemory.0
 
 abbrev pub bytes_of : Option Event → List ℕ
 bytes_of None = []
@@ -50,6 +54,7 @@ pub record IsHeldBack (body : List ℕ) (reply : ReplyValue) (events events' : L
 pub record HasTurn (body : List ℕ) (old new : State) : Type 0 where
   pub reply : ReplyValue
   pub asked : IsAsked (entry body reply []) old new
+  pub same : held_of new ≡ held_of old
 
 -- the reply to a body in whose group the device has failed, and to one behind that group
 abbrev pub faulted : List ℕ → ReplyValue
@@ -84,6 +89,7 @@ requests = record {
   failed = failed;
   withdrawn = withdrawn;
   is_done = is_done;
+  is_starved = is_starved;
   opened = opened;
   reopens = λ state. unlocked_twice state.table;
   replays = λ asked old new one. one.replays;

@@ -1,5 +1,5 @@
 //! The ways in which a table changes.
-ghost use Rattle.std.specs.Prelude.{◌≡◌, ◌≤◌, ◌++◌, IsErrOf, IsOk, OnErr, OnOk, false, length, true};
+ghost use Rattle.std.specs.Prelude.{◌≡◌, ◌<◌, ◌≤◌, ◌++◌, IsErrOf, IsOk, OnErr, OnOk, false, length, true};
 ghost use Rattle.oa_groups.specs.Served.{Goes};
 ghost use Rattle.oa_image.specs.Events.{event_image};
 ghost use Rattle.oa_journal.specs.Replays.{Replays};
@@ -86,6 +86,8 @@ pub(crate) fn hold_change<D: Disk>(
     ensures sound { IsSound table.new }
     ensures replays { OnOk result (Replays (event_image event) (unlocked_table table.old) (unlocked_table table.new)) }
     ensures small { OnOk result (length (event_image event) ≤ 1048576) }
+    ensures some { OnOk result (0 < length (event_image event)) }
+    ensures first { IsErrOf result KeepFault.Write → length frame.old ≡ 0 }
     ensures event { OnOk result (frame.new ≡ frame.old ++ event_image event) }
     ensures same { OnErr result (frame.new ≡ frame.old) }
     ensures any_moment { (committed : TableValue) → (length frame.old ≡ 0 → unlocked_table table.old ≡ committed) → AllHold store.old committed → LeavesTable store.old store.new committed }

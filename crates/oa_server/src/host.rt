@@ -1,11 +1,11 @@
 //! A library and a table in memory, and one turn after another.
-ghost use Rattle.std.specs.Prelude.{◌≡◌, List, ℕ, [], map, length, true, false, IsOk, IfOk, OnOk, OnErr};
+ghost use Rattle.std.specs.Prelude.{◌≡◌, ◌⊎◌, ◌<◌, List, ℕ, [], map, length, true, false, IsOk, IfOk, OnOk, OnErr};
 ghost use Rattle.oa_groups.specs.Served.{Goes};
 ghost use Rattle.oa_keeper.specs.Kept.{AllHold, HasRoom, LeavesTable};
 ghost use Rattle.oa_server.specs.Decisions.{ChangesNoLocks, Decides, after_outcome, relocked, relocking};
 ghost use Rattle.oa_server.specs.Limits.{IsSound, allowed};
 ghost use Rattle.oa_server.specs.Plans.{HasNoEvent, HoldsSame, IsPlanned, Plans, PlansChange};
-ghost use Rattle.oa_server.specs.Requests.{HasTurn, IsHeldBack, held_of};
+ghost use Rattle.oa_server.specs.Requests.{HasTurn, IsHeldBack, held_of, is_starved};
 ghost use Rattle.oa_server.specs.Steps.{decided, reply_with, takes_memory};
 ghost use Rattle.oa_server.specs.Turns.{Run, Turn};
 ghost use Rattle.oa_table.specs.Events.{BringsNoLocks};
@@ -137,6 +137,9 @@ impl Host {
         ensures turn { IfOk result (λ reply. IsHeldBack body.now reply frame.old frame.new self.old self.new) }
         ensures failed { OnErr result (HasTurn body.now self.old self.new) }
         ensures same { OnErr result (frame.new ≡ frame.old) }
+        ensures first { OnErr result (length frame.old ≡ 0) }
+        // The device is called for an event alone, or for one that would have been but for memory.
+        ensures calls { IfOk result (λ reply. (store.new.disk ≡ store.old.disk) ⊎ ((length frame.old < length frame.new) ⊎ (is_starved reply ≡ true))) }
         ensures any_moment { (committed : TableValue) → (length frame.old ≡ 0 → held_of self.old ≡ committed) → AllHold store.old committed → LeavesTable store.old store.new committed }
         ensures each { store.new.stopped ≡ false → (committed : TableValue) → (length frame.old ≡ 0 → held_of self.old ≡ committed) → AllHold store.old committed → AllHold store.new committed }
         ensures room { store.new.stopped ≡ false → HasRoom frame.new store.new }
@@ -164,6 +167,9 @@ impl Host {
         ensures turn { IfOk result (λ reply. (body : List ℕ) → IsPlanned self.old body planned → IsHeldBack body reply frame.old frame.new self.old self.new) }
         ensures failed { OnErr result ((body : List ℕ) → IsPlanned self.old body planned → HasTurn body self.old self.new) }
         ensures same { OnErr result (frame.new ≡ frame.old) }
+        ensures first { OnErr result (length frame.old ≡ 0) }
+        // The device is called for an event alone, or for one that would have been but for memory.
+        ensures calls { IfOk result (λ reply. (store.new.disk ≡ store.old.disk) ⊎ ((length frame.old < length frame.new) ⊎ (is_starved reply ≡ true))) }
         ensures any_moment { (committed : TableValue) → (length frame.old ≡ 0 → held_of self.old ≡ committed) → AllHold store.old committed → LeavesTable store.old store.new committed }
         ensures each { store.new.stopped ≡ false → (committed : TableValue) → (length frame.old ≡ 0 → held_of self.old ≡ committed) → AllHold store.old committed → AllHold store.new committed }
         ensures room { store.new.stopped ≡ false → HasRoom frame.new store.new }

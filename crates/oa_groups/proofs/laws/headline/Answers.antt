@@ -3,4 +3,4 @@ use Rattle.oa_groups.specs.Simple.{simple}
 use Rattle.oa_groups.proofs.laws.headline.Goals as goal
 
 pub returns : goal.returns
-returns c = headline simple
+returns g c = headline simple g.D.Disk

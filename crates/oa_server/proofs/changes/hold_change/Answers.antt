@@ -1,3 +1,4 @@
+use Rattle.oa_image.proofs.Lengths.{event_bytes}
 use Rattle.oa_keeper.proofs.Committed.{one_event}
 use Rattle.oa_server.proofs.Allowed.{is_allowed, stays_sound}
 use Rattle.oa_server.proofs.changes.hold_change.Goals as goal
@@ -10,3 +11,6 @@ returns-in-Ok-clause-sound g c = stays_sound c.args.event c.args.table.now c.hol
 
 pub returns-in-Ok-clause-small : goal.returns-in-Ok-clause-small
 returns-in-Ok-clause-small g c = (is_allowed c.args.event c.args.table.now c.hold.new.table c.requires.allowed c.in-Ok.ensures.change).event_small
+
+pub returns-in-Ok-clause-some : goal.returns-in-Ok-clause-some
+returns-in-Ok-clause-some g c = event_bytes c.args.event c.is_event.ensures

@@ -13,9 +13,9 @@ returns-in_default-commit g c =
     let said = c.in-Ok.ensures in
     let mid = c.turn_held.new.store in
     let new = c.commit.new.store in
-    let then = goes mid new said.going c.commit.ensures.library c.commit.ensures.honest c.commit.ensures.failures (λ stopped. c.in_default-commit.ensures.stops.1) in
+    let then = goes mid new said.going c.commit.ensures.library c.commit.ensures.honest c.commit.ensures.failures (λ stopped. c.in_default-commit.ensures.stops.1) c.commit.ensures.unfailed in
     commit_failed {g = g.D.Disk} (λ d f honest since. g.met.D.Disk.only_now d f honest since) c.args.store.now mid (search rules) c.args.host.now c.turn_held.new.self c.args.body.now c.new-frame.result c.new-frame.ensures said.goes said.any_moment said.going new c.in-Ok.reply c.turn_held.new.frame said.turn then (said.each said.going)
-    c.commit.ensures.any_moment c.commit.ensures.each c.bare-in_default-commit.result (search rules) c.in_default-commit.ensures.stops.0
+    c.commit.ensures.any_moment c.commit.ensures.each said.calls (λ none. (c.commit.ensures.quiet none).0) c.bare-in_default-commit.result (search rules) c.in_default-commit.ensures.stops.0
 
 pub returns : goal.returns
 returns g c =
@@ -23,6 +23,6 @@ returns g c =
     let mid = c.turn_held.new.store in
     let new = c.commit.new.store in
     let going = c.in-Ok-commit.ensures.going in
-    let then = goes mid new said.going c.commit.ensures.library c.commit.ensures.honest c.commit.ensures.failures (λ stopped. absurd (true≢false (sym stopped ∙ going))) in
+    let then = goes mid new said.going c.commit.ensures.library c.commit.ensures.honest c.commit.ensures.failures (λ stopped. absurd (true≢false (sym stopped ∙ going))) c.commit.ensures.unfailed in
     committed {g = g.D.Disk} (λ d f honest since. g.met.D.Disk.only_now d f honest since) c.args.store.now mid (search rules) c.args.host.now c.turn_held.new.self c.args.body.now c.new-frame.result c.new-frame.ensures said.goes said.any_moment said.going new c.in-Ok.reply c.turn_held.new.frame said.turn then (said.each said.going)
-    c.commit.ensures.any_moment c.commit.ensures.each going
+    c.commit.ensures.any_moment c.commit.ensures.each said.calls (λ none. (c.commit.ensures.quiet none).0) going

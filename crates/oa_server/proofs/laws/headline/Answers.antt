@@ -3,4 +3,4 @@ use Rattle.oa_server.specs.Requests.{requests}
 use Rattle.oa_server.proofs.laws.headline.Goals as goal
 
 pub returns : goal.returns
-returns c = headline requests
+returns g c = headline requests g.D.Disk

@@ -1,17 +1,20 @@
 #!/usr/bin/env python3
 """Times puts into a store, beside what the same bytes cost when they are written by hand and what SQLite makes of as many puts.
 
-    python3 bench/durable.py [PROGRAM [FOLDER [SECONDS]]]
+    python3 bench/durable.py [PROGRAM [FOLDER [SECONDS [ROUNDS]]]]
 
-PROGRAM is crates/oaut/out/oaut where none is given, FOLDER the one that the files are made in (the current one), SECONDS how long each measurement goes on (2).
-Three ways take turns on one file system, each with groups of 1, 16, 256 and 1,024 puts of a long:
+PROGRAM is crates/oaut/out/oaut where none is given, FOLDER the one that the files are made in (the current one), SECONDS how long each measurement goes on (0.5), ROUNDS how often each is made (9).
+Four ways take turns on one file system, each with groups of 1, 16, 256 and 1,024 puts of a long:
 
 - store: `oaut serve --group N`, over pipes, as fast as it answers;
 - calls: for each group a frame of its bytes by `pwrite`, `fdatasync`, its gate by `pwrite`, `fdatasync`, in a file whose blocks are there: the least that this order of writes costs;
-- SQLite: in a WAL with `synchronous = FULL`, one transaction of N updates of a row by its key, by one call of Python's module.
+- SQLite: in a WAL with `synchronous = FULL`, one transaction of N updates of a row by its key, by one call of Python's module (`executemany`), so with no step of Python an update;
+- each: the same with a call an update, as a script does it whose updates come one by one.
 
-Each is measured three times, and the middle one is printed, and how many times the others' the store's is. Then the latency of one put that is waited for, from the client's write to its read: the median and the 99th percentile.
+Printed are the middle one of the rounds, and in the middle how many times another way's the store's is in the same round: a device that others use is now fast and now slow. Then the latency of one put that is waited for, from the client's write to its read: the
+median and the 99th percentile.
 """
+import fcntl
 import os
 import sqlite3
 import statistics
@@ -31,11 +34,13 @@ from oaut import PROPERTYPUT, ask_create, ask_invoke
 
 PROGRAM = os.path.abspath(sys.argv[1]) if len(sys.argv) > 1 else f"{ROOT}/crates/oaut/out/oaut"
 FOLDER = sys.argv[2] if len(sys.argv) > 2 else "."
-SECONDS = float(sys.argv[3]) if len(sys.argv) > 3 else 2
+SECONDS = float(sys.argv[3]) if len(sys.argv) > 3 else 0.5
+ROUNDS = int(sys.argv[4]) if len(sys.argv) > 4 else 9
 GROUPS = [it for it in (1, 16, 256, 1_024) if subprocess.run([PROGRAM, "serve", "none", "none", "--group", str(it)], stderr=subprocess.DEVNULL).returncode != 2]
 EVENT = 33  # the bytes of the put of a long
 ITEM = bytes.fromhex("443322116655887799aabbccddeeff03")
 REPLY = 20
+SET_PIPE_SIZE = 1_031  # F_SETPIPE_SZ of Linux, which the module has from Python 3.10 on
 
 
 def record(body):
@@ -47,16 +52,16 @@ PUT = record(struct.pack("<I", 2) + ask_invoke(1, 1, PROPERTYPUT, [-3], [wire.sc
 
 
 class Serve:
-    """A session over a new store, with one object."""
+    """A session over a store that begins anew, with one object. Its file is made once: 33 MB of zeros would be in the way of what is measured."""
 
     def __init__(self, room, group):
         path = f"{room}/it.store"
-        if os.path.exists(path):
-            os.unlink(path)
         library = f"{ROOT}/examples/small.idl"
         subprocess.run([PROGRAM, "format", path, library], check=True, stdout=subprocess.DEVNULL)
         subprocess.run([PROGRAM, "serve", path, library], check=True, input=CREATE, stdout=subprocess.DEVNULL)
         self.child = subprocess.Popen([PROGRAM, "serve", path, library, "--group", str(group)], stdin=subprocess.PIPE, stdout=subprocess.PIPE, bufsize=0)
+        for pipe in (self.child.stdin, self.child.stdout):
+            fcntl.fcntl(pipe, SET_PIPE_SIZE, 1 << 20)  # room for some groups, so that the server waits for the device and not for this script
 
     def __enter__(self):
         return self
@@ -76,7 +81,7 @@ class Serve:
 
     def puts(self, group):
         """Puts a second, from the first reply on."""
-        over, some = False, PUT * max(group, 64)
+        over, some = False, PUT * max(2 * group, 64)
 
         def feed():
             while not over:
@@ -87,7 +92,7 @@ class Serve:
         self.hear(REPLY)
         heard, started = 0, time.perf_counter()
         while (now := time.perf_counter()) < started + SECONDS:
-            heard += len(self.child.stdout.read(1 << 16))
+            heard += len(self.child.stdout.read(1 << 20))
         over = True
         # what still comes lets the feeding end
         threading.Thread(target=lambda: [None for _ in iter(lambda: self.child.stdout.read(1 << 16), b"")], daemon=True).start()
@@ -144,15 +149,19 @@ class Sqlite:
         self.base.execute("INSERT OR IGNORE INTO cells VALUES (1, 1, 0)")
         self.count = 0
 
-    def commit(self, group):
+    def commit(self, group, each=False):
+        update, rows = "UPDATE cells SET value = ? WHERE object = 1 AND dispid = 1", [(self.count + it,) for it in range(group)]
         self.base.execute("BEGIN IMMEDIATE")
-        # one statement that is prepared once, and no step of Python for each row
-        self.base.executemany("UPDATE cells SET value = ? WHERE object = 1 AND dispid = 1", [(self.count + it,) for it in range(group)])
-        self.count += group
+        if each:
+            for row in rows:
+                self.base.execute(update, row)
+        else:
+            self.base.executemany(update, rows)
         self.base.execute("COMMIT")
+        self.count += group
 
-    def puts(self, group):
-        return repeated(lambda: self.commit(group)) * group
+    def puts(self, group, each=False):
+        return repeated(lambda: self.commit(group, each)) * group
 
     def latencies(self):
         return timed(lambda: self.commit(1))
@@ -189,12 +198,14 @@ def serve_latencies(room):
 with tempfile.TemporaryDirectory(dir=FOLDER) as room:
     calls, base = Calls(room), Sqlite(room)
     print(f"puts a second on {os.path.abspath(FOLDER)}, SQLite {sqlite3.sqlite_version}")
-    print(f"{'group':>5} {'store':>10} {'calls':>10} {'SQLite':>10} {'by calls':>9} {'by SQLite':>9}")
+    print(f"{'group':>5} {'store':>10} {'calls':>10} {'SQLite':>10} {'each':>10} {'by calls':>9} {'by SQLite':>9} {'by each':>9}")
     for group in GROUPS:
-        rounds = [(serve_puts(room, group), calls.puts(group), base.puts(group)) for _ in range(3)]
+        rounds = [(serve_puts(room, group), calls.puts(group), base.puts(group), base.puts(group, True)) for _ in range(ROUNDS)]
         found = [statistics.median(it) for it in zip(*rounds)]
-        print(f"{group:5}", *(f"{it:10,.0f}" for it in found), f"{found[0] / found[1]:9.2f} {found[0] / found[2]:9.2f}")
+        times = [statistics.median(it[0] / it[way] for it in rounds) for way in (1, 2, 3)]
+        print(f"{group:5}", *(f"{it:10,.0f}" for it in found), *(f"{it:9.2f}" for it in times))
     print("one put, in microseconds: median, 99th percentile")
-    for name, found in (("store", serve_latencies(room)), ("calls", calls.latencies()), ("SQLite", base.latencies())):
-        found = sorted(it * 1e6 for it in found)
+    rounds = [(serve_latencies(room), calls.latencies(), base.latencies()) for _ in range(ROUNDS)]
+    for name, them in zip(("store", "calls", "SQLite"), zip(*rounds)):
+        found = sorted(it * 1e6 for some in them for it in some)
         print(f"{name:>6} {statistics.median(found):8,.0f} {found[len(found) * 99 // 100]:8,.0f}")

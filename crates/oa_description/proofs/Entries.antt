@@ -1,5 +1,5 @@
 -- What is left of a list where nothing is left out, and what stands at the end of the descriptions.
-use Rattle.std.proofs.Common.{◌≡◌, ◌+◌, ℕ, zero, suc, true, false, List, [], ◌∷◌, ◌++◌, length, map, slice_get, Option, None, Some, is_some, IsSome, IfSome, refl, sym, ap, subst, ◌∙◌, true≢false, arith}
+use Rattle.std.proofs.Common.{◌≡◌, ◌+◌, ℕ, suc, List, [], ◌∷◌, ◌++◌, length, map, slice_get, Option, None, Some, IsSome, IfSome, refl, sym, ap, subst, ◌∙◌, true≢false, arith}
 use Rattle.std.specs.List.{AllByRecursion, cons_option, filter_map}
 use Rattle.std.specs.Option.{option_map}
 use Rattle.std.proofs.lemmas.List.{length-map}
@@ -9,7 +9,6 @@ use Rattle.oa_idl.specs.Values.{CoclassValue}
 use Rattle.oa_idl.specs.declared.items.Item.{Item}
 use Rattle.oa_idl.specs.declared.items.Item.TheVariants.{Interface, Coclass}
 use Rattle.oa_typelib.specs.Checked.{IsChecked, IsClass, HasClass}
-use Rattle.oa_typelib.specs.DescriptionValues.{DescriptionValue}
 use Rattle.oa_typelib.specs.Descriptions.{class_description, classes_of, description_at, entry_description, interface_description, interfaces_of}
 use Rattle.oa_typelib.proofs.Classes.{tree_whole}
 use Rattle.oa_typelib.proofs.Found.{get_all}

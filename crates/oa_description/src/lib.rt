@@ -2,5 +2,6 @@
 #![tactic(auto)]
 
 mod description;
+pub mod laws;
 
 pub use description::description_field;

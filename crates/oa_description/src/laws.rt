@@ -1,0 +1,26 @@
+//! A law of the definitions of descriptions, the contract of a function with an empty body.
+ghost use Rattle.std.specs.Prelude.{◌≡◌, ◌+◌, ℕ, Some, length, map, slice_get};
+ghost use Rattle.std.specs.List.{filter_map};
+ghost use Rattle.oa_idl.specs.Trees.{TreeValue};
+ghost use Rattle.oa_idl.specs.Values.{CoclassValue};
+ghost use Rattle.oa_typelib.specs.Checked.{IsChecked};
+ghost use Rattle.oa_typelib.specs.Descriptions.{
+  class_description,
+  classes_of,
+  description_at,
+  entry_description,
+  interfaces_of,
+};
+
+/// Behind the descriptions of a library's interfaces stands one of each coclass, and none leaves an entry out: an entry names an interface
+/// of the library, with an index of 32 bits, and stands in the description at its place in the text.
+pub fn no_entry_is_left_out()
+    ensures described { (library : TreeValue) (index : ℕ) (class : CoclassValue)
+        → slice_get (classes_of library.items) index ≡ Some class
+        → description_at library (length (interfaces_of library.items) + index)
+        ≡ Some (class_description (interfaces_of library.items) class) }
+    ensures entries { (library : TreeValue) (index : ℕ) (class : CoclassValue)
+        → IsChecked library → slice_get (classes_of library.items) index ≡ Some class
+        → map Some (filter_map (entry_description (interfaces_of library.items)) class.entries)
+        ≡ map (entry_description (interfaces_of library.items)) class.entries }
+{}

@@ -1,20 +1,20 @@
 -- What follows of a checked tree: each coclass has a default interface, and each of its entries has a description.
-use Rattle.std.proofs.Common.{◌≡◌, ◌<◌, ◌≤◌, ℕ, zero, suc, Bool, true, false, cond, ◌||◌, if◌then◌else◌, List, [], ◌∷◌, length, map, find, position, slice_get, nat_lt, Option, None, Some, is_some, IsSome, IfSome, refl, sym, ap, subst, ◌∙◌, true≢false, arith}
+use Rattle.std.proofs.Common.{◌≡◌, ◌≤◌, ℕ, Bool, true, false, cond, ◌||◌, if◌then◌else◌, List, [], ◌∷◌, length, map, find, position, slice_get, nat_lt, Option, None, Some, is_some, IsSome, IfSome, refl, sym, ap, subst, ◌∙◌, true≢false, arith}
 use Rattle.std.proofs.lemmas.Bool.Decides.{nat_tests}
-use Rattle.std.specs.List.{AllByRecursion, list_any, filter_map, position_or_len}
+use Rattle.std.specs.List.{AllByRecursion, list_any, position_or_len}
 use Rattle.std.specs.Option.{option_and_then}
 use Rattle.oa_model.specs.Folding.{folded_name}
 use Rattle.oa_idl.specs.Limits.{one_interface, how_many}
 use Rattle.oa_idl.specs.Trees.{TreeValue}
-use Rattle.oa_idl.specs.Values.{InterfaceValue, CoclassValue}
+use Rattle.oa_idl.specs.Values.{InterfaceValue}
 use Rattle.oa_idl.specs.declared.parts.Entry.{Entry}
 use Rattle.oa_idl.specs.declared.items.Item.{Item}
 use Rattle.oa_idl.specs.declared.items.Item.TheVariants.{Interface, Coclass}
 use Rattle.oa_idl.specs.declared.stop.TreeLimit.TheVariants as limits
 use Rattle.oa_typelib.specs.Breaches.{unknown_name, entry_breach}
-use Rattle.oa_typelib.specs.Checked.{IsChecked, IsClass, HasClass, IsWhole}
+use Rattle.oa_typelib.specs.Checked.{IsChecked, HasClass, IsWhole}
 use Rattle.oa_typelib.specs.Descriptions.{entry_at, entry_description, interfaces_of}
-use Rattle.oa_typelib.specs.Libraries.{same, same_name, name_of, guid_of, as_interface, as_class, interface_named, item_with, class_of, default_interface, mark, mark_first, marked, marked_entries, marked_item}
+use Rattle.oa_typelib.specs.Libraries.{same, same_name, name_of, guid_of, as_interface, as_class, interface_named, item_with, class_of, default_interface, mark_first, marked_entries, marked_item}
 use Rattle.oa_typelib.proofs.Found.{find_all}
 use Rattle.oa_typelib.proofs.Groups.{any_place}
 use Rattle.oa_typelib.proofs.Lists.{list_any-map, position-map}

@@ -1,5 +1,5 @@
 -- What is found among declarations that calls can be bound to.
-use Rattle.std.proofs.Common.{◌≡◌, ◌≤◌, refl, subst, ap, ◌∙◌, map, ℕ, zero, suc, ◌-◌, length, take, ℤ, Bool, true, false, cond, if◌then◌else◌, find, List, [], ◌∷◌, Option, Some, None, IfSome, IfOk, Result, Ok, Err, slice_get, arith}
+use Rattle.std.proofs.Common.{◌≡◌, ◌≤◌, refl, ap, ◌∙◌, map, ℕ, zero, suc, ◌-◌, length, take, ℤ, Bool, true, false, cond, if◌then◌else◌, find, List, [], ◌∷◌, Option, Some, None, IfSome, IfOk, Result, Ok, Err, slice_get, arith}
 use Rattle.std.proofs.lemmas.List.{length-take, length-map, take-map}
 use Rattle.std.specs.List.{AllByRecursion, filter}
 use Rattle.std.specs.Option.{option_map, option_and_then, option_or}

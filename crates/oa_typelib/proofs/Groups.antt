@@ -47,7 +47,7 @@ lt_step n m = by (nat_lt n m) refl
     by true h = grind (arith, nat_tests)
     by false h = grind (arith, nat_tests)
 
-position_step : (b : Bool) (n m : ℕ) → cond (nat_lt (cond (not b) (1 + n) 0) (suc m)) (Some (cond (not b) (1 + n) 0)) None ≡ cond b (Some zero) (option_map (λ n. suc n) (cond (nat_lt n m) (Some n) None))
+pub position_step : (b : Bool) (n m : ℕ) → cond (nat_lt (cond (not b) (1 + n) 0) (suc m)) (Some (cond (not b) (1 + n) 0)) None ≡ cond b (Some zero) (option_map (λ n. suc n) (cond (nat_lt n m) (Some n) None))
 position_step true n m = let e : nat_lt 0 (suc m) ≡ true = grind (arith, nat_tests) in rw e refl
 position_step false n m = ap (λ b. cond b (Some (1 + n)) None) (lt_step n m) ∙ later_by (nat_lt n m) n
 

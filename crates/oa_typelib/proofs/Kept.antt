@@ -26,10 +26,6 @@ kept_step : {X Y : Type 0} (f : X → Option Y) (o : Option Y) (x : X) (xs : Lis
 kept_step f None x xs ys h = h
 kept_step f (Some y) x xs ys h = ap (λ n. suc n) h
 
-pub kept_length : {X Y : Type 0} (f : X → Option Y) (xs : List X) → length (filter (λ x. is_some (f x)) xs) ≡ length (filter_map f xs)
-kept_length f [] = refl
-kept_length f (x ∷ xs) = kept_step f (f x) x (filter (λ x. is_some (f x)) xs) (filter_map f xs) (kept_length f xs)
-
 module _ {X Y : Type 0} (f : X → Option Y) (xs : List X) (i : ℕ) (x : X) (h : i < length xs) (is : x ≡ get_or xs i x) where
   -- the next one that is kept, where there is one at this place
   pub nth_here : (y : Y) → f x ≡ Some y → option_and_then f (slice_get xs i) ≡ slice_get (filter_map f (drop i xs)) 0

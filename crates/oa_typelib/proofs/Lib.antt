@@ -7,6 +7,7 @@ pub mod Kept
 pub mod Lists
 pub mod Looks
 pub mod Named
+pub mod Naming
 pub mod Passes
 pub mod Rules
 pub mod Sound

@@ -1,5 +1,5 @@
 -- What the index of an interface finds.
-use Rattle.std.proofs.Common.{◌≡◌, ◌≤◌, ◌-◌, ◌++◌, ◌∷◌, [], zero, suc, length, arith, append_assoc, if◌then◌else◌, Option, Some, None, is_some, ℕ, ℤ, Bool, true, false, List, Bor, Vec, Global, map, fold, position, slice_get, refl, sym, ap, ◌∙◌}
+use Rattle.std.proofs.Common.{◌≡◌, ◌-◌, ◌++◌, ◌∷◌, [], zero, suc, length, arith, append_assoc, if◌then◌else◌, Option, Some, None, is_some, ℕ, ℤ, Bool, true, false, List, Bor, Vec, Global, map, fold, position, slice_get, refl, sym, ap, ◌∙◌}
 use Rattle.std.proofs.lemmas.Cmp.{int_eq_equiv, nat_list_eq_equiv}
 use Rattle.std.proofs.lemmas.Option.{slice_get-map}
 use Rattle.std.specs.Option.{option_map, option_and_then}
@@ -132,28 +132,12 @@ class_by_name is c =
     (filter_map-same (entry_in (groups_of same (map (λ (i : InterfaceValue). folded_name i.name) is))) (entry_description is) (λ e. ap (option_and_then (entry_at e.is_default)) (by_name is e.interface)) c.entries)
 
 -- ---- descriptions by an index
-past : {X : Type 0} (xs : List X) (n : ℕ) → slice_get xs n ≡ None → length xs ≤ n
-past [] n h = omega arith
-past (x ∷ xs) zero h = absurd (cc)
-past (x ∷ xs) (suc n) h = omega (arith, past xs n h)
-
-at_first : {X Y : Type 0} (f : X → Y) (xs : List X) (ys : List Y) (n : ℕ) (x : X) → slice_get xs n ≡ Some x → slice_get (map f xs ++ ys) n ≡ Some (f x)
-at_first f [] ys n x h = absurd (cc)
-at_first f (y ∷ xs) ys zero x h = let e : y ≡ x = cc in rw e refl
-at_first f (y ∷ xs) ys (suc n) x h = at_first f xs ys n x h
-
 at_second : {X Y : Type 0} (f : X → Y) (xs : List X) (ys : List Y) (n : ℕ) → slice_get xs n ≡ None → slice_get (map f xs ++ ys) n ≡ slice_get ys (n - length xs)
 at_second f [] ys n h = let e : n - 0 ≡ n = omega arith in rw e refl
 at_second f (y ∷ xs) ys zero h = absurd (cc)
 at_second f (y ∷ xs) ys (suc n) h = let e : suc n - suc (length xs) ≡ n - length xs = omega arith in at_second f xs ys n h ∙ rw e refl
 
 module _ (t : TreeValue) (n : ℕ) where
-  pub interface_there : (i : InterfaceValue) → slice_get (interfaces_of t.items) n ≡ Some i → description_at t n ≡ Some (interface_description i)
-  interface_there i h = at_first interface_description (interfaces_of t.items) (map (class_description (interfaces_of t.items)) (classes_of t.items)) n i h
-
-  pub past_interfaces : slice_get (interfaces_of t.items) n ≡ None → length (interfaces_of t.items) ≤ n
-  past_interfaces h = past (interfaces_of t.items) n h
-
   pub class_there : (m : ℕ) (o : Option CoclassValue) → slice_get (interfaces_of t.items) n ≡ None → m ≡ n - length (interfaces_of t.items) → o ≡ slice_get (classes_of t.items) m → description_at t n ≡ option_map (class_description (interfaces_of t.items)) o
   class_there m o none at is =
       at_second interface_description (interfaces_of t.items) (map (class_description (interfaces_of t.items)) (classes_of t.items)) n none

@@ -1,12 +1,10 @@
 -- Rules for two declarations of an interface.
-use Rattle.std.proofs.Common.{◌≡◌, ◌<◌, ◌≤◌, ◌+◌, ℕ, zero, suc, Bool, true, false, not, ◌&&◌, List, [], ◌∷◌, length, take, drop, get_or, Option, None, Some, refl, sym, ap, ◌∙◌, arith, add-one, true≢false, if◌then◌else◌}
-use Rattle.std.proofs.Math.Seq.{drop-cons}
-use Rattle.std.proofs.Math.ListN.{drop_of_length-le}
+use Rattle.std.proofs.Common.{◌≡◌, ◌<◌, ◌+◌, ℕ, zero, suc, Bool, true, false, not, ◌&&◌, List, [], ◌∷◌, length, take, get_or, Option, None, Some, refl, sym, ap, ◌∙◌, arith, true≢false, if◌then◌else◌}
 use Rattle.std.proofs.lemmas.List.{take_more, get_or-take, get_or_default}
 use Rattle.std.proofs.lemmas.Option.{slice_get_read}
 use Rattle.std.proofs.lemmas.Cmp.{on_equiv, and_equiv, lists_equiv, int_eq_equiv, nat_eq_equiv, nat_list_eq_equiv}
 use Rattle.std.specs.Cmp.{IsEquivalence, bool_eq_equiv}
-use Rattle.std.specs.Cmp.Lexicographic.{pointwise, on_texts_equal, options_equiv}
+use Rattle.std.specs.Cmp.Lexicographic.{on_texts_equal, options_equiv}
 use Rattle.std.specs.List.{list_any}
 use Rattle.oa_model.specs.Folding.{folded_name}
 use Rattle.oa_model.specs.Types.{vt_of_value}
@@ -75,7 +73,7 @@ parameters_equiv =
     (on_equiv is_optional bool_eq_equiv))
     (on_equiv (λ (p : Parameter). p.default) (options_equiv literals_equiv))
 
-agree_equiv : IsEquivalence agree
+pub agree_equiv : IsEquivalence agree
 unfolding agree
 agree_equiv =
     and_equiv (and_equiv
@@ -143,15 +141,3 @@ module _ (rule : Rule) (all : List DeclarationValue) (before : List (Option ℕ)
   kept_here kept none =
       let t = take_more all i d here in
       rw (t, ← is) (keeps_more (alike rule) (suits rule) (take i all) d kept (unbroken (list_any (breaks rule d) (take i all)) none))
-
--- ---- lists that are compared member by member
-
-module _ {X : Type 0} (eq : X → X → Bool) (xs ys : List X) (i : ℕ) where
-  pub pair_turn : (x y : X) → i < length xs → i < length ys → x ≡ get_or xs i x → y ≡ get_or ys i y → pointwise eq (drop i xs) (drop i ys) ≡ (eq x y && pointwise eq (drop (i + 1) xs) (drop (i + 1) ys))
-  pair_turn x y h k is at =
-      let d = drop-cons xs i x h in
-      let e = drop-cons ys i y k in
-      rw (d, e, ← is, ← at, add-one) refl
-
-  pub pairs_done : length xs ≤ i → length ys ≤ i → pointwise eq (drop i xs) (drop i ys) ≡ true
-  pairs_done h k = rw (drop_of_length-le xs h, drop_of_length-le ys k) refl

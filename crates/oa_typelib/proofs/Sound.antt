@@ -21,9 +21,9 @@ use Rattle.oa_typelib.specs.Bindable.{IsOne, AreScalars, HasGoodDefault, IsSound
 use Rattle.oa_typelib.specs.Breaches.{first_breach, tree_breach, text_breach, key_breaches, interface_breach, form_breaches, form_breach, array_breach, default_breach, in_interface, array_in, named_first, is_array, is_bad, bad_default_in, if_optional}
 use Rattle.oa_typelib.specs.Checked.{IsChecked}
 use Rattle.oa_typelib.specs.DeclarationValues.{DeclarationValue}
-use Rattle.oa_typelib.specs.Declarations.{declarations, of_property, of_method, kind_of_property, kind_of_method, is_put, is_form, own_parameters, new_value, type_of_value}
+use Rattle.oa_typelib.specs.Declarations.{declarations, of_property, of_method, kind_of_method, is_form, own_parameters, new_value, type_of_value}
 use Rattle.oa_typelib.specs.Defaults.{default_of}
-use Rattle.oa_typelib.specs.Libraries.{marked, marked_item}
+use Rattle.oa_typelib.specs.Libraries.{marked_item}
 use Rattle.oa_typelib.specs.Members.{is_method}
 use Rattle.oa_typelib.specs.Repeats.{first_answer}
 use Rattle.oa_typelib.specs.Typed.{IsDeclarable, IsTypedDeclaration, IsTypedItem}
@@ -37,7 +37,7 @@ pub neither : {Y : Type 0} (o p : Option Y) → option_or o p ≡ None → (o �
 neither None p e = (refl, e)
 neither (Some y) p e = absurd (none-some y (sym e))
 
-unmapped : {X Y : Type 0} (f : X → Y) (o : Option X) → option_map f o ≡ None → o ≡ None
+pub unmapped : {X Y : Type 0} (f : X → Y) (o : Option X) → option_map f o ≡ None → o ≡ None
 unmapped f None e = refl
 unmapped f (Some x) e = absurd (none-some (f x) (sym e))
 
@@ -111,9 +111,6 @@ method_scalars : (m : MethodValue) (k : MethodKind) → m.kind ≡ k → array_i
 method_scalars m forms.Method e n h = true-false (ap (λ (j : MethodKind). is_method (kind_of_method j)) (sym e) ∙ h)
 method_scalars m forms.Get e n h = scalars_of (of_method m) (ap (λ (j : MethodKind). is_form (kind_of_method j)) e) n
 method_scalars m forms.Put e n h = scalars_of (of_method m) (ap (λ (j : MethodKind). is_form (kind_of_method j)) e) n
-
-abbrev IsFree : DeclarationValue → Type 0
-IsFree d = (array_in d ≡ None) × (bad_default_in d ≡ None)
 
 property_sound : (p : Property) → IsTypedDeclaration (of_property p) → bad_default_in (of_property p) ≡ None → IsSound (of_property p)
 property_sound p typed good = record {

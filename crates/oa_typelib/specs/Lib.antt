@@ -20,6 +20,7 @@ pub mod Members
 pub mod MemberCodes
 pub mod NamedValues
 pub mod Names
+pub mod Naming
 pub mod Repeats
 pub mod Taken
 pub mod Typed

@@ -1,5 +1,5 @@
 -- What a tree says of its interfaces and coclasses.
-use Rattle.std.specs.Prelude.{ℕ, Bool, true, nat_eq, if◌then◌else◌, List, [], ◌∷◌, Option, Some, None, map, find}
+use Rattle.std.specs.Prelude.{ℕ, Bool, nat_eq, if◌then◌else◌, List, Option, Some, None, find}
 use Rattle.std.specs.Cmp.Lexicographic.{pointwise}
 use Rattle.std.specs.List.{list_any}
 use Rattle.std.specs.Option.{option_and_then}

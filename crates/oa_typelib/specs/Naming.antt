@@ -1,5 +1,5 @@
 -- What a name names in an interface, said without a search (MS-OAUT section 3.1.4.3).
-use Rattle.std.specs.Prelude.{◌≡◌, ℕ, ℤ, pos, true, List, Option, Some, slice_get}
+use Rattle.std.specs.Prelude.{◌≡◌, ℕ, ℤ, pos, true, List, Some, slice_get}
 use Rattle.oa_idl.specs.Values.{InterfaceValue}
 use Rattle.oa_idl.specs.declared.parts.Parameter.{Parameter}
 use Rattle.oa_typelib.specs.DeclarationValues.{DeclarationValue}

@@ -1,6 +1,6 @@
 // What an interface declares.
 ghost use Rattle.std.specs.Prelude.{◌≡◌, ◌++◌, IfOk, OnOk, map, option_copied, slice_get};
-ghost use Rattle.oa_typelib.specs.Declarations.{kind_of_property, kind_of_method, of_property, of_method, declarations, is_put, is_form, are_one_member, own_parameters, new_value, type_of_value};
+ghost use Rattle.oa_typelib.specs.Declarations.{kind_of_property, kind_of_method, of_property, of_method, declarations, is_put, is_form, own_parameters, new_value, type_of_value};
 ghost use Rattle.oa_typelib.specs.Defaults.{default_value};
 ghost use Rattle.oa_typelib.specs.Indexes.{defaults_of};
 
@@ -57,19 +57,6 @@ impl DeclarationKind {
         ensures { result ≡ is_form self }
     {
         matches!(self, DeclarationKind::Get | DeclarationKind::Put)
-    }
-
-    /// Whether declarations of one name with these kinds are one member: one is a get and the other a put.
-    pub(crate) fn is_one_member_with(self, other: DeclarationKind) -> bool
-        ensures { result ≡ are_one_member self other }
-    {
-        match self {
-            DeclarationKind::Get => matches!(other, DeclarationKind::Put),
-            DeclarationKind::Put => matches!(other, DeclarationKind::Get),
-            DeclarationKind::Property
-            | DeclarationKind::ReadonlyProperty
-            | DeclarationKind::Method => false,
-        }
     }
 }
 

@@ -12,6 +12,7 @@ mod describe;
 mod described;
 mod fault;
 mod forms;
+pub mod laws;
 mod library;
 mod member;
 mod member_checks;

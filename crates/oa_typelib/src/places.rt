@@ -3,7 +3,7 @@ ghost use Rattle.std.specs.Prelude.{◌≡◌, option_copied, slice_get};
 ghost use Rattle.std.specs.Option.{option_and_then};
 ghost use Rattle.oa_typelib.specs.Libraries.{as_interface, as_class};
 
-use oa_idl::{Coclass, Interface, Item, Property, Tree};
+use oa_idl::{Coclass, Interface, Item, Tree};
 
 /// The member of a list at a place.
 pub(crate) fn at<T>(items: &[T], place: usize) -> Option<&T>
@@ -37,11 +37,4 @@ pub(crate) fn items_of(tree: &Tree) -> &[Item]
     ensures { result.now ≡ tree.now.items }
 {
     tree.items.as_slice()
-}
-
-/// An interface's properties.
-pub(crate) fn properties_of(interface: &Interface) -> &[Property]
-    ensures { result.now ≡ interface.now.properties }
-{
-    interface.properties.as_slice()
 }

@@ -1,7 +1,6 @@
-use Rattle.std.proofs.Common.{slice_get, None, Some, refl, sym, ap, ◌∙◌}
-use Rattle.std.specs.Option.{option_and_then}
+use Rattle.std.proofs.Common.{None, Some, refl, sym, ◌∙◌}
 use Rattle.oa_idl.specs.declared.items.Item.{Item}
-use Rattle.oa_typelib.specs.Libraries.{same, guid_of, as_interface}
+use Rattle.oa_typelib.specs.Libraries.{same, guid_of}
 use Rattle.oa_typelib.proofs.Finds.{default_by_place}
 use Rattle.oa_typelib.proofs.library.Library.default_interface.Goals as goal
 

@@ -1,8 +1,6 @@
-use Rattle.std.proofs.Common.{◌≡◌, ℤ, IfOk, subst}
+use Rattle.std.proofs.Common.{◌≡◌, ℤ, subst}
 use Rattle.std.proofs.Math.Facts.{to_z-of_z}
-use Rattle.oa_typelib.specs.Members.{forms_with, has_form, main_form}
-use Rattle.oa_typelib.specs.MemberValues.{MemberValue}
-use Rattle.oa_typelib.specs.declared.access.Kind.{Kind}
+use Rattle.oa_typelib.specs.Members.{forms_with, main_form}
 use Rattle.oa_typelib.proofs.Found.{found_formed, found_typed, member_bindable}
 use Rattle.oa_typelib.proofs.members.Dispinterface.member.Goals as goal
 

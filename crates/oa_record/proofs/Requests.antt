@@ -9,7 +9,7 @@ use Rattle.oa_record.specs.CallParts.{CallParts}
 use Rattle.oa_record.specs.Layouts.{Layout, opcode_of, variant_fields}
 use Rattle.oa_record.specs.Opcodes.{number_of, opcode_at, opcode_takes_memory, some_takes_memory, takes_memory}
 use Rattle.oa_record.specs.Reading.{element_of, put_of, layout_at, Fails, IsStarvedBody}
-use Rattle.oa_record.specs.Judging.{MissesType, Requests, Refuses, Takes, put_fault, put_index}
+use Rattle.oa_record.specs.Judging.{Requests, Refuses, Takes, put_fault, put_index}
 use Rattle.oa_record.specs.declared.opcode.Opcode.TheVariants as opcodes
 use Rattle.oa_record.specs.declared.fault.RecordFault.{RecordFault}
 use Rattle.oa_record.specs.declared.fault.RecordFault.TheVariants.{Stub, BadVarType, Memory}

@@ -66,6 +66,17 @@ pub fn put_object_field(out: &mut Vec<u8>, number: u32, class: &Uuid) -> Result<
     Ok(())
 }
 
+// Adds a value of `len` bytes as a field.
+fn add_value(out: &mut Vec<u8>, value: &Variant, len: usize) -> Result<(), AllocError>
+    requires counted { len ≡ length (canon value.now) }
+    requires few { len ≤ 4294967264 }
+    ensures { OnOk result (out.new.items ≡ out.old.items ++ variant_field value.now) }
+{
+    out.extend_from_slice(&two_words(len as u32))?;
+    write_variant(value, out)?;
+    pad(out, len)
+}
+
 /// Adds a value as a field: u32 count of the value's bytes, u32 reserved, these bytes, zeros up to a multiple of 8.
 ///
 /// `TooLong` for an array above 4,294,967,264 bytes on the wire, and for nothing else. At Err a first part of the field may stand at the end
@@ -78,9 +89,7 @@ pub fn put_variant_field(out: &mut Vec<u8>, value: &Variant) -> Result<(), Field
     if len > MAX_VALUE_BYTES {
         return Err(FieldFault::TooLong);
     }
-    out.extend_from_slice(&two_words(len as u32))?;
-    write_variant(value, out)?;
-    pad(out, len)?;
+    add_value(out, value, len)?;
     Ok(())
 }
 
@@ -97,7 +106,7 @@ pub fn variant_field(alloc: Global, value: &Variant) -> Result<Vec<u8>, FieldFau
         return Err(FieldFault::TooLong);
     }
     let mut field = Vec::with_capacity(alloc, 16 + len)?;
-    put_variant_field(&mut field, value)?;
+    add_value(&mut field, value, len)?;
     Ok(field)
 }
 

@@ -18,6 +18,7 @@ pub mod Own
 pub mod Mapping
 pub mod Held
 pub mod Settled
+pub mod Lasting
 pub mod Late
 pub mod Answering
 pub mod Put

@@ -1,7 +1,4 @@
-use Rattle.std.proofs.Common.{◌≡◌, List, ℕ, ⊎_elim, sym, subst, ap, ◌∙◌, IsTrue, true≢false}
-use Rattle.oa_idl.specs.Canonical.{canonical}
-use Rattle.oa_store.specs.Stores.{IsStore, IsStoreAt}
-use Rattle.oa_table.specs.Tables.{TableValue}
+use Rattle.std.proofs.Common.{sym, subst, IsTrue, true≢false}
 use Rattle.oa_server.proofs.Lockless.{no_locks}
 use Rattle.oa_server.proofs.Opened.{can_begin, is_some_store, of_library, of_text, one_of_both}
 use Rattle.oa_server.proofs.opening.open_store.Goals as goal

@@ -1,4 +1,4 @@
-use Rattle.std.proofs.Common.{◌≡◌, List, ℕ, subst, sym}
+use Rattle.std.proofs.Common.{List, ℕ, subst, sym}
 use Rattle.oa_store.specs.Stores.{IsStoreAt}
 use Rattle.oa_server.specs.Openings.{IsOpened}
 use Rattle.oa_server.proofs.server.Server.open.Goals as goal

@@ -8,9 +8,9 @@ Three ways take turns on one file system, each with groups of 1, 16, 256 and 1,0
 
 - store: `oaut serve --group N`, over pipes, as fast as it answers;
 - calls: for each group a frame of its bytes by `pwrite`, `fdatasync`, its gate by `pwrite`, `fdatasync`, in a file whose blocks are there: the least that this order of writes costs;
-- SQLite: in a WAL with `synchronous = FULL`, one transaction of N updates of rows by their key.
+- SQLite: in a WAL with `synchronous = FULL`, one transaction of N updates of a row by its key, by one call of Python's module.
 
-Each is measured three times, and the middle one is printed. Then the latency of one put that is waited for, from the client's write to its read: the median and the 99th percentile.
+Each is measured three times, and the middle one is printed, and how many times the others' the store's is. Then the latency of one put that is waited for, from the client's write to its read: the median and the 99th percentile.
 """
 import os
 import sqlite3
@@ -146,10 +146,9 @@ class Sqlite:
 
     def commit(self, group):
         self.base.execute("BEGIN IMMEDIATE")
-        for _ in range(group):
-            self.count += 1
-            self.base.execute("UPDATE cells SET value = ? WHERE object = 1 AND dispid = 1", (self.count,))
+        self.base.executemany("UPDATE cells SET value = ? WHERE object = 1 AND dispid = 1", ((it,) for it in range(self.count, self.count + group)))
         self.base.execute("COMMIT")
+        self.count += group
 
     def puts(self, group):
         return repeated(lambda: self.commit(group)) * group
@@ -189,10 +188,11 @@ def serve_latencies(room):
 with tempfile.TemporaryDirectory(dir=FOLDER) as room:
     calls, base = Calls(room), Sqlite(room)
     print(f"puts a second on {os.path.abspath(FOLDER)}, SQLite {sqlite3.sqlite_version}")
-    print(f"{'group':>5} {'store':>10} {'calls':>10} {'SQLite':>10}")
+    print(f"{'group':>5} {'store':>10} {'calls':>10} {'SQLite':>10} {'by calls':>9} {'by SQLite':>9}")
     for group in GROUPS:
         rounds = [(serve_puts(room, group), calls.puts(group), base.puts(group)) for _ in range(3)]
-        print(f"{group:5}", *(f"{statistics.median(it):10,.0f}" for it in zip(*rounds)))
+        found = [statistics.median(it) for it in zip(*rounds)]
+        print(f"{group:5}", *(f"{it:10,.0f}" for it in found), f"{found[0] / found[1]:9.2f} {found[0] / found[2]:9.2f}")
     print("one put, in microseconds: median, 99th percentile")
     for name, found in (("store", serve_latencies(room)), ("calls", calls.latencies()), ("SQLite", base.latencies())):
         found = sorted(it * 1e6 for it in found)

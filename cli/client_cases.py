@@ -8,12 +8,16 @@ The last line counts the cases.
 import contextlib
 import io
 import os
+import pty
+import select
+import shutil
 import signal
 import socket
 import struct
 import subprocess
 import sys
 import tempfile
+import time
 from decimal import Decimal
 
 ROOT = os.path.dirname(os.path.dirname(os.path.abspath(__file__)))
@@ -714,12 +718,82 @@ with tempfile.TemporaryDirectory() as room:
         same("a number is not used again after a stop", server.create("Item").number, 2)
     raises("another library", oaut.Stopped, lambda: oaut.serve(STORE, f"{ROOT}/examples/small.idl", program=PROGRAM), status=3, fault="oaut: library differs")
     with open(STORE, "r+b") as file:
-        file.seek(8_192)
+        # the bank in use: the texts above have filled one, and perhaps several
+        file.seek(4_096)
+        bank = 8_192 + 16_777_216 * (file.read(1)[0] % 2)
+        file.seek(bank)
         file.write(b"X")
-    raises("a store that is damaged", oaut.Stopped, serve, status=3, fault="oaut: damaged at 8192")
+    raises("a store that is damaged", oaut.Stopped, serve, status=3, fault=f"oaut: damaged at {bank}")
     oaut.make_store(STORE, FULL, program=PROGRAM)
     with serve() as server:
         same("a store that begins anew", [server.objects(), server.create("Item").number], [[], 1])
+
+# --- the codes of what runs out or fails: no room for values, no memory, a device that fails
+
+TEXT = "a" * 131_072
+with play(FULL) as server:
+    with server.batch() as batch:
+        made = [server.create("Item") for _ in range(60)]
+    items = [it.value for it in made]
+    try:
+        with server.batch() as batch:
+            for item in items:
+                item.Name = TEXT
+        tell("more than a store holds", False, "no exception")
+    except oaut.MediumFull:
+        same("more than a store holds", {(place >= 55, type(it)) for place, it in batch.failures}, {(True, oaut.MediumFull)})
+    same("what was there before stays", [items[0].Name, items[59].Name], [TEXT, None])
+
+
+@contextlib.contextmanager
+def wrapped(words):
+    """A program that is the program under other words of a shell."""
+    with tempfile.TemporaryDirectory() as room:
+        with open(f"{room}/oaut", "w") as file:
+            file.write(f"#!/bin/sh\n{words.format(program=PROGRAM)} \"$@\"\n")
+        os.chmod(f"{room}/oaut", 0o755)
+        yield f"{room}/oaut"
+
+
+with wrapped("ulimit -v 20000; exec {program}") as program, oaut.play(ARRAYS, program=program) as server:
+    item = server.create("Sheet")
+    item.Count = 7
+    refused = None
+    for place in range(40):
+        other = server.create("Sheet")
+        try:
+            other.Any = [EMPTY] * 30_000
+        except oaut.OutOfMemory as error:
+            refused = error
+            break
+    tell("memory that is refused is a MemoryError", isinstance(refused, MemoryError), refused)
+    same("and the session goes on, nothing is changed", [item.Count, other.Any], [I4(7), EMPTY])
+STRACE = shutil.which("strace")
+if STRACE is None:
+    print("strace is not there: no device fails under the client")
+else:
+    with tempfile.TemporaryDirectory() as room:
+        store = f"{room}/it.store"
+        for group in (1, 3):
+            # an opening syncs once, the groups of a create and of a put twice each: the sixth sync is that of the second put's frame
+            with wrapped("exec " + STRACE + " -f -qq -o /dev/null -e trace=fdatasync -e inject=fdatasync:error=EIO:when=6 {program}") as program:
+                oaut.make_store(store, FULL, program=PROGRAM)
+                if subprocess.run([PROGRAM, "serve", "none", "none", "--group", str(group)], capture_output=True).returncode == 2:
+                    continue
+                with oaut.serve(store, FULL, group=group, program=program) as server:
+                    item = server.create("Item")
+                    item.Count = 7
+                    raises(f"a device that fails, groups of {group}", oaut.WriteFault, lambda: setattr(item, "Count", 8))
+                    raises(f"a read behind it, groups of {group}", oaut.Failed, lambda: item.Count)
+                    try:
+                        with server.batch() as batch:
+                            item.Count = 9
+                            later = item.Count
+                        tell("a batch behind a device that fails", False, "no exception")
+                    except oaut.Failed:
+                        same(f"a batch behind it, groups of {group}", [(place, type(it)) for place, it in batch.failures], [(0, oaut.Failed), (1, oaut.Failed)])
+                with oaut.serve(store, FULL, program=PROGRAM) as server:
+                    tell(f"what the store holds then, groups of {group}", server.object(1, "Item").Count in (7, 8))
 
 # --- ends
 
@@ -762,6 +836,54 @@ with subprocess.Popen([PROGRAM, "play", FULL], stdin=theirs, stdout=theirs) as c
         raises("a socket whose server ends", oaut.Stopped, lambda: item.Count)
     same("the server's status", child.wait(10), 0)
 ours.close()
+
+# --- behind a socket: what accepts connections starts the program for each
+
+
+def reached(path, act):
+    """What `act` gives of a session over a socket of this path, once something listens there."""
+    until = time.monotonic() + 20
+    while True:
+        with socket.socket(socket.AF_UNIX) as sock:
+            try:
+                sock.connect(path)
+            except (FileNotFoundError, ConnectionRefusedError):
+                if time.monotonic() > until:
+                    raise
+                time.sleep(0.02)
+                continue
+            with oaut.connect(sock.makefile("rb"), sock.makefile("wb")) as server:
+                return act(server)
+
+
+def counted(server):
+    """Puts the next number into the one object, which is made where it is not there."""
+    item = next(iter(server.objects()), None) or server.create("Item")
+    with server.batch():
+        before = item.Count
+    item.Count = before.value + 1
+    return item.Count
+
+
+LISTENERS = {
+    "systemd-socket-activate": lambda path, words: ["systemd-socket-activate", "--accept", "--inetd", "-l", path, *words],
+    "socat": lambda path, words: ["socat", f"UNIX-LISTEN:{path},fork", "EXEC:" + " ".join(words)],
+}
+for name, listener in LISTENERS.items():
+    if shutil.which(name) is None:
+        print(f"{name} is not there: no session behind it")
+        continue
+    with tempfile.TemporaryDirectory() as room:
+        oaut.make_store(f"{room}/it.store", FULL, program=PROGRAM)
+        for command, words, wanted in (("play", [PROGRAM, "play", FULL], [1, 1, 1]), ("serve", [PROGRAM, "serve", f"{room}/it.store", FULL], [1, 2, 3])):
+            path = f"{room}/{command}.socket"
+            with subprocess.Popen(listener(path, words), stdin=subprocess.DEVNULL, stdout=subprocess.DEVNULL, stderr=subprocess.DEVNULL) as child:
+                try:
+                    same(f"three connections to {name} with `oaut {command}`", [int(reached(path, counted)) for _ in wanted], wanted)
+                except (OSError, oaut.Fault) as error:
+                    tell(f"three connections to {name} with `oaut {command}`", False, repr(error))
+                finally:
+                    child.terminate()
 
 # --- python3 -m oaut
 
@@ -858,6 +980,38 @@ with tempfile.TemporaryDirectory() as room:
         example = [sys.executable, f"{ROOT}/examples/counters.py", "--program", PROGRAM, "--store", f"{room}/it.store", "--rounds", "1", f"{room}/counters"]
         done = subprocess.run(example, env={**os.environ, "PYTHONPATH": f"{ROOT}/clients/python"}, capture_output=True, text=True, timeout=60)
         same(f"the example over a store, {received} and {sent} counted", (done.returncode, done.stdout, done.stderr), (0, "eth0 received: %d\neth0 sent: %d\n" % totals, ""))
+
+
+def typed_at_a_prompt(*keys):
+    """What a prompt on a terminal says to keys, each typed once it asks for a command, and its status."""
+    ours, theirs = pty.openpty()
+    words = [sys.executable, f"{ROOT}/clients/python/oaut.py", "talk", FULL, "--program", PROGRAM]
+    with subprocess.Popen(words, stdin=theirs, stdout=theirs, stderr=theirs, start_new_session=True, env={**os.environ, "TERM": "dumb"}) as child:
+        os.close(theirs)
+        said = b""
+        for key in (*keys, ""):
+            asked, until = said.count(b"> "), time.monotonic() + 20
+            while said.count(b"> ") == asked and select.select([ours], [], [], max(0, until - time.monotonic()))[0]:
+                try:
+                    more = os.read(ours, 4_096)
+                except OSError:
+                    break
+                if not more:
+                    break
+                said += more
+            os.write(ours, key.encode())
+        try:
+            status = child.wait(20)
+        except subprocess.TimeoutExpired:
+            child.kill()
+            status = None
+    os.close(ours)
+    return status, said.decode().replace("\r", "")
+
+
+UP, END = "\x10", "\x04"
+status, said = typed_at_a_prompt("cre\t it\t\n", "put 1 Cou\t 7\n", "get 1 cOUN\t\n", "nothing\n", UP + UP + "\n", END)
+tell("a prompt on a terminal completes names, has a history, and goes on behind a fault", status == 0 and said.count("I4(7)") == 2 and "no command nothing" in said and "<Item 1>" in said, (status, said))
 with open(f"{ROOT}/examples/first.hex") as asked, open(f"{ROOT}/examples/first.out") as answered:
     FIRST, REPLIES = asked.read(), answered.read()
 status, out, err = command(["talk", FULL, "--program", PROGRAM, "-v"], "create Item\nget 1 Count\n")
@@ -874,6 +1028,15 @@ reply 4: S_OK: I4(7)
 """
 same("records in words", command(["decode"], FIRST + REPLIES), (0, DECODED, ""))
 same("replies alone", command(["decode"], REPLIES), (0, DECODED[DECODED.index("reply 1") :], ""))
+TRACED = """request 17: CREATE coclass 11223344-5566-7788-99aa-bbccddeeff03
+reply 17: S_OK: object 1
+request 18: INVOKE object 1 dispid 1 PROPERTYGET
+reply 18: S_OK: I4(0)
+"""
+same("what a prompt has printed", command(["decode"], "\n".join(trace)), (0, TRACED, ""))
+raw = oaut.Raw.pack([bytes.fromhex(line) for line in (FIRST + REPLIES).splitlines()])
+done = subprocess.run([sys.executable, f"{ROOT}/clients/python/oaut.py", "decode", "--framing", "raw"], input=raw, capture_output=True, timeout=60)
+same("records of the raw stream in words", (done.returncode, done.stdout.decode(), done.stderr), (0, DECODED, b""))
 same("bytes that are no record", command(["decode"], "00\nxx\n" + FIRST.splitlines()[1][:-2])[0], 0)
 for name, _, sent, reply, _ in ASKED:
     told = list(oaut.decode([b"\1\0\0\0" + hexed(sent), b"\1\0\0\0" + reply]))

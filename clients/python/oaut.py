@@ -2126,7 +2126,8 @@ def _readline(talk):
         return
     readline.set_completer(talk.complete)
     readline.set_completer_delims(" [(")
-    readline.parse_and_bind("tab: complete")
+    # libedit, which stands in for readline on some systems, has other words for it
+    readline.parse_and_bind("bind ^I rl_complete" if "libedit" in (readline.__doc__ or "") else "tab: complete")
 
 
 def _bodies(stream, framing):

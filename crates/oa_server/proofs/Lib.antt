@@ -24,3 +24,4 @@ pub mod Answering
 pub mod Put
 pub mod InMemory
 pub mod Talking
+pub mod Parting

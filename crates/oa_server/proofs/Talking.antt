@@ -1,12 +1,16 @@
 -- What a session of a server over streams has served.
-use Rattle.std.proofs.Common.{◌≡◌, ◌≤◌, ℕ, IsTrue, true, false, List, [], ◌∷◌, ◌++◌, map, refl, sym, ap, ◌∙◌, subst, arith, append_assoc}
+use Rattle.std.proofs.Common.{◌≡◌, ◌⊎◌, inl, inr, ◌<◌, ◌≤◌, ℕ, ◌+◌, IsTrue, true, false, true≢false, List, [], ◌∷◌, ◌++◌, length, map, refl, sym, ap, ◌∙◌, subst, arith, append_assoc, length-append}
+use Rattle.std.specs.Bool.{⊤}
 use Rattle.std.specs.Vec.{vec_capacity}
 use Rattle.std.proofs.lemmas.List.{append-nil, map-append}
 use Rattle.oa_disk.specs.declared.disk.Disk.{Ghosts}
 use Rattle.oa_frame.specs.Framings.{Frames}
 use Rattle.oa_frame.specs.Sessions as sessions
 use Rattle.oa_frame.specs.declared.session.Served.{Served}
+use Rattle.oa_groups.specs.Desks.{Desk, IsTaken}
 use Rattle.oa_groups.specs.Going.{Underway}
+use Rattle.oa_groups.specs.Served.{IsServed}
+use Rattle.oa_groups.proofs.Entries.{either}
 use Rattle.oa_groups.proofs.Takes.{underway_ended, underway_start, underway_taken}
 use Rattle.oa_record.specs.Replies.{ReplyValue, reply_record}
 use Rattle.oa_store.specs.declared.store.Store.{Store}
@@ -21,7 +25,7 @@ use Rattle.oa_server.specs.Hands.{desk}
 use Rattle.oa_server.specs.Requests.{requests}
 use Rattle.oa_server.specs.States.{State}
 use Rattle.oa_server.specs.Storages.{Serves, disk_of}
-use Rattle.oa_server.specs.Talks.{Ended, HandIsReady, ServesSession, Taken, any_turn, ended_written, taken_written}
+use Rattle.oa_server.specs.Talks.{Ended, HandIsReady, InParts, IsTakenOver, Part, Parts, ServesSession, Taken, any_turn, at_last, bodies_of, ended_written, handed_of, silent, taken_written}
 use Rattle.oa_server.specs.Turns.{Run}
 use Rattle.oa_server.proofs.Late.{late_ended, late_more, late_none}
 use Rattle.oa_server.proofs.Runs.{run_more}
@@ -34,6 +38,11 @@ joined_none = refl
 joined_one : (replies : List (List ℕ)) (handed : List (List (List ℕ))) → sessions.joined (replies ∷ handed) ≡ replies ++ sessions.joined handed
 unfolding sessions.joined
 joined_one replies handed = refl
+
+at_last_push : (front : List (List ℕ)) (body : List ℕ) (replies : List (List ℕ)) → at_last (front ++ body ∷ []) replies ≡ silent front ++ replies ∷ []
+at_last_push [] body replies = refl
+at_last_push (x ∷ []) body replies = refl
+at_last_push (x ∷ (y ∷ front)) body replies = ap (λ (l : List (List (List ℕ))). [] ∷ l) (at_last_push (y ∷ front) body replies)
 
 -- over a store, so far
 pub record StoreSoFar {D : Type 0} {g : Ghosts D} (size : ℕ) (start : Store D g) (first : State) (store : Store D g) (now : State) (hand : Hand) (bodies : List (List ℕ)) (told : List ReplyValue) : Type 0 where
@@ -150,10 +159,213 @@ module _ {D : Type 0} {g : Ghosts D} (only : (d : D) (c : List ℕ) → IsTrue (
     late = λ stopped. late_none store state stopped;
   }
 
+  -- ---- part by part
+
+  -- so many replies are in hand
+  abbrev Holds : Storage D g → Hand → ℕ → Type 0
+  Holds (Memory disk) hand n = ⊤
+  Holds (Disk store) hand n = length hand.replies.items ≡ n
+
+  -- these bodies are in hand
+  record InPart (start : Storage D g) (first : State) (now : Storage D g) (state : State) (hand : Hand) (bodies : List (List ℕ)) : Type 0 where
+    so_far : SoFar size start first now state hand bodies []
+    holds : Holds now hand (length bodies)
+
+  record KeepsOn (start : Storage D g) (first : State) (new : Storage D g) (after : State) (hand : Hand) (bodies replies : List (List ℕ)) : Type 0 where
+    nothing : replies ≡ []
+    in_part : InPart start first new after hand bodies
+
+  record EndsPart (start : Storage D g) (first : State) (new : Storage D g) (after : State) (hand : Hand) (bodies replies : List (List ℕ)) : Type 0 where
+    told : List ReplyValue
+    are : replies ≡ map reply_record told
+    few : length bodies ≤ size
+    serves : Serves size start new first bodies told after
+    in_part : InPart new after new after hand []
+
+  abbrev Steps : Storage D g → State → Storage D g → State → Hand → List (List ℕ) → List (List ℕ) → Type 0
+  Steps start first new after hand bodies replies = KeepsOn start first new after hand bodies replies ⊎ EndsPart start first new after hand bodies replies
+
+  module _ (some : 1 ≤ size) where
+    few_in_hand : (start now : Storage D g) (first state : State) (hand : Hand) (bodies : List (List ℕ)) → InPart start first now state hand bodies → length bodies < size
+    few_in_hand (Memory start) (Memory now) first state hand [] was = omega (arith, some)
+    few_in_hand (Memory start) (Memory now) first state hand (body ∷ bodies) was = absurd was.so_far.1
+    few_in_hand (Disk start) (Disk now) first state hand bodies was = omega (arith, was.so_far.ready.few, was.so_far.size_is, was.holds)
+    few_in_hand (Memory start) (Disk now) first state hand bodies was = absurd was.so_far
+    few_in_hand (Disk start) (Memory now) first state hand bodies was = absurd was.so_far
+
+    part_begins : (store : Store D g) (state : State) (hand : Hand) → hand.size ≡ size → HandIsReady (Disk store) hand → hand.replies.items ≡ [] → (store.stopped ≡ false → hand.frame ≡ []) → InPart (Disk store) state (Disk store) state hand []
+    part_begins store state hand is ready none empty = record {
+      so_far = record {
+        size_is = is;
+        ready = ready;
+        going = λ going. rw (none, empty going) (underway_start requests {g = g} only (desk store state [] []) size going refl refl);
+        late = λ stopped. late_none store state stopped;
+      };
+      holds = ap (λ (l : List ReplyValue). length l) none;
+    }
+
+    next_in_part : (start old new : Storage D g) (first before after : State) (hand hand' : Hand) (bodies : List (List ℕ)) (body : List ℕ) (replies : List (List ℕ))
+        → InPart start first old before hand bodies → Taken old before hand body replies new after hand' → Steps start first new after hand' (bodies ++ body ∷ []) replies
+    next_in_part (Memory start) (Memory old) (Memory new) first before after hand hand' bodies body replies was is = inr (record {
+      told = is.1.0 ∷ [];
+      are = is.1.1;
+      few = let few = few_in_hand (Memory start) (Memory old) first before hand bodies was in omega (arith, few, length-append bodies (body ∷ []));
+      serves = (ap (λ (s : Storage D g). disk_of s) is.0 ∙ was.so_far.0, run_more first before after bodies [] body is.1.0 was.so_far.1 is.1.2);
+      in_part = record { so_far = (refl, refl); holds = tt };
+    })
+    next_in_part (Memory start) (Memory old) (Disk new) first before after hand hand' bodies body replies was is = absurd (cc is.0)
+    next_in_part (Disk start) (Disk old) (Memory new) first before after hand hand' bodies body replies was is = absurd (is was.so_far.ready).taken
+    next_in_part (Memory start) (Disk old) new first before after hand hand' bodies body replies was is = absurd was.so_far
+    next_in_part (Disk start) (Memory old) new first before after hand hand' bodies body replies was is = absurd was.so_far
+    next_in_part (Disk start) (Disk old) (Disk new) first before after hand hand' bodies body replies was is = by one.taken
+      where
+        one : IsTakenOver (Disk old) before hand body replies (Disk new) after hand'
+        one = is was.so_far.ready
+
+        now : Desk State ReplyValue D g
+        now = desk new after hand'.replies.items hand'.frame
+
+        taken : IsTaken requests size body one.told (desk old before hand.replies.items hand.frame) now
+        taken = subst (λ (n : ℕ). IsTaken requests n body one.told (desk old before hand.replies.items hand.frame) now) was.so_far.size_is one.taken
+
+        size_is : hand'.size ≡ size
+        size_is = one.size ∙ was.so_far.size_is
+
+        underway : start.stopped ≡ false → Underway requests size (desk start first [] []) now (bodies ++ body ∷ []) one.told
+        underway going = underway_taken requests {g = g} only (desk start first [] []) size (desk old before hand.replies.items hand.frame) now bodies [] body one.told (was.so_far.going going) taken
+
+        late : start.stopped ≡ true → IsLate start new first after (bodies ++ body ∷ []) one.told
+        late stopped = late_more start old new first before after bodies [] size body one.told hand.replies.items hand'.replies.items hand.frame hand'.frame (was.so_far.late stopped) taken
+
+        few : length (bodies ++ body ∷ []) ≤ size
+        few = let few = few_in_hand (Disk start) (Disk old) first before hand bodies was in omega (arith, few, length-append bodies (body ∷ []))
+
+        ends : hand'.replies.items ≡ [] → (new.stopped ≡ false → hand'.frame ≡ []) → Steps (Disk start) first (Disk new) after hand' (bodies ++ body ∷ []) replies
+        ends none empty = inr (record {
+          told = one.told;
+          are = one.are;
+          few = few;
+          serves = record {
+            served = λ going.
+                subst (λ (l : List ReplyValue). IsServed requests size start new first after (bodies ++ body ∷ []) l) (append-nil one.told)
+                (underway_ended requests {g = g} only (desk start first [] []) size now now (bodies ++ body ∷ []) one.told [] (underway going) (inl (record { none = none; nothing = refl; store = refl; state = refl })));
+            late = late;
+          };
+          in_part = part_begins new after hand' size_is one.ready none empty;
+        })
+
+        by : IsTaken requests hand.size body one.told (desk old before hand.replies.items hand.frame) now → Steps (Disk start) first (Disk new) after hand' (bodies ++ body ∷ []) replies
+        by (inl kept) = inl (record {
+          nothing = one.are ∙ ap (λ (l : List ReplyValue). map reply_record l) kept.nothing;
+          in_part = record {
+            so_far = record {
+              size_is = size_is;
+              ready = one.ready;
+              going = λ going. subst (λ (l : List ReplyValue). Underway requests size (desk start first [] []) now (bodies ++ body ∷ []) l) kept.nothing (underway going);
+              late = λ stopped. absurd (true≢false (sym (was.so_far.late stopped).stopped ∙ kept.was));
+            };
+            holds = ap (λ (l : List ReplyValue). length l) kept.held.pending ∙ length-append hand.replies.items (kept.reply ∷ []) ∙ ap (λ (n : ℕ). n + 1) was.holds ∙ sym (length-append bodies (body ∷ []));
+          };
+        })
+        by (inr (inl filled)) = ends (none (either new.stopped)) (λ going. (filled.settled.well going).2)
+          where
+            none : (new.stopped ≡ false) ⊎ (new.stopped ≡ true) → hand'.replies.items ≡ []
+            none (inl going) = (filled.settled.well going).1
+            none (inr stopped) = one.ready.late stopped
+        by (inr (inr (inl faulted))) = ends (one.ready.late faulted.failed.stopped) (λ going. absurd (true≢false (sym faulted.failed.stopped ∙ going)))
+        by (inr (inr (inr too_late))) = ends (one.ready.late too_late.over.is) (λ going. absurd (true≢false (sym too_late.over.is ∙ going)))
+
+    record InPartsSoFar (start : Storage D g) (first : State) (now : Clerk D g) (bodies : List (List ℕ)) (handed : List (List (List ℕ))) : Type 0 where
+      parts : List Part
+      in_hand : List (List ℕ)
+      mid : Storage D g
+      state : State
+      bodies_are : bodies ≡ bodies_of parts ++ in_hand
+      handed_are : handed ≡ handed_of parts ++ silent in_hand
+      served : Parts size start mid first parts state
+      in_part : InPart mid state now.storage now.host now.hand in_hand
+
+    in_parts : (start : Storage D g) (first : State) (old new : Clerk D g) (front bodies : List (List ℕ)) (handed : List (List (List ℕ)))
+        → InPart start first old.storage old.host old.hand front → sessions.Run taken_written old bodies handed new → InPartsSoFar start first new (front ++ bodies) (silent front ++ handed)
+    in_parts start first old new front [] [] was run = record {
+      parts = [];
+      in_hand = front;
+      mid = start;
+      state = first;
+      bodies_are = append-nil front;
+      handed_are = append-nil (silent front);
+      served = (refl, refl);
+      in_part = subst (λ (c : Clerk D g). InPart start first c.storage c.host c.hand front) (sym run) was;
+    }
+    in_parts start first old new front (body ∷ bodies) (replies ∷ handed) was run =
+        by (next_in_part start old.storage run.0.storage first old.host run.0.host old.hand run.0.hand front body replies was run.1)
+        (λ keeps. in_parts start first run.0 new (front ++ body ∷ []) bodies handed keeps.in_part run.2) (λ ends. in_parts run.0.storage run.0.host run.0 new [] bodies handed ends.in_part run.2)
+      where
+        by : Steps start first run.0.storage run.0.host run.0.hand (front ++ body ∷ []) replies
+            → (KeepsOn start first run.0.storage run.0.host run.0.hand (front ++ body ∷ []) replies → InPartsSoFar start first new ((front ++ body ∷ []) ++ bodies) (silent (front ++ body ∷ []) ++ handed))
+            → (EndsPart start first run.0.storage run.0.host run.0.hand (front ++ body ∷ []) replies → InPartsSoFar run.0.storage run.0.host new bodies handed)
+            → InPartsSoFar start first new (front ++ body ∷ bodies) (silent front ++ replies ∷ handed)
+        by (inl keeps) on others =
+            let rest = on keeps in
+            let same : silent front ++ replies ∷ handed ≡ silent (front ++ body ∷ []) ++ handed =
+            rw keeps.nothing (sym (ap (λ (l : List (List (List ℕ))). l ++ handed) (map-append (λ body. []) front (body ∷ [])) ∙ append_assoc (silent front) ([] ∷ []) handed)) in
+            record {
+              parts = rest.parts;
+              in_hand = rest.in_hand;
+              mid = rest.mid;
+              state = rest.state;
+              bodies_are = sym (append_assoc front (body ∷ []) bodies) ∙ rest.bodies_are;
+              handed_are = same ∙ rest.handed_are;
+              served = rest.served;
+              in_part = rest.in_part;
+            }
+        by (inr ends) on others =
+            let rest = others ends in
+            let part : Part = record { bodies = front ++ body ∷ []; told = ends.told } in
+            record {
+              parts = part ∷ rest.parts;
+              in_hand = rest.in_hand;
+              mid = rest.mid;
+              state = rest.state;
+              bodies_are = sym (append_assoc front (body ∷ []) bodies) ∙ ap (λ (l : List (List ℕ)). (front ++ body ∷ []) ++ l) rest.bodies_are
+                  ∙ sym (append_assoc (front ++ body ∷ []) (bodies_of rest.parts) rest.in_hand);
+              handed_are = ap (λ (l : List (List ℕ)). silent front ++ l ∷ handed) ends.are ∙ sym (append_assoc (silent front) (map reply_record ends.told ∷ []) handed)
+                  ∙ ap (λ (l : List (List (List ℕ))). l ++ handed) (sym (at_last_push front body (map reply_record ends.told)))
+                  ∙ ap (λ (l : List (List (List ℕ))). at_last (front ++ body ∷ []) (map reply_record ends.told) ++ l) rest.handed_are
+                  ∙ sym (append_assoc (at_last (front ++ body ∷ []) (map reply_record ends.told)) (handed_of rest.parts) (silent rest.in_hand));
+              served = (run.0.storage, run.0.host, ends.few, ends.serves, rest.served);
+              in_part = rest.in_part;
+            }
+    in_parts start first old new front [] (replies ∷ handed) was run = absurd run
+    in_parts start first old new front (body ∷ bodies) [] was run = absurd run
+
+    -- and the end
+    parts_end : (old mid new : Clerk D g) (bodies : List (List ℕ)) (handed : List (List (List ℕ))) (held : List (List ℕ)) → InPartsSoFar old.storage old.host mid bodies handed → ended_written mid held new
+        → InParts size old.storage new.storage old.host new.host bodies handed held
+    parts_end old mid new bodies handed held was is =
+        let last = ended_at was.mid mid.storage new.storage was.state mid.host new.host mid.hand new.hand was.in_hand [] held was.in_part.so_far is in
+        record {
+          parts = was.parts;
+          in_hand = was.in_hand;
+          told = last.told;
+          mid = was.mid;
+          state = was.state;
+          bodies_are = was.bodies_are;
+          handed_are = was.handed_are;
+          held_are = last.are;
+          served = was.served;
+          few = few_in_hand was.mid mid.storage was.state mid.host mid.hand was.in_hand was.in_part;
+          ends = last.serves;
+        }
+
+    part_at_start : (storage : Storage D g) (state : State) (hand : Hand) → hand.replies.items ≡ [] → SoFar size storage state storage state hand [] [] → InPart storage state storage state hand []
+    part_at_start (Memory disk) state hand none so_far = record { so_far = so_far; holds = tt }
+    part_at_start (Disk store) state hand none so_far = record { so_far = so_far; holds = ap (λ (l : List ReplyValue). length l) none }
+
   -- the whole session
-  pub serves_session : (f : Frames) (last : List ℕ) (input input' : Input) (out out' : Output) (old new : Clerk D g) (served : Served) → SoFar size old.storage old.host old.storage old.host old.hand [] []
-      → sessions.Session f taken_written ended_written last input input' out out' old new served → ServesSession f last input input' out out' size old.storage new.storage old.host new.host served
-  serves_session f last input input' out out' old new served begin is =
+  pub serves_session : (f : Frames) (last : List ℕ) (input input' : Input) (out out' : Output) (old new : Clerk D g) (served : Served) → 1 ≤ size → old.hand.replies.items ≡ []
+      → SoFar size old.storage old.host old.storage old.host old.hand [] [] → sessions.Session f taken_written ended_written last input input' out out' old new served → ServesSession f last input input' out out' size old.storage new.storage old.host new.host served
+  serves_session f last input input' out out' old new served some none begin is =
       let runs = went old.storage old.host old is.mid [] is.bodies [] is.handed begin is.run in
       let ends = ended_at old.storage is.mid.storage new.storage old.host is.mid.host new.host is.mid.hand new.hand is.bodies runs.told is.held runs.so_far is.ended in
       record {
@@ -178,4 +390,7 @@ module _ {D : Type 0} {g : Ghosts D} (only : (d : D) (c : List ℕ) → IsTrue (
         told = runs.told ++ ends.told;
         replies_are = ap (λ (l : List (List ℕ)). l ++ is.held) runs.are ∙ ap (λ (l : List (List ℕ)). map reply_record runs.told ++ l) ends.are ∙ sym (map-append reply_record runs.told ends.told);
         serves = ends.serves;
+        in_parts =
+            parts_end some old is.mid new is.bodies is.handed is.held
+            (in_parts some old.storage old.host old is.mid [] is.bodies is.handed (part_at_start some old.storage old.host old.hand none begin) is.run) is.ended;
       }

@@ -1,10 +1,11 @@
 -- Sessions of a server over streams, in memory and over a store.
-use Rattle.std.specs.Prelude.{◌≡◌, ℕ, List, ◌++◌, map, vec_capacity, Result, ⊤}
+use Rattle.std.specs.Prelude.{◌≡◌, ◌<◌, ◌≤◌, ℕ, List, [], ◌∷◌, ◌++◌, length, map, vec_capacity, Result, ⊤}
 use Rattle.oa_disk.specs.declared.disk.Disk.{Ghosts}
 use Rattle.oa_frame.specs.Framings.{Frames}
 use Rattle.oa_frame.specs.Sessions.{Session, joined, spelled_all}
 use Rattle.oa_frame.specs.declared.session.Served.{Served}
 use Rattle.oa_groups.specs.Desks.{IsEnded, IsTaken}
+use Rattle.oa_groups.specs.Sessions.{Call}
 use Rattle.oa_record.specs.Replies.{ReplyValue, reply_record}
 use Rattle.oa_stream.specs.Sink.{Output, Puts}
 use Rattle.oa_stream.specs.Source.{Input}
@@ -93,9 +94,58 @@ any_turn old body replies new = Unit {0}
 abbrev pub any_end : Unit {0} → List (List ℕ) → Unit {0} → Type 0
 any_end old replies new = Unit {0}
 
+-- part of a session: some bodies, and the replies that were handed out at the last of them
+pub record Part : Type 0 where
+  pub bodies : List (List ℕ)
+  pub told : List ReplyValue
+
+-- at each body nothing
+abbrev pub silent : List (List ℕ) → List (List (List ℕ))
+silent bodies = map (λ body. []) bodies
+
+-- at the last body all, and nothing before
+abbrev pub at_last : List (List ℕ) → List (List ℕ) → List (List (List ℕ))
+at_last [] replies = []
+at_last (body ∷ []) replies = replies ∷ []
+at_last (body ∷ (next ∷ bodies)) replies = [] ∷ at_last (next ∷ bodies) replies
+
+abbrev pub bodies_of : List Part → List (List ℕ)
+bodies_of [] = []
+bodies_of (part ∷ parts) = part.bodies ++ bodies_of parts
+
+abbrev pub handed_of : List Part → List (List (List ℕ))
+handed_of [] = []
+handed_of (part ∷ parts) = at_last part.bodies (map reply_record part.told) ++ handed_of parts
+
+-- Each part is a call of its own, of so many bodies at most, that begins where the one before has ended.
+abbrev pub Parts : {D : Type 0} {g : Ghosts D} → ℕ → Storage D g → Storage D g → State → List Part → State → Type 0
+Parts size old new before [] after = (new ≡ old) × (after ≡ before)
+Parts {D} {g} size old new before (part ∷ parts) after = (mid : Storage D g) × (state : State) × (length part.bodies ≤ size) × Serves size old mid before part.bodies part.told state × Parts size mid new state parts after
+
+-- the calls that the parts are
+abbrev pub calls_of : ℕ → List Part → List (Call ReplyValue)
+calls_of size [] = []
+calls_of size (part ∷ parts) = record { size = size; bodies = part.bodies; replies = part.told } ∷ calls_of size parts
+
+-- The bodies of a session part by part: the replies of each are handed out at its last body, that is, before the next one is read, and are those of
+-- a call that is over by then. What is in hand at the end is fewer bodies than a group has; it is a call too, whose replies are handed out then.
+pub record InParts {D : Type 0} {g : Ghosts D} (size : ℕ) (old new : Storage D g) (before after : State) (bodies : List (List ℕ)) (handed : List (List (List ℕ))) (held : List (List ℕ)) : Type 0 where
+  pub parts : List Part
+  pub in_hand : List (List ℕ)
+  pub told : List ReplyValue
+  pub mid : Storage D g
+  pub state : State
+  pub bodies_are : bodies ≡ bodies_of parts ++ in_hand
+  pub handed_are : handed ≡ handed_of parts ++ silent in_hand
+  pub held_are : held ≡ map reply_record told
+  pub served : Parts size old mid before parts state
+  pub few : length in_hand < size
+  pub ends : Serves size mid new state in_hand told after
+
 -- A whole session: what was read and written, and that these replies are what serving the bodies that were read in groups of this size makes.
 pub record ServesSession {D : Type 0} {g : Ghosts D} (f : Frames) (last : List ℕ) (input input' : Input) (out out' : Output) (size : ℕ) (old new : Storage D g) (before after : State) (served : Served) : Type 0 where
   pub io : Session f any_turn any_end last input input' out out' tt tt served
   pub told : List ReplyValue
   pub replies_are : joined io.handed ++ io.held ≡ map reply_record told
   pub serves : Serves size old new before io.bodies told after
+  pub in_parts : InParts size old new before after io.bodies io.handed io.held

@@ -16,6 +16,8 @@ ghost use Rattle.oa_server.specs.OwnCodes.{is_own};
 ghost use Rattle.oa_server.specs.Requests.{held_of, requests};
 ghost use Rattle.oa_server.specs.States.{State};
 ghost use Rattle.oa_server.specs.Steps.{outcome, reply_of};
+ghost use Rattle.oa_server.specs.Talks.{Part, Parts, calls_of};
+ghost use Rattle.oa_server.specs.declared.storage.Storage.TheVariants.{Disk as ADisk};
 ghost use Rattle.oa_server.specs.Traces.{done_bodies, done_replies, kept_bodies, kept_replies};
 ghost use Rattle.oa_server.specs.Turns.{Run, Turn};
 ghost use Rattle.oa_disk.specs.Disk.{LeavesOnly};
@@ -89,6 +91,13 @@ pub fn sessions_go_on<D: Disk>()
         → (session : IsSession requests D.moment D.image_since start new.disk library first (calls ++ call ∷ []) after) × ((m : ℕ) → D.moment mid.disk ≤ m → was.session.count ≤ by_then m (drop 1 session.moments)) }
     ensures goes_on { (start : D) (mid new : AStore D D.Disk) (library : List ℕ) (first last after : State) (calls : List (Call ReplyValue)) (call : Call ReplyValue) → Sitting requests start mid library first last calls
         → IsServed requests call.size mid new last after call.bodies call.replies → new.stopped ≡ false → Sitting requests start new library first after (calls ++ call ∷ []) }
+{}
+
+/// The parts of a session over streams, each of which was handed out before the next body was read, are calls of the session: so wherever so many
+/// of them are over and the device has not failed, it may go on, or be stopped, as after these calls.
+pub fn parts_go_on<D: Disk>()
+    ensures goes_on { (start : D) (mid new : AStore D D.Disk) (library : List ℕ) (first last after : State) (calls : List (Call ReplyValue)) (size : ℕ) (parts : List Part) → Sitting requests start mid library first last calls
+        → Parts size (ADisk mid) (ADisk new) last parts after → new.stopped ≡ false → Sitting requests start new library first after (calls ++ calls_of size parts) }
 {}
 
 /// What a stop at some moment of a session leaves is a store of the state after all groups that were answered by then, and some more perhaps; at

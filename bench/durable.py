@@ -146,9 +146,10 @@ class Sqlite:
 
     def commit(self, group):
         self.base.execute("BEGIN IMMEDIATE")
-        self.base.executemany("UPDATE cells SET value = ? WHERE object = 1 AND dispid = 1", ((it,) for it in range(self.count, self.count + group)))
-        self.base.execute("COMMIT")
+        # one statement that is prepared once, and no step of Python for each row
+        self.base.executemany("UPDATE cells SET value = ? WHERE object = 1 AND dispid = 1", [(self.count + it,) for it in range(group)])
         self.count += group
+        self.base.execute("COMMIT")
 
     def puts(self, group):
         return repeated(lambda: self.commit(group)) * group

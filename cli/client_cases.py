@@ -9,6 +9,7 @@ import contextlib
 import io
 import os
 import pty
+import random
 import select
 import shutil
 import signal
@@ -17,6 +18,7 @@ import struct
 import subprocess
 import sys
 import tempfile
+import threading
 import time
 from decimal import Decimal
 
@@ -395,6 +397,7 @@ def sent_in_groups(size, *exchanges):
     server = oaut.Server(io.BytesIO(), sent, "lines", size)
     server._library = LIBRARY
     server._read = lambda: b"\0\0\0\0" + DONE
+    server._skip = lambda count: None
     server._wrong_tag = lambda body: None
     for exchange in exchanges:
         server._exchange(exchange if isinstance(exchange, list) else [oaut.ask_invoke(1, 1, 4, (-3,), (oaut.spell(I4(7)),))] * exchange)
@@ -706,6 +709,39 @@ with tempfile.TemporaryDirectory() as room:
                     later = item.Name
                 same(f"long texts in groups of {group}, {framing}", later.value, "a" * 131_072)
                 item.Count = 7
+    for group in taken:
+        # batches of every length beside groups of every length: each request is answered before the next exchange, and gets see the puts before them
+        draw = random.Random(group)
+        with serve(group=group) as server:
+            (item,) = server.objects()
+            last, name, wrong = 7, item.Name, 0
+            for turn in range(24):
+                with server.batch(draw.choice([7, 1_024, group, 2 * group])) as batch:
+                    seen = []
+                    for _ in range(draw.choice([1, 2, 3, 5, group - 1, group, group + 1])):
+                        what = draw.random()
+                        if what < 0.4:
+                            item.Count = last = draw.randrange(1_000_000)
+                        elif what < 0.41:
+                            item.Name = name = "n" * draw.choice([0, 1, 131_072])
+                        elif what < 0.42 and turn > 12:
+                            item.Grid.redim(draw.choice([0, 2, 20_000]))  # from here on a group may have ended by its bytes
+                        else:
+                            seen.append((item.Count, last))
+                wrong += sum(it.value != due for it, due in seen)
+                if draw.random() < 0.5:
+                    item.Count = last = turn
+                    wrong += item.Count != last
+            raises(f"a put that is refused, groups of {group}", oaut.Overflow, lambda: setattr(item, "Count", 2**31), index=0, argument="the new value")
+            with server.batch() as batch:
+                item.Count = last = group
+            same(f"batches beside groups of {group}", wrong, 0)
+        with serve(group=group) as server:
+            (item,) = server.objects()
+            same(f"what batches beside groups of {group} left", [item.Count, item.Name], [I4(last), name])
+            item.Name = "a" * 131_072
+            item.Grid = Array(I2, [(2, -1), (3, 5)], range(1, 7))
+            item.Count = 7
     server = serve(group=taken[-1])
     item = server.object(1, "Item")
     item.Count = 8
@@ -840,11 +876,13 @@ ours.close()
 # --- behind a socket: what accepts connections starts the program for each
 
 
-def reached(path, act):
-    """What `act` gives of a session over a socket of this path, once something listens there."""
+@contextlib.contextmanager
+def connected(path):
+    """A session over a socket of this path, once something listens there."""
     until = time.monotonic() + 20
     while True:
         with socket.socket(socket.AF_UNIX) as sock:
+            sock.settimeout(60)
             try:
                 sock.connect(path)
             except (FileNotFoundError, ConnectionRefusedError):
@@ -853,20 +891,31 @@ def reached(path, act):
                 time.sleep(0.02)
                 continue
             with oaut.connect(sock.makefile("rb"), sock.makefile("wb")) as server:
-                return act(server)
+                yield server
+            return
 
 
-def counted(server):
+@contextlib.contextmanager
+def listening(words):
+    """What listens, as long as this lasts."""
+    with subprocess.Popen(words, stdin=subprocess.DEVNULL, stdout=subprocess.DEVNULL, stderr=subprocess.DEVNULL) as child:
+        try:
+            yield
+        finally:
+            child.terminate()
+
+
+def counted(path):
     """Puts the next number into the one object, which is made where it is not there."""
-    item = next(iter(server.objects()), None) or server.create("Item")
-    with server.batch():
-        before = item.Count
-    item.Count = before.value + 1
-    return item.Count
+    with connected(path) as server:
+        item = next(iter(server.objects()), None) or server.create("Item")
+        item.Count = item.Count + 1
+        return int(item.Count)
 
 
+ACTIVATE = shutil.which("systemd-socket-activate")
 LISTENERS = {
-    "systemd-socket-activate": lambda path, words: ["systemd-socket-activate", "--accept", "--inetd", "-l", path, *words],
+    "systemd-socket-activate": lambda path, words: [ACTIVATE, "--accept", "--inetd", "-l", path, *words],
     "socat": lambda path, words: ["socat", f"UNIX-LISTEN:{path},fork", "EXEC:" + " ".join(words)],
 }
 for name, listener in LISTENERS.items():
@@ -875,15 +924,32 @@ for name, listener in LISTENERS.items():
         continue
     with tempfile.TemporaryDirectory() as room:
         oaut.make_store(f"{room}/it.store", FULL, program=PROGRAM)
-        for command, words, wanted in (("play", [PROGRAM, "play", FULL], [1, 1, 1]), ("serve", [PROGRAM, "serve", f"{room}/it.store", FULL], [1, 2, 3])):
-            path = f"{room}/{command}.socket"
-            with subprocess.Popen(listener(path, words), stdin=subprocess.DEVNULL, stdout=subprocess.DEVNULL, stderr=subprocess.DEVNULL) as child:
-                try:
-                    same(f"three connections to {name} with `oaut {command}`", [int(reached(path, counted)) for _ in wanted], wanted)
-                except (OSError, oaut.Fault) as error:
-                    tell(f"three connections to {name} with `oaut {command}`", False, repr(error))
-                finally:
-                    child.terminate()
+        for word, words, wanted in (("play", [PROGRAM, "play", FULL], [1, 1, 1]), ("serve", [PROGRAM, "serve", f"{room}/it.store", FULL], [1, 2, 3])):
+            path = f"{room}/{word}.socket"
+            with listening(listener(path, words)):
+                same(f"three connections to {name} with `oaut {word}`", [counted(path) for _ in wanted], wanted)
+if ACTIVATE is not None:
+    with tempfile.TemporaryDirectory() as room:
+        # the next client waits in the queue of a listening socket that is handed over
+        oaut.make_store(f"{room}/it.store", FULL, program=PROGRAM)
+        words = [sys.executable, f"{ROOT}/examples/one_at_a_time.py", PROGRAM, "serve", f"{room}/it.store", FULL]
+        with listening([ACTIVATE, "-l", f"{room}/queue", *words]):
+            told = []
+
+            def second():
+                with connected(f"{room}/queue") as server:
+                    told.append(server.object(1, "Item").Count)
+
+            with connected(f"{room}/queue") as server:
+                item = server.create("Item")
+                waiting = threading.Thread(target=second)
+                waiting.start()
+                for number in range(100):
+                    item.Count = number
+                    time.sleep(0.001)
+                early = list(told)
+            waiting.join(60)
+            same("a client that waits until the one before has gone", [early, told], [[], [99]])
 
 # --- python3 -m oaut
 
@@ -988,10 +1054,11 @@ def typed_at_a_prompt(*keys):
     words = [sys.executable, f"{ROOT}/clients/python/oaut.py", "talk", FULL, "--program", PROGRAM]
     with subprocess.Popen(words, stdin=theirs, stdout=theirs, stderr=theirs, start_new_session=True, env={**os.environ, "TERM": "dumb"}) as child:
         os.close(theirs)
-        said = b""
+        said = b"\n"
         for key in (*keys, ""):
-            asked, until = said.count(b"> "), time.monotonic() + 20
-            while said.count(b"> ") == asked and select.select([ours], [], [], max(0, until - time.monotonic()))[0]:
+            # a line that is drawn anew begins with the prompt, too, and not behind a line's end
+            asked, until = said.count(b"\n> "), time.monotonic() + 20
+            while said.count(b"\n> ") == asked and select.select([ours], [], [], max(0, until - time.monotonic()))[0]:
                 try:
                     more = os.read(ours, 4_096)
                 except OSError:

@@ -15,7 +15,7 @@ import store
 import wire
 from calls import OUT, STRACE, Calls, each_fails, held, text_held
 from oaut import REDIM, ask_call, ask_create
-from running import CREATE, CREATED, REPLIES, REQUESTS, SMALL, Talk, case, ends, fault, fill, leaves, run, run_in, taken, tell, text_of
+from running import CREATE, CREATED, REPLIES, REQUESTS, SMALL, Talk, case, ends, fault, fill, leaves, run, run_in, short, taken, tell, text_of, within
 
 SMALL_TEXT, FULL, FULL_TEXT = text_of("small.canonical.idl"), text_of("full.idl"), text_of("full.canonical.idl")
 NEW = bytes(store.formatted(SMALL_TEXT))
@@ -103,6 +103,91 @@ if 3 in GROUPS:
             session.process.stdin.close()
             tell("serve: the end of the input ends a group", (session.line(), session.status(), text_held(room)) == (wire.reply(4), 0, table(10)))
 
+# --- where a group ends
+
+TEXT_NAME = 2
+
+
+def text_put(value, tag=1):
+    """The event that puts a text into object 1 of the full library, and the request."""
+    name = struct.pack("<I", 1) + FACE + struct.pack("<iH", TEXT_NAME, 0)
+    return b"\3" + name + struct.pack("<HI", 8, len(value)) + value, wire.put(tag, 1, TEXT_NAME, wire.scalar(wire.BSTR, value))
+
+
+def events_of(found):
+    """How many events each group of a store has."""
+    return [it.events for it in found.groups]
+
+
+WITH_ITEM = bytes(store.add(store.formatted(FULL_TEXT), CREATED_1))
+# of puts of texts with these lengths into groups of 4: how many events each group has, and the bytes of the first group's
+EARLY_ENDS = [
+    ((262_144, 262_144, 1), [2, 1], 524_354),
+    ((262_110, 262_111), [2], 524_287),
+    ((262_110, 262_111, 1), [3], 524_321),
+    ((262_111, 262_111, 1), [2, 1], 524_288),
+    ((1, 1, 262_144, 262_144, 1, 1, 1, 1, 1), [4, 4, 1], 524_422),
+    ((1, 262_144, 262_144, 1, 1, 1, 1), [3, 4], 524_388),
+]
+for lengths, groups, size in EARLY_ENDS:
+    both = [text_put(bytes([97 + place]) * length, place) for place, length in enumerate(lengths)]
+    tell(f"serve: the bytes of the events of texts of {lengths} bytes", sum(len(event) for event, _ in both[: groups[0]]) == size)
+    for group in (1, 4) if 4 in GROUPS else (1,):
+        with tempfile.TemporaryDirectory() as room:
+            fill(room, {"lib.idl": FULL, "it.store": WITH_ITEM})
+            answer = run_in(room, words("--hex", "--group", str(group)), given=b"".join(asked for _, asked in both))
+            replies = b"".join(wire.reply(tag) for tag in range(len(both)))
+            found = store.read(held(room))
+            wanted = groups if group == 4 else [1] * len(both)
+            well = (answer, events_of(found)) == ((0, replies, b""), [1, *wanted]) and store.dump(held(room)) == store.dump(store.add(bytearray(WITH_ITEM), both[-1][0]))
+            tell(f"serve: texts of {lengths} bytes, groups of {group}: {wanted}", well, (short(answer[1]), events_of(found)))
+if 4 in GROUPS:
+    for lengths, ended in (((262_111, 262_111), True), ((262_110, 262_111), False)):
+        with tempfile.TemporaryDirectory() as room:
+            fill(room, {"it.store": WITH_ITEM})
+            with Talk(FULL, ("--hex", "--group", "4"), room=room, command=("serve", "it.store")) as session:
+                for tag, length in enumerate(lengths):
+                    session.send(text_put(bytes(length), tag)[1])
+                told = bool(select.select([session.process.stdout], [], [], 20 if ended else 0.5)[0])
+                tell(f"serve: replies to texts of {lengths} bytes before more is sent, groups of 4: {ended}", told == ended)
+                session.process.stdin.close()
+                tell(f"serve: and all of them at the end, {lengths}", (session.line() + session.line(), session.status()) == (wire.reply(0) + wire.reply(1), 0))
+if 3 in GROUPS:
+    with tempfile.TemporaryDirectory() as room, open("/dev/full", "wb") as full:
+        fill(room, {"it.store": two})
+        with Talk(SMALL, ("--hex", "--group", "2"), stdout=full, room=room, command=("serve", "it.store")) as session:
+            session.send(get(1) + get(2))  # five gets were to come: the writer fails before the third is read
+            told = session.line(session.process.stderr), session.status(), text_held(room)
+            tell("serve: a writer that fails behind the first group of gets ends the session", told == (fault("write fault"), 1, table(7)), told)
+    with tempfile.TemporaryDirectory() as room, open("/dev/full", "wb") as full:
+        fill(room, {"it.store": two})
+        with Talk(SMALL, ("--hex", "--group", "3"), stdout=full, room=room, command=("serve", "it.store")) as session:
+            session.send(put(1, 8) + put(2, 9))
+            waits = session.process.poll() is None and not select.select([session.process.stderr], [], [], 0.3)[0] and text_held(room) == table(7)
+            session.send(get(3))
+            told = waits, session.line(session.process.stderr), session.status(), text_held(room)
+            tell("serve: a writer that fails is found where a group ends, and the group stands", told == (True, fault("write fault"), 1, table(9)), told)
+
+# --- memory that is refused within a group
+
+OUT_OF_MEMORY, HOLDERS, BYTES = 0x8007_000E, 64, 2
+ARRAYS, array = text_of("arrays.idl"), wire.array(wire.UI1, [(65_536, 0)], [7] * 65_536)
+asked = (CREATE + b"\n") * HOLDERS + b"".join(wire.put(number, number, BYTES, array) for number in range(1, HOLDERS + 1))
+for group in (1, 4) if 4 in GROUPS else (1,):
+    for mega in range(40, 140, 4):  # more and more memory, until some of the arrays can be kept, and not all
+        with tempfile.TemporaryDirectory() as room:
+            fill(room, {"lib.idl": ARRAYS})
+            run_in(room, ["format", "it.store", "lib.idl"])
+            status, out, err = run_in(room, words("--hex", "--group", str(group)), given=asked, before=within(1_000_000 * mega))
+            answers = (out or b"").splitlines(keepends=True)[HOLDERS:]
+            kept = {number for number, answer in enumerate(answers, 1) if answer == wire.reply(number)}
+            refused = {number for number, answer in enumerate(answers, 1) if answer == wire.reply(number, OUT_OF_MEMORY)}
+            if status != 0 or not kept:
+                continue
+            with_cells = {number for number, (_, cells) in store.read(held(room)).objects.items() if cells}
+            break
+    tell(f"serve: who is refused for memory is alone refused, groups of {group}", bool(refused) and len(kept) + len(refused) == HOLDERS and with_cells == kept and (status, err) == (0, b""), (mega, status, err, len(kept), len(refused)))
+
 # --- what is refused, and in which order
 
 for refusal in ("0", "1025", "-1", "x", ""):
@@ -127,15 +212,6 @@ elsewhere = NEW[:8511] + b"\1" + struct.pack("<I", 21) + b"\1" + struct.pack("<I
 serves("an object of a coclass that the library does not have", REQUESTS, 3, b"", fault("damaged at 0"), elsewhere, elsewhere, "--hex")
 
 # --- checkpoints
-
-TEXT_NAME = 2
-
-
-def text_put(value):
-    """The event that puts a text into object 1 of the full library, and the request."""
-    name = struct.pack("<I", 1) + FACE + struct.pack("<iH", TEXT_NAME, 0)
-    return b"\3" + name + struct.pack("<HI", 8, len(value)) + value, wire.put(1, 1, TEXT_NAME, wire.scalar(wire.BSTR, value))
-
 
 LONGEST = bytes(262_144)
 nearly = store.add(store.formatted(FULL_TEXT), CREATED_1, *[text_put(LONGEST)[0]] * 57)
@@ -239,6 +315,55 @@ else:
             tell("serve: a frame behind the gate, and then the gate", [it[1:] for it in rest if it[0] == "write"][:2] == [(gate + 1, 4 + 21 + 1), (gate, 1)], rest)
         for killed in (False, True):
             each_fails(words("--hex", "--group", str(size)), files, judged(size, opening, killed), "signal=KILL" if killed else "error=EIO", given=LINES)
+    with tempfile.TemporaryDirectory() as room:
+        fill(room, {"lib.idl": SMALL, "it.store": NEW})
+        made = Calls(room, words("--hex"), given=REQUESTS).does()
+    written = [("write", 8_512, 26), ("sync",), ("write", 8_511, 1), ("sync",), ("write", 8_538, 38), ("sync",), ("write", 8_537, 1), ("sync",)]
+    tell("serve: the calls of a create and a put, place by place", [it for it in made[made.index(("write", 8_512, 26)) :] if it != OUT] == written, made)
+    files = {"lib.idl": FULL, "it.store": WITH_ITEM}
+    # a group of texts that ends by its bytes, gets alone, and a put between two gets
+    LONG_TEXTS = b"".join(text_put(bytes(length), tag)[1] for tag, length in enumerate((262_144, 262_144, 1)))
+    GETS = b"".join(get(tag) for tag in range(5))
+    for what, given, size, lengths in (
+        ("texts of 262,144, 262,144 and 1 bytes", LONG_TEXTS, 1, [(262_177,), (262_177,), (34,)]),
+        ("texts of 262,144, 262,144 and 1 bytes", LONG_TEXTS, 4, [(262_177, 262_177), (34,)]),
+        *(("gets alone", GETS, size, []) for size in (1, 3, 4, 1_024)),
+        ("a get, a put, a get", get(1) + put(2, 8) + get(3), 1, [(33,)]),
+        ("a get, a put, a get", get(1) + put(2, 8) + get(3), 3, [(33,)]),
+        ("a get, a put, a get, a put", get(1) + put(2, 8) + get(3) + put(4, 9), 1_024, [(33, 33)]),
+        ("refused puts", wire.put(1, 1, 1, wire.scalar(wire.NULL)) * 4, 3, []),
+    ):
+        if size not in GROUPS:
+            continue
+        with tempfile.TemporaryDirectory() as room:
+            fill(room, files)
+            calls = Calls(room, words("--hex", "--group", str(size)), given=given)
+        made = [it for it in calls.does() if it != OUT]
+        opening = next((place for place, it in enumerate(made) if it[0] == "write"), len(made))
+        rest = made[opening:]
+        frames = [it[2] for it in rest if it[0] == "write"][::2]
+        well = calls.answer[0] == 0 and made[:4] == OPENING and all(it[0] == "read" for it in made[4:opening]) and [it[0] for it in rest] == COMMIT * len(lengths)
+        tell(f"serve: the calls of {what}, groups of {size}", well and frames == [4 + sum(it) + 1 for it in lengths], (calls.answer[0], rest))
+    if 3 in GROUPS:
+        # a put, a get and a put, stopped before the gate's write and where it fails
+        given, files = put(1, 7) + get(2) + put(3, 8), {"lib.idl": SMALL, "it.store": bytes(store.add(bytearray(NEW), CREATED_1))}
+        gate = 2  # of the calls of a commit
+
+        def gate_fails(place, what, answer, room):
+            if place == opening_of_three + gate:
+                told = b"".join(wire.reply(tag, WRITE_FAULT) for tag in (1, 2, 3))
+                tell("serve: the gate's write of a group of three fails", (answer, what[2]) == ((0, told, b""), 1) and text_held(room) in (table(), table(8)), (answer, text_held(room)))
+
+        def gate_stops(place, what, answer, room):
+            if place == opening_of_three + gate:
+                tell("serve: a group of three is stopped before its gate's write", (answer[1], text_held(room), what[2]) == (b"", table(), 1), (answer, text_held(room)))
+
+        with tempfile.TemporaryDirectory() as room:
+            fill(room, files)
+            made = [it for it in Calls(room, words("--hex", "--group", "3"), given=given).does() if it != OUT]
+        opening_of_three = next(place for place, it in enumerate(made) if it[0] == "write")
+        each_fails(words("--hex", "--group", "3"), files, gate_fails, given=given)
+        each_fails(words("--hex", "--group", "3"), files, gate_stops, "signal=KILL", given=given)
     files = {"lib.idl": FULL, "it.store": bytes(due)}
     event, asked = text_put(b"ab")
     asked = get(2) + asked + get(3)

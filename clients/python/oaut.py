@@ -1090,6 +1090,11 @@ class Lines:
         return ("\n".join([body.hex() for body in bodies]) + "\n").encode()
 
     @staticmethod
+    def length(count):
+        """How many bytes a body of so many takes."""
+        return 2 * count + 1
+
+    @staticmethod
     def read(reader):
         """The next body, or None at the stream's end. Raises Malformed for what is no line of digits."""
         line = reader.readline()
@@ -1109,6 +1114,10 @@ class Raw:
     @staticmethod
     def pack(bodies):
         return b"".join([part for body in bodies for part in (len(body).to_bytes(4, "little"), body)])
+
+    @staticmethod
+    def length(count):
+        return 4 + count
 
     @classmethod
     def read(cls, reader):
@@ -1319,11 +1328,11 @@ class Server:
             for body in bodies:
                 self.trace(">", body)
         # a server that holds replies back for a group gives these only once its group is full
-        fill = [_FILL] * self._filled(bodies)
-        data = self._framing.pack(bodies + fill)
-        owed, self._owed = self._owed, len(fill)
+        fills = self._filled(bodies)
+        data = self._framing.pack(bodies) + self._framing.pack([_FILL]) * fills
+        owed, self._owed = self._owed, fills
         writing = None
-        if len(bodies) + len(fill) == 1:
+        if len(bodies) + fills == 1:
             try:
                 self._write(data)
             except OSError:
@@ -1332,8 +1341,7 @@ class Server:
             # replies are read while requests are written, so that neither side waits for the other
             writing = threading.Thread(target=self._write_beside, args=(data,), daemon=True)
             writing.start()
-        for _ in range(owed):
-            self._read()
+        self._skip(owed)
         replies = []
         for tag in tags:
             body = self._read()
@@ -1393,6 +1401,18 @@ class Server:
         if body is None:
             self._stop()
         return body
+
+    def _skip(self, count):
+        """Reads so many replies to requests that change nothing: each is a head alone, whatever it says."""
+        left = count * self._framing.length(_REPLY.size)
+        while left:
+            try:
+                some = self._reader.read(left)
+            except OSError:
+                some = b""
+            if not some:
+                self._stop()
+            left -= len(some)
 
     def _wrong_tag(self, body):
         """What is no reply to what was asked: a server that refuses the stream itself tells so by tag 0, and ends."""

@@ -9,7 +9,6 @@ use Rattle.oa_idl.specs.declared.stop.TreeLimit.TheVariants as limits
 use Rattle.oa_idl.specs.declared.stop.Limit.TheVariants as texts
 use Rattle.oa_idl.specs.declared.stop.ParseError.{ParseError}
 use Rattle.oa_idl.specs.declared.stop.ParseError.TheVariants as errors
-use Rattle.oa_idl.specs.declared.sign.Sign.TheVariants as signs
 use Rattle.oa_idl.specs.Trees.{TreeValue}
 use Rattle.oa_idl.specs.Tokens.{AreTokens}
 use Rattle.oa_idl.specs.Forms.{Word, Then, ◌▸◌, nothing, Begins}
@@ -28,7 +27,7 @@ use Rattle.oa_idl.proofs.Bounds.{tree_keeps, tree_kept}
 use Rattle.oa_idl.proofs.Ended.{Ended, ended, end_token, words_are, place_is}
 
 -- after the end nothing stands
-nothing_after : (a : List Word) (w : Word) (left : List Word) → Ended (a ++ w ∷ left) → passes signs.End w ≡ true → left ≡ []
+nothing_after : (a : List Word) (w : Word) (left : List Word) → Ended (a ++ w ∷ left) → passes [] w ≡ true → left ≡ []
 nothing_after [] w [] e is = refl
 nothing_after [] w (v ∷ left) e is = absurd (clash is e.0)
 nothing_after (x ∷ []) w left e is = nothing_after [] w left e.1 is
@@ -39,14 +38,14 @@ record Closed (text : List Word) : Type 0 where
   front : List Word
   word : Word
   parts : text ≡ front ++ word ∷ []
-  is : passes signs.End word ≡ true
+  is : passes [] word ≡ true
 
 closed_after : {F G : List Word → Type 0} (text : List Word) → ((ws : List Word) → G ws → Closed ws) → Then F G text → Closed text
 closed_after text close f =
     let c = close f.back f.second in
     record { front = f.front ++ c.front; word = c.word; parts = f.parts ∙ ap (λ (ws : List Word). f.front ++ ws) c.parts ∙ sym (append_assoc f.front c.front (c.word ∷ [])); is = c.is }
 
-closed_sign : (text : List Word) → (sign signs.End ▸ nothing) text → Closed text
+closed_sign : (text : List Word) → (sign [] ▸ nothing) text → Closed text
 closed_sign text f = record { front = []; word = f.first.word; parts = f.parts ∙ ap (λ (ws : List Word). f.front ++ ws) f.second ∙ append-nil f.front ∙ f.first.parts; is = f.first.is }
 
 closed_text : (t : TreeValue) (text : List Word) → library t text → Closed text

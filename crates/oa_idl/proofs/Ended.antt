@@ -10,7 +10,6 @@ use Rattle.oa_idl.specs.declared.lexer.Piece.{Piece}
 use Rattle.oa_idl.specs.declared.lexer.Piece.TheVariants.{Word, Gap, Broken}
 use Rattle.oa_idl.specs.declared.scan.Class.TheVariants as classes
 use Rattle.oa_idl.specs.declared.scan.Close.TheVariants.{Quote, Comment}
-use Rattle.oa_idl.specs.declared.sign.Sign.TheVariants as signs
 use Rattle.oa_idl.specs.Bytes.{is_in, run, end_from, is_guid}
 use Rattle.oa_idl.specs.Tokens.{front, closed, token, AreTokens}
 use Rattle.oa_idl.specs.Tokens.AreTokens.{End, Apart, Next, Rest}
@@ -21,8 +20,8 @@ use Rattle.oa_idl.specs.IsTree.{place_of, place_after}
 -- the last word is the end, and no other
 abbrev pub Ended : List forms.Word → Type 0
 Ended [] = ⊥
-Ended (w ∷ []) = passes signs.End w ≡ true
-Ended (w ∷ v ∷ words) = (passes signs.End w ≡ false) × Ended (v ∷ words)
+Ended (w ∷ []) = passes [] w ≡ true
+Ended (w ∷ v ∷ words) = (passes [] w ≡ false) × Ended (v ∷ words)
 
 -- ---- no piece is the end
 
@@ -52,15 +51,15 @@ front_no_end bs = pick (is_guid bs) _ _ refl (pick (is_in classes.Letter (get_or
 word_no_end : (bs : List ℕ) (kind : Kind) (n : ℕ) → front bs ≡ Word kind n → same_kind kind kinds.End ≡ false
 word_no_end bs kind n is = subst NoEnd is (front_no_end bs)
 
-end_passes : passes signs.End end_word ≡ true
+end_passes : passes [] end_word ≡ true
 unfolding passes
 end_passes = refl
 
-no_end_passes : (text : List ℕ) (t : Token) → same_kind t.kind kinds.End ≡ false → passes signs.End (word_of text t) ≡ false
+no_end_passes : (text : List ℕ) (t : Token) → same_kind t.kind kinds.End ≡ false → passes [] (word_of text t) ≡ false
 unfolding passes
 no_end_passes text t is = rw is refl
 
-ended_cons : (w : forms.Word) (words : List forms.Word) → passes signs.End w ≡ false → Ended words → Ended (w ∷ words)
+ended_cons : (w : forms.Word) (words : List forms.Word) → passes [] w ≡ false → Ended words → Ended (w ∷ words)
 ended_cons w [] is h = absurd h
 ended_cons w (v ∷ words) is h = (is, h)
 

@@ -5,7 +5,8 @@ use Rattle.std.specs.List.{list_any}
 use Rattle.oa_idl.specs.declared.parts.Entry.{Entry}
 use Rattle.oa_idl.specs.declared.seen.EntriesSeen.{EntriesSeen}
 use Rattle.oa_idl.specs.Grammar.{no_entry}
-use Rattle.oa_idl.specs.Printable.{AreEntries, marked_first}
+use Rattle.oa_idl.specs.Marked.{mark}
+use Rattle.oa_idl.specs.Printable.{AreEntries}
 
 -- neither of two
 neither : (a b : Bool) → (a || b) ≡ false → (a ≡ false) × (b ≡ false)
@@ -25,7 +26,7 @@ unmarked d f (x ∷ es) e h =
     let parts = neither x.is_default (list_any (λ e. e.is_default) es) e in
     (unmarked_may f x.is_default parts.0, h.1, unmarked (d || x.is_default) (f || x.is_default) es parts.1 h.2)
 
-pub first_default : (e : Entry) (es : List Entry) → list_any (λ e. e.is_default) (e ∷ es) ≡ false → AreEntries no_entry (e ∷ es) → AreEntries no_entry (marked_first e ∷ es)
+pub first_default : (e : Entry) (es : List Entry) → list_any (λ e. e.is_default) (e ∷ es) ≡ false → AreEntries no_entry (e ∷ es) → AreEntries no_entry (mark e ∷ es)
 first_default e es none h =
     let parts = neither e.is_default (list_any (λ e. e.is_default) es) none in
     (refl, h.1, unmarked (false || e.is_default) true es parts.1 h.2)

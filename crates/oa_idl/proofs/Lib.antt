@@ -4,12 +4,13 @@ mod Bounds
 mod Choices
 mod Digits
 mod Ended
-pub mod FirstDefault
+mod FirstDefault
 mod Guids
 mod Heads
 mod Lists
 mod Loop
 mod Maps
+pub mod MarkedTrees
 mod MethodTexts
 mod OneList
 mod Overs
@@ -18,11 +19,11 @@ mod Parses
 mod PrintedMembers
 mod PrintedParts
 mod PrintedTokens
-mod Printing
 pub mod PrintedTrees
 mod ReadParts
 pub mod ReadTrees
 mod Scans
+pub mod Spans
 mod Spelled
 mod Steps
 mod Strings

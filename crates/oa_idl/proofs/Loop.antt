@@ -1,12 +1,11 @@
 -- Reading a list, as a loop does.
-use Rattle.std.proofs.Common.{◌≡◌, ℕ, zero, suc, ◌+◌, ◌-◌, ◌<◌, ◌≤◌, Bool, true, false, cond, List, [], ◌∷◌, ◌++◌, length, Result, Err, refl, sym, ap, subst, ◌∙◌, append_assoc, arith}
-use Rattle.std.specs.Prelude.{◌||◌}
+use Rattle.std.proofs.Common.{◌≡◌, ℕ, zero, suc, ◌+◌, ◌-◌, ◌<◌, ◌≤◌, Bool, true, false, cond, List, [], ◌∷◌, ◌++◌, Result, Err, refl, sym, ap, subst, ◌∙◌, append_assoc, arith}
+use Rattle.std.specs.Prelude.{◌||◌, codes}
 use Rattle.std.specs.Global.{Vec}
-use Rattle.std.proofs.lemmas.List.{append-nil, length-append}
+use Rattle.std.proofs.lemmas.List.{append-nil}
 use Rattle.oa_idl.specs.declared.stop.Stop.{Stop}
 use Rattle.oa_idl.specs.declared.stop.Stop.TheVariants.{Syntax, Memory}
 use Rattle.oa_idl.specs.declared.stop.Stop.TheVariants as stops
-use Rattle.oa_idl.specs.declared.sign.Sign.TheVariants as signs
 use Rattle.oa_idl.specs.declared.items.Item.{Item}
 use Rattle.oa_idl.specs.declared.items.Item.TheVariants as items
 use Rattle.oa_idl.specs.declared.seen.EntriesSeen.{EntriesSeen}
@@ -148,14 +147,11 @@ gather_err test step last Memory n state s t some going h = tt
 
 -- ---- the states of this grammar's lists
 
-pub one_longer : {A : Type 0} (xs : List A) (x : A) → length (xs ++ x ∷ []) ≡ length xs + 1
-one_longer xs x = length-append xs (x ∷ [])
-
 pub entries_early : (s : EntriesSeen) (words : List Word) → s.some ≡ false → last_entry_at s words ≡ Stuck Syntax words
 unfolding require
 entries_early s words is = rw is refl
 
-pub entries_end : (s : EntriesSeen) (words : List Word) → s.some ≡ true → heads (passes signs.Finish) words ≡ true → last_entry_at s words ≡ Got done (rest_of words)
+pub entries_end : (s : EntriesSeen) (words : List Word) → s.some ≡ true → heads (passes (codes "}")) words ≡ true → last_entry_at s words ≡ Got done (rest_of words)
 unfolding require this_at
 entries_end s words is closed = rw (is, closed) refl
 
@@ -163,7 +159,7 @@ pub parameters_early : (k : MethodKind) (n : ℕ) (words : List Word) → may_en
 unfolding require
 parameters_early k n words is = rw is refl
 
-pub parameters_end : (k : MethodKind) (n : ℕ) (words : List Word) → may_end k n ≡ true → heads (passes signs.Right) words ≡ true → last_parameter_at k n words ≡ Got done (rest_of words)
+pub parameters_end : (k : MethodKind) (n : ℕ) (words : List Word) → may_end k n ≡ true → heads (passes (codes ")")) words ≡ true → last_parameter_at k n words ≡ Got done (rest_of words)
 unfolding require this_at
 parameters_end k n words is closed = rw (is, closed) refl
 
@@ -174,7 +170,7 @@ either_heads a b (w ∷ words) = refl
 -- ---- imports and items
 
 abbrev pub so_far_read : ℕ → ItemsSeen → List Word → Step (List Content × Unit {0})
-so_far_read n s words = until (passes signs.Finish) semicolon_after element_at elements_grow closing_at n s words
+so_far_read n s words = until (passes (codes "}")) semicolon_after element_at elements_grow closing_at n s words
 
 -- what was read before has these items
 pub record ItemsRead (xs : List Item) (n : ℕ) (s : ItemsSeen) (words : List Word) (total : Step (List Content × Unit {0})) : Type 0 where
@@ -206,38 +202,38 @@ no_word_after : (t : List Word) → t ≡ cond (heads (semicolon_after Import) t
 no_word_after [] = refl
 no_word_after (w ∷ t) = refl
 
-word_after : (x : Item) (t : List Word) → cond (heads (passes signs.Semicolon) t) (rest_of t) t ≡ cond (heads (semicolon_after (OfItem x)) t) (rest_of t) t
+word_after : (x : Item) (t : List Word) → cond (heads (passes (codes ";")) t) (rest_of t) t ≡ cond (heads (semicolon_after (OfItem x)) t) (rest_of t) t
 word_after x [] = refl
 word_after x (w ∷ t) = refl
 
-at_item : (s : ItemsSeen) (words t : List Word) (x : Item) → heads (passes signs.Importlib) words ≡ false → item_at s words ≡ Got x t → element_at s words ≡ Got (OfItem x) t
+at_item : (s : ItemsSeen) (words t : List Word) (x : Item) → heads (passes (codes "importlib")) words ≡ false → item_at s words ≡ Got x t → element_at s words ≡ Got (OfItem x) t
 unfolding element_at choose bind give
 at_item s words t x is h = rw (is, h) refl
 
-at_import : (s : ItemsSeen) (words t : List Word) → heads (passes signs.Importlib) words ≡ true → import_at words ≡ Got done t → element_at s words ≡ Got Import t
+at_import : (s : ItemsSeen) (words t : List Word) → heads (passes (codes "importlib")) words ≡ true → import_at words ≡ Got done t → element_at s words ≡ Got Import t
 unfolding element_at choose bind give
 at_import s words t is h = rw (is, h) refl
 
-pub items_go_on : (xs : List Item) (n i : ℕ) (s : ItemsSeen) (words t u : List Word) (x : Item) (total : Step (List Content × Unit {0})) → i < n → heads (passes signs.Finish) words ≡ false → heads (passes signs.Importlib) words ≡ false → item_at s words ≡ Got x t
-    → u ≡ cond (heads (passes signs.Semicolon) t) (rest_of t) t → ItemsRead xs (n - i) s words total → ItemsRead (xs ++ x ∷ []) (n - (i + 1)) (items_grow s x) u total
+pub items_go_on : (xs : List Item) (n i : ℕ) (s : ItemsSeen) (words t u : List Word) (x : Item) (total : Step (List Content × Unit {0})) → i < n → heads (passes (codes "}")) words ≡ false → heads (passes (codes "importlib")) words ≡ false → item_at s words ≡ Got x t
+    → u ≡ cond (heads (passes (codes ";")) t) (rest_of t) t → ItemsRead xs (n - i) s words total → ItemsRead (xs ++ x ∷ []) (n - (i + 1)) (items_grow s x) u total
 items_go_on xs n i s words t u x total lt going here h is r = record {
   front = r.front ++ OfItem x ∷ [];
   are = more_items r.front x ∙ ap (λ (ys : List Item). ys ++ x ∷ []) r.are;
-  so_far = until_goes_on (passes signs.Finish) semicolon_after element_at elements_grow closing_at r.front n i s words t u (OfItem x) total lt going (at_item s words t x here h) (is ∙ word_after x t) r.so_far;
+  so_far = until_goes_on (passes (codes "}")) semicolon_after element_at elements_grow closing_at r.front n i s words t u (OfItem x) total lt going (at_item s words t x here h) (is ∙ word_after x t) r.so_far;
 }
 
-pub imports_go_on : (xs : List Item) (n i : ℕ) (s : ItemsSeen) (words t : List Word) (total : Step (List Content × Unit {0})) → i < n → heads (passes signs.Finish) words ≡ false → heads (passes signs.Importlib) words ≡ true → import_at words ≡ Got done t
+pub imports_go_on : (xs : List Item) (n i : ℕ) (s : ItemsSeen) (words t : List Word) (total : Step (List Content × Unit {0})) → i < n → heads (passes (codes "}")) words ≡ false → heads (passes (codes "importlib")) words ≡ true → import_at words ≡ Got done t
     → ItemsRead xs (n - i) s words total → ItemsRead xs (n - (i + 1)) s t total
 imports_go_on xs n i s words t total lt going here h r = record {
   front = r.front ++ Import ∷ [];
   are = more_imports r.front ∙ r.are;
-  so_far = until_goes_on (passes signs.Finish) semicolon_after element_at elements_grow closing_at r.front n i s words t t Import total lt going (at_import s words t here h) (no_word_after t) r.so_far;
+  so_far = until_goes_on (passes (codes "}")) semicolon_after element_at elements_grow closing_at r.front n i s words t t Import total lt going (at_import s words t here h) (no_word_after t) r.so_far;
 }
 
-pub items_end : (xs : List Item) (n i room : ℕ) (s : ItemsSeen) (words start : List Word) → i < n → heads (passes signs.Finish) words ≡ true → ItemsRead xs (n - i) s words (so_far_read room no_items start) → elements_within room start ≡ Got xs (rest_of words)
+pub items_end : (xs : List Item) (n i room : ℕ) (s : ItemsSeen) (words start : List Word) → i < n → heads (passes (codes "}")) words ≡ true → ItemsRead xs (n - i) s words (so_far_read room no_items start) → elements_within room start ≡ Got xs (rest_of words)
 unfolding elements_within bind give
 items_end xs n i room s words start lt closed r =
-    let one = until_ends_at (passes signs.Finish) semicolon_after element_at elements_grow r.front n i s words (so_far_read room no_items start) lt closed r.so_far in
+    let one = until_ends_at (passes (codes "}")) semicolon_after element_at elements_grow r.front n i s words (so_far_read room no_items start) lt closed r.so_far in
     ap (λ (o : Step (List Content × Unit {0})). and_then o items_alone) one ∙ ap (λ (ys : List Item). got_items ys (rest_of words)) r.are
   where
     got_items : List Item → List Word → Step (List Item)
@@ -248,26 +244,26 @@ unfolding elements_within bind
 items_stuck room start t why e = ap (λ (o : Step (List Content × Unit {0})). and_then o items_alone) e
 
 pub items_out : (xs : List Item) (n i room : ℕ) (s : ItemsSeen) (words start : List Word) → n ≤ i → ItemsRead xs (n - i) s words (so_far_read room no_items start) → elements_within room start ≡ Stuck Syntax words
-items_out xs n i room s words start le r = items_stuck room start words Syntax (until_out (passes signs.Finish) semicolon_after element_at elements_grow closing_at r.front n i s words (so_far_read room no_items start) le r.so_far)
+items_out xs n i room s words start le r = items_stuck room start words Syntax (until_out (passes (codes "}")) semicolon_after element_at elements_grow closing_at r.front n i s words (so_far_read room no_items start) le r.so_far)
 
-item_stops : (s : ItemsSeen) (words t : List Word) (why : Stop) → heads (passes signs.Importlib) words ≡ false → item_at s words ≡ Stuck why t → element_at s words ≡ Stuck why t
+item_stops : (s : ItemsSeen) (words t : List Word) (why : Stop) → heads (passes (codes "importlib")) words ≡ false → item_at s words ≡ Stuck why t → element_at s words ≡ Stuck why t
 unfolding element_at choose bind
 item_stops s words t why is h = rw (is, h) refl
 
-import_stops : (s : ItemsSeen) (words t : List Word) (why : Stop) → heads (passes signs.Importlib) words ≡ true → import_at words ≡ Stuck why t → element_at s words ≡ Stuck why t
+import_stops : (s : ItemsSeen) (words t : List Word) (why : Stop) → heads (passes (codes "importlib")) words ≡ true → import_at words ≡ Stuck why t → element_at s words ≡ Stuck why t
 unfolding element_at choose bind
 import_stops s words t why is h = rw (is, h) refl
 
-content_stops : (xs : List Item) (n i room : ℕ) (s : ItemsSeen) (words t start : List Word) (why : Stop) → i < n → heads (passes signs.Finish) words ≡ false → element_at s words ≡ Stuck why t → ItemsRead xs (n - i) s words (so_far_read room no_items start) → elements_within room start ≡ Stuck why t
-content_stops xs n i room s words t start why lt going h r = items_stuck room start t why (until_stops (passes signs.Finish) semicolon_after element_at elements_grow closing_at r.front n i s words t why (so_far_read room no_items start) lt going h r.so_far)
+content_stops : (xs : List Item) (n i room : ℕ) (s : ItemsSeen) (words t start : List Word) (why : Stop) → i < n → heads (passes (codes "}")) words ≡ false → element_at s words ≡ Stuck why t → ItemsRead xs (n - i) s words (so_far_read room no_items start) → elements_within room start ≡ Stuck why t
+content_stops xs n i room s words t start why lt going h r = items_stuck room start t why (until_stops (passes (codes "}")) semicolon_after element_at elements_grow closing_at r.front n i s words t why (so_far_read room no_items start) lt going h r.so_far)
 
-pub items_err : (e : Stop) (xs : List Item) (n i room : ℕ) (s : ItemsSeen) (words t start : List Word) → i < n → heads (passes signs.Finish) words ≡ false → heads (passes signs.Importlib) words ≡ false → Answers {X = Item} (λ x. x) (Err e) t (item_at s words)
+pub items_err : (e : Stop) (xs : List Item) (n i room : ℕ) (s : ItemsSeen) (words t start : List Word) → i < n → heads (passes (codes "}")) words ≡ false → heads (passes (codes "importlib")) words ≡ false → Answers {X = Item} (λ x. x) (Err e) t (item_at s words)
     → ItemsRead xs (n - i) s words (so_far_read room no_items start) → Answers {X = Vec Item} (λ v. v.items) (Err e) t (elements_within room start)
 items_err Syntax xs n i room s words t start lt going here h r = content_stops xs n i room s words t start Syntax lt going (item_stops s words t Syntax here h) r
 items_err (stops.Limit l) xs n i room s words t start lt going here h r = content_stops xs n i room s words t start (stops.Limit l) lt going (item_stops s words t (stops.Limit l) here h) r
 items_err Memory xs n i room s words t start lt going here h r = tt
 
-pub imports_err : (e : Stop) (xs : List Item) (n i room : ℕ) (s : ItemsSeen) (words t start : List Word) → i < n → heads (passes signs.Finish) words ≡ false → heads (passes signs.Importlib) words ≡ true → Answers {X = Unit {0}} (λ _. done) (Err e) t (import_at words)
+pub imports_err : (e : Stop) (xs : List Item) (n i room : ℕ) (s : ItemsSeen) (words t start : List Word) → i < n → heads (passes (codes "}")) words ≡ false → heads (passes (codes "importlib")) words ≡ true → Answers {X = Unit {0}} (λ _. done) (Err e) t (import_at words)
     → ItemsRead xs (n - i) s words (so_far_read room no_items start) → Answers {X = Vec Item} (λ v. v.items) (Err e) t (elements_within room start)
 imports_err Syntax xs n i room s words t start lt going here h r = content_stops xs n i room s words t start Syntax lt going (import_stops s words t Syntax here h) r
 imports_err (stops.Limit l) xs n i room s words t start lt going here h r = content_stops xs n i room s words t start (stops.Limit l) lt going (import_stops s words t (stops.Limit l) here h) r

@@ -1,12 +1,11 @@
 -- The readings of methods read them.
 use Rattle.std.proofs.Common.{◌≡◌, ℕ, ◌<◌, Bool, true, false, List, [], ◌∷◌, ◌++◌, length, Option, Some, None, refl, sym, ap, subst, ◌∙◌, arith}
-use Rattle.std.specs.Prelude.{ℤ, pos, not, is_some, ◌&&◌, ◌||◌}
+use Rattle.std.specs.Prelude.{ℤ, pos, not, is_some, ◌&&◌, ◌||◌, codes}
 use Rattle.std.proofs.Math.Logic.{⊎_elim, inl, inr}
 use Rattle.std.proofs.lemmas.List.{length-append}
 use Rattle.oa_model.specs.declared.var_type.VarType.TheVariants as types
 use Rattle.oa_model.specs.declared.var_type.ValueType.{ValueType}
 use Rattle.oa_model.specs.declared.var_type.ValueType.TheVariants as values
-use Rattle.oa_idl.specs.declared.sign.Sign.TheVariants as signs
 use Rattle.oa_idl.specs.declared.stop.TreeLimit.{TreeLimit}
 use Rattle.oa_idl.specs.declared.stop.TreeLimit.TheVariants as limits
 use Rattle.oa_idl.specs.declared.parts.MethodKind.{MethodKind}
@@ -33,7 +32,7 @@ use Rattle.oa_idl.proofs.ParameterTexts.{ParameterKeeps, ParameterKept, NoEndLim
 
 numbered_parses : {n : ℕ} → Parses n Always numbered NoLimit Always numbered_at
 unfolding numbered_at
-numbered_parses = skip_parses (passes signs.Id) (skip_parses (passes signs.Left) (part_parses (λ i. i) signed_parses (λ l i h k. tt) (λ i. end_parses (passes signs.Right) i (tt, refl) (λ _. tt) (λ c h. h.1))))
+numbered_parses = skip_parses (passes (codes "id")) (skip_parses (passes (codes "(")) (part_parses (λ i. i) signed_parses (λ l i h k. tt) (λ i. end_parses (passes (codes ")")) i (tt, refl) (λ _. tt) (λ c h. h.1))))
 
 abbrev is_id : MethodAttribute → Bool
 is_id (MethodId i) = true
@@ -59,23 +58,23 @@ id_in Propget = pos 0
 id_in Propput = pos 0
 id_in MethodHelp = pos 0
 
-id_heads : (x : MethodAttribute) (text more : List Word) → method_attribute x text → heads (passes signs.Id) (text ++ more) ≡ is_id x
-id_heads (MethodId i) text more f = same_heads signs.Id text more f
-id_heads Propget text more f = one_sign_heads signs.Id signs.Propget refl text more f
-id_heads Propput text more f = one_sign_heads signs.Id signs.Propput refl text more f
-id_heads MethodHelp text more f = sign_heads signs.Id signs.Helpstring refl text more f
+id_heads : (x : MethodAttribute) (text more : List Word) → method_attribute x text → heads (passes (codes "id")) (text ++ more) ≡ is_id x
+id_heads (MethodId i) text more f = same_heads (codes "id") text more f
+id_heads Propget text more f = one_sign_heads (codes "id") (codes "propget") refl text more f
+id_heads Propput text more f = one_sign_heads (codes "id") (codes "propput") refl text more f
+id_heads MethodHelp text more f = sign_heads (codes "id") (codes "helpstring") refl text more f
 
-get_heads : (x : MethodAttribute) (text more : List Word) → method_attribute x text → heads (passes signs.Propget) (text ++ more) ≡ is_get x
-get_heads (MethodId i) text more f = sign_heads signs.Propget signs.Id refl text more f
-get_heads Propget text more f = this_heads (passes signs.Propget) text more f
-get_heads Propput text more f = one_sign_heads signs.Propget signs.Propput refl text more f
-get_heads MethodHelp text more f = sign_heads signs.Propget signs.Helpstring refl text more f
+get_heads : (x : MethodAttribute) (text more : List Word) → method_attribute x text → heads (passes (codes "propget")) (text ++ more) ≡ is_get x
+get_heads (MethodId i) text more f = sign_heads (codes "propget") (codes "id") refl text more f
+get_heads Propget text more f = this_heads (passes (codes "propget")) text more f
+get_heads Propput text more f = one_sign_heads (codes "propget") (codes "propput") refl text more f
+get_heads MethodHelp text more f = sign_heads (codes "propget") (codes "helpstring") refl text more f
 
-put_heads : (x : MethodAttribute) (text more : List Word) → method_attribute x text → heads (passes signs.Propput) (text ++ more) ≡ is_put x
-put_heads (MethodId i) text more f = sign_heads signs.Propput signs.Id refl text more f
-put_heads Propget text more f = one_sign_heads signs.Propput signs.Propget refl text more f
-put_heads Propput text more f = this_heads (passes signs.Propput) text more f
-put_heads MethodHelp text more f = sign_heads signs.Propput signs.Helpstring refl text more f
+put_heads : (x : MethodAttribute) (text more : List Word) → method_attribute x text → heads (passes (codes "propput")) (text ++ more) ≡ is_put x
+put_heads (MethodId i) text more f = sign_heads (codes "propput") (codes "id") refl text more f
+put_heads Propget text more f = one_sign_heads (codes "propput") (codes "propget") refl text more f
+put_heads Propput text more f = this_heads (passes (codes "propput")) text more f
+put_heads MethodHelp text more f = sign_heads (codes "propput") (codes "helpstring") refl text more f
 
 only_id : (x : MethodAttribute) → Always x × (is_id x ≡ true) → x ≡ MethodId (id_in x)
 only_id (MethodId i) h = refl
@@ -107,12 +106,12 @@ Coming s x ws = (method_may s x ≡ true) × method_attribute x ws
 
 method_attribute_parses : {n : ℕ} (s : MethodSeen) → Parses n Always (λ x ws. (method_may s x ≡ true) × method_attribute x ws) NoLimit Always (method_attribute_at s)
 unfolding method_attribute_at Coming
-method_attribute_parses s = tagged_parses {F = Coming s} (passes signs.Id) is_id (λ x text more f. id_heads x text more f.1)
+method_attribute_parses s = tagged_parses {F = Coming s} (passes (codes "id")) is_id (λ x text more f. id_heads x text more f.1)
     (free_branch_parses {F = Coming s} (λ i. MethodId i) id_in only_id (λ a. ((tt, refl), refl)) (require_parses (not (is_some s.id)) numbered_parses))
-    (tagged_parses {F = Coming s} (passes signs.Propget) is_get (λ x text more f. get_heads x text more f.1)
-    (free_branch_parses {F = Coming s} (λ (_ : Unit {0}). Propget) (λ _. done) only_get (λ a. (((tt, refl), refl), refl)) (require_parses (not (is_form s.kind)) (this_parses (passes signs.Propget))))
-    (tagged_parses {F = Coming s} (passes signs.Propput) is_put (λ x text more f. put_heads x text more f.1)
-    (free_branch_parses {F = Coming s} (λ (_ : Unit {0}). Propput) (λ _. done) only_put (λ a. ((((tt, refl), refl), refl), refl)) (require_parses (not (is_form s.kind)) (this_parses (passes signs.Propput))))
+    (tagged_parses {F = Coming s} (passes (codes "propget")) is_get (λ x text more f. get_heads x text more f.1)
+    (free_branch_parses {F = Coming s} (λ (_ : Unit {0}). Propget) (λ _. done) only_get (λ a. (((tt, refl), refl), refl)) (require_parses (not (is_form s.kind)) (this_parses (passes (codes "propget")))))
+    (tagged_parses {F = Coming s} (passes (codes "propput")) is_put (λ x text more f. put_heads x text more f.1)
+    (free_branch_parses {F = Coming s} (λ (_ : Unit {0}). Propput) (λ _. done) only_put (λ a. ((((tt, refl), refl), refl), refl)) (require_parses (not (is_form s.kind)) (this_parses (passes (codes "propput")))))
     (free_branch_parses {F = Coming s} (λ (_ : Unit {0}). MethodHelp) (λ _. done) only_help (λ a. ((((tt, refl), refl), refl), refl)) (require_parses (not s.help) help_parses))))
 
 method_head_parses : {n : ℕ} → Parses n Always method_head NoLimit Always method_head_at
@@ -135,10 +134,10 @@ abbrev type_in : Option ValueType → ValueType
 type_in None = values.One types.Empty
 type_in (Some t) = t
 
-void_heads : (k : MethodKind) (o : Option ValueType) (text more : List Word) → result_type k o text → heads (passes signs.Void) (text ++ more) ≡ is_void o
+void_heads : (k : MethodKind) (o : Option ValueType) (text more : List Word) → result_type k o text → heads (passes (codes "void")) (text ++ more) ≡ is_void o
 unfolding result_type
-void_heads k None text more f = this_heads (passes signs.Void) text more f.1
-void_heads k (Some t) text more f = value_type_heads signs.Void void_no_type refl refl t text more f.1
+void_heads k None text more f = this_heads (passes (codes "void")) text more f.1
+void_heads k (Some t) text more f = value_type_heads (codes "void") void_no_type refl refl t text more f.1
 
 only_void : (o : Option ValueType) → Always o × (is_void o ≡ true) → o ≡ None
 only_void None h = refl
@@ -150,8 +149,8 @@ only_type (Some t) h = refl
 
 result_type_parses : {n : ℕ} (k : MethodKind) → Parses n Always (result_type k) NoLimit Always (result_type_at k)
 unfolding result_type result_type_at
-result_type_parses k = tagged_parses {F = result_type k} (passes signs.Void) is_void (λ o text more f. void_heads k o text more f)
-    (free_branch_parses {F = result_type k} (λ (_ : Unit {0}). None) (λ _. done) only_void (λ a. ((tt, refl), refl)) (require_parses (may_be_void k) (this_parses (passes signs.Void))))
+result_type_parses k = tagged_parses {F = result_type k} (passes (codes "void")) is_void (λ o text more f. void_heads k o text more f)
+    (free_branch_parses {F = result_type k} (λ (_ : Unit {0}). None) (λ _. done) only_void (λ a. ((tt, refl), refl)) (require_parses (may_be_void k) (this_parses (passes (codes "void")))))
     (free_branch_parses {F = result_type k} (λ t. Some t) type_in only_type (λ a. ((tt, refl), refl)) (require_parses (may_have_type k) value_type_parses))
 
 -- ---- methods
@@ -174,8 +173,8 @@ ps_of p = p.0
 
 method_body_parses : {n : ℕ} (count : ℕ) (h : MethodHead) → Parses n (λ m. Always m × (marks m ≡ h)) (method_body h.kind) (λ l m. MethodKeeps count l m) (λ m. MethodKept count m) (method_body_at count h)
 unfolding method_body_at marks parameters_of
-method_body_parses count h = part_parses (λ m. m.value_type) (result_type_parses h.kind) (λ l m r k. tt) (λ t. part_parses (λ m. m.name) (one_parses name_of (over limits.Members 512 count) (over_named limits.Members 512 count (λ k. absurd cc))) (λ l m r k. k.0) (λ name. skip_parses (passes signs.Left)
-    (part_parses parameters_of (parameters_parses h.kind) (λ l m r k. k.1) (λ ps. skip_parses (passes signs.Semicolon)
+method_body_parses count h = part_parses (λ m. m.value_type) (result_type_parses h.kind) (λ l m r k. tt) (λ t. part_parses (λ m. m.name) (one_parses name_of (over limits.Members 512 count) (over_named limits.Members 512 count (λ k. absurd cc))) (λ l m r k. k.0) (λ name. skip_parses (passes (codes "("))
+    (part_parses parameters_of (parameters_parses h.kind) (λ l m r k. k.1) (λ ps. skip_parses (passes (codes ";"))
     (give_parses (record { id = h.id; kind = h.kind; value_type = t; name = name; parameters = ps.0 }) ((((tt, refl), refl), refl), refl) (λ all kept _. (kept, all))
     (λ m k. λ i. record { id = (k.0.0.0.1 i).id; kind = (k.0.0.0.1 i).kind; value_type = k.0.0.1 i; name = k.0.1 i; parameters = ps_of (k.1 i) }))))))
 
@@ -187,9 +186,9 @@ method_parses count = part_parses marks method_head_parses (λ l m h k. tt) (λ 
     kind_in : MethodHead → MethodKind
     kind_in h = h.kind
 
-method_heads : (test : Word → Bool) → ((w : Word) → passes signs.Open w ≡ true → test w ≡ false) → (m : MethodValue) (text more : List Word) → method m text → heads test (text ++ more) ≡ false
+method_heads : (test : Word → Bool) → ((w : Word) → passes (codes "[") w ≡ true → test w ≡ false) → (m : MethodValue) (text more : List Word) → method m text → heads test (text ++ more) ≡ false
 unfolding method method_head
-method_heads test is m text more f = then_heads test false text more (λ front left h. first_heads test (passes signs.Open) false is front left h) f
+method_heads test is m text more f = then_heads test false text more (λ front left h. first_heads test (passes (codes "[")) false is front left h) f
 
 method_some : (m : MethodValue) (text : List Word) → method m text → 0 < length text
 unfolding method method_head
@@ -207,24 +206,24 @@ MethodsKeep n l ms = KeepsFrom {B = Unit {0}} one_more (λ k m. MethodKeeps k l 
 abbrev pub MethodsKept : ℕ → List MethodValue → Type 0
 MethodsKept n ms = KeepsFrom {B = Unit {0}} one_more MethodKept NoEndLimit n ms tt
 
-method_list_parses : {n : ℕ} (count : ℕ) → Parses n Always (λ p. listed (λ k. method) one_more nowhere closing count p.0 p.1) (λ l p. KeepsFrom one_more (λ n m. MethodKeeps n l m) NoEndLimit count p.0 p.1) (λ p. KeepsFrom one_more MethodKept NoEndLimit count p.0 p.1) (list_at (passes signs.Finish) nowhere method_at one_more closing_at count)
-method_list_parses {n} count = list_parses one_more (passes signs.Finish) nowhere (λ n s. method_parses s) (λ n s. this_parses (passes signs.Finish)) (λ s m text f. method_some m text f) (λ s m text more f. method_heads (passes signs.Finish) (λ w is. other_sign signs.Finish signs.Open refl w is) m text more f)
-    (λ s b text more f. this_heads (passes signs.Finish) text more f) (λ y s m text more f. never_heads y (text ++ more)) (λ y s b text more f. never_heads y (text ++ more)) n count
+method_list_parses : {n : ℕ} (count : ℕ) → Parses n Always (λ p. listed (λ k. method) one_more nowhere closing count p.0 p.1) (λ l p. KeepsFrom one_more (λ n m. MethodKeeps n l m) NoEndLimit count p.0 p.1) (λ p. KeepsFrom one_more MethodKept NoEndLimit count p.0 p.1) (list_at (passes (codes "}")) nowhere method_at one_more closing_at count)
+method_list_parses {n} count = list_parses one_more (passes (codes "}")) nowhere (λ n s. method_parses s) (λ n s. this_parses (passes (codes "}"))) (λ s m text f. method_some m text f) (λ s m text more f. method_heads (passes (codes "}")) (λ w is. other_sign (codes "}") (codes "[") refl w is) m text more f)
+    (λ s b text more f. this_heads (passes (codes "}")) text more f) (λ y s m text more f. never_heads y (text ++ more)) (λ y s b text more f. never_heads y (text ++ more)) n count
 
 abbrev ms_of : List MethodValue × Unit {0} → List MethodValue
 ms_of p = p.0
 
 section : ℕ → List MethodValue → List Word → Type 0
-section n ms = sign signs.Methods ▸ sign signs.Colon ▸ listed (λ k. method) one_more nowhere closing n ms tt
+section n ms = sign (codes "methods") ▸ sign (codes ":") ▸ listed (λ k. method) one_more nowhere closing n ms tt
 
 pub methods_parses : {n : ℕ} (count : ℕ) → Parses n Always (methods count) (λ l ms. MethodsKeep count l ms) (λ ms. MethodsKept count ms) (methods_at count)
 unfolding methods_at section
-methods_parses count = choose_parses {A = section count} {B = λ ms ws. (ms ≡ []) × sign signs.Finish ws} (passes signs.Methods)
-    (λ ms text more _ f is. ⊎_elim (λ (k : section count ms text). k) (λ (k : where_is (ms ≡ []) (sign signs.Finish) text). absurd (clash is (one_sign_heads signs.Methods signs.Finish refl text more k.1))) f)
-    (λ ms text more _ f is. ⊎_elim (λ (k : section count ms text). absurd (clash (same_heads signs.Methods text more k) is)) (λ (k : where_is (ms ≡ []) (sign signs.Finish) text). k) f)
+methods_parses count = choose_parses {A = section count} {B = λ ms ws. (ms ≡ []) × sign (codes "}") ws} (passes (codes "methods"))
+    (λ ms text more _ f is. ⊎_elim (λ (k : section count ms text). k) (λ (k : where_is (ms ≡ []) (sign (codes "}")) text). absurd (clash is (one_sign_heads (codes "methods") (codes "}") refl text more k.1))) f)
+    (λ ms text more _ f is. ⊎_elim (λ (k : section count ms text). absurd (clash (same_heads (codes "methods") text more k) is)) (λ (k : where_is (ms ≡ []) (sign (codes "}")) text). k) f)
     (λ ms text _ f. inl f) (λ ms text _ f. inr f)
-    (skip_parses (passes signs.Methods) (skip_parses (passes signs.Colon) (end_part_parses (λ ms. both ms tt) ms_of (method_list_parses count) (λ l ms h k. k) (λ a. (tt, whole a)) (λ a kept. kept) (λ a ms h. ap ms_of h.1))))
-    (fact_parses (end_parses (passes signs.Finish) [] (tt, refl) tt (λ ms h. h.1)))
+    (skip_parses (passes (codes "methods")) (skip_parses (passes (codes ":")) (end_part_parses (λ ms. both ms tt) ms_of (method_list_parses count) (λ l ms h k. k) (λ a. (tt, whole a)) (λ a kept. kept) (λ a ms h. ap ms_of h.1))))
+    (fact_parses (end_parses (passes (codes "}")) [] (tt, refl) tt (λ ms h. h.1)))
   where
     whole : (a : List MethodValue × Unit {0}) → both (ms_of a) tt ≡ a
     whole a = refl
@@ -235,13 +234,13 @@ or_right false = refl
 
 pub methods_heads : (n : ℕ) (ms : List MethodValue) (text more : List Word) → methods n ms text → heads ends_properties (text ++ more) ≡ true
 methods_heads n ms text more f = ⊎_elim
-    (λ (k : (sign signs.Methods ▸ sign signs.Colon ▸ listed (λ j. method) one_more nowhere closing n ms tt) text). first_heads ends_properties (passes signs.Methods) true (λ w is. ap (λ (b : Bool). b || passes signs.Finish w) is) text more k)
-    (λ (k : where_is (ms ≡ []) (sign signs.Finish) text). ap (λ (ws : List Word). heads ends_properties (ws ++ more)) k.1.parts ∙ ap (λ (b : Bool). passes signs.Methods k.1.word || b) k.1.is ∙ or_right (passes signs.Methods k.1.word)) f
+    (λ (k : (sign (codes "methods") ▸ sign (codes ":") ▸ listed (λ j. method) one_more nowhere closing n ms tt) text). first_heads ends_properties (passes (codes "methods")) true (λ w is. ap (λ (b : Bool). b || passes (codes "}") w) is) text more k)
+    (λ (k : where_is (ms ≡ []) (sign (codes "}")) text). ap (λ (ws : List Word). heads ends_properties (ws ++ more)) k.1.parts ∙ ap (λ (b : Bool). passes (codes "methods") k.1.word || b) k.1.is ∙ or_right (passes (codes "methods") k.1.word)) f
 
-pub methods_begin : (n : ℕ) (ms : List MethodValue) (text more : List Word) → methods n ms text → heads (passes signs.Properties) (text ++ more) ≡ false
+pub methods_begin : (n : ℕ) (ms : List MethodValue) (text more : List Word) → methods n ms text → heads (passes (codes "properties")) (text ++ more) ≡ false
 methods_begin n ms text more f = ⊎_elim
-    (λ (k : (sign signs.Methods ▸ sign signs.Colon ▸ listed (λ j. method) one_more nowhere closing n ms tt) text). sign_heads signs.Properties signs.Methods refl text more k)
-    (λ (k : where_is (ms ≡ []) (sign signs.Finish) text). one_sign_heads signs.Properties signs.Finish refl text more k.1) f
+    (λ (k : (sign (codes "methods") ▸ sign (codes ":") ▸ listed (λ j. method) one_more nowhere closing n ms tt) text). sign_heads (codes "properties") (codes "methods") refl text more k)
+    (λ (k : where_is (ms ≡ []) (sign (codes "}")) text). one_sign_heads (codes "properties") (codes "}") refl text more k.1) f
 
-pub open_ends_nothing : (w : Word) → passes signs.Open w ≡ true → ends_properties w ≡ false
-open_ends_nothing w is = ap (λ (b : Bool). b || passes signs.Finish w) (other_sign signs.Methods signs.Open refl w is) ∙ other_sign signs.Finish signs.Open refl w is
+pub open_ends_nothing : (w : Word) → passes (codes "[") w ≡ true → ends_properties w ≡ false
+open_ends_nothing w is = ap (λ (b : Bool). b || passes (codes "}") w) (other_sign (codes "methods") (codes "[") refl w is) ∙ other_sign (codes "}") (codes "[") refl w is

@@ -1,9 +1,8 @@
 -- The readings of parameters read them.
 use Rattle.std.proofs.Common.{◌≡◌, ℕ, ◌<◌, Bool, true, false, List, [], ◌∷◌, ◌++◌, length, Some, None, refl, ap, ◌∙◌, arith}
-use Rattle.std.specs.Prelude.{ℤ, pos, not, is_some, ◌&&◌, ◌==◌}
+use Rattle.std.specs.Prelude.{ℤ, pos, not, is_some, ◌&&◌, ◌==◌, codes}
 use Rattle.std.proofs.Math.Logic.{⊎_elim, inl, inr}
 use Rattle.std.proofs.lemmas.List.{length-append}
-use Rattle.oa_idl.specs.declared.sign.Sign.TheVariants as signs
 use Rattle.oa_idl.specs.declared.stop.TreeLimit.{TreeLimit}
 use Rattle.oa_idl.specs.declared.stop.TreeLimit.TheVariants as limits
 use Rattle.oa_idl.specs.declared.parts.Literal.{Literal}
@@ -27,20 +26,20 @@ use Rattle.oa_idl.proofs.Texts.{full_left, full_middle, full_right, value_type_p
 
 -- ---- literals
 
-amount_heads : (test : Word → Bool) → ((w : Word) → passes signs.Minus w ≡ true → test w ≡ false) → ((i : ℤ) (w : Word) → amount_of false w ≡ Some i → test w ≡ false) → (i : ℤ) (text more : List Word) → amount i text → heads test (text ++ more) ≡ false
-amount_heads test minus number i text more f = ⊎_elim (λ (k : (sign signs.Minus ▸ one (amount_of true) i) text). first_heads test (passes signs.Minus) false minus text more k)
+amount_heads : (test : Word → Bool) → ((w : Word) → passes (codes "-") w ≡ true → test w ≡ false) → ((i : ℤ) (w : Word) → amount_of false w ≡ Some i → test w ≡ false) → (i : ℤ) (text more : List Word) → amount i text → heads test (text ++ more) ≡ false
+amount_heads test minus number i text more f = ⊎_elim (λ (k : (sign (codes "-") ▸ one (amount_of true) i) text). first_heads test (passes (codes "-")) false minus text more k)
     (λ (k : one (amount_of false) i text). one_heads (amount_of false) test i (λ w e. number i w e) text more k) f
 
 amount_parses : {n : ℕ} → Parses n Always amount NoLimit Always amount_at
 unfolding amount_at
-amount_parses = choose_parses {A = λ i. sign signs.Minus ▸ one (amount_of true) i} {B = one (amount_of false)} (passes signs.Minus)
-    (λ i text more _ f is. ⊎_elim (λ (k : (sign signs.Minus ▸ one (amount_of true) i) text). k) (λ (k : one (amount_of false) i text). absurd (clash is (plain_heads i text more k))) f)
-    (λ i text more _ f is. ⊎_elim (λ (k : (sign signs.Minus ▸ one (amount_of true) i) text). absurd (clash (same_heads signs.Minus text more k) is)) (λ (k : one (amount_of false) i text). k) f)
+amount_parses = choose_parses {A = λ i. sign (codes "-") ▸ one (amount_of true) i} {B = one (amount_of false)} (passes (codes "-"))
+    (λ i text more _ f is. ⊎_elim (λ (k : (sign (codes "-") ▸ one (amount_of true) i) text). k) (λ (k : one (amount_of false) i text). absurd (clash is (plain_heads i text more k))) f)
+    (λ i text more _ f is. ⊎_elim (λ (k : (sign (codes "-") ▸ one (amount_of true) i) text). absurd (clash (same_heads (codes "-") text more k) is)) (λ (k : one (amount_of false) i text). k) f)
     (λ i text _ f. inl f) (λ i text _ f. inr f)
-    (skip_parses (passes signs.Minus) (sure_parses (amount_of true))) (sure_parses (amount_of false))
+    (skip_parses (passes (codes "-")) (sure_parses (amount_of true))) (sure_parses (amount_of false))
   where
-    plain_heads : (i : ℤ) (text more : List Word) → one (amount_of false) i text → heads (passes signs.Minus) (text ++ more) ≡ false
-    plain_heads i text more k = one_heads (amount_of false) (passes signs.Minus) i (λ w e. amount_no_sign signs.Minus refl false i w e) text more k
+    plain_heads : (i : ℤ) (text more : List Word) → one (amount_of false) i text → heads (passes (codes "-")) (text ++ more) ≡ false
+    plain_heads i text more k = one_heads (amount_of false) (passes (codes "-")) i (λ w e. amount_no_sign (codes "-") refl false i w e) text more k
 
 abbrev is_true : Literal → Bool
 is_true (literals.Number i) = false
@@ -67,19 +66,19 @@ number_in (literals.Number i) = i
 number_in (literals.Text cs) = pos 0
 number_in (literals.Bool b) = pos 0
 
-true_heads : (v : Literal) (text more : List Word) → literal v text → heads (passes signs.True) (text ++ more) ≡ is_true v
+true_heads : (v : Literal) (text more : List Word) → literal v text → heads (passes (codes "TRUE")) (text ++ more) ≡ is_true v
 unfolding literal
-true_heads (literals.Number i) text more f = amount_heads (passes signs.True) (λ w is. other_sign signs.True signs.Minus refl w is) (λ i w e. amount_no_sign signs.True refl false i w e) i text more f
-true_heads (literals.Text cs) text more f = one_heads characters_of (passes signs.True) cs (λ w e. characters_no_sign signs.True refl cs w e) text more f
-true_heads (literals.Bool true) text more f = this_heads (passes signs.True) text more f
-true_heads (literals.Bool false) text more f = one_sign_heads signs.True signs.False refl text more f
+true_heads (literals.Number i) text more f = amount_heads (passes (codes "TRUE")) (λ w is. other_sign (codes "TRUE") (codes "-") refl w is) (λ i w e. amount_no_sign (codes "TRUE") refl false i w e) i text more f
+true_heads (literals.Text cs) text more f = one_heads characters_of (passes (codes "TRUE")) cs (λ w e. characters_no_sign (codes "TRUE") refl cs w e) text more f
+true_heads (literals.Bool true) text more f = this_heads (passes (codes "TRUE")) text more f
+true_heads (literals.Bool false) text more f = one_sign_heads (codes "TRUE") (codes "FALSE") refl text more f
 
-false_heads : (v : Literal) (text more : List Word) → literal v text → heads (passes signs.False) (text ++ more) ≡ is_false v
+false_heads : (v : Literal) (text more : List Word) → literal v text → heads (passes (codes "FALSE")) (text ++ more) ≡ is_false v
 unfolding literal
-false_heads (literals.Number i) text more f = amount_heads (passes signs.False) (λ w is. other_sign signs.False signs.Minus refl w is) (λ i w e. amount_no_sign signs.False refl false i w e) i text more f
-false_heads (literals.Text cs) text more f = one_heads characters_of (passes signs.False) cs (λ w e. characters_no_sign signs.False refl cs w e) text more f
-false_heads (literals.Bool true) text more f = one_sign_heads signs.False signs.True refl text more f
-false_heads (literals.Bool false) text more f = this_heads (passes signs.False) text more f
+false_heads (literals.Number i) text more f = amount_heads (passes (codes "FALSE")) (λ w is. other_sign (codes "FALSE") (codes "-") refl w is) (λ i w e. amount_no_sign (codes "FALSE") refl false i w e) i text more f
+false_heads (literals.Text cs) text more f = one_heads characters_of (passes (codes "FALSE")) cs (λ w e. characters_no_sign (codes "FALSE") refl cs w e) text more f
+false_heads (literals.Bool true) text more f = one_sign_heads (codes "FALSE") (codes "TRUE") refl text more f
+false_heads (literals.Bool false) text more f = this_heads (passes (codes "FALSE")) text more f
 
 characters_heads : (v : Literal) (text more : List Word) → literal v text → heads is_text (text ++ more) ≡ is_characters v
 unfolding literal
@@ -113,19 +112,19 @@ only_number (literals.Bool false) h = absurd (clash refl h.0.1)
 
 pub literal_parses : {n : ℕ} → Parses n Always literal NoLimit Always literal_at
 unfolding literal_at literal
-literal_parses = tagged_parses {F = literal} (passes signs.True) is_true true_heads
-    (free_branch_parses {F = literal} (λ (_ : Unit {0}). literals.Bool true) (λ _. done) only_true (λ a. ((tt, refl), refl)) (this_parses (passes signs.True)))
-    (tagged_parses {F = literal} (passes signs.False) is_false false_heads
-    (free_branch_parses {F = literal} (λ (_ : Unit {0}). literals.Bool false) (λ _. done) only_false (λ a. (((tt, refl), refl), refl)) (this_parses (passes signs.False)))
+literal_parses = tagged_parses {F = literal} (passes (codes "TRUE")) is_true true_heads
+    (free_branch_parses {F = literal} (λ (_ : Unit {0}). literals.Bool true) (λ _. done) only_true (λ a. ((tt, refl), refl)) (this_parses (passes (codes "TRUE"))))
+    (tagged_parses {F = literal} (passes (codes "FALSE")) is_false false_heads
+    (free_branch_parses {F = literal} (λ (_ : Unit {0}). literals.Bool false) (λ _. done) only_false (λ a. (((tt, refl), refl), refl)) (this_parses (passes (codes "FALSE"))))
     (tagged_parses {F = literal} is_text is_characters characters_heads
     (free_branch_parses {F = literal} (λ cs. literals.Text cs) characters_in only_characters (λ a. ((((tt, refl), refl), refl), refl)) (sure_parses characters_of))
     (free_branch_parses {F = literal} (λ i. literals.Number i) number_in only_number (λ a. ((((tt, refl), refl), refl), refl)) amount_parses)))
 
 -- ---- attributes
 
-default_parses : {n : ℕ} → Parses n Always (λ v. sign signs.DefaultValue ▸ sign signs.Left ▸ literal v ▸ sign signs.Right) NoLimit Always default_at
+default_parses : {n : ℕ} → Parses n Always (λ v. sign (codes "defaultvalue") ▸ sign (codes "(") ▸ literal v ▸ sign (codes ")")) NoLimit Always default_at
 unfolding default_at
-default_parses = skip_parses (passes signs.DefaultValue) (skip_parses (passes signs.Left) (part_parses (λ v. v) literal_parses (λ l v h k. tt) (λ v. end_parses (passes signs.Right) v (tt, refl) (λ _. tt) (λ c h. h.1))))
+default_parses = skip_parses (passes (codes "defaultvalue")) (skip_parses (passes (codes "(")) (part_parses (λ v. v) literal_parses (λ l v h k. tt) (λ v. end_parses (passes (codes ")")) v (tt, refl) (λ _. tt) (λ c h. h.1))))
 
 abbrev is_in : ParameterAttribute → Bool
 is_in IsIn = true
@@ -142,15 +141,15 @@ default_in IsIn = literals.Bool true
 default_in IsOptional = literals.Bool true
 default_in (HasDefault v) = v
 
-in_heads : (x : ParameterAttribute) (text more : List Word) → parameter_attribute x text → heads (passes signs.In) (text ++ more) ≡ is_in x
-in_heads IsIn text more f = this_heads (passes signs.In) text more f
-in_heads IsOptional text more f = one_sign_heads signs.In signs.Optional refl text more f
-in_heads (HasDefault v) text more f = sign_heads signs.In signs.DefaultValue refl text more f
+in_heads : (x : ParameterAttribute) (text more : List Word) → parameter_attribute x text → heads (passes (codes "in")) (text ++ more) ≡ is_in x
+in_heads IsIn text more f = this_heads (passes (codes "in")) text more f
+in_heads IsOptional text more f = one_sign_heads (codes "in") (codes "optional") refl text more f
+in_heads (HasDefault v) text more f = sign_heads (codes "in") (codes "defaultvalue") refl text more f
 
-optional_heads : (x : ParameterAttribute) (text more : List Word) → parameter_attribute x text → heads (passes signs.Optional) (text ++ more) ≡ is_optional x
-optional_heads IsIn text more f = one_sign_heads signs.Optional signs.In refl text more f
-optional_heads IsOptional text more f = this_heads (passes signs.Optional) text more f
-optional_heads (HasDefault v) text more f = sign_heads signs.Optional signs.DefaultValue refl text more f
+optional_heads : (x : ParameterAttribute) (text more : List Word) → parameter_attribute x text → heads (passes (codes "optional")) (text ++ more) ≡ is_optional x
+optional_heads IsIn text more f = one_sign_heads (codes "optional") (codes "in") refl text more f
+optional_heads IsOptional text more f = this_heads (passes (codes "optional")) text more f
+optional_heads (HasDefault v) text more f = sign_heads (codes "optional") (codes "defaultvalue") refl text more f
 
 only_in : (x : ParameterAttribute) → Always x × (is_in x ≡ true) → x ≡ IsIn
 only_in IsIn h = refl
@@ -169,10 +168,10 @@ only_default (HasDefault v) h = refl
 
 parameter_attribute_parses : {n : ℕ} (s : ParameterSeen) → Parses n Always (λ x ws. (parameter_may s x ≡ true) × parameter_attribute x ws) NoLimit Always (parameter_attribute_at s)
 unfolding parameter_attribute_at
-parameter_attribute_parses s = tagged_parses {F = λ x ws. (parameter_may s x ≡ true) × parameter_attribute x ws} (passes signs.In) is_in (λ x text more f. in_heads x text more f.1)
-    (free_branch_parses {F = λ x ws. (parameter_may s x ≡ true) × parameter_attribute x ws} (λ (_ : Unit {0}). IsIn) (λ _. done) only_in (λ a. ((tt, refl), refl)) (require_parses (not s.is_in) (this_parses (passes signs.In))))
-    (tagged_parses {F = λ x ws. (parameter_may s x ≡ true) × parameter_attribute x ws} (passes signs.Optional) is_optional (λ x text more f. optional_heads x text more f.1)
-    (free_branch_parses {F = λ x ws. (parameter_may s x ≡ true) × parameter_attribute x ws} (λ (_ : Unit {0}). IsOptional) (λ _. done) only_optional (λ a. (((tt, refl), refl), refl)) (require_parses (not s.is_optional) (this_parses (passes signs.Optional))))
+parameter_attribute_parses s = tagged_parses {F = λ x ws. (parameter_may s x ≡ true) × parameter_attribute x ws} (passes (codes "in")) is_in (λ x text more f. in_heads x text more f.1)
+    (free_branch_parses {F = λ x ws. (parameter_may s x ≡ true) × parameter_attribute x ws} (λ (_ : Unit {0}). IsIn) (λ _. done) only_in (λ a. ((tt, refl), refl)) (require_parses (not s.is_in) (this_parses (passes (codes "in")))))
+    (tagged_parses {F = λ x ws. (parameter_may s x ≡ true) × parameter_attribute x ws} (passes (codes "optional")) is_optional (λ x text more f. optional_heads x text more f.1)
+    (free_branch_parses {F = λ x ws. (parameter_may s x ≡ true) × parameter_attribute x ws} (λ (_ : Unit {0}). IsOptional) (λ _. done) only_optional (λ a. (((tt, refl), refl), refl)) (require_parses (not s.is_optional) (this_parses (passes (codes "optional")))))
     (free_branch_parses {F = λ x ws. (parameter_may s x ≡ true) × parameter_attribute x ws} (λ v. HasDefault v) default_in only_default (λ a. (((tt, refl), refl), refl)) (require_parses (not (is_some s.default)) default_parses)))
 
 pub parameter_head_parses : {n : ℕ} → Parses n Always parameter_head NoLimit Always parameter_head_at
@@ -199,13 +198,13 @@ typed_parses count h = part_parses (λ p. p.value_type) value_type_parses (λ l 
     give_parses (record { is_in = h.is_in; is_optional = h.is_optional; default = h.default; value_type = t; name = name }) (((tt, refl), refl), refl) (λ kept _. kept)
     (λ p k. λ i. record { is_in = (k.0.0.1 i).is_in; is_optional = (k.0.0.1 i).is_optional; default = (k.0.0.1 i).default; value_type = k.0.1 i; name = k.1 i })))
 
-typed_open : (p : Parameter) (text more : List Word) → typed p text → heads (passes signs.Open) (text ++ more) ≡ false
-typed_open p text more f = then_heads (passes signs.Open) false text more (λ front left h. value_type_heads signs.Open open_no_type refl refl p.value_type front left h) f
+typed_open : (p : Parameter) (text more : List Word) → typed p text → heads (passes (codes "[")) (text ++ more) ≡ false
+typed_open p text more f = then_heads (passes (codes "[")) false text more (λ front left h. value_type_heads (codes "[") open_no_type refl refl p.value_type front left h) f
 
 -- how the attributes of a parameter begin
-head_begins : (h : ParameterSeen) (test : Word → Bool) (v : Bool) → ((w : Word) → passes signs.Open w ≡ true → test w ≡ v) → (text more : List Word) → parameter_head h text → heads test (text ++ more) ≡ v
+head_begins : (h : ParameterSeen) (test : Word → Bool) (v : Bool) → ((w : Word) → passes (codes "[") w ≡ true → test w ≡ v) → (text more : List Word) → parameter_head h text → heads test (text ++ more) ≡ v
 unfolding parameter_head
-head_begins h test v is text more f = first_heads test (passes signs.Open) v is text more f
+head_begins h test v is text more f = first_heads test (passes (codes "[")) v is text more f
 
 head_some : (h : ParameterSeen) (text : List Word) → parameter_head h text → 0 < length text
 unfolding parameter_head
@@ -213,22 +212,22 @@ head_some h text f = this_some text f
 
 parameter_parses : {n : ℕ} (count : ℕ) → Parses n Always parameter (λ l p. ParameterKeeps count l p) (λ p. ParameterKept count p) (parameter_at count)
 unfolding parameter parameter_at
-parameter_parses count = choose_parses {A = λ p. parameter_head (head_of_parameter p) ▸ typed p} {B = λ p ws. (head_of_parameter p ≡ no_parameter) × typed p ws} (passes signs.Open)
+parameter_parses count = choose_parses {A = λ p. parameter_head (head_of_parameter p) ▸ typed p} {B = λ p ws. (head_of_parameter p ≡ no_parameter) × typed p ws} (passes (codes "["))
     (λ p text more _ f is. ⊎_elim (λ (k : (parameter_head (head_of_parameter p) ▸ typed p) text). k) (λ (k : where_is (head_of_parameter p ≡ no_parameter) (typed p) text). absurd (clash is (typed_open p text more k.1))) f)
     (λ p text more _ f is. ⊎_elim (λ (k : (parameter_head (head_of_parameter p) ▸ typed p) text). absurd (clash (opened (head_of_parameter p) text more k) is)) (λ (k : where_is (head_of_parameter p ≡ no_parameter) (typed p) text). k) f)
     (λ p text _ f. inl f) (λ p text _ f. inr f)
     (part_parses head_of_parameter parameter_head_parses (λ l p h k. tt) (λ h. said_parses (λ c k. k) (λ c k. k) (λ c t k f. f) (λ c t k f. f) (λ c k _. k) (typed_parses count h)))
     (fact_parses (typed_parses count no_parameter))
   where
-    opened : {G : List Word → Type 0} (h : ParameterSeen) (text more : List Word) → Then (parameter_head h) G text → heads (passes signs.Open) (text ++ more) ≡ true
-    opened h text more k = then_heads (passes signs.Open) true text more (λ front left f. head_begins h (passes signs.Open) true (λ w is. is) front left f) k
+    opened : {G : List Word → Type 0} (h : ParameterSeen) (text more : List Word) → Then (parameter_head h) G text → heads (passes (codes "[")) (text ++ more) ≡ true
+    opened h text more k = then_heads (passes (codes "[")) true text more (λ front left f. head_begins h (passes (codes "[")) true (λ w is. is) front left f) k
 
-separated_heads : (b : Bool) (p : Parameter) (text more : List Word) → separated b p text → heads (passes signs.Right) (text ++ more) ≡ false
+separated_heads : (b : Bool) (p : Parameter) (text more : List Word) → separated b p text → heads (passes (codes ")")) (text ++ more) ≡ false
 unfolding parameter
 separated_heads true p text more f = ⊎_elim
-    (λ (k : (parameter_head (head_of_parameter p) ▸ typed p) text). then_heads (passes signs.Right) false text more (λ front left h. head_begins (head_of_parameter p) (passes signs.Right) false (λ w is. other_sign signs.Right signs.Open refl w is) front left h) k)
-    (λ (k : where_is (head_of_parameter p ≡ no_parameter) (typed p) text). then_heads (passes signs.Right) false text more (λ front left h. value_type_heads signs.Right right_no_type refl refl p.value_type front left h) k.1) f
-separated_heads false p text more f = sign_heads signs.Right signs.Comma refl text more f
+    (λ (k : (parameter_head (head_of_parameter p) ▸ typed p) text). then_heads (passes (codes ")")) false text more (λ front left h. head_begins (head_of_parameter p) (passes (codes ")")) false (λ w is. other_sign (codes ")") (codes "[") refl w is) front left h) k)
+    (λ (k : where_is (head_of_parameter p ≡ no_parameter) (typed p) text). then_heads (passes (codes ")")) false text more (λ front left h. value_type_heads (codes ")") right_no_type refl refl p.value_type front left h) k.1) f
+separated_heads false p text more f = sign_heads (codes ")") (codes ",") refl text more f
 
 separated_some : (b : Bool) (p : Parameter) (text : List Word) → separated b p text → 0 < length text
 unfolding parameter
@@ -240,7 +239,7 @@ separated_some false p text f = this_some text f
 separated_parses : {n : ℕ} (count : ℕ) (b : Bool) → Parses n Always (separated b) (λ l p. ParameterKeeps count l p) (λ p. ParameterKept count p) (separated_at count b)
 unfolding separated_at
 separated_parses count true = parameter_parses count
-separated_parses count false = skip_parses (passes signs.Comma) (parameter_parses count)
+separated_parses count false = skip_parses (passes (codes ",")) (parameter_parses count)
 
 never_heads : {A : Type 0} (x : A) (words : List Word) → heads (nowhere x) words ≡ false
 never_heads x [] = refl
@@ -251,5 +250,5 @@ NoEndLimit s b = Unit {0}
 
 pub parameters_parses : {n : ℕ} (kind : MethodKind) → Parses n Always (λ p. listed next_parameter one_more nowhere (last_parameter kind) 0 p.0 p.1) (λ l p. KeepsFrom one_more (λ n x. ParameterKeeps n l x) NoEndLimit 0 p.0 p.1) (λ p. KeepsFrom one_more ParameterKept NoEndLimit 0 p.0 p.1) (parameters_at kind)
 unfolding parameters_at
-parameters_parses {n} kind = list_parses one_more (passes signs.Right) nowhere (λ n s. separated_parses s (s == 0)) (λ n s. require_parses (may_end kind s) (this_parses (passes signs.Right))) (λ s p text f. separated_some (s == 0) p text f) (λ s p text more f. separated_heads (s == 0) p text more f)
-    (λ s b text more f. this_heads (passes signs.Right) text more f.1) (λ y s p text more f. never_heads y (text ++ more)) (λ y s b text more f. never_heads y (text ++ more)) n 0
+parameters_parses {n} kind = list_parses one_more (passes (codes ")")) nowhere (λ n s. separated_parses s (s == 0)) (λ n s. require_parses (may_end kind s) (this_parses (passes (codes ")")))) (λ s p text f. separated_some (s == 0) p text f) (λ s p text more f. separated_heads (s == 0) p text more f)
+    (λ s b text more f. this_heads (passes (codes ")")) text more f.1) (λ y s p text more f. never_heads y (text ++ more)) (λ y s b text more f. never_heads y (text ++ more)) n 0

@@ -496,25 +496,6 @@ pub begins_itself : (front left words : List Word) → words ≡ front ++ left �
 begins_itself front [] words e = e ∙ append-nil front
 begins_itself front (w ∷ left) words e = (left, e)
 
--- what is of the form, and keeps every limit, is read again, whatever follows
-pub again : {C : Type 0} {R : C → Type 0} {F : C → List Word → Type 0} {K : TreeLimit → C → Type 0} {Q : C → Type 0} {read : Reading C} (x : C) (text rest : List Word) → Parses (length (text ++ rest)) R F K Q read
-    → R x → ((l : TreeLimit) → K l x) → F x text → read (text ++ rest) ≡ Got x rest
-again {C} {R} {F} {K} {Q} {read} x text rest r h kept f = by_step (read (text ++ rest)) refl
-  where
-    keeps : (why : Stop) → Keeps K why x
-    keeps Syntax = tt
-    keeps (stops.Limit l) = kept l
-    keeps Memory = tt
-
-    by_step : (o : Step C) → read (text ++ rest) ≡ o → o ≡ Got x rest
-    by_step (Got y left) e =
-        let g = r.takes (text ++ rest) y left (omega arith) e in
-        let one = r.same x y text g.1.text rest left h g.0.0 f g.1.form g.1.parts in
-        λ i. got (sym one.0 i) (sym one.1 i)
-    by_step (Stuck why left) e =
-        let s = r.stuck (text ++ rest) why left (omega arith) e in
-        absurd (s.apart x text rest h (keeps why) f (begins_itself s.front left (text ++ rest) s.parts))
-
 -- ---- ends
 
 pub less_nothing : {F : List Word → Type 0} (text : List Word) → Then F nothing text → F text

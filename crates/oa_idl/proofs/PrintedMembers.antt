@@ -2,7 +2,7 @@
 use Rattle.std.proofs.Common.{◌≡◌, ℕ, suc, ◌+◌, ◌^◌, ◌<◌, ◌≤◌, Bool, true, false, List, [], ◌∷◌, ◌++◌, length, Option, Some, None, refl, sym, ap, subst, ◌∙◌, append_assoc, arith, ltb-false, leb-false}
 use Rattle.std.specs.Prelude.{codes, ℤ, pos, negsuc, is_some, ◌==◌, ◌||◌, nat_lt, nat_le}
 use Rattle.std.specs.Fmt.{decimal, signed_decimal}
-use Rattle.std.specs.List.{AllByRecursion}
+use Rattle.std.specs.List.{AllByRecursion, flat_map}
 use Rattle.std.proofs.Math.Logic.{inl, inr}
 use Rattle.std.proofs.lemmas.List.{length-append}
 use Rattle.uuid.proofs.RoundTrips.{parses_hyphenated_text}
@@ -14,7 +14,6 @@ use Rattle.oa_model.specs.declared.var_type.ValueType.TheVariants as values
 use Rattle.oa_model.specs.Types.{sf_type_of}
 use Rattle.oa_idl.specs.declared.lexer.Kind.TheVariants as kinds
 use Rattle.oa_idl.specs.declared.lexer.Piece.TheVariants.{Word}
-use Rattle.oa_idl.specs.declared.sign.Sign.TheVariants as signs
 use Rattle.oa_idl.specs.declared.parts.Property.{Property}
 use Rattle.oa_idl.specs.declared.parts.Literal.{Literal}
 use Rattle.oa_idl.specs.declared.parts.Literal.TheVariants as literals
@@ -33,7 +32,7 @@ use Rattle.oa_idl.specs.Grammar.{sign, type_word, value_type, property_attribute
 use Rattle.oa_idl.specs.Grammar.PropertyAttribute.{Id, Readonly}
 use Rattle.oa_idl.specs.Grammar.ParameterAttribute.{IsIn, IsOptional, HasDefault}
 use Rattle.oa_idl.specs.Grammar.MethodAttribute.{MethodId, Propget, Propput}
-use Rattle.oa_idl.specs.Canonical.{texts, type_text, value_type_text, result_text, named_text, character_text, literal_text, mark_text, default_text, parameter_marks, parameter_text, further_text, parameters_text, id_text, readonly_text, property_text, kind_text, list_text, method_text, digits_text}
+use Rattle.oa_idl.specs.Canonical.{type_text, value_type_text, result_text, named_text, character_text, literal_text, mark_text, default_text, parameter_marks, parameter_text, further_text, parameters_text, id_text, readonly_text, property_text, kind_text, list_text, method_text, digits_text}
 use Rattle.oa_idl.specs.Printable.{IsGuid, IsNameText, IsName, IsId, IsType, IsValueType, IsLiteral, IsDefault, IsParameter, IsProperty, IsResult, IsMethod}
 use Rattle.oa_idl.proofs.PrintedTokens.{word, by_test, clash, is_not, Ends, AreDigits, number_front}
 use Rattle.oa_idl.proofs.PrintedParts.{decimal_is, number_is, guid_front, string_front, string_value}
@@ -58,10 +57,7 @@ plain_spelled in_array t text b x is ends e some = said (λ ws f. inr f) (meant_
 unsigned_spelled : (in_array : Bool) (t : VarType) (text : List ℕ) (b : ℕ) (x : List ℕ) → IsNameText text → Ends (b ∷ x) → unsigned_type text ≡ Some t → (in_array ≡ true → is_some (sf_type_of t) ≡ true) → Spells (type_word in_array t) (codes "unsigned " ++ (text ++ b ∷ x)) (b ∷ x)
 unfolding is_in run passes
 unsigned_spelled in_array t text b x is ends e some = said (λ ws f. inl f)
-    (sign_word signs.Unsigned (codes "unsigned") 32 (text ++ b ∷ x) (refl, refl) (refl, refl) refl ▹ blank (meant_word (type_of in_array true) t text b x is ends (type_means in_array true t text e some)))
-
-has_cell : (in_array : Bool) (t : VarType) → is_some (sf_type_of t) ≡ true → in_array ≡ true → is_some (sf_type_of t) ≡ true
-has_cell in_array t e h = e
+    (sign_word (codes "unsigned") (codes "unsigned") 32 (text ++ b ∷ x) (refl, refl) (refl, refl) refl ▹ blank (meant_word (type_of in_array true) t text b x is ends (type_means in_array true t text e some)))
 
 pub type_spelled : (in_array : Bool) (t : VarType) (b : ℕ) (x : List ℕ) → IsType in_array t → Ends (b ∷ x) → Spells (type_word in_array t) (type_text t ++ b ∷ x) (b ∷ x)
 unfolding type_text is_in run plain_type unsigned_type
@@ -98,7 +94,7 @@ pub value_type_spelled : (t : ValueType) (x : List ℕ) → IsValueType t → Sp
 unfolding value_type value_type_text is_in run passes
 value_type_spelled (values.One t) x h = type_spelled false t 32 x h (space_ends x)
 value_type_spelled (values.Array t) x h = at (ap (λ (bs : List ℕ). codes "SAFEARRAY(" ++ bs) (append_assoc (type_text t) (codes ")") (32 ∷ x)))
-    (sign_word signs.SafeArray (codes "SAFEARRAY") 40 (type_text t ++ 41 ∷ 32 ∷ x) (refl, refl) (refl, refl) refl ▹ left_mark ▹ type_spelled true t 41 (32 ∷ x) h (right_ends (32 ∷ x)) ▹ right_mark)
+    (sign_word (codes "SAFEARRAY") (codes "SAFEARRAY") 40 (type_text t ++ 41 ∷ 32 ∷ x) (refl, refl) (refl, refl) refl ▹ left_mark ▹ type_spelled true t 41 (32 ∷ x) h (right_ends (32 ∷ x)) ▹ right_mark)
 
 -- ---- numbers
 
@@ -173,37 +169,37 @@ guid_spelled g x h = whole_word kinds.Guid (digits_text g) (41 ∷ x) (omega (ar
 
 -- ---- literals
 
-string_means : (cs : List ℕ) → AllByRecursion (λ b. is_printable b ≡ true) cs → characters_of (word kinds.Text (34 ∷ (texts character_text cs ++ 34 ∷ []))) ≡ Some cs
+string_means : (cs : List ℕ) → AllByRecursion (λ b. is_printable b ≡ true) cs → characters_of (word kinds.Text (34 ∷ (flat_map character_text cs ++ 34 ∷ []))) ≡ Some cs
 unfolding characters_of
 string_means cs h = string_value cs h
 
-string_length : (cs : List ℕ) → 1 + suc (length (texts character_text cs)) ≡ length (34 ∷ (texts character_text cs ++ 34 ∷ []))
-string_length cs = omega (arith, length-append (texts character_text cs) (34 ∷ []))
+string_length : (cs : List ℕ) → 1 + suc (length (flat_map character_text cs)) ≡ length (34 ∷ (flat_map character_text cs ++ 34 ∷ []))
+string_length cs = omega (arith, length-append (flat_map character_text cs) (34 ∷ []))
 
-string_spelled : (cs x : List ℕ) → AllByRecursion (λ b. is_printable b ≡ true) cs → Spells (one characters_of cs) (34 ∷ (texts character_text cs ++ 34 ∷ x)) x
-string_spelled cs x h = at (ap (λ (bs : List ℕ). 34 ∷ bs) (sym (append_assoc (texts character_text cs) (34 ∷ []) x)))
-    (whole_word kinds.Text (34 ∷ (texts character_text cs ++ 34 ∷ [])) x (omega arith) (ap (λ (bs : List ℕ). front (34 ∷ bs)) (append_assoc (texts character_text cs) (34 ∷ []) x) ∙ string_front cs x ∙ ap (λ (n : ℕ). Word kinds.Text n) (string_length cs))
-    (record { word = word kinds.Text (34 ∷ (texts character_text cs ++ 34 ∷ [])); parts = refl; is = string_means cs h }))
+string_spelled : (cs x : List ℕ) → AllByRecursion (λ b. is_printable b ≡ true) cs → Spells (one characters_of cs) (34 ∷ (flat_map character_text cs ++ 34 ∷ x)) x
+string_spelled cs x h = at (ap (λ (bs : List ℕ). 34 ∷ bs) (sym (append_assoc (flat_map character_text cs) (34 ∷ []) x)))
+    (whole_word kinds.Text (34 ∷ (flat_map character_text cs ++ 34 ∷ [])) x (omega arith) (ap (λ (bs : List ℕ). front (34 ∷ bs)) (append_assoc (flat_map character_text cs) (34 ∷ []) x) ∙ string_front cs x ∙ ap (λ (n : ℕ). Word kinds.Text n) (string_length cs))
+    (record { word = word kinds.Text (34 ∷ (flat_map character_text cs ++ 34 ∷ [])); parts = refl; is = string_means cs h }))
 
 -- before the bracket that closes a default
 literal_spelled : (v : Literal) (x : List ℕ) → IsLiteral v → Spells (literal v) (literal_text v ++ 41 ∷ x) (41 ∷ x)
 unfolding literal literal_text is_in run passes
 literal_spelled (literals.Number i) x h = amount_spelled i 41 x h (right_ends x)
-literal_spelled (literals.Text cs) x h = at (ap (λ (bs : List ℕ). 34 ∷ bs) (append_assoc (texts character_text cs) (34 ∷ []) (41 ∷ x))) (string_spelled cs (41 ∷ x) h)
-literal_spelled (literals.Bool true) x h = sign_word signs.True (codes "TRUE") 41 x (refl, refl) (refl, refl) refl
-literal_spelled (literals.Bool false) x h = sign_word signs.False (codes "FALSE") 41 x (refl, refl) (refl, refl) refl
+literal_spelled (literals.Text cs) x h = at (ap (λ (bs : List ℕ). 34 ∷ bs) (append_assoc (flat_map character_text cs) (34 ∷ []) (41 ∷ x))) (string_spelled cs (41 ∷ x) h)
+literal_spelled (literals.Bool true) x h = sign_word (codes "TRUE") (codes "TRUE") 41 x (refl, refl) (refl, refl) refl
+literal_spelled (literals.Bool false) x h = sign_word (codes "FALSE") (codes "FALSE") 41 x (refl, refl) (refl, refl) refl
 
 -- ---- properties
 
 numbered_spelled : (i : ℤ) (x : List ℕ) → IsId i → Spells (numbered i) (codes "id(" ++ (signed_decimal i ++ 41 ∷ x)) x
 unfolding is_in run passes
-numbered_spelled i x h = sign_word signs.Id (codes "id") 40 (signed_decimal i ++ 41 ∷ x) (refl, refl) (refl, refl) refl ▹ left_mark ▹ id_spelled i 41 x h (right_ends x) ▹ right_mark
+numbered_spelled i x h = sign_word (codes "id") (codes "id") 40 (signed_decimal i ++ 41 ∷ x) (refl, refl) (refl, refl) refl ▹ left_mark ▹ id_spelled i 41 x h (right_ends x) ▹ right_mark
 
 property_head_spelled : (i : ℤ) (readonly : Bool) (x : List ℕ) → IsId i → Spells (property_head (record { id = i; readonly = readonly })) (codes "[id(" ++ (signed_decimal i ++ (readonly_text readonly ++ x))) x
 unfolding property_head is_in run passes
 property_head_spelled i false x h = then_blank (attributes_spelled {attribute = property_attribute} no_property (record { id = i; readonly = false }) (Id i) refl (numbered_spelled i (93 ∷ 32 ∷ x) h) (last_spelled _ (record { id = i; readonly = false }) refl))
 property_head_spelled i true x h = then_blank (attributes_spelled {attribute = property_attribute} no_property (record { id = i; readonly = true }) (Id i) refl (numbered_spelled i (codes ", readonly] " ++ x) h)
-    (next_spelled _ (record { id = i; readonly = true }) Readonly refl (blank (sign_word signs.Readonly (codes "readonly") 93 (32 ∷ x) (refl, refl) (refl, refl) refl)) (last_spelled _ (record { id = i; readonly = true }) refl)))
+    (next_spelled _ (record { id = i; readonly = true }) Readonly refl (blank (sign_word (codes "readonly") (codes "readonly") 93 (32 ∷ x) (refl, refl) (refl, refl) refl)) (last_spelled _ (record { id = i; readonly = true }) refl)))
 
 member_layout : (a b c d e x : List ℕ) → (((a ++ b) ++ ((c ++ 32 ∷ []) ++ d)) ++ e) ++ x ≡ a ++ (b ++ (c ++ 32 ∷ (d ++ (e ++ x))))
 member_layout a b c d e x = append_assoc ((a ++ b) ++ ((c ++ 32 ∷ []) ++ d)) e x ∙ append_assoc (a ++ b) ((c ++ 32 ∷ []) ++ d) (e ++ x) ∙ append_assoc a b (((c ++ 32 ∷ []) ++ d) ++ (e ++ x))
@@ -229,7 +225,7 @@ typed_spelled t name b x h k ends = at (append_assoc (value_type_text t ++ 32 �
 
 default_spelled : (v : Literal) (x : List ℕ) → IsLiteral v → Spells (parameter_attribute (HasDefault v)) (codes "defaultvalue(" ++ (literal_text v ++ 41 ∷ x)) x
 unfolding is_in run passes
-default_spelled v x h = sign_word signs.DefaultValue (codes "defaultvalue") 40 (literal_text v ++ 41 ∷ x) (refl, refl) (refl, refl) refl ▹ left_mark ▹ literal_spelled v x h ▹ right_mark
+default_spelled v x h = sign_word (codes "defaultvalue") (codes "defaultvalue") 40 (literal_text v ++ 41 ∷ x) (refl, refl) (refl, refl) refl ▹ left_mark ▹ literal_spelled v x h ▹ right_mark
 
 marked_layout : (l n y : List ℕ) → (((l ++ 41 ∷ []) ++ 93 ∷ 32 ∷ []) ++ n) ++ y ≡ l ++ 41 ∷ 93 ∷ 32 ∷ (n ++ y)
 marked_layout l n y = append_assoc ((l ++ 41 ∷ []) ++ 93 ∷ 32 ∷ []) n y ∙ append_assoc (l ++ 41 ∷ []) (93 ∷ 32 ∷ []) (n ++ y) ∙ append_assoc l (41 ∷ []) (93 ∷ 32 ∷ (n ++ y))
@@ -237,13 +233,13 @@ marked_layout l n y = append_assoc ((l ++ 41 ∷ []) ++ 93 ∷ 32 ∷ []) n y �
 abbrev marks : Bool → Bool → Option Literal → ParameterSeen
 marks i o d = record { is_in = i; is_optional = o; default = d }
 
-in_spelled : (b : ℕ) (x : List ℕ) → Ends (b ∷ x) → Spells (sign signs.In) (codes "in" ++ b ∷ x) (b ∷ x)
+in_spelled : (b : ℕ) (x : List ℕ) → Ends (b ∷ x) → Spells (sign (codes "in")) (codes "in" ++ b ∷ x) (b ∷ x)
 unfolding is_in run passes
-in_spelled b x ends = sign_word signs.In (codes "in") b x (refl, refl) ends refl
+in_spelled b x ends = sign_word (codes "in") (codes "in") b x (refl, refl) ends refl
 
-optional_spelled : (b : ℕ) (x : List ℕ) → Ends (b ∷ x) → Spells (sign signs.Optional) (codes "optional" ++ b ∷ x) (b ∷ x)
+optional_spelled : (b : ℕ) (x : List ℕ) → Ends (b ∷ x) → Spells (sign (codes "optional")) (codes "optional" ++ b ∷ x) (b ∷ x)
 unfolding is_in run passes
-optional_spelled b x ends = sign_word signs.Optional (codes "optional") b x (refl, refl) ends refl
+optional_spelled b x ends = sign_word (codes "optional") (codes "optional") b x (refl, refl) ends refl
 
 close_ends : (x : List ℕ) → Ends (93 ∷ x)
 unfolding is_in
@@ -288,10 +284,10 @@ parameter_before : (p : Parameter) (y : List ℕ) → IsParameter p → Ends y �
 parameter_before p [] h ends = absurd ends
 parameter_before p (b ∷ x) h ends = parameter_spelled p b x h ends
 
-rest_ends : (ps : List Parameter) (x : List ℕ) → Ends (texts further_text ps ++ 41 ∷ x)
-unfolding texts further_text
+rest_ends : (ps : List Parameter) (x : List ℕ) → Ends (flat_map further_text ps ++ 41 ∷ x)
+unfolding further_text
 rest_ends [] x = right_ends x
-rest_ends (p ∷ ps) x = comma_ends (32 ∷ ((parameter_text p ++ texts further_text ps) ++ 41 ∷ x))
+rest_ends (p ∷ ps) x = comma_ends (32 ∷ ((parameter_text p ++ flat_map further_text ps) ++ 41 ∷ x))
 
 right_spelled : (k : MethodKind) (n : ℕ) (x : List ℕ) → may_end k n ≡ true → Spells (last_parameter k n tt) (41 ∷ x) x
 right_spelled k n x e = said (λ ws f. (e, f)) right_mark
@@ -300,17 +296,16 @@ further_spelled : (n : ℕ) (p : Parameter) (y : List ℕ) → 0 < n → IsParam
 unfolding further_text
 further_spelled n p y some h ends = subst (λ (c : Bool). Spells (separated c p) (codes ", " ++ (parameter_text p ++ y)) y) (sym (is_not n 0 (λ e. omega (arith, e, some)))) (comma_mark ▹ blank (parameter_before p y h ends))
 
-rest_spelled : (k : MethodKind) (n : ℕ) (ps : List Parameter) (x : List ℕ) → 0 < n → AllByRecursion IsParameter ps → may_end k (n + length ps) ≡ true → Spells (listed next_parameter one_more nowhere (last_parameter k) n ps tt) (texts further_text ps ++ 41 ∷ x) x
-unfolding texts
+rest_spelled : (k : MethodKind) (n : ℕ) (ps : List Parameter) (x : List ℕ) → 0 < n → AllByRecursion IsParameter ps → may_end k (n + length ps) ≡ true → Spells (listed next_parameter one_more nowhere (last_parameter k) n ps tt) (flat_map further_text ps ++ 41 ∷ x) x
 rest_spelled k n [] x some h e = right_spelled k n x (subst (λ (m : ℕ). may_end k m ≡ true) (omega arith) e)
-rest_spelled k n (p ∷ ps) x some h e = at (append_assoc (further_text p) (texts further_text ps) (41 ∷ x))
-    (further_spelled n p (texts further_text ps ++ 41 ∷ x) some h.0 (rest_ends ps x) ▹ left_out ▹ rest_spelled k (n + 1) ps x (omega arith) h.1 (subst (λ (m : ℕ). may_end k m ≡ true) (omega arith) e))
+rest_spelled k n (p ∷ ps) x some h e = at (append_assoc (further_text p) (flat_map further_text ps) (41 ∷ x))
+    (further_spelled n p (flat_map further_text ps ++ 41 ∷ x) some h.0 (rest_ends ps x) ▹ left_out ▹ rest_spelled k (n + 1) ps x (omega arith) h.1 (subst (λ (m : ℕ). may_end k m ≡ true) (omega arith) e))
 
 parameters_spelled : (k : MethodKind) (ps : List Parameter) (x : List ℕ) → AllByRecursion IsParameter ps → may_end k (length ps) ≡ true → Spells (listed next_parameter one_more nowhere (last_parameter k) 0 ps tt) (parameters_text ps ++ 41 ∷ x) x
 unfolding parameters_text
 parameters_spelled k [] x h e = right_spelled k 0 x e
-parameters_spelled k (p ∷ ps) x h e = at (append_assoc (parameter_text p) (texts further_text ps) (41 ∷ x))
-    (parameter_before p (texts further_text ps ++ 41 ∷ x) h.0 (rest_ends ps x) ▹ left_out ▹ rest_spelled k 1 ps x (omega arith) h.1 (subst (λ (m : ℕ). may_end k m ≡ true) (omega arith) e))
+parameters_spelled k (p ∷ ps) x h e = at (append_assoc (parameter_text p) (flat_map further_text ps) (41 ∷ x))
+    (parameter_before p (flat_map further_text ps ++ 41 ∷ x) h.0 (rest_ends ps x) ▹ left_out ▹ rest_spelled k 1 ps x (omega arith) h.1 (subst (λ (m : ℕ). may_end k m ≡ true) (omega arith) e))
 
 -- ---- methods
 
@@ -321,13 +316,13 @@ method_head_spelled : (i : ℤ) (k : MethodKind) (x : List ℕ) → IsId i → S
 unfolding method_head is_in run passes
 method_head_spelled i methods_of.Method x h = then_blank (attributes_spelled {attribute = method_attribute} no_method (head_of i methods_of.Method) (MethodId i) refl (numbered_spelled i (93 ∷ 32 ∷ x) h) (last_spelled _ (head_of i methods_of.Method) refl))
 method_head_spelled i methods_of.Get x h = then_blank (attributes_spelled {attribute = method_attribute} no_method (head_of i methods_of.Get) (MethodId i) refl (numbered_spelled i (codes ", propget] " ++ x) h)
-    (next_spelled _ (head_of i methods_of.Get) Propget refl (blank (sign_word signs.Propget (codes "propget") 93 (32 ∷ x) (refl, refl) (refl, refl) refl)) (last_spelled _ (head_of i methods_of.Get) refl)))
+    (next_spelled _ (head_of i methods_of.Get) Propget refl (blank (sign_word (codes "propget") (codes "propget") 93 (32 ∷ x) (refl, refl) (refl, refl) refl)) (last_spelled _ (head_of i methods_of.Get) refl)))
 method_head_spelled i methods_of.Put x h = then_blank (attributes_spelled {attribute = method_attribute} no_method (head_of i methods_of.Put) (MethodId i) refl (numbered_spelled i (codes ", propput] " ++ x) h)
-    (next_spelled _ (head_of i methods_of.Put) Propput refl (blank (sign_word signs.Propput (codes "propput") 93 (32 ∷ x) (refl, refl) (refl, refl) refl)) (last_spelled _ (head_of i methods_of.Put) refl)))
+    (next_spelled _ (head_of i methods_of.Put) Propput refl (blank (sign_word (codes "propput") (codes "propput") 93 (32 ∷ x) (refl, refl) (refl, refl) refl)) (last_spelled _ (head_of i methods_of.Put) refl)))
 
 result_spelled : (k : MethodKind) (t : Option ValueType) (x : List ℕ) → IsResult k t → Spells (result_type k t) (result_text t ++ 32 ∷ x) (32 ∷ x)
 unfolding result_type result_text is_in run passes
-result_spelled k None x h = said (λ ws f. (h, f)) (sign_word signs.Void (codes "void") 32 x (refl, refl) (refl, refl) refl)
+result_spelled k None x h = said (λ ws f. (h, f)) (sign_word (codes "void") (codes "void") 32 x (refl, refl) (refl, refl) refl)
 result_spelled k (Some t) x h = said (λ ws f. (h.0, f)) (value_type_spelled t x h.1)
 
 left_ends : (x : List ℕ) → Ends (40 ∷ x)

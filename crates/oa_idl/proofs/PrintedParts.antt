@@ -1,7 +1,7 @@
 -- The parts of a printed text that are one word each: numbers, GUIDs and strings.
 use Rattle.std.proofs.Common.{◌≡◌, ℕ, suc, ◌+◌, ◌-◌, ◌*◌, ◌^◌, ◌<◌, ◌≤◌, Bool, true, false, List, [], ◌∷◌, ◌++◌, length, map, Some, refl, sym, ap, subst, ◌∙◌, arith, ltb-true, ltb-false, leb-false}
 use Rattle.std.specs.Prelude.{◌&&◌, ◌==◌, nat_lt, nat_le}
-use Rattle.std.specs.List.{AllByRecursion}
+use Rattle.std.specs.List.{AllByRecursion, flat_map}
 use Rattle.std.specs.Fmt.{decimal}
 use Rattle.std.specs.Str.Parse.{AllDigits, digits_value_after, digits_value}
 use Rattle.std.proofs.lemmas.Fmt.{decimal_is_IsNumeral_wide}
@@ -17,7 +17,7 @@ use Rattle.oa_idl.specs.declared.scan.Close.TheVariants.{Quote}
 use Rattle.oa_idl.specs.Bytes.{is_in, run, end_from, group, is_guid}
 use Rattle.oa_idl.specs.Tokens.{front}
 use Rattle.oa_idl.specs.Words.{digit_of, number_from, is_hexadecimal, value_of, number_of, is_printable, is_escaped, characters_from}
-use Rattle.oa_idl.specs.Canonical.{texts, character_text, digits_text}
+use Rattle.oa_idl.specs.Canonical.{character_text, digits_text}
 use Rattle.oa_idl.proofs.PrintedTokens.{by_test, clash, is_not, within, outside, AreDigits}
 
 -- ---- numbers
@@ -131,20 +131,20 @@ no_quote b e = by_test (b == 34) (λ (x : (b == 34) ≡ true). absurd (clash (rw
     by_test (b == 92) (λ (y : (b == 92) ≡ true). absurd (clash (rw (x, y) refl) e)) (λ (y : (b == 92) ≡ false). (x, y)))
 
 -- where a printed string closes
-string_end : (cs bs : List ℕ) → end_from Quote false (texts character_text cs ++ 34 ∷ bs) ≡ Some (suc (length (texts character_text cs)))
-unfolding end_from texts character_text
+string_end : (cs bs : List ℕ) → end_from Quote false (flat_map character_text cs ++ 34 ∷ bs) ≡ Some (suc (length (flat_map character_text cs)))
+unfolding end_from character_text
 string_end [] bs = refl
 string_end (c ∷ cs) bs = by_test (is_escaped c)
     (λ (e : is_escaped c ≡ true). rw (e, string_end cs bs) refl)
     (λ (e : is_escaped c ≡ false). rw (e, (no_quote c e).0, (no_quote c e).1, string_end cs bs) refl)
 
-pub string_front : (cs bs : List ℕ) → front (34 ∷ (texts character_text cs ++ 34 ∷ bs)) ≡ Word kinds.Text (1 + suc (length (texts character_text cs)))
+pub string_front : (cs bs : List ℕ) → front (34 ∷ (flat_map character_text cs ++ 34 ∷ bs)) ≡ Word kinds.Text (1 + suc (length (flat_map character_text cs)))
 unfolding front is_guid group run is_in
 string_front cs bs = rw (string_end cs bs) refl
 
 -- and its characters
-pub string_value : (cs : List ℕ) → AllByRecursion (λ b. is_printable b ≡ true) cs → characters_from false (texts character_text cs ++ 34 ∷ []) ≡ Some cs
-unfolding characters_from texts character_text
+pub string_value : (cs : List ℕ) → AllByRecursion (λ b. is_printable b ≡ true) cs → characters_from false (flat_map character_text cs ++ 34 ∷ []) ≡ Some cs
+unfolding characters_from character_text
 string_value [] h = refl
 string_value (c ∷ cs) h = by_test (is_escaped c)
     (λ (e : is_escaped c ≡ true). rw (e, string_value cs h.1) (rw e refl))

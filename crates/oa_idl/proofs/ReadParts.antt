@@ -1,6 +1,6 @@
 -- What words stand for: what is known of each name, number, GUID, type and string that was read.
 use Rattle.std.proofs.Common.{◌≡◌, ℕ, zero, suc, ◌+◌, ◌-◌, ◌*◌, ◌^◌, ◌<◌, ◌≤◌, Bool, true, false, cond, List, [], ◌∷◌, ◌++◌, length, take, drop, map, get_or, Option, Some, None, refl, sym, ap, subst, ◌∙◌, arith, ltb-true, ltb-false, leb-true}
-use Rattle.std.specs.Prelude.{◌&&◌, ◌||◌, ◌==◌, not, nat_lt, nat_le, ℤ, pos, negsuc, neg_ℤ, is_some, slice_index}
+use Rattle.std.specs.Prelude.{◌&&◌, ◌||◌, ◌==◌, not, nat_lt, nat_le, ℤ, pos, negsuc, neg_ℤ, is_some, slice_index, codes}
 use Rattle.std.specs.Int.{cast_signed, w32}
 use Rattle.std.specs.List.{AllByRecursion, list_all}
 use Rattle.std.specs.Str.{bytes_eq}
@@ -22,14 +22,13 @@ use Rattle.oa_idl.specs.declared.lexer.Piece.{Piece}
 use Rattle.oa_idl.specs.declared.lexer.Piece.TheVariants.{Word, Gap, Broken}
 use Rattle.oa_idl.specs.declared.scan.Class.TheVariants as classes
 use Rattle.oa_idl.specs.declared.scan.Close.TheVariants.{Quote, Comment}
-use Rattle.oa_idl.specs.declared.sign.Sign.TheVariants as signs
 use Rattle.oa_idl.specs.declared.parts.Literal.TheVariants as literals
 use Rattle.oa_idl.specs.Bytes.{is_in, run, end_from, is_guid}
 use Rattle.oa_idl.specs.Tokens.{front, closed, AreTokens}
 use Rattle.oa_idl.specs.Tokens.AreTokens.{End, Apart, Next, Rest}
 use Rattle.oa_idl.specs.Forms.{one}
 use Rattle.oa_idl.specs.Forms as forms
-use Rattle.oa_idl.specs.Words.{same_kind, spelling, name_of, is_reserved, guid_of, below, number_of, value_of, part_of, part_from, id_of, id_from, id_number, usable, is_hexadecimal, amount_of, amount_from, signed, characters_of, characters_from, with_character, is_printable, is_escaped, type_of, type_named, plain_type, unsigned_type, if_cell, word_of, end_word, words_of}
+use Rattle.oa_idl.specs.Words.{same_kind, name_of, is_reserved, guid_of, below, number_of, value_of, part_of, part_from, id_of, id_from, id_number, usable, is_hexadecimal, amount_of, amount_from, signed, characters_of, characters_from, with_character, is_printable, is_escaped, type_of, type_named, plain_type, unsigned_type, if_cell, word_of, end_word, words_of}
 use Rattle.oa_idl.specs.Printable.{IsGuid, IsNameText, IsName, IsId, IsType, IsLiteral}
 use Rattle.oa_idl.proofs.PrintedTokens.{by_test, clash}
 
@@ -257,15 +256,15 @@ IfHasWord (Some t) = HasWord t
 
 plain_has : (text : List ℕ) → IfHasWord (plain_type text)
 unfolding plain_type
-plain_has text = if_either IfHasWord (bytes_eq text (spelling signs.Char)) _ _ (λ _. tt) (λ _. if_either IfHasWord (bytes_eq text (spelling signs.Short)) _ _ (λ _. tt) (λ _. if_either IfHasWord (bytes_eq text (spelling signs.Long)) _ _ (λ _. tt)
-    (λ _. if_either IfHasWord (bytes_eq text (spelling signs.Int)) _ _ (λ _. tt) (λ _. if_either IfHasWord (bytes_eq text (spelling signs.Hyper)) _ _ (λ _. tt) (λ _. if_either IfHasWord (bytes_eq text (spelling signs.Currency)) _ _ (λ _. tt)
-    (λ _. if_either IfHasWord (bytes_eq text (spelling signs.VariantBool)) _ _ (λ _. tt) (λ _. if_either IfHasWord (bytes_eq text (spelling signs.Scode)) _ _ (λ _. tt) (λ _. if_either IfHasWord (bytes_eq text (spelling signs.Decimal)) _ _ (λ _. tt)
-    (λ _. if_either IfHasWord (bytes_eq text (spelling signs.Bstr)) _ _ (λ _. tt) (λ _. if_either IfHasWord (bytes_eq text (spelling signs.Variant)) _ _ (λ _. tt) (λ _. tt)))))))))))
+plain_has text = if_either IfHasWord (bytes_eq text (codes "char")) _ _ (λ _. tt) (λ _. if_either IfHasWord (bytes_eq text (codes "short")) _ _ (λ _. tt) (λ _. if_either IfHasWord (bytes_eq text (codes "long")) _ _ (λ _. tt)
+    (λ _. if_either IfHasWord (bytes_eq text (codes "int")) _ _ (λ _. tt) (λ _. if_either IfHasWord (bytes_eq text (codes "hyper")) _ _ (λ _. tt) (λ _. if_either IfHasWord (bytes_eq text (codes "CURRENCY")) _ _ (λ _. tt)
+    (λ _. if_either IfHasWord (bytes_eq text (codes "VARIANT_BOOL")) _ _ (λ _. tt) (λ _. if_either IfHasWord (bytes_eq text (codes "SCODE")) _ _ (λ _. tt) (λ _. if_either IfHasWord (bytes_eq text (codes "DECIMAL")) _ _ (λ _. tt)
+    (λ _. if_either IfHasWord (bytes_eq text (codes "BSTR")) _ _ (λ _. tt) (λ _. if_either IfHasWord (bytes_eq text (codes "VARIANT")) _ _ (λ _. tt) (λ _. tt)))))))))))
 
 unsigned_has : (text : List ℕ) → IfHasWord (unsigned_type text)
 unfolding unsigned_type
-unsigned_has text = if_either IfHasWord (bytes_eq text (spelling signs.Char)) _ _ (λ _. tt) (λ _. if_either IfHasWord (bytes_eq text (spelling signs.Short)) _ _ (λ _. tt) (λ _. if_either IfHasWord (bytes_eq text (spelling signs.Long)) _ _ (λ _. tt)
-    (λ _. if_either IfHasWord (bytes_eq text (spelling signs.Int)) _ _ (λ _. tt) (λ _. if_either IfHasWord (bytes_eq text (spelling signs.Hyper)) _ _ (λ _. tt) (λ _. tt)))))
+unsigned_has text = if_either IfHasWord (bytes_eq text (codes "char")) _ _ (λ _. tt) (λ _. if_either IfHasWord (bytes_eq text (codes "short")) _ _ (λ _. tt) (λ _. if_either IfHasWord (bytes_eq text (codes "long")) _ _ (λ _. tt)
+    (λ _. if_either IfHasWord (bytes_eq text (codes "int")) _ _ (λ _. tt) (λ _. if_either IfHasWord (bytes_eq text (codes "hyper")) _ _ (λ _. tt) (λ _. tt)))))
 
 type_has : (unsigned : Bool) (text : List ℕ) → IfHasWord (type_named unsigned text)
 type_has true text = unsigned_has text

@@ -1,6 +1,6 @@
 -- A tree that a text stands for can be printed so that it is read again.
 use Rattle.std.proofs.Common.{◌≡◌, ℕ, ◌+◌, ◌<◌, Bool, true, false, List, [], ◌∷◌, ◌++◌, length, Option, Some, None, refl, sym, subst, arith}
-use Rattle.std.specs.Prelude.{ℤ, ◌==◌, if◌then◌else◌}
+use Rattle.std.specs.Prelude.{ℤ, ◌==◌, if◌then◌else◌, codes}
 use Rattle.std.specs.List.{AllByRecursion}
 use Rattle.std.proofs.Math.Logic.{⊎_elim}
 use Rattle.std.proofs.lemmas.List.Elements.{All-replicate}
@@ -8,7 +8,6 @@ use Rattle.uuid.specs.Parts.{zero_bytes}
 use Rattle.oa_model.specs.declared.var_type.VarType.{VarType}
 use Rattle.oa_model.specs.declared.var_type.ValueType.{ValueType}
 use Rattle.oa_model.specs.declared.var_type.ValueType.TheVariants as values
-use Rattle.oa_idl.specs.declared.sign.Sign.TheVariants as signs
 use Rattle.oa_idl.specs.declared.stop.TreeLimit.TheVariants as limits
 use Rattle.oa_idl.specs.declared.parts.Version.{Version}
 use Rattle.oa_idl.specs.declared.parts.Property.{Property}
@@ -96,8 +95,8 @@ version_read : (counts : Bool) (v : Version) (ws : List Word) → head_attribute
 version_read true v ws f =
     let g = f.second.second in (
       part_read v.major g.first.word g.first.is,
-      ⊎_elim (λ (k : (sign signs.Dot ▸ one (part_of true) v.minor ▸ sign signs.Right) g.back). part_read v.minor k.second.first.word k.second.first.is)
-          (λ (k : where_is (v.minor ≡ 0) (sign signs.Right) g.back). subst (λ (n : ℕ). n < 65536) (sym k.0) (omega arith)) g.second,
+      ⊎_elim (λ (k : (sign (codes ".") ▸ one (part_of true) v.minor ▸ sign (codes ")")) g.back). part_read v.minor k.second.first.word k.second.first.is)
+          (λ (k : where_is (v.minor ≡ 0) (sign (codes ")")) g.back). subst (λ (n : ℕ). n < 65536) (sym k.0) (omega arith)) g.second,
     )
 version_read false v ws f = tt
 
@@ -117,7 +116,7 @@ head_read counts b ws f = attributes_read (head_attribute counts) head_may head_
 -- ---- types and numbers
 
 type_word_read : (in_array : Bool) (t : VarType) (ws : List Word) → type_word in_array t ws → IsType in_array t
-type_word_read in_array t ws f = ⊎_elim (λ (k : (sign signs.Unsigned ▸ one (type_of in_array true) t) ws). type_read in_array true t k.second.word k.second.is) (λ (k : one (type_of in_array false) t ws). type_read in_array false t k.word k.is) f
+type_word_read in_array t ws f = ⊎_elim (λ (k : (sign (codes "unsigned") ▸ one (type_of in_array true) t) ws). type_read in_array true t k.second.word k.second.is) (λ (k : one (type_of in_array false) t ws). type_read in_array false t k.word k.is) f
 
 value_type_read : (t : ValueType) (ws : List Word) → value_type t ws → IsValueType t
 unfolding value_type
@@ -125,11 +124,11 @@ value_type_read (values.One t) ws f = type_word_read false t ws f
 value_type_read (values.Array t) ws f = type_word_read true t f.second.second.front f.second.second.first
 
 id_form_read : (i : ℤ) (ws : List Word) → id_form i ws → IsId i
-id_form_read i ws f = ⊎_elim (λ (k : (sign signs.Minus ▸ one (id_of true) i) ws). id_read true i k.second.word k.second.is) (λ (k : one (id_of false) i ws). id_read false i k.word k.is) f
+id_form_read i ws f = ⊎_elim (λ (k : (sign (codes "-") ▸ one (id_of true) i) ws). id_read true i k.second.word k.second.is) (λ (k : one (id_of false) i ws). id_read false i k.word k.is) f
 
 literal_read : (v : Literal) (ws : List Word) → literal v ws → IsLiteral v
 unfolding literal
-literal_read (literals.Number i) ws f = ⊎_elim (λ (k : (sign signs.Minus ▸ one (amount_of true) i) ws). amount_read true i k.second.word k.second.is) (λ (k : one (amount_of false) i ws). amount_read false i k.word k.is) f
+literal_read (literals.Number i) ws f = ⊎_elim (λ (k : (sign (codes "-") ▸ one (amount_of true) i) ws). amount_read true i k.second.word k.second.is) (λ (k : one (amount_of false) i ws). amount_read false i k.word k.is) f
 literal_read (literals.Text cs) ws f = characters_read cs f.word f.is
 literal_read (literals.Bool b) ws f = tt
 
@@ -240,12 +239,12 @@ method_read m ws f h =
 
 methods_read : (n : ℕ) (ms : List MethodValue) (ws : List Word) → methods n ms ws → AllFine ws → AllByRecursion IsMethod ms
 methods_read n ms ws f h = ⊎_elim
-    (λ (k : (sign signs.Methods ▸ sign signs.Colon ▸ listed (λ (k : ℕ). method) one_more nowhere closing n ms tt) ws). (list_read (λ (k : ℕ). method) one_more nowhere closing IsMethod (Unit {0}) tt (λ n m vs g l. method_read m vs g l) (λ n vs g l. tt) n ms k.second.back k.second.second (second_fine k.back k.second (second_fine ws k h))).0)
-    (λ (k : where_is (ms ≡ []) (sign signs.Finish) ws). subst (AllByRecursion IsMethod) (sym k.0) tt) f
+    (λ (k : (sign (codes "methods") ▸ sign (codes ":") ▸ listed (λ (k : ℕ). method) one_more nowhere closing n ms tt) ws). (list_read (λ (k : ℕ). method) one_more nowhere closing IsMethod (Unit {0}) tt (λ n m vs g l. method_read m vs g l) (λ n vs g l. tt) n ms k.second.back k.second.second (second_fine k.back k.second (second_fine ws k h))).0)
+    (λ (k : where_is (ms ≡ []) (sign (codes "}")) ws). subst (AllByRecursion IsMethod) (sym k.0) tt) f
 
 members_read : (ps : List Property) (ms : List MethodValue) (ws : List Word) → members ps ms ws → AllFine ws → AllByRecursion IsProperty ps × AllByRecursion IsMethod ms
 members_read ps ms ws f h = ⊎_elim
-    (λ (k : (sign signs.Properties ▸ sign signs.Colon ▸ listed (λ (n : ℕ). property) one_more nowhere methods 0 ps ms) ws). list_read (λ (n : ℕ). property) one_more nowhere methods IsProperty (AllByRecursion IsMethod ms) ms (λ n p vs g l. property_read p vs g l) (λ n vs g l. methods_read n ms vs g l) 0 ps k.second.back k.second.second (second_fine k.back k.second (second_fine ws k h)))
+    (λ (k : (sign (codes "properties") ▸ sign (codes ":") ▸ listed (λ (n : ℕ). property) one_more nowhere methods 0 ps ms) ws). list_read (λ (n : ℕ). property) one_more nowhere methods IsProperty (AllByRecursion IsMethod ms) ms (λ n p vs g l. property_read p vs g l) (λ n vs g l. methods_read n ms vs g l) 0 ps k.second.back k.second.second (second_fine k.back k.second (second_fine ws k h)))
     (λ (k : where_is (ps ≡ []) (methods 0 ms) ws). (subst (AllByRecursion IsProperty) (sym k.0) tt, methods_read 0 ms ws k.1 h)) f
 
 named_read : (e : Entry) (ws : List Word) → named e ws → AllFine ws → IsName e.interface

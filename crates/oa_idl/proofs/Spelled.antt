@@ -1,20 +1,18 @@
 -- Bytes that spell a form: its words stand at their front, before those of the bytes that follow.
+use Rattle.std.specs.Prelude.{codes}
 use Rattle.std.proofs.Common.{◌≡◌, ℕ, suc, ◌+◌, ◌<◌, Bool, true, List, [], ◌∷◌, ◌++◌, length, take, drop, Option, Some, refl, sym, ap, subst, ◌∙◌, append_assoc, arith}
-use Rattle.std.specs.List.{AllByRecursion}
+use Rattle.std.specs.List.{AllByRecursion, flat_map}
 use Rattle.std.proofs.Math.Logic.{inr}
 use Rattle.std.proofs.Math.Seq.{take-append_seam, drop-append_seam}
 use Rattle.oa_idl.specs.declared.lexer.Kind.{Kind}
 use Rattle.oa_idl.specs.declared.lexer.Kind.TheVariants as kinds
 use Rattle.oa_idl.specs.declared.lexer.Piece.TheVariants.{Word}
-use Rattle.oa_idl.specs.declared.sign.Sign.{Sign}
-use Rattle.oa_idl.specs.declared.sign.Sign.TheVariants as signs
 use Rattle.oa_idl.specs.Bytes.{is_in, run, group, is_guid}
 use Rattle.oa_idl.specs.Tokens.{front}
 use Rattle.oa_idl.specs.Forms.{Form, Then, ◌▸◌, nothing, given, this, one, optional, either_of, where_is, with, listed, gathered, nowhere}
 use Rattle.oa_idl.specs.Forms as forms
 use Rattle.oa_idl.specs.Words.{passes}
 use Rattle.oa_idl.specs.Grammar.{sign, next_attribute, last_attribute, attributes}
-use Rattle.oa_idl.specs.Canonical.{texts}
 use Rattle.oa_idl.specs.Printable.{IsNameText}
 use Rattle.oa_idl.proofs.PrintedTokens.{word, HasWords, Ends, name_front}
 use Rattle.oa_idl.proofs.PrintedTokens.HasWords.{Skip, Take}
@@ -70,52 +68,52 @@ pub line : {F : List forms.Word → Type 0} {x y : List ℕ} → Spells F x y �
 unfolding front is_guid group run is_in
 line {F} {x} {y} f ws h = let r = f ws h in record { words = r.words; form = r.form; has = Skip 1 (10 ∷ x) (r.words ++ ws) (omega arith) refl r.has }
 
-mark : (s : Sign) (b : ℕ) (x : List ℕ) → front (b ∷ x) ≡ Word kinds.Mark 1 → passes s (word kinds.Mark (b ∷ [])) ≡ true → Spells (sign s) (b ∷ x) x
+mark : (s : List ℕ) (b : ℕ) (x : List ℕ) → front (b ∷ x) ≡ Word kinds.Mark 1 → passes s (word kinds.Mark (b ∷ [])) ≡ true → Spells (sign s) (b ∷ x) x
 mark s b x is pass = one_word kinds.Mark 1 (b ∷ x) x (b ∷ []) (omega arith) is refl refl (record { word = word kinds.Mark (b ∷ []); parts = refl; is = pass })
 
-pub open_mark : {x : List ℕ} → Spells (sign signs.Open) (91 ∷ x) x
+pub open_mark : {x : List ℕ} → Spells (sign (codes "[")) (91 ∷ x) x
 unfolding front is_guid group run is_in passes
-open_mark {x} = mark signs.Open 91 x refl refl
+open_mark {x} = mark (codes "[") 91 x refl refl
 
-pub close_mark : {x : List ℕ} → Spells (sign signs.Close) (93 ∷ x) x
+pub close_mark : {x : List ℕ} → Spells (sign (codes "]")) (93 ∷ x) x
 unfolding front is_guid group run is_in passes
-close_mark {x} = mark signs.Close 93 x refl refl
+close_mark {x} = mark (codes "]") 93 x refl refl
 
-pub begin_mark : {x : List ℕ} → Spells (sign signs.Begin) (123 ∷ x) x
+pub begin_mark : {x : List ℕ} → Spells (sign (codes "{")) (123 ∷ x) x
 unfolding front is_guid group run is_in passes
-begin_mark {x} = mark signs.Begin 123 x refl refl
+begin_mark {x} = mark (codes "{") 123 x refl refl
 
-pub finish_mark : {x : List ℕ} → Spells (sign signs.Finish) (125 ∷ x) x
+pub finish_mark : {x : List ℕ} → Spells (sign (codes "}")) (125 ∷ x) x
 unfolding front is_guid group run is_in passes
-finish_mark {x} = mark signs.Finish 125 x refl refl
+finish_mark {x} = mark (codes "}") 125 x refl refl
 
-pub left_mark : {x : List ℕ} → Spells (sign signs.Left) (40 ∷ x) x
+pub left_mark : {x : List ℕ} → Spells (sign (codes "(")) (40 ∷ x) x
 unfolding front is_guid group run is_in passes
-left_mark {x} = mark signs.Left 40 x refl refl
+left_mark {x} = mark (codes "(") 40 x refl refl
 
-pub right_mark : {x : List ℕ} → Spells (sign signs.Right) (41 ∷ x) x
+pub right_mark : {x : List ℕ} → Spells (sign (codes ")")) (41 ∷ x) x
 unfolding front is_guid group run is_in passes
-right_mark {x} = mark signs.Right 41 x refl refl
+right_mark {x} = mark (codes ")") 41 x refl refl
 
-pub comma_mark : {x : List ℕ} → Spells (sign signs.Comma) (44 ∷ x) x
+pub comma_mark : {x : List ℕ} → Spells (sign (codes ",")) (44 ∷ x) x
 unfolding front is_guid group run is_in passes
-comma_mark {x} = mark signs.Comma 44 x refl refl
+comma_mark {x} = mark (codes ",") 44 x refl refl
 
-pub semicolon_mark : {x : List ℕ} → Spells (sign signs.Semicolon) (59 ∷ x) x
+pub semicolon_mark : {x : List ℕ} → Spells (sign (codes ";")) (59 ∷ x) x
 unfolding front is_guid group run is_in passes
-semicolon_mark {x} = mark signs.Semicolon 59 x refl refl
+semicolon_mark {x} = mark (codes ";") 59 x refl refl
 
-pub colon_mark : {x : List ℕ} → Spells (sign signs.Colon) (58 ∷ x) x
+pub colon_mark : {x : List ℕ} → Spells (sign (codes ":")) (58 ∷ x) x
 unfolding front is_guid group run is_in passes
-colon_mark {x} = mark signs.Colon 58 x refl refl
+colon_mark {x} = mark (codes ":") 58 x refl refl
 
-pub dot_mark : {x : List ℕ} → Spells (sign signs.Dot) (46 ∷ x) x
+pub dot_mark : {x : List ℕ} → Spells (sign (codes ".")) (46 ∷ x) x
 unfolding front is_guid group run is_in passes
-dot_mark {x} = mark signs.Dot 46 x refl refl
+dot_mark {x} = mark (codes ".") 46 x refl refl
 
-pub minus_mark : {x : List ℕ} → Spells (sign signs.Minus) (45 ∷ x) x
+pub minus_mark : {x : List ℕ} → Spells (sign (codes "-")) (45 ∷ x) x
 unfolding front is_guid group run is_in passes
-minus_mark {x} = mark signs.Minus 45 x refl refl
+minus_mark {x} = mark (codes "-") 45 x refl refl
 
 one_plus : (n : ℕ) → 1 + n ≡ suc n
 one_plus n = omega arith
@@ -125,7 +123,7 @@ pub named_word : {F : List forms.Word → Type 0} (text : List ℕ) (b : ℕ) (x
 named_word {F} [] b x is ends f = absurd is
 named_word {F} (c ∷ cs) b x is ends f = one_word kinds.Name (suc (length cs)) (c ∷ (cs ++ b ∷ x)) (b ∷ x) (c ∷ cs) (omega arith) (name_front c cs b x is ends ∙ ap (λ (n : ℕ). Word kinds.Name n) (one_plus (length cs))) (ap (λ (t : List ℕ). c ∷ t) (take-append_seam cs (b ∷ x))) (drop-append_seam cs (b ∷ x)) f
 
-pub sign_word : (s : Sign) (text : List ℕ) (b : ℕ) (x : List ℕ) → IsNameText text → Ends (b ∷ x) → passes s (word kinds.Name text) ≡ true → Spells (sign s) (text ++ b ∷ x) (b ∷ x)
+pub sign_word : (s : List ℕ) (text : List ℕ) (b : ℕ) (x : List ℕ) → IsNameText text → Ends (b ∷ x) → passes s (word kinds.Name text) ≡ true → Spells (sign s) (text ++ b ∷ x) (b ∷ x)
 sign_word s text b x is ends pass = named_word text b x is ends (record { word = word kinds.Name text; parts = refl; is = pass })
 
 pub meant_word : {A : Type 0} (meaning : forms.Word → Option A) (v : A) (text : List ℕ) (b : ℕ) (x : List ℕ) → IsNameText text → Ends (b ∷ x) → meaning (word kinds.Name text) ≡ Some v → Spells (one meaning v) (text ++ b ∷ x) (b ∷ x)
@@ -144,11 +142,10 @@ whole_word {F} k text x some is f = one_word k (length text) (text ++ x) x text 
 -- a list whose items do not depend on those before
 pub all_spelled : {S A B : Type 0} (F : A → List forms.Word → Type 0) (grow : S → A → S) (apart : A → forms.Word → Bool) (E : S → B → List forms.Word → Type 0) (text : A → List ℕ) (P : A → Type 0) (b : B) (y z : List ℕ)
     → ((a : A) (x : List ℕ) → P a → Spells (F a) (text a ++ x) x) → ((s : S) → Spells (E s b) y z)
-    → (s : S) (all : List A) → AllByRecursion P all → Spells (listed (λ s. F) grow apart E s all b) (texts text all ++ y) z
-unfolding texts
+    → (s : S) (all : List A) → AllByRecursion P all → Spells (listed (λ s. F) grow apart E s all b) (flat_map text all ++ y) z
 all_spelled F grow apart E text P b y z each ends s [] h = ends s
 all_spelled F grow apart E text P b y z each ends s (a ∷ all) h =
-    at (append_assoc (text a) (texts text all) y) (each a (texts text all ++ y) h.0 ▹ (left_out ▹ all_spelled F grow apart E text P b y z each ends (grow s a) all h.1))
+    at (append_assoc (text a) (flat_map text all) y) (each a (flat_map text all ++ y) h.0 ▹ (left_out ▹ all_spelled F grow apart E text P b y z each ends (grow s a) all h.1))
 
 -- ---- attributes
 

@@ -1,13 +1,11 @@
 -- The readings of attributes, types and properties read them.
 use Rattle.std.proofs.Common.{◌≡◌, ℕ, ◌<◌, Bool, true, false, List, [], ◌++◌, length, Some, None, refl, ap, arith}
-use Rattle.std.specs.Prelude.{ℤ, pos, not, is_some, ◌&&◌}
+use Rattle.std.specs.Prelude.{ℤ, pos, not, is_some, ◌&&◌, codes}
 use Rattle.std.proofs.Math.Logic.{⊎_elim, inl, inr}
 use Rattle.oa_model.specs.declared.var_type.VarType.{VarType}
 use Rattle.oa_model.specs.declared.var_type.ValueType.{ValueType}
 use Rattle.oa_model.specs.declared.var_type.ValueType.TheVariants as values
 use Rattle.std.specs.Str.{bytes_eq}
-use Rattle.oa_idl.specs.declared.sign.Sign.{Sign}
-use Rattle.oa_idl.specs.declared.sign.Sign.TheVariants as signs
 use Rattle.oa_idl.specs.declared.stop.TreeLimit.TheVariants as limits
 use Rattle.oa_idl.specs.declared.parts.Version.{Version}
 use Rattle.oa_idl.specs.declared.parts.Property.{Property}
@@ -15,7 +13,7 @@ use Rattle.oa_idl.specs.declared.seen.HeadSeen.{HeadSeen}
 use Rattle.oa_idl.specs.declared.seen.PropertySeen.{PropertySeen}
 use Rattle.oa_idl.specs.declared.seen.PropertyHead.{PropertyHead}
 use Rattle.oa_idl.specs.Forms.{Word, ◌▸◌, one, either_of, where_is}
-use Rattle.oa_idl.specs.Words.{passes, spelling, plain_type, is_text, name_of, over, guid_of, part_of, id_of, type_of}
+use Rattle.oa_idl.specs.Words.{passes, plain_type, is_text, name_of, over, guid_of, part_of, id_of, type_of}
 use Rattle.oa_idl.specs.Reading.{bind, give, heads, done}
 use Rattle.oa_idl.specs.Grammar.{sign, help, HeadAttribute, head_attribute, no_head, head_may, head_grow, head_finish, head, type_word, value_type, PropertyAttribute, id_form, property_attribute, no_property, property_may, property_grow, property_finish, property_head, property}
 use Rattle.oa_idl.specs.Grammar.HeadAttribute.{Guid, Numbered, HeadHelp}
@@ -28,7 +26,7 @@ use Rattle.oa_idl.proofs.AttributeLists.{attributes_parses}
 
 pub help_parses : {n : ℕ} → Parses n Always (λ _. help) NoLimit Always help_at
 unfolding help_at
-help_parses = skip_parses (passes signs.Helpstring) (skip_parses (passes signs.Left) (skip_parses is_text (this_parses (passes signs.Right))))
+help_parses = skip_parses (passes (codes "helpstring")) (skip_parses (passes (codes "(")) (skip_parses is_text (this_parses (passes (codes ")")))))
 
 pub full_left : (a b : Bool) → not a ≡ true → not (a && b) ≡ true
 full_left true b e = absurd cc
@@ -48,16 +46,16 @@ full_right false b false e = refl
 -- ---- attributes of libraries and items
 
 minor : Bool → ℕ → List Word → Type 0
-minor counts m = either_of (sign signs.Dot ▸ one (part_of counts) m ▸ sign signs.Right) (where_is (m ≡ 0) (sign signs.Right))
+minor counts m = either_of (sign (codes ".") ▸ one (part_of counts) m ▸ sign (codes ")")) (where_is (m ≡ 0) (sign (codes ")")))
 
 minor_parses : {n : ℕ} (counts : Bool) → Parses n Always (minor counts) NoLimit Always (minor_at counts)
 unfolding minor_at minor
-minor_parses counts = choose_parses {A = λ m. sign signs.Dot ▸ one (part_of counts) m ▸ sign signs.Right} {B = λ m ws. (m ≡ 0) × sign signs.Right ws} (passes signs.Dot)
-    (λ m text more _ f is. ⊎_elim (λ (k : (sign signs.Dot ▸ one (part_of counts) m ▸ sign signs.Right) text). k) (λ (k : where_is (m ≡ 0) (sign signs.Right) text). absurd (clash is (one_sign_heads signs.Dot signs.Right refl text more k.1))) f)
-    (λ m text more _ f is. ⊎_elim (λ (k : (sign signs.Dot ▸ one (part_of counts) m ▸ sign signs.Right) text). absurd (clash (same_heads signs.Dot text more k) is)) (λ (k : where_is (m ≡ 0) (sign signs.Right) text). k) f)
+minor_parses counts = choose_parses {A = λ m. sign (codes ".") ▸ one (part_of counts) m ▸ sign (codes ")")} {B = λ m ws. (m ≡ 0) × sign (codes ")") ws} (passes (codes "."))
+    (λ m text more _ f is. ⊎_elim (λ (k : (sign (codes ".") ▸ one (part_of counts) m ▸ sign (codes ")")) text). k) (λ (k : where_is (m ≡ 0) (sign (codes ")")) text). absurd (clash is (one_sign_heads (codes ".") (codes ")") refl text more k.1))) f)
+    (λ m text more _ f is. ⊎_elim (λ (k : (sign (codes ".") ▸ one (part_of counts) m ▸ sign (codes ")")) text). absurd (clash (same_heads (codes ".") text more k) is)) (λ (k : where_is (m ≡ 0) (sign (codes ")")) text). k) f)
     (λ m text _ f. inl f) (λ m text _ f. inr f)
-    (skip_parses (passes signs.Dot) (part_parses (λ m. m) (sure_parses (part_of counts)) (λ l m h k. tt) (λ m. end_parses (passes signs.Right) m (tt, refl) (λ _. tt) (λ c h. h.1))))
-    (fact_parses (end_parses (passes signs.Right) 0 (tt, refl) tt (λ c h. h.1)))
+    (skip_parses (passes (codes ".")) (part_parses (λ m. m) (sure_parses (part_of counts)) (λ l m h k. tt) (λ m. end_parses (passes (codes ")")) m (tt, refl) (λ _. tt) (λ c h. h.1))))
+    (fact_parses (end_parses (passes (codes ")")) 0 (tt, refl) tt (λ c h. h.1)))
 
 abbrev is_guid : HeadAttribute → Bool
 is_guid (Guid g) = true
@@ -109,19 +107,19 @@ only_help (Numbered v) is = absurd (clash is refl)
 only_help HeadHelp is = refl
 
 guid_form : HeadAttribute → List Word → Type 0
-guid_form x = sign signs.Uuid ▸ sign signs.Left ▸ one guid_of (guid_in x) ▸ sign signs.Right
+guid_form x = sign (codes "uuid") ▸ sign (codes "(") ▸ one guid_of (guid_in x) ▸ sign (codes ")")
 
 uuid_parses : {n : ℕ} → Parses n Always (λ x ws. (is_guid x ≡ true) × guid_form x ws) NoLimit Always uuid_at
 unfolding uuid_at guid_form
-uuid_parses = fact_parses (skip_parses (passes signs.Uuid) (skip_parses (passes signs.Left) (part_parses guid_in (sure_parses guid_of) (λ l x h k. tt) (λ g.
-    end_parses (passes signs.Right) (Guid g) ((tt, refl), refl) (λ _. tt) (λ x h. only_guid g x h.0.1 h.1)))))
+uuid_parses = fact_parses (skip_parses (passes (codes "uuid")) (skip_parses (passes (codes "(")) (part_parses guid_in (sure_parses guid_of) (λ l x h k. tt) (λ g.
+    end_parses (passes (codes ")")) (Guid g) ((tt, refl), refl) (λ _. tt) (λ x h. only_guid g x h.0.1 h.1)))))
 
 version_form : Bool → HeadAttribute → List Word → Type 0
-version_form counts x = sign signs.Version ▸ sign signs.Left ▸ one (part_of counts) (major_in x) ▸ minor counts (minor_in x)
+version_form counts x = sign (codes "version") ▸ sign (codes "(") ▸ one (part_of counts) (major_in x) ▸ minor counts (minor_in x)
 
 version_parses : {n : ℕ} (counts : Bool) → Parses n Always (λ x ws. (is_numbered x ≡ true) × version_form counts x ws) NoLimit Always (version_at counts)
 unfolding version_at version_form version
-version_parses counts = fact_parses (skip_parses (passes signs.Version) (skip_parses (passes signs.Left) (part_parses major_in (sure_parses (part_of counts)) (λ l x h k. tt) (λ a.
+version_parses counts = fact_parses (skip_parses (passes (codes "version")) (skip_parses (passes (codes "(")) (part_parses major_in (sure_parses (part_of counts)) (λ l x h k. tt) (λ a.
     end_part_parses minor_in (λ b. Numbered (version a b)) (minor_parses counts) (λ l x h k. tt) (λ b. (((tt, refl), refl), refl)) (λ b _ _. tt) (λ b x h. only_numbered a b x h.0.0.1 h.0.1 h.1)))))
 
 head_help_parses : {n : ℕ} → Parses n Always (λ x ws. (is_help x ≡ true) × help ws) NoLimit Always (bind help_at (λ _. give HeadHelp))
@@ -129,21 +127,21 @@ head_help_parses = fact_parses (end_part_parses (λ _. done) (λ _. HeadHelp) he
 
 head_attribute_parses : {n : ℕ} (counts : Bool) (s : HeadSeen) → Parses n Always (λ x ws. (head_may s x ≡ true) × head_attribute counts x ws) NoLimit Always (head_attribute_at counts s)
 unfolding head_attribute_at guid_form version_form minor
-head_attribute_parses counts s = choose_parses {A = λ x ws. (not s.uuid ≡ true) × ((is_guid x ≡ true) × guid_form x ws)} {B = λ x ws. (is_guid x ≡ false) × ((head_may s x ≡ true) × head_attribute counts x ws)} (passes signs.Uuid)
+head_attribute_parses counts s = choose_parses {A = λ x ws. (not s.uuid ≡ true) × ((is_guid x ≡ true) × guid_form x ws)} {B = λ x ws. (is_guid x ≡ false) × ((head_may s x ≡ true) × head_attribute counts x ws)} (passes (codes "uuid"))
     (λ x text more _ f is. yes x text more f is) (λ x text more _ f is. other x text more f is) (λ x text _ f. from_yes x text f) (λ x text _ f. f.1)
     (require_parses (not s.uuid) uuid_parses)
-    (choose_parses {A = λ x ws. (not s.version ≡ true) × ((is_numbered x ≡ true) × version_form counts x ws)} {B = λ x ws. (not s.help ≡ true) × ((is_help x ≡ true) × help ws)} (passes signs.Version)
+    (choose_parses {A = λ x ws. (not s.version ≡ true) × ((is_numbered x ≡ true) × version_form counts x ws)} {B = λ x ws. (not s.help ≡ true) × ((is_help x ≡ true) × help ws)} (passes (codes "version"))
     (λ x text more _ f is. yes2 x text more f is) (λ x text more _ f is. other2 x text more f is) (λ x text _ f. from_yes2 x text f) (λ x text _ f. from_other2 x text f)
     (require_parses (not s.version) (version_parses counts))
     (require_parses (not s.help) head_help_parses))
   where
-    yes : (x : HeadAttribute) (text more : List Word) → (head_may s x ≡ true) × head_attribute counts x text → heads (passes signs.Uuid) (text ++ more) ≡ true → (not s.uuid ≡ true) × ((is_guid x ≡ true) × guid_form x text)
+    yes : (x : HeadAttribute) (text more : List Word) → (head_may s x ≡ true) × head_attribute counts x text → heads (passes (codes "uuid")) (text ++ more) ≡ true → (not s.uuid ≡ true) × ((is_guid x ≡ true) × guid_form x text)
     yes (Guid g) text more f is = (f.0, (refl, f.1))
-    yes (Numbered v) text more f is = absurd (clash is (sign_heads signs.Uuid signs.Version refl text more f.1))
-    yes HeadHelp text more f is = absurd (clash is (sign_heads signs.Uuid signs.Helpstring refl text more f.1))
+    yes (Numbered v) text more f is = absurd (clash is (sign_heads (codes "uuid") (codes "version") refl text more f.1))
+    yes HeadHelp text more f is = absurd (clash is (sign_heads (codes "uuid") (codes "helpstring") refl text more f.1))
 
-    other : (x : HeadAttribute) (text more : List Word) → (head_may s x ≡ true) × head_attribute counts x text → heads (passes signs.Uuid) (text ++ more) ≡ false → (is_guid x ≡ false) × ((head_may s x ≡ true) × head_attribute counts x text)
-    other (Guid g) text more f is = absurd (clash (same_heads signs.Uuid text more f.1) is)
+    other : (x : HeadAttribute) (text more : List Word) → (head_may s x ≡ true) × head_attribute counts x text → heads (passes (codes "uuid")) (text ++ more) ≡ false → (is_guid x ≡ false) × ((head_may s x ≡ true) × head_attribute counts x text)
+    other (Guid g) text more f is = absurd (clash (same_heads (codes "uuid") text more f.1) is)
     other (Numbered v) text more f is = (refl, f)
     other HeadHelp text more f is = (refl, f)
 
@@ -152,14 +150,14 @@ head_attribute_parses counts s = choose_parses {A = λ x ws. (not s.uuid ≡ tru
     from_yes (Numbered v) text f = absurd (clash f.1.0 refl)
     from_yes HeadHelp text f = absurd (clash f.1.0 refl)
 
-    yes2 : (x : HeadAttribute) (text more : List Word) → (is_guid x ≡ false) × ((head_may s x ≡ true) × head_attribute counts x text) → heads (passes signs.Version) (text ++ more) ≡ true → (not s.version ≡ true) × ((is_numbered x ≡ true) × version_form counts x text)
+    yes2 : (x : HeadAttribute) (text more : List Word) → (is_guid x ≡ false) × ((head_may s x ≡ true) × head_attribute counts x text) → heads (passes (codes "version")) (text ++ more) ≡ true → (not s.version ≡ true) × ((is_numbered x ≡ true) × version_form counts x text)
     yes2 (Guid g) text more f is = absurd (clash refl f.0)
     yes2 (Numbered v) text more f is = (f.1.0, (refl, f.1.1))
-    yes2 HeadHelp text more f is = absurd (clash is (sign_heads signs.Version signs.Helpstring refl text more f.1.1))
+    yes2 HeadHelp text more f is = absurd (clash is (sign_heads (codes "version") (codes "helpstring") refl text more f.1.1))
 
-    other2 : (x : HeadAttribute) (text more : List Word) → (is_guid x ≡ false) × ((head_may s x ≡ true) × head_attribute counts x text) → heads (passes signs.Version) (text ++ more) ≡ false → (not s.help ≡ true) × ((is_help x ≡ true) × help text)
+    other2 : (x : HeadAttribute) (text more : List Word) → (is_guid x ≡ false) × ((head_may s x ≡ true) × head_attribute counts x text) → heads (passes (codes "version")) (text ++ more) ≡ false → (not s.help ≡ true) × ((is_help x ≡ true) × help text)
     other2 (Guid g) text more f is = absurd (clash refl f.0)
-    other2 (Numbered v) text more f is = absurd (clash (same_heads signs.Version text more f.1.1) is)
+    other2 (Numbered v) text more f is = absurd (clash (same_heads (codes "version") text more f.1.1) is)
     other2 HeadHelp text more f is = (f.1.0, (refl, f.1.1))
 
     from_yes2 : (x : HeadAttribute) (text : List Word) → (not s.version ≡ true) × ((is_numbered x ≡ true) × version_form counts x text) → (is_guid x ≡ false) × ((head_may s x ≡ true) × head_attribute counts x text)
@@ -185,14 +183,14 @@ head_parses {n} counts = attributes_parses head_grow head_full head_finish (λ n
 
 type_word_parses : {n : ℕ} (in_array : Bool) → Parses n Always (type_word in_array) NoLimit Always (type_word_at in_array)
 unfolding type_word_at
-type_word_parses in_array = choose_parses {A = λ t. sign signs.Unsigned ▸ one (type_of in_array true) t} {B = one (type_of in_array false)} (passes signs.Unsigned)
-    (λ t text more _ f is. ⊎_elim (λ (k : (sign signs.Unsigned ▸ one (type_of in_array true) t) text). k) (λ (k : one (type_of in_array false) t text). absurd (clash is (plain_heads t text more k))) f)
-    (λ t text more _ f is. ⊎_elim (λ (k : (sign signs.Unsigned ▸ one (type_of in_array true) t) text). absurd (clash (same_heads signs.Unsigned text more k) is)) (λ (k : one (type_of in_array false) t text). k) f)
+type_word_parses in_array = choose_parses {A = λ t. sign (codes "unsigned") ▸ one (type_of in_array true) t} {B = one (type_of in_array false)} (passes (codes "unsigned"))
+    (λ t text more _ f is. ⊎_elim (λ (k : (sign (codes "unsigned") ▸ one (type_of in_array true) t) text). k) (λ (k : one (type_of in_array false) t text). absurd (clash is (plain_heads t text more k))) f)
+    (λ t text more _ f is. ⊎_elim (λ (k : (sign (codes "unsigned") ▸ one (type_of in_array true) t) text). absurd (clash (same_heads (codes "unsigned") text more k) is)) (λ (k : one (type_of in_array false) t text). k) f)
     (λ t text _ f. inl f) (λ t text _ f. inr f)
-    (skip_parses (passes signs.Unsigned) (sure_parses (type_of in_array true))) (sure_parses (type_of in_array false))
+    (skip_parses (passes (codes "unsigned")) (sure_parses (type_of in_array true))) (sure_parses (type_of in_array false))
   where
-    plain_heads : (t : VarType) (text more : List Word) → one (type_of in_array false) t text → heads (passes signs.Unsigned) (text ++ more) ≡ false
-    plain_heads t text more k = one_heads (type_of in_array false) (passes signs.Unsigned) t (λ w e. type_no_sign signs.Unsigned unsigned_no_type in_array t w e) text more k
+    plain_heads : (t : VarType) (text more : List Word) → one (type_of in_array false) t text → heads (passes (codes "unsigned")) (text ++ more) ≡ false
+    plain_heads t text more k = one_heads (type_of in_array false) (passes (codes "unsigned")) t (λ w e. type_no_sign (codes "unsigned") unsigned_no_type in_array t w e) text more k
 
 abbrev is_array : ValueType → Bool
 is_array (values.One t) = false
@@ -211,26 +209,26 @@ only_array t (values.One u) is e = absurd (clash is refl)
 only_array t (values.Array u) is e = λ i. values.Array (e i)
 
 array_form : ValueType → List Word → Type 0
-array_form v = sign signs.SafeArray ▸ sign signs.Left ▸ type_word true (cell_of v) ▸ sign signs.Right
+array_form v = sign (codes "SAFEARRAY") ▸ sign (codes "(") ▸ type_word true (cell_of v) ▸ sign (codes ")")
 
 pub value_type_parses : {n : ℕ} → Parses n Always value_type NoLimit Always value_type_at
 unfolding value_type_at value_type array_form
-value_type_parses = choose_parses {A = λ v ws. (is_array v ≡ true) × array_form v ws} {B = λ v ws. (is_array v ≡ false) × type_word false (cell_of v) ws} (passes signs.SafeArray)
+value_type_parses = choose_parses {A = λ v ws. (is_array v ≡ true) × array_form v ws} {B = λ v ws. (is_array v ≡ false) × type_word false (cell_of v) ws} (passes (codes "SAFEARRAY"))
     (λ v text more _ f is. yes v text more f is) (λ v text more _ f is. other v text more f is) (λ v text _ f. from_yes v text f) (λ v text _ f. from_other v text f)
-    (fact_parses (skip_parses (passes signs.SafeArray) (skip_parses (passes signs.Left) (part_parses cell_of (type_word_parses true) (λ l v h k. tt) (λ t. end_parses (passes signs.Right) (values.Array t) ((tt, refl), refl) (λ _. tt) (λ v h. only_array t v h.0.1 h.1))))))
+    (fact_parses (skip_parses (passes (codes "SAFEARRAY")) (skip_parses (passes (codes "(")) (part_parses cell_of (type_word_parses true) (λ l v h k. tt) (λ t. end_parses (passes (codes ")")) (values.Array t) ((tt, refl), refl) (λ _. tt) (λ v h. only_array t v h.0.1 h.1))))))
     (fact_parses (end_part_parses cell_of (λ t. values.One t) (type_word_parses false) (λ l v h k. tt) (λ t. ((tt, refl), refl)) (λ t _. tt) (λ t v h. only_one t v h.0.1 h.1)))
   where
-    word_heads : (t : VarType) (text more : List Word) → type_word false t text → heads (passes signs.SafeArray) (text ++ more) ≡ false
-    word_heads t text more f = ⊎_elim (λ (k : (sign signs.Unsigned ▸ one (type_of false true) t) text). sign_heads signs.SafeArray signs.Unsigned refl text more k)
-        (λ (k : one (type_of false false) t text). one_heads (type_of false false) (passes signs.SafeArray) t (λ w e. type_no_sign signs.SafeArray array_no_type false t w e) text more k) f
+    word_heads : (t : VarType) (text more : List Word) → type_word false t text → heads (passes (codes "SAFEARRAY")) (text ++ more) ≡ false
+    word_heads t text more f = ⊎_elim (λ (k : (sign (codes "unsigned") ▸ one (type_of false true) t) text). sign_heads (codes "SAFEARRAY") (codes "unsigned") refl text more k)
+        (λ (k : one (type_of false false) t text). one_heads (type_of false false) (passes (codes "SAFEARRAY")) t (λ w e. type_no_sign (codes "SAFEARRAY") array_no_type false t w e) text more k) f
 
-    yes : (v : ValueType) (text more : List Word) → value_type v text → heads (passes signs.SafeArray) (text ++ more) ≡ true → (is_array v ≡ true) × array_form v text
+    yes : (v : ValueType) (text more : List Word) → value_type v text → heads (passes (codes "SAFEARRAY")) (text ++ more) ≡ true → (is_array v ≡ true) × array_form v text
     yes (values.One t) text more f is = absurd (clash is (word_heads t text more f))
     yes (values.Array t) text more f is = (refl, f)
 
-    other : (v : ValueType) (text more : List Word) → value_type v text → heads (passes signs.SafeArray) (text ++ more) ≡ false → (is_array v ≡ false) × type_word false (cell_of v) text
+    other : (v : ValueType) (text more : List Word) → value_type v text → heads (passes (codes "SAFEARRAY")) (text ++ more) ≡ false → (is_array v ≡ false) × type_word false (cell_of v) text
     other (values.One t) text more f is = (refl, f)
-    other (values.Array t) text more f is = absurd (clash (same_heads signs.SafeArray text more f) is)
+    other (values.Array t) text more f is = absurd (clash (same_heads (codes "SAFEARRAY") text more f) is)
 
     from_yes : (v : ValueType) (text : List Word) → (is_array v ≡ true) × array_form v text → value_type v text
     from_yes (values.One t) text f = absurd (clash f.0 refl)
@@ -241,17 +239,17 @@ value_type_parses = choose_parses {A = λ v ws. (is_array v ≡ true) × array_f
     from_other (values.Array t) text f = absurd (clash refl f.0)
 
 -- a type begins with no other sign
-type_word_heads : (a : Sign) → plain_type (spelling a) ≡ None → bytes_eq (spelling signs.Unsigned) (spelling a) ≡ false → (in_array : Bool) (t : VarType) (text more : List Word) → type_word in_array t text → heads (passes a) (text ++ more) ≡ false
-type_word_heads a none ne in_array t text more f = ⊎_elim (λ (k : (sign signs.Unsigned ▸ one (type_of in_array true) t) text). sign_heads a signs.Unsigned ne text more k)
+type_word_heads : (a : List ℕ) → plain_type a ≡ None → bytes_eq (codes "unsigned") a ≡ false → (in_array : Bool) (t : VarType) (text more : List Word) → type_word in_array t text → heads (passes a) (text ++ more) ≡ false
+type_word_heads a none ne in_array t text more f = ⊎_elim (λ (k : (sign (codes "unsigned") ▸ one (type_of in_array true) t) text). sign_heads a (codes "unsigned") ne text more k)
     (λ (k : one (type_of in_array false) t text). one_heads (type_of in_array false) (passes a) t (λ w e. type_no_sign a none in_array t w e) text more k) f
 
-pub value_type_heads : (a : Sign) → plain_type (spelling a) ≡ None → bytes_eq (spelling signs.Unsigned) (spelling a) ≡ false → bytes_eq (spelling signs.SafeArray) (spelling a) ≡ false → (v : ValueType) (text more : List Word) → value_type v text → heads (passes a) (text ++ more) ≡ false
+pub value_type_heads : (a : List ℕ) → plain_type a ≡ None → bytes_eq (codes "unsigned") a ≡ false → bytes_eq (codes "SAFEARRAY") a ≡ false → (v : ValueType) (text more : List Word) → value_type v text → heads (passes a) (text ++ more) ≡ false
 unfolding value_type
 value_type_heads a none ne other (values.One t) text more f = type_word_heads a none ne false t text more f
-value_type_heads a none ne other (values.Array t) text more f = sign_heads a signs.SafeArray other text more f
+value_type_heads a none ne other (values.Array t) text more f = sign_heads a (codes "SAFEARRAY") other text more f
 
 type_word_some : (in_array : Bool) (t : VarType) (text : List Word) → type_word in_array t text → 0 < length text
-type_word_some in_array t text f = ⊎_elim (λ (k : (sign signs.Unsigned ▸ one (type_of in_array true) t) text). this_some text k) (λ (k : one (type_of in_array false) t text). omega (arith, ap length k.parts)) f
+type_word_some in_array t text f = ⊎_elim (λ (k : (sign (codes "unsigned") ▸ one (type_of in_array true) t) text). this_some text k) (λ (k : one (type_of in_array false) t text). omega (arith, ap length k.parts)) f
 
 pub value_type_some : (v : ValueType) (text : List Word) → value_type v text → 0 < length text
 unfolding value_type
@@ -262,14 +260,14 @@ value_type_some (values.Array t) text f = this_some text f
 
 pub signed_parses : {n : ℕ} → Parses n Always id_form NoLimit Always signed_at
 unfolding signed_at
-signed_parses = choose_parses {A = λ i. sign signs.Minus ▸ one (id_of true) i} {B = one (id_of false)} (passes signs.Minus)
-    (λ i text more _ f is. ⊎_elim (λ (k : (sign signs.Minus ▸ one (id_of true) i) text). k) (λ (k : one (id_of false) i text). absurd (clash is (plain_heads i text more k))) f)
-    (λ i text more _ f is. ⊎_elim (λ (k : (sign signs.Minus ▸ one (id_of true) i) text). absurd (clash (same_heads signs.Minus text more k) is)) (λ (k : one (id_of false) i text). k) f)
+signed_parses = choose_parses {A = λ i. sign (codes "-") ▸ one (id_of true) i} {B = one (id_of false)} (passes (codes "-"))
+    (λ i text more _ f is. ⊎_elim (λ (k : (sign (codes "-") ▸ one (id_of true) i) text). k) (λ (k : one (id_of false) i text). absurd (clash is (plain_heads i text more k))) f)
+    (λ i text more _ f is. ⊎_elim (λ (k : (sign (codes "-") ▸ one (id_of true) i) text). absurd (clash (same_heads (codes "-") text more k) is)) (λ (k : one (id_of false) i text). k) f)
     (λ i text _ f. inl f) (λ i text _ f. inr f)
-    (skip_parses (passes signs.Minus) (sure_parses (id_of true))) (sure_parses (id_of false))
+    (skip_parses (passes (codes "-")) (sure_parses (id_of true))) (sure_parses (id_of false))
   where
-    plain_heads : (i : ℤ) (text more : List Word) → one (id_of false) i text → heads (passes signs.Minus) (text ++ more) ≡ false
-    plain_heads i text more k = one_heads (id_of false) (passes signs.Minus) i (λ w e. id_no_minus false i w e) text more k
+    plain_heads : (i : ℤ) (text more : List Word) → one (id_of false) i text → heads (passes (codes "-")) (text ++ more) ≡ false
+    plain_heads i text more k = one_heads (id_of false) (passes (codes "-")) i (λ w e. id_no_minus false i w e) text more k
 
 abbrev is_id : PropertyAttribute → Bool
 is_id (Id i) = true
@@ -307,35 +305,35 @@ only_property_help Readonly is = absurd (clash is refl)
 only_property_help PropertyHelp is = refl
 
 numbered_form : PropertyAttribute → List Word → Type 0
-numbered_form x = sign signs.Id ▸ sign signs.Left ▸ id_form (id_in x) ▸ sign signs.Right
+numbered_form x = sign (codes "id") ▸ sign (codes "(") ▸ id_form (id_in x) ▸ sign (codes ")")
 
 id_parses : {n : ℕ} → Parses n Always (λ x ws. (is_id x ≡ true) × numbered_form x ws) NoLimit Always id_at
 unfolding id_at numbered_form
-id_parses = fact_parses (skip_parses (passes signs.Id) (skip_parses (passes signs.Left) (part_parses id_in signed_parses (λ l x h k. tt) (λ i. end_parses (passes signs.Right) (Id i) ((tt, refl), refl) (λ _. tt) (λ x h. only_id i x h.0.1 h.1)))))
+id_parses = fact_parses (skip_parses (passes (codes "id")) (skip_parses (passes (codes "(")) (part_parses id_in signed_parses (λ l x h k. tt) (λ i. end_parses (passes (codes ")")) (Id i) ((tt, refl), refl) (λ _. tt) (λ x h. only_id i x h.0.1 h.1)))))
 
-readonly_parses : {n : ℕ} → Parses n Always (λ x ws. (is_readonly x ≡ true) × sign signs.Readonly ws) NoLimit Always (bind (sign_at signs.Readonly) (λ _. give Readonly))
-readonly_parses = fact_parses (end_parses (passes signs.Readonly) Readonly (tt, refl) tt (λ x h. only_readonly x h.1))
+readonly_parses : {n : ℕ} → Parses n Always (λ x ws. (is_readonly x ≡ true) × sign (codes "readonly") ws) NoLimit Always (bind (sign_at (codes "readonly")) (λ _. give Readonly))
+readonly_parses = fact_parses (end_parses (passes (codes "readonly")) Readonly (tt, refl) tt (λ x h. only_readonly x h.1))
 
 property_help_parses : {n : ℕ} → Parses n Always (λ x ws. (is_property_help x ≡ true) × help ws) NoLimit Always (bind help_at (λ _. give PropertyHelp))
 property_help_parses = fact_parses (end_part_parses (λ _. done) (λ _. PropertyHelp) help_parses (λ l x h k. tt) (λ a. ((tt, refl), refl)) (λ a _. tt) (λ a x h. only_property_help x h.0.1))
 
 property_attribute_parses : {n : ℕ} (s : PropertySeen) → Parses n Always (λ x ws. (property_may s x ≡ true) × property_attribute x ws) NoLimit Always (property_attribute_at s)
 unfolding property_attribute_at numbered_form
-property_attribute_parses s = choose_parses {A = λ x ws. (not (is_some s.id) ≡ true) × ((is_id x ≡ true) × numbered_form x ws)} {B = λ x ws. (is_id x ≡ false) × ((property_may s x ≡ true) × property_attribute x ws)} (passes signs.Id)
+property_attribute_parses s = choose_parses {A = λ x ws. (not (is_some s.id) ≡ true) × ((is_id x ≡ true) × numbered_form x ws)} {B = λ x ws. (is_id x ≡ false) × ((property_may s x ≡ true) × property_attribute x ws)} (passes (codes "id"))
     (λ x text more _ f is. yes x text more f is) (λ x text more _ f is. other x text more f is) (λ x text _ f. from_yes x text f) (λ x text _ f. f.1)
     (require_parses (not (is_some s.id)) id_parses)
-    (choose_parses {A = λ x ws. (not s.readonly ≡ true) × ((is_readonly x ≡ true) × sign signs.Readonly ws)} {B = λ x ws. (not s.help ≡ true) × ((is_property_help x ≡ true) × help ws)} (passes signs.Readonly)
+    (choose_parses {A = λ x ws. (not s.readonly ≡ true) × ((is_readonly x ≡ true) × sign (codes "readonly") ws)} {B = λ x ws. (not s.help ≡ true) × ((is_property_help x ≡ true) × help ws)} (passes (codes "readonly"))
     (λ x text more _ f is. yes2 x text more f is) (λ x text more _ f is. other2 x text more f is) (λ x text _ f. from_yes2 x text f) (λ x text _ f. from_other2 x text f)
     (require_parses (not s.readonly) readonly_parses)
     (require_parses (not s.help) property_help_parses))
   where
-    yes : (x : PropertyAttribute) (text more : List Word) → (property_may s x ≡ true) × property_attribute x text → heads (passes signs.Id) (text ++ more) ≡ true → (not (is_some s.id) ≡ true) × ((is_id x ≡ true) × numbered_form x text)
+    yes : (x : PropertyAttribute) (text more : List Word) → (property_may s x ≡ true) × property_attribute x text → heads (passes (codes "id")) (text ++ more) ≡ true → (not (is_some s.id) ≡ true) × ((is_id x ≡ true) × numbered_form x text)
     yes (Id i) text more f is = (f.0, (refl, f.1))
-    yes Readonly text more f is = absurd (clash is (one_sign_heads signs.Id signs.Readonly refl text more f.1))
-    yes PropertyHelp text more f is = absurd (clash is (sign_heads signs.Id signs.Helpstring refl text more f.1))
+    yes Readonly text more f is = absurd (clash is (one_sign_heads (codes "id") (codes "readonly") refl text more f.1))
+    yes PropertyHelp text more f is = absurd (clash is (sign_heads (codes "id") (codes "helpstring") refl text more f.1))
 
-    other : (x : PropertyAttribute) (text more : List Word) → (property_may s x ≡ true) × property_attribute x text → heads (passes signs.Id) (text ++ more) ≡ false → (is_id x ≡ false) × ((property_may s x ≡ true) × property_attribute x text)
-    other (Id i) text more f is = absurd (clash (same_heads signs.Id text more f.1) is)
+    other : (x : PropertyAttribute) (text more : List Word) → (property_may s x ≡ true) × property_attribute x text → heads (passes (codes "id")) (text ++ more) ≡ false → (is_id x ≡ false) × ((property_may s x ≡ true) × property_attribute x text)
+    other (Id i) text more f is = absurd (clash (same_heads (codes "id") text more f.1) is)
     other Readonly text more f is = (refl, f)
     other PropertyHelp text more f is = (refl, f)
 
@@ -344,17 +342,17 @@ property_attribute_parses s = choose_parses {A = λ x ws. (not (is_some s.id) �
     from_yes Readonly text f = absurd (clash f.1.0 refl)
     from_yes PropertyHelp text f = absurd (clash f.1.0 refl)
 
-    yes2 : (x : PropertyAttribute) (text more : List Word) → (is_id x ≡ false) × ((property_may s x ≡ true) × property_attribute x text) → heads (passes signs.Readonly) (text ++ more) ≡ true → (not s.readonly ≡ true) × ((is_readonly x ≡ true) × sign signs.Readonly text)
+    yes2 : (x : PropertyAttribute) (text more : List Word) → (is_id x ≡ false) × ((property_may s x ≡ true) × property_attribute x text) → heads (passes (codes "readonly")) (text ++ more) ≡ true → (not s.readonly ≡ true) × ((is_readonly x ≡ true) × sign (codes "readonly") text)
     yes2 (Id i) text more f is = absurd (clash refl f.0)
     yes2 Readonly text more f is = (f.1.0, (refl, f.1.1))
-    yes2 PropertyHelp text more f is = absurd (clash is (sign_heads signs.Readonly signs.Helpstring refl text more f.1.1))
+    yes2 PropertyHelp text more f is = absurd (clash is (sign_heads (codes "readonly") (codes "helpstring") refl text more f.1.1))
 
-    other2 : (x : PropertyAttribute) (text more : List Word) → (is_id x ≡ false) × ((property_may s x ≡ true) × property_attribute x text) → heads (passes signs.Readonly) (text ++ more) ≡ false → (not s.help ≡ true) × ((is_property_help x ≡ true) × help text)
+    other2 : (x : PropertyAttribute) (text more : List Word) → (is_id x ≡ false) × ((property_may s x ≡ true) × property_attribute x text) → heads (passes (codes "readonly")) (text ++ more) ≡ false → (not s.help ≡ true) × ((is_property_help x ≡ true) × help text)
     other2 (Id i) text more f is = absurd (clash refl f.0)
-    other2 Readonly text more f is = absurd (clash (this_heads (passes signs.Readonly) text more f.1.1) is)
+    other2 Readonly text more f is = absurd (clash (this_heads (passes (codes "readonly")) text more f.1.1) is)
     other2 PropertyHelp text more f is = (f.1.0, (refl, f.1.1))
 
-    from_yes2 : (x : PropertyAttribute) (text : List Word) → (not s.readonly ≡ true) × ((is_readonly x ≡ true) × sign signs.Readonly text) → (is_id x ≡ false) × ((property_may s x ≡ true) × property_attribute x text)
+    from_yes2 : (x : PropertyAttribute) (text : List Word) → (not s.readonly ≡ true) × ((is_readonly x ≡ true) × sign (codes "readonly") text) → (is_id x ≡ false) × ((property_may s x ≡ true) × property_attribute x text)
     from_yes2 (Id i) text f = absurd (clash f.1.0 refl)
     from_yes2 Readonly text f = (refl, (f.0, f.1.1))
     from_yes2 PropertyHelp text f = absurd (clash f.1.0 refl)
@@ -382,5 +380,5 @@ marks p = record { id = p.id; readonly = p.readonly }
 pub property_parses : {n : ℕ} (count : ℕ) → Parses n Always property (λ l p. over limits.Members 512 count p.name ≡ Some l → ⊥) (λ p. over limits.Members 512 count p.name ≡ None) (property_at count)
 unfolding property_at property_with marks
 property_parses count = part_parses marks property_head_parses (λ l p h k. tt) (λ h. part_parses (λ p. p.value_type) value_type_parses (λ l p h k. tt) (λ t.
-    part_parses (λ p. p.name) (one_parses name_of (over limits.Members 512 count) (over_named limits.Members 512 count (λ k. absurd cc))) (λ l p h k. k) (λ name. skip_parses (passes signs.Semicolon)
+    part_parses (λ p. p.name) (one_parses name_of (over limits.Members 512 count) (over_named limits.Members 512 count (λ k. absurd cc))) (λ l p h k. k) (λ name. skip_parses (passes (codes ";"))
     (give_parses (property_with h.id h.readonly t name) (((tt, refl), refl), refl) (λ kept _ _. kept) (λ p k. λ i. record { id = (k.0.0.1 i).id; readonly = (k.0.0.1 i).readonly; value_type = k.0.1 i; name = k.1 i })))))

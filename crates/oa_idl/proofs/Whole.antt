@@ -1,13 +1,11 @@
 -- The readings of items and of a whole text read the grammar.
 use Rattle.std.proofs.Common.{◌≡◌, ℕ, ◌<◌, Bool, true, false, List, [], ◌∷◌, ◌++◌, length, Some, None, refl, sym, ap, subst, ◌∙◌, arith}
-use Rattle.std.specs.Prelude.{not, ◌&&◌, ◌||◌}
+use Rattle.std.specs.Prelude.{not, ◌&&◌, ◌||◌, codes}
 use Rattle.std.proofs.Math.Logic.{⊎_elim, inl, inr}
 use Rattle.std.specs.Str.{bytes_eq}
 use Rattle.std.proofs.lemmas.List.{length-append}
 use Rattle.oa_idl.specs.declared.stop.TreeLimit.{TreeLimit}
 use Rattle.oa_idl.specs.declared.stop.TreeLimit.TheVariants as limits
-use Rattle.oa_idl.specs.declared.sign.Sign.{Sign}
-use Rattle.oa_idl.specs.declared.sign.Sign.TheVariants as signs
 use Rattle.oa_idl.specs.declared.parts.Property.{Property}
 use Rattle.oa_idl.specs.declared.parts.Entry.{Entry}
 use Rattle.oa_idl.specs.declared.items.Item.{Item}
@@ -18,7 +16,7 @@ use Rattle.oa_idl.specs.declared.seen.ItemsSeen.{ItemsSeen}
 use Rattle.oa_idl.specs.Trees.{TreeValue}
 use Rattle.oa_idl.specs.Forms.{Word, ◌▸◌, given, where_is, with, listed, nowhere}
 use Rattle.oa_idl.specs.MethodValues.{MethodValue}
-use Rattle.oa_idl.specs.Words.{passes, spelling, is_text, name_of, over, too_long}
+use Rattle.oa_idl.specs.Words.{passes, is_text, name_of, over, too_long}
 use Rattle.oa_idl.specs.Reading.{bind, give, heads, done, list_at}
 use Rattle.oa_idl.specs.Grammar.{sign, head, property, one_more, closing, methods, members, interface, entry_word, named, entry_by, no_entry, entry_may, entry_grow, entry, last_entry, coclass, guid_of_item, body, item, no_items, items_grow, Content, importing, element, semicolon_after, elements_grow, items_in, elements, library}
 use Rattle.oa_idl.specs.Grammar.Content.{Import, OfItem}
@@ -54,11 +52,11 @@ abbrev pub MembersKept : List Property → List MethodValue → Type 0
 MembersKept ps ms = KeepsFrom one_more MemberKept MethodsKept 0 ps ms
 
 closing_parses : {S : Type 0} (n : ℕ) (s : S) → Parses n Always (closing s) NoLimit Always (closing_at s)
-closing_parses n s = this_parses (passes signs.Finish)
+closing_parses n s = this_parses (passes (codes "}"))
 
-property_heads : (test : Word → Bool) → ((w : Word) → passes signs.Open w ≡ true → test w ≡ false) → (p : Property) (text more : List Word) → property p text → heads test (text ++ more) ≡ false
+property_heads : (test : Word → Bool) → ((w : Word) → passes (codes "[") w ≡ true → test w ≡ false) → (p : Property) (text more : List Word) → property p text → heads test (text ++ more) ≡ false
 unfolding Rattle.oa_idl.specs.Grammar.property_head
-property_heads test is p text more f = then_heads test false text more (λ front left h. first_heads test (passes signs.Open) false is front left h) f
+property_heads test is p text more f = then_heads test false text more (λ front left h. first_heads test (passes (codes "[")) false is front left h) f
 
 property_some : (p : Property) (text : List Word) → property p text → 0 < length text
 unfolding Rattle.oa_idl.specs.Grammar.property_head
@@ -75,7 +73,7 @@ abbrev methods_in : Members → List MethodValue
 methods_in p = p.1
 
 section : Members → List Word → Type 0
-section p = sign signs.Properties ▸ sign signs.Colon ▸ listed (λ n. property) one_more nowhere methods 0 p.0 p.1
+section p = sign (codes "properties") ▸ sign (codes ":") ▸ listed (λ n. property) one_more nowhere methods 0 p.0 p.1
 
 list_members_parses : {n : ℕ} → Parses n Always (λ (p : Members). listed (λ n. property) one_more nowhere methods 0 p.0 p.1) (λ l p. MembersKeep l p.0 p.1) (λ p. MembersKept p.0 p.1) (list_at ends_properties nowhere property_at one_more methods_at 0)
 list_members_parses {n} = list_parses one_more ends_properties nowhere (λ n s. property_parses s) (λ n s. methods_parses s) (λ s p text f. property_some p text f) (λ s p text more f. property_heads ends_properties open_ends_nothing p text more f)
@@ -83,11 +81,11 @@ list_members_parses {n} = list_parses one_more ends_properties nowhere (λ n s. 
 
 members_parses : {n : ℕ} → Parses n Always (λ (p : Members). members p.0 p.1) (λ l p. MembersKeep l p.0 p.1) (λ p. MembersKept p.0 p.1) members_at
 unfolding members_at section
-members_parses = choose_parses {A = section} {B = λ p ws. (p.0 ≡ []) × methods 0 p.1 ws} (passes signs.Properties)
+members_parses = choose_parses {A = section} {B = λ p ws. (p.0 ≡ []) × methods 0 p.1 ws} (passes (codes "properties"))
     (λ p text more _ f is. ⊎_elim (λ (k : section p text). k) (λ (k : where_is (p.0 ≡ []) (methods 0 p.1) text). absurd (clash is (methods_begin 0 p.1 text more k.1))) f)
-    (λ p text more _ f is. ⊎_elim (λ (k : section p text). absurd (clash (same_heads signs.Properties text more k) is)) (λ (k : where_is (p.0 ≡ []) (methods 0 p.1) text). k) f)
+    (λ p text more _ f is. ⊎_elim (λ (k : section p text). absurd (clash (same_heads (codes "properties") text more k) is)) (λ (k : where_is (p.0 ≡ []) (methods 0 p.1) text). k) f)
     (λ p text _ f. inl f) (λ p text _ f. inr f)
-    (skip_parses (passes signs.Properties) (skip_parses (passes signs.Colon) list_members_parses))
+    (skip_parses (passes (codes "properties")) (skip_parses (passes (codes ":")) list_members_parses))
     (fact_parses (end_part_parses methods_in alone_methods (methods_parses 0) (λ l p h k. subst (λ (ps : List Property). KeepsFrom one_more (λ n x. MemberKeeps n l x) (λ n ms. MethodsKeep n l ms) 0 ps p.1) h.1 k) (λ ms. ((tt, refl), refl)) (λ ms kept. kept) (λ ms p h. λ i. (h.0.1 i, h.1 i))))
   where
     alone_methods : List MethodValue → Members
@@ -160,7 +158,7 @@ coclass_entries s l (items.Coclass c) is k = k.1
 
 interface_parses : {n : ℕ} (s : ItemsSeen) (guid : List ℕ) → Parses n (λ x. Always x × (guid ≡ guid_of_item x)) (λ x ws. (is_interface x ≡ true) × interface (title x) (members_of x).0 (members_of x).1 ws) (ItemKeeps s) (ItemKept s) (interface_at s guid)
 unfolding interface_at interface_item
-interface_parses s guid = fact_parses (skip_parses (passes signs.Dispinterface) (part_parses title (one_parses name_of (over limits.Interfaces 256 s.interfaces) (over_named limits.Interfaces 256 s.interfaces (λ k. absurd cc))) (λ l x h k. interface_title s l x h.1 k) (λ name. skip_parses (passes signs.Begin)
+interface_parses s guid = fact_parses (skip_parses (passes (codes "dispinterface")) (part_parses title (one_parses name_of (over limits.Interfaces 256 s.interfaces) (over_named limits.Interfaces 256 s.interfaces (λ k. absurd cc))) (λ l x h k. interface_title s l x h.1 k) (λ name. skip_parses (passes (codes "{"))
     (part_parses members_of members_parses (λ l x h k. interface_members s l x h.0.1 k) (λ all. give_parses (interface_item guid name all) ((((tt, refl), refl), refl), refl) (λ kept short. (short, kept))
     (λ x h. only_interface guid name all x h.0.0.0.1 h.0.0.1 h.0.1 h.1))))))
 
@@ -168,38 +166,38 @@ interface_parses s guid = fact_parses (skip_parses (passes signs.Dispinterface) 
 
 named_parses : {n : ℕ} (b : Bool) → Parses n (λ e. Always e × (e.is_default ≡ b)) named (λ l e. too_long e.interface ≡ Some l → ⊥) (λ e. too_long e.interface ≡ None) (named_at b)
 unfolding named_at
-named_parses b = skip_parses entry_word (part_parses (λ e. e.interface) (one_parses name_of too_long long_named) (λ l e h k. k) (λ name. skip_parses (passes signs.Semicolon)
+named_parses b = skip_parses entry_word (part_parses (λ e. e.interface) (one_parses name_of too_long long_named) (λ l e h k. k) (λ name. skip_parses (passes (codes ";"))
     (give_parses (record { is_default = b; interface = name }) ((tt, refl), refl) (λ kept. kept) (λ e h. λ i. record { is_default = h.0.1 i; interface = h.1 i }))))
 
 -- neither of two signs is a third
-entry_word_other : (a : Sign) → bytes_eq (spelling signs.Dispinterface) (spelling a) ≡ false → bytes_eq (spelling signs.Interface) (spelling a) ≡ false → (w : Word) → entry_word w ≡ true → passes a w ≡ false
-entry_word_other a x y w e = by_first (passes signs.Dispinterface w) refl (passes signs.Interface w) refl e
+entry_word_other : (a : List ℕ) → bytes_eq (codes "dispinterface") a ≡ false → bytes_eq (codes "interface") a ≡ false → (w : Word) → entry_word w ≡ true → passes a w ≡ false
+entry_word_other a x y w e = by_first (passes (codes "dispinterface") w) refl (passes (codes "interface") w) refl e
   where
-    by_first : (p : Bool) → passes signs.Dispinterface w ≡ p → (q : Bool) → passes signs.Interface w ≡ q → (p || q) ≡ true → passes a w ≡ false
-    by_first true is q his e = other_sign a signs.Dispinterface x w is
-    by_first false is true his e = other_sign a signs.Interface y w his
+    by_first : (p : Bool) → passes (codes "dispinterface") w ≡ p → (q : Bool) → passes (codes "interface") w ≡ q → (p || q) ≡ true → passes a w ≡ false
+    by_first true is q his e = other_sign a (codes "dispinterface") x w is
+    by_first false is true his e = other_sign a (codes "interface") y w his
     by_first false is false his e = absurd (clash e refl)
 
-named_heads : (a : Sign) → bytes_eq (spelling signs.Dispinterface) (spelling a) ≡ false → bytes_eq (spelling signs.Interface) (spelling a) ≡ false → (e : Entry) (text more : List Word) → named e text → heads (passes a) (text ++ more) ≡ false
+named_heads : (a : List ℕ) → bytes_eq (codes "dispinterface") a ≡ false → bytes_eq (codes "interface") a ≡ false → (e : Entry) (text more : List Word) → named e text → heads (passes a) (text ++ more) ≡ false
 named_heads a x y e text more f = then_heads (passes a) false text more (λ front left h. ap (λ (ws : List Word). heads (passes a) (ws ++ left)) h.parts ∙ entry_word_other a x y h.word h.is) f
 
 default_form : Entry → List Word → Type 0
-default_form e = sign signs.Open ▸ sign signs.Default ▸ sign signs.Close ▸ named e
+default_form e = sign (codes "[") ▸ sign (codes "default") ▸ sign (codes "]") ▸ named e
 
 entry_parses : {n : ℕ} (s : EntriesSeen) → Parses n Always (entry s) (λ l e. too_long e.interface ≡ Some l → ⊥) (λ e. too_long e.interface ≡ None) (entry_at s)
 unfolding entry_at default_form
-entry_parses s = choose_parses {A = λ e ws. (not s.default ≡ true) × ((e.is_default ≡ true) × default_form e ws)} {B = λ e ws. (e.is_default ≡ false) × named e ws} (passes signs.Open)
+entry_parses s = choose_parses {A = λ e ws. (not s.default ≡ true) × ((e.is_default ≡ true) × default_form e ws)} {B = λ e ws. (e.is_default ≡ false) × named e ws} (passes (codes "["))
     (λ e text more _ f is. yes e text more e.is_default refl f is) (λ e text more _ f is. other e text more e.is_default refl f is)
     (λ e text _ f. from_yes e text f) (λ e text _ f. from_other e text f)
-    (require_parses (not s.default) (fact_parses (skip_parses (passes signs.Open) (skip_parses (passes signs.Default) (skip_parses (passes signs.Close) (named_parses true))))))
+    (require_parses (not s.default) (fact_parses (skip_parses (passes (codes "[")) (skip_parses (passes (codes "default")) (skip_parses (passes (codes "]")) (named_parses true))))))
     (fact_parses (named_parses false))
   where
-    yes : (e : Entry) (text more : List Word) (v : Bool) → e.is_default ≡ v → (not (v && s.default) ≡ true) × entry_by v e text → heads (passes signs.Open) (text ++ more) ≡ true → (not s.default ≡ true) × ((e.is_default ≡ true) × default_form e text)
+    yes : (e : Entry) (text more : List Word) (v : Bool) → e.is_default ≡ v → (not (v && s.default) ≡ true) × entry_by v e text → heads (passes (codes "[")) (text ++ more) ≡ true → (not s.default ≡ true) × ((e.is_default ≡ true) × default_form e text)
     yes e text more true flag f is = (f.0, (flag, f.1))
-    yes e text more false flag f is = absurd (clash is (named_heads signs.Open refl refl e text more f.1))
+    yes e text more false flag f is = absurd (clash is (named_heads (codes "[") refl refl e text more f.1))
 
-    other : (e : Entry) (text more : List Word) (v : Bool) → e.is_default ≡ v → (not (v && s.default) ≡ true) × entry_by v e text → heads (passes signs.Open) (text ++ more) ≡ false → (e.is_default ≡ false) × named e text
-    other e text more true flag f is = absurd (clash (same_heads signs.Open text more f.1) is)
+    other : (e : Entry) (text more : List Word) (v : Bool) → e.is_default ≡ v → (not (v && s.default) ≡ true) × entry_by v e text → heads (passes (codes "[")) (text ++ more) ≡ false → (e.is_default ≡ false) × named e text
+    other e text more true flag f is = absurd (clash (same_heads (codes "[") text more f.1) is)
     other e text more false flag f is = (flag, f.1)
 
     from_yes : (e : Entry) (text : List Word) → (not s.default ≡ true) × ((e.is_default ≡ true) × default_form e text) → entry s e text
@@ -212,27 +210,27 @@ entry_some : (e : Entry) (v : Bool) (text : List Word) → entry_by v e text →
 entry_some e true text f = this_some text f
 entry_some e false text f = this_some text f
 
-entry_heads : (a : Sign) → bytes_eq (spelling signs.Open) (spelling a) ≡ false → bytes_eq (spelling signs.Dispinterface) (spelling a) ≡ false → bytes_eq (spelling signs.Interface) (spelling a) ≡ false → (e : Entry) (v : Bool) (text more : List Word) → entry_by v e text → heads (passes a) (text ++ more) ≡ false
-entry_heads a z x y e true text more f = sign_heads a signs.Open z text more f
+entry_heads : (a : List ℕ) → bytes_eq (codes "[") a ≡ false → bytes_eq (codes "dispinterface") a ≡ false → bytes_eq (codes "interface") a ≡ false → (e : Entry) (v : Bool) (text more : List Word) → entry_by v e text → heads (passes a) (text ++ more) ≡ false
+entry_heads a z x y e true text more f = sign_heads a (codes "[") z text more f
 entry_heads a z x y e false text more f = named_heads a x y e text more f
 
 last_entry_parses : (n : ℕ) (s : EntriesSeen) → Parses n Always (last_entry s) NoLimit Always (last_entry_at s)
-last_entry_parses n s = require_parses s.some (this_parses (passes signs.Finish))
+last_entry_parses n s = require_parses s.some (this_parses (passes (codes "}")))
 
 abbrev es_of : List Entry × Unit {0} → List Entry
 es_of p = p.0
 
 entries_parses : {n : ℕ} → Parses n Always (λ p. listed entry entry_grow nowhere last_entry no_entry p.0 p.1) (λ l p. KeepsFrom entry_grow (λ s e. too_long e.interface ≡ Some l → ⊥) Nothing no_entry p.0 p.1) (λ p. KeepsFrom entry_grow (λ s e. too_long e.interface ≡ None) Nothing no_entry p.0 p.1) entries_at
 unfolding entries_at
-entries_parses {n} = list_parses entry_grow (passes signs.Finish) nowhere (λ n s. entry_parses s) last_entry_parses (λ s e text f. entry_some e e.is_default text f.1) (λ s e text more f. entry_heads signs.Finish refl refl refl e e.is_default text more f.1)
-    (λ s b text more f. this_heads (passes signs.Finish) text more f.1) (λ y s e text more f. never_heads y (text ++ more)) (λ y s b text more f. never_heads y (text ++ more)) n no_entry
+entries_parses {n} = list_parses entry_grow (passes (codes "}")) nowhere (λ n s. entry_parses s) last_entry_parses (λ s e text f. entry_some e e.is_default text f.1) (λ s e text more f. entry_heads (codes "}") refl refl refl e e.is_default text more f.1)
+    (λ s b text more f. this_heads (passes (codes "}")) text more f.1) (λ y s e text more f. never_heads y (text ++ more)) (λ y s b text more f. never_heads y (text ++ more)) n no_entry
 
 entries_of_item : Item → List Entry × Unit {0}
 entries_of_item x = both (entries_of x) tt
 
 coclass_parses : {n : ℕ} (s : ItemsSeen) (guid : List ℕ) → Parses n (λ x. Always x × (guid ≡ guid_of_item x)) (λ x ws. (is_interface x ≡ false) × coclass (title x) (entries_of x) ws) (ItemKeeps s) (ItemKept s) (coclass_at s guid)
 unfolding coclass_at coclass_item entries_of_item
-coclass_parses s guid = fact_parses (skip_parses (passes signs.Coclass) (part_parses title (one_parses name_of (over limits.Coclasses 256 s.coclasses) (over_named limits.Coclasses 256 s.coclasses (λ k. absurd cc))) (λ l x h k. coclass_title s l x h.1 k) (λ name. skip_parses (passes signs.Begin)
+coclass_parses s guid = fact_parses (skip_parses (passes (codes "coclass")) (part_parses title (one_parses name_of (over limits.Coclasses 256 s.coclasses) (over_named limits.Coclasses 256 s.coclasses (λ k. absurd cc))) (λ l x h k. coclass_title s l x h.1 k) (λ name. skip_parses (passes (codes "{"))
     (part_parses entries_of_item entries_parses (λ l x h k. coclass_entries s l x h.0.1 k) (λ es. give_parses (coclass_item guid name es.0) ((((tt, refl), refl), refl), refl) (λ all kept. (kept, all))
     (λ x h. only_coclass guid name es.0 x h.0.0.0.1 h.0.0.1 h.0.1 (ap es_of h.1)))))))
 
@@ -241,16 +239,16 @@ coclass_parses s guid = fact_parses (skip_parses (passes signs.Coclass) (part_pa
 item_parses : {n : ℕ} (s : ItemsSeen) → Parses n Always item (ItemKeeps s) (ItemKept s) (item_at s)
 unfolding item_at
 item_parses {n} s = with_parses {G = λ h x ws. (h.guid ≡ guid_of_item x) × body x ws} (head_parses false) (enough (head false) n) (λ l h x text _ g k. tt) (λ h.
-    fact_parses (choose_parses {A = λ x ws. (is_interface x ≡ true) × interface (title x) (members_of x).0 (members_of x).1 ws} {B = λ x ws. (is_interface x ≡ false) × coclass (title x) (entries_of x) ws} (passes signs.Dispinterface)
+    fact_parses (choose_parses {A = λ x ws. (is_interface x ≡ true) × interface (title x) (members_of x).0 (members_of x).1 ws} {B = λ x ws. (is_interface x ≡ false) × coclass (title x) (entries_of x) ws} (passes (codes "dispinterface"))
     (λ x text more _ f is. yes x text more f is) (λ x text more _ f is. other x text more f is) (λ x text _ f. from_yes x text f) (λ x text _ f. from_other x text f)
     (said_parses (λ c h. h) (λ c h. h) (λ c t h f. f) (λ c t h f. f) (λ c h _. h) (interface_parses s h.guid)) (said_parses (λ c h. h) (λ c h. h) (λ c t h f. f) (λ c t h f. f) (λ c h _. h) (coclass_parses s h.guid))))
   where
-    yes : (x : Item) (text more : List Word) → body x text → heads (passes signs.Dispinterface) (text ++ more) ≡ true → (is_interface x ≡ true) × interface (title x) (members_of x).0 (members_of x).1 text
+    yes : (x : Item) (text more : List Word) → body x text → heads (passes (codes "dispinterface")) (text ++ more) ≡ true → (is_interface x ≡ true) × interface (title x) (members_of x).0 (members_of x).1 text
     yes (items.Interface d) text more f is = (refl, f)
-    yes (items.Coclass c) text more f is = absurd (clash is (sign_heads signs.Dispinterface signs.Coclass refl text more f))
+    yes (items.Coclass c) text more f is = absurd (clash is (sign_heads (codes "dispinterface") (codes "coclass") refl text more f))
 
-    other : (x : Item) (text more : List Word) → body x text → heads (passes signs.Dispinterface) (text ++ more) ≡ false → (is_interface x ≡ false) × coclass (title x) (entries_of x) text
-    other (items.Interface d) text more f is = absurd (clash (same_heads signs.Dispinterface text more f) is)
+    other : (x : Item) (text more : List Word) → body x text → heads (passes (codes "dispinterface")) (text ++ more) ≡ false → (is_interface x ≡ false) × coclass (title x) (entries_of x) text
+    other (items.Interface d) text more f is = absurd (clash (same_heads (codes "dispinterface") text more f) is)
     other (items.Coclass c) text more f is = (refl, f)
 
     from_yes : (x : Item) (text : List Word) → (is_interface x ≡ true) × interface (title x) (members_of x).0 (members_of x).1 text → body x text
@@ -261,9 +259,9 @@ item_parses {n} s = with_parses {G = λ h x ws. (h.guid ≡ guid_of_item x) × b
     from_other (items.Interface d) text f = absurd (clash refl f.0)
     from_other (items.Coclass c) text f = f.1
 
-item_heads : (a : Sign) → bytes_eq (spelling signs.Open) (spelling a) ≡ false → (x : Item) (text more : List Word) → item x text → heads (passes a) (text ++ more) ≡ false
+item_heads : (a : List ℕ) → bytes_eq (codes "[") a ≡ false → (x : Item) (text more : List Word) → item x text → heads (passes a) (text ++ more) ≡ false
 unfolding head
-item_heads a ne x text more f = then_heads (passes a) false text more (λ front left h. sign_heads a signs.Open ne front left h) f.form
+item_heads a ne x text more f = then_heads (passes a) false text more (λ front left h. sign_heads a (codes "[") ne front left h) f.form
 
 item_some : (x : Item) (text : List Word) → item x text → 0 < length text
 unfolding head
@@ -287,10 +285,10 @@ abbrev item_in : Content → Item
 item_in Import = items.Coclass (record { guid = []; name = []; entries = [] })
 item_in (OfItem x) = x
 
-import_heads : (e : Content) (text more : List Word) → element e text → heads (passes signs.Importlib) (text ++ more) ≡ is_import e
+import_heads : (e : Content) (text more : List Word) → element e text → heads (passes (codes "importlib")) (text ++ more) ≡ is_import e
 unfolding element
-import_heads Import text more f = same_heads signs.Importlib text more f
-import_heads (OfItem x) text more f = item_heads signs.Importlib refl x text more f
+import_heads Import text more f = same_heads (codes "importlib") text more f
+import_heads (OfItem x) text more f = item_heads (codes "importlib") refl x text more f
 
 only_import : (e : Content) → Always e × (is_import e ≡ true) → e ≡ Import
 only_import Import h = refl
@@ -306,17 +304,17 @@ item_keeps s l (OfItem x) h k = k
 
 import_parses : {n : ℕ} → Parses n Always (λ (_ : Unit {0}). importing) NoLimit Always import_at
 unfolding import_at
-import_parses = skip_parses (passes signs.Importlib) (skip_parses (passes signs.Left) (skip_parses is_text (skip_parses (passes signs.Right) (this_parses (passes signs.Semicolon)))))
+import_parses = skip_parses (passes (codes "importlib")) (skip_parses (passes (codes "(")) (skip_parses is_text (skip_parses (passes (codes ")")) (this_parses (passes (codes ";"))))))
 
 element_parses : {n : ℕ} (s : ItemsSeen) → Parses n Always element (ContentKeeps s) (ContentKept s) (element_at s)
 unfolding element element_at
-element_parses s = tagged_parses {F = element} (passes signs.Importlib) is_import import_heads
+element_parses s = tagged_parses {F = element} (passes (codes "importlib")) is_import import_heads
     (branch_parses {F = element} (λ (_ : Unit {0}). Import) (λ _. done) only_import (λ a. ((tt, refl), refl)) (λ l c h k. tt) (λ a h. tt) import_parses)
     (branch_parses {F = element} (λ x. OfItem x) item_in only_item (λ a. ((tt, refl), refl)) (λ l c h k. item_keeps s l c h k) (λ a h. h) (item_parses s))
 
-element_heads : (a : Sign) → bytes_eq (spelling signs.Open) (spelling a) ≡ false → bytes_eq (spelling signs.Importlib) (spelling a) ≡ false → (e : Content) (text more : List Word) → element e text → heads (passes a) (text ++ more) ≡ false
+element_heads : (a : List ℕ) → bytes_eq (codes "[") a ≡ false → bytes_eq (codes "importlib") a ≡ false → (e : Content) (text more : List Word) → element e text → heads (passes a) (text ++ more) ≡ false
 unfolding element
-element_heads a x y Import text more f = sign_heads a signs.Importlib y text more f
+element_heads a x y Import text more f = sign_heads a (codes "importlib") y text more f
 element_heads a x y (OfItem i) text more f = item_heads a x i text more f
 
 element_some : (e : Content) (text : List Word) → element e text → 0 < length text
@@ -324,18 +322,15 @@ unfolding element
 element_some Import text f = this_some text f
 element_some (OfItem x) text f = item_some x text f
 
-not_after : (y : Content) (words : List Word) → heads (passes signs.Semicolon) words ≡ false → heads (semicolon_after y) words ≡ false
+not_after : (y : Content) (words : List Word) → heads (passes (codes ";")) words ≡ false → heads (semicolon_after y) words ≡ false
 not_after Import [] h = refl
 not_after Import (w ∷ words) h = refl
 not_after (OfItem x) [] h = refl
 not_after (OfItem x) (w ∷ words) h = h
 
-abbrev contents_of : List Content × Unit {0} → List Content
-contents_of p = p.0
-
-contents_parses : {n : ℕ} → Parses n Always (λ p. listed (λ s. element) elements_grow semicolon_after closing no_items p.0 p.1) (λ l p. KeepsFrom elements_grow (λ s x. ContentKeeps s l x) Nothing no_items p.0 p.1) (λ p. KeepsFrom elements_grow ContentKept Nothing no_items p.0 p.1) (list_at (passes signs.Finish) semicolon_after element_at elements_grow closing_at no_items)
-contents_parses {n} = list_parses elements_grow (passes signs.Finish) semicolon_after (λ n s. element_parses s) closing_parses (λ s x text f. element_some x text f) (λ s x text more f. element_heads signs.Finish refl refl x text more f)
-    (λ s b text more f. this_heads (passes signs.Finish) text more f) (λ y s x text more f. not_after y (text ++ more) (element_heads signs.Semicolon refl refl x text more f)) (λ y s b text more f. not_after y (text ++ more) (one_sign_heads signs.Semicolon signs.Finish refl text more f)) n no_items
+contents_parses : {n : ℕ} → Parses n Always (λ p. listed (λ s. element) elements_grow semicolon_after closing no_items p.0 p.1) (λ l p. KeepsFrom elements_grow (λ s x. ContentKeeps s l x) Nothing no_items p.0 p.1) (λ p. KeepsFrom elements_grow ContentKept Nothing no_items p.0 p.1) (list_at (passes (codes "}")) semicolon_after element_at elements_grow closing_at no_items)
+contents_parses {n} = list_parses elements_grow (passes (codes "}")) semicolon_after (λ n s. element_parses s) closing_parses (λ s x text f. element_some x text f) (λ s x text more f. element_heads (codes "}") refl refl x text more f)
+    (λ s b text more f. this_heads (passes (codes "}")) text more f) (λ y s x text more f. not_after y (text ++ more) (element_heads (codes ";") refl refl x text more f)) (λ y s b text more f. not_after y (text ++ more) (one_sign_heads (codes ";") (codes "}") refl text more f)) n no_items
 
 abbrev pub ItemsKeep : TreeLimit → ItemsSeen → List Item → Type 0
 ItemsKeep l s xs = KeepsFrom {B = Unit {0}} items_grow (λ s x. ItemKeeps s l x) Nothing s xs tt
@@ -355,7 +350,7 @@ contents_kept s (OfItem x ∷ es) k = (k.0, contents_kept (items_grow s x) es k.
 
 elements_parses : {n : ℕ} → Parses n Always elements (λ l xs. ItemsKeep l no_items xs) (λ xs. ItemsKept no_items xs) elements_at
 unfolding elements elements_at elements_within bind list_at
-elements_parses {n} = alike_parses {f = bind (list_at (passes signs.Finish) semicolon_after element_at elements_grow closing_at no_items) (λ (p : List Content × Unit {0}). give (items_in p.0))} (λ words. refl)
+elements_parses {n} = alike_parses {f = bind (list_at (passes (codes "}")) semicolon_after element_at elements_grow closing_at no_items) (λ (p : List Content × Unit {0}). give (items_in p.0))} (λ words. refl)
     (said_parses {F = λ xs. with whole (λ p. given (xs ≡ items_in p.0))} (λ c h. h) (λ c h. h) (λ c t h f. record { value = f.value.0; form = f.form }) (λ c t h f. record { value = both f.value tt; form = f.form }) (λ c h. h)
     (with_parses {G = λ p xs. given (xs ≡ items_in p.0)} contents_parses (enough whole n) (λ l p xs text _ g k. contents_keep l no_items p.0 (subst (λ (ys : List Item). ItemsKeep l no_items ys) g.fact k))
     (λ p. given_parses (items_in p.0) tt (λ kept. contents_kept no_items p.0 kept))))
@@ -378,7 +373,7 @@ tree_of h name xs = record { guid = h.guid; version = h.version; name = name; it
 
 pub library_parses : {n : ℕ} → Parses n Always library TreeKeeps TreeKept library_at
 unfolding library_at head_of_tree tree_of
-library_parses = part_parses head_of_tree (head_parses true) (λ l t h k. tt) (λ head. skip_parses (passes signs.Library) (part_parses (λ t. t.name) (one_parses name_of too_long long_named) (λ l t h k. k.0) (λ name. skip_parses (passes signs.Begin)
+library_parses = part_parses head_of_tree (head_parses true) (λ l t h k. tt) (λ head. skip_parses (passes (codes "library")) (part_parses (λ t. t.name) (one_parses name_of too_long long_named) (λ l t h k. k.0) (λ name. skip_parses (passes (codes "{"))
     (part_parses (λ t. t.items) elements_parses (λ l t h k. k.1)
-    (λ xs. perhaps_parses (passes signs.Semicolon) (λ t text more h f. sign_heads signs.Semicolon signs.End refl text more f) (skip_parses (passes signs.End)
+    (λ xs. perhaps_parses (passes (codes ";")) (λ t text more h f. sign_heads (codes ";") [] refl text more f) (skip_parses (passes [])
     (give_parses (tree_of head name xs) (((tt, refl), refl), refl) (λ kept short _. (short, kept)) (λ t h. λ i. record { guid = (h.0.0.1 i).guid; version = (h.0.0.1 i).version; name = h.0.1 i; items = h.1 i }))))))))

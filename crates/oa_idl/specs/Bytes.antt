@@ -1,15 +1,10 @@
 -- Bytes by their classes, and where a stretch of them ends.
-use Rattle.std.specs.Prelude.{ℕ, suc, ◌==◌, ◌≤◌, ◌&&◌, ◌||◌, Bool, false, not, nat_lt, nat_le, if◌then◌else◌, List, [], ◌∷◌, length, drop, get_or, Option, Some, None}
+use Rattle.std.specs.Prelude.{ℕ, suc, ◌==◌, ◌≤◌, ◌&&◌, ◌||◌, Bool, not, nat_lt, nat_le, if◌then◌else◌, List, [], ◌∷◌, length, drop, get_or, Option, Some, None}
 use Rattle.std.specs.Char.{is_ascii_digit, is_ascii_hexdigit, is_ascii_alphabetic, is_ascii_alphanumeric}
 use Rattle.oa_idl.specs.declared.scan.Class.{Class}
 use Rattle.oa_idl.specs.declared.scan.Class.TheVariants.{Digit, Hexadecimal, Letter, Named, Blank, Line, Mark}
 use Rattle.oa_idl.specs.declared.scan.Close.{Close}
 use Rattle.oa_idl.specs.declared.scan.Close.TheVariants.{Quote, Comment}
-
--- one of the bytes of a list
-abbrev pub among : List ℕ → ℕ → Bool
-among [] b = false
-among (x ∷ xs) b = b == x || among xs b
 
 unfoldable pub is_in : Class → ℕ → Bool
 is_in Digit b = is_ascii_digit b

@@ -1,6 +1,7 @@
 -- The canonical text of a tree: this project's choice among the texts that stand for it. Each line ends with LF; GUIDs are in lower case,
 -- numbers decimal; one blank follows a comma; both section words stand always.
 use Rattle.std.specs.Prelude.{ℕ, ℤ, Bool, true, false, ◌||◌, if◌then◌else◌, List, [], ◌∷◌, ◌++◌, codes, Option, Some, None, is_some}
+use Rattle.std.specs.List.{flat_map}
 use Rattle.std.specs.Fmt.{decimal, signed_decimal}
 use Rattle.uuid.specs.Text.{hyphenated_text, lower}
 use Rattle.oa_model.specs.declared.var_type.VarType.{VarType}
@@ -21,11 +22,6 @@ use Rattle.oa_idl.specs.MethodValues.{MethodValue}
 use Rattle.oa_idl.specs.Values.{InterfaceValue, CoclassValue}
 use Rattle.oa_idl.specs.Trees.{TreeValue}
 use Rattle.oa_idl.specs.Words.{is_escaped}
-
--- one text after another
-unfoldable pub texts : {A : Type 0} → (A → List ℕ) → List A → List ℕ
-texts text [] = []
-texts text (x ∷ xs) = text x ++ texts text xs
 
 -- ---- types
 
@@ -70,7 +66,7 @@ character_text b = if is_escaped b then 92 ∷ b ∷ [] else b ∷ []
 
 unfoldable pub literal_text : Literal → List ℕ
 literal_text (literals.Number i) = signed_decimal i
-literal_text (literals.Text cs) = codes "\"" ++ texts character_text cs ++ codes "\""
+literal_text (literals.Text cs) = codes "\"" ++ flat_map character_text cs ++ codes "\""
 literal_text (literals.Bool true) = codes "TRUE"
 literal_text (literals.Bool false) = codes "FALSE"
 
@@ -97,7 +93,7 @@ further_text p = codes ", " ++ parameter_text p
 
 unfoldable pub parameters_text : List Parameter → List ℕ
 parameters_text [] = []
-parameters_text (p ∷ ps) = parameter_text p ++ texts further_text ps
+parameters_text (p ∷ ps) = parameter_text p ++ flat_map further_text ps
 
 -- ---- members
 
@@ -149,16 +145,16 @@ unfoldable pub properties_line : List ℕ
 properties_line = codes "properties:\n"
 
 unfoldable pub properties_text : List Property → List ℕ
-properties_text ps = properties_line ++ texts property_text ps
+properties_text ps = properties_line ++ flat_map property_text ps
 
 unfoldable pub methods_text : List MethodValue → List ℕ
-methods_text ms = codes "methods:\n" ++ texts method_text ms ++ codes "}\n"
+methods_text ms = codes "methods:\n" ++ flat_map method_text ms ++ codes "}\n"
 
 unfoldable pub interface_text : InterfaceValue → List ℕ
 interface_text d = title_text d.guid interface_line d.name ++ properties_text d.properties ++ methods_text d.methods
 
 unfoldable pub coclass_text : CoclassValue → List ℕ
-coclass_text c = title_text c.guid (codes "]\ncoclass ") c.name ++ texts entry_text c.entries ++ codes "}\n"
+coclass_text c = title_text c.guid (codes "]\ncoclass ") c.name ++ flat_map entry_text c.entries ++ codes "}\n"
 
 unfoldable pub item_text : Item → List ℕ
 item_text (items.Interface d) = interface_text d
@@ -168,4 +164,4 @@ unfoldable pub version_text : Version → List ℕ
 version_text v = codes ", version(" ++ decimal v.major ++ codes "." ++ decimal v.minor ++ codes ")]\nlibrary "
 
 unfoldable pub canonical : TreeValue → List ℕ
-canonical t = title_text t.guid (version_text t.version) t.name ++ texts item_text t.items ++ codes "}\n"
+canonical t = title_text t.guid (version_text t.version) t.name ++ flat_map item_text t.items ++ codes "}\n"

@@ -91,10 +91,6 @@ abbrev pub Begins : List Word → List Word → List Word → Type 0
 Begins front [] words = words ≡ front
 Begins front (w ∷ left) words = (more : List Word) × (words ≡ front ++ w ∷ more)
 
--- no word
-abbrev pub never : Word → Bool
-never w = false
-
 -- no word, after any item
 abbrev pub nowhere : {A : Type 0} → A → Word → Bool
 nowhere x w = false

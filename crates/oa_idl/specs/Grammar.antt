@@ -1,11 +1,9 @@
 -- The grammar of a library text, over its words.
-use Rattle.std.specs.Prelude.{◌≡◌, ℕ, ◌+◌, ◌==◌, ◌||◌, ◌&&◌, Bool, true, false, not, List, [], ◌∷◌, Option, Some, None, ℤ, is_some, if◌then◌else◌}
+use Rattle.std.specs.Prelude.{◌≡◌, ℕ, ◌+◌, ◌==◌, ◌||◌, ◌&&◌, Bool, true, false, not, List, [], ◌∷◌, Option, Some, None, ℤ, is_some, if◌then◌else◌, codes}
 use Rattle.uuid.specs.Parts.{zero_bytes}
 use Rattle.oa_model.specs.declared.var_type.VarType.{VarType}
 use Rattle.oa_model.specs.declared.var_type.ValueType.{ValueType}
 use Rattle.oa_model.specs.declared.var_type.ValueType.TheVariants as values
-use Rattle.oa_idl.specs.declared.sign.Sign.{Sign}
-use Rattle.oa_idl.specs.declared.sign.Sign.TheVariants as signs
 use Rattle.oa_idl.specs.declared.parts.Version.{Version}
 use Rattle.oa_idl.specs.declared.parts.Property.{Property}
 use Rattle.oa_idl.specs.declared.parts.Entry.{Entry}
@@ -30,25 +28,25 @@ use Rattle.oa_idl.specs.Trees.{TreeValue}
 use Rattle.oa_idl.specs.Forms.{Word, Form, ◌▸◌, nothing, given, this, one, optional, either_of, where_is, with, listed, gathered, nowhere}
 use Rattle.oa_idl.specs.Words.{passes, is_text, name_of, guid_of, part_of, id_of, type_of, amount_of, characters_of}
 
-abbrev pub sign : Sign → Form
+abbrev pub sign : List ℕ → Form
 sign s = this (passes s)
 
 -- ---- lists of attributes: "[" att {"," att} "]"
 
 -- the next attribute may come only where it did not come before
 abbrev pub next_attribute : {S A : Type 0} → (A → Form) → (S → A → Bool) → S → A → Form
-next_attribute attribute may_come s x = where_is (may_come s x ≡ true) (sign signs.Comma ▸ attribute x)
+next_attribute attribute may_come s x = where_is (may_come s x ≡ true) (sign (codes ",") ▸ attribute x)
 
 -- the list ends only where what is required was there; b is what the list says
 abbrev pub last_attribute : {S B : Type 0} → (S → Option B) → S → B → Form
-last_attribute finish s b = where_is (finish s ≡ Some b) (sign signs.Close)
+last_attribute finish s b = where_is (finish s ≡ Some b) (sign (codes "]"))
 
 abbrev pub attributes : {S A B : Type 0} → (A → Form) → (S → A → Bool) → (S → A → S) → (S → Option B) → S → B → Form
-attributes attribute may_come grow finish s b = sign signs.Open ▸ with (λ x. where_is (may_come s x ≡ true) (attribute x)) (λ x. gathered (next_attribute attribute may_come) grow nowhere (last_attribute finish) (grow s x) b)
+attributes attribute may_come grow finish s b = sign (codes "[") ▸ with (λ x. where_is (may_come s x ≡ true) (attribute x)) (λ x. gathered (next_attribute attribute may_come) grow nowhere (last_attribute finish) (grow s x) b)
 
 -- help = "helpstring" "(" string ")"
 abbrev pub help : Form
-help = sign signs.Helpstring ▸ sign signs.Left ▸ this is_text ▸ sign signs.Right
+help = sign (codes "helpstring") ▸ sign (codes "(") ▸ this is_text ▸ sign (codes ")")
 
 -- ---- attrs = "[" att {"," att} "]"    att = "uuid" "(" guid ")" | "version" "(" num ["." num] ")" | help
 
@@ -58,9 +56,9 @@ pub data HeadAttribute : Type 0 where
   HeadHelp : HeadAttribute
 
 abbrev pub head_attribute : Bool → HeadAttribute → Form
-head_attribute counts (Guid g) = sign signs.Uuid ▸ sign signs.Left ▸ one guid_of g ▸ sign signs.Right
-head_attribute counts (Numbered v) = sign signs.Version ▸ sign signs.Left ▸ one (part_of counts) v.major ▸
-    either_of (sign signs.Dot ▸ one (part_of counts) v.minor ▸ sign signs.Right) (where_is (v.minor ≡ 0) (sign signs.Right))
+head_attribute counts (Guid g) = sign (codes "uuid") ▸ sign (codes "(") ▸ one guid_of g ▸ sign (codes ")")
+head_attribute counts (Numbered v) = sign (codes "version") ▸ sign (codes "(") ▸ one (part_of counts) v.major ▸
+    either_of (sign (codes ".") ▸ one (part_of counts) v.minor ▸ sign (codes ")")) (where_is (v.minor ≡ 0) (sign (codes ")")))
 head_attribute counts HeadHelp = help
 
 -- version 0.0 where none is given
@@ -88,11 +86,11 @@ head counts h = attributes (head_attribute counts) head_may head_grow head_finis
 -- ---- type = a type word | "SAFEARRAY" "(" type word of an element ")"
 
 abbrev pub type_word : Bool → VarType → Form
-type_word in_array t = either_of (sign signs.Unsigned ▸ one (type_of in_array true) t) (one (type_of in_array false) t)
+type_word in_array t = either_of (sign (codes "unsigned") ▸ one (type_of in_array true) t) (one (type_of in_array false) t)
 
 unfoldable pub value_type : ValueType → Form
 value_type (values.One t) = type_word false t
-value_type (values.Array t) = sign signs.SafeArray ▸ sign signs.Left ▸ type_word true t ▸ sign signs.Right
+value_type (values.Array t) = sign (codes "SAFEARRAY") ▸ sign (codes "(") ▸ type_word true t ▸ sign (codes ")")
 
 -- ---- prop = "[" att {"," att} "]" type name ";"    att = "id" "(" ["-"] num ")" | "readonly" | help
 
@@ -102,11 +100,11 @@ pub data PropertyAttribute : Type 0 where
   PropertyHelp : PropertyAttribute
 
 abbrev pub id_form : ℤ → Form
-id_form i = either_of (sign signs.Minus ▸ one (id_of true) i) (one (id_of false) i)
+id_form i = either_of (sign (codes "-") ▸ one (id_of true) i) (one (id_of false) i)
 
 abbrev pub property_attribute : PropertyAttribute → Form
-property_attribute (Id i) = sign signs.Id ▸ sign signs.Left ▸ id_form i ▸ sign signs.Right
-property_attribute Readonly = sign signs.Readonly
+property_attribute (Id i) = sign (codes "id") ▸ sign (codes "(") ▸ id_form i ▸ sign (codes ")")
+property_attribute Readonly = sign (codes "readonly")
 property_attribute PropertyHelp = help
 
 abbrev pub no_property : PropertySeen
@@ -134,7 +132,7 @@ unfoldable pub property_head : PropertyHead → Form
 property_head h = attributes property_attribute property_may property_grow property_finish no_property h
 
 abbrev pub property : Property → Form
-property p = property_head (record { id = p.id; readonly = p.readonly }) ▸ value_type p.value_type ▸ one name_of p.name ▸ sign signs.Semicolon ▸ nothing
+property p = property_head (record { id = p.id; readonly = p.readonly }) ▸ value_type p.value_type ▸ one name_of p.name ▸ sign (codes ";") ▸ nothing
 
 -- ---- param = ["[" patt {"," patt} "]"] type name    patt = "in" | "optional" | "defaultvalue" "(" literal ")"
 
@@ -143,17 +141,17 @@ abbrev pub one_more : {A : Type 0} → ℕ → A → ℕ
 one_more n x = n + 1
 
 abbrev pub closing : {S : Type 0} → S → Unit {0} → Form
-closing s x = sign signs.Finish
+closing s x = sign (codes "}")
 
 -- literal = ["-"] number | string | "TRUE" | "FALSE"
 abbrev pub amount : ℤ → Form
-amount i = either_of (sign signs.Minus ▸ one (amount_of true) i) (one (amount_of false) i)
+amount i = either_of (sign (codes "-") ▸ one (amount_of true) i) (one (amount_of false) i)
 
 unfoldable pub literal : Literal → Form
 literal (literals.Number i) = amount i
 literal (literals.Text cs) = one characters_of cs
-literal (literals.Bool true) = sign signs.True
-literal (literals.Bool false) = sign signs.False
+literal (literals.Bool true) = sign (codes "TRUE")
+literal (literals.Bool false) = sign (codes "FALSE")
 
 pub data ParameterAttribute : Type 0 where
   IsIn : ParameterAttribute
@@ -161,9 +159,9 @@ pub data ParameterAttribute : Type 0 where
   HasDefault : Literal → ParameterAttribute
 
 abbrev pub parameter_attribute : ParameterAttribute → Form
-parameter_attribute IsIn = sign signs.In
-parameter_attribute IsOptional = sign signs.Optional
-parameter_attribute (HasDefault v) = sign signs.DefaultValue ▸ sign signs.Left ▸ literal v ▸ sign signs.Right
+parameter_attribute IsIn = sign (codes "in")
+parameter_attribute IsOptional = sign (codes "optional")
+parameter_attribute (HasDefault v) = sign (codes "defaultvalue") ▸ sign (codes "(") ▸ literal v ▸ sign (codes ")")
 
 abbrev pub no_parameter : ParameterSeen
 no_parameter = record { is_in = false; is_optional = false; default = None }
@@ -204,12 +202,12 @@ pub data MethodAttribute : Type 0 where
   MethodHelp : MethodAttribute
 
 abbrev pub numbered : ℤ → Form
-numbered i = sign signs.Id ▸ sign signs.Left ▸ id_form i ▸ sign signs.Right
+numbered i = sign (codes "id") ▸ sign (codes "(") ▸ id_form i ▸ sign (codes ")")
 
 abbrev pub method_attribute : MethodAttribute → Form
 method_attribute (MethodId i) = numbered i
-method_attribute Propget = sign signs.Propget
-method_attribute Propput = sign signs.Propput
+method_attribute Propget = sign (codes "propget")
+method_attribute Propput = sign (codes "propput")
 method_attribute MethodHelp = help
 
 abbrev pub no_method : MethodSeen
@@ -257,13 +255,13 @@ may_have_type forms.Get = true
 may_have_type forms.Put = false
 
 unfoldable pub result_type : MethodKind → Option ValueType → Form
-result_type k None = where_is (may_be_void k ≡ true) (sign signs.Void)
+result_type k None = where_is (may_be_void k ≡ true) (sign (codes "void"))
 result_type k (Some t) = where_is (may_have_type k ≡ true) (value_type t)
 
 -- a parameter that is the first, or not
 abbrev pub separated : Bool → Parameter → Form
 separated true p = parameter p
-separated false p = sign signs.Comma ▸ parameter p
+separated false p = sign (codes ",") ▸ parameter p
 
 abbrev pub next_parameter : ℕ → Parameter → Form
 next_parameter n p = separated (n == 0) p
@@ -275,10 +273,10 @@ may_end forms.Get n = true
 may_end forms.Put n = not (n == 0)
 
 abbrev pub last_parameter : MethodKind → ℕ → Unit {0} → Form
-last_parameter k n x = where_is (may_end k n ≡ true) (sign signs.Right)
+last_parameter k n x = where_is (may_end k n ≡ true) (sign (codes ")"))
 
 abbrev pub method_body : MethodKind → MethodValue → Form
-method_body k m = result_type k m.value_type ▸ one name_of m.name ▸ sign signs.Left ▸ listed next_parameter one_more nowhere (last_parameter k) 0 m.parameters tt ▸ sign signs.Semicolon ▸ nothing
+method_body k m = result_type k m.value_type ▸ one name_of m.name ▸ sign (codes "(") ▸ listed next_parameter one_more nowhere (last_parameter k) 0 m.parameters tt ▸ sign (codes ";") ▸ nothing
 
 unfoldable pub method : MethodValue → Form
 method m = method_head (record { id = m.id; kind = m.kind }) ▸ method_body m.kind m
@@ -287,24 +285,24 @@ method m = method_head (record { id = m.id; kind = m.kind }) ▸ method_body m.k
 
 -- the second section, after n members of the first, and the brace that closes the interface
 abbrev pub methods : ℕ → List MethodValue → Form
-methods n ms = either_of (sign signs.Methods ▸ sign signs.Colon ▸ listed (λ k. method) one_more nowhere closing n ms tt) (where_is (ms ≡ []) (sign signs.Finish))
+methods n ms = either_of (sign (codes "methods") ▸ sign (codes ":") ▸ listed (λ k. method) one_more nowhere closing n ms tt) (where_is (ms ≡ []) (sign (codes "}")))
 
 abbrev pub members : List Property → List MethodValue → Form
-members ps ms = either_of (sign signs.Properties ▸ sign signs.Colon ▸ listed (λ n. property) one_more nowhere methods 0 ps ms) (where_is (ps ≡ []) (methods 0 ms))
+members ps ms = either_of (sign (codes "properties") ▸ sign (codes ":") ▸ listed (λ n. property) one_more nowhere methods 0 ps ms) (where_is (ps ≡ []) (methods 0 ms))
 
 abbrev pub interface : List ℕ → List Property → List MethodValue → Form
-interface name ps ms = sign signs.Dispinterface ▸ one name_of name ▸ sign signs.Begin ▸ members ps ms ▸ nothing
+interface name ps ms = sign (codes "dispinterface") ▸ one name_of name ▸ sign (codes "{") ▸ members ps ms ▸ nothing
 
 -- ---- class = attrs "coclass" name "{" entry {entry} "}"    entry = ["[" "default" "]"] ("dispinterface" | "interface") name ";"
 
 abbrev pub entry_word : Word → Bool
-entry_word w = passes signs.Dispinterface w || passes signs.Interface w
+entry_word w = passes (codes "dispinterface") w || passes (codes "interface") w
 
 abbrev pub named : Entry → Form
-named e = this entry_word ▸ one name_of e.interface ▸ sign signs.Semicolon ▸ nothing
+named e = this entry_word ▸ one name_of e.interface ▸ sign (codes ";") ▸ nothing
 
 abbrev pub entry_by : Bool → Entry → Form
-entry_by true e = sign signs.Open ▸ sign signs.Default ▸ sign signs.Close ▸ named e
+entry_by true e = sign (codes "[") ▸ sign (codes "default") ▸ sign (codes "]") ▸ named e
 entry_by false e = named e
 
 abbrev pub no_entry : EntriesSeen
@@ -322,10 +320,10 @@ entry s e = where_is (entry_may s e ≡ true) (entry_by e.is_default e)
 
 -- at least one entry
 abbrev pub last_entry : EntriesSeen → Unit {0} → Form
-last_entry s x = where_is (s.some ≡ true) (sign signs.Finish)
+last_entry s x = where_is (s.some ≡ true) (sign (codes "}"))
 
 abbrev pub coclass : List ℕ → List Entry → Form
-coclass name es = sign signs.Coclass ▸ one name_of name ▸ sign signs.Begin ▸ listed entry entry_grow nowhere last_entry no_entry es tt ▸ nothing
+coclass name es = sign (codes "coclass") ▸ one name_of name ▸ sign (codes "{") ▸ listed entry entry_grow nowhere last_entry no_entry es tt ▸ nothing
 
 -- ---- text = attrs "library" name "{" {import | (disp | class) [";"]} "}" [";"]    import = "importlib" "(" string ")" ";"
 
@@ -346,7 +344,7 @@ pub data Content : Type 0 where
   OfItem : Item → Content
 
 abbrev pub importing : Form
-importing = sign signs.Importlib ▸ sign signs.Left ▸ this is_text ▸ sign signs.Right ▸ sign signs.Semicolon
+importing = sign (codes "importlib") ▸ sign (codes "(") ▸ this is_text ▸ sign (codes ")") ▸ sign (codes ";")
 
 unfoldable pub element : Content → Form
 element Import = importing
@@ -354,7 +352,7 @@ element (OfItem x) = item x
 
 abbrev pub semicolon_after : Content → Word → Bool
 semicolon_after Import w = false
-semicolon_after (OfItem x) w = passes signs.Semicolon w
+semicolon_after (OfItem x) w = passes (codes ";") w
 
 -- how many interfaces and coclasses came before
 abbrev pub no_items : ItemsSeen
@@ -378,5 +376,5 @@ unfoldable pub elements : List Item → Form
 elements xs = with (λ es. listed (λ s. element) elements_grow semicolon_after closing no_items es tt) (λ es. given (xs ≡ items_in es))
 
 abbrev pub library : TreeValue → Form
-library t = head true (record { guid = t.guid; version = t.version }) ▸ sign signs.Library ▸ one name_of t.name ▸ sign signs.Begin ▸
-    elements t.items ▸ optional (sign signs.Semicolon) ▸ sign signs.End ▸ nothing
+library t = head true (record { guid = t.guid; version = t.version }) ▸ sign (codes "library") ▸ one name_of t.name ▸ sign (codes "{") ▸
+    elements t.items ▸ optional (sign (codes ";")) ▸ sign [] ▸ nothing

@@ -1,12 +1,10 @@
 -- The grammar as functions that read.
-use Rattle.std.specs.Prelude.{ℕ, ◌&&◌, ◌||◌, ◌==◌, Bool, true, false, not, List, [], length, Option, Some, None, ℤ, is_some}
+use Rattle.std.specs.Prelude.{ℕ, ◌&&◌, ◌||◌, ◌==◌, Bool, true, false, not, List, [], length, Option, Some, None, ℤ, is_some, codes}
 use Rattle.oa_model.specs.Limits.{max_interfaces, max_coclasses, max_members, max_parameters}
 use Rattle.oa_model.specs.declared.var_type.VarType.{VarType}
 use Rattle.oa_model.specs.declared.var_type.ValueType.{ValueType}
 use Rattle.oa_model.specs.declared.var_type.ValueType.TheVariants as values
 use Rattle.oa_idl.specs.declared.stop.TreeLimit.TheVariants as limits
-use Rattle.oa_idl.specs.declared.sign.Sign.{Sign}
-use Rattle.oa_idl.specs.declared.sign.Sign.TheVariants as signs
 use Rattle.oa_idl.specs.declared.parts.Property.{Property}
 use Rattle.oa_idl.specs.declared.parts.Entry.{Entry}
 use Rattle.oa_idl.specs.declared.parts.Literal.{Literal}
@@ -36,7 +34,7 @@ use Rattle.oa_idl.specs.Grammar.ParameterAttribute.{IsIn, IsOptional, HasDefault
 use Rattle.oa_idl.specs.Grammar.MethodAttribute.{MethodId, Propget, Propput, MethodHelp}
 use Rattle.oa_idl.specs.Grammar.Content.{Import, OfItem}
 
-abbrev pub sign_at : Sign → Reading (Unit {0})
+abbrev pub sign_at : List ℕ → Reading (Unit {0})
 sign_at s = this_at (passes s)
 
 -- ---- lists of attributes
@@ -47,38 +45,38 @@ grown_at attribute grow s = attribute s >>= λ x. give (grow s x)
 
 -- a comma cannot stand after all attributes that there are
 abbrev pub next_at : {S A : Type 0} → (S → Reading A) → (S → A → S) → (S → Bool) → S → Reading A
-next_at attribute grow full s = require (not (full s)) (sign_at signs.Comma >>= λ _. attribute s)
+next_at attribute grow full s = require (not (full s)) (sign_at (codes ",") >>= λ _. attribute s)
 
 abbrev pub next_grown_at : {S A : Type 0} → (S → Reading A) → (S → A → S) → (S → Bool) → S → Reading S
 next_grown_at attribute grow full s = next_at attribute grow full s >>= λ x. give (grow s x)
 
 abbrev pub last_at : {S B : Type 0} → (S → Option B) → S → Reading B
-last_at finish s = demand (finish s) (λ b. sign_at signs.Close >>= λ _. give b)
+last_at finish s = demand (finish s) (λ b. sign_at (codes "]") >>= λ _. give b)
 
 abbrev pub attributes_at : {S A B : Type 0} → (S → Reading A) → (S → A → S) → (S → Bool) → (S → Option B) → S → Reading B
-attributes_at attribute grow full finish s = sign_at signs.Open >>= λ _. grown_at attribute grow s >>= λ t. gather_at (passes signs.Close) (next_grown_at attribute grow full) (last_at finish) t
+attributes_at attribute grow full finish s = sign_at (codes "[") >>= λ _. grown_at attribute grow s >>= λ t. gather_at (passes (codes "]")) (next_grown_at attribute grow full) (last_at finish) t
 
 unfoldable pub help_at : Reading (Unit {0})
-help_at = sign_at signs.Helpstring >>= λ _. sign_at signs.Left >>= λ _. this_at is_text >>= λ _. sign_at signs.Right
+help_at = sign_at (codes "helpstring") >>= λ _. sign_at (codes "(") >>= λ _. this_at is_text >>= λ _. sign_at (codes ")")
 
 -- ---- attributes of libraries and items
 
 -- the second part of a version, and the bracket that closes it
 unfoldable pub minor_at : Bool → Reading ℕ
-minor_at counts = choose (passes signs.Dot)
-    (sign_at signs.Dot >>= λ _. one_at (part_of counts) never_over >>= λ n. sign_at signs.Right >>= λ _. give n)
-    (sign_at signs.Right >>= λ _. give 0)
+minor_at counts = choose (passes (codes "."))
+    (sign_at (codes ".") >>= λ _. one_at (part_of counts) never_over >>= λ n. sign_at (codes ")") >>= λ _. give n)
+    (sign_at (codes ")") >>= λ _. give 0)
 
 unfoldable pub uuid_at : Reading HeadAttribute
-uuid_at = sign_at signs.Uuid >>= λ _. sign_at signs.Left >>= λ _. one_at guid_of never_over >>= λ g. sign_at signs.Right >>= λ _. give (Guid g)
+uuid_at = sign_at (codes "uuid") >>= λ _. sign_at (codes "(") >>= λ _. one_at guid_of never_over >>= λ g. sign_at (codes ")") >>= λ _. give (Guid g)
 
 unfoldable pub version_at : Bool → Reading HeadAttribute
-version_at counts = sign_at signs.Version >>= λ _. sign_at signs.Left >>= λ _. one_at (part_of counts) never_over >>= λ a. minor_at counts >>= λ b. give (Numbered (record { major = a; minor = b }))
+version_at counts = sign_at (codes "version") >>= λ _. sign_at (codes "(") >>= λ _. one_at (part_of counts) never_over >>= λ a. minor_at counts >>= λ b. give (Numbered (record { major = a; minor = b }))
 
 unfoldable pub head_attribute_at : Bool → HeadSeen → Reading HeadAttribute
-head_attribute_at counts s = choose (passes signs.Uuid)
+head_attribute_at counts s = choose (passes (codes "uuid"))
     (require (not s.uuid) uuid_at)
-    (choose (passes signs.Version)
+    (choose (passes (codes "version"))
     (require (not s.version) (version_at counts))
     (require (not s.help) (help_at >>= λ _. give HeadHelp)))
 
@@ -91,30 +89,30 @@ head_at counts = attributes_at (head_attribute_at counts) head_grow head_full he
 -- ---- types
 
 unfoldable pub type_word_at : Bool → Reading VarType
-type_word_at in_array = choose (passes signs.Unsigned)
-    (sign_at signs.Unsigned >>= λ _. one_at (type_of in_array true) never_over)
+type_word_at in_array = choose (passes (codes "unsigned"))
+    (sign_at (codes "unsigned") >>= λ _. one_at (type_of in_array true) never_over)
     (one_at (type_of in_array false) never_over)
 
 unfoldable pub value_type_at : Reading ValueType
-value_type_at = choose (passes signs.SafeArray)
-    (sign_at signs.SafeArray >>= λ _. sign_at signs.Left >>= λ _. type_word_at true >>= λ t. sign_at signs.Right >>= λ _. give (values.Array t))
+value_type_at = choose (passes (codes "SAFEARRAY"))
+    (sign_at (codes "SAFEARRAY") >>= λ _. sign_at (codes "(") >>= λ _. type_word_at true >>= λ t. sign_at (codes ")") >>= λ _. give (values.Array t))
     (type_word_at false >>= λ t. give (values.One t))
 
 -- ---- properties
 
 unfoldable pub signed_at : Reading ℤ
-signed_at = choose (passes signs.Minus)
-    (sign_at signs.Minus >>= λ _. one_at (id_of true) never_over)
+signed_at = choose (passes (codes "-"))
+    (sign_at (codes "-") >>= λ _. one_at (id_of true) never_over)
     (one_at (id_of false) never_over)
 
 unfoldable pub id_at : Reading PropertyAttribute
-id_at = sign_at signs.Id >>= λ _. sign_at signs.Left >>= λ _. signed_at >>= λ i. sign_at signs.Right >>= λ _. give (Id i)
+id_at = sign_at (codes "id") >>= λ _. sign_at (codes "(") >>= λ _. signed_at >>= λ i. sign_at (codes ")") >>= λ _. give (Id i)
 
 unfoldable pub property_attribute_at : PropertySeen → Reading PropertyAttribute
-property_attribute_at s = choose (passes signs.Id)
+property_attribute_at s = choose (passes (codes "id"))
     (require (not (is_some s.id)) id_at)
-    (choose (passes signs.Readonly)
-    (require (not s.readonly) (sign_at signs.Readonly >>= λ _. give Readonly))
+    (choose (passes (codes "readonly"))
+    (require (not s.readonly) (sign_at (codes "readonly") >>= λ _. give Readonly))
     (require (not s.help) (help_at >>= λ _. give PropertyHelp)))
 
 abbrev pub property_full : PropertySeen → Bool
@@ -125,31 +123,31 @@ property_head_at = attributes_at property_attribute_at property_grow property_fu
 
 -- a property after n members of its interface
 unfoldable pub property_at : ℕ → Reading Property
-property_at n = property_head_at >>= λ h. value_type_at >>= λ t. one_at name_of (over limits.Members max_members n) >>= λ name. sign_at signs.Semicolon >>= λ _.
+property_at n = property_head_at >>= λ h. value_type_at >>= λ t. one_at name_of (over limits.Members max_members n) >>= λ name. sign_at (codes ";") >>= λ _.
     give (record { id = h.id; readonly = h.readonly; value_type = t; name = name })
 
 abbrev pub closing_at : {S : Type 0} → S → Reading (Unit {0})
-closing_at s = sign_at signs.Finish
+closing_at s = sign_at (codes "}")
 
 -- ---- parameters
 
 unfoldable pub amount_at : Reading ℤ
-amount_at = choose (passes signs.Minus)
-    (sign_at signs.Minus >>= λ _. one_at (amount_of true) never_over)
+amount_at = choose (passes (codes "-"))
+    (sign_at (codes "-") >>= λ _. one_at (amount_of true) never_over)
     (one_at (amount_of false) never_over)
 
 unfoldable pub literal_at : Reading Literal
-literal_at = choose (passes signs.True) (sign_at signs.True >>= λ _. give (literals.Bool true))
-    (choose (passes signs.False) (sign_at signs.False >>= λ _. give (literals.Bool false))
+literal_at = choose (passes (codes "TRUE")) (sign_at (codes "TRUE") >>= λ _. give (literals.Bool true))
+    (choose (passes (codes "FALSE")) (sign_at (codes "FALSE") >>= λ _. give (literals.Bool false))
     (choose is_text (one_at characters_of never_over >>= λ cs. give (literals.Text cs))
     (amount_at >>= λ i. give (literals.Number i))))
 
 unfoldable pub default_at : Reading Literal
-default_at = sign_at signs.DefaultValue >>= λ _. sign_at signs.Left >>= λ _. literal_at >>= λ v. sign_at signs.Right >>= λ _. give v
+default_at = sign_at (codes "defaultvalue") >>= λ _. sign_at (codes "(") >>= λ _. literal_at >>= λ v. sign_at (codes ")") >>= λ _. give v
 
 unfoldable pub parameter_attribute_at : ParameterSeen → Reading ParameterAttribute
-parameter_attribute_at s = choose (passes signs.In) (require (not s.is_in) (sign_at signs.In) >>= λ _. give IsIn)
-    (choose (passes signs.Optional) (require (not s.is_optional) (sign_at signs.Optional) >>= λ _. give IsOptional)
+parameter_attribute_at s = choose (passes (codes "in")) (require (not s.is_in) (sign_at (codes "in")) >>= λ _. give IsIn)
+    (choose (passes (codes "optional")) (require (not s.is_optional) (sign_at (codes "optional")) >>= λ _. give IsOptional)
     (require (not (is_some s.default)) default_at >>= λ v. give (HasDefault v)))
 
 abbrev pub parameter_full : ParameterSeen → Bool
@@ -164,31 +162,31 @@ typed_at n h = value_type_at >>= λ t. one_at name_of (over limits.Params max_pa
     give (record { is_in = h.is_in; is_optional = h.is_optional; default = h.default; value_type = t; name = name })
 
 unfoldable pub parameter_at : ℕ → Reading Parameter
-parameter_at n = choose (passes signs.Open) (parameter_head_at >>= λ h. typed_at n h) (typed_at n no_parameter)
+parameter_at n = choose (passes (codes "[")) (parameter_head_at >>= λ h. typed_at n h) (typed_at n no_parameter)
 
 -- the first, or another behind its comma
 unfoldable pub separated_at : ℕ → Bool → Reading Parameter
 separated_at n true = parameter_at n
-separated_at n false = sign_at signs.Comma >>= λ _. parameter_at n
+separated_at n false = sign_at (codes ",") >>= λ _. parameter_at n
 
 abbrev pub next_parameter_at : ℕ → Reading Parameter
 next_parameter_at n = separated_at n (n == 0)
 
 abbrev pub last_parameter_at : MethodKind → ℕ → Reading (Unit {0})
-last_parameter_at k n = require (may_end k n) (sign_at signs.Right)
+last_parameter_at k n = require (may_end k n) (sign_at (codes ")"))
 
 unfoldable pub parameters_at : MethodKind → Reading (List Parameter × Unit {0})
-parameters_at k = list_at (passes signs.Right) nowhere next_parameter_at one_more (last_parameter_at k) 0
+parameters_at k = list_at (passes (codes ")")) nowhere next_parameter_at one_more (last_parameter_at k) 0
 
 -- ---- methods
 
 unfoldable pub numbered_at : Reading ℤ
-numbered_at = sign_at signs.Id >>= λ _. sign_at signs.Left >>= λ _. signed_at >>= λ i. sign_at signs.Right >>= λ _. give i
+numbered_at = sign_at (codes "id") >>= λ _. sign_at (codes "(") >>= λ _. signed_at >>= λ i. sign_at (codes ")") >>= λ _. give i
 
 unfoldable pub method_attribute_at : MethodSeen → Reading MethodAttribute
-method_attribute_at s = choose (passes signs.Id) (require (not (is_some s.id)) numbered_at >>= λ i. give (MethodId i))
-    (choose (passes signs.Propget) (require (not (is_form s.kind)) (sign_at signs.Propget) >>= λ _. give Propget)
-    (choose (passes signs.Propput) (require (not (is_form s.kind)) (sign_at signs.Propput) >>= λ _. give Propput)
+method_attribute_at s = choose (passes (codes "id")) (require (not (is_some s.id)) numbered_at >>= λ i. give (MethodId i))
+    (choose (passes (codes "propget")) (require (not (is_form s.kind)) (sign_at (codes "propget")) >>= λ _. give Propget)
+    (choose (passes (codes "propput")) (require (not (is_form s.kind)) (sign_at (codes "propput")) >>= λ _. give Propput)
     (require (not s.help) help_at >>= λ _. give MethodHelp)))
 
 abbrev pub method_full : MethodSeen → Bool
@@ -198,12 +196,12 @@ unfoldable pub method_head_at : Reading MethodHead
 method_head_at = attributes_at method_attribute_at method_grow method_full method_finish no_method
 
 unfoldable pub result_type_at : MethodKind → Reading (Option ValueType)
-result_type_at k = choose (passes signs.Void) (require (may_be_void k) (sign_at signs.Void) >>= λ _. give None)
+result_type_at k = choose (passes (codes "void")) (require (may_be_void k) (sign_at (codes "void")) >>= λ _. give None)
     (require (may_have_type k) value_type_at >>= λ t. give (Some t))
 
 -- what follows the attributes of a method after n members of its interface
 unfoldable pub method_body_at : ℕ → MethodHead → Reading MethodValue
-method_body_at n h = result_type_at h.kind >>= λ t. one_at name_of (over limits.Members max_members n) >>= λ name. sign_at signs.Left >>= λ _. parameters_at h.kind >>= λ ps. sign_at signs.Semicolon >>= λ _.
+method_body_at n h = result_type_at h.kind >>= λ t. one_at name_of (over limits.Members max_members n) >>= λ name. sign_at (codes "(") >>= λ _. parameters_at h.kind >>= λ ps. sign_at (codes ";") >>= λ _.
     give (record { id = h.id; kind = h.kind; value_type = t; name = name; parameters = ps.0 })
 
 unfoldable pub method_at : ℕ → Reading MethodValue
@@ -212,61 +210,61 @@ method_at n = method_head_at >>= λ h. method_body_at n h
 -- ---- members
 
 unfoldable pub methods_at : ℕ → Reading (List MethodValue)
-methods_at n = choose (passes signs.Methods)
-    (sign_at signs.Methods >>= λ _. sign_at signs.Colon >>= λ _. list_at (passes signs.Finish) nowhere method_at one_more closing_at n >>= λ ms. give ms.0)
-    (sign_at signs.Finish >>= λ _. give [])
+methods_at n = choose (passes (codes "methods"))
+    (sign_at (codes "methods") >>= λ _. sign_at (codes ":") >>= λ _. list_at (passes (codes "}")) nowhere method_at one_more closing_at n >>= λ ms. give ms.0)
+    (sign_at (codes "}") >>= λ _. give [])
 
 -- the first section ends before the second, or before the brace
 abbrev pub ends_properties : Word → Bool
-ends_properties w = passes signs.Methods w || passes signs.Finish w
+ends_properties w = passes (codes "methods") w || passes (codes "}") w
 
 unfoldable pub members_at : Reading (List Property × List MethodValue)
-members_at = choose (passes signs.Properties)
-    (sign_at signs.Properties >>= λ _. sign_at signs.Colon >>= λ _. list_at ends_properties nowhere property_at one_more methods_at 0)
+members_at = choose (passes (codes "properties"))
+    (sign_at (codes "properties") >>= λ _. sign_at (codes ":") >>= λ _. list_at ends_properties nowhere property_at one_more methods_at 0)
     (methods_at 0 >>= λ ms. give ([], ms))
 
 unfoldable pub interface_at : ItemsSeen → List ℕ → Reading Item
-interface_at s guid = sign_at signs.Dispinterface >>= λ _. one_at name_of (over limits.Interfaces max_interfaces s.interfaces) >>= λ name. sign_at signs.Begin >>= λ _. members_at >>= λ all.
+interface_at s guid = sign_at (codes "dispinterface") >>= λ _. one_at name_of (over limits.Interfaces max_interfaces s.interfaces) >>= λ name. sign_at (codes "{") >>= λ _. members_at >>= λ all.
     give (items.Interface (record { guid = guid; name = name; properties = all.0; methods = all.1 }))
 
 -- ---- coclasses
 
 unfoldable pub named_at : Bool → Reading Entry
-named_at is_default = this_at entry_word >>= λ _. one_at name_of too_long >>= λ name. sign_at signs.Semicolon >>= λ _. give (record { is_default = is_default; interface = name })
+named_at is_default = this_at entry_word >>= λ _. one_at name_of too_long >>= λ name. sign_at (codes ";") >>= λ _. give (record { is_default = is_default; interface = name })
 
 unfoldable pub entry_at : EntriesSeen → Reading Entry
-entry_at s = choose (passes signs.Open)
-    (require (not s.default) (sign_at signs.Open >>= λ _. sign_at signs.Default >>= λ _. sign_at signs.Close >>= λ _. named_at true))
+entry_at s = choose (passes (codes "["))
+    (require (not s.default) (sign_at (codes "[") >>= λ _. sign_at (codes "default") >>= λ _. sign_at (codes "]") >>= λ _. named_at true))
     (named_at false)
 
 abbrev pub last_entry_at : EntriesSeen → Reading (Unit {0})
-last_entry_at s = require s.some (sign_at signs.Finish)
+last_entry_at s = require s.some (sign_at (codes "}"))
 
 unfoldable pub entries_at : Reading (List Entry × Unit {0})
-entries_at = list_at (passes signs.Finish) nowhere entry_at entry_grow last_entry_at no_entry
+entries_at = list_at (passes (codes "}")) nowhere entry_at entry_grow last_entry_at no_entry
 
 unfoldable pub coclass_at : ItemsSeen → List ℕ → Reading Item
-coclass_at s guid = sign_at signs.Coclass >>= λ _. one_at name_of (over limits.Coclasses max_coclasses s.coclasses) >>= λ name. sign_at signs.Begin >>= λ _. entries_at >>= λ es.
+coclass_at s guid = sign_at (codes "coclass") >>= λ _. one_at name_of (over limits.Coclasses max_coclasses s.coclasses) >>= λ name. sign_at (codes "{") >>= λ _. entries_at >>= λ es.
     give (items.Coclass (record { guid = guid; name = name; entries = es.0 }))
 
 -- ---- a text
 
 unfoldable pub item_at : ItemsSeen → Reading Item
-item_at s = head_at false >>= λ h. choose (passes signs.Dispinterface) (interface_at s h.guid) (coclass_at s h.guid)
+item_at s = head_at false >>= λ h. choose (passes (codes "dispinterface")) (interface_at s h.guid) (coclass_at s h.guid)
 
 unfoldable pub import_at : Reading (Unit {0})
-import_at = sign_at signs.Importlib >>= λ _. sign_at signs.Left >>= λ _. this_at is_text >>= λ _. sign_at signs.Right >>= λ _. sign_at signs.Semicolon
+import_at = sign_at (codes "importlib") >>= λ _. sign_at (codes "(") >>= λ _. this_at is_text >>= λ _. sign_at (codes ")") >>= λ _. sign_at (codes ";")
 
 unfoldable pub element_at : ItemsSeen → Reading Content
-element_at s = choose (passes signs.Importlib) (import_at >>= λ _. give Import) (item_at s >>= λ x. give (OfItem x))
+element_at s = choose (passes (codes "importlib")) (import_at >>= λ _. give Import) (item_at s >>= λ x. give (OfItem x))
 
 -- the items of at most so many imports and items
 unfoldable pub elements_within : ℕ → Reading (List Item)
-elements_within n = until (passes signs.Finish) semicolon_after element_at elements_grow closing_at n no_items >>= λ es. give (items_in es.0)
+elements_within n = until (passes (codes "}")) semicolon_after element_at elements_grow closing_at n no_items >>= λ es. give (items_in es.0)
 
 unfoldable pub elements_at : Reading (List Item)
 elements_at words = elements_within (length words) words
 
 unfoldable pub library_at : Reading TreeValue
-library_at = head_at true >>= λ h. sign_at signs.Library >>= λ _. one_at name_of too_long >>= λ name. sign_at signs.Begin >>= λ _. elements_at >>= λ xs.
-    perhaps_at (passes signs.Semicolon) >>= λ _. sign_at signs.End >>= λ _. give (record { guid = h.guid; version = h.version; name = name; items = xs })
+library_at = head_at true >>= λ h. sign_at (codes "library") >>= λ _. one_at name_of too_long >>= λ name. sign_at (codes "{") >>= λ _. elements_at >>= λ xs.
+    perhaps_at (passes (codes ";")) >>= λ _. sign_at [] >>= λ _. give (record { guid = h.guid; version = h.version; name = name; items = xs })

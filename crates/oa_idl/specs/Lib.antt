@@ -5,6 +5,7 @@ pub mod Grammar
 pub mod GrammarReading
 pub mod IsTree
 pub mod Limits
+pub mod Marked
 pub mod MethodValues
 pub mod Parsed
 pub mod Printable

@@ -87,10 +87,6 @@ abbrev pub AreEntries : EntriesSeen → List Entry → Type 0
 AreEntries s [] = s.some ≡ true
 AreEntries s (e ∷ es) = (entry_may s e ≡ true) × IsName e.interface × AreEntries (entry_grow s e) es
 
--- the same entry as the default, which no text has to mark
-abbrev pub marked_first : Entry → Entry
-marked_first e = record { is_default = true; interface = e.interface }
-
 abbrev pub IsItem : Item → Type 0
 IsItem (items.Interface d) = IsGuid d.guid × IsName d.name × AllByRecursion IsProperty d.properties × AllByRecursion IsMethod d.methods
 IsItem (items.Coclass c) = IsGuid c.guid × IsName c.name × AreEntries no_entry c.entries

@@ -40,6 +40,11 @@ pub data AreTokens : ℕ → List ℕ → List Token → Type 0 where
   Next : (p n : ℕ) (kind : Kind) (bs : List ℕ) (ts : List Token) → 0 < length bs → front bs ≡ Word kind n → AreTokens (p + n) (drop n bs) ts → AreTokens p bs (token kind p (p + n) ∷ ts)
   Rest : (p : ℕ) (bs : List ℕ) → 0 < length bs → front bs ≡ Broken → AreTokens p bs (token Junk p (p + length bs) ∷ [])
 
+-- Each token has a byte at least and begins behind those before it, from one place on; the last ends at another or before.
+abbrev pub AreInOrder : ℕ → ℕ → List Token → Type 0
+AreInOrder from end [] = from ≤ end
+AreInOrder from end (t ∷ ts) = (from ≤ t.start) × (t.start < t.end) × AreInOrder t.end end ts
+
 -- what is at the front has a byte at least, and lies within
 abbrev pub IsPiece : Piece → ℕ → Type 0
 IsPiece (Word kind n) len = (0 < n) × (n ≤ len)

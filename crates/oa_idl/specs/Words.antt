@@ -1,6 +1,7 @@
 -- Words: what stands for itself, names, types, numbers and GUIDs.
 use Rattle.std.specs.Prelude.{◌≡◌, ℕ, ◌+◌, ◌-◌, ◌*◌, ◌^◌, ◌==◌, ◌<◌, ◌&&◌, ◌||◌, not, Bool, true, false, nat_lt, nat_le, if◌then◌else◌, List, [], ◌∷◌, ◌++◌, length, take, drop, get_or, map, codes, Option, Some, None, ℤ, pos, negsuc, neg_ℤ, is_some}
 use Rattle.std.specs.Int.{cast_signed, w32}
+use Rattle.std.specs.Char.{is_ascii_alphabetic}
 use Rattle.std.specs.Str.{bytes_eq}
 use Rattle.uuid.specs.Text.{parsed_hyphenated}
 use Rattle.oa_model.specs.declared.var_type.VarType.{VarType}
@@ -10,107 +11,14 @@ use Rattle.oa_model.specs.Types.{sf_type_of}
 use Rattle.oa_idl.specs.declared.lexer.Kind.{Kind}
 use Rattle.oa_idl.specs.declared.lexer.Kind.TheVariants as kinds
 use Rattle.oa_idl.specs.declared.lexer.Token.{Token}
-use Rattle.oa_idl.specs.declared.sign.Sign.{Sign}
-use Rattle.oa_idl.specs.declared.sign.Sign.TheVariants as signs
 use Rattle.oa_idl.specs.declared.stop.TreeLimit.{TreeLimit}
 use Rattle.oa_idl.specs.declared.stop.TreeLimit.TheVariants as limits
 use Rattle.oa_idl.specs.Forms.{Word}
 
-abbrev pub kind_of : Sign → Kind
-kind_of signs.Open = kinds.Mark
-kind_of signs.Close = kinds.Mark
-kind_of signs.Begin = kinds.Mark
-kind_of signs.Finish = kinds.Mark
-kind_of signs.Left = kinds.Mark
-kind_of signs.Right = kinds.Mark
-kind_of signs.Comma = kinds.Mark
-kind_of signs.Semicolon = kinds.Mark
-kind_of signs.Colon = kinds.Mark
-kind_of signs.Dot = kinds.Mark
-kind_of signs.Minus = kinds.Mark
-kind_of signs.End = kinds.End
-kind_of signs.Library = kinds.Name
-kind_of signs.Importlib = kinds.Name
-kind_of signs.Dispinterface = kinds.Name
-kind_of signs.Interface = kinds.Name
-kind_of signs.Coclass = kinds.Name
-kind_of signs.Properties = kinds.Name
-kind_of signs.Methods = kinds.Name
-kind_of signs.Void = kinds.Name
-kind_of signs.Unsigned = kinds.Name
-kind_of signs.SafeArray = kinds.Name
-kind_of signs.Char = kinds.Name
-kind_of signs.Short = kinds.Name
-kind_of signs.Long = kinds.Name
-kind_of signs.Int = kinds.Name
-kind_of signs.Hyper = kinds.Name
-kind_of signs.Currency = kinds.Name
-kind_of signs.VariantBool = kinds.Name
-kind_of signs.Scode = kinds.Name
-kind_of signs.Decimal = kinds.Name
-kind_of signs.Bstr = kinds.Name
-kind_of signs.Variant = kinds.Name
-kind_of signs.Uuid = kinds.Name
-kind_of signs.Version = kinds.Name
-kind_of signs.Helpstring = kinds.Name
-kind_of signs.Id = kinds.Name
-kind_of signs.Readonly = kinds.Name
-kind_of signs.Default = kinds.Name
-kind_of signs.Propget = kinds.Name
-kind_of signs.Propput = kinds.Name
-kind_of signs.In = kinds.Name
-kind_of signs.Optional = kinds.Name
-kind_of signs.DefaultValue = kinds.Name
-kind_of signs.True = kinds.Name
-kind_of signs.False = kinds.Name
-
-abbrev pub spelling : Sign → List ℕ
-spelling signs.Open = codes "["
-spelling signs.Close = codes "]"
-spelling signs.Begin = codes "{"
-spelling signs.Finish = codes "}"
-spelling signs.Left = codes "("
-spelling signs.Right = codes ")"
-spelling signs.Comma = codes ","
-spelling signs.Semicolon = codes ";"
-spelling signs.Colon = codes ":"
-spelling signs.Dot = codes "."
-spelling signs.Minus = codes "-"
-spelling signs.End = []
-spelling signs.Library = codes "library"
-spelling signs.Importlib = codes "importlib"
-spelling signs.Dispinterface = codes "dispinterface"
-spelling signs.Interface = codes "interface"
-spelling signs.Coclass = codes "coclass"
-spelling signs.Properties = codes "properties"
-spelling signs.Methods = codes "methods"
-spelling signs.Void = codes "void"
-spelling signs.Unsigned = codes "unsigned"
-spelling signs.SafeArray = codes "SAFEARRAY"
-spelling signs.Char = codes "char"
-spelling signs.Short = codes "short"
-spelling signs.Long = codes "long"
-spelling signs.Int = codes "int"
-spelling signs.Hyper = codes "hyper"
-spelling signs.Currency = codes "CURRENCY"
-spelling signs.VariantBool = codes "VARIANT_BOOL"
-spelling signs.Scode = codes "SCODE"
-spelling signs.Decimal = codes "DECIMAL"
-spelling signs.Bstr = codes "BSTR"
-spelling signs.Variant = codes "VARIANT"
-spelling signs.Uuid = codes "uuid"
-spelling signs.Version = codes "version"
-spelling signs.Helpstring = codes "helpstring"
-spelling signs.Id = codes "id"
-spelling signs.Readonly = codes "readonly"
-spelling signs.Default = codes "default"
-spelling signs.Propget = codes "propget"
-spelling signs.Propput = codes "propput"
-spelling signs.In = codes "in"
-spelling signs.Optional = codes "optional"
-spelling signs.DefaultValue = codes "defaultvalue"
-spelling signs.True = codes "TRUE"
-spelling signs.False = codes "FALSE"
+-- A sign is a word that stands for itself, by its bytes: a name, a mark, or the end of the text, which has none.
+abbrev pub kind_of : List ℕ → Kind
+kind_of [] = kinds.End
+kind_of (b ∷ bs) = if is_ascii_alphabetic b then kinds.Name else kinds.Mark
 
 abbrev pub same_kind : Kind → Kind → Bool
 same_kind kinds.Guid kinds.Guid = true
@@ -123,8 +31,8 @@ same_kind kinds.End kinds.End = true
 same_kind k l = false
 
 -- whether a word is this sign
-unfoldable pub passes : Sign → Word → Bool
-passes sign w = same_kind w.kind (kind_of sign) && bytes_eq w.text (spelling sign)
+unfoldable pub passes : List ℕ → Word → Bool
+passes sign w = same_kind w.kind (kind_of sign) && bytes_eq w.text sign
 
 -- a string in double quotes
 unfoldable pub is_text : Word → Bool
@@ -135,27 +43,27 @@ is_text w = same_kind w.kind kinds.Text
 -- the type that one word stands for (MS-OAUT section 2.2.7, under their IDL names)
 unfoldable pub plain_type : List ℕ → Option VarType
 plain_type text =
-    if bytes_eq text (spelling signs.Char) then Some types.I1
-    else if bytes_eq text (spelling signs.Short) then Some types.I2
-    else if bytes_eq text (spelling signs.Long) then Some types.I4
-    else if bytes_eq text (spelling signs.Int) then Some types.Int
-    else if bytes_eq text (spelling signs.Hyper) then Some types.I8
-    else if bytes_eq text (spelling signs.Currency) then Some types.Cy
-    else if bytes_eq text (spelling signs.VariantBool) then Some types.Bool
-    else if bytes_eq text (spelling signs.Scode) then Some types.Error
-    else if bytes_eq text (spelling signs.Decimal) then Some types.Decimal
-    else if bytes_eq text (spelling signs.Bstr) then Some types.Bstr
-    else if bytes_eq text (spelling signs.Variant) then Some types.Variant
+    if bytes_eq text (codes "char") then Some types.I1
+    else if bytes_eq text (codes "short") then Some types.I2
+    else if bytes_eq text (codes "long") then Some types.I4
+    else if bytes_eq text (codes "int") then Some types.Int
+    else if bytes_eq text (codes "hyper") then Some types.I8
+    else if bytes_eq text (codes "CURRENCY") then Some types.Cy
+    else if bytes_eq text (codes "VARIANT_BOOL") then Some types.Bool
+    else if bytes_eq text (codes "SCODE") then Some types.Error
+    else if bytes_eq text (codes "DECIMAL") then Some types.Decimal
+    else if bytes_eq text (codes "BSTR") then Some types.Bstr
+    else if bytes_eq text (codes "VARIANT") then Some types.Variant
     else None
 
 -- and the one that it stands for after `unsigned`
 unfoldable pub unsigned_type : List ℕ → Option VarType
 unsigned_type text =
-    if bytes_eq text (spelling signs.Char) then Some types.Ui1
-    else if bytes_eq text (spelling signs.Short) then Some types.Ui2
-    else if bytes_eq text (spelling signs.Long) then Some types.Ui4
-    else if bytes_eq text (spelling signs.Int) then Some types.Uint
-    else if bytes_eq text (spelling signs.Hyper) then Some types.Ui8
+    if bytes_eq text (codes "char") then Some types.Ui1
+    else if bytes_eq text (codes "short") then Some types.Ui2
+    else if bytes_eq text (codes "long") then Some types.Ui4
+    else if bytes_eq text (codes "int") then Some types.Uint
+    else if bytes_eq text (codes "hyper") then Some types.Ui8
     else None
 
 abbrev pub type_named : Bool → List ℕ → Option VarType
@@ -174,10 +82,10 @@ type_of in_array unsigned w = if same_kind w.kind kinds.Name then if_cell in_arr
 -- ---- names
 
 abbrev pub is_structure : List ℕ → Bool
-is_structure text = bytes_eq text (spelling signs.Library) || (bytes_eq text (spelling signs.Importlib) || (bytes_eq text (spelling signs.Dispinterface) || (bytes_eq text (spelling signs.Interface) || (bytes_eq text (spelling signs.Coclass) || bytes_eq text (spelling signs.Properties)))))
+is_structure text = bytes_eq text (codes "library") || (bytes_eq text (codes "importlib") || (bytes_eq text (codes "dispinterface") || (bytes_eq text (codes "interface") || (bytes_eq text (codes "coclass") || bytes_eq text (codes "properties")))))
 
 abbrev pub is_type_mark : List ℕ → Bool
-is_type_mark text = bytes_eq text (spelling signs.Methods) || (bytes_eq text (spelling signs.Void) || (bytes_eq text (spelling signs.Unsigned) || bytes_eq text (spelling signs.SafeArray)))
+is_type_mark text = bytes_eq text (codes "methods") || (bytes_eq text (codes "void") || (bytes_eq text (codes "unsigned") || bytes_eq text (codes "SAFEARRAY")))
 
 -- the words of the language, compared as they are written
 unfoldable pub is_reserved : List ℕ → Bool

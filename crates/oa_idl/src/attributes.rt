@@ -1,6 +1,5 @@
 // Lists of attributes.
-ghost use Rattle.std.specs.Prelude.{◌≡◌, ℤ};
-ghost use Rattle.oa_idl.specs.declared.sign.Sign.TheVariants as signs;
+ghost use Rattle.std.specs.Prelude.{◌≡◌, ℤ, codes};
 ghost use Rattle.oa_idl.specs.declared.seen.HeadSeen.{HeadSeen};
 ghost use Rattle.oa_idl.specs.declared.seen.PropertySeen.{PropertySeen};
 ghost use Rattle.oa_idl.specs.Words.{passes};
@@ -11,7 +10,6 @@ ghost use Rattle.oa_idl.specs.GrammarReading.{grown_at, next_grown_at, last_at, 
 use crate::parts::Version;
 use crate::reader::Reader;
 use crate::seen::{Head, HeadSeen, PropertyHead, PropertySeen};
-use crate::sign::Sign;
 use crate::stop::Stop;
 use uuid::Uuid;
 
@@ -19,10 +17,10 @@ use uuid::Uuid;
 pub(crate) fn help(r: &mut Reader<'_>) -> Result<(), Stop>
     ensures { Answers (λ _. done) result r.new (help_at r.old) }
 {
-    r.take(Sign::Helpstring)?;
-    r.take(Sign::Left)?;
+    r.take(b"helpstring")?;
+    r.take(b"(")?;
     r.text()?;
-    r.take(Sign::Right)
+    r.take(b")")
 }
 
 // ---- of a library or an item
@@ -32,13 +30,13 @@ pub(crate) fn help(r: &mut Reader<'_>) -> Result<(), Stop>
 fn minor(r: &mut Reader<'_>, counts: bool) -> Result<u16, Stop>
     ensures { Answers (λ n. n) result r.new (minor_at counts r.old) }
 {
-    if r.is(Sign::Dot) {
-        r.take(Sign::Dot)?;
+    if r.is(b".") {
+        r.take(b".")?;
         let minor = r.part(counts)?;
-        r.take(Sign::Right)?;
+        r.take(b")")?;
         return Ok(minor);
     }
-    r.take(Sign::Right)?;
+    r.take(b")")?;
     Ok(0)
 }
 
@@ -46,26 +44,26 @@ fn minor(r: &mut Reader<'_>, counts: bool) -> Result<u16, Stop>
 fn head_attribute(r: &mut Reader<'_>, counts: bool, seen: HeadSeen) -> Result<HeadSeen, Stop>
     ensures { Answers (λ s. s) result r.new (grown_at (head_attribute_at counts) head_grow seen r.old) }
 {
-    if r.is(Sign::Uuid) {
+    if r.is(b"uuid") {
         if seen.uuid {
             return Err(Stop::Syntax);
         }
-        r.take(Sign::Uuid)?;
-        r.take(Sign::Left)?;
+        r.take(b"uuid")?;
+        r.take(b"(")?;
         let guid = r.guid()?;
-        r.take(Sign::Right)?;
+        r.take(b")")?;
         return Ok(HeadSeen {
             uuid: true,
             head: Head { guid, ..seen.head },
             ..seen
         });
     }
-    if r.is(Sign::Version) {
+    if r.is(b"version") {
         if seen.version {
             return Err(Stop::Syntax);
         }
-        r.take(Sign::Version)?;
-        r.take(Sign::Left)?;
+        r.take(b"version")?;
+        r.take(b"(")?;
         let major = r.part(counts)?;
         let minor = minor(r, counts)?;
         return Ok(HeadSeen {
@@ -91,7 +89,7 @@ fn next_head_attribute(r: &mut Reader<'_>, counts: bool, seen: HeadSeen) -> Resu
     if seen.uuid && seen.version && seen.help {
         return Err(Stop::Syntax);
     }
-    r.take(Sign::Comma)?;
+    r.take(b",")?;
     head_attribute(r, counts, seen)
 }
 
@@ -102,7 +100,7 @@ fn last_head_attribute(r: &mut Reader<'_>, seen: HeadSeen) -> Result<Head, Stop>
     if !seen.uuid {
         return Err(Stop::Syntax);
     }
-    r.take(Sign::Close)?;
+    r.take(b"]")?;
     Ok(seen.head)
 }
 
@@ -113,12 +111,12 @@ fn more_head_attributes(
     seen: HeadSeen,
     room: usize,
 ) -> Result<Head, Stop>
-    ensures { Answers (λ h. h) result r.new (gather (passes signs.Close) (next_grown_at (head_attribute_at counts) head_grow head_full) (last_at head_finish) room seen r.old) }
+    ensures { Answers (λ h. h) result r.new (gather (passes (codes "]")) (next_grown_at (head_attribute_at counts) head_grow head_full) (last_at head_finish) room seen r.old) }
 {
     if room == 0 {
         return Err(Stop::Syntax);
     }
-    if r.is(Sign::Close) {
+    if r.is(b"]") {
         return last_head_attribute(r, seen);
     }
     let next = next_head_attribute(r, counts, seen)?;
@@ -130,7 +128,7 @@ fn more_head_attributes(
 pub(crate) fn head(r: &mut Reader<'_>, counts: bool) -> Result<Head, Stop>
     ensures { Answers (λ h. h) result r.new (head_at counts r.old) }
 {
-    r.take(Sign::Open)?;
+    r.take(b"[")?;
     let first = head_attribute(
         r,
         counts,
@@ -155,8 +153,8 @@ pub(crate) fn head(r: &mut Reader<'_>, counts: bool) -> Result<Head, Stop>
 pub(crate) fn signed(r: &mut Reader<'_>) -> Result<i32, Stop>
     ensures { Answers (λ i. i) result r.new (signed_at r.old) }
 {
-    if r.is(Sign::Minus) {
-        r.take(Sign::Minus)?;
+    if r.is(b"-") {
+        r.take(b"-")?;
         return r.id(true);
     }
     r.id(false)
@@ -166,24 +164,24 @@ pub(crate) fn signed(r: &mut Reader<'_>) -> Result<i32, Stop>
 fn property_attribute(r: &mut Reader<'_>, seen: PropertySeen) -> Result<PropertySeen, Stop>
     ensures { Answers (λ s. s) result r.new (grown_at property_attribute_at property_grow seen r.old) }
 {
-    if r.is(Sign::Id) {
+    if r.is(b"id") {
         if seen.id.is_some() {
             return Err(Stop::Syntax);
         }
-        r.take(Sign::Id)?;
-        r.take(Sign::Left)?;
+        r.take(b"id")?;
+        r.take(b"(")?;
         let id = signed(r)?;
-        r.take(Sign::Right)?;
+        r.take(b")")?;
         return Ok(PropertySeen {
             id: Some(id),
             ..seen
         });
     }
-    if r.is(Sign::Readonly) {
+    if r.is(b"readonly") {
         if seen.readonly {
             return Err(Stop::Syntax);
         }
-        r.take(Sign::Readonly)?;
+        r.take(b"readonly")?;
         return Ok(PropertySeen {
             readonly: true,
             ..seen
@@ -203,7 +201,7 @@ fn next_property_attribute(r: &mut Reader<'_>, seen: PropertySeen) -> Result<Pro
     if seen.id.is_some() && seen.readonly && seen.help {
         return Err(Stop::Syntax);
     }
-    r.take(Sign::Comma)?;
+    r.take(b",")?;
     property_attribute(r, seen)
 }
 
@@ -214,7 +212,7 @@ fn last_property_attribute(r: &mut Reader<'_>, seen: PropertySeen) -> Result<Pro
     let Some(id) = seen.id else {
         return Err(Stop::Syntax);
     };
-    r.take(Sign::Close)?;
+    r.take(b"]")?;
     Ok(PropertyHead {
         id,
         readonly: seen.readonly,
@@ -227,12 +225,12 @@ fn more_property_attributes(
     seen: PropertySeen,
     room: usize,
 ) -> Result<PropertyHead, Stop>
-    ensures { Answers (λ h. h) result r.new (gather (passes signs.Close) (next_grown_at property_attribute_at property_grow property_full) (last_at property_finish) room seen r.old) }
+    ensures { Answers (λ h. h) result r.new (gather (passes (codes "]")) (next_grown_at property_attribute_at property_grow property_full) (last_at property_finish) room seen r.old) }
 {
     if room == 0 {
         return Err(Stop::Syntax);
     }
-    if r.is(Sign::Close) {
+    if r.is(b"]") {
         return last_property_attribute(r, seen);
     }
     let next = next_property_attribute(r, seen)?;
@@ -244,7 +242,7 @@ fn more_property_attributes(
 pub(crate) fn property_head(r: &mut Reader<'_>) -> Result<PropertyHead, Stop>
     ensures { Answers (λ h. h) result r.new (property_head_at r.old) }
 {
-    r.take(Sign::Open)?;
+    r.take(b"[")?;
     let first = property_attribute(
         r,
         PropertySeen {

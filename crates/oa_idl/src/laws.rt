@@ -1,18 +1,21 @@
 //! Laws over the definitions alone.
-ghost use Rattle.std.specs.Prelude.{◌≡◌, ℕ, List, ◌∷◌, false};
-ghost use Rattle.std.specs.List.{list_any};
+ghost use Rattle.std.specs.Prelude.{◌≡◌, ◌+◌, ℕ, List, length};
 ghost use Rattle.oa_idl.specs.declared.lexer.Token.{Token};
-ghost use Rattle.oa_idl.specs.declared.parts.Entry.{Entry};
-ghost use Rattle.oa_idl.specs.Tokens.{AreTokens};
+ghost use Rattle.oa_idl.specs.Tokens.{AreTokens, AreInOrder};
 ghost use Rattle.oa_idl.specs.Trees.{TreeValue};
-ghost use Rattle.oa_idl.specs.Grammar.{no_entry};
 ghost use Rattle.oa_idl.specs.Canonical.{canonical};
-ghost use Rattle.oa_idl.specs.Printable.{AreEntries, IsPrintable, marked_first};
+ghost use Rattle.oa_idl.specs.Marked.{marked};
+ghost use Rattle.oa_idl.specs.Printable.{IsPrintable};
 ghost use Rattle.oa_idl.specs.IsTree.{MayBeText, IsTree};
 
 /// Bytes have one list of tokens.
 pub fn one_list()
     ensures { (p : ℕ) (bytes : List ℕ) (some others : List Token) → AreTokens p bytes some → AreTokens p bytes others → some ≡ others }
+{}
+
+/// The tokens of bytes lie in order inside them, and each has a byte at least.
+pub fn tokens_in_order()
+    ensures { (p : ℕ) (bytes : List ℕ) (all : List Token) → AreTokens p bytes all → AreInOrder p (p + length bytes) all }
 {}
 
 /// A text stands for one tree.
@@ -30,7 +33,12 @@ pub fn canonical_is_read()
     ensures { (t : TreeValue) → IsPrintable t → MayBeText (canonical t) → IsTree (canonical t) t }
 {}
 
-/// Where none of the entries of a coclass is marked as its default, the first may be: who marks it, as a library does, keeps the tree printable.
-pub fn first_may_be_default()
-    ensures { (e : Entry) (es : List Entry) → list_any (λ e. e.is_default) (e ∷ es) ≡ false → AreEntries no_entry (e ∷ es) → AreEntries no_entry (marked_first e ∷ es) }
+/// A tree keeps this where the first entry of each coclass that marks none is marked as its default.
+pub fn marked_is_printable()
+    ensures { (t : TreeValue) → IsPrintable t → IsPrintable (marked t) }
+{}
+
+/// The canonical text of a text's tree with its defaults marked stands for that tree, unless it is too long for a text.
+pub fn marked_is_read()
+    ensures { (text : List ℕ) (t : TreeValue) → IsTree text t → MayBeText (canonical (marked t)) → IsTree (canonical (marked t)) (marked t) }
 {}

@@ -1,7 +1,6 @@
 // The section `methods:`.
-ghost use Rattle.std.specs.Prelude.{◌≡◌, ◌<◌, IfOk};
+ghost use Rattle.std.specs.Prelude.{◌≡◌, ◌<◌, IfOk, codes};
 ghost use Rattle.oa_model.specs.Limits.{max_members};
-ghost use Rattle.oa_idl.specs.declared.sign.Sign.TheVariants as signs;
 ghost use Rattle.oa_idl.specs.Forms.{nowhere};
 ghost use Rattle.oa_idl.specs.Words.{passes};
 ghost use Rattle.oa_idl.specs.Reading.{Answers, done, gather, until};
@@ -15,7 +14,6 @@ use crate::parser::value_type;
 use crate::parts::MethodKind;
 use crate::reader::Reader;
 use crate::seen::{MethodHead, MethodSeen};
-use crate::sign::Sign;
 use crate::stop::{Stop, TreeLimit};
 use oa_model::{MAX_MEMBERS, ValueType};
 use std::alloc::Global;
@@ -24,10 +22,10 @@ use std::alloc::Global;
 fn numbered(r: &mut Reader<'_>) -> Result<i32, Stop>
     ensures { Answers (λ i. i) result r.new (numbered_at r.old) }
 {
-    r.take(Sign::Id)?;
-    r.take(Sign::Left)?;
+    r.take(b"id")?;
+    r.take(b"(")?;
     let id = signed(r)?;
-    r.take(Sign::Right)?;
+    r.take(b")")?;
     Ok(id)
 }
 
@@ -45,7 +43,7 @@ fn is_form(kind: MethodKind) -> bool
 fn method_attribute(r: &mut Reader<'_>, seen: MethodSeen) -> Result<MethodSeen, Stop>
     ensures { Answers (λ s. s) result r.new (grown_at method_attribute_at method_grow seen r.old) }
 {
-    if r.is(Sign::Id) {
+    if r.is(b"id") {
         if seen.id.is_some() {
             return Err(Stop::Syntax);
         }
@@ -55,21 +53,21 @@ fn method_attribute(r: &mut Reader<'_>, seen: MethodSeen) -> Result<MethodSeen, 
             ..seen
         });
     }
-    if r.is(Sign::Propget) {
+    if r.is(b"propget") {
         if is_form(seen.kind) {
             return Err(Stop::Syntax);
         }
-        r.take(Sign::Propget)?;
+        r.take(b"propget")?;
         return Ok(MethodSeen {
             kind: MethodKind::Get,
             ..seen
         });
     }
-    if r.is(Sign::Propput) {
+    if r.is(b"propput") {
         if is_form(seen.kind) {
             return Err(Stop::Syntax);
         }
-        r.take(Sign::Propput)?;
+        r.take(b"propput")?;
         return Ok(MethodSeen {
             kind: MethodKind::Put,
             ..seen
@@ -89,7 +87,7 @@ fn next_method_attribute(r: &mut Reader<'_>, seen: MethodSeen) -> Result<MethodS
     if seen.id.is_some() && is_form(seen.kind) && seen.help {
         return Err(Stop::Syntax);
     }
-    r.take(Sign::Comma)?;
+    r.take(b",")?;
     method_attribute(r, seen)
 }
 
@@ -100,7 +98,7 @@ fn last_method_attribute(r: &mut Reader<'_>, seen: MethodSeen) -> Result<MethodH
     let Some(id) = seen.id else {
         return Err(Stop::Syntax);
     };
-    r.take(Sign::Close)?;
+    r.take(b"]")?;
     Ok(MethodHead {
         id,
         kind: seen.kind,
@@ -113,12 +111,12 @@ fn more_method_attributes(
     seen: MethodSeen,
     room: usize,
 ) -> Result<MethodHead, Stop>
-    ensures { Answers (λ h. h) result r.new (gather (passes signs.Close) (next_grown_at method_attribute_at method_grow method_full) (last_at method_finish) room seen r.old) }
+    ensures { Answers (λ h. h) result r.new (gather (passes (codes "]")) (next_grown_at method_attribute_at method_grow method_full) (last_at method_finish) room seen r.old) }
 {
     if room == 0 {
         return Err(Stop::Syntax);
     }
-    if r.is(Sign::Close) {
+    if r.is(b"]") {
         return last_method_attribute(r, seen);
     }
     let next = next_method_attribute(r, seen)?;
@@ -130,7 +128,7 @@ fn more_method_attributes(
 fn method_head(r: &mut Reader<'_>) -> Result<MethodHead, Stop>
     ensures { Answers (λ h. h) result r.new (method_head_at r.old) }
 {
-    r.take(Sign::Open)?;
+    r.take(b"[")?;
     let first = method_attribute(
         r,
         MethodSeen {
@@ -166,11 +164,11 @@ fn may_have_type(kind: MethodKind) -> bool
 fn result_type(r: &mut Reader<'_>, kind: MethodKind) -> Result<Option<ValueType>, Stop>
     ensures { Answers (λ t. t) result r.new (result_type_at kind r.old) }
 {
-    if r.is(Sign::Void) {
+    if r.is(b"void") {
         if !may_be_void(kind) {
             return Err(Stop::Syntax);
         }
-        r.take(Sign::Void)?;
+        r.take(b"void")?;
         return Ok(None);
     }
     if !may_have_type(kind) {
@@ -193,10 +191,10 @@ fn method_body(
 {
     let value_type = result_type(r, head.kind)?;
     let name = r.name(alloc, TreeLimit::Members, MAX_MEMBERS, count)?;
-    r.take(Sign::Left)?;
+    r.take(b"(")?;
     let room = r.left();
     let parameters = parameters(alloc, r, head.kind, room)?;
-    r.take(Sign::Semicolon)?;
+    r.take(b";")?;
     Ok(Method {
         id: head.id,
         kind: head.kind,
@@ -223,12 +221,12 @@ fn method_list(
     before: usize,
     room: usize,
 ) -> Result<Vec<Method>, Stop>
-    ensures { Answers (λ v. (v.items, done)) result r.new (until (passes signs.Finish) nowhere method_at one_more closing_at room before r.old) }
+    ensures { Answers (λ v. (v.items, done)) result r.new (until (passes (codes "}")) nowhere method_at one_more closing_at room before r.old) }
 {
     let mut all = Vec::new(alloc);
     let mut count = before;
     for _ in 0..room {
-        if r.is(Sign::Finish) {
+        if r.is(b"}") {
             r.skip();
             return Ok(all);
         }
@@ -244,12 +242,12 @@ fn method_list(
 pub(crate) fn methods(alloc: Global, r: &mut Reader<'_>, before: usize) -> Result<Vec<Method>, Stop>
     ensures { Answers (λ v. v.items) result r.new (methods_at before r.old) }
 {
-    if r.is(Sign::Methods) {
-        r.take(Sign::Methods)?;
-        r.take(Sign::Colon)?;
+    if r.is(b"methods") {
+        r.take(b"methods")?;
+        r.take(b":")?;
         let room = r.left();
         return method_list(alloc, r, before, room);
     }
-    r.take(Sign::Finish)?;
+    r.take(b"}")?;
     Ok(Vec::new(alloc))
 }

@@ -1,7 +1,6 @@
 // Parameters of a member.
-ghost use Rattle.std.specs.Prelude.{◌≡◌, ◌<◌, IfOk};
+ghost use Rattle.std.specs.Prelude.{◌≡◌, ◌<◌, IfOk, codes};
 ghost use Rattle.oa_model.specs.Limits.{max_parameters};
-ghost use Rattle.oa_idl.specs.declared.sign.Sign.TheVariants as signs;
 ghost use Rattle.oa_idl.specs.Forms.{nowhere};
 ghost use Rattle.oa_idl.specs.Words.{passes};
 ghost use Rattle.oa_idl.specs.Reading.{Answers, done, gather, until};
@@ -12,7 +11,6 @@ use crate::parser::value_type;
 use crate::parts::{Literal, MethodKind, Parameter};
 use crate::reader::Reader;
 use crate::seen::ParameterSeen;
-use crate::sign::Sign;
 use crate::stop::{Stop, TreeLimit};
 use oa_model::MAX_PARAMETERS;
 use std::alloc::Global;
@@ -22,8 +20,8 @@ use std::alloc::Global;
 fn amount(r: &mut Reader<'_>) -> Result<i128, Stop>
     ensures { Answers (λ n. n) result r.new (amount_at r.old) }
 {
-    if r.is(Sign::Minus) {
-        r.take(Sign::Minus)?;
+    if r.is(b"-") {
+        r.take(b"-")?;
         return r.amount(true);
     }
     r.amount(false)
@@ -33,12 +31,12 @@ fn amount(r: &mut Reader<'_>) -> Result<i128, Stop>
 fn literal(alloc: Global, r: &mut Reader<'_>) -> Result<Literal, Stop>
     ensures { Answers (λ v. v) result r.new (literal_at r.old) }
 {
-    if r.is(Sign::True) {
-        r.take(Sign::True)?;
+    if r.is(b"TRUE") {
+        r.take(b"TRUE")?;
         return Ok(Literal::Bool(true));
     }
-    if r.is(Sign::False) {
-        r.take(Sign::False)?;
+    if r.is(b"FALSE") {
+        r.take(b"FALSE")?;
         return Ok(Literal::Bool(false));
     }
     if r.is_string() {
@@ -54,10 +52,10 @@ fn literal(alloc: Global, r: &mut Reader<'_>) -> Result<Literal, Stop>
 fn default(alloc: Global, r: &mut Reader<'_>) -> Result<Literal, Stop>
     ensures { Answers (λ v. v) result r.new (default_at r.old) }
 {
-    r.take(Sign::DefaultValue)?;
-    r.take(Sign::Left)?;
+    r.take(b"defaultvalue")?;
+    r.take(b"(")?;
     let value = literal(alloc, r)?;
-    r.take(Sign::Right)?;
+    r.take(b")")?;
     Ok(value)
 }
 
@@ -69,21 +67,21 @@ fn parameter_attribute(
 ) -> Result<ParameterSeen, Stop>
     ensures { Answers (λ s. s) result r.new (grown_at parameter_attribute_at parameter_grow seen r.old) }
 {
-    if r.is(Sign::In) {
+    if r.is(b"in") {
         if seen.is_in {
             return Err(Stop::Syntax);
         }
-        r.take(Sign::In)?;
+        r.take(b"in")?;
         return Ok(ParameterSeen {
             is_in: true,
             ..seen
         });
     }
-    if r.is(Sign::Optional) {
+    if r.is(b"optional") {
         if seen.is_optional {
             return Err(Stop::Syntax);
         }
-        r.take(Sign::Optional)?;
+        r.take(b"optional")?;
         return Ok(ParameterSeen {
             is_optional: true,
             ..seen
@@ -111,7 +109,7 @@ fn next_parameter_attribute(
     if seen.is_in && seen.is_optional && seen.default.is_some() {
         return Err(Stop::Syntax);
     }
-    r.take(Sign::Comma)?;
+    r.take(b",")?;
     parameter_attribute(alloc, r, seen)
 }
 
@@ -119,7 +117,7 @@ fn next_parameter_attribute(
 fn last_parameter_attribute(r: &mut Reader<'_>, seen: ParameterSeen) -> Result<ParameterSeen, Stop>
     ensures { Answers (λ h. h) result r.new (last_at parameter_finish seen r.old) }
 {
-    r.take(Sign::Close)?;
+    r.take(b"]")?;
     Ok(seen)
 }
 
@@ -130,12 +128,12 @@ fn more_parameter_attributes(
     seen: ParameterSeen,
     room: usize,
 ) -> Result<ParameterSeen, Stop>
-    ensures { Answers (λ h. h) result r.new (gather (passes signs.Close) (next_grown_at parameter_attribute_at parameter_grow parameter_full) (last_at parameter_finish) room seen r.old) }
+    ensures { Answers (λ h. h) result r.new (gather (passes (codes "]")) (next_grown_at parameter_attribute_at parameter_grow parameter_full) (last_at parameter_finish) room seen r.old) }
 {
     if room == 0 {
         return Err(Stop::Syntax);
     }
-    if r.is(Sign::Close) {
+    if r.is(b"]") {
         return last_parameter_attribute(r, seen);
     }
     let next = next_parameter_attribute(alloc, r, seen)?;
@@ -157,7 +155,7 @@ fn no_parameter() -> ParameterSeen
 fn parameter_head(alloc: Global, r: &mut Reader<'_>) -> Result<ParameterSeen, Stop>
     ensures { Answers (λ h. h) result r.new (parameter_head_at r.old) }
 {
-    r.take(Sign::Open)?;
+    r.take(b"[")?;
     let first = parameter_attribute(alloc, r, no_parameter())?;
     let room = r.left();
     more_parameter_attributes(alloc, r, first, room)
@@ -190,7 +188,7 @@ fn parameter(alloc: Global, r: &mut Reader<'_>, count: usize) -> Result<Paramete
     ensures value { Answers (λ p. p) result r.new (parameter_at count r.old) }
     ensures few { IfOk result (λ _. count < max_parameters) }
 {
-    if r.is(Sign::Open) {
+    if r.is(b"[") {
         let seen = parameter_head(alloc, r)?;
         return typed(alloc, r, count, seen);
     }
@@ -206,7 +204,7 @@ fn next_parameter(alloc: Global, r: &mut Reader<'_>, count: usize) -> Result<Par
     if count == 0 {
         return parameter(alloc, r, count);
     }
-    r.take(Sign::Comma)?;
+    r.take(b",")?;
     parameter(alloc, r, count)
 }
 
@@ -228,12 +226,12 @@ pub(crate) fn parameters(
     kind: MethodKind,
     room: usize,
 ) -> Result<Vec<Parameter>, Stop>
-    ensures { Answers (λ v. (v.items, done)) result r.new (until (passes signs.Right) nowhere next_parameter_at one_more (last_parameter_at kind) room 0 r.old) }
+    ensures { Answers (λ v. (v.items, done)) result r.new (until (passes (codes ")")) nowhere next_parameter_at one_more (last_parameter_at kind) room 0 r.old) }
 {
     let mut all = Vec::new(alloc);
     let mut count = 0;
     for _ in 0..room {
-        if r.is(Sign::Right) {
+        if r.is(b")") {
             if !may_end(kind, count) {
                 return Err(Stop::Syntax);
             }

@@ -1,7 +1,6 @@
 // The grammar of a library text.
-ghost use Rattle.std.specs.Prelude.{◌≡◌, ◌-◌, ◌+◌, ◌<◌, ◌^◌, length, map, IfOk};
+ghost use Rattle.std.specs.Prelude.{◌≡◌, ◌-◌, ◌+◌, ◌<◌, ◌^◌, length, map, IfOk, codes};
 ghost use Rattle.oa_model.specs.Limits.{max_members};
-ghost use Rattle.oa_idl.specs.declared.sign.Sign.TheVariants as signs;
 ghost use Rattle.oa_idl.specs.Forms.{nowhere};
 ghost use Rattle.oa_idl.specs.Words.{word_of, passes};
 ghost use Rattle.oa_idl.specs.Reading.{Answers, done, heads, until};
@@ -19,7 +18,6 @@ use crate::methods::methods;
 use crate::parts::{Entry, Property};
 use crate::reader::Reader;
 use crate::seen::{EntriesSeen, ItemsSeen};
-use crate::sign::Sign;
 use crate::stop::{Limit, ParseError, Stop, TreeLimit};
 use crate::tree::Tree;
 use oa_model::{MAX_COCLASSES, MAX_INTERFACES, MAX_LIBRARY_BYTES, MAX_MEMBERS, ValueType, VarType};
@@ -30,8 +28,8 @@ use uuid::Uuid;
 fn type_word(r: &mut Reader<'_>, in_array: bool) -> Result<VarType, Stop>
     ensures { Answers (λ t. t) result r.new (type_word_at in_array r.old) }
 {
-    if r.is(Sign::Unsigned) {
-        r.take(Sign::Unsigned)?;
+    if r.is(b"unsigned") {
+        r.take(b"unsigned")?;
         return r.type_word(in_array, true);
     }
     r.type_word(in_array, false)
@@ -41,11 +39,11 @@ fn type_word(r: &mut Reader<'_>, in_array: bool) -> Result<VarType, Stop>
 pub(crate) fn value_type(r: &mut Reader<'_>) -> Result<ValueType, Stop>
     ensures { Answers (λ t. t) result r.new (value_type_at r.old) }
 {
-    if r.is(Sign::SafeArray) {
-        r.take(Sign::SafeArray)?;
-        r.take(Sign::Left)?;
+    if r.is(b"SAFEARRAY") {
+        r.take(b"SAFEARRAY")?;
+        r.take(b"(")?;
         let cell = type_word(r, true)?;
-        r.take(Sign::Right)?;
+        r.take(b")")?;
         return Ok(ValueType::Array(cell));
     }
     let one = type_word(r, false)?;
@@ -61,7 +59,7 @@ fn property(alloc: Global, r: &mut Reader<'_>, count: usize) -> Result<Property,
     let head = property_head(r)?;
     let value_type = value_type(r)?;
     let name = r.name(alloc, TreeLimit::Members, MAX_MEMBERS, count)?;
-    r.take(Sign::Semicolon)?;
+    r.take(b";")?;
     Ok(Property {
         id: head.id,
         readonly: head.readonly,
@@ -75,7 +73,7 @@ fn property(alloc: Global, r: &mut Reader<'_>, count: usize) -> Result<Property,
 fn ends_section(r: &Reader<'_>) -> bool
     ensures { result ≡ heads ends_properties r.now }
 {
-    r.is(Sign::Methods) || r.is(Sign::Finish)
+    r.is(b"methods") || r.is(b"}")
 }
 
 /// At most so many properties, and what ends them: the section of methods, or the brace.
@@ -105,9 +103,9 @@ fn properties(
 fn members(alloc: Global, r: &mut Reader<'_>) -> Result<(Vec<Property>, Vec<Method>), Stop>
     ensures { Answers (λ v. (v.0.items, v.1.items)) result r.new (members_at r.old) }
 {
-    if r.is(Sign::Properties) {
-        r.take(Sign::Properties)?;
-        r.take(Sign::Colon)?;
+    if r.is(b"properties") {
+        r.take(b"properties")?;
+        r.take(b":")?;
         let room = r.left();
         return properties(alloc, r, room);
     }
@@ -119,14 +117,14 @@ fn members(alloc: Global, r: &mut Reader<'_>) -> Result<(Vec<Property>, Vec<Meth
 fn interface(alloc: Global, r: &mut Reader<'_>, seen: ItemsSeen, guid: Uuid) -> Result<Item, Stop>
     ensures { Answers (λ x. x) result r.new (interface_at seen guid r.old) }
 {
-    r.take(Sign::Dispinterface)?;
+    r.take(b"dispinterface")?;
     let name = r.name(
         alloc,
         TreeLimit::Interfaces,
         MAX_INTERFACES,
         seen.interfaces,
     )?;
-    r.take(Sign::Begin)?;
+    r.take(b"{")?;
     let (properties, methods) = members(alloc, r)?;
     Ok(Item::Interface(Interface {
         guid,
@@ -142,7 +140,7 @@ fn named(alloc: Global, r: &mut Reader<'_>, is_default: bool) -> Result<Entry, S
 {
     r.entry_word()?;
     let interface = r.name(alloc, TreeLimit::Name, 1, 0)?;
-    r.take(Sign::Semicolon)?;
+    r.take(b";")?;
     Ok(Entry {
         is_default,
         interface,
@@ -153,13 +151,13 @@ fn named(alloc: Global, r: &mut Reader<'_>, is_default: bool) -> Result<Entry, S
 fn entry(alloc: Global, r: &mut Reader<'_>, seen: EntriesSeen) -> Result<Entry, Stop>
     ensures { Answers (λ e. e) result r.new (entry_at seen r.old) }
 {
-    if r.is(Sign::Open) {
+    if r.is(b"[") {
         if seen.default {
             return Err(Stop::Syntax);
         }
-        r.take(Sign::Open)?;
-        r.take(Sign::Default)?;
-        r.take(Sign::Close)?;
+        r.take(b"[")?;
+        r.take(b"default")?;
+        r.take(b"]")?;
         return named(alloc, r, true);
     }
     named(alloc, r, false)
@@ -178,7 +176,7 @@ fn with_entry(seen: EntriesSeen, entry: &Entry) -> EntriesSeen
 /// At most so many entries, and the brace that closes them.
 #[tactic(auto, using(crate::proofs::Loop::until_err, crate::proofs::Loop::until_out))]
 fn entries(alloc: Global, r: &mut Reader<'_>, room: usize) -> Result<Vec<Entry>, Stop>
-    ensures { Answers (λ v. (v.items, done)) result r.new (until (passes signs.Finish) nowhere entry_at entry_grow last_entry_at room no_entry r.old) }
+    ensures { Answers (λ v. (v.items, done)) result r.new (until (passes (codes "}")) nowhere entry_at entry_grow last_entry_at room no_entry r.old) }
 {
     let mut all = Vec::new(alloc);
     let mut seen = EntriesSeen {
@@ -186,7 +184,7 @@ fn entries(alloc: Global, r: &mut Reader<'_>, room: usize) -> Result<Vec<Entry>,
         default: false,
     };
     for _ in 0..room {
-        if r.is(Sign::Finish) {
+        if r.is(b"}") {
             if !seen.some {
                 return Err(Stop::Syntax);
             }
@@ -204,9 +202,9 @@ fn entries(alloc: Global, r: &mut Reader<'_>, room: usize) -> Result<Vec<Entry>,
 fn coclass(alloc: Global, r: &mut Reader<'_>, seen: ItemsSeen, guid: Uuid) -> Result<Item, Stop>
     ensures { Answers (λ x. x) result r.new (coclass_at seen guid r.old) }
 {
-    r.take(Sign::Coclass)?;
+    r.take(b"coclass")?;
     let name = r.name(alloc, TreeLimit::Coclasses, MAX_COCLASSES, seen.coclasses)?;
-    r.take(Sign::Begin)?;
+    r.take(b"{")?;
     let room = r.left();
     let entries = entries(alloc, r, room)?;
     Ok(Item::Coclass(Coclass {
@@ -221,7 +219,7 @@ fn item(alloc: Global, r: &mut Reader<'_>, seen: ItemsSeen) -> Result<Item, Stop
     ensures { Answers (λ x. x) result r.new (item_at seen r.old) }
 {
     let head = head(r, false)?;
-    if r.is(Sign::Dispinterface) {
+    if r.is(b"dispinterface") {
         return interface(alloc, r, seen, head.guid);
     }
     coclass(alloc, r, seen, head.guid)
@@ -249,11 +247,11 @@ fn counted(seen: ItemsSeen, item: &Item) -> ItemsSeen
 fn import(r: &mut Reader<'_>) -> Result<(), Stop>
     ensures { Answers (λ _. done) result r.new (import_at r.old) }
 {
-    r.take(Sign::Importlib)?;
-    r.take(Sign::Left)?;
+    r.take(b"importlib")?;
+    r.take(b"(")?;
     r.text()?;
-    r.take(Sign::Right)?;
-    r.take(Sign::Semicolon)
+    r.take(b")")?;
+    r.take(b";")
 }
 
 /// The items of at most so many imports and items, and the brace that closes them.
@@ -266,16 +264,16 @@ fn items(alloc: Global, r: &mut Reader<'_>, room: usize) -> Result<Vec<Item>, St
         coclasses: 0,
     };
     for _ in 0..room {
-        if r.is(Sign::Finish) {
+        if r.is(b"}") {
             r.skip();
             return Ok(all);
         }
-        if r.is(Sign::Importlib) {
+        if r.is(b"importlib") {
             import(r)?;
             continue;
         }
         let next = item(alloc, r, seen)?;
-        r.perhaps(Sign::Semicolon);
+        r.perhaps(b";");
         seen = counted(seen, &next);
         all.push(next)?;
     }
@@ -287,13 +285,13 @@ fn library(alloc: Global, r: &mut Reader<'_>) -> Result<Tree, Stop>
     ensures { Answers (λ t. t) result r.new (library_at r.old) }
 {
     let head = head(r, true)?;
-    r.take(Sign::Library)?;
+    r.take(b"library")?;
     let name = r.name(alloc, TreeLimit::Name, 1, 0)?;
-    r.take(Sign::Begin)?;
+    r.take(b"{")?;
     let room = r.left();
     let items = items(alloc, r, room)?;
-    r.perhaps(Sign::Semicolon);
-    r.take(Sign::End)?;
+    r.perhaps(b";");
+    r.take(b"")?;
     Ok(Tree {
         guid: head.guid,
         version: head.version,

@@ -1,7 +1,8 @@
 // The canonical text of a tree.
-ghost use Rattle.std.specs.Prelude.{◌≡◌, ◌++◌, ◌∷◌, [], codes, IfOk};
+ghost use Rattle.std.specs.Prelude.{◌≡◌, ◌++◌, ℕ, List, codes, IfOk};
+ghost use Rattle.std.specs.List.{flat_map};
 ghost use Rattle.std.specs.Fmt.{decimal, signed_decimal};
-ghost use Rattle.oa_idl.specs.Canonical.{texts, type_text, value_type_text, result_text, named_text, character_text, literal_text, mark_text, default_text, parameter_marks, parameter_text, further_text, parameters_text, id_text, readonly_text, property_text, kind_text, list_text, method_text, entry_word_text, entry_text, digits_text, guid_text, interface_line, properties_line, title_text, properties_text, methods_text, interface_text, coclass_text, item_text, version_text, canonical};
+ghost use Rattle.oa_idl.specs.Canonical.{type_text, value_type_text, result_text, named_text, character_text, literal_text, mark_text, default_text, parameter_marks, parameter_text, further_text, parameters_text, id_text, readonly_text, property_text, kind_text, list_text, method_text, entry_word_text, entry_text, digits_text, guid_text, interface_line, properties_line, title_text, properties_text, methods_text, interface_text, coclass_text, item_text, version_text, canonical};
 
 use crate::items::{Coclass, Interface, Item};
 use crate::method::Method;
@@ -16,6 +17,25 @@ fn put(out: &mut Vec<u8>, bytes: &[u8]) -> Result<(), AllocError>
     ensures { IfOk result (λ _. out.new.items ≡ out.old.items ++ bytes.now) }
 {
     out.extend_from_slice(bytes)?;
+    Ok(())
+}
+
+/// A part of a tree that stands in a list.
+trait Listed {
+    ghost text: { Self → List ℕ };
+
+    /// Adds its text.
+    fn put(&self, alloc: Global, out: &mut Vec<u8>) -> Result<(), AllocError>
+        ensures { IfOk result (λ _. out.new.items ≡ out.old.items ++ text self.now) };
+}
+
+/// Adds the texts of a list.
+fn put_all<T: Listed>(alloc: Global, out: &mut Vec<u8>, all: &[T]) -> Result<(), AllocError>
+    ensures { IfOk result (λ _. out.new.items ≡ out.old.items ++ flat_map T.text all.now) }
+{
+    'texts: for one in all {
+        one.put(alloc, out)?;
+    }
     Ok(())
 }
 
@@ -90,26 +110,17 @@ fn put_amount(alloc: Global, out: &mut Vec<u8>, number: i128) -> Result<(), Allo
 }
 
 /// What stands for one character of a string.
-#[tactic(auto, unfolding(crate::specs::Canonical::character_text))]
-fn put_character(out: &mut Vec<u8>, character: u8) -> Result<(), AllocError>
-    ensures { IfOk result (λ _. out.new.items ≡ out.old.items ++ character_text character) }
-{
-    if character == b'"' || character == b'\\' {
-        out.push(b'\\')?;
-    }
-    out.push(character)?;
-    Ok(())
-}
+impl Listed for u8 {
+    ghost text = { character_text };
 
-fn put_characters(out: &mut Vec<u8>, all: &[u8]) -> Result<(), AllocError>
-    ensures { IfOk result (λ _. out.new.items ≡ out.old.items ++ texts character_text all.now) }
-{
-    let mut left = all;
-    'texts: while let Some((first, more)) = left.split_first() {
-        put_character(out, *first)?;
-        left = more;
+    #[tactic(auto, unfolding(crate::specs::Canonical::character_text))]
+    fn put(&self, _alloc: Global, out: &mut Vec<u8>) -> Result<(), AllocError> {
+        if *self == b'"' || *self == b'\\' {
+            out.push(b'\\')?;
+        }
+        out.push(*self)?;
+        Ok(())
     }
-    Ok(())
 }
 
 #[tactic(auto, unfolding(crate::specs::Canonical::literal_text))]
@@ -120,7 +131,7 @@ fn put_literal(alloc: Global, out: &mut Vec<u8>, value: &Literal) -> Result<(), 
         Literal::Number(number) => put_amount(alloc, out, *number),
         Literal::Text(text) => {
             put(out, b"\"")?;
-            put_characters(out, text.as_bytes())?;
+            put_all(alloc, out, text.as_bytes())?;
             put(out, b"\"")
         }
         Literal::Bool(true) => put(out, b"TRUE"),
@@ -185,23 +196,15 @@ fn put_parameter(alloc: Global, out: &mut Vec<u8>, p: &Parameter) -> Result<(), 
     put_name(out, &p.name)
 }
 
-#[tactic(auto, unfolding(crate::specs::Canonical::further_text))]
-fn put_further(alloc: Global, out: &mut Vec<u8>, p: &Parameter) -> Result<(), AllocError>
-    ensures { IfOk result (λ _. out.new.items ≡ out.old.items ++ further_text p.now) }
-{
-    put(out, b", ")?;
-    put_parameter(alloc, out, p)
-}
+/// A parameter that is not the first.
+impl Listed for Parameter {
+    ghost text = { further_text };
 
-fn put_rest(alloc: Global, out: &mut Vec<u8>, all: &[Parameter]) -> Result<(), AllocError>
-    ensures { IfOk result (λ _. out.new.items ≡ out.old.items ++ texts further_text all.now) }
-{
-    let mut left = all;
-    'texts: while let Some((first, more)) = left.split_first() {
-        put_further(alloc, out, first)?;
-        left = more;
+    #[tactic(auto, unfolding(crate::specs::Canonical::further_text))]
+    fn put(&self, alloc: Global, out: &mut Vec<u8>) -> Result<(), AllocError> {
+        put(out, b", ")?;
+        put_parameter(alloc, out, self)
     }
-    Ok(())
 }
 
 #[tactic(auto, unfolding(crate::specs::Canonical::parameters_text))]
@@ -212,7 +215,7 @@ fn put_parameters(alloc: Global, out: &mut Vec<u8>, all: &[Parameter]) -> Result
         return Ok(());
     };
     put_parameter(alloc, out, first)?;
-    put_rest(alloc, out, rest)
+    put_all(alloc, out, rest)
 }
 
 #[tactic(auto, unfolding(crate::specs::Canonical::id_text))]
@@ -230,14 +233,16 @@ fn readonly_mark(readonly: bool) -> &'static [u8]
     if readonly { b"), readonly] " } else { b")] " }
 }
 
-#[tactic(auto, unfolding(crate::specs::Canonical::property_text, crate::specs::Canonical::named_text))]
-fn put_property(alloc: Global, out: &mut Vec<u8>, p: &Property) -> Result<(), AllocError>
-    ensures { IfOk result (λ _. out.new.items ≡ out.old.items ++ property_text p.now) }
-{
-    put_id(alloc, out, p.id, readonly_mark(p.readonly))?;
-    put_type(out, p.value_type)?;
-    put_name(out, &p.name)?;
-    put(out, b";\n")
+impl Listed for Property {
+    ghost text = { property_text };
+
+    #[tactic(auto, unfolding(crate::specs::Canonical::property_text, crate::specs::Canonical::named_text))]
+    fn put(&self, alloc: Global, out: &mut Vec<u8>) -> Result<(), AllocError> {
+        put_id(alloc, out, self.id, readonly_mark(self.readonly))?;
+        put_type(out, self.value_type)?;
+        put_name(out, &self.name)?;
+        put(out, b";\n")
+    }
 }
 
 fn kind_mark(kind: MethodKind) -> &'static [u8]
@@ -259,36 +264,16 @@ fn put_list(alloc: Global, out: &mut Vec<u8>, all: &[Parameter]) -> Result<(), A
     put(out, b");\n")
 }
 
-#[tactic(auto, unfolding(crate::specs::Canonical::method_text, crate::specs::Canonical::named_text))]
-fn put_method(alloc: Global, out: &mut Vec<u8>, m: &Method) -> Result<(), AllocError>
-    ensures { IfOk result (λ _. out.new.items ≡ out.old.items ++ method_text m.now) }
-{
-    put_id(alloc, out, m.id, kind_mark(m.kind))?;
-    put_result(out, m.value_type)?;
-    put_name(out, &m.name)?;
-    put_list(alloc, out, m.parameters.as_slice())
-}
+impl Listed for Method {
+    ghost text = { method_text };
 
-fn put_properties(alloc: Global, out: &mut Vec<u8>, all: &[Property]) -> Result<(), AllocError>
-    ensures { IfOk result (λ _. out.new.items ≡ out.old.items ++ texts property_text all.now) }
-{
-    let mut left = all;
-    'texts: while let Some((first, more)) = left.split_first() {
-        put_property(alloc, out, first)?;
-        left = more;
+    #[tactic(auto, unfolding(crate::specs::Canonical::method_text, crate::specs::Canonical::named_text))]
+    fn put(&self, alloc: Global, out: &mut Vec<u8>) -> Result<(), AllocError> {
+        put_id(alloc, out, self.id, kind_mark(self.kind))?;
+        put_result(out, self.value_type)?;
+        put_name(out, &self.name)?;
+        put_list(alloc, out, self.parameters.as_slice())
     }
-    Ok(())
-}
-
-fn put_methods(alloc: Global, out: &mut Vec<u8>, all: &[Method]) -> Result<(), AllocError>
-    ensures { IfOk result (λ _. out.new.items ≡ out.old.items ++ texts method_text all.now) }
-{
-    let mut left = all;
-    'texts: while let Some((first, more)) = left.split_first() {
-        put_method(alloc, out, first)?;
-        left = more;
-    }
-    Ok(())
 }
 
 fn entry_word(is_default: bool) -> &'static [u8]
@@ -301,24 +286,15 @@ fn entry_word(is_default: bool) -> &'static [u8]
     }
 }
 
-#[tactic(auto, unfolding(crate::specs::Canonical::entry_text))]
-fn put_entry(out: &mut Vec<u8>, e: &Entry) -> Result<(), AllocError>
-    ensures { IfOk result (λ _. out.new.items ≡ out.old.items ++ entry_text e.now) }
-{
-    put(out, entry_word(e.is_default))?;
-    put(out, e.interface.as_bytes())?;
-    put(out, b";\n")
-}
+impl Listed for Entry {
+    ghost text = { entry_text };
 
-fn put_entries(out: &mut Vec<u8>, all: &[Entry]) -> Result<(), AllocError>
-    ensures { IfOk result (λ _. out.new.items ≡ out.old.items ++ texts entry_text all.now) }
-{
-    let mut left = all;
-    'texts: while let Some((first, more)) = left.split_first() {
-        put_entry(out, first)?;
-        left = more;
+    #[tactic(auto, unfolding(crate::specs::Canonical::entry_text))]
+    fn put(&self, _alloc: Global, out: &mut Vec<u8>) -> Result<(), AllocError> {
+        put(out, entry_word(self.is_default))?;
+        put(out, self.interface.as_bytes())?;
+        put(out, b";\n")
     }
-    Ok(())
 }
 
 #[tactic(auto, unfolding(crate::specs::Canonical::digits_text))]
@@ -357,7 +333,7 @@ fn put_first_section(alloc: Global, out: &mut Vec<u8>, all: &[Property]) -> Resu
     ensures { IfOk result (λ _. out.new.items ≡ out.old.items ++ properties_text all.now) }
 {
     put(out, properties_line())?;
-    put_properties(alloc, out, all)
+    put_all(alloc, out, all)
 }
 
 #[tactic(auto, unfolding(crate::specs::Canonical::methods_text))]
@@ -365,7 +341,7 @@ fn put_second_section(alloc: Global, out: &mut Vec<u8>, all: &[Method]) -> Resul
     ensures { IfOk result (λ _. out.new.items ≡ out.old.items ++ methods_text all.now) }
 {
     put(out, b"methods:\n")?;
-    put_methods(alloc, out, all)?;
+    put_all(alloc, out, all)?;
     put(out, b"}\n")
 }
 
@@ -399,29 +375,20 @@ fn put_coclass(alloc: Global, out: &mut Vec<u8>, c: &Coclass) -> Result<(), Allo
     ensures { IfOk result (λ _. out.new.items ≡ out.old.items ++ coclass_text c.now) }
 {
     put_title(alloc, out, c.guid, b"]\ncoclass ", &c.name)?;
-    put_entries(out, c.entries.as_slice())?;
+    put_all(alloc, out, c.entries.as_slice())?;
     put(out, b"}\n")
 }
 
-#[tactic(auto, unfolding(crate::specs::Canonical::item_text))]
-fn put_item(alloc: Global, out: &mut Vec<u8>, item: &Item) -> Result<(), AllocError>
-    ensures { IfOk result (λ _. out.new.items ≡ out.old.items ++ item_text item.now) }
-{
-    match item {
-        Item::Interface(interface) => put_interface(alloc, out, interface),
-        Item::Coclass(class) => put_coclass(alloc, out, class),
-    }
-}
+impl Listed for Item {
+    ghost text = { item_text };
 
-fn put_items(alloc: Global, out: &mut Vec<u8>, all: &[Item]) -> Result<(), AllocError>
-    ensures { IfOk result (λ _. out.new.items ≡ out.old.items ++ texts item_text all.now) }
-{
-    let mut left = all;
-    'texts: while let Some((first, more)) = left.split_first() {
-        put_item(alloc, out, first)?;
-        left = more;
+    #[tactic(auto, unfolding(crate::specs::Canonical::item_text))]
+    fn put(&self, alloc: Global, out: &mut Vec<u8>) -> Result<(), AllocError> {
+        match self {
+            Item::Interface(interface) => put_interface(alloc, out, interface),
+            Item::Coclass(class) => put_coclass(alloc, out, class),
+        }
     }
-    Ok(())
 }
 
 #[tactic(auto, unfolding(crate::specs::Canonical::version_text))]
@@ -443,7 +410,7 @@ fn put_tree(alloc: Global, out: &mut Vec<u8>, tree: &Tree) -> Result<(), AllocEr
     put_version(alloc, out, tree.version)?;
     put(out, tree.name.as_bytes())?;
     put(out, b" {\n")?;
-    put_items(alloc, out, tree.items.as_slice())?;
+    put_all(alloc, out, tree.items.as_slice())?;
     put(out, b"}\n")
 }
 

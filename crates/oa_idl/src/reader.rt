@@ -9,7 +9,7 @@ use crate::characters::Characters;
 use crate::lexer::{Kind, Token};
 use crate::name::Name;
 use crate::scan::after;
-use crate::sign::{Sign, is_reserved, kind_of, spelling, type_named};
+use crate::sign::{is_reserved, kind_of, same_bytes, type_named};
 use crate::stop::{Stop, TreeLimit};
 use oa_model::{MAX_NAME_CHARACTERS, VarType};
 use std::alloc::{AllocError, Global};
@@ -245,19 +245,19 @@ impl<'a> Reader<'a> {
 
     /// Whether the next word is this sign.
     #[tactic(auto, unfolding(crate::specs::Words::passes))]
-    pub(crate) fn is(&self, sign: Sign) -> bool
-        ensures { result ≡ heads (passes sign) self.now }
+    pub(crate) fn is(&self, sign: &[u8]) -> bool
+        ensures { result ≡ heads (passes sign.now) self.now }
     {
         match self.first() {
-            Some((kind, text)) => same_kind(kind, kind_of(sign)) && text == spelling(sign),
+            Some((kind, text)) => same_kind(kind, kind_of(sign)) && text == sign,
             None => false,
         }
     }
 
     /// Takes this sign.
     #[tactic(auto, unfolding(crate::specs::Reading::this_at))]
-    pub(crate) fn take(&mut self, sign: Sign) -> Result<(), Stop>
-        ensures { Answers (λ _. done) result self.new (this_at (passes sign) self.old) }
+    pub(crate) fn take(&mut self, sign: &[u8]) -> Result<(), Stop>
+        ensures { Answers (λ _. done) result self.new (this_at (passes sign.now) self.old) }
     {
         if !self.is(sign) {
             return Err(Stop::Syntax);
@@ -275,7 +275,7 @@ impl<'a> Reader<'a> {
             return Err(Stop::Syntax);
         };
         if same_kind(kind, Kind::Name)
-            && (text == spelling(Sign::Dispinterface) || text == spelling(Sign::Interface))
+            && (same_bytes(text, b"dispinterface") || same_bytes(text, b"interface"))
         {
             self.skip();
             return Ok(());
@@ -300,8 +300,8 @@ impl<'a> Reader<'a> {
 
     /// Takes this sign where it stands.
     #[tactic(auto, unfolding(crate::specs::Reading::perhaps_at))]
-    pub(crate) fn perhaps(&mut self, sign: Sign)
-        ensures { self.new ≡ (if heads (passes sign) self.old then rest_of self.old else self.old) }
+    pub(crate) fn perhaps(&mut self, sign: &[u8])
+        ensures { self.new ≡ (if heads (passes sign.now) self.old then rest_of self.old else self.old) }
     {
         if self.is(sign) {
             self.skip();

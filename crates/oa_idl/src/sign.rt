@@ -1,152 +1,52 @@
 // Words that stand for themselves.
 ghost use Rattle.std.specs.Prelude.{◌≡◌};
-ghost use Rattle.oa_idl.specs.Words.{kind_of, spelling, is_structure, is_type_mark, is_reserved, plain_type, unsigned_type, type_named, if_cell};
+ghost use Rattle.std.specs.Str.{bytes_eq};
+ghost use Rattle.oa_idl.specs.Words.{kind_of, is_structure, is_type_mark, is_reserved, plain_type, unsigned_type, type_named, if_cell};
 
 use crate::lexer::Kind;
 use oa_model::VarType;
 
-/// A word that stands for itself.
-#[derive(Clone, Copy)]
-pub(crate) enum Sign {
-    Open,
-    Close,
-    Begin,
-    Finish,
-    Left,
-    Right,
-    Comma,
-    Semicolon,
-    Colon,
-    Dot,
-    Minus,
-    End,
-    Library,
-    Importlib,
-    Dispinterface,
-    Interface,
-    Coclass,
-    Properties,
-    Methods,
-    Void,
-    Unsigned,
-    SafeArray,
-    Char,
-    Short,
-    Long,
-    Int,
-    Hyper,
-    Currency,
-    VariantBool,
-    Scode,
-    Decimal,
-    Bstr,
-    Variant,
-    Uuid,
-    Version,
-    Helpstring,
-    Id,
-    Readonly,
-    Default,
-    Propget,
-    Propput,
-    In,
-    Optional,
-    DefaultValue,
-    True,
-    False,
-}
-
-pub(crate) fn kind_of(sign: Sign) -> Kind
-    ensures { result ≡ kind_of sign }
+/// What a word is that stands for itself: a name, a mark, or the end of the text, which has no bytes.
+pub(crate) fn kind_of(sign: &[u8]) -> Kind
+    ensures { result ≡ kind_of sign.now }
 {
-    match sign {
-        Sign::Open
-        | Sign::Close
-        | Sign::Begin
-        | Sign::Finish
-        | Sign::Left
-        | Sign::Right
-        | Sign::Comma
-        | Sign::Semicolon
-        | Sign::Colon
-        | Sign::Dot
-        | Sign::Minus => Kind::Mark,
-        Sign::End => Kind::End,
-        _ => Kind::Name,
+    match sign.split_first() {
+        Some((first, _)) => {
+            if first.is_ascii_alphabetic() {
+                Kind::Name
+            } else {
+                Kind::Mark
+            }
+        }
+        None => Kind::End,
     }
 }
 
-pub(crate) fn spelling(sign: Sign) -> &'static [u8]
-    ensures { result.now ≡ spelling sign }
+/// Whether a text is these bytes.
+pub(crate) fn same_bytes(text: &[u8], bytes: &[u8]) -> bool
+    ensures { result ≡ bytes_eq text.now bytes.now }
 {
-    match sign {
-        Sign::Open => b"[",
-        Sign::Close => b"]",
-        Sign::Begin => b"{",
-        Sign::Finish => b"}",
-        Sign::Left => b"(",
-        Sign::Right => b")",
-        Sign::Comma => b",",
-        Sign::Semicolon => b";",
-        Sign::Colon => b":",
-        Sign::Dot => b".",
-        Sign::Minus => b"-",
-        Sign::End => b"",
-        Sign::Library => b"library",
-        Sign::Importlib => b"importlib",
-        Sign::Dispinterface => b"dispinterface",
-        Sign::Interface => b"interface",
-        Sign::Coclass => b"coclass",
-        Sign::Properties => b"properties",
-        Sign::Methods => b"methods",
-        Sign::Void => b"void",
-        Sign::Unsigned => b"unsigned",
-        Sign::SafeArray => b"SAFEARRAY",
-        Sign::Char => b"char",
-        Sign::Short => b"short",
-        Sign::Long => b"long",
-        Sign::Int => b"int",
-        Sign::Hyper => b"hyper",
-        Sign::Currency => b"CURRENCY",
-        Sign::VariantBool => b"VARIANT_BOOL",
-        Sign::Scode => b"SCODE",
-        Sign::Decimal => b"DECIMAL",
-        Sign::Bstr => b"BSTR",
-        Sign::Variant => b"VARIANT",
-        Sign::Uuid => b"uuid",
-        Sign::Version => b"version",
-        Sign::Helpstring => b"helpstring",
-        Sign::Id => b"id",
-        Sign::Readonly => b"readonly",
-        Sign::Default => b"default",
-        Sign::Propget => b"propget",
-        Sign::Propput => b"propput",
-        Sign::In => b"in",
-        Sign::Optional => b"optional",
-        Sign::DefaultValue => b"defaultvalue",
-        Sign::True => b"TRUE",
-        Sign::False => b"FALSE",
-    }
+    text == bytes
 }
 
 fn is_structure(text: &[u8]) -> bool
     ensures { result ≡ is_structure text.now }
 {
-    text == spelling(Sign::Library)
-        || text == spelling(Sign::Importlib)
-        || text == spelling(Sign::Dispinterface)
-        || text == spelling(Sign::Interface)
-        || text == spelling(Sign::Coclass)
-        || text == spelling(Sign::Properties)
+    same_bytes(text, b"library")
+        || same_bytes(text, b"importlib")
+        || same_bytes(text, b"dispinterface")
+        || same_bytes(text, b"interface")
+        || same_bytes(text, b"coclass")
+        || same_bytes(text, b"properties")
 }
 
 fn is_type_mark(text: &[u8]) -> bool
     ensures { result ≡ is_type_mark text.now }
 {
-    text == spelling(Sign::Methods)
-        || text == spelling(Sign::Void)
-        || text == spelling(Sign::Unsigned)
-        || text == spelling(Sign::SafeArray)
+    same_bytes(text, b"methods")
+        || same_bytes(text, b"void")
+        || same_bytes(text, b"unsigned")
+        || same_bytes(text, b"SAFEARRAY")
 }
 
 /// Whether a name is a word of the language.
@@ -161,37 +61,37 @@ pub(crate) fn is_reserved(text: &[u8]) -> bool
 fn plain_type(text: &[u8]) -> Option<VarType>
     ensures { result ≡ plain_type text.now }
 {
-    if text == spelling(Sign::Char) {
+    if same_bytes(text, b"char") {
         return Some(VarType::I1);
     }
-    if text == spelling(Sign::Short) {
+    if same_bytes(text, b"short") {
         return Some(VarType::I2);
     }
-    if text == spelling(Sign::Long) {
+    if same_bytes(text, b"long") {
         return Some(VarType::I4);
     }
-    if text == spelling(Sign::Int) {
+    if same_bytes(text, b"int") {
         return Some(VarType::Int);
     }
-    if text == spelling(Sign::Hyper) {
+    if same_bytes(text, b"hyper") {
         return Some(VarType::I8);
     }
-    if text == spelling(Sign::Currency) {
+    if same_bytes(text, b"CURRENCY") {
         return Some(VarType::Cy);
     }
-    if text == spelling(Sign::VariantBool) {
+    if same_bytes(text, b"VARIANT_BOOL") {
         return Some(VarType::Bool);
     }
-    if text == spelling(Sign::Scode) {
+    if same_bytes(text, b"SCODE") {
         return Some(VarType::Error);
     }
-    if text == spelling(Sign::Decimal) {
+    if same_bytes(text, b"DECIMAL") {
         return Some(VarType::Decimal);
     }
-    if text == spelling(Sign::Bstr) {
+    if same_bytes(text, b"BSTR") {
         return Some(VarType::Bstr);
     }
-    if text == spelling(Sign::Variant) {
+    if same_bytes(text, b"VARIANT") {
         return Some(VarType::Variant);
     }
     None
@@ -201,19 +101,19 @@ fn plain_type(text: &[u8]) -> Option<VarType>
 fn unsigned_type(text: &[u8]) -> Option<VarType>
     ensures { result ≡ unsigned_type text.now }
 {
-    if text == spelling(Sign::Char) {
+    if same_bytes(text, b"char") {
         return Some(VarType::Ui1);
     }
-    if text == spelling(Sign::Short) {
+    if same_bytes(text, b"short") {
         return Some(VarType::Ui2);
     }
-    if text == spelling(Sign::Long) {
+    if same_bytes(text, b"long") {
         return Some(VarType::Ui4);
     }
-    if text == spelling(Sign::Int) {
+    if same_bytes(text, b"int") {
         return Some(VarType::Uint);
     }
-    if text == spelling(Sign::Hyper) {
+    if same_bytes(text, b"hyper") {
         return Some(VarType::Ui8);
     }
     None

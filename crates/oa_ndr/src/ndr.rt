@@ -49,7 +49,14 @@ pub(crate) fn padding(n: usize, place: usize) -> usize
     ensures value { result ≡ padding n place }
     ensures small { result < n }
 {
-    let over = place % n;
+    // A remainder by a constant is a mask: a division takes longer than all else that a read or a write does.
+    let over = match n {
+        1 => place % 1,
+        2 => place % 2,
+        4 => place % 4,
+        8 => place % 8,
+        _ => place % n,
+    };
     if over == 0 { 0 } else { n - over }
 }
 

@@ -82,7 +82,7 @@ pub stays_sound : (event : Event) (old new : TableValue) → IsSound old → IsO
 stays_sound event old new sound ok at = record { numbered = numbers_stay event old new sound.numbered at; small = (is_allowed event old new ok at).table_small }
 
 -- locks are no part of it
-pub as_unlocked : (old new : TableValue) → unlocked_table new ≡ unlocked_table old → IsSound old → IsSound new
+as_unlocked : (old new : TableValue) → unlocked_table new ≡ unlocked_table old → IsSound old → IsSound new
 as_unlocked old new same sound = record {
   numbered = sym (unlocked_numbers new) ∙ ap is_numbered same ∙ unlocked_numbers old ∙ sound.numbered;
   small =

@@ -18,10 +18,10 @@ pub mod Own
 pub mod Mapping
 pub mod Held
 pub mod Settled
-pub mod Lasting
 pub mod Late
 pub mod Answering
 pub mod Put
 pub mod InMemory
 pub mod Talking
+pub mod Beginning
 pub mod Parting

@@ -12,11 +12,19 @@ use Rattle.oa_store.specs.Faults.{IsCaused, IsEarly, IsRefusal, Says}
 use Rattle.oa_store.specs.Reads.{WritesNothing}
 use Rattle.oa_store.specs.Stores.{IsForeign, IsStore, IsStoreAt}
 use Rattle.oa_table.specs.Tables.{TableValue, unlocked_table}
+use Rattle.oa_typelib.specs.Checked.{IsChecked}
+use Rattle.oa_server.specs.States.{State}
 
 -- the library can have the table, and a bank has room for its image
 pub record CanServe (library : TreeValue) (table : TableValue) : Type 0 where
   pub fit : fits library table ≡ true
   pub small : length (table_image table) ≤ 14680064
+
+-- a server can begin with this state: its library is one that was checked, and can have its table, whose objects are numbered
+pub record CanBegin (state : State) : Type 0 where
+  pub checked : IsChecked state.library
+  pub serves : CanServe state.library state.table
+  pub numbered : is_numbered state.table ≡ true
 
 -- each image is a store of the library and of the one table or the other
 abbrev pub EachEither : (List ℕ → Type 0) → TreeValue → TableValue → TableValue → Type 0

@@ -5,15 +5,13 @@ ghost use Rattle.oa_groups.specs.Runs.{IsAfter, Run as RunOf};
 ghost use Rattle.oa_groups.specs.Served.{IsServed};
 ghost use Rattle.oa_groups.specs.Sessions.{Call, IsSession, Sitting, by_then};
 ghost use Rattle.oa_groups.specs.Turns.{Entry};
-ghost use Rattle.oa_idl.specs.Trees.{TreeValue};
-ghost use Rattle.oa_image.specs.Tables.{is_numbered};
 ghost use Rattle.oa_record.specs.declared.request.Request.{Request as ARequest};
 ghost use Rattle.oa_record.specs.Replies.{ReplyValue};
 ghost use Rattle.oa_fits.specs.Fits.{fits};
 ghost use Rattle.oa_server.specs.Decisions.{IsQuiet};
-ghost use Rattle.oa_server.specs.Openings.{CanServe};
+ghost use Rattle.oa_server.specs.Openings.{CanBegin};
 ghost use Rattle.oa_server.specs.OwnCodes.{is_own};
-ghost use Rattle.oa_server.specs.Requests.{held_of, requests};
+ghost use Rattle.oa_server.specs.Requests.{held_of, opened, requests};
 ghost use Rattle.oa_server.specs.States.{State};
 ghost use Rattle.oa_server.specs.Steps.{outcome, reply_of};
 ghost use Rattle.oa_server.specs.Talks.{Part, Parts, calls_of};
@@ -24,7 +22,8 @@ ghost use Rattle.oa_disk.specs.Disk.{LeavesOnly};
 ghost use Rattle.oa_keeper.specs.Kept.{AllHold};
 ghost use Rattle.oa_store.specs.Stores.{IsStore};
 ghost use Rattle.oa_store.specs.declared.store.Store.{Store as AStore};
-ghost use Rattle.oa_table.specs.Tables.{TableValue, first_table, unlocked_table};
+ghost use Rattle.oa_idl.specs.Trees.{TreeValue};
+ghost use Rattle.oa_table.specs.Tables.{first_table};
 ghost use Rattle.oa_typelib.specs.Checked.{IsChecked};
 
 use oa_disk::Disk;
@@ -50,13 +49,13 @@ pub fn fits_stays()
     changes_that_fit();
 }
 
-/// A server can begin with the table at first, and then with that of each state after a run of groups: with it as it is, and with what an
-/// opening makes of it, which is the table without its locks.
-pub fn runs_can_be_served()
-    ensures first { (library : TreeValue) → CanServe library first_table × (is_numbered first_table ≡ true) }
-    ensures opened { (library : TreeValue) (table : TableValue) → CanServe library table → is_numbered table ≡ true → CanServe library (unlocked_table table) × (is_numbered (unlocked_table table) ≡ true) }
-    ensures groups { (old new : State) (entries : List (Entry ReplyValue)) → IsChecked old.library → CanServe old.library old.table → is_numbered old.table ≡ true → RunOf requests old entries new
-        → (new.library ≡ old.library) × CanServe new.library new.table × (is_numbered new.table ≡ true) }
+/// What was served can be served again, whatever its sessions were and wherever they stopped: from a state with which a server can begin, each turn leaves one, and so do those of groups;
+/// an opening, with which locks end, finds one; and a new store has one.
+pub fn what_was_served_is_served_again()
+    ensures turn { (old new : State) (body : List ℕ) (reply : ReplyValue) → CanBegin old → Turn old body reply new → (new.library ≡ old.library) × CanBegin new }
+    ensures groups { (old new : State) (entries : List (Entry ReplyValue)) → CanBegin old → RunOf requests old entries new → (new.library ≡ old.library) × CanBegin new }
+    ensures opened { (state : State) → CanBegin state → CanBegin (opened state) }
+    ensures first { (library : TreeValue) → IsChecked library → CanBegin (record { library = library; table = first_table }) }
 {
     changes_that_fit();
 }

@@ -6,7 +6,6 @@ pub mod Groups
 pub mod Kept
 pub mod Lists
 pub mod Looks
-pub mod MarkedTrees
 pub mod Named
 pub mod Passes
 pub mod Rules

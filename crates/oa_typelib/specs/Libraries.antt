@@ -10,6 +10,8 @@ use Rattle.oa_idl.specs.Values.{InterfaceValue, CoclassValue}
 use Rattle.oa_idl.specs.declared.parts.Entry.{Entry}
 use Rattle.oa_idl.specs.declared.items.Item.{Item}
 use Rattle.oa_idl.specs.declared.items.Item.TheVariants.{Interface, Coclass}
+-- one default interface in each coclass
+pub use Rattle.oa_idl.specs.Marked.{mark, mark_first, marked_entries, marked_item, marked}
 
 -- equal bytes
 abbrev pub same : List ℕ → List ℕ → Bool
@@ -48,25 +50,6 @@ interface_of tree guid = option_and_then as_interface (item_with tree.items guid
 
 abbrev pub class_of : TreeValue → List ℕ → Option CoclassValue
 class_of tree guid = option_and_then as_class (item_with tree.items guid)
-
--- Where no entry is marked as the default, the first one is.
-abbrev pub mark : Entry → Entry
-mark e = record { is_default = true; interface = e.interface }
-
-abbrev pub mark_first : List Entry → List Entry
-mark_first [] = []
-mark_first (e ∷ es) = mark e ∷ es
-
-abbrev pub marked_entries : List Entry → List Entry
-marked_entries es = if list_any (λ e. e.is_default) es then es else mark_first es
-
-abbrev pub marked_item : Item → Item
-marked_item (Interface i) = Interface i
-marked_item (Coclass c) = Coclass (record { guid = c.guid; name = c.name; entries = marked_entries c.entries })
-
--- a tree with one default interface marked in each coclass
-abbrev pub marked : TreeValue → TreeValue
-marked tree = record { guid = tree.guid; version = tree.version; name = tree.name; items = map marked_item tree.items }
 
 -- the default interface of a coclass
 abbrev pub default_interface : List Item → CoclassValue → Option InterfaceValue

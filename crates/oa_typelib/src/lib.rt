@@ -12,7 +12,6 @@ mod describe;
 mod described;
 mod fault;
 mod forms;
-mod laws;
 mod library;
 mod member;
 mod member_checks;

@@ -22,10 +22,10 @@ use crate::describe::{
 };
 use crate::described::DescribeError;
 use crate::fault::CheckError;
-use crate::laws::marked_is_read;
 use crate::members::{Dispinterface, Index, Members};
 use crate::places::{at, class_at, interface_at, items_of};
 use crate::sets::Guids;
+use oa_idl::laws::marked_is_read;
 use oa_idl::{Coclass, Item, Tree, print};
 use oa_model::MAX_LIBRARY_BYTES;
 use std::alloc::{AllocError, Global};

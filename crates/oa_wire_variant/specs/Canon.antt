@@ -1,5 +1,5 @@
 -- How a field is written: the ignored parts and the choices of a spelling (this project's choice).
-use Rattle.std.specs.Prelude.{ℕ, ◌+◌, ◌/◌, ◌%◌, ◌^◌, true, List, [], length}
+use Rattle.std.specs.Prelude.{◌≡◌, ℕ, ◌+◌, ◌/◌, ◌%◌, ◌^◌, true, List, [], length}
 use Rattle.oa_ndr.specs.Writing.{put_unit, put_referent}
 use Rattle.oa_model.specs.Types.{vt_of}
 use Rattle.oa_array.specs.Arrays.{ArrayValue}
@@ -20,6 +20,11 @@ put_sized_array size a out = out |> put_array_head size (vt_of a.elem + 8192) |>
 -- how many bytes an array takes, from the first of its wireVARIANT to the last of its pointees
 unfoldable pub array_len : ArrayValue Scalar → ℕ
 array_len a = length (put_sized_array 0 a [])
+
+-- so many, where a value is an array
+abbrev pub IsArrayLen : ℕ → Variant → Type 0
+IsArrayLen n (One s) = Unit {0}
+IsArrayLen n (Array a) = n ≡ array_len a
 
 abbrev pub put_variant : Variant → List ℕ → List ℕ
 put_variant (One s) out = put_scalar s out

@@ -14,7 +14,7 @@ ghost use Rattle.oa_wire_variant.specs.Reading.{
   array_value_at,
   variant_at,
 };
-ghost use Rattle.oa_wire_variant.specs.Canon.{canon, put_variant, put_array_head, put_sized_array, array_len};
+ghost use Rattle.oa_wire_variant.specs.Canon.{canon, put_variant, put_array_head, put_sized_array, IsArrayLen};
 
 use byteorder::{ByteOrder, LittleEndian};
 use oa_array::SafeArray;
@@ -166,10 +166,11 @@ pub fn read_variant(alloc: Global, bytes: &[u8]) -> Result<Variant, WireFault>
     }
 }
 
-/// How many bytes `write_variant` adds.
+// How many bytes `write_variant` adds. Of an array it is what clSize counts.
 #[tactic(auto, unfolding(oa_wire_array::specs::Canon::scalar_len))]
-pub fn wire_len(value: &Variant) -> usize
+fn measure(value: &Variant) -> usize
     ensures value { result ≡ length (canon value.now) }
+    ensures array { IsArrayLen result value.now }
     ensures small { result < 2 ^ 40 }
 {
     match value {
@@ -178,12 +179,12 @@ pub fn wire_len(value: &Variant) -> usize
     }
 }
 
-// What clSize of an array counts.
-fn array_len(array: &SafeArray<Scalar>) -> usize
-    ensures value { result ≡ array_len array.now }
+/// How many bytes `write_variant` adds.
+pub fn wire_len(value: &Variant) -> usize
+    ensures value { result ≡ length (canon value.now) }
     ensures small { result < 2 ^ 40 }
 {
-    array_end(array, SECOND_REFERENT)
+    measure(value)
 }
 
 // What stands before the second referent of an array.
@@ -209,15 +210,17 @@ fn write_sized_array(
     write_array(out, array)
 }
 
-// Adds the bytes of a value, in place.
-fn write_field(out: &mut NdrOut, value: &Variant) -> Result<(), AllocError>
+// Adds the bytes of a value, in place; `len` is how many an array takes.
+fn write_field(out: &mut NdrOut, value: &Variant, len: usize) -> Result<(), AllocError>
+    requires counted { IsArrayLen len value.now }
+    requires small { len < 2 ^ 40 }
     ensures ok { OnOk result (out.new ≡ within (put_variant value.now) out.old) }
     ensures before { out.new.before ≡ out.old.before }
 {
     match value {
         Variant::One(one) => write_scalar(out, one),
         Variant::Array(array) => {
-            let size = (array_len(array) + 7) / 8 % 0x1_0000_0000;
+            let size = (len + 7) / 8 % 0x1_0000_0000;
             write_sized_array(out, size as u32, array)
         }
     }
@@ -232,9 +235,10 @@ pub fn write_variant(value: &Variant, out: &mut Vec<u8>) -> Result<(), AllocErro
     ensures ok { OnOk result (out.new.items ≡ out.old.items ++ canon value.now) }
     ensures err { OnErr result (out.new.items ≡ out.old.items) }
 {
-    out.reserve(wire_len(value))?;
+    let len = measure(value);
+    out.reserve(len)?;
     let mut field = NdrOut::new(mem::replace(out, Vec::new(*out.allocator())));
-    let answer = write_field(&mut field, value);
+    let answer = write_field(&mut field, value, len);
     if answer.is_err() {
         field.truncate(0);
     }

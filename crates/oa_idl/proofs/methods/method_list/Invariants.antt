@@ -1,5 +1,5 @@
+use Rattle.std.specs.Prelude.{codes}
 use Rattle.std.proofs.Common.{◌≡◌, ◌-◌}
-use Rattle.oa_idl.specs.declared.sign.Sign.TheVariants as signs
 use Rattle.oa_idl.specs.Forms.{nowhere}
 use Rattle.oa_idl.specs.Words.{passes}
 use Rattle.oa_idl.specs.Reading.{until}
@@ -9,4 +9,4 @@ use Rattle.oa_idl.proofs.Loop.{with_front}
 use Rattle.oa_idl.proofs.methods.method_list.Given as goal
 
 abbrev pub invariant-loop : goal.invariant-loop
-invariant-loop l = with_front l.all.items (until (passes signs.Finish) nowhere method_at one_more closing_at (l.room - l.counter) l.count l.r) ≡ until (passes signs.Finish) nowhere method_at one_more closing_at l.room l.before l.fn.r
+invariant-loop l = with_front l.all.items (until (passes (codes "}")) nowhere method_at one_more closing_at (l.room - l.counter) l.count l.r) ≡ until (passes (codes "}")) nowhere method_at one_more closing_at l.room l.before l.fn.r

@@ -6,24 +6,22 @@ use Rattle.oa_idl.specs.declared.items.Item.{Item}
 use Rattle.oa_idl.specs.declared.items.Item.TheVariants.{Interface, Coclass}
 use Rattle.oa_idl.specs.Grammar.{no_entry}
 use Rattle.oa_idl.specs.Limits.{IsShort, HasShortNames, one_interface, one_coclass, how_many, HasFewMembers, HasFewParameters}
-use Rattle.oa_idl.specs.Printable.{AreEntries, marked_first, IsItem, IsPrintable}
+use Rattle.oa_idl.specs.Marked.{mark, marked_entries, marked_item, marked}
+use Rattle.oa_idl.specs.Printable.{AreEntries, IsItem, IsPrintable}
 use Rattle.oa_idl.specs.Trees.{TreeValue}
-use Rattle.oa_typelib.specs.Libraries.{mark, marked_entries, marked_item, marked}
+use Rattle.oa_idl.proofs.FirstDefault.{first_default}
 
-abbrev FirstMayBe : Type 0
-FirstMayBe = (e : Entry) (es : List Entry) → list_any (λ (x : Entry). x.is_default) (e ∷ es) ≡ false → AreEntries no_entry (e ∷ es) → AreEntries no_entry (marked_first e ∷ es)
-
-by_mark : (e : Entry) (es : List Entry) (b : Bool) → AreEntries no_entry (e ∷ es) → (b ≡ false → AreEntries no_entry (marked_first e ∷ es)) → AreEntries no_entry (if b then e ∷ es else mark e ∷ es)
+by_mark : (e : Entry) (es : List Entry) (b : Bool) → AreEntries no_entry (e ∷ es) → (b ≡ false → AreEntries no_entry (mark e ∷ es)) → AreEntries no_entry (if b then e ∷ es else mark e ∷ es)
 by_mark e es true are first = are
 by_mark e es false are first = first refl
 
-entries_marked : FirstMayBe → (es : List Entry) → AreEntries no_entry es → AreEntries no_entry (marked_entries es)
-entries_marked law [] are = are
-entries_marked law (e ∷ es) are = by_mark e es (list_any (λ (x : Entry). x.is_default) (e ∷ es)) are (λ none. law e es none are)
+entries_marked : (es : List Entry) → AreEntries no_entry es → AreEntries no_entry (marked_entries es)
+entries_marked [] are = are
+entries_marked (e ∷ es) are = by_mark e es (list_any (λ (x : Entry). x.is_default) (e ∷ es)) are (λ none. first_default e es none are)
 
-item_marked : FirstMayBe → (x : Item) → IsItem x → IsItem (marked_item x)
-item_marked law (Interface i) is = is
-item_marked law (Coclass c) is = (is.0, is.1, entries_marked law c.entries is.2)
+item_marked : (x : Item) → IsItem x → IsItem (marked_item x)
+item_marked (Interface i) is = is
+item_marked (Coclass c) is = (is.0, is.1, entries_marked c.entries is.2)
 
 all_marked : (P : Item → Type 0) → ((x : Item) → P x → P (marked_item x)) → (xs : List Item) → AllByRecursion P xs → AllByRecursion P (map marked_item xs)
 all_marked P each [] all = tt
@@ -61,12 +59,12 @@ coclass_counts : (x : Item) → one_coclass (marked_item x) ≡ one_coclass x
 coclass_counts (Interface i) = refl
 coclass_counts (Coclass c) = refl
 
-pub printable_marked : FirstMayBe → (t : TreeValue) → IsPrintable t → IsPrintable (marked t)
-printable_marked law t is = record {
+pub printable_marked : (t : TreeValue) → IsPrintable t → IsPrintable (marked t)
+printable_marked t is = record {
   guid = is.guid;
   version = is.version;
   name = is.name;
-  items = all_marked IsItem (item_marked law) t.items is.items;
+  items = all_marked IsItem (item_marked) t.items is.items;
   short = (is.short.0, all_marked HasShortNames short_item t.items is.short.1);
   interfaces = rw (as_many one_interface interface_counts t.items) is.interfaces;
   coclasses = rw (as_many one_coclass coclass_counts t.items) is.coclasses;

@@ -5,22 +5,24 @@ use Rattle.oa_idl.specs.Trees.{TreeValue}
 use Rattle.oa_store.specs.OneStore.{one_store}
 use Rattle.oa_store.specs.Stores.{IsForeign, IsStore}
 use Rattle.oa_table.specs.Tables.{TableValue}
-use Rattle.oa_server.specs.Openings.{CanServe, HoldsEither}
+use Rattle.oa_server.specs.Openings.{CanServe, EachEither, HoldsEither}
+
+-- the table of an image is one of them
+pub one_of_both : (image : List ℕ → Type 0) (library : TreeValue) (before after : TableValue) → EachEither image library before after → (c : List ℕ) → image c → (table : TableValue) → IsStore c (canonical library) table
+    → (table ≡ before) ⊎ (table ≡ after)
+one_of_both image library before after each c is table store = ⊎_elim
+    (λ first. inl (one_store c (canonical library) (canonical library) table before store first).table_same)
+    (λ second. inr (one_store c (canonical library) (canonical library) table after store second).table_same)
+    (each c is)
 
 module _ (image : List ℕ → Type 0) (library : TreeValue) (before after : TableValue) (h : HoldsEither image library before after) (c : List ℕ) (is : image c) where
-  -- the table of an image is one of them
-  pub one_of_both : (table : TableValue) → IsStore c (canonical library) table → (table ≡ before) ⊎ (table ≡ after)
-  one_of_both table store = ⊎_elim
-      (λ first. inl (one_store c (canonical library) (canonical library) table before store first).table_same)
-      (λ second. inr (one_store c (canonical library) (canonical library) table after store second).table_same)
-      (h.each c is)
 
-  -- so a server can begin with it
+  -- a server can begin with the table of an image
   pub can_begin : (table : TableValue) → IsStore c (canonical library) table → CanServe library table
   can_begin table store = ⊎_elim
       (λ first. subst (CanServe library) (sym first) h.first)
       (λ second. subst (CanServe library) (sym second) h.second)
-      (one_of_both table store)
+      (one_of_both image library before after h.each c is table store)
 
   -- and what no store of the library may be said of is none of them
   pub is_some_store : ((table : TableValue) → IsStore c (canonical library) table → ⊥) → ⊥

@@ -26,9 +26,13 @@ pub record CanBegin (state : State) : Type 0 where
   pub serves : CanServe state.library state.table
   pub numbered : is_numbered state.table ≡ true
 
--- each image is a store of the library and of the one table or the other, and a server can begin with both
+-- each image is a store of the library and of the one table or the other
+abbrev pub EachEither : (List ℕ → Type 0) → TreeValue → TableValue → TableValue → Type 0
+EachEither image library before after = (c : List ℕ) → image c → IsStore c (canonical library) before ⊎ IsStore c (canonical library) after
+
+-- and a server can begin with both
 pub record HoldsEither (image : List ℕ → Type 0) (library : TreeValue) (before after : TableValue) : Type 0 where
-  pub each : (c : List ℕ) → image c → IsStore c (canonical library) before ⊎ IsStore c (canonical library) after
+  pub each : EachEither image library before after
   pub first : CanServe library before
   pub second : CanServe library after
 
@@ -48,7 +52,7 @@ pub record IsFound {D : Type 0} (g : Ghosts D) (disk : D) (library : TreeValue) 
   pub contents : IsStore (g.contents disk) (canonical library) table
   pub unlocked : unlocked_table table ≡ table
   -- where a stop has left one of two tables, it is one of them
-  pub one : (before after : TableValue) → HoldsEither (g.image disk) library before after → (table ≡ before) ⊎ (table ≡ after)
+  pub one : (before after : TableValue) → EachEither (g.image disk) library before after → (table ≡ before) ⊎ (table ≡ after)
   pub formatted : IsForeign (g.size_of disk) (g.contents disk) → ⊥
 
 -- a store of the library was opened on the disk, with a table

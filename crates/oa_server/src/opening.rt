@@ -2,7 +2,7 @@
 ghost use Rattle.std.specs.Prelude.{◌≡◌, ◌↔◌, ◌⊎◌, ◌≤◌, List, ℕ, Some, IsTrue, false, length, true, IfOk, IfErr};
 ghost use Rattle.oa_idl.specs.Canonical.{canonical};
 ghost use Rattle.oa_image.specs.Tables.{is_numbered, table_image};
-ghost use Rattle.oa_server.specs.Openings.{CanServe, HoldsEither, IsNotOpened, IsOpened, IsUnfit};
+ghost use Rattle.oa_server.specs.Openings.{CanServe, EachEither, HoldsEither, IsNotOpened, IsOpened, IsUnfit};
 ghost use Rattle.oa_server.specs.Storages.{OverStore};
 ghost use Rattle.oa_store.specs.Faults.{IsCaused, IsEarly, IsRefusal, Says};
 ghost use Rattle.oa_store.specs.Reads.{WritesNothing};
@@ -56,7 +56,7 @@ pub(crate) fn open_store<D: Disk>(
     ensures serves { IfOk result (λ r. CanServe library.now r.1) }
     ensures starts { IfOk result (λ r. (r.0.stopped ≡ false) × (r.0.library.items ≡ canonical library.now) × (is_numbered r.1 ≡ true)) }
     // Where a stop has left one of two tables, that one is answered, and no refusal says that there is none.
-    ensures either { IfOk result (λ r. IsTrue (D.is_honest r.0.disk) → (before after : TableValue) → HoldsEither (D.image disk) library.now before after → (r.1 ≡ before) ⊎ (r.1 ≡ after)) }
+    ensures either { IfOk result (λ r. IsTrue (D.is_honest r.0.disk) → (before after : TableValue) → EachEither (D.image disk) library.now before after → (r.1 ≡ before) ⊎ (r.1 ≡ after)) }
     ensures refused { IfErr result (λ e. IsRefusal e.1 → IsTrue (D.is_honest e.0) → (before after : TableValue) → HoldsEither (D.image disk) library.now before after → ⊥) }
     // A refusal is true of the contents at the start.
     ensures says { IfErr result (λ e. IsTrue (D.is_honest e.0) → Says (Some (canonical library.now)) (D.size_of disk) (D.contents disk) e.1 ⊎ IsUnfit library.now (D.contents disk) e.1) }

@@ -1,10 +1,9 @@
 -- What was served can be served again.
-use Rattle.std.proofs.Common.{◌≡◌, ◌≤◌, ℕ, List, [], ◌∷◌, true, length, Result, Ok, Err, IfOk, IsOk, inl, inr, refl, sym, subst, ◌∙◌}
+use Rattle.std.proofs.Common.{◌≡◌, ℕ, List, [], ◌∷◌, Result, Ok, Err, IfOk, IsOk, inl, inr, refl, sym, subst, ◌∙◌}
 use Rattle.oa_fits.proofs.Kept.{unlocked_fits}
 use Rattle.oa_groups.specs.Runs.{Run as RunOf}
 use Rattle.oa_groups.specs.Turns.{Entry}
 use Rattle.oa_idl.specs.Trees.{TreeValue}
-use Rattle.oa_image.specs.Tables.{table_image}
 use Rattle.oa_image.proofs.Numbered.{unlocked_numbers}
 use Rattle.oa_image.proofs.Whole.{same_table}
 use Rattle.oa_model.specs.declared.hresult.HResult.{HResult}

@@ -16,7 +16,6 @@ one_of_both image library before after each c is table store = ⊎_elim
     (each c is)
 
 module _ (image : List ℕ → Type 0) (library : TreeValue) (before after : TableValue) (h : HoldsEither image library before after) (c : List ℕ) (is : image c) where
-
   -- a server can begin with the table of an image
   pub can_begin : (table : TableValue) → IsStore c (canonical library) table → CanServe library table
   can_begin table store = ⊎_elim

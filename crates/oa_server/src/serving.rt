@@ -210,7 +210,7 @@ impl<D: Disk> Server<D> {
             (W.out writer.old) (W.out writer.new) self.old.clerk.host self.new.clerk.host served) }
         ensures input { OnErr result (ahead R.input reader.new ≡ ahead R.input reader.old) }
         ensures output { OnErr result (W.out writer.new ≡ W.out writer.old) }
-        ensures state { OnErr result ((self.new.clerk.storage ≡ self.old.clerk.storage) × (self.new.clerk.host ≡ self.old.clerk.host)) }
+        ensures state { OnErr result (self.new ≡ self.old) }
     {
         session_with(&mut self.clerk, Framing::HexLines, reader, writer, group)
     }
@@ -232,7 +232,7 @@ impl<D: Disk> Server<D> {
             (W.out writer.old) (W.out writer.new) self.old.clerk.host self.new.clerk.host served) }
         ensures input { OnErr result (ahead R.input reader.new ≡ ahead R.input reader.old) }
         ensures output { OnErr result (W.out writer.new ≡ W.out writer.old) }
-        ensures state { OnErr result ((self.new.clerk.storage ≡ self.old.clerk.storage) × (self.new.clerk.host ≡ self.old.clerk.host)) }
+        ensures state { OnErr result (self.new ≡ self.old) }
     {
         session_with(&mut self.clerk, Framing::Records, reader, writer, group)
     }
@@ -255,7 +255,7 @@ fn session_with<D: Disk, R: Source + Drop, W: Sink>(
         (W.out writer.old) (W.out writer.new) clerk.old.host clerk.new.host served) }
     ensures input { OnErr result (ahead R.input reader.new ≡ ahead R.input reader.old) }
     ensures output { OnErr result (W.out writer.new ≡ W.out writer.old) }
-    ensures state { OnErr result ((clerk.new.storage ≡ clerk.old.storage) × (clerk.new.host ≡ clerk.old.host)) }
+    ensures state { OnErr result (clerk.new ≡ clerk.old) }
 {
     let alloc = clerk.host.allocator();
     let mut line = Vec::with_capacity(alloc, MAX_LINE_CHARACTERS as usize + 1)?;

@@ -35,12 +35,12 @@ pub record IsStopped {S R D : Type 0} (t : Turns S R) (g : Ghosts D) (library : 
   pub count_is : session.count ≡ by_then stop (drop 1 work.moments)
   pub may_be_left : (m : ℕ) → m ≤ stop → g.image_since now m left
 
--- One session after the other, each opened on what the stop of the one before has left, and at the state that this holds. That what a stop leaves
--- holds the groups that count is the law `a_stop_keeps_what_was_answered`.
+-- One session after the other, each opened on what the stop of the one before has left, and at the state that this holds, which is one after so many
+-- of the stopped session's groups, or more: whichever of them it is seen to hold.
 abbrev pub Sessions : {S R D : Type 0} → Turns S R → Ghosts D → List ℕ → S → List ℕ → List (Session R) → List ℕ → Type 0
 Sessions t g library state old [] new = old ≡ new
 Sessions t g library state old (session ∷ sessions) new =
-    (mid : List ℕ) × IsStopped t g library (t.opened state) session old mid × (after : IsAfter t session.count library (t.opened state) session.groups mid) × Sessions t g library after.state mid sessions new
+    (mid : List ℕ) × IsStopped t g library (t.opened state) session old mid × ((after : IsAfter t session.count library (t.opened state) session.groups mid) → Sessions t g library after.state mid sessions new)
 
 -- what is kept of each session
 abbrev pub KeepsEach : {R : Type 0} → List (Session R) → List (List (Entry R)) → Type 0

@@ -22,6 +22,9 @@ pub mod Late
 pub mod Answering
 pub mod Put
 pub mod InMemory
+pub mod Grouping
 pub mod Talking
 pub mod Beginning
 pub mod Parting
+pub mod OneState
+pub mod Kept

@@ -38,7 +38,7 @@ module _ {D : Type 0} {g : Ghosts D} where
   goes_before size (Memory disk) new state after parts is going = tt
   goes_before size (Disk store) new state after [] is going = subst (λ (s : Store D g). s.stopped ≡ false) (same_store new store is.0) going
   goes_before size (Disk store) new state after (part ∷ parts) is going =
-      went_before size store is.0 state is.1 part (either store.stopped) is.3 (goes_before size is.0 new is.1 after parts is.4 going)
+      went_before size store is.0 state is.1 part (either store.stopped) is.2.serves (goes_before size is.0 new is.1 after parts is.3 going)
 
   one_more : (start : D) (mid : Store D g) (there : Storage D g) (library : List ℕ) (first last after : State) (calls : List (Call ReplyValue)) (size : ℕ) (part : Part) → Sitting requests start mid library first last calls
       → Serves size (Disk mid) there last part.bodies part.told after → mid.stopped ≡ false → IsGoing there → SitsAt start there library first after (calls ++ record { size = size; bodies = part.bodies; replies = part.told } ∷ [])
@@ -54,10 +54,10 @@ module _ {D : Type 0} {g : Ghosts D} where
       (subst (λ (s : State). Sitting requests start mid library first s (calls ++ [])) (sym is.1) (subst (λ (l : List (Call ReplyValue)). Sitting requests start mid library first last l) (sym (append-nil calls)) sits))
   parts_at start (Disk mid) new library first last after calls size (part ∷ parts) sits is going =
       let call : Call ReplyValue = record { size = size; bodies = part.bodies; replies = part.told } in
-      let there = goes_before size is.0 new is.1 after parts is.4 going in
-      let here = went_before size mid is.0 last is.1 part (either mid.stopped) is.3 there in
+      let there = goes_before size is.0 new is.1 after parts is.3 going in
+      let here = went_before size mid is.0 last is.1 part (either mid.stopped) is.2.serves there in
       subst (λ (l : List (Call ReplyValue)). Sitting requests start new library first after l) (append_assoc calls (call ∷ []) (calls_of size parts))
-      (parts_at start is.0 new library first is.1 after (calls ++ call ∷ []) size parts (one_more start mid is.0 library first last is.1 calls size part sits is.3 here there) is.4 going)
+      (parts_at start is.0 new library first is.1 after (calls ++ call ∷ []) size parts (one_more start mid is.0 library first last is.1 calls size part sits is.2.serves here there) is.3 going)
 
   pub parts_go_on : (start : D) (mid new : Store D g) (library : List ℕ) (first last after : State) (calls : List (Call ReplyValue)) (size : ℕ) (parts : List Part) → Sitting requests start mid library first last calls
       → Parts size (Disk mid) (Disk new) last parts after → new.stopped ≡ false → Sitting requests start new library first after (calls ++ calls_of size parts)

@@ -2,7 +2,7 @@
 use Rattle.std.proofs.Common.{◌≡◌, ◌⊎◌, inl, inr, ◌<◌, ◌≤◌, ℕ, ◌+◌, IsTrue, true, false, true≢false, List, [], ◌∷◌, ◌++◌, length, map, refl, sym, ap, ◌∙◌, subst, arith, append_assoc, length-append}
 use Rattle.std.specs.Bool.{⊤}
 use Rattle.std.specs.Vec.{vec_capacity}
-use Rattle.std.proofs.lemmas.List.{append-nil, map-append}
+use Rattle.std.proofs.lemmas.List.{append-nil, length_push, map-append}
 use Rattle.oa_disk.specs.declared.disk.Disk.{Ghosts}
 use Rattle.oa_frame.specs.Framings.{Frames}
 use Rattle.oa_frame.specs.Sessions as sessions
@@ -25,8 +25,9 @@ use Rattle.oa_server.specs.Hands.{desk}
 use Rattle.oa_server.specs.Requests.{requests}
 use Rattle.oa_server.specs.States.{State}
 use Rattle.oa_server.specs.Storages.{Serves, disk_of}
-use Rattle.oa_server.specs.Talks.{Ended, HandIsReady, InParts, IsTakenOver, Part, Parts, ServesSession, Taken, any_turn, at_last, bodies_of, ended_written, handed_of, silent, taken_written}
+use Rattle.oa_server.specs.Talks.{Ended, EndsBefore, EndsGroup, HandIsReady, InParts, IsGroup, IsTakenOver, Part, Parts, ServesSession, Taken, any_turn, at_last, bodies_of, ended_written, handed_of, silent, taken_written}
 use Rattle.oa_server.specs.Turns.{Run}
+use Rattle.oa_server.proofs.Grouping.{Holding, group_faulted, group_filled, holds_more, holds_none, rest_ends}
 use Rattle.oa_server.proofs.Late.{late_ended, late_more, late_none}
 use Rattle.oa_server.proofs.Runs.{run_more}
 use Rattle.oa_server.proofs.Settled.{ready_at}
@@ -166,10 +167,17 @@ module _ {D : Type 0} {g : Ghosts D} (only : (d : D) (c : List ℕ) → IsTrue (
   Holds (Memory disk) hand n = ⊤
   Holds (Disk store) hand n = length hand.replies.items ≡ n
 
+  -- no group is whole: none is in memory, and none after a fault
+  abbrev NoGroup : Storage D g → State → Storage D g → State → Hand → List (List ℕ) → Type 0
+  NoGroup (Memory start) first now state hand bodies = bodies ≡ []
+  NoGroup (Disk start) first (Disk now) state hand bodies = (start.stopped ≡ false → Holding size first now state hand.replies.items hand.frame bodies) × (start.stopped ≡ true → bodies ≡ [])
+  NoGroup (Disk start) first (Memory now) state hand bodies = ⊥
+
   -- these bodies are in hand
   record InPart (start : Storage D g) (first : State) (now : Storage D g) (state : State) (hand : Hand) (bodies : List (List ℕ)) : Type 0 where
     so_far : SoFar size start first now state hand bodies []
     holds : Holds now hand (length bodies)
+    short : NoGroup start first now state hand bodies
 
   record KeepsOn (start : Storage D g) (first : State) (new : Storage D g) (after : State) (hand : Hand) (bodies replies : List (List ℕ)) : Type 0 where
     nothing : replies ≡ []
@@ -179,6 +187,7 @@ module _ {D : Type 0} {g : Ghosts D} (only : (d : D) (c : List ℕ) → IsTrue (
     told : List ReplyValue
     are : replies ≡ map reply_record told
     few : length bodies ≤ size
+    group : EndsGroup size start new first bodies told after
     serves : Serves size start new first bodies told after
     in_part : InPart new after new after hand []
 
@@ -202,6 +211,7 @@ module _ {D : Type 0} {g : Ghosts D} (only : (d : D) (c : List ℕ) → IsTrue (
         late = λ stopped. late_none store state stopped;
       };
       holds = ap (λ (l : List ReplyValue). length l) none;
+      short = (λ going. rw (none, empty going) (holds_none size store state some going), λ stopped. refl);
     }
 
     next_in_part : (start old new : Storage D g) (first before after : State) (hand hand' : Hand) (bodies : List (List ℕ)) (body : List ℕ) (replies : List (List ℕ))
@@ -210,14 +220,15 @@ module _ {D : Type 0} {g : Ghosts D} (only : (d : D) (c : List ℕ) → IsTrue (
       told = is.1.0 ∷ [];
       are = is.1.1;
       few = let few = few_in_hand (Memory start) (Memory old) first before hand bodies was in omega (arith, few, length-append bodies (body ∷ []));
+      group = length_push bodies body ∙ ap (λ (l : List (List ℕ)). length l + 1) was.short;
       serves = (ap (λ (s : Storage D g). disk_of s) is.0 ∙ was.so_far.0, run_more first before after bodies [] body is.1.0 was.so_far.1 is.1.2);
-      in_part = record { so_far = (refl, refl); holds = tt };
+      in_part = record { so_far = (refl, refl); holds = tt; short = refl };
     })
     next_in_part (Memory start) (Memory old) (Disk new) first before after hand hand' bodies body replies was is = absurd (cc is.0)
     next_in_part (Disk start) (Disk old) (Memory new) first before after hand hand' bodies body replies was is = absurd (is was.so_far.ready).taken
     next_in_part (Memory start) (Disk old) new first before after hand hand' bodies body replies was is = absurd was.so_far
     next_in_part (Disk start) (Memory old) new first before after hand hand' bodies body replies was is = absurd was.so_far
-    next_in_part (Disk start) (Disk old) (Disk new) first before after hand hand' bodies body replies was is = by one.taken
+    next_in_part (Disk start) (Disk old) (Disk new) first before after hand hand' bodies body replies was is = by taken
       where
         one : IsTakenOver (Disk old) before hand body replies (Disk new) after hand'
         one = is was.so_far.ready
@@ -240,11 +251,15 @@ module _ {D : Type 0} {g : Ghosts D} (only : (d : D) (c : List ℕ) → IsTrue (
         few : length (bodies ++ body ∷ []) ≤ size
         few = let few = few_in_hand (Disk start) (Disk old) first before hand bodies was in omega (arith, few, length-append bodies (body ∷ []))
 
-        ends : hand'.replies.items ≡ [] → (new.stopped ≡ false → hand'.frame ≡ []) → Steps (Disk start) first (Disk new) after hand' (bodies ++ body ∷ []) replies
-        ends none empty = inr (record {
+        alone : start.stopped ≡ true → length (bodies ++ body ∷ []) ≡ 1
+        alone stopped = length_push bodies body ∙ ap (λ (l : List (List ℕ)). length l + 1) (was.short.1 stopped)
+
+        ends : hand'.replies.items ≡ [] → (new.stopped ≡ false → hand'.frame ≡ []) → (start.stopped ≡ false → IsGroup size new first (bodies ++ body ∷ []) one.told after) → Steps (Disk start) first (Disk new) after hand' (bodies ++ body ∷ []) replies
+        ends none empty group = inr (record {
           told = one.told;
           are = one.are;
           few = few;
+          group = (group, alone);
           serves = record {
             served = λ going.
                 subst (λ (l : List ReplyValue). IsServed requests size start new first after (bodies ++ body ∷ []) l) (append-nil one.told)
@@ -254,7 +269,7 @@ module _ {D : Type 0} {g : Ghosts D} (only : (d : D) (c : List ℕ) → IsTrue (
           in_part = part_begins new after hand' size_is one.ready none empty;
         })
 
-        by : IsTaken requests hand.size body one.told (desk old before hand.replies.items hand.frame) now → Steps (Disk start) first (Disk new) after hand' (bodies ++ body ∷ []) replies
+        by : IsTaken requests size body one.told (desk old before hand.replies.items hand.frame) now → Steps (Disk start) first (Disk new) after hand' (bodies ++ body ∷ []) replies
         by (inl kept) = inl (record {
           nothing = one.are ∙ ap (λ (l : List ReplyValue). map reply_record l) kept.nothing;
           in_part = record {
@@ -264,16 +279,23 @@ module _ {D : Type 0} {g : Ghosts D} (only : (d : D) (c : List ℕ) → IsTrue (
               going = λ going. subst (λ (l : List ReplyValue). Underway requests size (desk start first [] []) now (bodies ++ body ∷ []) l) kept.nothing (underway going);
               late = λ stopped. absurd (true≢false (sym (was.so_far.late stopped).stopped ∙ kept.was));
             };
+            short = (
+              λ going. holds_more size first old before hand.replies.items hand.frame bodies (was.short.0 going) body kept.reply kept.event now kept.held kept.short,
+              λ stopped. absurd (true≢false (sym (was.so_far.late stopped).stopped ∙ kept.was)),
+            );
             holds = ap (λ (l : List ReplyValue). length l) kept.held.pending ∙ length-append hand.replies.items (kept.reply ∷ []) ∙ ap (λ (n : ℕ). n + 1) was.holds ∙ sym (length-append bodies (body ∷ []));
           };
         })
         by (inr (inl filled)) = ends (none (either new.stopped)) (λ going. (filled.settled.well going).2)
+            (λ going. group_filled size first old before hand.replies.items hand.frame bodies (was.short.0 going) body filled.reply filled.event filled.mid now one.told filled.held filled.full filled.settled)
           where
             none : (new.stopped ≡ false) ⊎ (new.stopped ≡ true) → hand'.replies.items ≡ []
             none (inl going) = (filled.settled.well going).1
             none (inr stopped) = one.ready.late stopped
         by (inr (inr (inl faulted))) = ends (one.ready.late faulted.failed.stopped) (λ going. absurd (true≢false (sym faulted.failed.stopped ∙ going)))
+            (λ going. group_faulted size first old before hand.replies.items hand.frame bodies (was.short.0 going) body faulted.failed.reply faulted.failed.event now one.told faulted.failed.turn faulted.failed.stopped)
         by (inr (inr (inr too_late))) = ends (one.ready.late too_late.over.is) (λ going. absurd (true≢false (sym too_late.over.is ∙ going)))
+            (λ going. absurd (true≢false (sym too_late.over.was ∙ (was.short.0 going).going)))
 
     record InPartsSoFar (start : Storage D g) (first : State) (now : Clerk D g) (bodies : List (List ℕ)) (handed : List (List (List ℕ))) : Type 0 where
       parts : List Part
@@ -333,11 +355,21 @@ module _ {D : Type 0} {g : Ghosts D} (only : (d : D) (c : List ℕ) → IsTrue (
                   ∙ ap (λ (l : List (List (List ℕ))). l ++ handed) (sym (at_last_push front body (map reply_record ends.told)))
                   ∙ ap (λ (l : List (List (List ℕ))). at_last (front ++ body ∷ []) (map reply_record ends.told) ++ l) rest.handed_are
                   ∙ sym (append_assoc (at_last (front ++ body ∷ []) (map reply_record ends.told)) (handed_of rest.parts) (silent rest.in_hand));
-              served = (run.0.storage, run.0.host, ends.few, ends.serves, rest.served);
+              served = (run.0.storage, run.0.host, record { few = ends.few; ends = ends.group; serves = ends.serves }, rest.served);
               in_part = rest.in_part;
             }
     in_parts start first old new front [] (replies ∷ handed) was run = absurd run
     in_parts start first old new front (body ∷ bodies) [] was run = absurd run
+
+    rest_at : (start mid new : Storage D g) (first before after : State) (hand hand' : Hand) (bodies : List (List ℕ)) (replies : List (List ℕ)) (was : InPart start first mid before hand bodies)
+        → (is : Ended mid before hand replies new after hand') → EndsBefore size start new first bodies (ended_at start mid new first before after hand hand' bodies [] replies was.so_far is).told after
+    unfolding ended_at
+    rest_at (Memory start) mid new first before after hand hand' bodies replies was is = was.short
+    rest_at (Disk start) (Disk mid) (Disk new) first before after hand hand' bodies replies was is =
+        let one = is was.so_far.ready in
+        (λ going. rest_ends size first mid before hand.replies.items hand.frame bodies (was.short.0 going) (desk new after hand'.replies.items hand'.frame) one.told one.ended, was.short.1)
+    rest_at (Disk start) (Disk mid) (Memory new) first before after hand hand' bodies replies was is = absurd (is was.so_far.ready).ended
+    rest_at (Disk start) (Memory mid) new first before after hand hand' bodies replies was is = absurd was.so_far
 
     -- and the end
     parts_end : (old mid new : Clerk D g) (bodies : List (List ℕ)) (handed : List (List (List ℕ))) (held : List (List ℕ)) → InPartsSoFar old.storage old.host mid bodies handed → ended_written mid held new
@@ -355,17 +387,22 @@ module _ {D : Type 0} {g : Ghosts D} (only : (d : D) (c : List ℕ) → IsTrue (
           held_are = last.are;
           served = was.served;
           few = few_in_hand was.mid mid.storage was.state mid.host mid.hand was.in_hand was.in_part;
+          rest = rest_at was.mid mid.storage new.storage was.state mid.host new.host mid.hand new.hand was.in_hand held was.in_part is;
           ends = last.serves;
         }
 
-    part_at_start : (storage : Storage D g) (state : State) (hand : Hand) → hand.replies.items ≡ [] → SoFar size storage state storage state hand [] [] → InPart storage state storage state hand []
-    part_at_start (Memory disk) state hand none so_far = record { so_far = so_far; holds = tt }
-    part_at_start (Disk store) state hand none so_far = record { so_far = so_far; holds = ap (λ (l : List ReplyValue). length l) none }
+    part_at_start : (storage : Storage D g) (state : State) (hand : Hand) → hand.replies.items ≡ [] → hand.frame ≡ [] → SoFar size storage state storage state hand [] [] → InPart storage state storage state hand []
+    part_at_start (Memory disk) state hand none empty so_far = record { so_far = so_far; holds = tt; short = refl }
+    part_at_start (Disk store) state hand none empty so_far = record {
+      so_far = so_far;
+      holds = ap (λ (l : List ReplyValue). length l) none;
+      short = (λ going. rw (none, empty) (holds_none size store state some going), λ stopped. refl);
+    }
 
   -- the whole session
-  pub serves_session : (f : Frames) (last : List ℕ) (input input' : Input) (out out' : Output) (old new : Clerk D g) (served : Served) → 1 ≤ size → old.hand.replies.items ≡ []
+  pub serves_session : (f : Frames) (last : List ℕ) (input input' : Input) (out out' : Output) (old new : Clerk D g) (served : Served) → 1 ≤ size → old.hand.replies.items ≡ [] → old.hand.frame ≡ []
       → SoFar size old.storage old.host old.storage old.host old.hand [] [] → sessions.Session f taken_written ended_written last input input' out out' old new served → ServesSession f last input input' out out' size old.storage new.storage old.host new.host served
-  serves_session f last input input' out out' old new served some none begin is =
+  serves_session f last input input' out out' old new served some none empty begin is =
       let runs = went old.storage old.host old is.mid [] is.bodies [] is.handed begin is.run in
       let ends = ended_at old.storage is.mid.storage new.storage old.host is.mid.host new.host is.mid.hand new.hand is.bodies runs.told is.held runs.so_far is.ended in
       record {
@@ -392,5 +429,5 @@ module _ {D : Type 0} {g : Ghosts D} (only : (d : D) (c : List ℕ) → IsTrue (
         serves = ends.serves;
         in_parts =
             parts_end some old is.mid new is.bodies is.handed is.held
-            (in_parts some old.storage old.host old is.mid [] is.bodies is.handed (part_at_start some old.storage old.host old.hand none begin) is.run) is.ended;
+            (in_parts some old.storage old.host old is.mid [] is.bodies is.handed (part_at_start some old.storage old.host old.hand none empty begin) is.run) is.ended;
       }

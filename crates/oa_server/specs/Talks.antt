@@ -1,14 +1,18 @@
 -- Sessions of a server over streams, in memory and over a store.
-use Rattle.std.specs.Prelude.{◌≡◌, ◌<◌, ◌≤◌, ℕ, List, [], ◌∷◌, ◌++◌, length, map, vec_capacity, Result, ⊤}
+use Rattle.std.specs.Prelude.{◌≡◌, ◌<◌, ◌≤◌, ℕ, false, true, List, [], ◌∷◌, ◌++◌, length, map, vec_capacity, Result, ⊤}
 use Rattle.oa_disk.specs.declared.disk.Disk.{Ghosts}
 use Rattle.oa_frame.specs.Framings.{Frames}
 use Rattle.oa_frame.specs.Sessions.{Session, joined, spelled_all}
 use Rattle.oa_frame.specs.declared.session.Served.{Served}
 use Rattle.oa_groups.specs.Desks.{IsEnded, IsTaken}
+use Rattle.oa_groups.specs.Groups.{is_full}
+use Rattle.oa_groups.specs.Runs.{Run}
 use Rattle.oa_groups.specs.Sessions.{Call}
+use Rattle.oa_groups.specs.Turns.{Entry, body_of, reply_of}
 use Rattle.oa_record.specs.Replies.{ReplyValue, reply_record}
 use Rattle.oa_stream.specs.Sink.{Output, Puts}
 use Rattle.oa_stream.specs.Source.{Input}
+use Rattle.oa_store.specs.declared.store.Store.{Store}
 use Rattle.oa_stream.specs.declared.sink.Unwritten.{Unwritten}
 use Rattle.oa_server.specs.declared.clerk.Clerk.{Clerk}
 use Rattle.oa_server.specs.declared.hand.Hand.{Hand}
@@ -117,18 +121,52 @@ abbrev pub handed_of : List Part → List (List (List ℕ))
 handed_of [] = []
 handed_of (part ∷ parts) = at_last part.bodies (map reply_record part.told) ++ handed_of parts
 
--- Each part is a call of its own, of so many bodies at most, that begins where the one before has ended.
+-- The last of these bodies ends a group: it fills it, or the device fails in it. Before it no group is whole.
+pub record IsGroup {D : Type 0} {g : Ghosts D} (size : ℕ) (new : Store D g) (before : State) (bodies : List (List ℕ)) (told : List ReplyValue) (after : State) : Type 0 where
+  pub group : List (Entry ReplyValue)
+  pub bodies_are : bodies ≡ map body_of group
+  pub run : Run requests before group after
+  pub short : (front : List (Entry ReplyValue)) (last : Entry ReplyValue) → group ≡ front ++ last ∷ [] → is_full size front ≡ false
+  pub whole : new.stopped ≡ false → (is_full size group ≡ true) × (told ≡ map reply_of group)
+
+-- These bodies are no group yet: another request could have come to them.
+pub record IsRest {D : Type 0} {g : Ghosts D} (size : ℕ) (new : Store D g) (before : State) (bodies : List (List ℕ)) (told : List ReplyValue) (after : State) : Type 0 where
+  pub held : List (Entry ReplyValue)
+  pub bodies_are : bodies ≡ map body_of held
+  pub run : Run requests before held after
+  pub short : is_full size held ≡ false
+  pub told_are : new.stopped ≡ false → told ≡ map reply_of held
+
+-- So one group over a store; in memory, and after a fault of the device, one body.
+abbrev pub EndsGroup : {D : Type 0} {g : Ghosts D} → ℕ → Storage D g → Storage D g → State → List (List ℕ) → List ReplyValue → State → Type 0
+EndsGroup size (Disk old) (Disk new) before bodies told after = (old.stopped ≡ false → IsGroup size new before bodies told after) × (old.stopped ≡ true → length bodies ≡ 1)
+EndsGroup size (Disk old) (Memory new) before bodies told after = ⊥
+EndsGroup size (Memory old) new before bodies told after = length bodies ≡ 1
+
+-- So over a store; in memory, and after a fault of the device, none is in hand.
+abbrev pub EndsBefore : {D : Type 0} {g : Ghosts D} → ℕ → Storage D g → Storage D g → State → List (List ℕ) → List ReplyValue → State → Type 0
+EndsBefore size (Disk old) (Disk new) before bodies told after = (old.stopped ≡ false → IsRest size new before bodies told after) × (old.stopped ≡ true → bodies ≡ [])
+EndsBefore size (Disk old) (Memory new) before bodies told after = ⊥
+EndsBefore size (Memory old) new before bodies told after = bodies ≡ []
+
+-- A part is a call of its own, of so many bodies at most, and one group.
+pub record IsPart {D : Type 0} {g : Ghosts D} (size : ℕ) (old new : Storage D g) (before : State) (part : Part) (after : State) : Type 0 where
+  pub few : length part.bodies ≤ size
+  pub ends : EndsGroup size old new before part.bodies part.told after
+  pub serves : Serves size old new before part.bodies part.told after
+
+-- Each part begins where the one before has ended.
 abbrev pub Parts : {D : Type 0} {g : Ghosts D} → ℕ → Storage D g → Storage D g → State → List Part → State → Type 0
 Parts size old new before [] after = (new ≡ old) × (after ≡ before)
-Parts {D} {g} size old new before (part ∷ parts) after = (mid : Storage D g) × (state : State) × (length part.bodies ≤ size) × Serves size old mid before part.bodies part.told state × Parts size mid new state parts after
+Parts {D} {g} size old new before (part ∷ parts) after = (mid : Storage D g) × (state : State) × IsPart size old mid before part state × Parts size mid new state parts after
 
 -- the calls that the parts are
 abbrev pub calls_of : ℕ → List Part → List (Call ReplyValue)
 calls_of size [] = []
 calls_of size (part ∷ parts) = record { size = size; bodies = part.bodies; replies = part.told } ∷ calls_of size parts
 
--- The bodies of a session part by part: the replies of each are handed out at its last body, that is, before the next one is read, and are those of
--- a call that is over by then. What is in hand at the end is fewer bodies than a group has; it is a call too, whose replies are handed out then.
+-- The bodies of a session part by part: the replies of each, one group, are handed out at its last body, that is, before the next one is read, and are
+-- those of a call that is over by then. What is in hand at the end is no group yet; it is a call too, whose replies are handed out then.
 pub record InParts {D : Type 0} {g : Ghosts D} (size : ℕ) (old new : Storage D g) (before after : State) (bodies : List (List ℕ)) (handed : List (List (List ℕ))) (held : List (List ℕ)) : Type 0 where
   pub parts : List Part
   pub in_hand : List (List ℕ)
@@ -140,6 +178,7 @@ pub record InParts {D : Type 0} {g : Ghosts D} (size : ℕ) (old new : Storage D
   pub held_are : held ≡ map reply_record told
   pub served : Parts size old mid before parts state
   pub few : length in_hand < size
+  pub rest : EndsBefore size mid new state in_hand told after
   pub ends : Serves size mid new state in_hand told after
 
 -- A whole session: what was read and written, and that these replies are what serving the bodies that were read in groups of this size makes.

@@ -22,12 +22,14 @@ ghost use Rattle.oa_disk.specs.Disk.{LeavesOnly};
 ghost use Rattle.oa_keeper.specs.Kept.{AllHold};
 ghost use Rattle.oa_store.specs.Stores.{IsStore};
 ghost use Rattle.oa_store.specs.declared.store.Store.{Store as AStore};
+ghost use Rattle.oa_idl.specs.Canonical.{canonical};
 ghost use Rattle.oa_idl.specs.Trees.{TreeValue};
-ghost use Rattle.oa_table.specs.Tables.{first_table};
+ghost use Rattle.oa_table.specs.Tables.{TableValue, first_table, unlocked_table};
 ghost use Rattle.oa_typelib.specs.Checked.{IsChecked};
 
 use oa_disk::Disk;
 use oa_fits::laws::changes_that_fit;
+use oa_record::laws::one_request;
 
 /// A request that is answered with another code than S_OK leaves no trace: its outcome has no event and no change of locks, so its turn leaves the state as it was, and
 /// the other turns of a run alone are a run, with the same replies; so are they together with any of the turns that leave no trace.
@@ -66,6 +68,16 @@ pub fn own_codes()
     ensures turn { (old : State) (body : List ℕ) (reply : ReplyValue) (new : State) → Turn old body reply new → is_own reply.code ≡ true }
 {}
 
+/// A turn that is told by this reply leads to one state, and so does a run that is told by these. So where images hold the state after some first
+/// requests of a run, the others go on from that one.
+pub fn one_state()
+    ensures turn { (old a b : State) (body : List ℕ) (reply : ReplyValue) → Turn old body reply a → Turn old body reply b → a ≡ b }
+    ensures run { (old a b : State) (bodies : List (List ℕ)) (replies : List ReplyValue) → Run old bodies replies a → Run old bodies replies b → a ≡ b }
+    ensures rest { (old mid new : State) (front back : List (Entry ReplyValue)) → RunOf requests old (front ++ back) new → RunOf requests old front mid → RunOf requests mid back new }
+{
+    one_request();
+}
+
 /// The same of a run as groups hold it: the requests that were answered with S_OK alone are a run too, with the same replies and events.
 pub fn no_trace_of_groups()
     ensures { (old : State) (entries : List (Entry ReplyValue)) (new : State) → RunOf requests old entries new → RunOf requests old (accepted requests entries) new }
@@ -78,6 +90,13 @@ pub fn no_trace_of_groups()
 pub fn headline<D: Disk>()
     ensures { (library : List ℕ) (state : State) (old : List ℕ) (sessions : List (Session ReplyValue)) (new : List ℕ) → Sessions requests D.Disk library state old sessions new → IsStore old library (held_of state)
         → (kept : List (List (Entry ReplyValue))) × (last : State) × KeepsEach sessions kept × RunEach requests state kept last × RunEach requests state (accepted_each requests kept) last × IsStore new library (held_of last) }
+{}
+
+/// What an opening finds in what a stop has left is the state with which the history of the store goes on, without locks: so the sessions of the
+/// headline are those of servers that were opened one after the other.
+pub fn what_is_found_was_kept()
+    ensures { (library : TreeValue) (first : State) (count : ℕ) (groups : List (List (Entry ReplyValue))) (image : List ℕ) (table : TableValue) → first.library ≡ library
+        → (after : IsAfter requests count (canonical library) first groups image) → IsStore image (canonical library) table → unlocked_table table ≡ table → opened after.state ≡ record { library = library; table = table } }
 {}
 
 /// A session over a store is an opening and calls, one after another. It begins with an opening that writes nothing; each call that is served, an

@@ -11,7 +11,7 @@ returns-clause-session g c =
     let hand = c.in_ok-hand.hand in
     let made = c.in_ok-hand.ensures in
     serves_session {g = g.D.Disk} (λ d f honest since. g.met.D.Disk.only_now d f honest since) c.args.group (frames c.args.framing) last_written _ _ _ _ (record { host = was.host; storage = was.storage; hand = hand })
-    c.serve-served.new.server c.serve-served.result c.requires.positive made.replies
+    c.serve-served.new.server c.serve-served.result c.requires.positive made.replies made.frame
     (begins {g = g.D.Disk} (λ d f honest since. g.met.D.Disk.only_now d f honest since) c.args.group was.storage was.host hand made.size c.requires.positive made.places made.replies made.frame)
     (search rules)
 

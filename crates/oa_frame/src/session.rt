@@ -13,6 +13,9 @@ use oa_stream::{Ahead, Sink, Source, Unwritten};
 ///
 /// Contracts see a reply as its bytes without a length.
 pub trait Responder {
+    /// What holds between two bodies.
+    ghost ready: { Self → Type 0 };
+
     /// At a body: the state before, the body, the replies that are handed out then, the state after.
     ghost turn: { Self → List ℕ → List (List ℕ) → Self → Type 0 };
 
@@ -26,16 +29,20 @@ pub trait Responder {
         body: &[u8],
         writer: &mut W,
     ) -> Result<(), Unwritten>
+        requires ready { ready self.old }
         requires unbroken { (W.out writer.old).broken ≡ false }
-        ensures { Answers (frames framing) turn result body.now (W.out writer.old) (W.out writer.new) self.old self.new };
+        ensures answers { Answers (frames framing) turn result body.now (W.out writer.old) (W.out writer.new) self.old self.new }
+        ensures ready { ready self.new };
 
     /// No further body comes: writes the replies that are still held.
     fn finish<W: Sink>(&mut self, framing: Framing, writer: &mut W) -> Result<(), Unwritten>
+        requires ready { ready self.old }
         requires unbroken { (W.out writer.old).broken ≡ false }
         ensures { Finishes (frames framing) ends result (W.out writer.old) (W.out writer.new) self.old self.new };
 
     /// No further body comes, and the writer has failed: nobody gets the replies that are still held.
     fn abandon(&mut self)
+        requires ready { ready self.old }
         ensures { Abandons ends self.old self.new };
 }
 
@@ -65,6 +72,7 @@ pub fn serve<S: Responder, R: Source + Drop, W: Sink>(
     requires last { length last.now ≤ 4294967295 }
     requires room { 2097153 ≤ vec_capacity line.now }
     requires buffer { length body.now ≡ 1048576 }
+    requires ready { S.ready server.old }
     requires unbroken { (ahead R.input reader.old).faulted ≡ false }
     requires unbroken_writer { (W.out writer.old).broken ≡ false }
     ensures { Session (frames framing) S.turn S.ends last.now (ahead R.input reader.old) (ahead R.input reader.new) (W.out writer.old) (W.out writer.new) server.old server.new result }
@@ -153,6 +161,7 @@ fn close<S: Responder, W: Sink>(
     why: End,
 ) -> End
     requires short { length last.now ≤ 4294967295 }
+    requires ready { S.ready server.old }
     requires unbroken { (W.out writer.old).broken ≡ false }
     ensures { Closes (frames framing) S.ends last.now result why (W.out writer.old) (W.out writer.new) server.old server.new }
 {

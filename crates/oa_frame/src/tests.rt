@@ -16,6 +16,8 @@ use std::test::Fail;
 struct Echo;
 
 impl Responder for Echo {
+    ghost ready = { λ _. ⊤ };
+
     ghost turn = { λ _ _ _ _. ⊤ };
 
     ghost ends = { λ _ _ _. ⊤ };

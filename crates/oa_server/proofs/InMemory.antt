@@ -14,6 +14,7 @@ use Rattle.oa_server.specs.Serving.{none_held, turn_written}
 use Rattle.oa_server.specs.States.{State}
 use Rattle.oa_server.specs.Storages.{InMemory}
 use Rattle.oa_server.specs.Talks.{Ended, Taken, ended_written, taken_written}
+use Rattle.oa_server.proofs.Retold.{session_as}
 
 pub record StaysInMemory {D : Type 0} {g : Ghosts D} (new : Storage D g) (before : State) (body : List ℕ) (replies : List (List ℕ)) (after : State) : Type 0 where
   pub turn : turn_written before body replies after
@@ -46,21 +47,5 @@ module _ {D : Type 0} {g : Ghosts D} where
       → sessions.Session f taken_written ended_written last input input' out out' old new served → sessions.Session f turn_written none_held last input input' out out' old.host new.host served
   session_in_memory f last input input' out out' old new served here is =
       let runs = run_in_memory old is.mid is.bodies is.handed here is.run in
-      record {
-        bodies = is.bodies;
-        handed = is.handed;
-        held = is.held;
-        mid = is.mid.host;
-        stop = is.stop;
-        over = is.over;
-        run = runs.run;
-        ended = ended_in_memory is.mid.storage new.storage is.mid.host new.host is.mid.hand new.hand is.held runs.memory is.ended;
-        count = is.count;
-        read = is.read;
-        can = is.can;
-        calls = is.calls;
-        few = is.few;
-        cause = is.cause;
-        sound = is.sound;
-        written = is.written;
-      }
+      let ended = ended_in_memory is.mid.storage new.storage is.mid.host new.host is.mid.hand new.hand is.held runs.memory is.ended in
+      session_as taken_written turn_written ended_written none_held f last input input' out out' old new old.host is.mid.host new.host served is runs.run ended

@@ -21,6 +21,7 @@ pub mod Settled
 pub mod Late
 pub mod Answering
 pub mod Put
+pub mod Retold
 pub mod InMemory
 pub mod Grouping
 pub mod Talking

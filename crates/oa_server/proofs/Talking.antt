@@ -25,10 +25,11 @@ use Rattle.oa_server.specs.Hands.{desk}
 use Rattle.oa_server.specs.Requests.{requests}
 use Rattle.oa_server.specs.States.{State}
 use Rattle.oa_server.specs.Storages.{Serves, disk_of}
-use Rattle.oa_server.specs.Talks.{Ended, EndsBefore, EndsGroup, HandIsReady, InParts, IsGroup, IsTakenOver, Part, Parts, ServesSession, Taken, any_turn, at_last, bodies_of, ended_written, handed_of, silent, taken_written}
+use Rattle.oa_server.specs.Talks.{Ended, EndsBefore, EndsGroup, HandIsReady, InParts, IsGroup, Part, Parts, ServesSession, Taken, any_end, any_turn, at_last, bodies_of, ended_written, handed_of, silent, taken_written}
 use Rattle.oa_server.specs.Turns.{Run}
 use Rattle.oa_server.proofs.Grouping.{Holding, group_faulted, group_filled, holds_more, holds_none, rest_ends}
 use Rattle.oa_server.proofs.Late.{late_ended, late_more, late_none}
+use Rattle.oa_server.proofs.Retold.{session_as}
 use Rattle.oa_server.proofs.Runs.{run_more}
 use Rattle.oa_server.proofs.Settled.{ready_at}
 
@@ -74,20 +75,19 @@ module _ {D : Type 0} {g : Ghosts D} (only : (d : D) (c : List ℕ) → IsTrue (
   }
   taken_more (Memory start) (Memory old) (Disk new) first before after hand hand' bodies out body replies was is = absurd (cc is.0)
   taken_more (Disk start) (Disk old) (Disk new) first before after hand hand' bodies out body replies was is =
-      let one = is was.ready in
       record {
-        told = one.told;
-        are = one.are;
+        told = is.told;
+        are = is.are;
         so_far = record {
-          size_is = one.size ∙ was.size_is;
-          ready = one.ready;
+          size_is = is.size ∙ was.size_is;
+          ready = is.ready;
           going = λ going.
-              underway_taken requests {g = g} only (desk start first [] []) size (desk old before hand.replies.items hand.frame) (desk new after hand'.replies.items hand'.frame) bodies out body one.told (was.going going) (rw was.size_is at one.taken);
+              underway_taken requests {g = g} only (desk start first [] []) size (desk old before hand.replies.items hand.frame) (desk new after hand'.replies.items hand'.frame) bodies out body is.told (was.going going) (rw was.size_is at is.taken);
           late = λ stopped.
-              late_more start old new first before after bodies out size body one.told hand.replies.items hand'.replies.items hand.frame hand'.frame (was.late stopped) (rw was.size_is at one.taken);
+              late_more start old new first before after bodies out size body is.told hand.replies.items hand'.replies.items hand.frame hand'.frame (was.late stopped) (rw was.size_is at is.taken);
         };
       }
-  taken_more (Disk start) (Disk old) (Memory new) first before after hand hand' bodies out body replies was is = absurd (is was.ready).taken
+  taken_more (Disk start) (Disk old) (Memory new) first before after hand hand' bodies out body replies was is = absurd is.taken
   taken_more (Memory start) (Disk old) new first before after hand hand' bodies out body replies was is = absurd was
   taken_more (Disk start) (Memory old) new first before after hand hand' bodies out body replies was is = absurd was
 
@@ -105,17 +105,16 @@ module _ {D : Type 0} {g : Ghosts D} (only : (d : D) (c : List ℕ) → IsTrue (
   }
   ended_at (Memory start) (Memory old) (Disk new) first before after hand hand' bodies out replies was is = absurd (cc is.0)
   ended_at (Disk start) (Disk old) (Disk new) first before after hand hand' bodies out replies was is =
-      let one = is was.ready in
       record {
-        told = one.told;
-        are = one.are;
+        told = is.told;
+        are = is.are;
         serves = record {
           served = λ going.
-              underway_ended requests {g = g} only (desk start first [] []) size (desk old before hand.replies.items hand.frame) (desk new after hand'.replies.items hand'.frame) bodies out one.told (was.going going) one.ended;
-          late = λ stopped. late_ended start old new first before after bodies out one.told hand.replies.items hand'.replies.items hand.frame hand'.frame (was.late stopped) one.ended;
+              underway_ended requests {g = g} only (desk start first [] []) size (desk old before hand.replies.items hand.frame) (desk new after hand'.replies.items hand'.frame) bodies out is.told (was.going going) is.ended;
+          late = λ stopped. late_ended start old new first before after bodies out is.told hand.replies.items hand'.replies.items hand.frame hand'.frame (was.late stopped) is.ended;
         };
       }
-  ended_at (Disk start) (Disk old) (Memory new) first before after hand hand' bodies out replies was is = absurd (is was.ready).ended
+  ended_at (Disk start) (Disk old) (Memory new) first before after hand hand' bodies out replies was is = absurd is.ended
   ended_at (Memory start) (Disk old) new first before after hand hand' bodies out replies was is = absurd was
   ended_at (Disk start) (Memory old) new first before after hand hand' bodies out replies was is = absurd was
 
@@ -225,28 +224,25 @@ module _ {D : Type 0} {g : Ghosts D} (only : (d : D) (c : List ℕ) → IsTrue (
       in_part = record { so_far = (refl, refl); holds = tt; short = refl };
     })
     next_in_part (Memory start) (Memory old) (Disk new) first before after hand hand' bodies body replies was is = absurd (cc is.0)
-    next_in_part (Disk start) (Disk old) (Memory new) first before after hand hand' bodies body replies was is = absurd (is was.so_far.ready).taken
+    next_in_part (Disk start) (Disk old) (Memory new) first before after hand hand' bodies body replies was is = absurd is.taken
     next_in_part (Memory start) (Disk old) new first before after hand hand' bodies body replies was is = absurd was.so_far
     next_in_part (Disk start) (Memory old) new first before after hand hand' bodies body replies was is = absurd was.so_far
     next_in_part (Disk start) (Disk old) (Disk new) first before after hand hand' bodies body replies was is = by taken
       where
-        one : IsTakenOver (Disk old) before hand body replies (Disk new) after hand'
-        one = is was.so_far.ready
-
         now : Desk State ReplyValue D g
         now = desk new after hand'.replies.items hand'.frame
 
-        taken : IsTaken requests size body one.told (desk old before hand.replies.items hand.frame) now
-        taken = subst (λ (n : ℕ). IsTaken requests n body one.told (desk old before hand.replies.items hand.frame) now) was.so_far.size_is one.taken
+        taken : IsTaken requests size body is.told (desk old before hand.replies.items hand.frame) now
+        taken = subst (λ (n : ℕ). IsTaken requests n body is.told (desk old before hand.replies.items hand.frame) now) was.so_far.size_is is.taken
 
         size_is : hand'.size ≡ size
-        size_is = one.size ∙ was.so_far.size_is
+        size_is = is.size ∙ was.so_far.size_is
 
-        underway : start.stopped ≡ false → Underway requests size (desk start first [] []) now (bodies ++ body ∷ []) one.told
-        underway going = underway_taken requests {g = g} only (desk start first [] []) size (desk old before hand.replies.items hand.frame) now bodies [] body one.told (was.so_far.going going) taken
+        underway : start.stopped ≡ false → Underway requests size (desk start first [] []) now (bodies ++ body ∷ []) is.told
+        underway going = underway_taken requests {g = g} only (desk start first [] []) size (desk old before hand.replies.items hand.frame) now bodies [] body is.told (was.so_far.going going) taken
 
-        late : start.stopped ≡ true → IsLate start new first after (bodies ++ body ∷ []) one.told
-        late stopped = late_more start old new first before after bodies [] size body one.told hand.replies.items hand'.replies.items hand.frame hand'.frame (was.so_far.late stopped) taken
+        late : start.stopped ≡ true → IsLate start new first after (bodies ++ body ∷ []) is.told
+        late stopped = late_more start old new first before after bodies [] size body is.told hand.replies.items hand'.replies.items hand.frame hand'.frame (was.so_far.late stopped) taken
 
         few : length (bodies ++ body ∷ []) ≤ size
         few = let few = few_in_hand (Disk start) (Disk old) first before hand bodies was in omega (arith, few, length-append bodies (body ∷ []))
@@ -254,28 +250,28 @@ module _ {D : Type 0} {g : Ghosts D} (only : (d : D) (c : List ℕ) → IsTrue (
         alone : start.stopped ≡ true → length (bodies ++ body ∷ []) ≡ 1
         alone stopped = length_push bodies body ∙ ap (λ (l : List (List ℕ)). length l + 1) (was.short.1 stopped)
 
-        ends : hand'.replies.items ≡ [] → (new.stopped ≡ false → hand'.frame ≡ []) → (start.stopped ≡ false → IsGroup size new first (bodies ++ body ∷ []) one.told after) → Steps (Disk start) first (Disk new) after hand' (bodies ++ body ∷ []) replies
+        ends : hand'.replies.items ≡ [] → (new.stopped ≡ false → hand'.frame ≡ []) → (start.stopped ≡ false → IsGroup size new first (bodies ++ body ∷ []) is.told after) → Steps (Disk start) first (Disk new) after hand' (bodies ++ body ∷ []) replies
         ends none empty group = inr (record {
-          told = one.told;
-          are = one.are;
+          told = is.told;
+          are = is.are;
           few = few;
           group = (group, alone);
           serves = record {
             served = λ going.
-                subst (λ (l : List ReplyValue). IsServed requests size start new first after (bodies ++ body ∷ []) l) (append-nil one.told)
-                (underway_ended requests {g = g} only (desk start first [] []) size now now (bodies ++ body ∷ []) one.told [] (underway going) (inl (record { none = none; nothing = refl; store = refl; state = refl })));
+                subst (λ (l : List ReplyValue). IsServed requests size start new first after (bodies ++ body ∷ []) l) (append-nil is.told)
+                (underway_ended requests {g = g} only (desk start first [] []) size now now (bodies ++ body ∷ []) is.told [] (underway going) (inl (record { none = none; nothing = refl; store = refl; state = refl })));
             late = late;
           };
-          in_part = part_begins new after hand' size_is one.ready none empty;
+          in_part = part_begins new after hand' size_is is.ready none empty;
         })
 
-        by : IsTaken requests size body one.told (desk old before hand.replies.items hand.frame) now → Steps (Disk start) first (Disk new) after hand' (bodies ++ body ∷ []) replies
+        by : IsTaken requests size body is.told (desk old before hand.replies.items hand.frame) now → Steps (Disk start) first (Disk new) after hand' (bodies ++ body ∷ []) replies
         by (inl kept) = inl (record {
-          nothing = one.are ∙ ap (λ (l : List ReplyValue). map reply_record l) kept.nothing;
+          nothing = is.are ∙ ap (λ (l : List ReplyValue). map reply_record l) kept.nothing;
           in_part = record {
             so_far = record {
               size_is = size_is;
-              ready = one.ready;
+              ready = is.ready;
               going = λ going. subst (λ (l : List ReplyValue). Underway requests size (desk start first [] []) now (bodies ++ body ∷ []) l) kept.nothing (underway going);
               late = λ stopped. absurd (true≢false (sym (was.so_far.late stopped).stopped ∙ kept.was));
             };
@@ -287,14 +283,14 @@ module _ {D : Type 0} {g : Ghosts D} (only : (d : D) (c : List ℕ) → IsTrue (
           };
         })
         by (inr (inl filled)) = ends (none (either new.stopped)) (λ going. (filled.settled.well going).2)
-            (λ going. group_filled size first old before hand.replies.items hand.frame bodies (was.short.0 going) body filled.reply filled.event filled.mid now one.told filled.held filled.full filled.settled)
+            (λ going. group_filled size first old before hand.replies.items hand.frame bodies (was.short.0 going) body filled.reply filled.event filled.mid now is.told filled.held filled.full filled.settled)
           where
             none : (new.stopped ≡ false) ⊎ (new.stopped ≡ true) → hand'.replies.items ≡ []
             none (inl going) = (filled.settled.well going).1
-            none (inr stopped) = one.ready.late stopped
-        by (inr (inr (inl faulted))) = ends (one.ready.late faulted.failed.stopped) (λ going. absurd (true≢false (sym faulted.failed.stopped ∙ going)))
-            (λ going. group_faulted size first old before hand.replies.items hand.frame bodies (was.short.0 going) body faulted.failed.reply faulted.failed.event now one.told faulted.failed.turn faulted.failed.stopped)
-        by (inr (inr (inr too_late))) = ends (one.ready.late too_late.over.is) (λ going. absurd (true≢false (sym too_late.over.is ∙ going)))
+            none (inr stopped) = is.ready.late stopped
+        by (inr (inr (inl faulted))) = ends (is.ready.late faulted.failed.stopped) (λ going. absurd (true≢false (sym faulted.failed.stopped ∙ going)))
+            (λ going. group_faulted size first old before hand.replies.items hand.frame bodies (was.short.0 going) body faulted.failed.reply faulted.failed.event now is.told faulted.failed.turn faulted.failed.stopped)
+        by (inr (inr (inr too_late))) = ends (is.ready.late too_late.over.is) (λ going. absurd (true≢false (sym too_late.over.is ∙ going)))
             (λ going. absurd (true≢false (sym too_late.over.was ∙ (was.short.0 going).going)))
 
     record InPartsSoFar (start : Storage D g) (first : State) (now : Clerk D g) (bodies : List (List ℕ)) (handed : List (List (List ℕ))) : Type 0 where
@@ -366,9 +362,8 @@ module _ {D : Type 0} {g : Ghosts D} (only : (d : D) (c : List ℕ) → IsTrue (
     unfolding ended_at
     rest_at (Memory start) mid new first before after hand hand' bodies replies was is = was.short
     rest_at (Disk start) (Disk mid) (Disk new) first before after hand hand' bodies replies was is =
-        let one = is was.so_far.ready in
-        (λ going. rest_ends size first mid before hand.replies.items hand.frame bodies (was.short.0 going) (desk new after hand'.replies.items hand'.frame) one.told one.ended, was.short.1)
-    rest_at (Disk start) (Disk mid) (Memory new) first before after hand hand' bodies replies was is = absurd (is was.so_far.ready).ended
+        (λ going. rest_ends size first mid before hand.replies.items hand.frame bodies (was.short.0 going) (desk new after hand'.replies.items hand'.frame) is.told is.ended, was.short.1)
+    rest_at (Disk start) (Disk mid) (Memory new) first before after hand hand' bodies replies was is = absurd is.ended
     rest_at (Disk start) (Memory mid) new first before after hand hand' bodies replies was is = absurd was.so_far
 
     -- and the end
@@ -406,24 +401,7 @@ module _ {D : Type 0} {g : Ghosts D} (only : (d : D) (c : List ℕ) → IsTrue (
       let runs = went old.storage old.host old is.mid [] is.bodies [] is.handed begin is.run in
       let ends = ended_at old.storage is.mid.storage new.storage old.host is.mid.host new.host is.mid.hand new.hand is.bodies runs.told is.held runs.so_far is.ended in
       record {
-        io = record {
-          bodies = is.bodies;
-          handed = is.handed;
-          held = is.held;
-          mid = tt;
-          stop = is.stop;
-          over = is.over;
-          run = any_run old is.mid is.bodies is.handed is.run;
-          ended = tt;
-          count = is.count;
-          read = is.read;
-          can = is.can;
-          calls = is.calls;
-          few = is.few;
-          cause = is.cause;
-          sound = is.sound;
-          written = is.written;
-        };
+        io = session_as taken_written any_turn ended_written any_end f last input input' out out' old new tt tt tt served is (any_run old is.mid is.bodies is.handed is.run) tt;
         told = runs.told ++ ends.told;
         replies_are = ap (λ (l : List (List ℕ)). l ++ is.held) runs.are ∙ ap (λ (l : List (List ℕ)). map reply_record runs.told ++ l) ends.are ∙ sym (map-append reply_record runs.told ends.told);
         serves = ends.serves;

@@ -53,15 +53,19 @@ pub record IsEndedOver {D : Type 0} {g : Ghosts D} (old : Storage D g) (before :
   pub are : replies ≡ map reply_record told
   pub ended : EndedIn old before hand told new after hand'
 
--- In memory every body has one reply, handed out at that body. Over a store this is said of a hand that can take one request more.
+-- In memory every body has one reply, handed out at that body. Over a store the group in hand takes it.
 abbrev pub Taken : {D : Type 0} {g : Ghosts D} → Storage D g → State → Hand → List ℕ → List (List ℕ) → Storage D g → State → Hand → Type 0
 Taken (Memory old) before hand body replies new after hand' = (new ≡ Memory old) × turn_written before body replies after
-Taken (Disk old) before hand body replies new after hand' = HandIsReady (Disk old) hand → IsTakenOver (Disk old) before hand body replies new after hand'
+Taken (Disk old) before hand body replies new after hand' = IsTakenOver (Disk old) before hand body replies new after hand'
 
 -- So none is held when the input ends. Over a store the group in hand ends, and its replies are handed out.
 abbrev pub Ended : {D : Type 0} {g : Ghosts D} → Storage D g → State → Hand → List (List ℕ) → Storage D g → State → Hand → Type 0
 Ended (Memory old) before hand replies new after hand' = (new ≡ Memory old) × none_held before replies after
-Ended (Disk old) before hand replies new after hand' = HandIsReady (Disk old) hand → IsEndedOver (Disk old) before hand replies new after hand'
+Ended (Disk old) before hand replies new after hand' = IsEndedOver (Disk old) before hand replies new after hand'
+
+-- what holds of a server between two bodies
+abbrev pub TakesBodies : {D : Type 0} {g : Ghosts D} → Clerk D g → Type 0
+TakesBodies clerk = HandIsReady clerk.storage clerk.hand
 
 abbrev pub taken_written : {D : Type 0} {g : Ghosts D} → Clerk D g → List ℕ → List (List ℕ) → Clerk D g → Type 0
 taken_written old body replies new = Taken old.storage old.host old.hand body replies new.storage new.host new.hand

@@ -60,29 +60,6 @@ fn settle<D: Disk>(host: &Host, store: &mut Store<D>, hand: &mut Hand)
     }
 }
 
-/// Whether the hand can take one request more. Between the requests of a session it can.
-pub(crate) fn is_ready<D: Disk>(store: &Store<D>, hand: &Hand) -> bool
-    ensures yes { result ≡ true → IsReady store.now hand.now.size (vec_capacity hand.now.replies) hand.now.replies.items hand.now.frame }
-    ensures no { result ≡ false → IsReady store.now hand.now.size (vec_capacity hand.now.replies) hand.now.replies.items hand.now.frame → ⊥ }
-{
-    if hand.replies.capacity() < hand.size {
-        return false;
-    }
-    if hand.size <= hand.replies.len() {
-        return false;
-    }
-    if store.has_stopped() {
-        return hand.replies.is_empty();
-    }
-    if 524_288 <= hand.frame.len() {
-        return false;
-    }
-    if hand.frame.is_empty() {
-        return true;
-    }
-    !store.checkpoint_due()
-}
-
 /// Takes one request. Where that ends the group in hand, its replies are to be handed out, those that are in hand then.
 pub(crate) fn take<D: Disk>(
     host: &mut Host,

@@ -6,7 +6,7 @@ ghost use Rattle.oa_frame.specs.Framings.{frames, hex_lines, records};
 ghost use Rattle.oa_frame.specs.Sessions.{Session, spelled_all};
 ghost use Rattle.oa_record.specs.Replies.{reply_record};
 ghost use Rattle.oa_server.specs.Serving.{last_written, none_held, turn_written};
-ghost use Rattle.oa_server.specs.Talks.{LeavesEnded, PutsAlone, PutsEnded, PutsTaken, ServesSession, ended_written, taken_written};
+ghost use Rattle.oa_server.specs.Talks.{HandIsReady, LeavesEnded, PutsAlone, PutsEnded, PutsTaken, ServesSession, TakesBodies, ended_written, taken_written};
 ghost use Rattle.oa_server.specs.Storages.{InMemory};
 ghost use Rattle.oa_server.specs.declared.storage.Storage.TheVariants.{Disk as ADisk};
 
@@ -14,7 +14,7 @@ use crate::Server;
 use crate::clerk::Clerk;
 use crate::hand::Hand;
 use crate::host::Host;
-use crate::keeping::{finish, is_ready, take};
+use crate::keeping::{finish, take};
 use crate::storage::Storage;
 use oa_disk::Disk;
 use oa_frame::{Framing, Responder, Served, put_reply, serve};
@@ -25,6 +25,8 @@ use oa_stream::{Ahead, Sink, Source, Unwritten};
 use std::alloc::{AllocError, Global};
 
 impl<D: Disk> Responder for Clerk<D> {
+    ghost ready = { TakesBodies };
+
     ghost turn = { taken_written };
 
     ghost ends = { ended_written };
@@ -69,8 +71,10 @@ fn respond_with<D: Disk, W: Sink>(
     body: &[u8],
     writer: &mut W,
 ) -> Result<(), Unwritten>
+    requires ready { HandIsReady storage.old hand.old }
     requires unbroken { (W.out writer.old).broken ≡ false }
     ensures taken { PutsTaken (frames framing) storage.old host.old hand.old body.now storage.new host.new hand.new result (W.out writer.old) (W.out writer.new) }
+    ensures ready { HandIsReady storage.new hand.new }
 {
     match storage {
         Storage::Memory(_) => respond_alone(host, framing, body, writer),
@@ -101,13 +105,11 @@ fn respond_over<D: Disk, W: Sink>(
     body: &[u8],
     writer: &mut W,
 ) -> Result<(), Unwritten>
+    requires ready { HandIsReady (ADisk store.old) hand.old }
     requires unbroken { (W.out writer.old).broken ≡ false }
+    ensures ready { HandIsReady (ADisk store.new) hand.new }
     ensures taken { PutsTaken (frames framing) (ADisk store.old) host.old hand.old body.now (ADisk store.new) host.new hand.new result (W.out writer.old) (W.out writer.new) }
 {
-    // Else no session is on, and nothing is said of what becomes of a body.
-    if !is_ready(store, hand) {
-        return Ok(());
-    }
     if !take(host, store, hand, body) {
         return Ok(());
     }
@@ -124,6 +126,7 @@ fn finish_with<D: Disk, W: Sink>(
     framing: Framing,
     writer: &mut W,
 ) -> Result<(), Unwritten>
+    requires ready { HandIsReady storage.old hand.old }
     requires unbroken { (W.out writer.old).broken ≡ false }
     ensures ended { PutsEnded (frames framing) storage.old host.now hand.old storage.new host.now hand.new result (W.out writer.old) (W.out writer.new) }
 {
@@ -141,12 +144,10 @@ fn finish_over<D: Disk, W: Sink>(
     framing: Framing,
     writer: &mut W,
 ) -> Result<(), Unwritten>
+    requires ready { HandIsReady (ADisk store.old) hand.old }
     requires unbroken { (W.out writer.old).broken ≡ false }
     ensures ended { PutsEnded (frames framing) (ADisk store.old) host.now hand.old (ADisk store.new) host.now hand.new result (W.out writer.old) (W.out writer.new) }
 {
-    if !is_ready(store, hand) {
-        return Ok(());
-    }
     finish(host, store, hand);
     let put = put_replies(framing, writer, &hand.replies);
     hand.replies.clear();
@@ -155,6 +156,7 @@ fn finish_over<D: Disk, W: Sink>(
 
 /// The writer has failed: over a store the group in hand is committed, and nobody gets its replies.
 fn abandon_with<D: Disk>(host: &Host, storage: &mut Storage<D>, hand: &mut Hand)
+    requires ready { HandIsReady storage.old hand.old }
     ensures ended { LeavesEnded storage.old host.now hand.old storage.new host.now hand.new }
 {
     match storage {
@@ -165,11 +167,9 @@ fn abandon_with<D: Disk>(host: &Host, storage: &mut Storage<D>, hand: &mut Hand)
 
 /// The same over a store.
 fn abandon_over<D: Disk>(host: &Host, store: &mut Store<D>, hand: &mut Hand)
+    requires ready { HandIsReady (ADisk store.old) hand.old }
     ensures ended { LeavesEnded (ADisk store.old) host.now hand.old (ADisk store.new) host.now hand.new }
 {
-    if !is_ready(store, hand) {
-        return;
-    }
     finish(host, store, hand);
     hand.replies.clear();
 }

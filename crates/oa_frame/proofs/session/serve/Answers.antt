@@ -8,6 +8,7 @@ turns-init g c = record {
   room = c.requires.room;
   buffer = c.requires.buffer;
   count = refl;
+  ready = c.requires.ready;
   unbroken = c.requires.unbroken;
   unbroken_writer = c.requires.unbroken_writer;
   steady = λ s. s;
@@ -16,7 +17,7 @@ turns-init g c = record {
 
 pub returns-in-Err : goal.returns-in-Err
 returns-in-Err g c =
-    let a = c.in-Err.ensures in
+    let a = c.in-Err.ensures.answers in
     let read = c.in-Body.ensures in
     going_fails (frames c.args.framing) _ _ c.args.last.now _ _ _ _ _ _ _ c.turns.requests c.turns.invariant.going _ _ _ _ _ a.replies _ read.input read.paced a.turned read.output (g.met.W.Sink.keeps _) a.put c.abandon.ensures.ended
 
@@ -33,12 +34,13 @@ returns-in-Unwritten g c =
 
 pub turns-preserved : goal.turns-preserved
 turns-preserved g c =
-    let a = c.in-Ok.ensures in
+    let a = c.in-Ok.ensures.answers in
     let read = c.in-Body.ensures in
     record {
       room = search rules;
       buffer = read.len;
       count = search rules;
+      ready = c.in-Ok.ensures.ready;
       unbroken = read.paced.cause;
       unbroken_writer = a.put.sound;
       steady = λ s. (read.paced.on (c.turns.invariant.steady s)).1;

@@ -10,6 +10,7 @@ invariant-turns g l = record {
   room : 2097153 ≤ vec_capacity l.line;
   buffer : length l.body ≡ 1048576;
   count : l.requests ≡ l.counter;
+  ready : g.S.Responder.ready l.server;
   unbroken : (ahead g.R.Source.input l.reader).faulted ≡ false;
   unbroken_writer : (g.W.Sink.out l.writer).broken ≡ false;
   steady : (ahead g.R.Source.input l.fn.reader).steady ≡ true → (ahead g.R.Source.input l.reader).steady ≡ true;

@@ -6,6 +6,6 @@ pub returns : goal.returns
 returns g c = record {
   ended = record {
     held = map reply_record c.finish.new.hand.replies.items;
-    ended = λ ready. record { told = c.finish.new.hand.replies.items; are = refl; ended = search rules };
+    ended = record { told = c.finish.new.hand.replies.items; are = refl; ended = search rules };
   };
 }

@@ -3,16 +3,12 @@ use Rattle.oa_frame.specs.Framings.{frames}
 use Rattle.oa_frame.proofs.Spelled.{puts_none}
 use Rattle.oa_server.proofs.serving.respond_over.Goals as goal
 
-pub returns-then-not-is_ready : goal.returns-then-not-is_ready
-returns-then-not-is_ready g c = record {
-  taken = record { replies = []; turned = λ ready. absurd (c.is_ready.ensures.no (search rules) ready); put = puts_none (frames c.args.framing).spelled _ [] refl c.requires.unbroken };
-}
-
 pub returns-then-not-take : goal.returns-then-not-take
 returns-then-not-take g c = record {
+  ready = c.take.ensures.ready (search rules);
   taken = record {
     replies = [];
-    turned = λ ready. record { told = []; are = refl; size = c.take.ensures.size; ready = c.take.ensures.ready (search rules); taken = c.take.ensures.held (search rules) };
+    turned = record { told = []; are = refl; size = c.take.ensures.size; ready = c.take.ensures.ready (search rules); taken = c.take.ensures.held (search rules) };
     put = puts_none (frames c.args.framing).spelled _ [] refl c.requires.unbroken;
   };
 }

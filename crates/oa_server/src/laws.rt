@@ -1,5 +1,5 @@
 //! Laws of the definitions that turns are stated by.
-ghost use Rattle.std.specs.Prelude.{◌≡◌, ℕ, true, Bool, List, None, ◌≤◌, ◌++◌, [], ◌∷◌, false, drop};
+ghost use Rattle.std.specs.Prelude.{◌≡◌, ℕ, IsTrue, true, Bool, List, None, ◌≤◌, ◌++◌, [], ◌∷◌, false, drop};
 ghost use Rattle.oa_groups.specs.History.{IsStopped, KeepsEach, RunEach, Session, Sessions, accepted, accepted_each};
 ghost use Rattle.oa_groups.specs.Runs.{IsAfter, Run as RunOf};
 ghost use Rattle.oa_groups.specs.Served.{IsServed};
@@ -9,7 +9,7 @@ ghost use Rattle.oa_record.specs.declared.request.Request.{Request as ARequest};
 ghost use Rattle.oa_record.specs.Replies.{ReplyValue};
 ghost use Rattle.oa_fits.specs.Fits.{fits};
 ghost use Rattle.oa_server.specs.Decisions.{IsQuiet};
-ghost use Rattle.oa_server.specs.Openings.{CanBegin};
+ghost use Rattle.oa_server.specs.Openings.{CanBegin, IsOpened};
 ghost use Rattle.oa_server.specs.OwnCodes.{is_own};
 ghost use Rattle.oa_server.specs.Requests.{held_of, opened, requests};
 ghost use Rattle.oa_server.specs.States.{State};
@@ -18,7 +18,7 @@ ghost use Rattle.oa_server.specs.Talks.{Part, Parts, calls_of};
 ghost use Rattle.oa_server.specs.declared.storage.Storage.TheVariants.{Disk as ADisk};
 ghost use Rattle.oa_server.specs.Traces.{done_bodies, done_replies, kept_bodies, kept_replies};
 ghost use Rattle.oa_server.specs.Turns.{Run, Turn};
-ghost use Rattle.oa_disk.specs.Disk.{LeavesOnly};
+ghost use Rattle.oa_disk.specs.Disk.{LeavesOnly, NothingPending};
 ghost use Rattle.oa_keeper.specs.Kept.{AllHold};
 ghost use Rattle.oa_store.specs.Stores.{IsStore};
 ghost use Rattle.oa_store.specs.declared.store.Store.{Store as AStore};
@@ -92,10 +92,13 @@ pub fn headline<D: Disk>()
         → (kept : List (List (Entry ReplyValue))) × (last : State) × KeepsEach sessions kept × RunEach requests state kept last × RunEach requests state (accepted_each requests kept) last × IsStore new library (held_of last) }
 {}
 
-/// What an opening finds in what a stop has left is the state with which the history of the store goes on, without locks: so the sessions of the
-/// headline are those of servers that were opened one after the other.
-pub fn what_is_found_was_kept()
-    ensures { (library : TreeValue) (first : State) (count : ℕ) (groups : List (List (Entry ReplyValue))) (image : List ℕ) (table : TableValue) → first.library ≡ library
+/// What an opening finds in what a stop has left is the state with which the history of the store goes on, without locks; and where a crash leaves
+/// nothing but the contents, as of a disk that was just made or found, the opening begins a session from there. So the sessions of the headline are those of
+/// servers that were opened one after the other.
+pub fn an_opening_finds_what_was_kept<D: Disk>()
+    ensures begins { (disk : D) (library : TreeValue) (store : AStore D D.Disk) (table : TableValue) → IsOpened D.Disk disk library store table → IsTrue (D.is_honest store.disk) → NothingPending D.contents D.image disk
+        → Sitting requests disk store (canonical library) (record { library = library; table = table }) (record { library = library; table = table }) [] }
+    ensures kept { (library : TreeValue) (first : State) (count : ℕ) (groups : List (List (Entry ReplyValue))) (image : List ℕ) (table : TableValue) → first.library ≡ library
         → (after : IsAfter requests count (canonical library) first groups image) → IsStore image (canonical library) table → unlocked_table table ≡ table → opened after.state ≡ record { library = library; table = table } }
 {}
 

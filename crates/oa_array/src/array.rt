@@ -1,34 +1,9 @@
 // The safe array.
-ghost use Rattle.std.specs.Prelude.{
-  ◌≡◌,
-  ◌↔◌,
-  ◌+◌,
-  ◌-◌,
-  ◌<◌,
-  ◌≤◌,
-  ◌⊎◌,
-  Some,
-  length,
-  slice_get,
-  All,
-  MatchOption,
-  MatchResult,
-  IfOk,
-  replicate,
-};
+ghost use Rattle.std.specs.Prelude.{◌≡◌, ◌↔◌, ◌+◌, ◌-◌, ◌<◌, ◌≤◌, ◌⊎◌, Some, length, slice_get, All, MatchOption, MatchResult, IfOk};
+ghost use Rattle.std.specs.Prelude.{replicate};
 ghost use Rattle.oa_array.specs.Boxes.{InBounds, box_size};
-ghost use Rattle.oa_array.specs.Arrays.{
-  ArrayValue,
-  IsShape,
-  IsArray,
-  cell_at,
-  with_cell,
-  with_locks,
-  with_first,
-  all_cells,
-  kept_by_position,
-  redimensioned,
-};
+ghost use Rattle.oa_array.specs.Arrays.{ArrayValue, IsShape, IsArray, cell_at, with_cell, with_locks, with_first, all_cells};
+ghost use Rattle.oa_array.specs.Arrays.{kept_by_position, redimensioned};
 ghost use Rattle.oa_array.specs.Faults.{RefusesCreate, RefusesPut, RefusesRedim};
 ghost use Rattle.std.specs.Ordering.{eq_of_both, on};
 ghost use Rattle.std.specs.Cmp.{and_per, on_per, and_equiv, on_equiv};

@@ -1,25 +1,6 @@
 //! An array of cells.
-ghost use Rattle.std.specs.Prelude.{
-  ◌≡◌,
-  ℕ,
-  ◌+◌,
-  ◌-◌,
-  ◌<◌,
-  ◌≤◌,
-  ◌⊎◌,
-  List,
-  ◌++◌,
-  Some,
-  Ok,
-  map,
-  length,
-  min,
-  take,
-  slice_get,
-  slice_set,
-  IfOk,
-  IfErr,
-};
+ghost use Rattle.std.specs.Prelude.{◌≡◌, ℕ, ◌+◌, ◌-◌, ◌<◌, ◌≤◌, ◌⊎◌, List, ◌++◌, Some, Ok, map, length, min, take, slice_get, slice_set};
+ghost use Rattle.std.specs.Prelude.{IfOk, IfErr};
 ghost use Rattle.std.specs.Allocator.{alloc_error};
 ghost use Rattle.std.specs.Array.{index_steps};
 ghost use Rattle.std.specs.Iterator.{CallableAtEachTurn};

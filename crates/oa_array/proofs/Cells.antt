@@ -17,7 +17,9 @@ module _ {X : Type 0} where
   set_there cells i j cell ne h =
       slice_get-get_or (set cells i cell) j cell (omega (arith, length-set {A = X} cells i cell, h)) ∙ ap Some (rw get_or-set_other) ∙ sym (slice_get-get_or cells j cell h)
 
-  pub put_one : (a : ArrayValue X) (index other : List ℤ) (cell : X) → length a.cells ≡ box_size a.bounds → InBounds a.bounds index → InBounds a.bounds other → (cell_at (with_cell a index cell) index ≡ Some cell) × ((other ≡ index → ⊥) → cell_at (with_cell a index cell) other ≡ cell_at a other)
+  pub put_one : (a : ArrayValue X) (index other : List ℤ) (cell : X) → length a.cells ≡ box_size a.bounds → InBounds a.bounds index
+      → InBounds a.bounds other → (cell_at (with_cell a index cell) index ≡ Some cell)
+      × ((other ≡ index → ⊥) → cell_at (with_cell a index cell) other ≡ cell_at a other)
   put_one a index other cell whole here there =
       let i = position-below a.bounds index here in
       let j = position-below a.bounds other there in (
@@ -25,11 +27,15 @@ module _ {X : Type 0} where
         λ ne. set_there a.cells (position_of a.bounds index) (position_of a.bounds other) cell (λ e. ne (same_list a.bounds other index there here e)) (omega (arith, whole, j)),
       )
 
-  kept_get : (zero : X) (n : ℕ) (cells : List X) (k : ℕ) → k < n → slice_get (kept_by_position zero n cells) k ≡ Some (unwrap_or (slice_get cells k) zero)
+  kept_get : (zero : X) (n : ℕ) (cells : List X) (k : ℕ) → k < n
+      → slice_get (kept_by_position zero n cells) k ≡ Some (unwrap_or (slice_get cells k) zero)
   kept_get nil n cells k h =
       slice_get-get_or (kept_by_position nil n cells) k nil (omega (arith, length-kept nil n cells, h)) ∙ ap Some (get-kept nil n cells k h)
 
-  pub redim_kept : (a : ArrayValue X) (blank : X) (bound : Bound) (index old : List ℤ) → length a.cells ≡ box_size a.bounds → InBounds (with_first bound a.bounds) index → InBounds a.bounds old → position_of (with_first bound a.bounds) index ≡ position_of a.bounds old → cell_at (redimensioned blank bound a) index ≡ cell_at a old
+  pub redim_kept : (a : ArrayValue X) (blank : X) (bound : Bound) (index old : List ℤ) → length a.cells ≡ box_size a.bounds
+      → InBounds (with_first bound a.bounds) index → InBounds a.bounds old
+      → position_of (with_first bound a.bounds) index ≡ position_of a.bounds old
+      → cell_at (redimensioned blank bound a) index ≡ cell_at a old
   redim_kept a blank bound index old whole here there e =
       let new = with_first bound a.bounds in
       let i = position-below new index here in
@@ -37,7 +43,9 @@ module _ {X : Type 0} where
       let at = slice_get-get_or a.cells (position_of a.bounds old) blank (omega (arith, whole, j)) in
       kept_get blank (box_size new) a.cells (position_of new index) i ∙ ap (λ k. Some (unwrap_or (slice_get a.cells k) blank)) e ∙ ap Some (unwrap_or-slice_get a.cells (position_of a.bounds old) blank) ∙ sym at
 
-  pub redim_fresh : (a : ArrayValue X) (blank : X) (bound : Bound) (index : List ℤ) → length a.cells ≡ box_size a.bounds → InBounds (with_first bound a.bounds) index → box_size a.bounds ≤ position_of (with_first bound a.bounds) index → cell_at (redimensioned blank bound a) index ≡ Some blank
+  pub redim_fresh : (a : ArrayValue X) (blank : X) (bound : Bound) (index : List ℤ) → length a.cells ≡ box_size a.bounds
+      → InBounds (with_first bound a.bounds) index → box_size a.bounds ≤ position_of (with_first bound a.bounds) index
+      → cell_at (redimensioned blank bound a) index ≡ Some blank
   redim_fresh a blank bound index whole here past =
       let new = with_first bound a.bounds in
       kept_get blank (box_size new) a.cells (position_of new index) (position-below new index here)

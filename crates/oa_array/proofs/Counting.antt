@@ -1,5 +1,6 @@
 -- Counts over lists that are mapped or joined, and places in joined lists.
-use Rattle.std.proofs.Common.{◌≡◌, ℕ, zero, suc, ◌+◌, ◌<◌, Bool, true, false, cond, List, [], ◌∷◌, ◌++◌, map, length, count_by, slice_get, option_map, Option, Some, None, refl, ap, ◌∙◌, arith, zero-add}
+use Rattle.std.proofs.Common.{◌≡◌, ℕ, zero, suc, ◌+◌, ◌<◌, Bool, true, false, cond, List, [], ◌∷◌, ◌++◌, map, length, count_by, slice_get}
+use Rattle.std.proofs.Common.{option_map, Option, Some, None, refl, ap, ◌∙◌, arith, zero-add}
 use Rattle.std.proofs.lemmas.Option.{none-some}
 use Rattle.std.proofs.lemmas.List.Sums.{sum_by-cons, sum_by-append}
 
@@ -9,7 +10,8 @@ count-cons p x xs = sum_by-cons (λ y. cond (p y) 1 0) x xs
 pub count-append : {X : Type 0} (p : X → Bool) (xs ys : List X) → count_by p (xs ++ ys) ≡ count_by p xs + count_by p ys
 count-append p xs ys = sum_by-append (λ y. cond (p y) 1 0) xs ys
 
-pub count-map : {X Y : Type 0} (p : Y → Bool) (q : X → Bool) (f : X → Y) (xs : List X) → ((x : X) → p (f x) ≡ q x) → count_by p (map f xs) ≡ count_by q xs
+pub count-map : {X Y : Type 0} (p : Y → Bool) (q : X → Bool) (f : X → Y) (xs : List X) → ((x : X) → p (f x) ≡ q x)
+    → count_by p (map f xs) ≡ count_by q xs
 count-map p q f [] same = refl
 count-map p q f (x ∷ xs) same =
     let a = count-cons p (f x) (map f xs) in

@@ -1,5 +1,6 @@
 -- That an index list lies in bounds is decided by a test.
-use Rattle.std.proofs.Common.{◌≡◌, ℤ, ◌<ℤ◌, ◌≤ℤ◌, pos, ◌+ℤ◌, Bool, true, false, ◌&&◌, T, List, [], ◌∷◌, refl, sym, true≢false, int_lt, int_le}
+use Rattle.std.proofs.Common.{◌≡◌, ℤ, ◌<ℤ◌, ◌≤ℤ◌, pos, ◌+ℤ◌, Bool, true, false, ◌&&◌, T, List, [], ◌∷◌, refl, sym, true≢false, int_lt}
+use Rattle.std.proofs.Common.{int_le}
 use Rattle.std.specs.Bool.{Decides}
 use Rattle.std.proofs.lemmas.Float.{T_from_true}
 use Rattle.oa_model.specs.declared.bound.Bound.{Bound}

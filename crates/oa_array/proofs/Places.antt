@@ -1,5 +1,7 @@
 -- The box of some bounds, one dimension after another.
-use Rattle.std.proofs.Common.{◌≡◌, ℕ, zero, suc, ◌+◌, ◌*◌, ◌-◌, ◌<◌, Bool, true, false, List, [], ◌∷◌, map, length, count_by, flat_map, slice_get, Some, ℤ, pos, negsuc, ◌+ℤ◌, ◌-ℤ◌, ◌<ℤ◌, int_cmp, is_lt, Less, Equal, Greater, refl, sym, ap, subst, ◌∙◌, ⊎_elim, option_map, arith, length-append, zero-mul, suc-mul, zero-add}
+use Rattle.std.proofs.Common.{◌≡◌, ℕ, zero, suc, ◌+◌, ◌*◌, ◌-◌, ◌<◌, Bool, true, false, List, [], ◌∷◌, map, length, count_by, flat_map}
+use Rattle.std.proofs.Common.{slice_get, Some, ℤ, pos, negsuc, ◌+ℤ◌, ◌-ℤ◌, ◌<ℤ◌, int_cmp, is_lt, Less, Equal, Greater, refl, sym, ap, subst}
+use Rattle.std.proofs.Common.{◌∙◌, ⊎_elim, option_map, arith, length-append, zero-mul, suc-mul, zero-add}
 use Rattle.std.proofs.lemmas.List.{length-map}
 use Rattle.std.proofs.lemmas.Bool.{cases_lt}
 use Rattle.std.proofs.lemmas.Option.{none-some, slice_get-map, slice_get_within}
@@ -47,7 +49,8 @@ later j i tail rest h =
     let more : int_cmp j i ≡ Greater = sym (int_cmp_is j i Greater h) in
     count-map (before (i ∷ tail)) (λ m. false) (λ m. j ∷ m) rest (λ m. ap (λ o. is_lt (ordering_then o (slice_cmp int_cmp m tail))) more) ∙ count_none rest
 
-count_past : (low : ℤ) (k : ℕ) (tail : List ℤ) (rest : List (List ℤ)) (a n : ℕ) → k < a → count_by (before ((low +ℤ pos k) ∷ tail)) (rows low rest a n) ≡ 0
+count_past : (low : ℤ) (k : ℕ) (tail : List ℤ) (rest : List (List ℤ)) (a n : ℕ) → k < a
+    → count_by (before ((low +ℤ pos k) ∷ tail)) (rows low rest a n) ≡ 0
 count_past low k tail rest a zero h = refl
 count_past low k tail rest a (suc n) h =
     let p = before ((low +ℤ pos k) ∷ tail) in
@@ -55,7 +58,8 @@ count_past low k tail rest a (suc n) h =
     let row = later (low +ℤ pos a) (low +ℤ pos k) tail rest (omega (arith, ints, h)) in
     omega (arith, both, row, count_past low k tail rest (a + 1) n (omega (arith, h)))
 
-count_rows : (low : ℤ) (k : ℕ) (tail : List ℤ) (rest : List (List ℤ)) (a n d : ℕ) → a + d ≡ k → d < n → count_by (before ((low +ℤ pos k) ∷ tail)) (rows low rest a n) ≡ d * length rest + count_by (before tail) rest
+count_rows : (low : ℤ) (k : ℕ) (tail : List ℤ) (rest : List (List ℤ)) (a n d : ℕ) → a + d ≡ k → d < n
+    → count_by (before ((low +ℤ pos k) ∷ tail)) (rows low rest a n) ≡ d * length rest + count_by (before tail) rest
 count_rows low k tail rest a zero d e h = absurd (omega (arith, h))
 count_rows low k tail rest a (suc n) zero e h =
     let p = before ((low +ℤ pos k) ∷ tail) in
@@ -71,7 +75,8 @@ count_rows low k tail rest a (suc n) (suc d) e h =
 
 -- ---- what stands at a place
 
-at_row : (low : ℤ) (rest : List (List ℤ)) (a n d q : ℕ) → d < n → q < length rest → slice_get (rows low rest a n) (d * length rest + q) ≡ slice_get (with_first rest (low +ℤ pos (a + d))) q
+at_row : (low : ℤ) (rest : List (List ℤ)) (a n d q : ℕ) → d < n → q < length rest
+    → slice_get (rows low rest a n) (d * length rest + q) ≡ slice_get (with_first rest (low +ℤ pos (a + d))) q
 at_row low rest a zero d q h g = absurd (omega (arith, h))
 at_row low rest a (suc n) zero q h g =
     let row = length-map rest (λ tail. (low +ℤ pos a) ∷ tail) in
@@ -94,7 +99,8 @@ pub record StandsAt (low : ℤ) (rest : List (List ℤ)) (a n p : ℕ) (index : 
   pub others : slice_get rest below ≡ Some tail
   pub place : p ≡ above * length rest + below
 
-at_first : (low : ℤ) (rest : List (List ℤ)) (a n p : ℕ) (index : List ℤ) → (x : List ℤ) × ((slice_get rest p ≡ Some x) × ((low +ℤ pos a) ∷ x ≡ index)) → StandsAt low rest a (suc n) p index
+at_first : (low : ℤ) (rest : List (List ℤ)) (a n p : ℕ) (index : List ℤ)
+    → (x : List ℤ) × ((slice_get rest p ≡ Some x) × ((low +ℤ pos a) ∷ x ≡ index)) → StandsAt low rest a (suc n) p index
 at_first low rest a n p index w =
     let at : a + 0 ≡ a = omega arith in
     record {
@@ -107,7 +113,8 @@ at_first low rest a n p index w =
       place = omega (arith, zero-mul (length rest));
     }
 
-at_next : (low : ℤ) (rest : List (List ℤ)) (a n p r : ℕ) (index : List ℤ) → p ≡ length rest + r → StandsAt low rest (a + 1) n r index → StandsAt low rest a (suc n) p index
+at_next : (low : ℤ) (rest : List (List ℤ)) (a n p r : ℕ) (index : List ℤ) → p ≡ length rest + r → StandsAt low rest (a + 1) n r index
+    → StandsAt low rest a (suc n) p index
 at_next low rest a n p r index e s =
     let at : a + 1 + s.above ≡ a + suc s.above = omega arith in
     record {
@@ -120,7 +127,8 @@ at_next low rest a n p r index e s =
       place = omega (arith, e, s.place, suc-mul s.above (length rest));
     }
 
-row_found : (low : ℤ) (rest : List (List ℤ)) (a n p : ℕ) (index : List ℤ) → slice_get (rows low rest a n) p ≡ Some index → StandsAt low rest a n p index
+row_found : (low : ℤ) (rest : List (List ℤ)) (a n p : ℕ) (index : List ℤ) → slice_get (rows low rest a n) p ≡ Some index
+    → StandsAt low rest a n p index
 row_found low rest a zero p index e = absurd (none-some index e)
 row_found low rest a (suc n) p index e =
     let first = with_first rest (low +ℤ pos a) in
@@ -150,7 +158,8 @@ pub position_of-nil : position_of [] [] ≡ 0
 unfolding position_of members
 position_of-nil = refl
 
-pub position_of-cons : (bound : Bound) (rest : List Bound) (above : ℕ) (tail : List ℤ) → above < bound.count → position_of (bound ∷ rest) ((bound.lower +ℤ pos above) ∷ tail) ≡ above * box_size rest + position_of rest tail
+pub position_of-cons : (bound : Bound) (rest : List Bound) (above : ℕ) (tail : List ℤ) → above < bound.count
+    → position_of (bound ∷ rest) ((bound.lower +ℤ pos above) ∷ tail) ≡ above * box_size rest + position_of rest tail
 unfolding position_of box_size members
 position_of-cons bound rest above tail h = count_rows bound.lower above tail (members rest) 0 bound.count above (zero-add above) h
 
@@ -158,7 +167,8 @@ pub IsWithin-at : (bound : Bound) (above : ℕ) → above < bound.count → IsWi
 IsWithin-at bound above h = (omega (arith, ints), omega (arith, ints, h))
 
 -- how far an index lies above the lowest
-above_lowest : (bound : Bound) (i d : ℤ) → i -ℤ bound.lower ≡ d → IsWithin bound i → (above : ℕ) × ((i ≡ bound.lower +ℤ pos above) × (above < bound.count))
+above_lowest : (bound : Bound) (i d : ℤ) → i -ℤ bound.lower ≡ d → IsWithin bound i
+    → (above : ℕ) × ((i ≡ bound.lower +ℤ pos above) × (above < bound.count))
 above_lowest bound i (pos k) e w = (k, (omega (arith, ints, e), omega (arith, ints, e, w.0, w.1)))
 above_lowest bound i (negsuc k) e w = absurd (omega (arith, ints, e, w.0, w.1))
 
@@ -178,7 +188,9 @@ member-nil : slice_get (members []) (position_of [] []) ≡ Some []
 unfolding members position_of
 member-nil = refl
 
-member-cons : (bound : Bound) (rest : List Bound) (above place : ℕ) (tail : List ℤ) → above < bound.count → slice_get (members rest) place ≡ Some tail → slice_get (members (bound ∷ rest)) (above * box_size rest + place) ≡ Some ((bound.lower +ℤ pos above) ∷ tail)
+member-cons : (bound : Bound) (rest : List Bound) (above place : ℕ) (tail : List ℤ) → above < bound.count
+    → slice_get (members rest) place ≡ Some tail → slice_get (members (bound ∷ rest))
+    (above * box_size rest + place) ≡ Some ((bound.lower +ℤ pos above) ∷ tail)
 unfolding members box_size
 member-cons bound rest above place tail h e =
     let begin = λ (t : List ℤ). (bound.lower +ℤ pos (0 + above)) ∷ t in
@@ -186,7 +198,8 @@ member-cons bound rest above place tail h e =
     ∙ slice_get-map begin (members rest) place ∙ ap (option_map begin) e ∙ ap (λ k. Some ((bound.lower +ℤ pos k) ∷ tail)) (zero-add above)
 
 -- an index list within the bounds is the member at its position
-pub member_at : (bounds : List Bound) (index : List ℤ) → InBounds bounds index → slice_get (members bounds) (position_of bounds index) ≡ Some index
+pub member_at : (bounds : List Bound) (index : List ℤ) → InBounds bounds index
+    → slice_get (members bounds) (position_of bounds index) ≡ Some index
 member_at [] [] h = member-nil
 member_at [] (i ∷ index) h = absurd h
 member_at (bound ∷ rest) [] h = absurd h
@@ -201,7 +214,8 @@ found-nil [] zero e = (tt, refl)
 found-nil (i ∷ index) zero e = absurd cc
 found-nil index (suc place) e = absurd (none-some index e)
 
-found-cons : (bound : Bound) (rest : List Bound) (index : List ℤ) (place : ℕ) → slice_get (members (bound ∷ rest)) place ≡ Some index → StandsAt bound.lower (members rest) 0 bound.count place index
+found-cons : (bound : Bound) (rest : List Bound) (index : List ℤ) (place : ℕ) → slice_get (members (bound ∷ rest)) place ≡ Some index
+    → StandsAt bound.lower (members rest) 0 bound.count place index
 unfolding members
 found-cons bound rest index place e = row_found bound.lower (members rest) 0 bound.count place index e
 
@@ -209,7 +223,9 @@ box_size-members : (bounds : List Bound) → length (members bounds) ≡ box_siz
 unfolding box_size
 box_size-members bounds = refl
 
-found-here : (bound : Bound) (rest : List Bound) (index : List ℤ) (place : ℕ) (s : StandsAt bound.lower (members rest) 0 bound.count place index) → InBounds rest s.tail × (position_of rest s.tail ≡ s.below) → InBounds (bound ∷ rest) index × (position_of (bound ∷ rest) index ≡ place)
+found-here : (bound : Bound) (rest : List Bound) (index : List ℤ) (place : ℕ)
+    (s : StandsAt bound.lower (members rest) 0 bound.count place index) → InBounds rest s.tail × (position_of rest s.tail ≡ s.below)
+    → InBounds (bound ∷ rest) index × (position_of (bound ∷ rest) index ≡ place)
 found-here bound rest index place s below =
     let list : index ≡ (bound.lower +ℤ pos s.above) ∷ s.tail = s.list ∙ ap (λ k. (bound.lower +ℤ pos k) ∷ s.tail) (zero-add s.above) in
     let P : List ℤ → Type 0 = λ l. InBounds (bound ∷ rest) l × (position_of (bound ∷ rest) l ≡ place) in
@@ -217,13 +233,15 @@ found-here bound rest index place s below =
     subst P (sym list) ((IsWithin-at bound s.above s.inside, below.0), omega (arith, position_of-cons bound rest s.above s.tail s.inside, below.1, s.place, size))
 
 -- and every member lies in the bounds, at the place that is its position
-pub member_found : (bounds : List Bound) (index : List ℤ) (place : ℕ) → slice_get (members bounds) place ≡ Some index → InBounds bounds index × (position_of bounds index ≡ place)
+pub member_found : (bounds : List Bound) (index : List ℤ) (place : ℕ) → slice_get (members bounds) place ≡ Some index
+    → InBounds bounds index × (position_of bounds index ≡ place)
 member_found [] index place e = found-nil index place e
 member_found (bound ∷ rest) index place e =
     let s = found-cons bound rest index place e in
     found-here bound rest index place s (member_found rest s.tail s.below s.others)
 
 -- two index lists of one box have two positions
-pub same_list : (bounds : List Bound) (x y : List ℤ) → InBounds bounds x → InBounds bounds y → position_of bounds x ≡ position_of bounds y → x ≡ y
+pub same_list : (bounds : List Bound) (x y : List ℤ) → InBounds bounds x → InBounds bounds y → position_of bounds x ≡ position_of bounds y
+    → x ≡ y
 same_list bounds x y hx hy e =
     same_inside x y (sym (member_at bounds x hx) ∙ ap (slice_get (members bounds)) e ∙ member_at bounds y hy)

@@ -1,5 +1,7 @@
 -- What holds on the way through the dimensions, from the first to the last.
-use Rattle.std.proofs.Common.{◌≡◌, ℕ, zero, suc, ◌+◌, ◌*◌, ◌<◌, ◌≤◌, min, Bool, nat_lt, ◌==◌, length, MatchOption, Option, false, lt-ltb, le-ltb, ne_eqb, List, [], ◌∷◌, ℤ, pos, ◌+ℤ◌, sym, ap, subst, ◌∙◌, ⊎_elim, arith, mul_assoc, mul-le-mul_right, le-mul_of_pos_right, mul-zero, eq-zero-or-pos}
+use Rattle.std.proofs.Common.{◌≡◌, ℕ, zero, suc, ◌+◌, ◌*◌, ◌<◌, ◌≤◌, min, Bool, nat_lt, ◌==◌, length, MatchOption, Option, false, lt-ltb}
+use Rattle.std.proofs.Common.{le-ltb, ne_eqb, List, [], ◌∷◌, ℤ, pos, ◌+ℤ◌, sym, ap, subst, ◌∙◌, ⊎_elim, arith, mul_assoc, mul-le-mul_right}
+use Rattle.std.proofs.Common.{le-mul_of_pos_right, mul-zero, eq-zero-or-pos}
 use Rattle.std.proofs.lemmas.Bool.{cases_lt}
 use Rattle.std.specs.Bool.{then_some}
 use Rattle.oa_model.specs.Limits.{max_cells}
@@ -30,7 +32,8 @@ capped_at m n (suc rest) =
     ap (λ k. min m (k * suc rest)) cut ∙ omega (arith, a, b, h))
     (cases_lt n m)
 
-pub size_goes_on : (bounds left : List Bound) (bound : Bound) (size : ℕ) → IsSizeSoFar bounds (bound ∷ left) size → IsSizeSoFar bounds left (min (size * bound.count) 65537)
+pub size_goes_on : (bounds left : List Bound) (bound : Bound) (size : ℕ) → IsSizeSoFar bounds (bound ∷ left) size
+    → IsSizeSoFar bounds left (min (size * bound.count) 65537)
 size_goes_on bounds left bound size s =
     let whole : size * bound.count * box_size left ≡ size * box_size (bound ∷ left) = mul_assoc size bound.count (box_size left) ∙ ap (λ n. size * n) (sym (box_size-cons bound left)) in
     record {
@@ -57,10 +60,9 @@ pub record IsPlaceSoFar (bounds : List Bound) (index : List ℤ) (left : List Bo
   pub room : (place + 1) * box_size left ≤ box_size bounds
   pub some : 0 < box_size left
 
-pub place_starts : (bounds : List Bound) (index : List ℤ) → 0 < box_size bounds → IsPlaceSoFar bounds index bounds index 0
-place_starts bounds index h = record { inside = λ w. w; outside = λ w. w; value = omega arith; room = omega arith; some = h }
-
-pub place_goes_on : (bounds : List Bound) (index : List ℤ) (left : List Bound) (given : List ℤ) (bound : Bound) (above place : ℕ) → above < bound.count → IsPlaceSoFar bounds index (bound ∷ left) ((bound.lower +ℤ pos above) ∷ given) place → IsPlaceSoFar bounds index left given (place * bound.count + above)
+pub place_goes_on : (bounds : List Bound) (index : List ℤ) (left : List Bound) (given : List ℤ) (bound : Bound) (above place : ℕ)
+    → above < bound.count → IsPlaceSoFar bounds index (bound ∷ left) ((bound.lower +ℤ pos above) ∷ given) place
+    → IsPlaceSoFar bounds index left given (place * bound.count + above)
 place_goes_on bounds index left given bound above place h s =
     let size = box_size-cons bound left in
     let whole : place * box_size (bound ∷ left) ≡ place * bound.count * box_size left = ap (λ n. place * n) size ∙ sym (mul_assoc place bound.count (box_size left)) in
@@ -75,17 +77,22 @@ place_goes_on bounds index left given bound above place h s =
       some = ⊎_elim (λ e. absurd (omega (arith, s.some, size, ap (λ n. bound.count * n) e))) (λ p. p) (eq-zero-or-pos (box_size left));
     }
 
-pub place_fits : (bounds : List Bound) (index : List ℤ) (left : List Bound) (given : List ℤ) (place : ℕ) → IsPlaceSoFar bounds index left given place → place < box_size bounds
+pub place_fits : (bounds : List Bound) (index : List ℤ) (left : List Bound) (given : List ℤ) (place : ℕ)
+    → IsPlaceSoFar bounds index left given place → place < box_size bounds
 place_fits bounds index left given place s =
     let row : place + 1 ≤ (place + 1) * box_size left = le-mul_of_pos_right (place + 1) s.some in
     omega (arith, s.room, row)
 
-pub place_ends : (bounds : List Bound) (index : List ℤ) (place : ℕ) → IsPlaceSoFar bounds index [] [] place → InBounds bounds index × (place ≡ position_of bounds index) × (place < box_size bounds)
+pub place_ends : (bounds : List Bound) (index : List ℤ) (place : ℕ) → IsPlaceSoFar bounds index [] [] place
+    → InBounds bounds index × (place ≡ position_of bounds index) × (place < box_size bounds)
 place_ends bounds index place s =
     let one = ap (λ n. place * n) box_size-nil in
     (s.outside tt, omega (arith, one, position_of-nil, s.value), place_fits bounds index [] [] place s)
 
-pub place_steps : (bounds : List Bound) (index : List ℤ) (left : List Bound) (given : List ℤ) (place : ℕ) (bound : Bound) (more : List Bound) (first : ℤ) (rest : List ℤ) (above m k : ℕ) → left ≡ bound ∷ more → given ≡ first ∷ rest → bound.lower +ℤ pos above ≡ first → above < bound.count → m ≡ bound.count → k ≡ above → IsPlaceSoFar bounds index left given place → IsPlaceSoFar bounds index more rest (place * m + k)
+pub place_steps : (bounds : List Bound) (index : List ℤ) (left : List Bound) (given : List ℤ) (place : ℕ) (bound : Bound)
+    (more : List Bound) (first : ℤ) (rest : List ℤ) (above m k : ℕ) → left ≡ bound ∷ more → given ≡ first ∷ rest
+    → bound.lower +ℤ pos above ≡ first → above < bound.count → m ≡ bound.count → k ≡ above → IsPlaceSoFar bounds index left given place
+    → IsPlaceSoFar bounds index more rest (place * m + k)
 place_steps bounds index left given place bound more first rest above m k at_left at_given at_first h em ek s =
     let to : given ≡ (bound.lower +ℤ pos above) ∷ rest = at_given ∙ ap (λ i. i ∷ rest) (sym at_first) in
     let P : List Bound → Type 0 = λ l. IsPlaceSoFar bounds index l given place in
@@ -93,7 +100,8 @@ place_steps bounds index left given place bound more first rest above m k at_lef
     let R : ℕ → Type 0 = λ n. IsPlaceSoFar bounds index more rest n in
     subst R (omega (arith, ap (λ n. place * n) em, ek)) (place_goes_on bounds index more rest bound above place h (subst Q to (subst P at_left s)))
 
-pub size_steps : (bounds left : List Bound) (size : ℕ) (bound : Bound) (more : List Bound) (m n : ℕ) → left ≡ bound ∷ more → m ≡ bound.count → n ≡ min (size * m) 65537 → IsSizeSoFar bounds left size → IsSizeSoFar bounds more n
+pub size_steps : (bounds left : List Bound) (size : ℕ) (bound : Bound) (more : List Bound) (m n : ℕ) → left ≡ bound ∷ more
+    → m ≡ bound.count → n ≡ min (size * m) 65537 → IsSizeSoFar bounds left size → IsSizeSoFar bounds more n
 size_steps bounds left size bound more m n at_left em en s =
     let P : List Bound → Type 0 = λ l. IsSizeSoFar bounds l size in
     let R : ℕ → Type 0 = λ k. IsSizeSoFar bounds more k in
@@ -102,7 +110,9 @@ size_steps bounds left size bound more m n at_left em en s =
 abbrev IsPlaceAnswer : List Bound → List ℤ → ℕ → Option ℕ → Type 0
 IsPlaceAnswer bounds index size r = MatchOption r (InBounds bounds index → ⊥) (λ place. InBounds bounds index × (place ≡ position_of bounds index) × (place < size))
 
-place_answer : (bounds : List Bound) (index : List ℤ) (left : List Bound) (given : List ℤ) (place size : ℕ) → length left ≡ 0 → size ≡ box_size bounds → IsPlaceSoFar bounds index left given place → IsPlaceAnswer bounds index size (then_some (length given == 0) place)
+place_answer : (bounds : List Bound) (index : List ℤ) (left : List Bound) (given : List ℤ) (place size : ℕ) → length left ≡ 0
+    → size ≡ box_size bounds → IsPlaceSoFar bounds index left given place
+    → IsPlaceAnswer bounds index size (then_some (length given == 0) place)
 place_answer bounds index (bound ∷ left) given place size e es s = absurd (omega (arith, e))
 place_answer bounds index [] (i ∷ given) place size e es s =
     let more : (length (i ∷ given) == 0) ≡ false = ne_eqb (length (i ∷ given)) 0 (λ z. omega (arith, z)) in
@@ -111,14 +121,17 @@ place_answer bounds index [] [] place size e es s =
     let done = place_ends bounds index place s in
     (done.0, done.1, omega (arith, es, done.2))
 
-pub place_returns : (bounds : List Bound) (index : List ℤ) (left : List Bound) (given : List ℤ) (place size : ℕ) (b : Bool) (r : Option ℕ) → r ≡ then_some b place → b ≡ (length given == 0) → length left ≡ 0 → size ≡ box_size bounds → IsPlaceSoFar bounds index left given place → IsPlaceAnswer bounds index size r
+pub place_returns : (bounds : List Bound) (index : List ℤ) (left : List Bound) (given : List ℤ) (place size : ℕ) (b : Bool) (r : Option ℕ)
+    → r ≡ then_some b place → b ≡ (length given == 0) → length left ≡ 0 → size ≡ box_size bounds
+    → IsPlaceSoFar bounds index left given place → IsPlaceAnswer bounds index size r
 place_returns bounds index left given place size b r er eb e es s =
     subst (IsPlaceAnswer bounds index size) (sym (er ∙ ap (λ t. then_some t place) eb)) (place_answer bounds index left given place size e es s)
 
 abbrev IsSizeAnswer : List Bound → Option ℕ → Type 0
 IsSizeAnswer bounds r = MatchOption r (max_cells < box_size bounds) (λ n. (n ≡ box_size bounds) × (n ≤ max_cells))
 
-size_answer : (bounds left : List Bound) (size : ℕ) → length left ≡ 0 → IsSizeSoFar bounds left size → IsSizeAnswer bounds (then_some (nat_lt size 65537) size)
+size_answer : (bounds left : List Bound) (size : ℕ) → length left ≡ 0 → IsSizeSoFar bounds left size
+    → IsSizeAnswer bounds (then_some (nat_lt size 65537) size)
 size_answer bounds (bound ∷ left) size e s = absurd (omega (arith, e))
 size_answer bounds [] size e s =
     let all = size_ends bounds size s in
@@ -127,6 +140,7 @@ size_answer bounds [] size e s =
     (λ h. subst (λ b. IsSizeAnswer bounds (then_some b size)) (sym (le-ltb size 65537 h)) (omega (arith, all, h)))
     (cases_lt size 65537)
 
-pub size_returns : (bounds left : List Bound) (size past : ℕ) (r : Option ℕ) → r ≡ then_some (nat_lt size past) size → past ≡ 65537 → length left ≡ 0 → IsSizeSoFar bounds left size → IsSizeAnswer bounds r
+pub size_returns : (bounds left : List Bound) (size past : ℕ) (r : Option ℕ) → r ≡ then_some (nat_lt size past) size → past ≡ 65537
+    → length left ≡ 0 → IsSizeSoFar bounds left size → IsSizeAnswer bounds r
 size_returns bounds left size past r er ep e s =
     subst (IsSizeAnswer bounds) (sym (er ∙ ap (λ n. then_some (nat_lt size n) size) ep)) (size_answer bounds left size e s)

@@ -1,7 +1,9 @@
 // The safe array.
-ghost use Rattle.std.specs.Prelude.{◌≡◌, ◌↔◌, ◌+◌, ◌-◌, ◌<◌, ◌≤◌, ◌⊎◌, Some, length, slice_get, All, MatchOption, MatchResult, IfOk, replicate};
+ghost use Rattle.std.specs.Prelude.{◌≡◌, ◌↔◌, ◌+◌, ◌-◌, ◌<◌, ◌≤◌, ◌⊎◌, Some, length, slice_get, All, MatchOption, MatchResult, IfOk};
+ghost use Rattle.std.specs.Prelude.{replicate};
 ghost use Rattle.oa_array.specs.Boxes.{InBounds, box_size};
-ghost use Rattle.oa_array.specs.Arrays.{ArrayValue, IsShape, IsArray, cell_at, with_cell, with_locks, with_first, all_cells, kept_by_position, redimensioned};
+ghost use Rattle.oa_array.specs.Arrays.{ArrayValue, IsShape, IsArray, cell_at, with_cell, with_locks, with_first, all_cells};
+ghost use Rattle.oa_array.specs.Arrays.{kept_by_position, redimensioned};
 ghost use Rattle.oa_array.specs.Faults.{RefusesCreate, RefusesPut, RefusesRedim};
 ghost use Rattle.std.specs.Ordering.{eq_of_both, on};
 ghost use Rattle.std.specs.Cmp.{and_per, on_per, and_equiv, on_equiv};
@@ -225,9 +227,11 @@ impl<T: Cell> SafeArray<T> {
 
 /// Two arrays are equal where their types, bounds and cells are. Locks are no part of it.
 impl<T: Cell + PartialEq> PartialEq for SafeArray<T> {
-    ghost eq = { eq_of_both (eq_of_both (on (λ a. a.elem) ⟦<VarType as PartialEq>⟧.eq) (on (λ a. a.bounds) (pointwise ⟦<Bound as PartialEq>⟧.eq))) (on (λ a. a.cells) (pointwise T.eq)) };
+    ghost eq = { eq_of_both (eq_of_both (on (λ a. a.elem) ⟦<VarType as PartialEq>⟧.eq)
+        (on (λ a. a.bounds) (pointwise ⟦<Bound as PartialEq>⟧.eq))) (on (λ a. a.cells) (pointwise T.eq)) };
 
-    ghost laws = { and_per (and_per (on_per (λ a. a.elem) type_per) (on_per (λ a. a.bounds) (lists_per bound_per))) (on_per (λ a. a.cells) (lists_per T.PartialEq.laws)) };
+    ghost laws = { and_per (and_per (on_per (λ a. a.elem) type_per) (on_per (λ a. a.bounds) (lists_per bound_per)))
+        (on_per (λ a. a.cells) (lists_per T.PartialEq.laws)) };
 
     fn eq(&self, other: &SafeArray<T>) -> bool {
         self.elem == other.elem
@@ -237,7 +241,8 @@ impl<T: Cell + PartialEq> PartialEq for SafeArray<T> {
 }
 
 impl<T: Cell + Eq> Eq for SafeArray<T> {
-    ghost laws = { and_equiv (and_equiv (on_equiv (λ a. a.elem) type_equiv) (on_equiv (λ a. a.bounds) (lists_equiv bound_equiv))) (on_equiv (λ a. a.cells) (lists_equiv T.Eq.laws)) };
+    ghost laws = { and_equiv (and_equiv (on_equiv (λ a. a.elem) type_equiv) (on_equiv (λ a. a.bounds) (lists_equiv bound_equiv)))
+        (on_equiv (λ a. a.cells) (lists_equiv T.Eq.laws)) };
 }
 
 impl<T: Cell + fmt::Debug> fmt::Debug for SafeArray<T> {

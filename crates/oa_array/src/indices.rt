@@ -1,5 +1,6 @@
 // Index lists.
 ghost use Rattle.std.specs.Prelude.{◌≡◌, ◌≤◌, length};
+ghost use Rattle.oa_model.specs.Limits.{max_index_list};
 
 use std::marker::Model;
 
@@ -11,18 +12,19 @@ pub struct Indices {
 
 impl Model for Indices {
     ghost use Rattle.std.specs.Prelude.{List, ℤ, ◌≤◌, length};
+    ghost use Rattle.oa_model.specs.Limits.{max_index_list};
 
     ghost Value = { List ℤ };
 
     ghost view = { λ i. i.values.items };
 
-    ghost invariant = { λ i. length i.values.items ≤ 65535 };
+    ghost invariant = { λ i. length i.values.items ≤ max_index_list };
 }
 
 impl Indices {
     /// The index list of these indices.
     pub fn new(values: Vec<i32>) -> Indices
-        requires { length values.items ≤ 65535 }
+        requires { length values.items ≤ max_index_list }
         ensures { result ≡ values.items }
     {
         Indices { values }
@@ -31,7 +33,7 @@ impl Indices {
     /// The indices.
     pub fn as_slice(&self) -> &[i32]
         ensures value { result.now ≡ self.now }
-        ensures few { length self.now ≤ 65535 }
+        ensures few { length self.now ≤ max_index_list }
     {
         self.values.as_slice()
     }

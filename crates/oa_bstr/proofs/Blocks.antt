@@ -23,7 +23,8 @@ pub parts : (bytes : List ℕ) → block_of bytes ≡ to_le_bytes w32 (length by
 unfolding block_of
 parts bytes = refl
 
-pub is_block : (row : List (Option ℕ)) (bytes : List ℕ) → row ≡ map Some (block_of bytes) → length bytes ≤ max_text_bytes → IsBlock row × (text_of row ≡ bytes)
+pub is_block : (row : List (Option ℕ)) (bytes : List ℕ) → row ≡ map Some (block_of bytes) → length bytes ≤ max_text_bytes
+    → IsBlock row × (text_of row ≡ bytes)
 is_block row bytes e short =
     let read : values row ≡ block_of bytes = ap values e ∙ values_of_full (block_of bytes) in
     let behind : drop 4 (block_of bytes) ≡ bytes ++ zeros = ap (drop 4) (parts bytes) ∙ drop_at (to_le_bytes w32 (length bytes)) (bytes ++ zeros) 4 (length-count (length bytes)) in

@@ -9,7 +9,8 @@ module _ {X : Type 0} where
   values_of_full [] = refl
   values_of_full (x ∷ xs) = ap (λ l. x ∷ l) (values_of_full xs)
 
-  pub is_full : (row : List (Option X)) (xs : List X) → row ≡ map Some xs → (values row ≡ xs) × (row ≡ map Some (values row)) × (length row ≡ length xs)
+  pub is_full : (row : List (Option X)) (xs : List X) → row ≡ map Some xs
+      → (values row ≡ xs) × (row ≡ map Some (values row)) × (length row ≡ length xs)
   is_full row xs e = let read = ap values e ∙ values_of_full xs in (read, e ∙ ap (map Some) (sym read), ap length e ∙ length-map xs Some)
 
   -- the slice of a whole row

@@ -1,7 +1,8 @@
 -- One place of a row is filled or emptied at either end of its values.
 use Rattle.std.proofs.Common.{◌≡◌, refl, sym, ap, ◌∙◌, ℕ, zero, suc, ◌+◌, ◌<◌, ◌≤◌, ◌-◌, List, [], ◌∷◌, ◌++◌, length, arith}
 use Rattle.std.specs.Prelude.{map, replicate, get_or, slice_set, Option, Some, None}
-use Rattle.std.proofs.lemmas.List.{append_assoc, append-nil, set_at, get_or_at, length-append, length-map, length-replicate, map-append, replicate-append-replicate}
+use Rattle.std.proofs.lemmas.List.{append_assoc, append-nil, set_at, get_or_at, length-append, length-map, length-replicate, map-append}
+use Rattle.std.proofs.lemmas.List.{replicate-append-replicate}
 use Rattle.oa_cells.specs.Windows.{values, laid}
 
 module _ {X : Type 0} where
@@ -13,7 +14,8 @@ module _ {X : Type 0} where
   values-laid zero [] zero = refl
 
   -- a row that is laid so is laid so with the values that are read from it
-  pub is_laid : (slots : List (Option X)) (before : ℕ) (xs : List X) (after : ℕ) → slots ≡ laid before xs after → (values slots ≡ xs) × (slots ≡ laid before (values slots) after)
+  pub is_laid : (slots : List (Option X)) (before : ℕ) (xs : List X) (after : ℕ) → slots ≡ laid before xs after
+      → (values slots ≡ xs) × (slots ≡ laid before (values slots) after)
   is_laid slots before xs after e = let read = ap values e ∙ values-laid before xs after in (read, e ∙ ap (λ l. laid before l after) (sym read))
 
   -- an empty place
@@ -46,7 +48,8 @@ module _ {X : Type 0} where
   unfolding laid
   behind before xs after = sym (append_assoc (replicate before empty) (map Some xs) (None ∷ replicate after None))
 
-  last : (before : ℕ) (xs : List X) (x : X) (after : ℕ) → laid before (xs ++ x ∷ []) after ≡ front before xs ++ Some x ∷ replicate after None
+  last : (before : ℕ) (xs : List X) (x : X) (after : ℕ)
+      → laid before (xs ++ x ∷ []) after ≡ front before xs ++ Some x ∷ replicate after None
   unfolding laid
   last before xs x after = let none = replicate before None in let rest = replicate after None in
       ap (λ l. none ++ (l ++ rest)) (map-append Some xs (x ∷ [])) ∙ ap (λ l. none ++ l) (append_assoc (map Some xs) (Some x ∷ []) rest) ∙ sym (append_assoc none (map Some xs) (Some x ∷ rest))
@@ -55,7 +58,8 @@ module _ {X : Type 0} where
   one_less zero ys = refl
   one_less (suc n) ys = ap (λ l. None ∷ l) (one_less n ys)
 
-  ahead : (before : ℕ) (xs : List X) (after : ℕ) → laid (suc before) xs after ≡ replicate before None ++ None ∷ (map Some xs ++ replicate after None)
+  ahead : (before : ℕ) (xs : List X) (after : ℕ)
+      → laid (suc before) xs after ≡ replicate before None ++ None ∷ (map Some xs ++ replicate after None)
   unfolding laid
   ahead before xs after = one_less before (map Some xs ++ replicate after None)
 
@@ -93,15 +97,18 @@ module _ {X : Type 0} where
   unwrapped d (Some x) = x
 
   -- ---- a block of len places, whose values stand from the index from on and below the index to
-  module _ (row : List (Option X)) (from to len : ℕ) (count : from + length (values row) ≡ to) (fits : to ≤ len) (shape : row ≡ laid from (values row) (len - to)) where
+  module _ (row : List (Option X)) (from to len : ℕ) (count : from + length (values row) ≡ to) (fits : to ≤ len)
+      (shape : row ≡ laid from (values row) (len - to)) where
     pub length-row : length row ≡ len
     length-row = let all : length row ≡ from + length (values row) + (len - to) = ap length shape ∙ length-laid from (values row) (len - to) in omega (arith, all, count, fits)
 
-    pub pushed_back : (new : List (Option X)) (x : X) → 0 < len - to → new ≡ slice_set row to (Some x) → (values new ≡ values row ++ x ∷ []) × (new ≡ laid from (values new) (len - (to + 1)))
+    pub pushed_back : (new : List (Option X)) (x : X) → 0 < len - to → new ≡ slice_set row to (Some x)
+        → (values new ≡ values row ++ x ∷ []) × (new ≡ laid from (values new) (len - (to + 1)))
     pushed_back new x room e =
         is_laid new from (values row ++ x ∷ []) (len - (to + 1)) (e ∙ put_behind row from (values row) x (len - (to + 1)) (len - to) to shape (omega (arith, room)) (sym count))
 
-    pub pushed_front : (new : List (Option X)) (x : X) → 0 < from → new ≡ slice_set row (from - 1) (Some x) → (values new ≡ x ∷ values row) × (new ≡ laid (from - 1) (values new) (len - to))
+    pub pushed_front : (new : List (Option X)) (x : X) → 0 < from → new ≡ slice_set row (from - 1) (Some x)
+        → (values new ≡ x ∷ values row) × (new ≡ laid (from - 1) (values new) (len - to))
     pushed_front new x room e =
         is_laid new (from - 1) (x ∷ values row) (len - to) (e ∙ put_ahead row (from - 1) from (values row) x (len - to) shape (omega (arith, room)))
 
@@ -111,7 +118,8 @@ module _ {X : Type 0} where
         let long : length (values row) ≡ length parts.0 + 1 = ap length parts.2 ∙ length-append parts.0 (parts.1 ∷ []) in
         (parts.1, value_last row from parts.0 parts.1 (len - to) 0 (to - 1) (shape ∙ ap (λ l. laid from l (len - to)) parts.2) (omega (arith, long, count)))
 
-    pub popped : (new : List (Option X)) (x : X) → 0 < length (values row) → get_or row (to - 1) None ≡ Some x → new ≡ slice_set row (to - 1) None → (values row ≡ values new ++ x ∷ []) × (new ≡ laid from (values new) (len - (to - 1)))
+    pub popped : (new : List (Option X)) (x : X) → 0 < length (values row) → get_or row (to - 1) None ≡ Some x
+        → new ≡ slice_set row (to - 1) None → (values row ≡ values new ++ x ∷ []) × (new ≡ laid from (values new) (len - (to - 1)))
     popped new x some read e =
         let parts : (front : List X) × (x : X) × (values row ≡ front ++ x ∷ []) = split_last (values row) some in let before = parts.0 in
         let long : length (values row) ≡ length before + 1 = ap length parts.2 ∙ length-append before (parts.1 ∷ []) in
@@ -129,5 +137,6 @@ module _ {X : Type 0} where
     row_of_empty e = let none : length (values row) ≡ 0 = ap length e in
         shape ∙ ap (λ l. laid from l (len - to)) e ∙ sym (empty_laid len from (len - to) (omega (arith, none, count, fits)))
 
-  pub row_of_vacant : (row : List (Option X)) (at len : ℕ) → at ≤ len → row ≡ replicate len None → (values row ≡ []) × (row ≡ laid at (values row) (len - at))
+  pub row_of_vacant : (row : List (Option X)) (at len : ℕ) → at ≤ len → row ≡ replicate len None
+      → (values row ≡ []) × (row ≡ laid at (values row) (len - at))
   row_of_vacant row at len le e = is_laid row at [] (len - at) (e ∙ empty_laid len at (len - at) (omega (arith, le)))

@@ -5,7 +5,14 @@
 --     fresh_row, row_to_room                       new room is a row of empty places, and any row is room again
 --     first_lent                                   a `&` to the places shows the values at its begin as a slice
 use denote.Struct.Declared as Declared
-use Rattle.oa_cells.proofs.Steps.{◌≡◌, refl, sym, ap, subst, ◌∙◌, ℕ, zero, suc, ◌+◌, ◌*◌, ◌<◌, arith, List, [], ◌∷◌, ◌++◌, map, length, take, set, get_or, replicate, Ura, full_share, ent, sep, emp, ex, guard, id⊢, mono_r, Fml, Lft, fsep, fat, froom, Ty, ty_array, Val, vstruct, vcons, vnil, of_list, Logic, sem, Item, Goal, Seq, Step, step, ‵, ◌⊛◌, some, given, learn, pick, show, check, ◌$◌, ◌∵◌, !, qed, by, move, keep, drop, use1, use2, split, rewrite, frame, fsplit, fjoin, fpick, fpack, feq_i, feq_l, done, RattleType, Valss, Typed, Is, shows, part_at, param, layout, Laws, param_laws, Ptr, RawPtr, ptr_val, elements_shared, makes_shadow, nothing, peeks, Shape, Struct, within, shape, Tuple, tuple_type, part_in, part_out, Option, Some, None, type_size, El, R, el_x, elτ, Good, word}
+use Rattle.oa_cells.proofs.Steps.{◌≡◌, refl, sym, ap, subst, ◌∙◌, ℕ, zero, suc, ◌+◌, ◌*◌, ◌<◌, arith, List, [], ◌∷◌, ◌++◌, map, length}
+use Rattle.oa_cells.proofs.Steps.{take, set, get_or, replicate, Ura, full_share, ent, sep, emp, ex, guard, id⊢, mono_r, Fml, Lft, fsep, fat}
+use Rattle.oa_cells.proofs.Steps.{froom, Ty, ty_array, Val, vstruct, vcons, vnil, of_list, Logic, sem, Item, Goal, Seq, Step, step, ‵, ◌⊛◌}
+use Rattle.oa_cells.proofs.Steps.{some, given, learn, pick, show, check, ◌$◌, ◌∵◌, !, qed, by, move, keep, drop, use1, use2, split, rewrite}
+use Rattle.oa_cells.proofs.Steps.{frame, fsplit, fjoin, fpick, fpack, feq_i, feq_l, done, RattleType, Valss, Typed, Is, shows, part_at}
+use Rattle.oa_cells.proofs.Steps.{param, layout, Laws, param_laws, Ptr, RawPtr, ptr_val, elements_shared, makes_shadow, nothing, peeks}
+use Rattle.oa_cells.proofs.Steps.{Shape, Struct, within, shape, Tuple, tuple_type, part_in, part_out, Option, Some, None, type_size, El, R}
+use Rattle.oa_cells.proofs.Steps.{el_x, elτ, Good, word}
 use native.Mathlib.Nat.{zero-mul, suc-mul}
 use lib.ListN.{take-append-drop, drop as rest_of}
 use Rattle.oa_cells.specs.Ownership.{place_owned, row_owned, row_without, place_lent, row_lent}
@@ -67,7 +74,8 @@ abbrev pub triple : Val → Val → Val → Val
 triple u v w = vstruct (vcons u (vcons v (vcons w vnil)))
 
 pub triple_made : {M : Type 1} {𝓤 : Ura M} (𝓛 : Logic 𝓤) (X Y Z : RattleType) (x : X.Denot) (y : Y.Denot) (z : Z.Denot) (u v w : Val)
-    → ent 𝓤 (sep 𝓤 (sem 𝓛 (X.own_val x (u ∷ []))) (sep 𝓤 (sem 𝓛 (Y.own_val y (v ∷ []))) (sem 𝓛 (Z.own_val z (w ∷ []))))) (sem 𝓛 ((Tuple (X ∷ Y ∷ Z ∷ [])).own_val (x, y, z) (triple u v w ∷ [])))
+    → ent 𝓤 (sep 𝓤 (sem 𝓛 (X.own_val x (u ∷ []))) (sep 𝓤 (sem 𝓛 (Y.own_val y (v ∷ []))) (sem 𝓛 (Z.own_val z (w ∷ [])))))
+    (sem 𝓛 ((Tuple (X ∷ Y ∷ Z ∷ [])).own_val (x, y, z) (triple u v w ∷ [])))
 triple_made 𝓛 X Y Z x y z u v w =
     let all = triple u v w ∷ [] in
     qed 𝓛 (‵ (X.own_val x (u ∷ [])) ∷ ‵ (Y.own_val y (v ∷ [])) ∷ ‵ (Z.own_val z (w ∷ [])) ∷ []) ∵
@@ -85,7 +93,8 @@ module _ (Y : RattleType) (L : Laws Y) {M : Type 1} {𝓤 : Ura M} where
   module _ (𝓛 : Logic 𝓤) where
     open 𝓛 use {H}
 
-    pub value_out : (x : Y.Denot) (b o : ℕ) → ent 𝓤 (sem 𝓛 (part_at (param 0 Y) full_share x b o)) (ex 𝓤 (λ (v : Val). guard 𝓤 (Good (layout Y) v) (sep 𝓤 (H.at full_share (layout Y) b o v) (sem 𝓛 (Y.own_val x (v ∷ []))))))
+    pub value_out : (x : Y.Denot) (b o : ℕ) → ent 𝓤 (sem 𝓛 (part_at (param 0 Y) full_share x b o))
+        (ex 𝓤 (λ (v : Val). guard 𝓤 (Good (layout Y) v) (sep 𝓤 (H.at full_share (layout Y) b o v) (sem 𝓛 (Y.own_val x (v ∷ []))))))
     value_out x b o =
         qed 𝓛 (‵ (part_at (param 0 Y) full_share x b o) ∷ []) ∵
         use1 𝓛 (some (λ (v : Val). ‵ (fat full_share (layout Y) b o v) ⊛ ‵ (Y.own_val x (v ∷ [])))) (part_out 𝓛 (param 0 Y) refl full_share x b o) $ pick ! (λ v. split ! $ move ! (1 ∷ []) $
@@ -93,11 +102,13 @@ module _ (Y : RattleType) (L : Laws Y) {M : Type 1} {𝓤 : Ura M} where
         let typed = ((param_laws 0 Y L).lawful 𝓛).typed x (v ∷ []) known in
         show ! (λ (w : Val). guard 𝓤 (Good (layout Y) w) (sep 𝓤 (H.at full_share (layout Y) b o w) (sem 𝓛 (Y.own_val x (w ∷ []))))) v $ check ! typed.0 $ move ! (1 ∷ 0 ∷ []) $ done !))
 
-    pub value_in : (x : Y.Denot) (b o : ℕ) (v : Val) → ent 𝓤 (sep 𝓤 (H.at full_share (layout Y) b o v) (sem 𝓛 (Y.own_val x (v ∷ [])))) (sem 𝓛 (part_at (param 0 Y) full_share x b o))
+    pub value_in : (x : Y.Denot) (b o : ℕ) (v : Val) → ent 𝓤 (sep 𝓤 (H.at full_share (layout Y) b o v) (sem 𝓛 (Y.own_val x (v ∷ []))))
+        (sem 𝓛 (part_at (param 0 Y) full_share x b o))
     value_in x b o v = part_in 𝓛 (param 0 Y) refl full_share x b o v
 
   module _ {𝓛 : Logic 𝓤} {K : Type 0} {Γ : List (Item 𝓤)} {G : Goal 𝓤 𝓛.H} where
-    pub value_seen : K → (x : Y.Denot) (vs : List Val) → ((v : Val) → vs ≡ v ∷ [] → Good (layout Y) v → Seq K 𝓛 (‵ (Y.own_val x (v ∷ [])) ∷ Γ) G) → Seq K 𝓛 (‵ (Y.own_val x vs) ∷ Γ) G
+    pub value_seen : K → (x : Y.Denot) (vs : List Val)
+        → ((v : Val) → vs ≡ v ∷ [] → Good (layout Y) v → Seq K 𝓛 (‵ (Y.own_val x (v ∷ [])) ∷ Γ) G) → Seq K 𝓛 (‵ (Y.own_val x vs) ∷ Γ) G
     value_seen t x vs on = peeks t (param 0 Y) (Is (param 0 Y)) (shows 𝓛 (param 0 Y)) x vs (λ known.
         let one = only_one (layout Y) vs (((param_laws 0 Y L).lawful 𝓛).typed x vs known) in
         rewrite t 0 (λ (us : List Val). ‵ (Y.own_val x us)) one.1.0 refl $ on one.0 one.1.0 one.1.1)
@@ -124,7 +135,8 @@ module _ (E : El) {M : Type 1} {𝓤 : Ura M} (𝓛 : Logic 𝓤) (b : ℕ) wher
   abbrev pub Without : ℕ → ℕ → List (Slot E) → Fml
   Without = row_without (R E) b
 
-  pub take_place : (slots : List (Slot E)) (i o at : ℕ) → i < length slots → at ≡ i * s + o → ent 𝓤 (sem 𝓛 (Row o slots)) (sep 𝓤 (sem 𝓛 (Place at (get_or slots i None))) (sem 𝓛 (Without i o slots)))
+  pub take_place : (slots : List (Slot E)) (i o at : ℕ) → i < length slots → at ≡ i * s + o
+      → ent 𝓤 (sem 𝓛 (Row o slots)) (sep 𝓤 (sem 𝓛 (Place at (get_or slots i None))) (sem 𝓛 (Without i o slots)))
   take_place [] i o at lt e = absurd (omega (arith, lt))
   take_place (slot ∷ slots) zero o at lt e =
       let same : o ≡ at = omega (arith, e, zero-mul s) in
@@ -135,7 +147,8 @@ module _ (E : El) {M : Type 1} {𝓤 : Ura M} (𝓛 : Logic 𝓤) (b : ℕ) wher
       use1 𝓛 (‵ Taken ⊛ ‵ Left) (take_place slots i (o + s) at (omega (arith, lt)) (omega (arith, e, suc-mul i s))) $ split ! $
       move ! (2 ∷ 1 ∷ []) $ fjoin ! $ move ! (1 ∷ []) $ done !
 
-  pub put_place : (slots : List (Slot E)) (i o at : ℕ) → i < length slots → at ≡ i * s + o → (new : Slot E) → ent 𝓤 (sep 𝓤 (sem 𝓛 (Place at new)) (sem 𝓛 (Without i o slots))) (sem 𝓛 (Row o (set slots i new)))
+  pub put_place : (slots : List (Slot E)) (i o at : ℕ) → i < length slots → at ≡ i * s + o → (new : Slot E)
+      → ent 𝓤 (sep 𝓤 (sem 𝓛 (Place at new)) (sem 𝓛 (Without i o slots))) (sem 𝓛 (Row o (set slots i new)))
   put_place [] i o at lt e new = absurd (omega (arith, lt))
   put_place (slot ∷ slots) zero o at lt e new =
       let same : o ≡ at = omega (arith, e, zero-mul s) in
@@ -168,11 +181,13 @@ module _ (E : El) {M : Type 1} {𝓤 : Ura M} (𝓛 : Logic 𝓤) (b : ℕ) wher
       use1 𝓛 (‵ (froom (ty_array (elτ E) (length slots)) b (o + s))) (row_to_room slots (o + s)) $ move ! (1 ∷ []) $ by ! (𝓛.laws.room_cons (elτ E) (length slots) b o)
 
   module _ (κ : Lft) where
-    values_lent : (xs : List (el_x E)) (rest : List (Slot E)) (o : ℕ) → ent 𝓤 (sem 𝓛 (row_lent (R E) b o (map Some xs ++ rest) κ)) (sem 𝓛 (elements_shared (R E) xs b o κ))
+    values_lent : (xs : List (el_x E)) (rest : List (Slot E)) (o : ℕ)
+        → ent 𝓤 (sem 𝓛 (row_lent (R E) b o (map Some xs ++ rest) κ)) (sem 𝓛 (elements_shared (R E) xs b o κ))
     values_lent [] rest o = qed 𝓛 (‵ (row_lent (R E) b o rest κ) ∷ []) ∵ keep ! [] $ done !
     values_lent (x ∷ xs) rest o = mono_r 𝓤 (sem 𝓛 (place_lent (R E) b o (Some x) κ)) (values_lent xs rest (o + s))
 
-    pub first_lent : (slots : List (Slot E)) (n o : ℕ) (xs : List (el_x E)) → take n slots ≡ map Some xs → ent 𝓤 (sem 𝓛 (row_lent (R E) b o slots κ)) (sem 𝓛 (elements_shared (R E) xs b o κ))
+    pub first_lent : (slots : List (Slot E)) (n o : ℕ) (xs : List (el_x E)) → take n slots ≡ map Some xs
+        → ent 𝓤 (sem 𝓛 (row_lent (R E) b o slots κ)) (sem 𝓛 (elements_shared (R E) xs b o κ))
     first_lent slots n o xs e =
         let rest = rest_of n slots in let apart : map Some xs ++ rest ≡ slots = ap (λ front. front ++ rest) (sym e) ∙ take-append-drop n slots in
         subst (λ row. ent 𝓤 (sem 𝓛 (row_lent (R E) b o row κ)) (sem 𝓛 (elements_shared (R E) xs b o κ))) apart (values_lent xs rest o)

@@ -23,11 +23,15 @@ pub use contract.BorrowLft.{◌⊑◌}
 pub use contract.Running.{tables}
 unfoldable pub use contract.Running.{tables_of}
 pub use sound.WpLaws.{WpFn-mono, FmC, fm_of}
-pub use types.Kit.{Item, Goal, Seq, Step, Post as After, ⋆, step, prop, any_q, at_ret, ‵, raw, ◌⊛◌, some, given, later, await, learn, pick, show, check, ◌$◌, ◌∵◌, !, qed, by, move, keep, drop, use0, use1, use2, use3, split, join, group, rewrite, frame, fsplit, fsplit3, fjoin, fjoin3, fpick, fpack, feq_i, feq_l, flt_i, flt_l, suffices, done}
+pub use types.Kit.{Item, Goal, Seq, Step, Post as After, ⋆, step, prop, any_q, at_ret, ‵, raw, ◌⊛◌, some, given, later, await, learn, pick}
+pub use types.Kit.{show, check, ◌$◌, ◌∵◌, !, qed, by, move, keep, drop, use0, use1, use2, use3, split, join, group, rewrite, frame, fsplit}
+pub use types.Kit.{fsplit3, fjoin, fjoin3, fpick, fpack, feq_i, feq_l, flt_i, flt_l, suffices, done}
 pub use types.Match.{live, vrt, in_variant}
 pub use types.Part.{whole, sub, agg}
-pub use types.Run.{init, look, load, stop, fld, lit, unit_lit, of_opd, bin, and_then, no_more, first, blocks, exec, assigns_last, returns, enter, size_lit, size_word, align_word, switches_on}
-pub use types.ByLocal.{alloc_all, pass_all, free_all, look_at, take_at, give_at, get, get_in, get_tag, through, sets, sets_last, lands_as, lands_last, is, env}
+pub use types.Run.{init, look, load, stop, fld, lit, unit_lit, of_opd, bin, and_then, no_more, first, blocks, exec, assigns_last, returns}
+pub use types.Run.{enter, size_lit, size_word, align_word, switches_on}
+pub use types.ByLocal.{alloc_all, pass_all, free_all, look_at, take_at, give_at, get, get_in, get_tag, through, sets, sets_last, lands_as}
+pub use types.ByLocal.{lands_last, is, env}
 pub use denote.Exit.{yes, no}
 pub use denote.RattleType.{RattleType, Valss, owns}
 pub use denote.Laws.{Typed, Is, shows}
@@ -61,7 +65,8 @@ pub use Rattle.std.proofs.lemmas.List.{length-map}
 pub use Rattle.core.proofs.mem.Param.{El, R, args, el_x, elτ}
 pub use Rattle.core.proofs.ptr.Rows.{times_below, one_below}
 pub use Rattle.core.proofs.slots.Leases.{uncapped, block_ty, block_size, block_align}
-pub use Rattle.core.proofs.alloc.Calls.{Al, second, Goes-blank, token, takes_key, gives_key, Takes, at_takes, Answered, Answer-typed, Takes-goes, Takes-gives, answers, Gives, at_gives, Gives-goes, Gives-Gives}
+pub use Rattle.core.proofs.alloc.Calls.{Al, second, Goes-blank, token, takes_key, gives_key, Takes, at_takes, Answered, Answer-typed}
+pub use Rattle.core.proofs.alloc.Calls.{Takes-goes, Takes-gives, answers, Gives, at_gives, Gives-goes, Gives-Gives}
 pub use Rattle.std_alloc.proofs.RawLayout.{as_written, as_raw}
 pub use Rattle.std_alloc.proofs.RcSteps.{Good, word, word-Good, first_Good}
 pub use Rattle.std_alloc.proofs.ResultValues.{ok_of, err_of}

@@ -1,5 +1,6 @@
 //! An array of cells.
-ghost use Rattle.std.specs.Prelude.{◌≡◌, ℕ, ◌+◌, ◌-◌, ◌<◌, ◌≤◌, ◌⊎◌, List, ◌++◌, Some, Ok, map, length, min, take, slice_get, slice_set, IfOk, IfErr};
+ghost use Rattle.std.specs.Prelude.{◌≡◌, ℕ, ◌+◌, ◌-◌, ◌<◌, ◌≤◌, ◌⊎◌, List, ◌++◌, Some, Ok, map, length, min, take, slice_get, slice_set};
+ghost use Rattle.std.specs.Prelude.{IfOk, IfErr};
 ghost use Rattle.std.specs.Allocator.{alloc_error};
 ghost use Rattle.std.specs.Array.{index_steps};
 ghost use Rattle.std.specs.Iterator.{CallableAtEachTurn};
@@ -98,10 +99,13 @@ impl<T: Drop> Cells<T> {
     ) -> Result<(), E>
         requires callable { CallableAtEachTurn (index_steps len) (λ p i q. (x : T) × F.step p i (Ok x) q) F.pre (length self.old) fill }
         ensures count { IfOk result (λ _. length self.new ≡ len) }
-        ensures filled { IfOk result (λ _. (cells : List T) × (self.new ≡ take len self.old ++ cells) × IsFilledBy (λ f i r g. F.step f i r g) fill (length self.old) cells) }
-        ensures each { IfOk result (λ _. (k : ℕ) (x : T) → length self.old ≤ k → slice_get self.new k ≡ Some x → (p : F) × (q : F) × F.step p k (Ok x) q) }
+        ensures filled { IfOk result (λ _. (cells : List T) × (self.new ≡ take len self.old ++ cells)
+            × IsFilledBy (λ f i r g. F.step f i r g) fill (length self.old) cells) }
+        ensures each { IfOk result (λ _. (k : ℕ) (x : T) → length self.old ≤ k → slice_get self.new k ≡ Some x
+            → (p : F) × (q : F) × F.step p k (Ok x) q) }
         ensures same { IfErr result (λ _. self.new ≡ self.old) }
-        ensures error { IfErr result (λ e. E.from_gives alloc_error e ⊎ IsStoppedBy (λ f i r g. F.step f i r g) fill (length self.old) len e) }
+        ensures error { IfErr result (λ e. E.from_gives alloc_error e
+            ⊎ IsStoppedBy (λ f i r g. F.step f i r g) fill (length self.old) len e) }
     {
         let kept = self.len();
         let part = new_behind(self.row.allocator(), kept, len, fill)?;

@@ -17,7 +17,8 @@ pub(crate) fn fill_to_end<T: Drop, E, F: FnMut(usize) -> Result<T, E>>(
 ) -> Result<Partial<T>, E>
     requires window { IsWindow part from [] (to - from) × (from ≤ to) }
     requires callable { CallableAtEachTurn (index_steps to) (λ p i q. (x : T) × F.step p i (Ok x) q) F.pre from fill }
-    ensures filled { IfOk result (λ p. IsFilledBy (λ f i r g. F.step f i r g) fill from p.items × (p.before ≡ from) × (p.after ≡ 0) × (from + length p.items ≡ to)) }
+    ensures filled { IfOk result (λ p. IsFilledBy (λ f i r g. F.step f i r g) fill from p.items × (p.before ≡ from) × (p.after ≡ 0)
+        × (from + length p.items ≡ to)) }
     ensures stopped { IfErr result (λ e. IsStoppedBy (λ f i r g. F.step f i r g) fill from to e) }
 {
     let mut index = from;

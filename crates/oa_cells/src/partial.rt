@@ -21,7 +21,11 @@ impl<T> Model for Partial<T> {
 
     ghost view = { λ p. record { before = p.from; items = values p.row; after = p.len - p.to } };
 
-    ghost invariant = { λ p. record { count : p.from + length (values p.row) ≡ p.to; fits : p.to ≤ p.len; shape : p.row ≡ laid p.from (values p.row) (p.len - p.to) } };
+    ghost invariant = { λ p. record {
+      count : p.from + length (values p.row) ≡ p.to;
+      fits : p.to ≤ p.len;
+      shape : p.row ≡ laid p.from (values p.row) (p.len - p.to);
+    } };
 }
 
 impl<T> Partial<T> {
@@ -87,7 +91,8 @@ impl<T> Partial<T> {
     /// Moves the last value out.
     pub(crate) fn pop_back(&mut self) -> T
         requires { 0 < length self.old.items }
-        ensures { (self.old.items ≡ self.new.items ++ result ∷ []) × (self.new.before ≡ self.old.before) × (self.new.after ≡ self.old.after + 1) }
+        ensures { (self.old.items ≡ self.new.items ++ result ∷ []) × (self.new.before ≡ self.old.before)
+            × (self.new.after ≡ self.old.after + 1) }
     {
         self.to -= 1;
         self.row.take(self.to)

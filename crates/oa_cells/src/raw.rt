@@ -64,7 +64,8 @@ pub(crate) fn allocate<T, A: Allocator>(
     len: usize,
 ) -> Result<(Start<T>, Places<T>, FreeRight<T, A>), AllocError>
     requires { FitsInBlock T.row len }
-    ensures { IfOk result (λ r. (r.1.at ≡ r.0.ptr) × (r.1.slots ≡ replicate len None) × (r.2.at ≡ r.0.ptr) × (r.2.len ≡ len) × (r.2.alloc ≡ alloc.now)) }
+    ensures { IfOk result (λ r. (r.1.at ≡ r.0.ptr) × (r.1.slots ≡ replicate len None) × (r.2.at ≡ r.0.ptr) × (r.2.len ≡ len)
+        × (r.2.alloc ≡ alloc.now)) }
 {
     match alloc.allocate(len * size_of::<T>(), align_of::<T>()) {
         Ok(block) => {
@@ -90,7 +91,8 @@ pub(crate) fn release<T, A: Allocator>(
     places: Places<T>,
     right: FreeRight<T, A>,
 )
-    requires { (places.at ≡ start.ptr) × (length places.slots ≡ len) × (right.at ≡ start.ptr) × (right.len ≡ len) × (right.alloc ≡ alloc.now) }
+    requires { (places.at ≡ start.ptr) × (length places.slots ≡ len) × (right.at ≡ start.ptr) × (right.len ≡ len)
+        × (right.alloc ≡ alloc.now) }
 {
     let Places { mark: _ } = places;
     let FreeRight { mark: _ } = right;
@@ -111,7 +113,8 @@ impl<T> Places<T> {
     /// Moves a value out of its place, which is empty then.
     pub(crate) fn read(&mut self, start: Start<T>, index: usize) -> T
         requires { (start.ptr ≡ self.old.at) × HasValue self.old.slots index }
-        ensures { (get_or self.old.slots index None ≡ Some result) × (self.new.at ≡ self.old.at) × (self.new.slots ≡ slice_set self.old.slots index None) }
+        ensures { (get_or self.old.slots index None ≡ Some result) × (self.new.at ≡ self.old.at)
+            × (self.new.slots ≡ slice_set self.old.slots index None) }
     {
         unsafe { start.ptr.add(index).read() }
     }

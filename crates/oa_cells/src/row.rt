@@ -23,7 +23,8 @@ impl<T> Model for Row<T> {
 
     ghost view = { λ r. r.places.slots };
 
-    ghost invariant = { λ r. (r.places.at ≡ r.start.ptr) × (r.right.at ≡ r.start.ptr) × (r.right.len ≡ length r.places.slots) × (r.right.alloc ≡ r.alloc) };
+    ghost invariant = { λ r. (r.places.at ≡ r.start.ptr) × (r.right.at ≡ r.start.ptr) × (r.right.len ≡ length r.places.slots)
+        × (r.right.alloc ≡ r.alloc) };
 }
 
 impl<T> Row<T> {

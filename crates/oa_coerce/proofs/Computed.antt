@@ -16,7 +16,8 @@ use Rattle.oa_variant.specs.declared.variant.Variant.TheVariants.{One, Array}
 use Rattle.oa_coerce.specs.Numbers.{counts_units, places_of, number_in, IsNearest}
 use Rattle.oa_coerce.specs.Coercions.{rule_for, Makes, MakesValue, CoercesScalar, Coerces}
 use Rattle.oa_coerce.specs.Refusals.{RefusesScalar, Refuses}
-use Rattle.oa_coerce.specs.Answers.{nearest_count, of_count, answer_by, coerced_scalar, one, value_by, coerced, is_memory, IsScalarAnswer, IsAnswer}
+use Rattle.oa_coerce.specs.Answers.{nearest_count, of_count, answer_by, coerced_scalar, one, value_by, coerced, is_memory, IsScalarAnswer}
+use Rattle.oa_coerce.specs.Answers.{IsAnswer}
 use Rattle.oa_coerce.specs.declared.fault.CoerceFault.{CoerceFault}
 use Rattle.oa_coerce.specs.declared.fault.CoerceFault.TheVariants.{Overflow, TypeMismatch, Memory}
 use Rattle.oa_coerce.specs.declared.rule.Rule.{Rule}
@@ -52,7 +53,8 @@ ranged (scalars.Bstr t) u h = absurd (false≢true u)
 ranged (scalars.Decimal d) u h = absurd (false≢true u)
 
 -- and each number in the range of such a type is that of a scalar of it
-made_of : (to : VarType) (n : ℤ) → counts_units to ≡ true → in_range to n ≡ true → IsScalar (of_count to n) × (type_of (of_count to n) ≡ to) × (number_of (of_count to n) ≡ n)
+made_of : (to : VarType) (n : ℤ) → counts_units to ≡ true → in_range to n ≡ true
+    → IsScalar (of_count to n) × (type_of (of_count to n) ≡ to) × (number_of (of_count to n) ≡ n)
 made_of types.I1 (pos n) u e = (record { sfits = ltb-true n (2 ^ 7) e }, refl, refl)
 made_of types.I1 (negsuc n) u e = (record { sfits = ltb-true n (2 ^ 7) e }, refl, refl)
 made_of types.I2 (pos n) u e = (record { sfits = ltb-true n (2 ^ 15) e }, refl, refl)
@@ -84,7 +86,8 @@ made_of types.Decimal n u e = absurd (false≢true u)
 made_of types.Variant n u e = absurd (false≢true u)
 
 -- a number in range is made by Nearest
-in_range_is_made : (s : Scalar) (to : VarType) → counts_units to ≡ true → (n : ℤ) → n ≡ nearest_count (number_in s) (places_of to) → in_range to n ≡ true → Makes Nearest s to (of_count to n)
+in_range_is_made : (s : Scalar) (to : VarType) → counts_units to ≡ true → (n : ℤ) → n ≡ nearest_count (number_in s) (places_of to)
+    → in_range to n ≡ true → Makes Nearest s to (of_count to n)
 in_range_is_made s to u n e fits = let m = made_of to n u fits in
     (m.0, m.1, subst (IsNearest (number_in s) (places_of to)) (sym (m.2 ∙ e)) (computed_is_nearest (number_in s) (places_of to)))
 

@@ -27,7 +27,8 @@ lifted ToTruth s to made h = h
 lifted NoRule s to made h = h
 
 -- and what it makes of the value is one of those
-pub lowered : (r : Rule) (s : Scalar) (to : VarType) (made : Variant) → MakesValue r (One s) (kinds.One to) made → (m : Scalar) × (made ≡ One m) × Makes r s to m
+pub lowered : (r : Rule) (s : Scalar) (to : VarType) (made : Variant) → MakesValue r (One s) (kinds.One to) made
+    → (m : Scalar) × (made ≡ One m) × Makes r s to m
 lowered Unchanged s to made h = (s, h, refl)
 lowered Zero s to made h = (zero_of to, h, refl)
 lowered Nearest s to (One m) h = (m, refl, h)

@@ -1,5 +1,6 @@
 -- Numbers with a sign: their nearest counts are those without, with the sign put back.
-use Rattle.std.specs.Prelude.{◌≡◌, ◌≤◌, ◌<◌, ◌+◌, ◌*◌, ◌^◌, ℕ, ℤ, zero, suc, Bool, true, false, pos, negsuc, neg_ℤ, ◌*ℤ◌, ◌-ℤ◌, unsigned_abs}
+use Rattle.std.specs.Prelude.{◌≡◌, ◌≤◌, ◌<◌, ◌+◌, ◌*◌, ◌^◌, ℕ, ℤ, zero, suc, Bool, true, false, pos, negsuc, neg_ℤ, ◌*ℤ◌, ◌-ℤ◌}
+use Rattle.std.specs.Prelude.{unsigned_abs}
 use Rattle.std.specs.Int.{abs_diff, is_negative}
 use Rattle.std.proofs.Common.{refl, sym, ap, subst, ◌∙◌, arith}
 use Rattle.std.proofs.lemmas.Bool.{le-ltb}
@@ -63,7 +64,8 @@ without_sign (negsuc b) s p (pos (suc a)) positive h = let e = second_negative (
 without_sign (negsuc b) s p (negsuc a) positive h = let e = both_negative a (10 ^ s) b (10 ^ p) in
     (suc a, refl, record { near = rw (← e) h.near; even = λ half. h.even (rw e half) })
 
-with_its_sign : (c : ℤ) (s p m : ℕ) → IsNearestWhole (unsigned_abs c * 10 ^ p) (10 ^ s) m → IsNearest (record { count = c; scale = s }) p (signed (below_zero c) m)
+with_its_sign : (c : ℤ) (s p m : ℕ) → IsNearestWhole (unsigned_abs c * 10 ^ p) (10 ^ s) m
+    → IsNearest (record { count = c; scale = s }) p (signed (below_zero c) m)
 with_its_sign (pos b) s p m h = let e = both_positive m (10 ^ s) b (10 ^ p) in
     record { near = rw e h.near; even = λ half. h.even (rw (← e) half) }
 with_its_sign (negsuc b) s p zero h = let e = second_negative 0 (10 ^ s) b (10 ^ p) in

@@ -140,7 +140,8 @@ no_places types.Variant u = refl
 other_type : (t u : VarType) → is_integer_type t ≡ true → is_integer_type u ≡ false → t ≡ u → ⊥
 other_type t u integer not_u e = false≢true (sym not_u ∙ (ap is_integer_type (sym e) ∙ integer))
 
-pub integers_stay : (s made : Scalar) (to : VarType) → is_integer_type (type_of s) ≡ true → is_integer_type to ≡ true → CoercesScalar s to made → number_of made ≡ number_of s
+pub integers_stay : (s made : Scalar) (to : VarType) → is_integer_type (type_of s) ≡ true → is_integer_type to ≡ true
+    → CoercesScalar s to made → number_of made ≡ number_of s
 integers_stay s made to from into = by_rule (λ r. Makes r s to made → number_of made ≡ number_of s) (type_of s) to
     (λ _ h. ap number_of h)
     (λ empty h. absurd (other_type (type_of s) types.Empty from refl (are_same (type_of s) types.Empty empty)))

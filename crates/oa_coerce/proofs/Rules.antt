@@ -65,7 +65,8 @@ made_back (scalars.Error n) u = absurd (false≢true u)
 made_back (scalars.Bstr t) u = absurd (false≢true u)
 made_back (scalars.Decimal d) u = absurd (false≢true u)
 
-pub same_scalar : (a b : Scalar) (to : VarType) → counts_units to ≡ true → type_of a ≡ to → type_of b ≡ to → number_of a ≡ number_of b → a ≡ b
+pub same_scalar : (a b : Scalar) (to : VarType) → counts_units to ≡ true → type_of a ≡ to → type_of b ≡ to → number_of a ≡ number_of b
+    → a ≡ b
 same_scalar a b to u of_a of_b n =
     let t = ap of_count (of_a ∙ sym of_b) in
     sym (made_back a (ap counts_units of_a ∙ u)) ∙ ((λ i. t i (n i)) ∙ made_back b (ap counts_units of_b ∙ u))

@@ -2,7 +2,8 @@
 use Rattle.std.specs.Prelude.{◌≡◌, ◌≤◌, ◌<◌, ◌+◌, ◌-◌, ◌*◌, ◌/◌, ◌%◌, ◌||◌, ◌&&◌, ◌==◌, ltb, ℕ, zero, suc}
 use Rattle.std.specs.Int.{abs_diff}
 use Rattle.std.proofs.Common.{inl, inr, sym, subst, arith}
-use Rattle.std.proofs.lemmas.Bool.{cases_order, cases_eq, cond_both, or_cases, or_parts, and_parts, and_cases, ltb-true, ltb-false, eqb-true, eqb-false}
+use Rattle.std.proofs.lemmas.Bool.{cases_order, cases_eq, cond_both, or_cases, or_parts, and_parts, and_cases, ltb-true, ltb-false}
+use Rattle.std.proofs.lemmas.Bool.{eqb-true, eqb-false}
 use Rattle.std.proofs.lemmas.Nat.{div-add-mod', mod_below}
 use Rattle.oa_coerce.specs.Numbers.{IsNearestWhole}
 use Rattle.oa_coerce.specs.Answers.{half_even}
@@ -28,7 +29,8 @@ one_whole w u a b positive of_a of_b = elim (cases_order a b) [
 ]
 
 -- rounding a quotient with its rest; all that matters of the two is that they make the number up
-up : (w u quotient rest : ℕ) → quotient * u + rest ≡ w → rest < u → u ≤ 2 * rest → (2 * rest ≡ u → quotient % 2 ≡ 1) → IsNearestWhole w u (quotient + 1)
+up : (w u quotient rest : ℕ) → quotient * u + rest ≡ w → rest < u → u ≤ 2 * rest → (2 * rest ≡ u → quotient % 2 ≡ 1)
+    → IsNearestWhole w u (quotient + 1)
 up w u quotient rest made small large odd = let next : (quotient + 1) * u ≡ quotient * u + u = omega arith in
     record {
       near = subst (λ x. 2 * abs_diff x w ≤ u) (sym next) (omega (arith, made, small, large));

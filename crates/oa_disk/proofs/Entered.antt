@@ -30,9 +30,11 @@ module _ (first : Layers) (old new : Ledger) where
       ∙ ap (λ (w : List ℕ). record { first = laid first; calls = h.calls; written = w }) is_written
       ∙ ap (λ (l : List ℕ). record { first = l; calls = h.calls; written = h.written }) (sym is_first)
 
-module _ (first : Layers) (call : Call) (bytes : List ℕ) (fault : DeviceFault) (old new : Ledger) (r : Result (Unit {0}) DeviceFault) (is : Enters call bytes fault old new r) where
+module _ (first : Layers) (call : Call) (bytes : List ℕ) (fault : DeviceFault) (old new : Ledger) (r : Result (Unit {0}) DeviceFault)
+    (is : Enters call bytes fault old new r) where
   pub recorded : OnOk r (history first new ≡ with_call (history first old) call bytes)
-  recorded = both r (λ calls written. is_history first old new (with_call (history first old) call bytes) refl calls written) is.calls is.written
+  recorded = both r (λ calls written.
+      is_history first old new (with_call (history first old) call bytes) refl calls written) is.calls is.written
 
   pub refused : OnErr r (history first new ≡ history first old)
   refused = both_err r (λ calls written. is_history first old new (history first old) refl calls written) is.calls_err is.written_err

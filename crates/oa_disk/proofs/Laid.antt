@@ -1,5 +1,6 @@
 -- Rows of bytes that are known by what was written.
-use Rattle.std.proofs.Common.{◌≡◌, ℕ, zero, suc, ◌+◌, ◌-◌, ◌<◌, ◌≤◌, List, [], ◌∷◌, ◌++◌, length, take, drop, length-take, replicate, get_or, refl, sym, ◌∙◌, ap, subst, arith}
+use Rattle.std.proofs.Common.{◌≡◌, ℕ, zero, suc, ◌+◌, ◌-◌, ◌<◌, ◌≤◌, List, [], ◌∷◌, ◌++◌, length, take, drop, length-take, replicate}
+use Rattle.std.proofs.Common.{get_or, refl, sym, ◌∙◌, ap, subst, arith}
 use Rattle.std.proofs.lemmas.List.{length-replicate, ext_get_or}
 use Rattle.oa_disk.specs.Disk.{Holds, Only}
 use Rattle.oa_disk.specs.declared.call.Call.{Call}
@@ -50,9 +51,6 @@ zeros_hold size at window n inside is = record {
 }
 
 module _ (first : Layers) (ledger : Ledger) (calls : ledger.calls.items ≡ []) (written : ledger.written.items ≡ []) where
-  start : History
-  start = record { first = laid first; calls = []; written = [] }
-
   start_is : history first ledger ≡ record { first = laid first; calls = []; written = [] }
   start_is = ap (λ (c : List Call). record { first = laid first; calls = c; written = ledger.written.items }) calls ∙ ap (λ (w : List ℕ). record { first = laid first; calls = []; written = w }) written
 
@@ -71,17 +69,16 @@ module _ (first : Layers) (ledger : Ledger) (calls : ledger.calls.items ≡ []) 
   pub start_settled : Only (contents_of (history first ledger)) (image_of (history first ledger))
   start_settled = subst (λ (h : History). Only (contents_of h) (image_of h)) (sym start_is) start_only
 
-  pub start_contents : contents_of (history first ledger) ≡ laid first
-  start_contents = ap (λ (h : History). contents_of h) start_is
-
 -- one write more
-pub one_more : (size : ℕ) (calls : List Call) (written : List ℕ) (call : Call) (bytes : List ℕ) (later : List Call) (all : List ℕ) → later ≡ calls ++ call ∷ [] → all ≡ written ++ bytes
+pub one_more : (size : ℕ) (calls : List Call) (written : List ℕ) (call : Call) (bytes : List ℕ) (later : List Call) (all : List ℕ)
+    → later ≡ calls ++ call ∷ [] → all ≡ written ++ bytes
     → layered size later all ≡ with_call (layered size calls written) call bytes
 one_more size calls written call bytes later all is_later is_all =
     ap (λ (c : List Call). layered size c all) is_later ∙ ap (λ (w : List ℕ). layered size (calls ++ call ∷ []) w) is_all
 
 -- A window on a disk that has these calls behind it, and these to come, shows what it will be once they all are made.
-pub record IsMade (disk : List ℕ) (calls : List Call) (written : List ℕ) (behind : List Call) (rest : List ℕ) (at : ℕ) (window : List ℕ) : Type 0 where
+pub record IsMade (disk : List ℕ) (calls : List Call) (written : List ℕ) (behind : List Call) (rest : List ℕ) (at : ℕ)
+    (window : List ℕ) : Type 0 where
   pub mid : List ℕ
   pub size : length mid ≡ length disk
   pub holds : Holds mid at window
@@ -91,13 +88,17 @@ module _ (disk : List ℕ) (calls : List Call) (written : List ℕ) (at : ℕ) w
   pub made_start : (window : List ℕ) → Holds disk at window → IsMade disk calls written calls written at window
   made_start window holds = record { mid = disk; size = refl; holds = holds; same = refl }
 
-  pub made_end : (window : List ℕ) (behind : List Call) (rest : List ℕ) → behind ≡ [] → IsMade disk calls written behind rest at window → Holds (contents_after disk calls written) at window
+  pub made_end : (window : List ℕ) (behind : List Call) (rest : List ℕ) → behind ≡ [] → IsMade disk calls written behind rest at window
+      → Holds (contents_after disk calls written) at window
   made_end window behind rest none made = subst (λ (l : List ℕ). Holds l at window) (sym (ap (λ (b : List Call). (last_state (synced made.mid) b rest).contents) none) ∙ made.same) made.holds
 
   module _ (i from : ℕ) (lt : i < length calls) where
-    pub made_write : (fits : from + count_all (drop i calls) ≤ length written) (to n : ℕ) (window new : List ℕ) → get_or calls i Read ≡ Write to n → AllInside (length disk) calls
-        → ((d : List ℕ) → to + length (take (from + n - from) (drop from written)) ≤ length d → Holds d at window → Holds (overwritten d to (take (from + n - from) (drop from written))) at new)
-        → IsMade disk calls written (drop i calls) (drop from written) at window → IsMade disk calls written (drop (i + 1) calls) (drop (from + n) written) at new
+    pub made_write : (fits : from + count_all (drop i calls) ≤ length written) (to n : ℕ) (window new : List ℕ)
+        → get_or calls i Read ≡ Write to n → AllInside (length disk) calls
+        → ((d : List ℕ) → to + length (take (from + n - from) (drop from written)) ≤ length d → Holds d at window
+        → Holds (overwritten d to (take (from + n - from) (drop from written))) at new)
+        → IsMade disk calls written (drop i calls) (drop from written) at window
+        → IsMade disk calls written (drop (i + 1) calls) (drop (from + n) written) at new
     made_write fits to n window new is inside shown made =
         let bytes = take (from + n - from) (drop from written) in
         let long : length (take (from + n - from) (drop from written)) ≤ n = omega (arith, length-take (from + n - from) (drop from written)) in
@@ -110,7 +111,8 @@ module _ (disk : List ℕ) (calls : List Call) (written : List ℕ) (at : ℕ) w
         }
 
     pub made_other : (call : Call) (window : List ℕ) → get_or calls i Read ≡ call → ((to n : ℕ) → call ≡ Write to n → ⊥)
-        → IsMade disk calls written (drop i calls) (drop from written) at window → IsMade disk calls written (drop (i + 1) calls) (drop from written) at window
+        → IsMade disk calls written (drop i calls) (drop from written) at window
+        → IsMade disk calls written (drop (i + 1) calls) (drop from written) at window
     made_other call window is none made = record {
       mid = made.mid;
       size = made.size;

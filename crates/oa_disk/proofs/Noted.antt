@@ -1,5 +1,7 @@
 -- A record with one call more.
-use Rattle.std.proofs.Common.{◌≡◌, ◌⊎◌, ℕ, zero, suc, ◌+◌, ◌%◌, ◌≤◌, ◌&&◌, Bool, true, false, true≢false, IsTrue, Result, Ok, Err, OnOk, OnErr, MatchResult, inl, inr, List, [], ◌∷◌, map, length, take, drop, get_or, refl, sym, ◌∙◌, ap, subst, arith, length-drop}
+use Rattle.std.proofs.Common.{◌≡◌, ◌⊎◌, ℕ, zero, suc, ◌+◌, ◌%◌, ◌≤◌, ◌&&◌, Bool, true, false, true≢false, IsTrue, Result, Ok, Err, OnOk}
+use Rattle.std.proofs.Common.{OnErr, MatchResult, inl, inr, List, [], ◌∷◌, map, length, take, drop, get_or, refl, sym, ◌∙◌, ap, subst}
+use Rattle.std.proofs.Common.{arith, length-drop}
 use Rattle.std.proofs.lemmas.Bool.{and_parts}
 use Rattle.std.proofs.lemmas.Slice.Eq.{bytes_eq-Decides}
 use Rattle.std.proofs.lemmas.List.{get_or-take, get_or-drop, length-take-le, ext_get_or}
@@ -33,7 +35,8 @@ module _ {E : Type 0} where
   on_ok (Err e) a = tt
 
   -- a read has given some bytes
-  pub some_read : (C : E → Type 0) (r : Result (Unit {0}) E) (old new : Record) (at : ℕ) (bytes : List ℕ) → MatchResult r (λ _. new ≡ noted old Read [] at bytes) (λ e. (new ≡ noted old Read [] at []) × C e)
+  pub some_read : (C : E → Type 0) (r : Result (Unit {0}) E) (old new : Record) (at : ℕ) (bytes : List ℕ)
+      → MatchResult r (λ _. new ≡ noted old Read [] at bytes) (λ e. (new ≡ noted old Read [] at []) × C e)
       → (given : List ℕ) × (new ≡ noted old Read [] at given)
   some_read C (Ok x) old new at bytes is = (bytes, is)
   some_read C (Err e) old new at bytes is = ([], is.0)
@@ -49,14 +52,16 @@ unfolding agrees
 agrees_same disk at bytes is = (bytes_eq-Decides (take (length bytes) (drop at disk)) bytes).0 is
 
 -- a disk that agrees with the bytes has them
-pub agrees_holds : (disk : List ℕ) (at : ℕ) (bytes : List ℕ) (b : Bool) → at + length bytes ≤ length disk → IsTrue (b && agrees disk at bytes) → Holds disk at bytes
+pub agrees_holds : (disk : List ℕ) (at : ℕ) (bytes : List ℕ) (b : Bool) → at + length bytes ≤ length disk
+    → IsTrue (b && agrees disk at bytes) → Holds disk at bytes
 agrees_holds disk at bytes b inside is = let same = agrees_same disk at bytes (and_parts b (agrees disk at bytes) is).1 in record {
   within = inside;
   each = λ i lt. sym (get_or-take (length bytes) (drop at disk) i 0 lt ∙ get_or-drop at disk i 0) ∙ ap (λ (l : List ℕ). get_or l i 0) same;
 }
 
 -- a disk that has the bytes agrees with them
-pub holds_agrees : (disk : List ℕ) (at : ℕ) (bytes : List ℕ) (b : Bool) → IsTrue b → Holds disk at bytes → IsTrue (b && agrees disk at bytes)
+pub holds_agrees : (disk : List ℕ) (at : ℕ) (bytes : List ℕ) (b : Bool) → IsTrue b → Holds disk at bytes
+    → IsTrue (b && agrees disk at bytes)
 unfolding agrees
 holds_agrees disk at bytes true is holds = (bytes_eq-Decides (take (length bytes) (drop at disk)) bytes).1 same
   where

@@ -1,18 +1,22 @@
 -- One more call joins a history.
-use Rattle.std.proofs.Common.{◌≡◌, ◌⊎◌, inl, inr, ⊎_elim, ℕ, ◌+◌, ◌*◌, ◌-◌, ◌<◌, ◌≤◌, List, [], ◌∷◌, ◌++◌, length, take, drop, get_or, refl, sym, ◌∙◌, ap, subst, arith, length-append, length-drop}
+use Rattle.std.proofs.Common.{◌≡◌, ◌⊎◌, inl, inr, ⊎_elim, ℕ, ◌+◌, ◌*◌, ◌-◌, ◌<◌, ◌≤◌, List, [], ◌∷◌, ◌++◌, length, take, drop, get_or, refl}
+use Rattle.std.proofs.Common.{sym, ◌∙◌, ap, subst, arith, length-append, length-drop}
 use Rattle.std.proofs.lemmas.List.{take_all, take-append-le, drop-append-le, length-take-le, get_or-take, get_or-drop, ext_get_or}
 use Rattle.std.proofs.lemmas.Bool.{cases_lt}
 use Rattle.oa_disk.specs.Disk.{Holds, Torn, Follows, Reaches, AllBytes, Stays, Writes, Syncs, Elapses}
 use Rattle.oa_disk.specs.declared.call.Call.{Call}
 use Rattle.oa_disk.specs.declared.call.Call.TheVariants.{Read, Write, Sync}
-use Rattle.oa_disk.specs.Replay.{State, IsImage, IsImageOfSome, IsOutside, OneInside, states, last_state, synced, within, after, count_of, count_all, overwritten}
+use Rattle.oa_disk.specs.Replay.{State, IsImage, IsImageOfSome, IsOutside, OneInside, states, last_state, synced, within, after, count_of}
+use Rattle.oa_disk.specs.Replay.{count_all, overwritten}
 use Rattle.oa_disk.specs.History.{History, IsWhole, Fits, with_call, state_of, contents_of, image_of, moment_of, image_since_of}
-use Rattle.oa_disk.specs.Overwritten.{take_bytes, drop_bytes, append_bytes, overwritten_bytes, length-overwritten, overwritten_below, overwritten_in, overwritten_above, overwritten_holds, overwritten_torn, torn_from}
+use Rattle.oa_disk.specs.Overwritten.{take_bytes, drop_bytes, append_bytes, overwritten_bytes, length-overwritten, overwritten_below}
+use Rattle.oa_disk.specs.Overwritten.{overwritten_in, overwritten_above, overwritten_holds, overwritten_torn, torn_from}
 use Rattle.oa_disk.specs.Ranges.{Torn_refl}
 use Rattle.oa_disk.specs.Replaying.{length-states, counts_last, contents_size, contents_bytes}
 use Rattle.oa_disk.proofs.Calls.{inside_push}
 
-pub last_push : (calls : List Call) (state : State) (bytes : List ℕ) (call : Call) (more : List ℕ) → count_all calls ≡ length bytes → count_of call ≡ length more
+pub last_push : (calls : List Call) (state : State) (bytes : List ℕ) (call : Call) (more : List ℕ) → count_all calls ≡ length bytes
+    → count_of call ≡ length more
     → last_state state (calls ++ call ∷ []) (bytes ++ more) ≡ after (last_state state calls bytes) call more
 last_push [] state [] call more all one = ap (λ (l : List ℕ). after state call l) (take_all (count_of call) more (omega (arith, one)))
 last_push [] state (b ∷ bytes) call more all one = absurd (omega (arith, all))
@@ -22,7 +26,8 @@ last_push (first ∷ calls) state bytes call more all one =
     ∙ ap (λ (l : List ℕ). last_state (after state first (take n bytes)) (calls ++ call ∷ []) l) (drop-append-le n bytes more (omega (arith, all)))
     ∙ last_push calls (after state first (take n bytes)) (drop n bytes) call more (omega (arith, all, length-drop n bytes)) one
 
-states_push : (calls : List Call) (state : State) (bytes : List ℕ) (call : Call) (more : List ℕ) → count_all calls ≡ length bytes → count_of call ≡ length more
+states_push : (calls : List Call) (state : State) (bytes : List ℕ) (call : Call) (more : List ℕ) → count_all calls ≡ length bytes
+    → count_of call ≡ length more
     → states state (calls ++ call ∷ []) (bytes ++ more) ≡ states state calls bytes ++ within (last_state state calls bytes) call ∷ after (last_state state calls bytes) call more ∷ []
 states_push [] state [] call more all one = ap (λ (l : List ℕ). within state call ∷ after state call l ∷ []) (take_all (count_of call) more (omega (arith, one)))
 states_push [] state (b ∷ bytes) call more all one = absurd (omega (arith, all))
@@ -62,14 +67,16 @@ is_inside size (Write at count) more fits = fits.1
 is_inside size Sync more fits = tt
 
 -- the write's range takes any bytes, so the new contents serve as well as the old
-written_image : (state : State) (at count : ℕ) (more c : List ℕ) → count ≡ length more → at + length more ≤ length state.contents → IsImage (within state (Write at count)) c → IsImage (after state (Write at count) more) c
+written_image : (state : State) (at count : ℕ) (more c : List ℕ) → count ≡ length more → at + length more ≤ length state.contents
+    → IsImage (within state (Write at count)) c → IsImage (after state (Write at count) more) c
 written_image state at count more c same inside is = record {
   size = is.size ∙ sym (length-overwritten state.contents more at inside);
   outside = λ i out. is.outside i out ∙ sym (⊎_elim (overwritten_below state.contents more at inside i) (λ le. overwritten_above state.contents more at inside i (omega arith)) out.0);
   bytes = is.bytes;
 }
 
-in_call : (size : ℕ) (state : State) (call : Call) (more c : List ℕ) → length state.contents ≡ size → Fits size call more → IsImage (within state call) c → IsImage state c ⊎ IsImage (after state call more) c
+in_call : (size : ℕ) (state : State) (call : Call) (more c : List ℕ) → length state.contents ≡ size → Fits size call more
+    → IsImage (within state call) c → IsImage state c ⊎ IsImage (after state call more) c
 in_call size state Read more c long fits is = inl is
 in_call size state (Write at count) more c long fits is = inr (written_image state at count more c fits.0 (omega (arith, fits.0, fits.1, long)) is)
 in_call size state Sync more c long fits is = inl is
@@ -85,13 +92,15 @@ module _ (size : ℕ) (h : History) (whole : IsWhole size h) (call : Call) (more
   joined : state_of (with_call h call more) ≡ after (state_of h) call more
   joined = last_push h.calls (synced h.first) h.written call more whole.count_of_all one
 
-  all_states : (t : ℕ) → t ≤ 2 * length h.calls → drop t (synced h.first ∷ states (synced h.first) (h.calls ++ call ∷ []) (h.written ++ more))
+  all_states : (t : ℕ) → t ≤ 2 * length h.calls
+      → drop t (synced h.first ∷ states (synced h.first) (h.calls ++ call ∷ []) (h.written ++ more))
       ≡ drop t (synced h.first ∷ states (synced h.first) h.calls h.written) ++ (within (state_of h) call ∷ after (state_of h) call more ∷ [])
   all_states t le =
       ap (λ (l : List State). drop t (synced h.first ∷ l)) (states_push h.calls (synced h.first) h.written call more whole.count_of_all one)
       ∙ drop-append-le t (synced h.first ∷ states (synced h.first) h.calls h.written) (within (state_of h) call ∷ after (state_of h) call more ∷ []) (omega (arith, length-states h.calls (synced h.first) h.written))
 
-  new_or_past : (t : ℕ) (c : List ℕ) → t ≤ 2 * length h.calls → IsImageOfSome (within (state_of h) call ∷ after (state_of h) call more ∷ []) c
+  new_or_past : (t : ℕ) (c : List ℕ) → t ≤ 2 * length h.calls
+      → IsImageOfSome (within (state_of h) call ∷ after (state_of h) call more ∷ []) c
       → image_since_of h t c ⊎ IsImage (after (state_of h) call more) c
   new_or_past t c le (inl is) = ⊎_elim (λ past. inl (counts_last h.calls (synced h.first) h.written c t le past)) (λ now. inr now) (in_call size (state_of h) call more c (contents_size size h whole) fits is)
   new_or_past t c le (inr (inl is)) = inr is
@@ -157,7 +166,8 @@ module _ (size : ℕ) (h new : History) (is : new ≡ h) where
   }
 
 -- each image after a write is an image before it, with any bytes in the range
-write_follows : (state : State) (at count : ℕ) (more : List ℕ) → AllBytes state.contents → count ≡ length more → at + length more ≤ length state.contents
+write_follows : (state : State) (at count : ℕ) (more : List ℕ) → AllBytes state.contents → count ≡ length more
+    → at + length more ≤ length state.contents
     → Follows (Torn at (length more)) (IsImage state) (IsImage (after state (Write at count) more))
 write_follows state at count more all same inside c is = (older, older_is, subst (λ (n : ℕ). Torn at n older c) length_old (torn_from c old_bytes at fits_c is.bytes))
   where
@@ -176,7 +186,8 @@ write_follows state at count more all same inside c is = (older, older_is, subst
     fits_c : at + length (take (length more) (drop at state.contents)) ≤ length c
     fits_c = omega (arith, length_old, size_is)
 
-    at_each : (i : ℕ) → IsOutside state.pending i → (i < at) ⊎ (at ≤ i) → (i < at + count) ⊎ (at + count ≤ i) → get_or (overwritten c at (take (length more) (drop at state.contents))) i 0 ≡ get_or state.contents i 0
+    at_each : (i : ℕ) → IsOutside state.pending i → (i < at) ⊎ (at ≤ i) → (i < at + count) ⊎ (at + count ≤ i)
+        → get_or (overwritten c at (take (length more) (drop at state.contents))) i 0 ≡ get_or state.contents i 0
     at_each i out (inl lt) other =
         overwritten_below c (take (length more) (drop at state.contents)) at fits_c i lt ∙ is.outside i (inl lt, out) ∙ overwritten_below state.contents more at inside i lt
     at_each i out (inr le) (inr past) =
@@ -211,7 +222,8 @@ write_reaches state at count more same inside d c was torn = record {
 }
 
 -- an image before a write is one after it
-write_stays : (state : State) (at count : ℕ) (more c : List ℕ) → count ≡ length more → at + length more ≤ length state.contents → IsImage state c → IsImage (after state (Write at count) more) c
+write_stays : (state : State) (at count : ℕ) (more c : List ℕ) → count ≡ length more → at + length more ≤ length state.contents
+    → IsImage state c → IsImage (after state (Write at count) more) c
 write_stays state at count more c same inside was = write_reaches state at count more same inside c c was (Torn_refl at (length more) c)
 
 -- a sync drops what is pending
@@ -235,7 +247,8 @@ module _ (size : ℕ) (h : History) (whole : IsWhole size h) (new : History) whe
   pub sync_images : new ≡ with_call h Sync [] → (c : List ℕ) → image_of new c → image_of h c
   sync_images is c left = synced_image (state_of h) c (subst (λ (s : State). IsImage s c) (state_is size h whole Sync [] refl new is) left)
 
-  module _ (at : ℕ) (bytes : List ℕ) (fits : at + length bytes ≤ size) (all : AllBytes bytes) (is : new ≡ with_call h (Write at (length bytes)) bytes) where
+  module _ (at : ℕ) (bytes : List ℕ) (fits : at + length bytes ≤ size) (all : AllBytes bytes)
+      (is : new ≡ with_call h (Write at (length bytes)) bytes) where
     now : state_of new ≡ after (state_of h) (Write at (length bytes)) bytes
     now = state_is size h whole (Write at (length bytes)) bytes (refl, fits, all) new is
 

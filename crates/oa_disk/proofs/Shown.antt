@@ -1,5 +1,6 @@
 -- A window on a disk.
-use Rattle.std.proofs.Common.{◌≡◌, ◌⊎◌, inl, inr, ℕ, ◌+◌, ◌-◌, ◌<◌, ◌≤◌, List, length, take, drop, get_or, sym, ◌∙◌, ap, arith, length-drop, min, max}
+use Rattle.std.proofs.Common.{◌≡◌, ◌⊎◌, inl, inr, ℕ, ◌+◌, ◌-◌, ◌<◌, ◌≤◌, List, length, take, drop, get_or, sym, ◌∙◌, ap, arith, length-drop}
+use Rattle.std.proofs.Common.{min, max}
 use Rattle.std.proofs.lemmas.Bool.{cases_lt}
 use Rattle.std.proofs.lemmas.List.{length-take-le, get_or-take, get_or-drop}
 use Rattle.oa_disk.specs.Disk.{Holds}
@@ -12,7 +13,8 @@ module _ (disk window bytes : List ℕ) (at to : ℕ) (inside : to + length byte
   long = length-overwritten disk bytes to inside
 
   -- the write lies beside the window
-  beside : high ≤ low → (i : ℕ) → i < length window → (at + i < to) ⊎ (to ≤ at + i) → (at + i < to + length bytes) ⊎ (to + length bytes ≤ at + i)
+  beside : high ≤ low → (i : ℕ) → i < length window → (at + i < to) ⊎ (to ≤ at + i)
+      → (at + i < to + length bytes) ⊎ (to + length bytes ≤ at + i)
       → get_or (overwritten disk to bytes) (at + i) 0 ≡ get_or window i 0
   beside none i lt (inl below) other = overwritten_below disk bytes to inside (at + i) below ∙ holds.each i lt
   beside none i lt (inr from) (inl before) = absurd (omega (arith, none, is_low, is_high))
@@ -37,7 +39,8 @@ module _ (disk window bytes : List ℕ) (at to : ℕ) (inside : to + length byte
     fits = omega (arith, count, is_low, is_high)
 
     at_each : (i : ℕ) → i < length window → (at + i < low) ⊎ (low ≤ at + i) → (at + i < high) ⊎ (high ≤ at + i)
-        → get_or (overwritten disk to bytes) (at + i) 0 ≡ get_or (overwritten window (low - at) (take (high - to - (low - to)) (drop (low - to) bytes))) i 0
+        → get_or (overwritten disk to bytes) (at + i) 0 ≡ get_or (overwritten window (low - at)
+        (take (high - to - (low - to)) (drop (low - to) bytes))) i 0
     at_each i lt (inl below) other =
         overwritten_below disk bytes to inside (at + i) (omega (arith, is_low)) ∙ holds.each i lt
         ∙ sym (overwritten_below window (take (high - to - (low - to)) (drop (low - to) bytes)) (low - at) fits i (omega arith))
@@ -57,7 +60,8 @@ module _ (disk window bytes : List ℕ) (at to : ℕ) (inside : to + length byte
         ∙ get_or-drop (low - to) bytes (at + i - low) 0
         )
 
-    pub shown_in : (new : List ℕ) → new ≡ overwritten window (low - at) (take (high - to - (low - to)) (drop (low - to) bytes)) → Holds (overwritten disk to bytes) at new
+    pub shown_in : (new : List ℕ) → new ≡ overwritten window (low - at) (take (high - to - (low - to)) (drop (low - to) bytes))
+        → Holds (overwritten disk to bytes) at new
     shown_in new is = record {
       within = omega (arith, long, holds.within, ap length is, length-overwritten window (take (high - to - (low - to)) (drop (low - to) bytes)) (low - at) fits);
       each = λ i lt. at_each i (omega (arith, lt, ap length is, length-overwritten window (take (high - to - (low - to)) (drop (low - to) bytes)) (low - at) fits)) (cases_lt (at + i) low) (cases_lt (at + i) high) ∙ ap (λ (l : List ℕ). get_or l i 0) (sym is);

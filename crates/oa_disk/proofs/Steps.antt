@@ -1,5 +1,6 @@
 -- One more call is made again.
-use Rattle.std.proofs.Common.{◌≡◌, ℕ, zero, suc, ◌+◌, ◌-◌, ◌<◌, ◌≤◌, List, [], ◌∷◌, length, take, drop, get_or, Some, slice_get, refl, sym, ◌∙◌, ap, arith, length-drop}
+use Rattle.std.proofs.Common.{◌≡◌, ℕ, zero, suc, ◌+◌, ◌-◌, ◌<◌, ◌≤◌, List, [], ◌∷◌, length, take, drop, get_or, Some, slice_get, refl, sym}
+use Rattle.std.proofs.Common.{◌∙◌, ap, arith, length-drop}
 use Rattle.std.proofs.lemmas.List.{drop_more, drop-drop, length-take-le}
 use Rattle.oa_disk.specs.declared.call.Call.{Call}
 use Rattle.oa_disk.specs.declared.call.Call.TheVariants.{Read, Write, Sync}
@@ -19,21 +20,25 @@ module _ (calls : List Call) (written : List ℕ) (i from : ℕ) (lt : i < lengt
   rest call is = drop_more calls i Read lt ∙ ap (λ (c : Call). c ∷ drop (i + 1) calls) is
 
   state_step : (s : State) (call : Call) → get_or calls i Read ≡ call
-      → last_state s (drop i calls) (drop from written) ≡ last_state (after s call (take (count_of call) (drop from written))) (drop (i + 1) calls) (drop (from + count_of call) written)
+      → last_state s (drop i calls) (drop from written) ≡ last_state (after s call (take (count_of call) (drop from written)))
+      (drop (i + 1) calls) (drop (from + count_of call) written)
   state_step s call is =
       ap (λ (l : List Call). last_state s l (drop from written)) (rest call is)
       ∙ ap (λ (w : List ℕ). last_state (after s call (take (count_of call) (drop from written))) (drop (i + 1) calls) w) (drop-drop (count_of call) from written)
 
   torn_step : (tear : Tear) (disk : List ℕ) (call : Call) → get_or calls i Read ≡ call
-      → torn_all tear disk (drop i calls) (drop from written) ≡ torn_all (rest_of tear (count_of call)) (torn_call tear disk call (take (count_of call) (drop from written))) (drop (i + 1) calls) (drop (from + count_of call) written)
+      → torn_all tear disk (drop i calls) (drop from written) ≡ torn_all (rest_of tear (count_of call))
+      (torn_call tear disk call (take (count_of call) (drop from written))) (drop (i + 1) calls) (drop (from + count_of call) written)
   torn_step tear disk call is =
       ap (λ (l : List Call). torn_all tear disk l (drop from written)) (rest call is)
       ∙ ap (λ (w : List ℕ). torn_all (rest_of tear (count_of call)) (torn_call tear disk call (take (count_of call) (drop from written))) (drop (i + 1) calls) w) (drop-drop (count_of call) from written)
 
-  pub count_step : (call : Call) (next : ℕ) → get_or calls i Read ≡ call → next ≡ from + count_of call → from + count_all (drop i calls) ≡ next + count_all (drop (i + 1) calls)
+  pub count_step : (call : Call) (next : ℕ) → get_or calls i Read ≡ call → next ≡ from + count_of call
+      → from + count_all (drop i calls) ≡ next + count_all (drop (i + 1) calls)
   count_step call next is is_next = omega (arith, ap count_all (rest call is), is_next)
 
-  pub count_other : (call : Call) (next : ℕ) → get_or calls i Read ≡ call → ((at n : ℕ) → call ≡ Write at n → ⊥) → next ≡ from → from + count_all (drop i calls) ≡ next + count_all (drop (i + 1) calls)
+  pub count_other : (call : Call) (next : ℕ) → get_or calls i Read ≡ call → ((at n : ℕ) → call ≡ Write at n → ⊥) → next ≡ from
+      → from + count_all (drop i calls) ≡ next + count_all (drop (i + 1) calls)
   count_other Read next is none is_next = count_step Read next is (omega (arith, is_next))
   count_other (Write at n) next is none is_next = absurd (none at n refl)
   count_other Sync next is none is_next = count_step Sync next is (omega (arith, is_next))
@@ -46,8 +51,10 @@ module _ (calls : List Call) (written : List ℕ) (i from : ℕ) (lt : i < lengt
     long at n m is same = length-take-le m (drop from written) (omega (arith, length-drop from written, bytes_fit at n is, same)) ∙ same
 
     -- a write is made again
-    pub replay_write : (at n : ℕ) (old new : List ℕ) → get_or calls i Read ≡ Write at n → new ≡ overwritten old at (take (from + n - from) (drop from written))
-        → (last_state (synced new) (drop (i + 1) calls) (drop (from + n) written)).contents ≡ (last_state (synced old) (drop i calls) (drop from written)).contents
+    pub replay_write : (at n : ℕ) (old new : List ℕ) → get_or calls i Read ≡ Write at n
+        → new ≡ overwritten old at (take (from + n - from) (drop from written))
+        → (last_state (synced new) (drop (i + 1) calls) (drop (from + n) written)).contents ≡ (last_state (synced old) (drop i calls)
+        (drop from written)).contents
     replay_write at n old new is is_new =
         let m_is : from + n - from ≡ n = omega arith in
         let now : new ≡ overwritten old at (take n (drop from written)) = is_new ∙ ap (λ (k : ℕ). overwritten old at (take k (drop from written))) m_is in
@@ -55,7 +62,8 @@ module _ (calls : List Call) (written : List ℕ) (i from : ℕ) (lt : i < lengt
         ∙ sym (ap (λ (t : State). t.contents) (state_step (synced old) (Write at n) is))
 
     -- a write is torn
-    pub torn_write : (at n : ℕ) (tear rest : Tear) (old new : List ℕ) → get_or calls i Read ≡ Write at n → new ≡ torn tear old at (take (from + n - from) (drop from written))
+    pub torn_write : (at n : ℕ) (tear rest : Tear) (old new : List ℕ) → get_or calls i Read ≡ Write at n
+        → new ≡ torn tear old at (take (from + n - from) (drop from written))
         → rest ≡ rest_of tear (length (take (from + n - from) (drop from written)))
         → torn_all rest new (drop (i + 1) calls) (drop (from + n) written) ≡ torn_all tear old (drop i calls) (drop from written)
     torn_write at n tear later old new is is_new is_rest =
@@ -69,7 +77,8 @@ module _ (calls : List Call) (written : List ℕ) (i from : ℕ) (lt : i < lengt
 
   -- another call changes nothing
   pub replay_other : (call : Call) (disk : List ℕ) → get_or calls i Read ≡ call → ((at n : ℕ) → call ≡ Write at n → ⊥)
-      → (last_state (synced disk) (drop (i + 1) calls) (drop from written)).contents ≡ (last_state (synced disk) (drop i calls) (drop from written)).contents
+      → (last_state (synced disk) (drop (i + 1) calls) (drop from written)).contents ≡ (last_state (synced disk) (drop i calls)
+      (drop from written)).contents
   replay_other Read disk is none = ap (λ (w : List ℕ). (last_state (synced disk) (drop (i + 1) calls) w).contents) (sym zero_more) ∙ sym (ap (λ (t : State). t.contents) (state_step (synced disk) Read is))
   replay_other (Write at n) disk is none = absurd (none at n refl)
   replay_other Sync disk is none = ap (λ (w : List ℕ). (last_state (synced disk) (drop (i + 1) calls) w).contents) (sym zero_more) ∙ sym (ap (λ (t : State). t.contents) (state_step (synced disk) Sync is))

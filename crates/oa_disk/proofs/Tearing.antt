@@ -1,5 +1,6 @@
 -- What a tear leaves is an image of that moment.
-use Rattle.std.proofs.Common.{inl, inr, ◌≡◌, ℕ, suc, ◌+◌, ◌*◌, ◌-◌, ◌/◌, ◌<◌, ◌≤◌, List, [], ◌∷◌, ◌++◌, length, take, drop, get_or, replicate, Some, slice_get, refl, sym, ◌∙◌, ap, subst, arith, length-drop, length-take}
+use Rattle.std.proofs.Common.{inl, inr, ◌≡◌, ℕ, suc, ◌+◌, ◌*◌, ◌-◌, ◌/◌, ◌<◌, ◌≤◌, List, [], ◌∷◌, ◌++◌, length, take, drop, get_or}
+use Rattle.std.proofs.Common.{replicate, Some, slice_get, refl, sym, ◌∙◌, ap, subst, arith, length-drop, length-take}
 use Rattle.std.proofs.lemmas.Bool.{cases_eq}
 use Rattle.std.proofs.lemmas.List.{length-replicate, length-take-le, take-append-drop, drop-take, take-take, take_more, get_or-drop}
 use Rattle.oa_disk.specs.Disk.{AllBytes}
@@ -8,10 +9,13 @@ use Rattle.oa_disk.specs.declared.call.Call.TheVariants.{Read, Write, Sync}
 use Rattle.oa_disk.specs.declared.crash.Tear.{Tear}
 use Rattle.oa_disk.specs.declared.crash.Tear.TheVariants.{Lost, Kept, Filled, Cut}
 use Rattle.oa_disk.specs.Overwritten.{length-overwritten, overwritten_below, overwritten_above}
-use Rattle.oa_disk.specs.Replay.{State, IsImage, AllInside, NoSync, within, after, last_state, states, synced, contents_after, overwritten, count_all}
+use Rattle.oa_disk.specs.Replay.{State, IsImage, AllInside, NoSync, within, after, last_state, states, synced, contents_after, overwritten}
+use Rattle.oa_disk.specs.Replay.{count_all}
 use Rattle.oa_disk.specs.Replaying.{state_size}
 use Rattle.oa_disk.specs.Tear.{torn, rest_of, torn_all, IsTorn}
-use Rattle.oa_disk.proofs.Calls.{Lies, Keeps, last_state-append, torn_within, torn_after, even_state, odd_state, no_sync_drop, inside_drop, inside_take, count_parts}
+use Rattle.oa_disk.proofs.Calls.{AgreesOutsidePending, Keeps, last_state-append, torn_within, torn_after, even_state, odd_state}
+use Rattle.oa_disk.proofs.Calls.{no_sync_drop, inside_drop}
+use Rattle.oa_disk.proofs.Calls.{inside_take, count_parts}
 use Rattle.oa_disk.proofs.Steps.{get_at}
 
 overwritten_keeps : (disk bytes : List ℕ) (at n : ℕ) → length bytes ≤ n → at + n ≤ length disk → Keeps at n disk (overwritten disk at bytes)
@@ -22,21 +26,21 @@ overwritten_keeps disk bytes at n le inside = record {
 }
 
 -- one write tears its range alone
-range_torn : (tear : Tear) (disk : List ℕ) (at n : ℕ) (bytes : List ℕ) → length bytes ≡ n → at + n ≤ length disk → Keeps at n disk (torn tear disk at bytes)
+range_torn : (tear : Tear) (disk : List ℕ) (at n : ℕ) (bytes : List ℕ) → length bytes ≡ n → at + n ≤ length disk
+    → Keeps at n disk (torn tear disk at bytes)
 range_torn Lost disk at n bytes is inside = record { size = refl; below = λ i lt. refl; above = λ i le. refl }
 range_torn Kept disk at n bytes is inside = overwritten_keeps disk bytes at n (omega (arith, is)) inside
 range_torn (Filled byte) disk at n bytes is inside = overwritten_keeps disk (replicate (length bytes) byte) at n (omega (arith, length-replicate (length bytes) byte, is)) inside
 range_torn (Cut m) disk at n bytes is inside = overwritten_keeps disk (take m bytes) at n (omega (arith, length-take m bytes, is)) inside
 
-inside_of : (disk new : List ℕ) (call : Call) (calls : List Call) → length new ≡ length disk → AllInside (length disk) (call ∷ calls) → AllInside (length new) calls
+inside_of : (disk new : List ℕ) (call : Call) (calls : List Call) → length new ≡ length disk → AllInside (length disk) (call ∷ calls)
+    → AllInside (length new) calls
 inside_of disk new call calls same all k at count is = omega (arith, all (suc k) at count is, same)
 
-some_same : (x y : Call) → Some x ≡ Some y → x ≡ y
-some_same x y e = cc
-
 -- the calls that have ended, none of them a sync
-pub ended_image : (tear : Tear) (calls : List Call) (s : State) (disk written : List ℕ) → AllInside (length disk) calls → NoSync calls → count_all calls ≤ length written
-    → Lies s disk → Lies (last_state s calls written) (torn_all tear disk calls written)
+pub ended_image : (tear : Tear) (calls : List Call) (s : State) (disk written : List ℕ) → AllInside (length disk) calls → NoSync calls
+    → count_all calls ≤ length written
+    → AgreesOutsidePending s disk → AgreesOutsidePending (last_state s calls written) (torn_all tear disk calls written)
 ended_image tear [] s disk written inside none fits is = is
 ended_image tear (Read ∷ calls) s disk written inside none fits is = ended_image (rest_of tear 0) calls s disk (drop 0 written) (λ k. inside (suc k)) (λ k. none (suc k)) (omega arith) is
 ended_image tear (Sync ∷ calls) s disk written inside none fits is = absurd (none 0 refl)
@@ -48,8 +52,10 @@ ended_image tear (Write at n ∷ calls) s disk written inside none fits is =
     (torn_after s at n (take n written) disk (torn tear disk at (take n written)) (sym long) (inside 0 at n refl) here is)
 
 -- and one that has only begun
-pub begun_image : (tear : Tear) (calls : List Call) (last : Call) (s : State) (disk written : List ℕ) → AllInside (length disk) (calls ++ last ∷ []) → NoSync calls → count_all (calls ++ last ∷ []) ≤ length written
-    → Lies s disk → Lies (within (last_state s calls written) last) (torn_all tear disk (calls ++ last ∷ []) written)
+pub begun_image : (tear : Tear) (calls : List Call) (last : Call) (s : State) (disk written : List ℕ)
+    → AllInside (length disk) (calls ++ last ∷ []) → NoSync calls → count_all (calls ++ last ∷ []) ≤ length written
+    → AgreesOutsidePending s disk → AgreesOutsidePending (within (last_state s calls written) last)
+    (torn_all tear disk (calls ++ last ∷ []) written)
 begun_image tear [] Read s disk written inside none fits is = is
 begun_image tear [] Sync s disk written inside none fits is = is
 begun_image tear [] (Write at n) s disk written inside none fits is =
@@ -65,21 +71,6 @@ begun_image tear (Write at n ∷ calls) last s disk written inside none fits is 
 
 module _ (tear : Tear) (first : List ℕ) (calls : List Call) (written : List ℕ) (moment : ℕ) (image : List ℕ)
     (among : moment ≤ 2 * length calls) (inside : AllInside (length first) calls) (fits : count_all calls ≤ length written) (is : IsTorn tear first calls written moment image) (all : AllBytes image) where
-  n : ℕ
-  n = moment / 2
-
-  before : List Call
-  before = take is.synced calls
-
-  rest : List ℕ
-  rest = drop (count_all (take is.synced calls)) written
-
-  mid : List Call
-  mid = take (moment / 2 - is.synced) (drop is.synced calls)
-
-  base : List ℕ
-  base = contents_after first (take is.synced calls) written
-
   low : is.synced ≤ moment / 2
   low = omega (arith, is.last.among, length-take (moment / 2) calls)
 
@@ -103,10 +94,10 @@ module _ (tear : Tear) (first : List ℕ) (calls : List Call) (written : List �
   inside_rest : AllInside (length (contents_after first (take is.synced calls) written)) (drop is.synced calls)
   inside_rest = subst (λ (k : ℕ). AllInside k (drop is.synced calls)) (sym base_size) (inside_drop (length first) calls is.synced inside)
 
-  base_image : Lies (last_state (synced first) (take is.synced calls) written) (contents_after first (take is.synced calls) written)
+  base_image : AgreesOutsidePending (last_state (synced first) (take is.synced calls) written) (contents_after first (take is.synced calls) written)
   base_image = record { size = refl; outside = λ i out. refl }
 
-  with_bytes : (state : State) → Lies state image → IsImage state image
+  with_bytes : (state : State) → AgreesOutsidePending state image → IsImage state image
   with_bytes state lies = record { size = lies.size; outside = lies.outside; bytes = all }
 
   state_is : last_state (last_state (synced first) (take is.synced calls) written) (take (moment / 2 - is.synced) (drop is.synced calls)) (drop (count_all (take is.synced calls)) written) ≡ last_state (synced first) (take (moment / 2) calls) written
@@ -115,7 +106,8 @@ module _ (tear : Tear) (first : List ℕ) (calls : List Call) (written : List �
   fits_rest : count_all (drop is.synced calls) ≤ length (drop (count_all (take is.synced calls)) written)
   fits_rest = omega (arith, count_parts calls is.synced, fits, length-drop (count_all (take is.synced calls)) written)
 
-  even : moment ≡ 2 * (moment / 2) → (state : State) × (slice_get (synced first ∷ states (synced first) calls written) moment ≡ Some state) × IsImage state image
+  even : moment ≡ 2 * (moment / 2) → (state : State) × (slice_get (synced first ∷ states (synced first) calls written) moment ≡ Some state)
+      × IsImage state image
   even e =
       let same : (moment + 1) / 2 ≡ moment / 2 = omega (arith, e) in
       let torn_is = is.torn ∙ ap (λ (k : ℕ). torn_all tear (contents_after first (take is.synced calls) written) (take (k - is.synced) (drop is.synced calls)) (drop (count_all (take is.synced calls)) written)) same in
@@ -124,11 +116,12 @@ module _ (tear : Tear) (first : List ℕ) (calls : List Call) (written : List �
       (omega (arith, fits_rest, count_parts (drop is.synced calls) (moment / 2 - is.synced))) base_image in (
         last_state (synced first) (take (moment / 2) calls) written,
         even_state calls (synced first) written (moment / 2) moment e (omega (arith, among)),
-        with_bytes (last_state (synced first) (take (moment / 2) calls) written) (subst (λ (c : List ℕ). Lies (last_state (synced first) (take (moment / 2) calls) written) c) (sym torn_is)
-            (subst (λ (s : State). Lies s (torn_all tear (contents_after first (take is.synced calls) written) (take (moment / 2 - is.synced) (drop is.synced calls)) (drop (count_all (take is.synced calls)) written))) state_is made)),
+        with_bytes (last_state (synced first) (take (moment / 2) calls) written) (subst (λ (c : List ℕ). AgreesOutsidePending (last_state (synced first) (take (moment / 2) calls) written) c) (sym torn_is)
+            (subst (λ (s : State). AgreesOutsidePending s (torn_all tear (contents_after first (take is.synced calls) written) (take (moment / 2 - is.synced) (drop is.synced calls)) (drop (count_all (take is.synced calls)) written))) state_is made)),
       )
 
-  odd : moment ≡ 2 * (moment / 2) + 1 → (state : State) × (slice_get (synced first ∷ states (synced first) calls written) moment ≡ Some state) × IsImage state image
+  odd : moment ≡ 2 * (moment / 2) + 1 → (state : State)
+      × (slice_get (synced first ∷ states (synced first) calls written) moment ≡ Some state) × IsImage state image
   odd o =
       let call = get_or calls (moment / 2) Read in
       let more = moment / 2 - is.synced in
@@ -150,8 +143,8 @@ module _ (tear : Tear) (first : List ℕ) (calls : List Call) (written : List �
         within (last_state (synced first) (take (moment / 2) calls) written) (get_or calls (moment / 2) Read),
         odd_state calls (synced first) written (moment / 2) moment (get_or calls (moment / 2) Read) o (get_at calls (moment / 2) (get_or calls (moment / 2) Read) lt refl),
         with_bytes (within (last_state (synced first) (take (moment / 2) calls) written) (get_or calls (moment / 2) Read))
-            (subst (λ (c : List ℕ). Lies (within (last_state (synced first) (take (moment / 2) calls) written) (get_or calls (moment / 2) Read)) c) (sym torn_is)
-            (subst (λ (s : State). Lies (within s (get_or calls (moment / 2) Read)) image_is) state_is made)),
+            (subst (λ (c : List ℕ). AgreesOutsidePending (within (last_state (synced first) (take (moment / 2) calls) written) (get_or calls (moment / 2) Read)) c) (sym torn_is)
+            (subst (λ (s : State). AgreesOutsidePending (within s (get_or calls (moment / 2) Read)) image_is) state_is made)),
       )
 
   -- the image of that moment

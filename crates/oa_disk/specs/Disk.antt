@@ -58,17 +58,31 @@ pub record Elapses (before now : ℕ) (past since : ℕ → List ℕ → Type 0)
   pub nothing_else : (t : ℕ) (c : List ℕ) → t ≤ before → since t c → past t c ⊎ image c
   pub keeps : (t : ℕ) (c : List ℕ) → t ≤ before → past t c → since t c
 
+-- time goes on by a call of a disk
+abbrev pub TakesTime : {D : Type 0} → (D → ℕ) → (D → ℕ → List ℕ → Type 0) → (D → List ℕ → Type 0) → D → D → Type 0
+TakesTime moment image_since image old new = Elapses (moment old) (moment new) (image_since old) (image_since new) (image new)
+
 -- A crash at any moment since old leaves an image that has P.
-pub record LeavesOnly {D : Type 0} (moment : D → ℕ) (image_since : D → ℕ → List ℕ → Type 0) (old new : D) (P : List ℕ → Type 0) : Type 0 where
+pub record LeavesOnly {D : Type 0} (moment : D → ℕ) (image_since : D → ℕ → List ℕ → Type 0) (old new : D)
+    (P : List ℕ → Type 0) : Type 0 where
   pub later : moment old ≤ moment new
   pub each : (c : List ℕ) → image_since new (moment old) c → P c
   -- for a run that began earlier
   pub before : (t : ℕ) (c : List ℕ) → t ≤ moment old → image_since new t c → image_since old t c ⊎ P c
 
+-- A crash at any moment since old leaves an image of old after a step.
+abbrev pub LeavesStep : {D : Type 0} → (D → ℕ) → (D → ℕ → List ℕ → Type 0) → (D → List ℕ → Type 0) → D → D
+    → (List ℕ → List ℕ → Type 0) → Type 0
+LeavesStep moment image_since image old new step = LeavesOnly moment image_since old new (λ c. (d : List ℕ) × image old d × step d c)
+
+-- a failure was counted, unless the count stands at its greatest value
+abbrev pub HasCounted : ℕ → ℕ → Type 0
+HasCounted before now = now < 2 ^ 64 - 1 → before < now
+
 -- One call, or a run of calls that ends with the first that fails: a failure counts once, unless the count stands at its greatest
 -- value, and without one nothing counts.
 pub record Counts {T E : Type 0} (before now : ℕ) (result : Result T E) : Type 0 where
   pub later : before ≤ now
-  pub failed : IsErr result → now < 2 ^ 64 - 1 → before < now
+  pub failed : IsErr result → HasCounted before now
   pub once : now ≤ before + 1
   pub none : IsOk result → now ≡ before

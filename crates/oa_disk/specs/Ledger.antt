@@ -18,7 +18,8 @@ history first ledger = record { first = laid first; calls = ledger.calls.items; 
 
 -- The call is served exactly where there is room for it and for the bytes that it writes. Then it is the last of the
 -- record, else the count of failures alone changes.
-pub record Enters (call : Call) (bytes : List ℕ) (fault : DeviceFault) (old new : Ledger) (result : Result (Unit {0}) DeviceFault) : Type 0 where
+pub record Enters (call : Call) (bytes : List ℕ) (fault : DeviceFault) (old new : Ledger)
+    (result : Result (Unit {0}) DeviceFault) : Type 0 where
   pub serves : IsOk result ↔ ((length old.calls.items < old.most_calls) × (length old.written.items + length bytes ≤ old.most_bytes))
   pub calls : OnOk result (new.calls.items ≡ old.calls.items ++ call ∷ [])
   pub written : OnOk result (new.written.items ≡ old.written.items ++ bytes)

@@ -35,7 +35,8 @@ image_since_of disk t = known.image_since_of (history_of disk) t
 -- The call is served exactly where there is room for it and for the bytes that it writes. Then it is the last of the
 -- record, else the record is as before, and with it the contents.
 pub record IsRecorded {E : Type 0} (call : Call) (bytes : List ℕ) (old new : MemoryDisk) (result : Result (Unit {0}) E) : Type 0 where
-  pub serves : IsOk result ↔ ((length old.ledger.calls.items < old.ledger.most_calls) × (length old.ledger.written.items + length bytes ≤ old.ledger.most_bytes))
+  pub serves : IsOk result ↔ ((length old.ledger.calls.items < old.ledger.most_calls)
+      × (length old.ledger.written.items + length bytes ≤ old.ledger.most_bytes))
   pub recorded : OnOk result (history_of new ≡ with_call (history_of old) call bytes)
   pub refused : OnErr result (history_of new ≡ history_of old)
   pub calls_room : new.ledger.most_calls ≡ old.ledger.most_calls

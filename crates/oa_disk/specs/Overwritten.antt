@@ -1,5 +1,6 @@
 -- What a write makes of a disk.
-use Rattle.std.proofs.Common.{◌≡◌, ◌⊎◌, inl, inr, ℕ, zero, suc, ◌+◌, ◌-◌, ◌<◌, ◌≤◌, List, [], ◌∷◌, ◌++◌, length, take, drop, get_or, refl, sym, ◌∙◌, ap, arith, length-append, length-drop}
+use Rattle.std.proofs.Common.{◌≡◌, ◌⊎◌, inl, inr, ℕ, zero, suc, ◌+◌, ◌-◌, ◌<◌, ◌≤◌, List, [], ◌∷◌, ◌++◌, length, take, drop, get_or, refl}
+use Rattle.std.proofs.Common.{sym, ◌∙◌, ap, arith, length-append, length-drop}
 use Rattle.std.proofs.lemmas.Bool.{cases_lt}
 use Rattle.std.proofs.lemmas.List.{length-take-le, get_or_append_left, get_or-append_right, get_or-take, get_or-drop}
 use Rattle.oa_disk.specs.Disk.{Holds, Torn, AllBytes}
@@ -31,10 +32,17 @@ module _ (disk bytes : List ℕ) (at : ℕ) (inside : at + length bytes ≤ leng
   front = length-take-le at disk (omega arith)
 
   pub length-overwritten : length (overwritten disk at bytes) ≡ length disk
-  length-overwritten = omega (arith, length-append (take at disk) (bytes ++ drop (at + length bytes) disk), length-append bytes (drop (at + length bytes) disk), length-drop (at + length bytes) disk, front)
+  length-overwritten = omega (
+    arith,
+    length-append (take at disk) (bytes ++ drop (at + length bytes) disk),
+    length-append bytes (drop (at + length bytes) disk),
+    length-drop (at + length bytes) disk,
+    front,
+  )
 
   pub overwritten_below : (i : ℕ) → i < at → get_or (overwritten disk at bytes) i 0 ≡ get_or disk i 0
-  overwritten_below i lt = get_or_append_left (take at disk) (bytes ++ drop (at + length bytes) disk) 0 i (omega (arith, front)) ∙ get_or-take at disk i 0 lt
+  overwritten_below i lt = get_or_append_left (take at disk) (bytes ++ drop (at + length bytes) disk) 0 i (omega (arith, front))
+      ∙ get_or-take at disk i 0 lt
 
   behind : (i : ℕ) → at ≤ i → get_or (overwritten disk at bytes) i 0 ≡ get_or (bytes ++ drop (at + length bytes) disk) (i - at) 0
   behind i le = get_or-append_right (take at disk) (bytes ++ drop (at + length bytes) disk) at i 0 front le
@@ -42,7 +50,8 @@ module _ (disk bytes : List ℕ) (at : ℕ) (inside : at + length bytes ≤ leng
   pub overwritten_in : (i : ℕ) → i < length bytes → get_or (overwritten disk at bytes) (at + i) 0 ≡ get_or bytes i 0
   overwritten_in i lt =
       let same : at + i - at ≡ i = omega arith in
-      behind (at + i) (omega arith) ∙ ap (λ (k : ℕ). get_or (bytes ++ drop (at + length bytes) disk) k 0) same ∙ get_or_append_left bytes (drop (at + length bytes) disk) 0 i lt
+      behind (at + i) (omega arith) ∙ ap (λ (k : ℕ). get_or (bytes ++ drop (at + length bytes) disk) k 0) same
+      ∙ get_or_append_left bytes (drop (at + length bytes) disk) 0 i lt
 
   pub overwritten_above : (i : ℕ) → at + length bytes ≤ i → get_or (overwritten disk at bytes) i 0 ≡ get_or disk i 0
   overwritten_above i le =
@@ -55,12 +64,14 @@ module _ (disk bytes : List ℕ) (at : ℕ) (inside : at + length bytes ≤ leng
   pub overwritten_holds : Holds (overwritten disk at bytes) at bytes
   overwritten_holds = record { within = omega (arith, length-overwritten, inside); each = overwritten_in }
 
-  at_each : AllBytes bytes → (i : ℕ) → (i < at) ⊎ (at ≤ i) → (i < at + length bytes) ⊎ (at + length bytes ≤ i) → (get_or (overwritten disk at bytes) i 0 ≡ get_or disk i 0) ⊎ (get_or (overwritten disk at bytes) i 0 < 256)
+  at_each : AllBytes bytes → (i : ℕ) → (i < at) ⊎ (at ≤ i) → (i < at + length bytes) ⊎ (at + length bytes ≤ i)
+      → (get_or (overwritten disk at bytes) i 0 ≡ get_or disk i 0) ⊎ (get_or (overwritten disk at bytes) i 0 < 256)
   at_each all i (inl lt) other = inl (overwritten_below i lt)
   at_each all i (inr le) (inr past) = inl (overwritten_above i past)
   at_each all i (inr le) (inl here) =
       let place : at + (i - at) ≡ i = omega arith in
-      let is : get_or (overwritten disk at bytes) i 0 ≡ get_or bytes (i - at) 0 = ap (λ (j : ℕ). get_or (overwritten disk at bytes) j 0) (sym place) ∙ overwritten_in (i - at) (omega arith) in
+      let is : get_or (overwritten disk at bytes) i 0 ≡ get_or bytes (i - at) 0 =
+      ap (λ (j : ℕ). get_or (overwritten disk at bytes) j 0) (sym place) ∙ overwritten_in (i - at) (omega arith) in
       inr (omega (arith, is, all (i - at)))
 
   pub overwritten_torn : AllBytes bytes → Torn at (length bytes) disk (overwritten disk at bytes)

@@ -1,5 +1,6 @@
 -- What a crash may have left at each moment, from the calls and the bytes that were written.
-use Rattle.std.specs.Prelude.{◌≡◌, ◌⊎◌, ℕ, ◌+◌, ◌<◌, ◌≤◌, Bool, bytes_eq, List, [], ◌∷◌, ◌++◌, length, take, drop, replicate, slice_index, slice_get, Some}
+use Rattle.std.specs.Prelude.{◌≡◌, ◌⊎◌, ℕ, ◌+◌, ◌<◌, ◌≤◌, Bool, bytes_eq, List, [], ◌∷◌, ◌++◌, length, take, drop, replicate, slice_index}
+use Rattle.std.specs.Prelude.{slice_get, Some}
 use Rattle.oa_disk.specs.Disk.{AllBytes}
 use Rattle.oa_disk.specs.declared.call.Call.{Call}
 use Rattle.oa_disk.specs.declared.call.Call.TheVariants.{Read, Write, Sync}
@@ -44,7 +45,8 @@ after state Sync bytes = record { contents = state.contents; pending = [] }
 abbrev pub states : State → List Call → List ℕ → List State
 states state [] bytes = []
 states state (call ∷ calls) bytes =
-    within state call ∷ after state call (take (count_of call) bytes) ∷ states (after state call (take (count_of call) bytes)) calls (drop (count_of call) bytes)
+    within state call ∷ after state call (take (count_of call) bytes)
+    ∷ states (after state call (take (count_of call) bytes)) calls (drop (count_of call) bytes)
 
 abbrev pub last_state : State → List Call → List ℕ → State
 last_state state [] bytes = state

@@ -1,5 +1,6 @@
 -- Laws of a history.
-use Rattle.std.proofs.Common.{◌≡◌, inl, inr, ℕ, zero, suc, ◌*◌, ◌≤◌, List, [], ◌∷◌, length, take, drop, refl, sym, ◌∙◌, ap, subst, arith, length-drop}
+use Rattle.std.proofs.Common.{◌≡◌, inl, inr, ℕ, zero, suc, ◌*◌, ◌≤◌, List, [], ◌∷◌, length, take, drop, refl, sym, ◌∙◌, ap, subst, arith}
+use Rattle.std.proofs.Common.{length-drop}
 use Rattle.std.proofs.lemmas.List.{length-take-le}
 use Rattle.oa_disk.specs.Disk.{AllBytes}
 use Rattle.oa_disk.specs.declared.call.Call.{Call}
@@ -10,22 +11,30 @@ use Rattle.oa_disk.specs.Overwritten.{take_bytes, drop_bytes, overwritten_bytes,
 
 pub length-states : (calls : List Call) (state : State) (bytes : List ℕ) → length (states state calls bytes) ≡ 2 * length calls
 length-states [] state bytes = refl
-length-states (call ∷ calls) state bytes = omega (arith, length-states calls (after state call (take (count_of call) bytes)) (drop (count_of call) bytes))
+length-states (call ∷ calls) state bytes =
+    omega (arith, length-states calls (after state call (take (count_of call) bytes)) (drop (count_of call) bytes))
 
 -- the last state is one of those from any moment on
-pub counts_last : (calls : List Call) (state : State) (bytes c : List ℕ) (t : ℕ) → t ≤ 2 * length calls → IsImage (last_state state calls bytes) c
+pub counts_last : (calls : List Call) (state : State) (bytes c : List ℕ) (t : ℕ) → t ≤ 2 * length calls
+    → IsImage (last_state state calls bytes) c
     → IsImageOfSome (drop t (state ∷ states state calls bytes)) c
 counts_last [] state bytes c zero le is = inl is
 counts_last [] state bytes c (suc t) le is = absurd (omega arith)
-counts_last (call ∷ calls) state bytes c zero le is = inr (inr (counts_last calls (after state call (take (count_of call) bytes)) (drop (count_of call) bytes) c zero (omega arith) is))
-counts_last (call ∷ calls) state bytes c (suc zero) le is = inr (counts_last calls (after state call (take (count_of call) bytes)) (drop (count_of call) bytes) c zero (omega arith) is)
-counts_last (call ∷ calls) state bytes c (suc (suc t)) le is = counts_last calls (after state call (take (count_of call) bytes)) (drop (count_of call) bytes) c t (omega arith) is
+counts_last (call ∷ calls) state bytes c zero le is =
+    inr (inr (counts_last calls (after state call (take (count_of call) bytes)) (drop (count_of call) bytes) c zero (omega arith) is))
+counts_last (call ∷ calls) state bytes c (suc zero) le is =
+    inr (counts_last calls (after state call (take (count_of call) bytes)) (drop (count_of call) bytes) c zero (omega arith) is)
+counts_last (call ∷ calls) state bytes c (suc (suc t)) le is =
+    counts_last calls (after state call (take (count_of call) bytes)) (drop (count_of call) bytes) c t (omega arith) is
 
 -- since the last moment there is only the last state
-only_at_length : (calls : List Call) (state : State) (bytes c : List ℕ) → IsImageOfSome (drop (length (states state calls bytes)) (state ∷ states state calls bytes)) c → IsImage (last_state state calls bytes) c
+only_at_length : (calls : List Call) (state : State) (bytes c : List ℕ)
+    → IsImageOfSome (drop (length (states state calls bytes)) (state ∷ states state calls bytes)) c
+    → IsImage (last_state state calls bytes) c
 only_at_length [] state bytes c (inl is) = is
 only_at_length [] state bytes c (inr none) = absurd none
-only_at_length (call ∷ calls) state bytes c left = only_at_length calls (after state call (take (count_of call) bytes)) (drop (count_of call) bytes) c left
+only_at_length (call ∷ calls) state bytes c left =
+    only_at_length calls (after state call (take (count_of call) bytes)) (drop (count_of call) bytes) c left
 
 -- what is left since a later moment is left since the first
 since_first : (all : List State) (c : List ℕ) (t : ℕ) → IsImageOfSome (drop t all) c → IsImageOfSome all c
@@ -39,23 +48,28 @@ earlier all c (suc s) zero le is = absurd (omega arith)
 earlier [] c (suc s) (suc t) le is = is
 earlier (state ∷ rest) c (suc s) (suc t) le is = earlier rest c s t (omega arith) is
 
-pub after_bytes : (state : State) (call : Call) (more : List ℕ) → AllBytes state.contents → AllBytes more → AllBytes (after state call more).contents
+pub after_bytes : (state : State) (call : Call) (more : List ℕ) → AllBytes state.contents → AllBytes more
+    → AllBytes (after state call more).contents
 after_bytes state Read more old new = old
 after_bytes state (Write at count) more old new = overwritten_bytes state.contents at more old new
 after_bytes state Sync more old new = old
 
 -- calls leave bytes
-pub state_bytes : (calls : List Call) (state : State) (bytes : List ℕ) → AllBytes state.contents → AllBytes bytes → AllBytes (last_state state calls bytes).contents
+pub state_bytes : (calls : List Call) (state : State) (bytes : List ℕ) → AllBytes state.contents → AllBytes bytes
+    → AllBytes (last_state state calls bytes).contents
 state_bytes [] state bytes old new = old
 state_bytes (call ∷ calls) state bytes old new =
-    state_bytes calls (after state call (take (count_of call) bytes)) (drop (count_of call) bytes) (after_bytes state call (take (count_of call) bytes) old (take_bytes (count_of call) bytes new)) (drop_bytes (count_of call) bytes new)
+    state_bytes calls (after state call (take (count_of call) bytes)) (drop (count_of call) bytes)
+    (after_bytes state call (take (count_of call) bytes) old (take_bytes (count_of call) bytes new))
+    (drop_bytes (count_of call) bytes new)
 
 within_contents : (state : State) (call : Call) → (within state call).contents ≡ state.contents
 within_contents state Read = refl
 within_contents state (Write at count) = refl
 within_contents state Sync = refl
 
-one_size : (state : State) (call : Call) (calls : List Call) (bytes : List ℕ) (size : ℕ) → length state.contents ≡ size → AllInside size (call ∷ calls) → count_all (call ∷ calls) ≤ length bytes
+one_size : (state : State) (call : Call) (calls : List Call) (bytes : List ℕ) (size : ℕ) → length state.contents ≡ size
+    → AllInside size (call ∷ calls) → count_all (call ∷ calls) ≤ length bytes
     → length (after state call (take (count_of call) bytes)).contents ≡ size
 one_size state Read calls bytes size is inside fits = is
 one_size state (Write at n) calls bytes size is inside fits =
@@ -64,17 +78,23 @@ one_size state (Write at n) calls bytes size is inside fits =
 one_size state Sync calls bytes size is inside fits = is
 
 -- calls keep the size
-pub state_size : (calls : List Call) (state : State) (bytes : List ℕ) (size : ℕ) → length state.contents ≡ size → AllInside size calls → count_all calls ≤ length bytes → length (last_state state calls bytes).contents ≡ size
+pub state_size : (calls : List Call) (state : State) (bytes : List ℕ) (size : ℕ) → length state.contents ≡ size → AllInside size calls
+    → count_all calls ≤ length bytes → length (last_state state calls bytes).contents ≡ size
 state_size [] state bytes size is inside fits = is
 state_size (call ∷ calls) state bytes size is inside fits =
-    state_size calls (after state call (take (count_of call) bytes)) (drop (count_of call) bytes) size (one_size state call calls bytes size is inside fits) (λ k. inside (suc k)) (omega (arith, length-drop (count_of call) bytes))
+    state_size calls (after state call (take (count_of call) bytes))
+    (drop (count_of call) bytes) size (one_size state call calls bytes size is inside fits) (λ k. inside (suc k))
+    (omega (arith, length-drop (count_of call) bytes))
 
-some_size : (calls : List Call) (state : State) (bytes c : List ℕ) (size : ℕ) → length state.contents ≡ size → AllInside size calls → count_all calls ≤ length bytes → IsImageOfSome (state ∷ states state calls bytes) c → length c ≡ size
+some_size : (calls : List Call) (state : State) (bytes c : List ℕ) (size : ℕ) → length state.contents ≡ size → AllInside size calls
+    → count_all calls ≤ length bytes → IsImageOfSome (state ∷ states state calls bytes) c → length c ≡ size
 some_size calls state bytes c size is inside fits (inl image) = image.size ∙ is
 some_size [] state bytes c size is inside fits (inr none) = absurd none
 some_size (call ∷ calls) state bytes c size is inside fits (inr (inl image)) = image.size ∙ ap length (within_contents state call) ∙ is
 some_size (call ∷ calls) state bytes c size is inside fits (inr (inr some)) =
-    some_size calls (after state call (take (count_of call) bytes)) (drop (count_of call) bytes) c size (one_size state call calls bytes size is inside fits) (λ k. inside (suc k)) (omega (arith, length-drop (count_of call) bytes)) some
+    some_size calls (after state call (take (count_of call) bytes))
+    (drop (count_of call) bytes) c size (one_size state call calls bytes size is inside fits) (λ k. inside (suc k))
+    (omega (arith, length-drop (count_of call) bytes)) some
 
 module _ (size : ℕ) (h : History) (whole : IsWhole size h) where
   pub contents_size : length (contents_of h) ≡ size
@@ -104,7 +124,8 @@ module _ (h : History) where
   pub only_now : (c : List ℕ) → image_since_of h (moment_of h) c → image_of h c
   only_now c left =
       only_at_length h.calls (synced h.first) h.written c
-      (subst (λ (n : ℕ). IsImageOfSome (drop n (synced h.first ∷ states (synced h.first) h.calls h.written)) c) (sym (length-states h.calls (synced h.first) h.written)) left)
+      (subst (λ (n : ℕ). IsImageOfSome (drop n (synced h.first ∷ states (synced h.first) h.calls h.written)) c)
+      (sym (length-states h.calls (synced h.first) h.written)) left)
 
 -- a disk of no bytes has images of that size alone
 pub no_bytes : (c : List ℕ) → c ≡ [] → length c ≡ 0

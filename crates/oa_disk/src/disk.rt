@@ -1,6 +1,6 @@
 //! A disk as a store sees it: what a read gives, and what a crash may leave.
 ghost use Rattle.std.specs.Prelude.{◌≡◌, ◌+◌, ◌-◌, ◌^◌, ◌≤◌, List, ℕ, Bool, IsTrue, length, OnOk, OnErr, IfErr};
-ghost use Rattle.oa_disk.specs.Disk.{Holds, Torn, Reaches, Stays, Writes, Syncs, Elapses, Counts};
+ghost use Rattle.oa_disk.specs.Disk.{Holds, Torn, Reaches, Stays, Writes, Syncs, TakesTime, Counts};
 
 use thiserror::Error;
 
@@ -55,7 +55,7 @@ pub trait Disk {
         requires { at + length bytes.old ≤ size_of self.old }
         ensures read { OnOk result (IsTrue (is_honest self.new) → Holds (contents self.old) at bytes.new) }
         ensures stays { IsTrue (is_honest self.old) → Stays (contents self.old) (contents self.new) (image self.old) (image self.new) }
-        ensures time { IsTrue (is_honest self.old) → Elapses (moment self.old) (moment self.new) (image_since self.old) (image_since self.new) (image self.new) }
+        ensures time { IsTrue (is_honest self.old) → TakesTime moment image_since image self.old self.new }
         ensures size { size_of self.new ≡ size_of self.old }
         ensures honest { IsTrue (is_honest self.new) → IsTrue (is_honest self.old) }
         ensures kept { OnOk result (IsTrue (is_honest self.old) → Holds (contents self.old) at bytes.new → IsTrue (is_honest self.new)) }
@@ -68,9 +68,11 @@ pub trait Disk {
     fn write_at(&mut self, at: u64, bytes: &[u8]) -> Result<(), DeviceFault>
         requires { at + length bytes.now ≤ size_of self.old }
         ensures written { OnOk result (IsTrue (is_honest self.old) → Holds (contents self.new) at bytes.now) }
-        ensures writes { IsTrue (is_honest self.old) → Writes at (length bytes.now) (contents self.old) (contents self.new) (image self.old) (image self.new) }
-        ensures any_bytes { OnOk result (IsTrue (is_honest self.old) → Reaches (Torn at (length bytes.now)) (image self.old) (image self.new)) }
-        ensures time { IsTrue (is_honest self.old) → Elapses (moment self.old) (moment self.new) (image_since self.old) (image_since self.new) (image self.new) }
+        ensures writes { IsTrue (is_honest self.old) → Writes at (length bytes.now) (contents self.old) (contents self.new)
+            (image self.old) (image self.new) }
+        ensures any_bytes { OnOk result (IsTrue (is_honest self.old)
+            → Reaches (Torn at (length bytes.now)) (image self.old) (image self.new)) }
+        ensures time { IsTrue (is_honest self.old) → TakesTime moment image_since image self.old self.new }
         ensures size { size_of self.new ≡ size_of self.old }
         ensures honest { is_honest self.new ≡ is_honest self.old }
         ensures counts { Counts (failures_of self.old) (failures_of self.new) result }
@@ -82,7 +84,7 @@ pub trait Disk {
         ensures syncs { OnOk result (IsTrue (is_honest self.old) → Syncs (contents self.old) (contents self.new) (image self.new)) }
         ensures images { IsTrue (is_honest self.old) → (c : List ℕ) → image self.new c → image self.old c }
         ensures stay { OnErr result (IsTrue (is_honest self.old) → (c : List ℕ) → image self.old c → image self.new c) }
-        ensures time { IsTrue (is_honest self.old) → Elapses (moment self.old) (moment self.new) (image_since self.old) (image_since self.new) (image self.new) }
+        ensures time { IsTrue (is_honest self.old) → TakesTime moment image_since image self.old self.new }
         ensures size { size_of self.new ≡ size_of self.old }
         ensures honest { is_honest self.new ≡ is_honest self.old }
         ensures counts { Counts (failures_of self.old) (failures_of self.new) result }
@@ -98,13 +100,16 @@ pub trait Disk {
     ghost images_have_size: { (disk : Self) (c : List ℕ) → IsTrue (is_honest disk) → image disk c → length c ≡ size_of disk };
 
     /// So has each that might have been left.
-    ghost since_have_size: { (disk : Self) (t : ℕ) (c : List ℕ) → IsTrue (is_honest disk) → image_since disk t c → length c ≡ size_of disk };
+    ghost since_have_size: { (disk : Self) (t : ℕ) (c : List ℕ) → IsTrue (is_honest disk) → image_since disk t c
+        → length c ≡ size_of disk };
 
     /// This moment is one of those since an earlier one.
-    ghost counts_now: { (disk : Self) (t : ℕ) (c : List ℕ) → IsTrue (is_honest disk) → t ≤ moment disk → image disk c → image_since disk t c };
+    ghost counts_now: { (disk : Self) (t : ℕ) (c : List ℕ) → IsTrue (is_honest disk) → t ≤ moment disk → image disk c
+        → image_since disk t c };
 
     /// What might have been left since a later moment might have been left since an earlier one.
-    ghost since_falls: { (disk : Self) (s t : ℕ) (c : List ℕ) → IsTrue (is_honest disk) → s ≤ t → image_since disk t c → image_since disk s c };
+    ghost since_falls: { (disk : Self) (s t : ℕ) (c : List ℕ) → IsTrue (is_honest disk) → s ≤ t → image_since disk t c
+        → image_since disk s c };
 
     /// Since this moment there is no other.
     ghost only_now: { (disk : Self) (c : List ℕ) → IsTrue (is_honest disk) → image_since disk (moment disk) c → image disk c };

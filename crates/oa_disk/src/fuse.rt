@@ -1,7 +1,7 @@
 //! A disk that fails from some call on.
 ghost use Rattle.std.specs.Prelude.{◌≡◌, ◌+◌, ◌-◌, ◌^◌, ◌<◌, ◌≤◌, ◌↔◌, List, ℕ, length, IsTrue, OnOk, OnErr, IfErr, IsErr};
 ghost use Rattle.oa_disk.specs.Counting.{min_below};
-ghost use Rattle.oa_disk.specs.Disk.{Holds, Torn, Reaches, Stays, Writes, Syncs, Elapses, Counts};
+ghost use Rattle.oa_disk.specs.Disk.{Holds, Torn, Reaches, Stays, Writes, Syncs, TakesTime, Counts};
 ghost use Rattle.oa_disk.specs.Fuse.{failures_with};
 
 use crate::{DeviceFault, Disk};
@@ -108,11 +108,13 @@ impl<D: Disk> Disk for FuseDisk<D> {
         requires { at + length bytes.old ≤ D.size_of self.old.disk }
         ensures spends { Spends self.old self.new result }
         ensures read { OnOk result (IsTrue (D.is_honest self.new.disk) → Holds (D.contents self.old.disk) at bytes.new) }
-        ensures stays { IsTrue (D.is_honest self.old.disk) → Stays (D.contents self.old.disk) (D.contents self.new.disk) (D.image self.old.disk) (D.image self.new.disk) }
-        ensures time { IsTrue (D.is_honest self.old.disk) → Elapses (D.moment self.old.disk) (D.moment self.new.disk) (D.image_since self.old.disk) (D.image_since self.new.disk) (D.image self.new.disk) }
+        ensures stays { IsTrue (D.is_honest self.old.disk)
+            → Stays (D.contents self.old.disk) (D.contents self.new.disk) (D.image self.old.disk) (D.image self.new.disk) }
+        ensures time { IsTrue (D.is_honest self.old.disk) → TakesTime D.moment D.image_since D.image self.old.disk self.new.disk }
         ensures size { D.size_of self.new.disk ≡ D.size_of self.old.disk }
         ensures honest { IsTrue (D.is_honest self.new.disk) → IsTrue (D.is_honest self.old.disk) }
-        ensures kept { OnOk result (IsTrue (D.is_honest self.old.disk) → Holds (D.contents self.old.disk) at bytes.new → IsTrue (D.is_honest self.new.disk)) }
+        ensures kept { OnOk result (IsTrue (D.is_honest self.old.disk) → Holds (D.contents self.old.disk) at bytes.new
+            → IsTrue (D.is_honest self.new.disk)) }
         ensures honest_err { OnErr result (D.is_honest self.new.disk ≡ D.is_honest self.old.disk) }
         ensures counts { Counts (failures_with D.failures_of self.old) (failures_with D.failures_of self.new) result }
         ensures fault { IfErr result (λ e. e ≡ DeviceFault.Read) }
@@ -125,9 +127,12 @@ impl<D: Disk> Disk for FuseDisk<D> {
         requires { at + length bytes.now ≤ D.size_of self.old.disk }
         ensures spends { Spends self.old self.new result }
         ensures written { OnOk result (IsTrue (D.is_honest self.old.disk) → Holds (D.contents self.new.disk) at bytes.now) }
-        ensures writes { IsTrue (D.is_honest self.old.disk) → Writes at (length bytes.now) (D.contents self.old.disk) (D.contents self.new.disk) (D.image self.old.disk) (D.image self.new.disk) }
-        ensures any_bytes { OnOk result (IsTrue (D.is_honest self.old.disk) → Reaches (Torn at (length bytes.now)) (D.image self.old.disk) (D.image self.new.disk)) }
-        ensures time { IsTrue (D.is_honest self.old.disk) → Elapses (D.moment self.old.disk) (D.moment self.new.disk) (D.image_since self.old.disk) (D.image_since self.new.disk) (D.image self.new.disk) }
+        ensures writes { IsTrue (D.is_honest self.old.disk)
+            → Writes at (length bytes.now) (D.contents self.old.disk) (D.contents self.new.disk) (D.image self.old.disk)
+            (D.image self.new.disk) }
+        ensures any_bytes { OnOk result (IsTrue (D.is_honest self.old.disk)
+            → Reaches (Torn at (length bytes.now)) (D.image self.old.disk) (D.image self.new.disk)) }
+        ensures time { IsTrue (D.is_honest self.old.disk) → TakesTime D.moment D.image_since D.image self.old.disk self.new.disk }
         ensures size { D.size_of self.new.disk ≡ D.size_of self.old.disk }
         ensures honest { D.is_honest self.new.disk ≡ D.is_honest self.old.disk }
         ensures counts { Counts (failures_with D.failures_of self.old) (failures_with D.failures_of self.new) result }
@@ -139,10 +144,12 @@ impl<D: Disk> Disk for FuseDisk<D> {
 
     fn sync(&mut self) -> Result<(), DeviceFault>
         ensures spends { Spends self.old self.new result }
-        ensures syncs { OnOk result (IsTrue (D.is_honest self.old.disk) → Syncs (D.contents self.old.disk) (D.contents self.new.disk) (D.image self.new.disk)) }
+        ensures syncs { OnOk result (IsTrue (D.is_honest self.old.disk)
+            → Syncs (D.contents self.old.disk) (D.contents self.new.disk) (D.image self.new.disk)) }
         ensures images { IsTrue (D.is_honest self.old.disk) → (c : List ℕ) → D.image self.new.disk c → D.image self.old.disk c }
-        ensures stay { OnErr result (IsTrue (D.is_honest self.old.disk) → (c : List ℕ) → D.image self.old.disk c → D.image self.new.disk c) }
-        ensures time { IsTrue (D.is_honest self.old.disk) → Elapses (D.moment self.old.disk) (D.moment self.new.disk) (D.image_since self.old.disk) (D.image_since self.new.disk) (D.image self.new.disk) }
+        ensures stay { OnErr result (IsTrue (D.is_honest self.old.disk) → (c : List ℕ) → D.image self.old.disk c
+            → D.image self.new.disk c) }
+        ensures time { IsTrue (D.is_honest self.old.disk) → TakesTime D.moment D.image_since D.image self.old.disk self.new.disk }
         ensures size { D.size_of self.new.disk ≡ D.size_of self.old.disk }
         ensures honest { D.is_honest self.new.disk ≡ D.is_honest self.old.disk }
         ensures counts { Counts (failures_with D.failures_of self.old) (failures_with D.failures_of self.new) result }

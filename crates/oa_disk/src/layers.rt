@@ -88,7 +88,8 @@ fn put(window: &mut [u8], at: usize, bytes: &[u8])
 fn show(window: &mut [u8], at: usize, to: usize, bytes: &[u8])
     requires window { at + length window.old < 2 ^ 64 }
     requires bytes { to + length bytes.now < 2 ^ 64 }
-    ensures shown { (disk : List ℕ) → to + length bytes.now ≤ length disk → Holds disk at window.old → Holds (overwritten disk to bytes.now) at window.new }
+    ensures shown { (disk : List ℕ) → to + length bytes.now ≤ length disk → Holds disk at window.old
+        → Holds (overwritten disk to bytes.now) at window.new }
     ensures len { length window.new ≡ length window.old }
 {
     let low = to.max(at);
@@ -103,7 +104,8 @@ pub(crate) fn overlay(window: &mut [u8], at: usize, calls: &[Call], written: &[u
     requires window { at + length window.old < 2 ^ 64 }
     requires inside { AllInside (2 ^ 64 - 1) calls.now }
     requires written { count_all calls.now ≤ length written.now }
-    ensures shown { (disk : List ℕ) → AllInside (length disk) calls.now → Holds disk at window.old → Holds (contents_after disk calls.now written.now) at window.new }
+    ensures shown { (disk : List ℕ) → AllInside (length disk) calls.now → Holds disk at window.old
+        → Holds (contents_after disk calls.now written.now) at window.new }
     ensures len { length window.new ≡ length window.old }
 {
     let mut from = 0;

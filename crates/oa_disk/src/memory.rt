@@ -1,6 +1,6 @@
 //! A disk in memory that can be made to crash at any moment.
 ghost use Rattle.std.specs.Prelude.{◌≡◌, ◌+◌, ◌*◌, ◌-◌, ◌<◌, ◌≤◌, [], length, true, List, ℕ, IsTrue, OnOk, OnErr, IfOk, IfErr, Some};
-ghost use Rattle.oa_disk.specs.Disk.{Holds, Torn, Reaches, NothingPending, Stays, Writes, Syncs, Elapses, Counts};
+ghost use Rattle.oa_disk.specs.Disk.{Holds, Torn, Reaches, NothingPending, Stays, Writes, Syncs, TakesTime, Counts};
 ghost use Rattle.oa_disk.specs.History.{IsWhole};
 ghost use Rattle.oa_disk.specs.Ledger.{laid, history, IsEmpty};
 ghost use Rattle.oa_disk.specs.Replay.{State, IsImage, zeros};
@@ -171,7 +171,7 @@ impl Disk for MemoryDisk {
         ensures recorded { IsRecorded Read [] self.old self.new result }
         ensures read { OnOk result (Holds (contents_of self.old) at bytes.new) }
         ensures stays { Stays (contents_of self.old) (contents_of self.new) (image_of self.old) (image_of self.new) }
-        ensures time { Elapses (moments_of self.old) (moments_of self.new) (image_since_of self.old) (image_since_of self.new) (image_of self.new) }
+        ensures time { TakesTime moments_of image_since_of image_of self.old self.new }
         ensures size { self.new.first.size ≡ self.old.first.size }
         ensures counts { Counts self.old.ledger.failures self.new.ledger.failures result }
         ensures fault { IfErr result (λ e. e ≡ DeviceFault.Read) }
@@ -185,9 +185,10 @@ impl Disk for MemoryDisk {
         requires { at + length bytes.now ≤ self.old.first.size }
         ensures recorded { IsRecorded (Write at (length bytes.now)) bytes.now self.old self.new result }
         ensures written { OnOk result (Holds (contents_of self.new) at bytes.now) }
-        ensures writes { Writes at (length bytes.now) (contents_of self.old) (contents_of self.new) (image_of self.old) (image_of self.new) }
+        ensures writes { Writes at (length bytes.now) (contents_of self.old) (contents_of self.new) (image_of self.old)
+            (image_of self.new) }
         ensures any_bytes { OnOk result (Reaches (Torn at (length bytes.now)) (image_of self.old) (image_of self.new)) }
-        ensures time { Elapses (moments_of self.old) (moments_of self.new) (image_since_of self.old) (image_since_of self.new) (image_of self.new) }
+        ensures time { TakesTime moments_of image_since_of image_of self.old self.new }
         ensures size { self.new.first.size ≡ self.old.first.size }
         ensures counts { Counts self.old.ledger.failures self.new.ledger.failures result }
         ensures fault { IfErr result (λ e. e ≡ DeviceFault.Write) }
@@ -201,7 +202,7 @@ impl Disk for MemoryDisk {
         ensures syncs { OnOk result (Syncs (contents_of self.old) (contents_of self.new) (image_of self.new)) }
         ensures images { (c : List ℕ) → image_of self.new c → image_of self.old c }
         ensures stay { OnErr result ((c : List ℕ) → image_of self.old c → image_of self.new c) }
-        ensures time { Elapses (moments_of self.old) (moments_of self.new) (image_since_of self.old) (image_since_of self.new) (image_of self.new) }
+        ensures time { TakesTime moments_of image_since_of image_of self.old self.new }
         ensures size { self.new.first.size ≡ self.old.first.size }
         ensures counts { Counts self.old.ledger.failures self.new.ledger.failures result }
         ensures fault { IfErr result (λ e. e ≡ DeviceFault.Write) }

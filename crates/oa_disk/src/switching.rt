@@ -1,6 +1,6 @@
 //! One byte decides: what was written before is on the device first.
 ghost use Rattle.std.specs.Prelude.{◌≡◌, ◌⊎◌, ◌+◌, ◌<◌, ◌≤◌, List, ℕ, IsTrue, OnOk, IfErr, length, slice_index};
-ghost use Rattle.oa_disk.specs.Disk.{LeavesOnly, Follows, Counts, Torn};
+ghost use Rattle.oa_disk.specs.Disk.{LeavesOnly, LeavesStep, Follows, Counts, Torn};
 ghost use Rattle.oa_disk.specs.Switch.{MaySwitch, HasSwitched};
 
 use crate::{DeviceFault, Disk};
@@ -40,9 +40,10 @@ pub fn write_then_flip<D: Disk>(
 
     // A crash at any moment leaves what it might have left with any bytes in the range, or with these bytes and any switch.
     ensures any_moment { IsTrue (D.is_honest disk.old)
-        → LeavesOnly D.moment D.image_since disk.old disk.new (λ c. (d : List ℕ) × D.image disk.old d × MaySwitch at bytes.now switch d c) }
+        → LeavesStep D.moment D.image_since D.image disk.old disk.new (MaySwitch at bytes.now switch) }
     // And at `Ok` with these bytes and the switch set.
-    ensures done { OnOk result (IsTrue (D.is_honest disk.old) → Follows (HasSwitched at bytes.now switch value) (D.image disk.old) (D.image disk.new)) }
+    ensures done { OnOk result (IsTrue (D.is_honest disk.old)
+        → Follows (HasSwitched at bytes.now switch value) (D.image disk.old) (D.image disk.new)) }
 
     ensures size { D.size_of disk.new ≡ D.size_of disk.old }
     ensures honest { D.is_honest disk.new ≡ D.is_honest disk.old }

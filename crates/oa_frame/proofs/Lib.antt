@@ -1,6 +1,6 @@
 pub mod HexDigits
 pub mod Spelled
-pub mod Goes
+pub mod Sessions
 pub mod Splits
 pub mod Seeks
 pub mod Judged

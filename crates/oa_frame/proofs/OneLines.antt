@@ -3,9 +3,10 @@ use Rattle.std.proofs.Common.{◌≡◌, ◌≤◌, ◌<◌, ℕ, List, [], ◌�
 use Rattle.std.specs.Prelude.{nat_lt, if◌then◌else◌, Result, Ok, Err, IsErr}
 use Rattle.hex.specs.Hex.{decode_of, decode_pairs}
 use Rattle.hex.specs.declared.error.FromHexError.{FromHexError}
+use Rattle.oa_model.specs.Limits.{max_line_characters}
 use Rattle.oa_frame.specs.declared.ends.End.{End}
 use Rattle.oa_frame.specs.declared.ends.End.TheVariants.{Closed, Cut, TooLong, BadHex, ReadFault, WriteFault}
-use Rattle.oa_frame.specs.Lines.{FirstLine, line_limit}
+use Rattle.oa_frame.specs.Lines.{FirstLine}
 use Rattle.oa_frame.specs.Framings.{LineCan, LineStop, NextLine, hex_lines}
 use Rattle.oa_frame.proofs.OneSplit.{no_end, one_line}
 use Rattle.oa_frame.proofs.OneReading.{IsDecided}
@@ -20,7 +21,7 @@ nothing_first line rest (inr a) =
 -- the end at a line that is no body
 judged : ℕ → List ℕ → End
 judged number [] = Closed
-judged number (c ∷ line) = if nat_lt line_limit (length (c ∷ line)) then TooLong else BadHex number
+judged number (c ∷ line) = if nat_lt max_line_characters (length (c ∷ line)) then TooLong else BadHex number
 
 record Judged (why : End) (number : ℕ) (bytes : List ℕ) : Type 0 where
   line : List ℕ
@@ -31,18 +32,18 @@ record Judged (why : End) (number : ℕ) (bytes : List ℕ) : Type 0 where
 abbrev Says : End → ℕ → List ℕ → Type 0
 Says why number bytes = ((bytes ≡ []) × (why ≡ Closed)) ⊎ Judged why number bytes
 
-bad : (number : ℕ) (line : List ℕ) → length line ≤ line_limit → IsErr (decode_of line) → BadHex number ≡ judged number line
+bad : (number : ℕ) (line : List ℕ) → length line ≤ max_line_characters → IsErr (decode_of line) → BadHex number ≡ judged number line
 unfolding decode_pairs judged
 bad number [] short e = absurd (true≢false (sym e))
 bad number (c ∷ line) short e =
-    let is : nat_lt line_limit (length (c ∷ line)) ≡ false = search (arith, short) in
+    let is : nat_lt max_line_characters (length (c ∷ line)) ≡ false = search (arith, short) in
     rw is refl
 
-long_one : (number : ℕ) (line : List ℕ) → line_limit < length line → TooLong ≡ judged number line
+long_one : (number : ℕ) (line : List ℕ) → max_line_characters < length line → TooLong ≡ judged number line
 unfolding judged
 long_one number [] long = absurd (omega (arith, long))
 long_one number (c ∷ line) long =
-    let is : nat_lt line_limit (length (c ∷ line)) ≡ true = search (arith, long) in
+    let is : nat_lt max_line_characters (length (c ∷ line)) ≡ true = search (arith, long) in
     rw is refl
 
 says : (why : End) (number : ℕ) (bytes rest : List ℕ) → LineStop why bytes rest → LineCan number why → (why ≡ ReadFault → ⊥) → Says why number bytes

@@ -3,6 +3,7 @@ use Rattle.std.proofs.Common.{◌≡◌, ◌⊎◌, ◌≤◌, ◌<◌, ℕ, ◌
 use Rattle.std.specs.Prelude.{nat_lt, if◌then◌else◌}
 use Rattle.std.proofs.lemmas.List.{length-append, take_at, drop_at}
 use Rattle.std.specs.Int.{w32, from_le_bytes}
+use Rattle.oa_model.specs.Limits.{max_request_bytes}
 use Rattle.oa_frame.specs.declared.ends.End.{End}
 use Rattle.oa_frame.specs.declared.ends.End.TheVariants.{Closed, Cut, TooLong, BadHex, ReadFault, WriteFault}
 use Rattle.oa_frame.specs.Framings.{Length, NextRecord, RecordStop, Says, records}
@@ -24,7 +25,7 @@ one_body bytes body other mid mid' a b =
 
 -- the end at a record of this length that is no body, and at bytes that begin with no body
 head_end : ℕ → End
-head_end n = if nat_lt n 1 then Closed else (if nat_lt 1048576 n then TooLong else Cut)
+head_end n = if nat_lt n 1 then Closed else (if nat_lt max_request_bytes n then TooLong else Cut)
 
 record_end : List ℕ → End
 record_end bytes = if nat_lt (length bytes) 1 then Closed else (if nat_lt (length bytes) 4 then Cut else head_end (from_le_bytes w32 (take 4 bytes)))
@@ -47,7 +48,8 @@ ends Closed bytes rest (inr l) fair =
     sym (long bytes l.head rest l.n l.says l.whole ∙ rw none refl)
 ends Cut bytes rest s fair = cut s.some s.few
   where
-    cut : 0 < length bytes → (length bytes < 4) ⊎ ((more : List ℕ) × Length (λ n. (0 < n) × (n ≤ 1048576) × (length more < n)) bytes more) → Cut ≡ record_end bytes
+    cut : 0 < length bytes → (length bytes < 4)
+        ⊎ ((more : List ℕ) × Length (λ n. (0 < n) × (n ≤ max_request_bytes) × (length more < n)) bytes more) → Cut ≡ record_end bytes
     cut some (inl few) =
         let a : nat_lt (length bytes) 1 ≡ false = search (arith, some) in
         let b : nat_lt (length bytes) 4 ≡ true = search (arith, few) in
@@ -56,12 +58,12 @@ ends Cut bytes rest s fair = cut s.some s.few
         let low = l.1.is.0 in
         let high = l.1.is.1 in
         let a : nat_lt l.1.n 1 ≡ false = search (arith, low) in
-        let b : nat_lt 1048576 l.1.n ≡ false = search (arith, high) in
+        let b : nat_lt max_request_bytes l.1.n ≡ false = search (arith, high) in
         sym (long bytes l.1.head l.0 l.1.n l.1.says l.1.whole ∙ rw (a, b) refl)
 ends TooLong bytes rest l fair =
     let high = l.is in
     let a : nat_lt l.n 1 ≡ false = search (arith, high) in
-    let b : nat_lt 1048576 l.n ≡ true = search (arith, high) in
+    let b : nat_lt max_request_bytes l.n ≡ true = search (arith, high) in
     sym (long bytes l.head rest l.n l.says l.whole ∙ rw (a, b) refl)
 ends (BadHex line) bytes rest s fair = absurd s
 ends ReadFault bytes rest s fair = absurd (fair refl)
@@ -74,10 +76,11 @@ body_end bytes body mid n =
     let some = n.some in
     let short = n.short in
     let a : nat_lt (length body) 1 ≡ false = search (arith, some) in
-    let b : nat_lt 1048576 (length body) ≡ false = search (arith, short) in
+    let b : nat_lt max_request_bytes (length body) ≡ false = search (arith, short) in
     long bytes n.head (body ++ mid) (length body) n.says n.whole ∙ rw (a, b) refl
 
-not_cut : (bytes body mid : List ℕ) → NextRecord bytes body mid → (length bytes < 4) ⊎ ((more : List ℕ) × Length (λ n. (0 < n) × (n ≤ 1048576) × (length more < n)) bytes more) → ⊥
+not_cut : (bytes body mid : List ℕ) → NextRecord bytes body mid
+    → (length bytes < 4) ⊎ ((more : List ℕ) × Length (λ n. (0 < n) × (n ≤ max_request_bytes) × (length more < n)) bytes more) → ⊥
 not_cut bytes body mid n (inl few) =
     let four = n.says.four in
     let len : length bytes ≡ 4 + length (body ++ mid) = ap length n.whole ∙ length-append n.head (body ++ mid) ∙ ap (λ k. k + length (body ++ mid)) four in

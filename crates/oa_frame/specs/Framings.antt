@@ -3,6 +3,7 @@ use Rattle.std.specs.Prelude.{◌≡◌, ◌⊎◌, ℕ, ◌<◌, ◌≤◌, Boo
 use Rattle.std.specs.Io.KnownBytes as known
 use Rattle.std.specs.Int.{w32, from_le_bytes, to_le_bytes}
 use Rattle.hex.specs.Hex.{decode_of, encode_lower}
+use Rattle.oa_model.specs.Limits.{max_line_characters, max_request_bytes}
 use Rattle.oa_stream.specs.Sink.{Output, Writes, Breaks}
 use Rattle.oa_frame.specs.declared.ends.End.{End}
 use Rattle.oa_frame.specs.declared.ends.End.TheVariants as end
@@ -11,7 +12,7 @@ use Rattle.oa_frame.specs.declared.framing.Framing.TheVariants.{HexLines, Record
 use Rattle.oa_frame.specs.declared.framing.Read.{Read}
 use Rattle.oa_frame.specs.declared.framing.Read.TheVariants as read
 use Rattle.oa_frame.specs.Known.{Known}
-use Rattle.oa_frame.specs.Lines.{FirstLine, IsLong, IsPart, line_limit}
+use Rattle.oa_frame.specs.Lines.{FirstLine, IsLong, IsPart}
 
 -- A framing. Next: the bytes begin with this body, and the rest follows it. Stop: this ends the bodies where these bytes are left, of which the
 -- others are left after it was read. Can: this may end them at the body with this number, whatever the reader gives. spelled: how a reply stands
@@ -27,14 +28,14 @@ pub record NextLine (bytes body rest : List ℕ) : Type 0 where
   pub line : List ℕ
   pub first : FirstLine bytes line rest
   pub some : 0 < length line
-  pub short : length line ≤ line_limit
+  pub short : length line ≤ max_line_characters
   pub digits : decode_of line ≡ Ok body
 
 -- the first line is the digits of no body
 pub record IsBad (bytes rest : List ℕ) : Type 0 where
   pub line : List ℕ
   pub first : FirstLine bytes line rest
-  pub short : length line ≤ line_limit
+  pub short : length line ≤ max_line_characters
   pub digits : IsErr (decode_of line)
 
 abbrev pub LineStop : End → List ℕ → List ℕ → Type 0
@@ -67,7 +68,7 @@ pub record NextRecord (bytes body rest : List ℕ) : Type 0 where
   pub head : List ℕ
   pub says : Says head (length body)
   pub some : 0 < length body
-  pub short : length body ≤ 1048576
+  pub short : length body ≤ max_request_bytes
   pub whole : bytes ≡ head ++ (body ++ rest)
 
 -- a length with this fact, and nothing more was read
@@ -82,12 +83,12 @@ pub record Length (fact : ℕ → Type 0) (bytes rest : List ℕ) : Type 0 where
 pub record IsCut (bytes rest : List ℕ) : Type 0 where
   pub nothing : rest ≡ []
   pub some : 0 < length bytes
-  pub few : (length bytes < 4) ⊎ ((more : List ℕ) × Length (λ n. (0 < n) × (n ≤ 1048576) × (length more < n)) bytes more)
+  pub few : (length bytes < 4) ⊎ ((more : List ℕ) × Length (λ n. (0 < n) × (n ≤ max_request_bytes) × (length more < n)) bytes more)
 
 abbrev pub RecordStop : End → List ℕ → List ℕ → Type 0
 RecordStop end.Closed bytes rest = ((bytes ≡ []) × (rest ≡ [])) ⊎ Length (λ n. n ≡ 0) bytes rest
 RecordStop end.Cut bytes rest = IsCut bytes rest
-RecordStop end.TooLong bytes rest = Length (λ n. 1048576 < n) bytes rest
+RecordStop end.TooLong bytes rest = Length (λ n. max_request_bytes < n) bytes rest
 RecordStop (end.BadHex line) bytes rest = ⊥
 RecordStop end.ReadFault bytes rest = (part : List ℕ) × (bytes ≡ part ++ rest)
 RecordStop end.WriteFault bytes rest = ⊥
@@ -122,7 +123,7 @@ Hands read.Unwritten old new = Breaks old new []
 
 -- a body has at most 1,048,576 bytes
 abbrev pub IsWithin : Read → Type 0
-IsWithin (read.Body n) = n ≤ 1048576
+IsWithin (read.Body n) = n ≤ max_request_bytes
 IsWithin (read.Ends why) = ⊤
 IsWithin read.Unwritten = ⊤
 

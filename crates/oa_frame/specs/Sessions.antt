@@ -2,6 +2,7 @@
 use Rattle.std.specs.Prelude.{◌≡◌, ◌⊎◌, ℕ, ◌+◌, ◌≤◌, Bool, true, false, if◌then◌else◌, List, [], ◌∷◌, ◌++◌, length, Option, Some, None, Result, ⊤}
 use Rattle.std.specs.List.{All, sum}
 use Rattle.std.specs.Io.KnownBytes.{Appends}
+use Rattle.oa_model.specs.Limits.{max_read_calls, max_records}
 use Rattle.oa_stream.specs.Source.{Input, later}
 use Rattle.oa_stream.specs.Sink.{Output, Writes, Breaks, Puts, IsHandedOn}
 use Rattle.oa_stream.specs.declared.sink.Unwritten.{Unwritten}
@@ -100,19 +101,19 @@ CanStop f requests (Some why) = f.Can (requests + 1) why
 -- no fault of the reader ended the reading, unless the records were used up
 abbrev pub IsSound : ℕ → Option End → Type 0
 IsSound requests None = ⊤
-IsSound requests (Some why) = why ≡ ReadFault → requests ≡ 18446744073709551615
+IsSound requests (Some why) = why ≡ ReadFault → requests ≡ max_records
 
 -- How often the reader was called: for each body that was read, 4,194,304 times at most, and so often after the last of them.
 pub record Calls (requests over : ℕ) (old new : Input) : Type 0 where
   pub each : List ℕ
   pub one_each : length each ≡ requests
-  pub few : All (λ n. n ≤ 4194304) each
+  pub few : All (λ n. n ≤ max_read_calls) each
   pub clock : new.calls ≡ later (sum each + over) old.calls
 
 -- a read fault has a cause, and a reader that failed is told: it failed, or was called as often as may be, or the records were used up
 abbrev pub IsCaused : ℕ → Option End → ℕ → Bool → Type 0
 IsCaused requests None over faulted = faulted ≡ false
-IsCaused requests (Some why) over faulted = HasCause (is_read_fault why) over faulted ⊎ (requests ≡ 18446744073709551615)
+IsCaused requests (Some why) over faulted = HasCause (is_read_fault why) over faulted ⊎ (requests ≡ max_records)
 
 -- all replies have left the writer
 pub record Told (f : Frames) (last : List ℕ) (why : End) (stop : Option End) (handed : List (List (List ℕ))) (held : List (List ℕ)) (old new : Output) : Type 0 where
@@ -144,7 +145,7 @@ pub record Session {S : Type 0} (f : Frames) (turn : TurnOf S) (ends : EndOf S) 
   pub read : Known (ReadTo f stop bodies) input.left input'.left
   pub can : CanStop f served.requests stop
   pub calls : Calls served.requests over input input'
-  pub few : over ≤ 4194304
+  pub few : over ≤ max_read_calls
   pub cause : IsCaused served.requests stop over input'.faulted
   pub sound : input.steady ≡ true → IsSound served.requests stop
   pub written : Told f last served.why stop handed held out out' ⊎ Fails f last served.why stop handed held out out'

@@ -1,5 +1,6 @@
 //! How bodies stand in bytes.
-ghost use Rattle.std.specs.Prelude.{◌≡◌, ◌≤◌, false, length, vec_capacity};
+ghost use Rattle.std.specs.Prelude.{◌≡◌, ◌+◌, ◌≤◌, false, length, vec_capacity};
+ghost use Rattle.oa_model.specs.Limits.{max_request_bytes, max_line_characters};
 ghost use Rattle.oa_stream.specs.Ahead.{ahead};
 ghost use Rattle.oa_frame.specs.Framings.{Hands, Inputs, IsWithin, frames, is_fault};
 ghost use Rattle.oa_frame.specs.Paces.{Paced};
@@ -42,12 +43,12 @@ pub fn read_body<R: Source + Drop, W: Sink>(
     body: &mut [u8],
     number: u64,
 ) -> Read
-    requires room { 2097153 ≤ vec_capacity line.now }
-    requires buffer { length body.now ≡ 1048576 }
+    requires room { max_line_characters + 1 ≤ vec_capacity line.now }
+    requires buffer { length body.now ≡ max_request_bytes }
     requires unbroken { (ahead R.input reader.old).faulted ≡ false }
     requires unbroken_writer { (W.out writer.old).broken ≡ false }
     ensures capacity { vec_capacity line.old ≤ vec_capacity line.new }
-    ensures len { length body.new ≡ 1048576 }
+    ensures len { length body.new ≡ max_request_bytes }
     ensures within { IsWithin result }
     ensures input { Inputs (frames framing) result number body.new (ahead R.input reader.old).left (ahead R.input reader.new).left }
     ensures paced { Paced (is_fault result) (ahead R.input reader.old) (ahead R.input reader.new) }

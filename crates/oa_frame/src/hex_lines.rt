@@ -1,7 +1,8 @@
 //! Bodies as lines of hexadecimal digits.
-ghost use Rattle.std.specs.Prelude.{◌≡◌, ◌≤◌, ◌*◌, ℕ, [], true, false, length, take, vec_capacity, Ok, IfSome, IsErr, IsNone};
+ghost use Rattle.std.specs.Prelude.{◌≡◌, ◌+◌, ◌≤◌, ◌*◌, ℕ, [], true, false, length, take, vec_capacity, Ok, IfSome, IsErr, IsNone};
 ghost use Rattle.std.specs.Option.{unwrap_or};
 ghost use Rattle.hex.specs.Hex.{decode_of, hex_digit_value, pair_value};
+ghost use Rattle.oa_model.specs.Limits.{max_request_bytes, max_line_characters};
 ghost use Rattle.oa_stream.specs.Ahead.{ahead};
 ghost use Rattle.oa_frame.specs.Lines.{Judges, without_return};
 ghost use Rattle.oa_frame.specs.Framings.{Hands, Inputs, IsWithin, hex_lines, is_fault};
@@ -20,12 +21,12 @@ pub(crate) fn read_hex<R: Source + Drop, W: Sink>(
     body: &mut [u8],
     number: u64,
 ) -> Read
-    requires room { 2097153 ≤ vec_capacity line.now }
-    requires buffer { length body.now ≡ 1048576 }
+    requires room { max_line_characters + 1 ≤ vec_capacity line.now }
+    requires buffer { length body.now ≡ max_request_bytes }
     requires unbroken { (ahead R.input reader.old).faulted ≡ false }
     requires unbroken_writer { (W.out writer.old).broken ≡ false }
     ensures capacity { vec_capacity line.old ≤ vec_capacity line.new }
-    ensures len { length body.new ≡ 1048576 }
+    ensures len { length body.new ≡ max_request_bytes }
     ensures within { IsWithin result }
     ensures input { Inputs hex_lines result number body.new (ahead R.input reader.old).left (ahead R.input reader.new).left }
     ensures paced { Paced (is_fault result) (ahead R.input reader.old) (ahead R.input reader.new) }
@@ -61,8 +62,8 @@ fn trimmed(raw: &[u8]) -> &[u8]
 
 /// What a line says.
 fn judge(line: &[u8], body: &mut [u8], number: u64) -> Read
-    requires { length body.now ≡ 1048576 }
-    ensures len { length body.new ≡ 1048576 }
+    requires { length body.now ≡ max_request_bytes }
+    ensures len { length body.new ≡ max_request_bytes }
     ensures says { Judges result number line.now body.new }
 {
     if line.is_empty() {

@@ -1,5 +1,6 @@
 //! Lines of a reader.
 ghost use Rattle.std.specs.Prelude.{◌≡◌, ◌≤◌, ◌+◌, ◌++◌, [], false, length, vec_capacity};
+ghost use Rattle.oa_model.specs.Limits.{max_line_characters};
 ghost use Rattle.oa_stream.specs.Ahead.{ahead, held};
 ghost use Rattle.oa_stream.specs.Sink.{IsHandedOn};
 ghost use Rattle.oa_frame.specs.Known.{Known};
@@ -11,10 +12,10 @@ use memchr::memchr;
 use oa_stream::{Ahead, More, Sink, Source};
 
 /// The most characters of a line, its end not counted.
-pub(crate) const LINE_LIMIT: usize = 2_097_152;
+pub(crate) const LINE_LIMIT: usize = oa_model::MAX_LINE_CHARACTERS as usize;
 
 /// The most read calls for one body.
-pub(crate) const MAX_READ_CALLS: u32 = 4_194_304;
+pub(crate) const MAX_READ_CALLS: u32 = oa_model::MAX_READ_CALLS;
 
 /// What was found at the reader's place.
 #[derive(Clone, Copy, Debug, PartialEq, Eq)]
@@ -47,7 +48,7 @@ pub(crate) fn read_line<R: Source + Drop, W: Sink>(
     writer: &W,
     line: &mut Vec<u8>,
 ) -> Found
-    requires room { 2097153 ≤ vec_capacity line.now }
+    requires room { max_line_characters + 1 ≤ vec_capacity line.now }
     requires unbroken { (ahead R.input reader.old).faulted ≡ false }
     requires quiet { IsHandedOn (W.out writer.now) }
     ensures capacity { vec_capacity line.old ≤ vec_capacity line.new }
@@ -77,10 +78,10 @@ pub(crate) fn read_line<R: Source + Drop, W: Sink>(
 
 /// Takes of what was read ahead what belongs to the line.
 fn take_piece<R: Source + Drop>(reader: &mut Ahead<R>, line: &mut Vec<u8>) -> Piece
-    requires room { 2097153 ≤ vec_capacity line.now }
-    requires short { length line.old.items ≤ 2097153 }
+    requires room { max_line_characters + 1 ≤ vec_capacity line.now }
+    requires short { length line.old.items ≤ max_line_characters + 1 }
     ensures capacity { vec_capacity line.old ≤ vec_capacity line.new }
-    ensures short { length line.new.items ≤ 2097153 }
+    ensures short { length line.new.items ≤ max_line_characters + 1 }
     ensures piece { Pieces result (held reader.old) (ahead R.input reader.old) (ahead R.input reader.new) line.old.items line.new.items (held reader.new) }
 {
     let front = reader.buffered();

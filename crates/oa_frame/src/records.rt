@@ -1,5 +1,6 @@
 //! Bodies as records of a length and that many bytes.
 ghost use Rattle.std.specs.Prelude.{◌≡◌, ◌≤◌, ◌<◌, ◌+◌, [], false, length, take, IfSome};
+ghost use Rattle.oa_model.specs.Limits.{max_read_calls, max_request_bytes};
 ghost use Rattle.oa_stream.specs.Ahead.{ahead, held};
 ghost use Rattle.oa_stream.specs.Sink.{IsHandedOn};
 ghost use Rattle.oa_frame.specs.Framings.{Hands, Inputs, IsRead, IsWithin, Says, is_fault, records};
@@ -11,7 +12,7 @@ use crate::{End, Read};
 use oa_stream::{Ahead, More, Sink, Source};
 
 /// The most bytes of a body.
-const BODY_LIMIT: usize = 1_048_576;
+const BODY_LIMIT: usize = oa_model::MAX_REQUEST_BYTES as usize;
 
 /// How filling a buffer ended.
 #[derive(Clone, Copy, Debug, PartialEq, Eq)]
@@ -31,10 +32,10 @@ pub(crate) fn read_record<R: Source + Drop, W: Sink>(
     body: &mut [u8],
     number: u64,
 ) -> Read
-    requires buffer { length body.now ≡ 1048576 }
+    requires buffer { length body.now ≡ max_request_bytes }
     requires unbroken { (ahead R.input reader.old).faulted ≡ false }
     requires unbroken_writer { (W.out writer.old).broken ≡ false }
-    ensures len { length body.new ≡ 1048576 }
+    ensures len { length body.new ≡ max_request_bytes }
     ensures within { IsWithin result }
     ensures input { Inputs records result number body.new (ahead R.input reader.old).left (ahead R.input reader.new).left }
     ensures paced { Paced (is_fault result) (ahead R.input reader.old) (ahead R.input reader.new) }
@@ -63,7 +64,7 @@ fn copy_front(body: &mut [u8], bytes: &[u8])
 
 /// How many bytes the body of the first record has, where all of it stands here and it is no end.
 fn whole_record(front: &[u8]) -> Option<usize>
-    ensures within { IfSome result (λ n. (0 < n) × (n ≤ 1048576) × (4 + n ≤ length front.now)) }
+    ensures within { IfSome result (λ n. (0 < n) × (n ≤ max_request_bytes) × (4 + n ≤ length front.now)) }
     ensures says { IfSome result (λ n. Says (take 4 front.now) n) }
 {
     match front.split_first_chunk::<4>() {
@@ -86,10 +87,10 @@ fn read_waiting<R: Source + Drop, W: Sink>(
     body: &mut [u8],
     number: u64,
 ) -> Read
-    requires buffer { length body.now ≡ 1048576 }
+    requires buffer { length body.now ≡ max_request_bytes }
     requires unbroken { (ahead R.input reader.old).faulted ≡ false }
     requires quiet { IsHandedOn (W.out writer.now) }
-    ensures len { length body.new ≡ 1048576 }
+    ensures len { length body.new ≡ max_request_bytes }
     ensures within { IsWithin result }
     ensures input { Inputs records result number body.new (ahead R.input reader.old).left (ahead R.input reader.new).left }
     ensures paced { Paced (is_fault result) (ahead R.input reader.old) (ahead R.input reader.new) }
@@ -127,7 +128,7 @@ fn fill_up<R: Source + Drop, W: Sink>(
 ) -> Got
     requires unbroken { (ahead R.input reader.old).faulted ≡ false }
     requires quiet { IsHandedOn (W.out writer.now) }
-    requires few { calls.old ≤ 4194304 }
+    requires few { calls.old ≤ max_read_calls }
     ensures len { length out.new ≡ length out.old }
     ensures gets { Gets result (ahead R.input reader.old).left (ahead R.input reader.new).left out.new }
     ensures spends { Spends (is_gone result) (length out.new) calls.old calls.new (ahead R.input reader.old) (ahead R.input reader.new) }

@@ -1,5 +1,6 @@
 //! Sessions over a reader and a writer.
-ghost use Rattle.std.specs.Prelude.{◌≡◌, ◌≤◌, ℕ, List, false, length, vec_capacity};
+ghost use Rattle.std.specs.Prelude.{◌≡◌, ◌+◌, ◌≤◌, ℕ, List, false, length, vec_capacity};
+ghost use Rattle.oa_model.specs.Limits.{max_request_bytes, max_line_characters};
 ghost use Rattle.oa_stream.specs.Ahead.{ahead};
 ghost use Rattle.oa_stream.specs.Sink.{Puts};
 ghost use Rattle.oa_frame.specs.Framings.{frames};
@@ -70,8 +71,8 @@ pub fn serve<S: Responder, R: Source + Drop, W: Sink>(
     body: &mut [u8],
 ) -> Served
     requires last { length last.now ≤ 4294967295 }
-    requires room { 2097153 ≤ vec_capacity line.now }
-    requires buffer { length body.now ≡ 1048576 }
+    requires room { max_line_characters + 1 ≤ vec_capacity line.now }
+    requires buffer { length body.now ≡ max_request_bytes }
     requires ready { S.ready server.old }
     requires unbroken { (ahead R.input reader.old).faulted ≡ false }
     requires unbroken_writer { (W.out writer.old).broken ≡ false }

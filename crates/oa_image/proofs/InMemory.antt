@@ -57,13 +57,15 @@ few_objects t small =
     omega (arith, small, length-append (u32.image t.next) (count ++ all), length-append count all)
 
 pub is_object : (number : ℕ) (o : ObjectValue) → number < 2 ^ 32 → length o.class ≡ 16 → IsStrictlySortedBy place_cmp (keys_of o.cells)
-    → AllByRecursion cell.Is (map unlocked_cell o.cells) → length (object.image (number, o)) < 2 ^ 32 → object.Is (unlocked_entry (number, o))
+    → AllByRecursion cell.Is (map unlocked_cell o.cells) → length (object.image (number, o)) < 2 ^ 32
+    → object.Is (unlocked_entry (number, o))
 unfolding object cells only counted coded made_where next_by u32 guid times
 is_object number o low class sorted all small =
     let few = few_cells number o small in
     (low, (class, ((omega (arith, few, length-map o.cells unlocked_cell), all), rises place_cmp unlocked o.cells sorted)))
 
-pub is_table : (t : TableValue) → is_numbered t ≡ true → IsStrictlySortedBy nat_cmp (keys_of t.objects) → AllByRecursion object.Is (map unlocked_entry t.objects)
+pub is_table : (t : TableValue) → is_numbered t ≡ true → IsStrictlySortedBy nat_cmp (keys_of t.objects)
+    → AllByRecursion object.Is (map unlocked_entry t.objects)
     → t.next < 2 ^ 32 → length (table.image t) < 2 ^ 32 → table.Is (unlocked_table t)
 unfolding table objects only counted coded made_where next_by u32 times
 is_table t numbered sorted all low small =

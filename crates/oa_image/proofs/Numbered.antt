@@ -1,5 +1,6 @@
 -- Events keep the numbers of a table's objects between 1 and the next one.
-use Rattle.std.proofs.Common.{◌≡◌, ℕ, ◌+◌, Bool, true, false, cond, eqb, leb, ltb, List, [], ◌∷◌, Option, Some, None, Result, Ok, Err, IfOk, refl, sym, ap, subst, arith}
+use Rattle.std.proofs.Common.{◌≡◌, ℕ, ◌+◌, Bool, true, false, cond, eqb, leb, ltb, List, [], ◌∷◌, Option, Some, None, Result, Ok, Err, IfOk}
+use Rattle.std.proofs.Common.{refl, sym, ap, subst, arith}
 use Rattle.std.specs.Prelude.{◌&&◌, nat_lt}
 use Rattle.std.specs.List.{list_all}
 use Rattle.std.specs.Map.{remove_entry, set_value}
@@ -26,7 +27,8 @@ module _ {K X : Type 0} (p : K → Bool) where
   abbrev good : List (K × X) → Bool
   good es = list_all (λ e. p e.0) es
 
-  good_inserted : (cmp : K → K → Ordering) (es : List (K × X)) (k : K) (v : X) → good es ≡ true → p k ≡ true → good (insert_entry cmp es k v) ≡ true
+  good_inserted : (cmp : K → K → Ordering) (es : List (K × X)) (k : K) (v : X) → good es ≡ true → p k ≡ true
+      → good (insert_entry cmp es k v) ≡ true
   good_inserted cmp [] k v all is = rw is refl
   good_inserted cmp (e ∷ es) k v all is =
       let parts = and_parts (p e.0) (good es) all in by (cmp k e.0) parts.0 parts.1 (good_inserted cmp es k v parts.1 is)
@@ -41,7 +43,8 @@ module _ {K X : Type 0} (p : K → Bool) where
   good_removed test [] all = refl
   good_removed test (e ∷ es) all = let parts = and_parts (p e.0) (good es) all in by (test e.0) parts.0 parts.1 (good_removed test es parts.1)
     where
-      by : (b : Bool) → p e.0 ≡ true → good es ≡ true → good (remove_entry test es) ≡ true → good (cond b es (e ∷ remove_entry test es)) ≡ true
+      by : (b : Bool) → p e.0 ≡ true → good es ≡ true → good (remove_entry test es) ≡ true
+          → good (cond b es (e ∷ remove_entry test es)) ≡ true
       by true one rest more = rest
       by false one rest more = rw (one, more) refl
 
@@ -53,7 +56,8 @@ module _ {K X : Type 0} (p : K → Bool) where
       by true h = refl
       by false h = ap (λ (b : Bool). p e.0 && b) h
 
-good_weaker : {K X : Type 0} (p q : K → Bool) → ((k : K) → p k ≡ true → q k ≡ true) → (es : List (K × X)) → good p es ≡ true → good q es ≡ true
+good_weaker : {K X : Type 0} (p q : K → Bool) → ((k : K) → p k ≡ true → q k ≡ true) → (es : List (K × X)) → good p es ≡ true
+    → good q es ≡ true
 good_weaker p q more [] all = refl
 good_weaker p q more (e ∷ es) all = let parts = and_parts (p e.0) (good p es) all in rw (more e.0 parts.0, good_weaker p q more es parts.1) refl
 
@@ -81,7 +85,8 @@ create_keeps number object t h = by (eqb number t.next && leb number greatest_ob
         rw (lt-ltb 0 (number + 1) (omega arith), good_inserted (used (number + 1)) nat_cmp t.objects number object later here) refl
 
     by : (b : Bool) → (b ≡ true → IsNumbered (record { next = number + 1; objects = insert_entry nat_cmp t.objects number object }))
-        → IfOk (cond b (Ok (record { next = number + 1; objects = insert_entry nat_cmp t.objects number object })) (Err WrongNumber)) IsNumbered
+        → IfOk (cond b (Ok (record { next = number + 1; objects = insert_entry nat_cmp t.objects number object }))
+        (Err WrongNumber)) IsNumbered
     by true is = is refl
     by false is = tt
 
@@ -92,23 +97,27 @@ release_keeps number t (Some object) h = by (any_locked object.cells)
     parts : (nat_lt 0 t.next ≡ true) × (list_all (is_used t.next) t.objects ≡ true)
     parts = and_parts (ltb 0 t.next) (list_all (is_used t.next) t.objects) h
 
-    by : (b : Bool) → IfOk (cond b (Err (Array arrays.IsLocked)) (Ok (record t { objects = remove_entry (is_at (nat_cmp number)) t.objects }))) IsNumbered
+    by : (b : Bool) → IfOk (cond b (Err (Array arrays.IsLocked))
+        (Ok (record t { objects = remove_entry (is_at (nat_cmp number)) t.objects }))) IsNumbered
     by true = tt
     by false = rw (parts.0, good_removed (used t.next) (is_at (nat_cmp number)) t.objects parts.1) refl
 
 set_keeps : (number : ℕ) (t : TableValue) (object : ObjectValue) → IsNumbered t → IsNumbered (with_object number t object)
 set_keeps number t object h = rw (good_set (used t.next) (is_at (nat_cmp number)) t.objects object) h
 
-mapped_keeps : (number : ℕ) (t : TableValue) (r : Result ObjectValue TableFault) → IsNumbered t → IfOk (mapped (with_object number t) r) IsNumbered
+mapped_keeps : (number : ℕ) (t : TableValue) (r : Result ObjectValue TableFault) → IsNumbered t
+    → IfOk (mapped (with_object number t) r) IsNumbered
 mapped_keeps number t (Ok object) h = set_keeps number t object h
 mapped_keeps number t (Err fault) h = tt
 
-change_keeps : (number : ℕ) (change : ObjectValue → Result ObjectValue TableFault) (t : TableValue) (o : Option ObjectValue) → IsNumbered t → IfOk (changed_if_live number change t o) IsNumbered
+change_keeps : (number : ℕ) (change : ObjectValue → Result ObjectValue TableFault) (t : TableValue) (o : Option ObjectValue) → IsNumbered t
+    → IfOk (changed_if_live number change t o) IsNumbered
 change_keeps number change t None h = tt
 change_keeps number change t (Some object) h = mapped_keeps number t (change object) h
 
 -- the same for a change of one object, so for locks too
-pub on_object_keeps : (number : ℕ) (change : ObjectValue → Result ObjectValue TableFault) (t : TableValue) → IsNumbered t → IfOk (on_object number change t) IsNumbered
+pub on_object_keeps : (number : ℕ) (change : ObjectValue → Result ObjectValue TableFault) (t : TableValue) → IsNumbered t
+    → IfOk (on_object number change t) IsNumbered
 on_object_keeps number change t h = change_keeps number change t (object_at number t) h
 
 pub event_keeps : (event : Event) (t : TableValue) → IsNumbered t → IfOk (applied event t) IsNumbered

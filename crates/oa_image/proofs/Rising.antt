@@ -12,13 +12,15 @@ use Rattle.oa_layout.specs.Formats.{rising}
 pub drop_zero : {A : Type 0} (xs : List A) → drop 0 xs ≡ xs
 drop_zero xs = refl
 
-pub step : {A : Type 0} (before : A → A → Bool) (xs : List A) (i : ℕ) (d : A) → suc i < length xs → before (get_or xs i d) (get_or xs (suc i) d) ≡ true → rising before (drop (suc i) xs) ≡ rising before (drop i xs)
+pub step : {A : Type 0} (before : A → A → Bool) (xs : List A) (i : ℕ) (d : A) → suc i < length xs
+    → before (get_or xs i d) (get_or xs (suc i) d) ≡ true → rising before (drop (suc i) xs) ≡ rising before (drop i xs)
 step before [] i d lt e = absurd (omega (arith, lt))
 step before (x ∷ []) i d lt e = absurd (omega (arith, lt))
 step before (x ∷ y ∷ xs) zero d lt e = rw e refl
 step before (x ∷ y ∷ xs) (suc i) d lt e = step before (y ∷ xs) i d (omega (arith, lt)) e
 
-pub fall : {A : Type 0} (before : A → A → Bool) (xs : List A) (i : ℕ) (d : A) → suc i < length xs → before (get_or xs i d) (get_or xs (suc i) d) ≡ false → rising before (drop i xs) ≡ false
+pub fall : {A : Type 0} (before : A → A → Bool) (xs : List A) (i : ℕ) (d : A) → suc i < length xs
+    → before (get_or xs i d) (get_or xs (suc i) d) ≡ false → rising before (drop i xs) ≡ false
 fall before [] i d lt e = absurd (omega (arith, lt))
 fall before (x ∷ []) i d lt e = absurd (omega (arith, lt))
 fall before (x ∷ y ∷ xs) zero d lt e = rw e refl
@@ -41,7 +43,8 @@ both : (b c : Bool) → cond b c false ≡ true → (b ≡ true) × (c ≡ true)
 both true c e = (refl, e)
 both false c e = absurd cc
 
-above_all : {K : Type 0} (cmp : K → K → Ordering) (total : IsTotalOrder cmp) (k l : K) (ks : List K) → cmp k l ≡ Less → AllByRecursion (λ j. cmp l j ≡ Less) ks → AllByRecursion (λ j. cmp k j ≡ Less) ks
+above_all : {K : Type 0} (cmp : K → K → Ordering) (total : IsTotalOrder cmp) (k l : K) (ks : List K) → cmp k l ≡ Less
+    → AllByRecursion (λ j. cmp l j ≡ Less) ks → AllByRecursion (λ j. cmp k j ≡ Less) ks
 above_all cmp total k l [] e h = tt
 above_all cmp total k l (j ∷ ks) e h = (total.trans k l j e h.0, above_all cmp total k l ks e h.1)
 
@@ -49,7 +52,8 @@ abbrev by_key : {K X : Type 0} → (K → K → Ordering) → K × X → K × X 
 by_key cmp a b = is_lt (cmp a.0 b.0)
 
 -- each key before the next, so before all behind it
-pub sorted : {K X : Type 0} (cmp : K → K → Ordering) → IsTotalOrder cmp → (xs : List (K × X)) → rising (by_key cmp) xs ≡ true → IsStrictlySortedBy cmp (keys_of xs)
+pub sorted : {K X : Type 0} (cmp : K → K → Ordering) → IsTotalOrder cmp → (xs : List (K × X)) → rising (by_key cmp) xs ≡ true
+    → IsStrictlySortedBy cmp (keys_of xs)
 unfolding IsStrictlySortedBy
 sorted cmp total [] e = tt
 sorted cmp total (x ∷ []) e = (tt, tt)
@@ -60,7 +64,8 @@ sorted cmp total (x ∷ y ∷ xs) e =
     ((first, above_all cmp total x.0 y.0 (keys_of xs) first rest.0), rest)
 
 -- in order, with other values beside the keys
-pub rises : {K X Y : Type 0} (cmp : K → K → Ordering) (g : X → Y) (xs : List (K × X)) → IsStrictlySortedBy cmp (keys_of xs) → rising (by_key cmp) (map (λ e. (e.0, g e.1)) xs) ≡ true
+pub rises : {K X Y : Type 0} (cmp : K → K → Ordering) (g : X → Y) (xs : List (K × X)) → IsStrictlySortedBy cmp (keys_of xs)
+    → rising (by_key cmp) (map (λ e. (e.0, g e.1)) xs) ≡ true
 unfolding IsStrictlySortedBy
 rises cmp g [] s = refl
 rises cmp g (x ∷ []) s = refl

@@ -21,13 +21,15 @@ use Rattle.oa_layout.specs.Variants.{content, kind, value}
 use Rattle.oa_table.specs.declared.event.Event.{Event}
 use Rattle.oa_table.specs.Events.{applied}
 use Rattle.oa_table.specs.Places.{PlaceValue}
-use Rattle.oa_table.specs.Sizes.{array_size, cell_size, content_size, element_size, object_size, place_size, scalar_size, size_after, table_size, value_size}
+use Rattle.oa_table.specs.Sizes.{array_size, cell_size, content_size, element_size, object_size, place_size, scalar_size, size_after}
+use Rattle.oa_table.specs.Sizes.{table_size, value_size}
 use Rattle.oa_table.specs.Tables.{ObjectValue, TableValue}
 use Rattle.oa_image.specs.Names.{key, place}
 use Rattle.oa_image.specs.Tables.{cell, cells, object, objects, table}
 
 -- images one behind the other
-all_sized : {X : Type 0} (image : X → List ℕ) (size : X → ℕ) → ((x : X) → length (image x) ≡ size x) → (xs : List X) → length (flat_map image xs) ≡ sum_by size xs
+all_sized : {X : Type 0} (image : X → List ℕ) (size : X → ℕ) → ((x : X) → length (image x) ≡ size x) → (xs : List X)
+    → length (flat_map image xs) ≡ sum_by size xs
 all_sized image size each [] = refl
 all_sized image size each (x ∷ xs) = omega (arith, length-append (image x) (flat_map image xs), each x, all_sized image size each xs, sum_by-cons size x xs)
 

@@ -58,7 +58,8 @@ each_sorted : (os : List (ℕ × ObjectValue)) → AllByRecursion object.Is os �
 each_sorted [] h = tt
 each_sorted (o ∷ os) h = (cells_sorted o h.0, each_sorted os h.1)
 
-each_number : (next : ℕ) (os : List (ℕ × ObjectValue)) → list_all (is_used next) os ≡ true → AllByRecursion (λ n. (1 ≤ n) × (n < next)) (keys_of os)
+each_number : (next : ℕ) (os : List (ℕ × ObjectValue)) → list_all (is_used next) os ≡ true
+    → AllByRecursion (λ n. (1 ≤ n) × (n < next)) (keys_of os)
 each_number next [] e = tt
 each_number next (o ∷ os) e =
     let one = and_parts (is_used next o) (list_all (is_used next) os) e in
@@ -107,5 +108,6 @@ pub same_table : (t : TableValue) → table.image (unlocked_table t) ≡ table.i
 unfolding table objects only counted coded made_where next_by times
 same_table t = rw (length-map t.objects unlocked_entry, same_objects t.objects) refl
 
-pub one_table : (a b : TableValue) → table.Is (unlocked_table a) → table.Is (unlocked_table b) → table.image a ≡ table.image b → unlocked_table a ≡ unlocked_table b
+pub one_table : (a b : TableValue) → table.Is (unlocked_table a) → table.Is (unlocked_table b) → table.image a ≡ table.image b
+    → unlocked_table a ≡ unlocked_table b
 one_table a b ha hb e = one_value table (unlocked_table a) (unlocked_table b) ha hb (same_table a ∙ e ∙ sym (same_table b))

@@ -90,7 +90,8 @@ unfoldable pub indices : Format (List ℤ)
 indices = counted u16 i32
 
 unfoldable pub put_element : Format Event
-put_element = case kind_of 4 (λ p. PutElement p.0 p.1.0 p.1.1) (λ e. (name_in e, (index_in e, element_in e))) (name ▸ indices ▸ scalar) (λ p is. refl) (λ p. refl) is_put_element
+put_element = case kind_of 4 (λ p. PutElement p.0 p.1.0 p.1.1) (λ e. (name_in e, (index_in e, element_in e))) (name ▸ indices ▸ scalar)
+    (λ p is. refl) (λ p. refl) is_put_element
 
 unfoldable pub redim : Format Event
 redim = case kind_of 5 (λ p. Redim p.0 p.1) (λ e. (name_in e, bound_in e)) (name ▸ bound) (λ p is. refl) (λ p. refl) is_redim
@@ -101,8 +102,10 @@ of_kind n = pick (n == 1) create (pick (n == 2) release (pick (n == 3) put (pick
 pub kind_agrees : (n : ℕ) (e : Event) → (of_kind n).Is e → kind_of e ≡ n
 unfolding of_kind create release put put_element redim never case
 kind_agrees n e h =
-    picked (eqb n 1) _ _ e _ (λ b is. is.0 ∙ sym (eqb-true n 1 b)) (λ _ h. picked (eqb n 2) _ _ e _ (λ b is. is.0 ∙ sym (eqb-true n 2 b)) (λ _ h.
-    picked (eqb n 3) _ _ e _ (λ b is. is.0 ∙ sym (eqb-true n 3 b)) (λ _ h. picked (eqb n 4) _ _ e _ (λ b is. is.0 ∙ sym (eqb-true n 4 b)) (λ _ h.
+    picked (eqb n 1) _ _ e _ (λ b is. is.0 ∙ sym (eqb-true n 1 b))
+    (λ _ h. picked (eqb n 2) _ _ e _ (λ b is. is.0 ∙ sym (eqb-true n 2 b)) (λ _ h.
+    picked (eqb n 3) _ _ e _ (λ b is. is.0 ∙ sym (eqb-true n 3 b))
+    (λ _ h. picked (eqb n 4) _ _ e _ (λ b is. is.0 ∙ sym (eqb-true n 4 b)) (λ _ h.
     picked (eqb n 5) _ _ e _ (λ b is. is.0 ∙ sym (eqb-true n 5 b)) (λ _ h. absurd h) h) h) h) h) h
 
 unfoldable pub event : Format Event

@@ -12,7 +12,8 @@ key = counted u16 scalar
 
 -- interface, DISPID, key
 unfoldable pub place : Format PlaceValue
-place = made (λ p. record { interface = p.0; dispid = p.1.0; key = p.1.1 }) (λ p. (p.interface, (p.dispid, p.key))) (guid ▸ i32 ▸ key) (λ p. refl) (λ p. refl)
+place = made (λ p. record { interface = p.0; dispid = p.1.0; key = p.1.1 }) (λ p. (p.interface, (p.dispid, p.key))) (guid ▸ i32 ▸ key)
+    (λ p. refl) (λ p. refl)
 
 unfoldable pub name : Format CellName
 name = made (λ p. record { object = p.0; place = p.1 }) (λ n. (n.object, n.place)) (u32 ▸ place) (λ p. refl) (λ n. refl)

@@ -24,7 +24,8 @@ cells = only (rising before) (counted u32 cell)
 
 -- its number, its coclass, its cells
 unfoldable pub object : Format (ℕ × ObjectValue)
-object = made (λ p. (p.0, record { class = p.1.0; cells = p.1.1 })) (λ o. (o.0, (o.1.class, o.1.cells))) (u32 ▸ guid ▸ cells) (λ p. refl) (λ o. refl)
+object = made (λ p. (p.0, record { class = p.1.0; cells = p.1.1 })) (λ o. (o.0, (o.1.class, o.1.cells))) (u32 ▸ guid ▸ cells) (λ p. refl)
+    (λ o. refl)
 
 abbrev pub older : ℕ × ObjectValue → ℕ × ObjectValue → Bool
 older a b = is_lt (nat_cmp a.0 b.0)
@@ -40,7 +41,8 @@ abbrev pub is_numbered : TableValue → Bool
 is_numbered t = nat_lt 0 t.next && list_all (is_used t.next) t.objects
 
 unfoldable pub table : Format TableValue
-table = only is_numbered (made (λ p. record { next = p.0; objects = p.1 }) (λ t. (t.next, t.objects)) (u32 ▸ objects) (λ p. refl) (λ t. refl))
+table = only is_numbered (made (λ p. record { next = p.0; objects = p.1 }) (λ t. (t.next, t.objects)) (u32 ▸ objects) (λ p. refl)
+    (λ t. refl))
 
 -- the bytes of a table; they hold no locks
 abbrev pub table_image : TableValue → List ℕ

@@ -178,7 +178,8 @@ pub fn one_table()
 /// of the table after an event that applies.
 pub fn images_are_counted()
     ensures now { (t : TableValue) → length (table_image t) ≡ table_size t }
-    ensures after { (event : AnEvent) (old new : TableValue) → applied event old ≡ Ok new → length (table_image new) ≡ size_after event old }
+    ensures after { (event : AnEvent) (old new : TableValue) → applied event old ≡ Ok new
+        → length (table_image new) ≡ size_after event old }
 {}
 
 /// The image of a table holds no locks.

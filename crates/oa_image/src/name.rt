@@ -3,6 +3,7 @@ ghost use Rattle.std.specs.Prelude.{◌≡◌, ◌≤◌, ◌*◌, ◌++◌, OnO
 ghost use Rattle.std.specs.List.{flat_map};
 ghost use Rattle.oa_layout.specs.Answers.{Answers, AnswersBy, Keeps};
 ghost use Rattle.oa_layout.specs.Values.{scalar as a_scalar};
+ghost use Rattle.oa_model.specs.Limits.{max_key_scalars};
 ghost use Rattle.oa_image.specs.Names as names;
 
 use oa_layout::{
@@ -17,7 +18,7 @@ use std::alloc::{AllocError, Global};
 #[tactic(auto, unfolding(oa_ndr::specs::Reading::bind, oa_ndr::specs::Reading::give, oa_layout::specs::Formats::made_where, oa_layout::specs::Formats::next_by, oa_layout::specs::Formats::counted, crate::specs::Names::key))]
 fn read_key(alloc: Global, r: &mut Ndr<'_>) -> Result<Vec<Scalar>, ReadFault>
     ensures read { AnswersBy (λ v. v.items) result r.new (names.key.read r.old) }
-    ensures few { IfOk result (λ v. length v.items ≤ 65535) }
+    ensures few { IfOk result (λ v. length v.items ≤ max_key_scalars) }
 {
     let count = read_u16(r)?;
     read_times::<ScalarFormat>(alloc, count as usize, r)
@@ -25,7 +26,7 @@ fn read_key(alloc: Global, r: &mut Ndr<'_>) -> Result<Vec<Scalar>, ReadFault>
 
 #[tactic(auto, unfolding(oa_layout::specs::Formats::made_where, oa_layout::specs::Formats::next_by, oa_layout::specs::Formats::times, oa_layout::specs::Formats::counted, crate::specs::Names::key))]
 fn put_key(key: &[Scalar], out: &mut Vec<u8>) -> Result<(), AllocError>
-    requires { length key.now ≤ 65535 }
+    requires { length key.now ≤ max_key_scalars }
     ensures ok { OnOk result (out.new.items ≡ out.old.items ++ names.key.image key.now) }
     ensures kept { Keeps out.old.items out.new.items }
 {
@@ -86,7 +87,7 @@ impl PutImage for NameFormat {
 
 // How many bytes the images of scalars have, one behind the other.
 fn scalars_len(scalars: &[Scalar]) -> usize
-    requires few { length scalars.now ≤ 65535 }
+    requires few { length scalars.now ≤ max_key_scalars }
     ensures value { result ≡ length (flat_map a_scalar.image scalars.now) }
     ensures small { result ≤ 262150 * length scalars.now }
 {

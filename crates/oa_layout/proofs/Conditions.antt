@@ -86,7 +86,8 @@ each_bound : (bounds : List Bound) → All IsBound bounds → AllByRecursion bou
 each_bound [] h = tt
 each_bound (b ∷ bounds) h = (bound_is b (All-head IsBound b bounds h), each_bound bounds (All-tail IsBound b bounds h))
 
-array_is : (a : ArrayValue Scalar) → IsArray FitsType a → All IsScalar a.cells → All IsBound a.bounds → (array_of a.elem).Is (with_locks a 0)
+array_is : (a : ArrayValue Scalar) → IsArray FitsType a → All IsScalar a.cells → All IsBound a.bounds
+    → (array_of a.elem).Is (with_locks a 0)
 unfolding array_of bounds_of only counted times coded made_where u16
 array_is a is cells bounds =
     (refl, refl, ((omega (arith, is.shape.few), each_bound a.bounds bounds), shape_here a.elem a.bounds is.shape), (is.whole, each_cell a.elem a.cells is.typed cells))

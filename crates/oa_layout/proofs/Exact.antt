@@ -25,7 +25,8 @@ pub one_value : {C : Type 0} (F : Format C) (a b : C) → F.Is a → F.Is b → 
 one_value F a b ha hb e = (no_prefix F a b [] [] ha hb (ap (λ (xs : List ℕ). xs ++ []) e)).0
 
 -- bytes are the images of one list alone
-pub one_list : {C : Type 0} (F : Format C) → HasBytes F → (xs ys : List C) → AllByRecursion F.Is xs → AllByRecursion F.Is ys → flat_map F.image xs ≡ flat_map F.image ys → xs ≡ ys
+pub one_list : {C : Type 0} (F : Format C) → HasBytes F → (xs ys : List C) → AllByRecursion F.Is xs → AllByRecursion F.Is ys
+    → flat_map F.image xs ≡ flat_map F.image ys → xs ≡ ys
 one_list F more [] [] hx hy e = refl
 one_list F more [] (y ∷ ys) hx hy e = absurd (omega (arith, more y hy.0, ap length e, length-append (F.image y) (flat_map F.image ys)))
 one_list F more (x ∷ xs) [] hx hy e = absurd (omega (arith, more x hx.0, ap length e, length-append (F.image x) (flat_map F.image xs)))
@@ -35,12 +36,14 @@ one_list F more (x ∷ xs) (y ∷ ys) hx hy e =
 
 -- ---- whole images
 
-pub read_to_its_end : {C : Type 0} (F : Format C) (bytes : List ℕ) (c : C) (t : Cursor) → IsBytes bytes → F.read (at 0 bytes) ≡ Some (c, t) → t.rest ≡ [] → F.Is c × (bytes ≡ F.image c)
+pub read_to_its_end : {C : Type 0} (F : Format C) (bytes : List ℕ) (c : C) (t : Cursor) → IsBytes bytes → F.read (at 0 bytes) ≡ Some (c, t)
+    → t.rest ≡ [] → F.Is c × (bytes ≡ F.image c)
 read_to_its_end F bytes c t ok e nil =
     let one = F.takes (at 0 bytes) c t ok e in
     (one.0, one.1 ∙ ap (λ (xs : List ℕ). F.image c ++ xs) nil ∙ append-nil (F.image c))
 
-image_read : {C : Type 0} (F : Format C) (bytes : List ℕ) (c : C) → F.Is c → bytes ≡ F.image c → (end : ℕ) × (F.read (at 0 bytes) ≡ Some (c, at end []))
+image_read : {C : Type 0} (F : Format C) (bytes : List ℕ) (c : C) → F.Is c → bytes ≡ F.image c
+    → (end : ℕ) × (F.read (at 0 bytes) ≡ Some (c, at end []))
 image_read F bytes c is same =
     let one = F.again c 0 [] is in
     (one.0, ap (λ (xs : List ℕ). F.read (at 0 xs)) (same ∙ sym (append-nil (F.image c))) ∙ one.1)
@@ -48,13 +51,15 @@ image_read F bytes c is same =
 pub not_read : {C : Type 0} (F : Format C) (bytes : List ℕ) → F.read (at 0 bytes) ≡ None → (c : C) → F.Is c → bytes ≡ F.image c → ⊥
 not_read F bytes h c is same = let one = sym h ∙ (image_read F bytes c is same).1 in absurd cc
 
-pub bytes_left : {C : Type 0} (F : Format C) (bytes : List ℕ) (x : C) (t : Cursor) → F.read (at 0 bytes) ≡ Some (x, t) → (t.rest ≡ [] → ⊥) → (c : C) → F.Is c → bytes ≡ F.image c → ⊥
+pub bytes_left : {C : Type 0} (F : Format C) (bytes : List ℕ) (x : C) (t : Cursor) → F.read (at 0 bytes) ≡ Some (x, t) → (t.rest ≡ [] → ⊥)
+    → (c : C) → F.Is c → bytes ≡ F.image c → ⊥
 bytes_left {C} F bytes x t h left c is same =
     let one = image_read F bytes c is same in
     let p = same_content (x, t) (c, at one.0 []) (sym h ∙ one.1) in
     left (ap (λ (y : C × Cursor). y.1.rest) p)
 
 -- where a part was refused
-pub refused : {C : Type 0} (F : Format C) (bytes : List ℕ) (e : ReadFault) (t : Cursor) (place : ℕ) → Answers {A = C} (Err e) t (F.read (at 0 bytes)) → place ≤ length bytes → IsReading {C = C} F bytes (Err (placed e place))
+pub refused : {C : Type 0} (F : Format C) (bytes : List ℕ) (e : ReadFault) (t : Cursor) (place : ℕ)
+    → Answers {A = C} (Err e) t (F.read (at 0 bytes)) → place ≤ length bytes → IsReading {C = C} F bytes (Err (placed e place))
 refused F bytes reads.Broken t place h among = (not_read F bytes h, among)
 refused F bytes reads.Memory t place h among = tt

@@ -1,7 +1,7 @@
 -- Lengths of images.
-use Rattle.std.proofs.Common.{◌≡◌, ℕ, ◌+◌, ◌*◌, ◌<◌, List, [], ◌∷◌, length, drop, get_or, refl, arith}
+use Rattle.std.proofs.Common.{◌≡◌, ◌+◌, ◌*◌, List, [], ◌∷◌, length, refl, arith}
 use Rattle.std.specs.List.{flat_map}
-use Rattle.std.proofs.lemmas.List.{length-append, drop_more}
+use Rattle.std.proofs.lemmas.List.{length-append}
 use Rattle.oa_model.specs.declared.bound.Bound.{Bound}
 use Rattle.oa_model.specs.declared.var_type.VarType.{VarType}
 use Rattle.oa_array.specs.Arrays.{ArrayValue}
@@ -15,11 +15,7 @@ unfolding bound next_by made_where u32 i32 raw
 bounds_len [] = refl
 bounds_len (b ∷ bounds) = omega (arith, length-append (bound.image b) (flat_map bound.image bounds), bounds_len bounds)
 
--- one image more of those that are left
-pub next_len : {A : Type 0} (image : A → List ℕ) (xs : List A) (i : ℕ) (d : A) → i < length xs
-    → length (flat_map image (drop i xs)) ≡ length (image (get_or xs i d)) + length (flat_map image (drop (i + 1) xs))
-next_len image xs i d lt = rw (drop_more xs i d lt) (length-append (image (get_or xs i d)) (flat_map image (drop (i + 1) xs)))
-
-pub array_length : (t : VarType) (a : ArrayValue Scalar) → length ((array_of t).image a) ≡ 2 + 8 * length a.bounds + length (flat_map (cell_of t).image a.cells)
+pub array_length : (t : VarType) (a : ArrayValue Scalar)
+    → length ((array_of t).image a) ≡ 2 + 8 * length a.bounds + length (flat_map (cell_of t).image a.cells)
 unfolding array_of bounds_of only counted times coded made_where next_by u16 raw
 array_length t a = omega (arith, length-append (flat_map bound.image a.bounds) (flat_map (cell_of t).image a.cells), bounds_len a.bounds)

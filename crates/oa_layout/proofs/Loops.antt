@@ -18,24 +18,29 @@ use Rattle.oa_layout.specs.declared.fault.ReadFault.TheVariants.{Broken, Memory}
 use Rattle.oa_layout.specs.Answers.{Answers, AnswersBy}
 use Rattle.oa_layout.specs.Arrays.{is_shape, shape_there}
 
-pub many_err : {A : Type 0} (read : Reading A) (e : ReadFault) (front : List A) (n i : ℕ) (s t u : Cursor) (total : Option (List A × Cursor)) → i < n → Answers {A = A} (Err e) t (read s)
+pub many_err : {A : Type 0} (read : Reading A) (e : ReadFault) (front : List A) (n i : ℕ) (s t u : Cursor)
+    (total : Option (List A × Cursor)) → i < n → Answers {A = A} (Err e) t (read s)
     → with_front front (many read (n - i) s) ≡ total → AnswersBy {A = Vec A} (λ v. v.items) (Err e) u total
 many_err read Broken front n i s t u total lt h so_far = many_ends read front n i s total lt h so_far
 many_err read Memory front n i s t u total lt h so_far = tt
 
 -- ---- cells that are filled one by one
 
-pub cells_err : {A : Type 0} (read : Reading A) (e : ReadFault) (front : List A) (n i : ℕ) (s t u : Cursor) (total : Option (List A × Cursor)) → i < n → Answers {A = A} (Err e) t (read s)
+pub cells_err : {A : Type 0} (read : Reading A) (e : ReadFault) (front : List A) (n i : ℕ) (s t u : Cursor)
+    (total : Option (List A × Cursor)) → i < n → Answers {A = A} (Err e) t (read s)
     → with_front front (many read (n - i) s) ≡ total → Answers {A = List A} (Err e) u total
 cells_err read Broken front n i s t u total lt h so_far = many_ends read front n i s total lt h so_far
 cells_err read Memory front n i s t u total lt h so_far = tt
 
-pub cells_put : {A : Type 0} (read : Reading A) (cells : List A) (n i : ℕ) (s t : Cursor) (x : A) (total : Option (List A × Cursor)) → length cells ≡ n → i < n → read s ≡ Some (x, t)
-    → with_front (take i cells) (many read (n - i) s) ≡ total → with_front (take (i + 1) (set cells i x)) (many read (n - (i + 1)) t) ≡ total
+pub cells_put : {A : Type 0} (read : Reading A) (cells : List A) (n i : ℕ) (s t : Cursor) (x : A) (total : Option (List A × Cursor))
+    → length cells ≡ n → i < n → read s ≡ Some (x, t)
+    → with_front (take i cells) (many read (n - i) s) ≡ total
+    → with_front (take (i + 1) (set cells i x)) (many read (n - (i + 1)) t) ≡ total
 cells_put read cells n i s t x total len lt h so_far =
     rw (take_more_set cells i x (omega (arith, len, lt))) (many_goes_on read (take i cells) n i s t x total lt h so_far)
 
-pub cells_full : {A : Type 0} (read : Reading A) (cells : List A) (n i : ℕ) (s0 s : Cursor) → length cells ≡ n → n ≤ i → with_front (take i cells) (many read (n - i) s) ≡ many read n s0 → many read n s0 ≡ Some (cells, s)
+pub cells_full : {A : Type 0} (read : Reading A) (cells : List A) (n i : ℕ) (s0 s : Cursor) → length cells ≡ n → n ≤ i
+    → with_front (take i cells) (many read (n - i) s) ≡ many read n s0 → many read n s0 ≡ Some (cells, s)
 cells_full read cells n i s0 s len le so_far =
     many_is_done read cells n i s (many read n s0) le (rw (← take_all i cells (omega (arith, len, le))) so_far)
 
@@ -43,11 +48,9 @@ all_and : {A : Type 0} (P : A → Type 0) (xs : List A) (x : A) → AllByRecursi
 all_and P [] x all p = (p, tt)
 all_and P (y ∷ ys) x all p = (all.0, all_and P ys x all.1 p)
 
-pub all_put : {A : Type 0} (P : A → Type 0) (cells : List A) (i : ℕ) (x : A) → i < length cells → P x → AllByRecursion P (take i cells) → AllByRecursion P (take (i + 1) (set cells i x))
+pub all_put : {A : Type 0} (P : A → Type 0) (cells : List A) (i : ℕ) (x : A) → i < length cells → P x → AllByRecursion P (take i cells)
+    → AllByRecursion P (take (i + 1) (set cells i x))
 all_put P cells i x lt p all = rw (take_more_set cells i x lt) (all_and P (take i cells) x all p)
-
-pub all_full : {A : Type 0} (P : A → Type 0) (cells : List A) (n i : ℕ) → length cells ≡ n → n ≤ i → AllByRecursion P (take i cells) → AllByRecursion P cells
-all_full P cells n i len le all = rw (← take_all i cells (omega (arith, len, le))) all
 
 pub all_fit : (t : VarType) (cells : List Scalar) → AllByRecursion (λ s. FitsType s t) cells → All (λ s. FitsType s t) cells
 all_fit t cells h = All-from_recursion (λ s. FitsType s t) cells h

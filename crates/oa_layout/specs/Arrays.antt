@@ -19,11 +19,13 @@ bound = made (λ p. record { count = p.0; lower = p.1 }) (λ b. (b.count, b.lowe
 
 -- whether there are arrays of the type with these bounds
 abbrev pub is_shape : VarType → List Bound → Bool
-is_shape t bounds = is_some (sf_type_of t) && nat_lt 0 (length bounds) && nat_le (length bounds) max_dimensions && nat_le (box_size bounds) max_cells
+is_shape t bounds =
+    is_some (sf_type_of t) && nat_lt 0 (length bounds) && nat_le (length bounds) max_dimensions && nat_le (box_size bounds) max_cells
 
 pub shape_there : (t : VarType) (bounds : List Bound) → is_shape t bounds ≡ true → IsShape t bounds
 shape_there t bounds e =
-    let a3 = and_parts (is_some (sf_type_of t) && ltb 0 (length bounds) && leb (length bounds) max_dimensions) (leb (box_size bounds) max_cells) e in
+    let a3 = and_parts (is_some (sf_type_of t) && ltb 0 (length bounds) && leb (length bounds) max_dimensions)
+    (leb (box_size bounds) max_cells) e in
     let a2 = and_parts (is_some (sf_type_of t) && ltb 0 (length bounds)) (leb (length bounds) max_dimensions) a3.0 in
     let a1 = and_parts (is_some (sf_type_of t)) (ltb 0 (length bounds)) a2.0 in
     record { typed = a1.0; some = ltb-true _ _ a1.1; few = leb-true _ _ a2.1; small = leb-true _ _ a3.1 }

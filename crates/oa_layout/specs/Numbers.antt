@@ -1,12 +1,14 @@
 -- The formats of numbers, the lowest byte first, of GUIDs and of truth values (this project's choice).
-use Rattle.std.proofs.Common.{◌≡◌, ℕ, zero, suc, ◌<◌, ◌^◌, Bool, true, false, cond, eqb, List, [], ◌∷◌, length, get_or, Option, Some, None, refl, sym, ap, ◌∙◌, arith, rules, ℤ}
+use Rattle.std.proofs.Common.{◌≡◌, ℕ, zero, suc, ◌<◌, ◌^◌, Bool, true, false, cond, eqb, List, [], ◌∷◌, length, get_or, Option, Some, None}
+use Rattle.std.proofs.Common.{refl, sym, ap, ◌∙◌, arith, rules, ℤ}
 use Rattle.std.specs.Prelude.{FitsSigned, ◌==◌, if◌then◌else◌}
 use Rattle.std.specs.Int.{w8, w16, w32, w64, from_le_bytes, to_le_bytes, cast_signed, cast_unsigned}
 use mir.Facts.{Fits-of_z, to_z-of_z}
 use Rattle.std.proofs.lemmas.Int.{of_z-to_z}
 use Rattle.std.proofs.Math.Facts.{sfits_to_z}
 use Rattle.std.proofs.lemmas.Bool.{eqb-true}
-use Rattle.std.proofs.lemmas.Nat.{le_bytes_2, le_bytes_4, le_bytes_8, from_le_bytes-to_le_bytes_2, from_le_bytes-to_le_bytes_4, from_le_bytes-to_le_bytes_8}
+use Rattle.std.proofs.lemmas.Nat.{le_bytes_2, le_bytes_4, le_bytes_8, from_le_bytes-to_le_bytes_2, from_le_bytes-to_le_bytes_4}
+use Rattle.std.proofs.lemmas.Nat.{from_le_bytes-to_le_bytes_8}
 use Rattle.uuid.proofs.RoundTrips.{swap_twice}
 use Rattle.oa_model.specs.Guids.{wire_order}
 use Rattle.oa_layout.specs.Formats.{Format, IsBytes, raw, made_where, coded, same_content}
@@ -31,17 +33,22 @@ u8 = made_where (λ n. n < 2 ^ 8) (from_le_bytes w8) (λ n. n ∷ []) (raw 1)
 unfoldable pub u16 : Format ℕ
 unfolding raw
 u16 = made_where (λ n. n < 2 ^ 16) (from_le_bytes w16) (to_le_bytes w16) (raw 2)
-    (λ bs len ok. let e = byte_at bs ok in (omega (arith, e 0, e 1), le_bytes_2 bs (from_le_bytes w16 bs) len e refl)) (λ n h. (refl, from_le_bytes-to_le_bytes_2 n h))
+    (λ bs len ok. let e = byte_at bs ok in (omega (arith, e 0, e 1), le_bytes_2 bs (from_le_bytes w16 bs) len e refl))
+    (λ n h. (refl, from_le_bytes-to_le_bytes_2 n h))
 
 unfoldable pub u32 : Format ℕ
 unfolding raw
 u32 = made_where (λ n. n < 2 ^ 32) (from_le_bytes w32) (to_le_bytes w32) (raw 4)
-    (λ bs len ok. let e = byte_at bs ok in (omega (arith, e 0, e 1, e 2, e 3), le_bytes_4 bs (from_le_bytes w32 bs) len e refl)) (λ n h. (refl, from_le_bytes-to_le_bytes_4 n h))
+    (λ bs len ok. let e = byte_at bs ok in (omega (arith, e 0, e 1, e 2, e 3), le_bytes_4 bs (from_le_bytes w32 bs) len e refl))
+    (λ n h. (refl, from_le_bytes-to_le_bytes_4 n h))
 
 unfoldable pub u64 : Format ℕ
 unfolding raw
 u64 = made_where (λ n. n < 2 ^ 64) (from_le_bytes w64) (to_le_bytes w64) (raw 8)
-    (λ bs len ok. let e = byte_at bs ok in (omega (arith, e 0, e 1, e 2, e 3, e 4, e 5, e 6, e 7), le_bytes_8 bs (from_le_bytes w64 bs) len e refl)) (λ n h. (refl, from_le_bytes-to_le_bytes_8 n h))
+    (λ bs len ok. let e = byte_at bs ok in (
+      omega (arith, e 0, e 1, e 2, e 3, e 4, e 5, e 6, e 7),
+      le_bytes_8 bs (from_le_bytes w64 bs) len e refl,
+    )) (λ n h. (refl, from_le_bytes-to_le_bytes_8 n h))
 
 -- ---- signed numbers, in two's complement
 
@@ -81,7 +88,8 @@ i64 = made_where (FitsSigned w64) (cast_signed w64) (cast_unsigned w64) u64
 
 unfoldable pub guid : Format (List ℕ)
 unfolding raw
-guid = made_where (λ id. length id ≡ 16) wire_order wire_order (raw 16) (λ bs len ok. (omega arith, swap_twice bs len)) (λ id len. (omega arith, swap_twice id len))
+guid = made_where (λ id. length id ≡ 16) wire_order wire_order (raw 16) (λ bs len ok. (omega arith, swap_twice bs len))
+    (λ id len. (omega arith, swap_twice id len))
 
 -- ---- a truth value: one byte, 0 or 1
 
@@ -92,7 +100,8 @@ abbrev pub truth_code : Bool → ℕ
 truth_code false = 0
 truth_code true = 1
 
-pub truth_chosen : (p q : Bool) (n : ℕ) (b : Bool) → (p ≡ true → n ≡ 0) → (q ≡ true → n ≡ 1) → cond p (Some false) (cond q (Some true) None) ≡ Some b → truth_code b ≡ n
+pub truth_chosen : (p q : Bool) (n : ℕ) (b : Bool) → (p ≡ true → n ≡ 0) → (q ≡ true → n ≡ 1)
+    → cond p (Some false) (cond q (Some true) None) ≡ Some b → truth_code b ≡ n
 truth_chosen true q n b is_zero is_one e = sym (ap truth_code (same_content false b e)) ∙ sym (is_zero refl)
 truth_chosen false true n b is_zero is_one e = sym (ap truth_code (same_content true b e)) ∙ sym (is_one refl)
 truth_chosen false false n b is_zero is_one e = absurd cc

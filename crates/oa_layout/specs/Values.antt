@@ -1,5 +1,6 @@
 -- The images of texts, DECIMAL and scalars (this project's choice).
-use Rattle.std.proofs.Common.{◌≡◌, ℕ, ℤ, ◌+◌, ◌*◌, ◌<◌, ◌≤◌, ◌^◌, Bool, true, false, cond, eqb, leb, List, length, Option, Some, None, refl, sym, ap, subst, arith, rules}
+use Rattle.std.proofs.Common.{◌≡◌, ℕ, ℤ, ◌+◌, ◌*◌, ◌<◌, ◌≤◌, ◌^◌, Bool, true, false, cond, eqb, leb, List, length, Option, Some, None, refl}
+use Rattle.std.proofs.Common.{sym, ap, subst, arith, rules}
 use Rattle.std.specs.Prelude.{◌==◌, nat_le, if◌then◌else◌, pos}
 use Rattle.std.proofs.lemmas.Bool.{eqb-true, leb-true, le-leb}
 use Rattle.oa_model.specs.Limits.{max_text_bytes}
@@ -33,7 +34,8 @@ abbrev pub IsSize : Option ℕ → Type 0
 IsSize None = Unit {0}
 IsSize (Some n) = n ≤ max_text_bytes
 
-pub size_chosen : (p q : Bool) (n : ℕ) (s : Option ℕ) → (p ≡ true → n ≡ 4294967295) → (q ≡ true → n ≤ max_text_bytes) → cond p (Some None) (cond q (Some (Some n)) None) ≡ Some s → IsSize s × (size_code s ≡ n)
+pub size_chosen : (p q : Bool) (n : ℕ) (s : Option ℕ) → (p ≡ true → n ≡ 4294967295) → (q ≡ true → n ≤ max_text_bytes)
+    → cond p (Some None) (cond q (Some (Some n)) None) ≡ Some s → IsSize s × (size_code s ≡ n)
 size_chosen true q n s is le e = subst (λ (o : Option ℕ). IsSize o × (size_code o ≡ n)) (same_content None s e) (tt, sym (is refl))
 size_chosen false true n s is le e = subst (λ (o : Option ℕ). IsSize o × (size_code o ≡ n)) (same_content (Some n) s e) (le refl, refl)
 size_chosen false false n s is le e = absurd cc
@@ -47,7 +49,8 @@ size_here (Some n) h =
 
 unfoldable pub text_header : Format (Option ℕ)
 unfolding u32 made_where
-text_header = coded IsSize size_of size_code u32 (λ n s _ e. size_chosen (eqb n 4294967295) (leb n max_text_bytes) n s (eqb-true _ _) (leb-true _ _) e) size_here
+text_header = coded IsSize size_of size_code u32 (λ n s _ e. size_chosen (eqb n 4294967295) (leb n max_text_bytes) n s (eqb-true _ _)
+    (leb-true _ _) e) size_here
 
 pub null_text : (t : Option (List ℕ)) → text_size t ≡ None → None ≡ t
 null_text None e = refl
@@ -92,13 +95,16 @@ IsDecimal d = (d.scale ≤ 28) × (d.magnitude < 2 ^ 96)
 abbrev pub decimal_fields : Format DecimalParts
 decimal_fields = u8 ▸ truth ▸ u32 ▸ u64
 
-pub decimal_chosen : (b : Bool) (p : DecimalParts) (d : DecimalValue) → (b ≡ true → p.0 ≤ 28) → p.1.1.0 < 2 ^ 32 → p.1.1.1 < 2 ^ 64 → cond b (Some (decimal_with p)) None ≡ Some d → IsDecimal d × (decimal_parts d ≡ p)
+pub decimal_chosen : (b : Bool) (p : DecimalParts) (d : DecimalValue) → (b ≡ true → p.0 ≤ 28) → p.1.1.0 < 2 ^ 32 → p.1.1.1 < 2 ^ 64
+    → cond b (Some (decimal_with p)) None ≡ Some d → IsDecimal d × (decimal_parts d ≡ p)
 decimal_chosen false p d small high low e = absurd cc
 decimal_chosen true p d small high low e =
     let back = halves p.1.1.0 p.1.1.1 low in
-    subst (λ (x : DecimalValue). IsDecimal x × (decimal_parts x ≡ p)) (same_content (decimal_with p) d e) ((small refl, omega (arith, high, low)), rw (back.0, back.1) refl)
+    subst (λ (x : DecimalValue). IsDecimal x × (decimal_parts x ≡ p)) (same_content (decimal_with p) d e)
+    ((small refl, omega (arith, high, low)), rw (back.0, back.1) refl)
 
-pub decimal_there : (p : DecimalParts) (d : DecimalValue) → decimal_fields.Is p → decimal_from p ≡ Some d → IsDecimal d × (decimal_parts d ≡ p)
+pub decimal_there : (p : DecimalParts) (d : DecimalValue) → decimal_fields.Is p → decimal_from p ≡ Some d
+    → IsDecimal d × (decimal_parts d ≡ p)
 unfolding next_by u8 u32 u64 made_where truth coded
 decimal_there p d is e = decimal_chosen (leb p.0 28) p d (leb-true _ _) is.1.1.0 is.1.1.1 e
 

@@ -13,13 +13,7 @@ mod writing;
 pub use array::BoundFormat;
 pub use fault::{ImageFault, ReadFault};
 pub use image::{PutImage, ReadImage, put_each, read_exactly, read_row, read_times};
-pub use reading::{
-    read_bytes, read_guid, read_i8, read_i16, read_i32, read_i64, read_truth, read_u8, read_u16,
-    read_u32, read_u64,
-};
+pub use reading::{read_guid, read_i32, read_u8, read_u16, read_u32};
 pub use scalar::{ScalarFormat, scalar_image_len};
 pub use variant::{VariantFormat, value_image_len};
-pub use writing::{
-    put_bytes, put_guid, put_i8, put_i16, put_i32, put_i64, put_truth, put_u8, put_u16, put_u32,
-    put_u64,
-};
+pub use writing::{put_guid, put_i32, put_u8, put_u16, put_u32};

@@ -11,7 +11,7 @@ use uuid::Uuid;
 
 /// The next `n` bytes.
 #[tactic(auto, unfolding(crate::specs::Formats::raw))]
-pub fn read_bytes<'a>(n: usize, r: &mut Ndr<'a>) -> Result<&'a [u8], ReadFault>
+pub(crate) fn read_bytes<'a>(n: usize, r: &mut Ndr<'a>) -> Result<&'a [u8], ReadFault>
     ensures read { AnswersBy (λ x. x.now) result r.new ((raw n).read r.old) }
     ensures len { IfOk result (λ x. length x.now ≡ n) }
 {
@@ -47,7 +47,7 @@ pub fn read_u32(r: &mut Ndr<'_>) -> Result<u32, ReadFault>
 
 /// A number of 8 bytes.
 #[tactic(auto, unfolding(oa_ndr::specs::Reading::bind, oa_ndr::specs::Reading::give, crate::specs::Formats::made_where, crate::specs::Numbers::u64))]
-pub fn read_u64(r: &mut Ndr<'_>) -> Result<u64, ReadFault>
+pub(crate) fn read_u64(r: &mut Ndr<'_>) -> Result<u64, ReadFault>
     ensures { Answers result r.new (numbers.u64.read r.old) }
 {
     let b = read_bytes(8, r)?;
@@ -56,7 +56,7 @@ pub fn read_u64(r: &mut Ndr<'_>) -> Result<u64, ReadFault>
 
 /// A signed number of one byte.
 #[tactic(auto, unfolding(oa_ndr::specs::Reading::bind, oa_ndr::specs::Reading::give, crate::specs::Formats::made_where, crate::specs::Numbers::i8))]
-pub fn read_i8(r: &mut Ndr<'_>) -> Result<i8, ReadFault>
+pub(crate) fn read_i8(r: &mut Ndr<'_>) -> Result<i8, ReadFault>
     ensures { Answers result r.new (numbers.i8.read r.old) }
 {
     Ok(read_u8(r)?.cast_signed())
@@ -64,7 +64,7 @@ pub fn read_i8(r: &mut Ndr<'_>) -> Result<i8, ReadFault>
 
 /// A signed number of 2 bytes.
 #[tactic(auto, unfolding(oa_ndr::specs::Reading::bind, oa_ndr::specs::Reading::give, crate::specs::Formats::made_where, crate::specs::Numbers::i16))]
-pub fn read_i16(r: &mut Ndr<'_>) -> Result<i16, ReadFault>
+pub(crate) fn read_i16(r: &mut Ndr<'_>) -> Result<i16, ReadFault>
     ensures { Answers result r.new (numbers.i16.read r.old) }
 {
     Ok(read_u16(r)?.cast_signed())
@@ -80,7 +80,7 @@ pub fn read_i32(r: &mut Ndr<'_>) -> Result<i32, ReadFault>
 
 /// A signed number of 8 bytes.
 #[tactic(auto, unfolding(oa_ndr::specs::Reading::bind, oa_ndr::specs::Reading::give, crate::specs::Formats::made_where, crate::specs::Numbers::i64))]
-pub fn read_i64(r: &mut Ndr<'_>) -> Result<i64, ReadFault>
+pub(crate) fn read_i64(r: &mut Ndr<'_>) -> Result<i64, ReadFault>
     ensures { Answers result r.new (numbers.i64.read r.old) }
 {
     Ok(read_u64(r)?.cast_signed())
@@ -100,7 +100,7 @@ pub fn read_guid(r: &mut Ndr<'_>) -> Result<Uuid, ReadFault>
 
 /// A truth value: one byte, 0 or 1.
 #[tactic(auto, unfolding(oa_ndr::specs::Reading::bind, oa_ndr::specs::Reading::give, crate::specs::Formats::coded, crate::specs::Numbers::truth))]
-pub fn read_truth(r: &mut Ndr<'_>) -> Result<bool, ReadFault>
+pub(crate) fn read_truth(r: &mut Ndr<'_>) -> Result<bool, ReadFault>
     ensures { Answers result r.new (numbers.truth.read r.old) }
 {
     match read_u8(r)? {

@@ -8,7 +8,7 @@ use std::alloc::AllocError;
 use uuid::Uuid;
 
 /// Adds bytes as they are.
-pub fn put_bytes(bytes: &[u8], out: &mut Vec<u8>) -> Result<(), AllocError>
+pub(crate) fn put_bytes(bytes: &[u8], out: &mut Vec<u8>) -> Result<(), AllocError>
     ensures ok { OnOk result (out.new.items ≡ out.old.items ++ bytes.now) }
     ensures kept { Keeps out.old.items out.new.items }
 {
@@ -44,7 +44,7 @@ pub fn put_u32(n: u32, out: &mut Vec<u8>) -> Result<(), AllocError>
 
 /// Adds a number of 8 bytes.
 #[tactic(auto, unfolding(crate::specs::Formats::made_where, crate::specs::Formats::raw, crate::specs::Numbers::u64))]
-pub fn put_u64(n: u64, out: &mut Vec<u8>) -> Result<(), AllocError>
+pub(crate) fn put_u64(n: u64, out: &mut Vec<u8>) -> Result<(), AllocError>
     ensures ok { OnOk result (out.new.items ≡ out.old.items ++ numbers.u64.image n) }
     ensures kept { Keeps out.old.items out.new.items }
 {
@@ -53,7 +53,7 @@ pub fn put_u64(n: u64, out: &mut Vec<u8>) -> Result<(), AllocError>
 
 /// Adds a signed number of one byte.
 #[tactic(auto, unfolding(crate::specs::Formats::made_where, crate::specs::Numbers::i8))]
-pub fn put_i8(n: i8, out: &mut Vec<u8>) -> Result<(), AllocError>
+pub(crate) fn put_i8(n: i8, out: &mut Vec<u8>) -> Result<(), AllocError>
     ensures ok { OnOk result (out.new.items ≡ out.old.items ++ numbers.i8.image n) }
     ensures kept { Keeps out.old.items out.new.items }
 {
@@ -62,7 +62,7 @@ pub fn put_i8(n: i8, out: &mut Vec<u8>) -> Result<(), AllocError>
 
 /// Adds a signed number of 2 bytes.
 #[tactic(auto, unfolding(crate::specs::Formats::made_where, crate::specs::Numbers::i16))]
-pub fn put_i16(n: i16, out: &mut Vec<u8>) -> Result<(), AllocError>
+pub(crate) fn put_i16(n: i16, out: &mut Vec<u8>) -> Result<(), AllocError>
     ensures ok { OnOk result (out.new.items ≡ out.old.items ++ numbers.i16.image n) }
     ensures kept { Keeps out.old.items out.new.items }
 {
@@ -80,7 +80,7 @@ pub fn put_i32(n: i32, out: &mut Vec<u8>) -> Result<(), AllocError>
 
 /// Adds a signed number of 8 bytes.
 #[tactic(auto, unfolding(crate::specs::Formats::made_where, crate::specs::Numbers::i64))]
-pub fn put_i64(n: i64, out: &mut Vec<u8>) -> Result<(), AllocError>
+pub(crate) fn put_i64(n: i64, out: &mut Vec<u8>) -> Result<(), AllocError>
     ensures ok { OnOk result (out.new.items ≡ out.old.items ++ numbers.i64.image n) }
     ensures kept { Keeps out.old.items out.new.items }
 {
@@ -98,7 +98,7 @@ pub fn put_guid(id: &Uuid, out: &mut Vec<u8>) -> Result<(), AllocError>
 
 /// Adds a truth value: one byte, 0 or 1.
 #[tactic(auto, unfolding(crate::specs::Formats::coded, crate::specs::Numbers::truth))]
-pub fn put_truth(b: bool, out: &mut Vec<u8>) -> Result<(), AllocError>
+pub(crate) fn put_truth(b: bool, out: &mut Vec<u8>) -> Result<(), AllocError>
     ensures ok { OnOk result (out.new.items ≡ out.old.items ++ numbers.truth.image b) }
     ensures kept { Keeps out.old.items out.new.items }
 {

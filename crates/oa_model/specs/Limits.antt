@@ -53,6 +53,22 @@ max_coclasses = 256
 abbrev pub max_members : ℕ
 max_members = 512
 
+-- scalars of a key
+abbrev pub max_key_scalars : ℕ
+max_key_scalars = 65535
+
+-- indices of an index list outside of a record; one of a record has at most one for each dimension
+abbrev pub max_index_list : ℕ
+max_index_list = 65535
+
+-- bytes of an event's image
+abbrev pub max_event_bytes : ℕ
+max_event_bytes = 1048576
+
+-- bytes of a table's image
+abbrev pub max_table_bytes : ℕ
+max_table_bytes = 14680064
+
 -- objects that are live at a time
 abbrev pub max_live_objects : ℕ
 max_live_objects = 65536

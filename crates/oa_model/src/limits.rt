@@ -26,6 +26,10 @@ pub const MAX_INTERFACES: usize = 256;
 pub const MAX_COCLASSES: usize = 256;
 /// Members of an interface, a get and a put counting as two.
 pub const MAX_MEMBERS: usize = 512;
+/// Bytes of an event's image.
+pub const MAX_EVENT_BYTES: usize = 1_048_576;
+/// Bytes of a table's image.
+pub const MAX_TABLE_BYTES: u64 = 14_680_064;
 /// Objects that are live at a time.
 pub const MAX_LIVE_OBJECTS: usize = 65_536;
 /// The greatest number that an object can have.

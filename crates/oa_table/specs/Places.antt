@@ -5,6 +5,7 @@ use Rattle.std.specs.Cmp.{IsTotalOrder}
 use Rattle.std.specs.Cmp.Lexicographic.{slice_cmp}
 use Rattle.std.specs.declared.cmp.Ordering.{Ordering}
 use Rattle.std.proofs.lemmas.Cmp.{then_total, on_total, int_cmp_total, nat_list_cmp_total, lists_total}
+use Rattle.oa_model.specs.Limits.{max_key_scalars}
 use Rattle.oa_variant.specs.declared.scalar.Scalar.{Scalar}
 use Rattle.oa_variant.specs.Keys.{scalar_cmp, scalars_total}
 
@@ -17,7 +18,7 @@ pub record PlaceValue : Type 0 where
 -- what holds of every place
 pub record IsPlace (place : PlaceValue) : Type 0 where
   pub guid : length place.interface ≡ 16
-  pub few : length place.key ≤ 65535
+  pub few : length place.key ≤ max_key_scalars
 
 abbrev pub key_cmp : List Scalar → List Scalar → Ordering
 key_cmp = slice_cmp scalar_cmp

@@ -4,6 +4,7 @@ ghost use Rattle.std.specs.Cmp.{partial_order_from_total, partial_equiv_from_equ
 ghost use Rattle.std.specs.Cmp.Rules.{comparing};
 ghost use Rattle.std.specs.Ordering.{as_partial_cmp, eq_by_cmp};
 ghost use Rattle.std.proofs.Common.{rules};
+ghost use Rattle.oa_model.specs.Limits.{max_key_scalars};
 ghost use Rattle.oa_table.specs.Places.{IsPlace, place_cmp, places_total};
 
 use oa_variant::Scalar;
@@ -33,7 +34,7 @@ impl Model for Place {
 impl Place {
     /// The place of a member of an interface, by its DISPID, for a list of arguments.
     pub fn new(interface: Uuid, dispid: i32, key: Vec<Scalar>) -> Place
-        requires { length key.items ≤ 65535 }
+        requires { length key.items ≤ max_key_scalars }
         ensures { result ≡ record { interface = interface; dispid = dispid; key = key.items } }
     {
         let _ = interface.as_bytes();

@@ -2,7 +2,7 @@
 ghost use Rattle.std.specs.Prelude.{◌≡◌, ◌≤◌, ◌+◌, ◌*◌, length};
 ghost use Rattle.std.specs.List.{sum_by};
 ghost use Rattle.oa_bstr.specs.Text.{bytes_of};
-ghost use Rattle.oa_model.specs.Limits.{max_cells};
+ghost use Rattle.oa_model.specs.Limits.{max_cells, max_key_scalars};
 ghost use Rattle.oa_variant.specs.Scalars.{text_of};
 ghost use Rattle.oa_table.specs.Sizes as sizes;
 
@@ -95,7 +95,7 @@ pub(crate) fn value_size(value: &Variant) -> u64
 
 /// The scalars of a key, one behind the other.
 fn scalars_size(scalars: &[Scalar]) -> u64
-    requires { length scalars.now ≤ 65535 }
+    requires { length scalars.now ≤ max_key_scalars }
     ensures value { result ≡ sum_by sizes.scalar_size scalars.now }
     ensures small { result ≤ 262150 * length scalars.now }
 {

@@ -31,4 +31,5 @@ abbrev pub decimal_cmp : DecimalValue → DecimalValue → Ordering
 decimal_cmp = then_cmp (on (λ d. d.negative) bool_cmp) (then_cmp (on (λ d. d.scale) nat_cmp) (on (λ d. d.magnitude) nat_cmp))
 
 pub decimals_total : IsTotalOrder decimal_cmp
-decimals_total = then_total (on_total (λ d. d.negative) bool_cmp_total) (then_total (on_total (λ d. d.scale) nat_cmp_total) (on_total (λ d. d.magnitude) nat_cmp_total))
+decimals_total = then_total (on_total (λ d. d.negative) bool_cmp_total)
+    (then_total (on_total (λ d. d.scale) nat_cmp_total) (on_total (λ d. d.magnitude) nat_cmp_total))

@@ -60,4 +60,5 @@ abbrev pub scalar_cmp : Scalar → Scalar → Ordering
 scalar_cmp = then_cmp (on key_type nat_cmp) (then_cmp (on number_of int_cmp) (then_cmp (on text_of text_cmp) (on decimal_of decimal_cmp)))
 
 pub scalars_total : IsTotalOrder scalar_cmp
-scalars_total = then_total (on_total key_type nat_cmp_total) (then_total (on_total number_of int_cmp_total) (then_total (on_total text_of texts_total) (on_total decimal_of decimals_total)))
+scalars_total = then_total (on_total key_type nat_cmp_total)
+    (then_total (on_total number_of int_cmp_total) (then_total (on_total text_of texts_total) (on_total decimal_of decimals_total)))

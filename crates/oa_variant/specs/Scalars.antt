@@ -1,5 +1,5 @@
 -- Scalars: their types, their zeros and what each may be.
-use Rattle.std.specs.Prelude.{◌≡◌, ◌⊎◌, ◌||◌, ◌≤◌, ◌<◌, ◌^◌, ℕ, Bool, List, Option, None, false, length, pos, FitsSigned, Some, ℤ}
+use Rattle.std.specs.Prelude.{◌≡◌, ◌⊎◌, ◌||◌, ◌≤◌, ◌<◌, ◌^◌, ℕ, Bool, List, Option, None, false, length, pos, FitsSigned}
 use Rattle.std.proofs.Common.{inl, inr, refl}
 use Rattle.std.specs.Int.{w8, w16, w32, w64}
 use denote.Enum.Bare.{sameb}
@@ -51,26 +51,6 @@ text_of (scalars.Bool b) = None
 text_of (scalars.Error n) = None
 text_of (scalars.Bstr t) = t
 text_of (scalars.Decimal d) = None
-
--- the number of an integer; nothing in a scalar of another type
-abbrev pub integer_of : Scalar → Option ℤ
-integer_of scalars.Empty = None
-integer_of scalars.Null = None
-integer_of (scalars.I1 z) = Some z
-integer_of (scalars.I2 z) = Some z
-integer_of (scalars.I4 z) = Some z
-integer_of (scalars.I8 z) = Some z
-integer_of (scalars.Int z) = Some z
-integer_of (scalars.Ui1 n) = Some (pos n)
-integer_of (scalars.Ui2 n) = Some (pos n)
-integer_of (scalars.Ui4 n) = Some (pos n)
-integer_of (scalars.Ui8 n) = Some (pos n)
-integer_of (scalars.Uint n) = Some (pos n)
-integer_of (scalars.Cy z) = None
-integer_of (scalars.Bool b) = None
-integer_of (scalars.Error n) = None
-integer_of (scalars.Bstr t) = None
-integer_of (scalars.Decimal d) = None
 
 -- a cell of a type holds values of that type; one of VARIANT holds any scalar
 abbrev pub FitsType : Scalar → VarType → Type 0

@@ -78,7 +78,7 @@ impl Decimal {
 
     /// Its place beside another in the order of keys: by sign (plus first), scale and magnitude, and not by the number that is meant
     /// (this project's choice).
-    pub fn key_cmp(&self, other: &Decimal) -> Ordering
+    pub(crate) fn key_cmp(&self, other: &Decimal) -> Ordering
         ensures { result ≡ decimal_cmp self.now other.now }
     {
         let by_sign = self.negative.cmp(&other.negative);

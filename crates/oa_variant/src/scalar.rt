@@ -4,7 +4,7 @@ ghost use Rattle.std.specs.Cmp.{partial_order_from_total, partial_equiv_from_equ
 ghost use Rattle.std.specs.Cmp.Rules.{comparing};
 ghost use Rattle.std.specs.Ordering.{as_partial_cmp, eq_by_cmp};
 ghost use Rattle.std.proofs.Common.{rules};
-ghost use Rattle.oa_variant.specs.Scalars.{type_of, text_of, integer_of, zero_of, FitsType, fits_type, zero_fits};
+ghost use Rattle.oa_variant.specs.Scalars.{type_of, text_of, zero_of, FitsType, fits_type, zero_fits};
 ghost use Rattle.std.specs.Option.{option_map};
 ghost use Rattle.oa_variant.specs.Keys.{number_of, decimal_of, scalar_cmp, scalars_total};
 
@@ -78,26 +78,6 @@ impl Scalar {
             Scalar::Error(_) => VarType::Error,
             Scalar::Bstr(_) => VarType::Bstr,
             Scalar::Decimal(_) => VarType::Decimal,
-        }
-    }
-
-    /// The number of an integer: of a value of the types I1, I2, I4, I8, INT, UI1, UI2, UI4, UI8 and UINT. None for every other type,
-    /// also for CY, ERROR and BOOL.
-    pub fn integer(&self) -> Option<i128>
-        ensures { result ≡ integer_of self.now }
-    {
-        match self {
-            Scalar::I1(n) => Some(*n as i128),
-            Scalar::I2(n) => Some(*n as i128),
-            Scalar::I4(n) => Some(*n as i128),
-            Scalar::I8(n) => Some(*n as i128),
-            Scalar::Int(n) => Some(*n as i128),
-            Scalar::Ui1(n) => Some(*n as i128),
-            Scalar::Ui2(n) => Some(*n as i128),
-            Scalar::Ui4(n) => Some(*n as i128),
-            Scalar::Ui8(n) => Some(*n as i128),
-            Scalar::Uint(n) => Some(*n as i128),
-            _ => None,
         }
     }
 

@@ -174,18 +174,6 @@ scalar_at_place v out =
 
 -- ---- cells
 
-pub blob_at_place : (text out : List ℕ) → length (put_blob (Some text) out) ≡ length out + padding 4 (length out) + 12 + length text + length text % 2
-blob_at_place text out =
-    let a = put_unit 4 (units (length text)) out in
-    let b = put_unit 4 (length text) a in
-    let c = put_unit 4 (units (length text)) b in
-    let la : length a ≡ length out + padding 4 (length out) + 4 = unit_len 4 (units (length text)) out in
-    let even : (length out + padding 4 (length out)) % 4 ≡ 0 = lands (length out) 4 four in
-    let lb : length b ≡ length a + 4 = unit_on 4 (length text) a (omega (arith, la, even)) in
-    let lc : length c ≡ length b + 4 = unit_on 4 (units (length text)) b (omega (arith, la, lb, even)) in
-    let odd : List ℕ = replicate (length text % 2) 0 in
-    omega (arith, la, lb, lc, length-append c text, length-append (c ++ text) odd, length-replicate {A = ℕ} (length text % 2) 0)
-
 pub referents_len : (t : VarType) (cells : List Scalar) (out : List ℕ) → length out % 4 ≡ 0 → length (put_all (put_cell_referent t) cells out) ≡ length out + 4 * length cells
 referents_len t [] out h = omega arith
 referents_len t (v ∷ cells) out h =

@@ -1,5 +1,18 @@
 -- `allocate` makes a row of empty places of the new block, and keeps the right to free it. Assumes `Logic`.
-use Rattle.oa_cells.proofs.Steps.{◌≡◌, refl, sym, ap, subst, ℕ, ◌*◌, ◌<◌, ◌^◌, arith, List, [], ◌∷◌, ◌++◌, lit<, length, replicate, length-replicate, Ura, SProp, ent, Lft, Share, ftrue, flft, Incl-trans, Fn, Body, named, w64, ty_array, inst_fn, Val, vptr, vint, vstruct, vcons, vnil, Memory, align, capped, capped_fits, Routine, Env, Calls, Loops, Wp, WpFn, Tables, after_seq, at_return, Logic, Fun, fact, ◌⊑◌, tables, tables_of, WpFn-mono, FmC, fm_of, Item, After, ⋆, any_q, at_ret, ‵, raw, ◌⊛◌, later, await, ◌$◌, ◌∵◌, !, qed, by, move, keep, use0, use1, use2, use3, split, join, frame, fsplit, fsplit3, fjoin, feq_l, flt_i, flt_l, suffices, done, live, vrt, in_variant, whole, agg, stop, fld, lit, of_opd, bin, and_then, no_more, first, exec, returns, enter, size_word, align_word, switches_on, alloc_all, pass_all, free_all, look_at, get, get_in, get_tag, sets, sets_last, lands_as, is, env, yes, RattleType, owns, Is, hidden_shr, layout, Ptr, block_ptr, Bor, ShrRef, RefOf, usize, plain, nothing, owned, Struct, Struct-Makes, Tuple, calls_at, Clauses, Ended, closing, on_entry, Meets, triple_of, Triple, entered, says, needs, Stays, stay_dropped, walk_of, ends_at, Goes-dropped, walk_Meets, None, Ok, Err, IfOk, FitsInBlock, El, R, elτ, uncapped, block_ty, block_size, block_align, Al, second, takes_key, Takes, at_takes, Answered, Answer-typed, Takes-goes, Takes-gives, answers, as_written, Good, word, word-Good, first_Good, ok_of, err_of, after, head, arm_body}
+use Rattle.oa_cells.proofs.Steps.{◌≡◌, refl, sym, ap, subst, ℕ, ◌*◌, ◌<◌, ◌^◌, arith, List, [], ◌∷◌, ◌++◌, lit<, length, replicate}
+use Rattle.oa_cells.proofs.Steps.{length-replicate, Ura, SProp, ent, Lft, Share, ftrue, flft, Incl-trans, Fn, Body, named, w64, ty_array}
+use Rattle.oa_cells.proofs.Steps.{inst_fn, Val, vptr, vint, vstruct, vcons, vnil, Memory, align, capped, capped_fits, Routine, Env, Calls}
+use Rattle.oa_cells.proofs.Steps.{Loops, Wp, WpFn, Tables, after_seq, at_return, Logic, Fun, fact, ◌⊑◌, tables, tables_of, WpFn-mono, FmC}
+use Rattle.oa_cells.proofs.Steps.{fm_of, Item, After, ⋆, any_q, at_ret, ‵, raw, ◌⊛◌, later, await, ◌$◌, ◌∵◌, !, qed, by, move, keep, use0}
+use Rattle.oa_cells.proofs.Steps.{use1, use2, use3, split, join, frame, fsplit, fsplit3, fjoin, feq_l, flt_i, flt_l, suffices, done, live}
+use Rattle.oa_cells.proofs.Steps.{vrt, in_variant, whole, agg, stop, fld, lit, of_opd, bin, and_then, no_more, first, exec, returns, enter}
+use Rattle.oa_cells.proofs.Steps.{size_word, align_word, switches_on, alloc_all, pass_all, free_all, look_at, get, get_in, get_tag, sets}
+use Rattle.oa_cells.proofs.Steps.{sets_last, lands_as, is, env, yes, RattleType, owns, Is, hidden_shr, layout, Ptr, block_ptr, Bor, ShrRef}
+use Rattle.oa_cells.proofs.Steps.{RefOf, usize, plain, nothing, owned, Struct, Struct-Makes, Tuple, calls_at, Clauses, Ended, closing}
+use Rattle.oa_cells.proofs.Steps.{on_entry, Meets, triple_of, Triple, entered, says, needs, Stays, stay_dropped, walk_of, ends_at}
+use Rattle.oa_cells.proofs.Steps.{Goes-dropped, walk_Meets, None, Ok, Err, IfOk, FitsInBlock, El, R, elτ, uncapped, block_ty, block_size}
+use Rattle.oa_cells.proofs.Steps.{block_align, Al, second, takes_key, Takes, at_takes, Answered, Answer-typed, Takes-goes, Takes-gives}
+use Rattle.oa_cells.proofs.Steps.{answers, as_written, Good, word, word-Good, first_Good, ok_of, err_of, after, head, arm_body}
 use mathlib.Core.Bool.{true, false}
 use denote.Struct.Declared as Declared
 use Rattle.core.proofs.slots.Leases.{P, args as pair}
@@ -36,7 +49,8 @@ module _ (E : El) (Z : Al) where
   abbrev stayed : Stays ended.signature.params ended.kept
   stayed = (stay_dropped (RefOf (0 ∷ []) tt (plain (λ _. P E Z)) (λ _. tt)) yes, (stay_dropped (plain (λ _. usize)) yes, tt))
 
-module _ (E : El) (Z : Al) {M : Type 1} {𝓤 : Ura M} (𝓛 : Logic 𝓤) (at_mem : Memory → SProp 𝓤) (run : Routine → Fun 𝓤) (C : Calls 𝓤 𝓛.H) (Λ : Loops 𝓤 𝓛.H) (fm : FmC 𝓤 𝓛.H 𝓛.laws C)
+module _ (E : El) (Z : Al) {M : Type 1} {𝓤 : Ura M} (𝓛 : Logic 𝓤) (at_mem : Memory → SProp 𝓤) (run : Routine → Fun 𝓤) (C : Calls 𝓤 𝓛.H)
+    (Λ : Loops 𝓤 𝓛.H) (fm : FmC 𝓤 𝓛.H 𝓛.laws C)
     (callee : Triple 𝓤 (C (takes_key Z)) (Takes Z 𝓛 at_mem run)) (κ κ₁ κ₂ : Lft) (q q₁ q₂ : Share) (short : κ ⊑ κ₂) (within : κ₂ ⊑ Z.row.lives) (rb ro : ℕ) (a : Z.row.Denot) (len : ℕ) (vs0 vs1 : List Val) where
   open 𝓛 use {H, A}
 
@@ -55,7 +69,8 @@ module _ (E : El) (Z : Al) {M : Type 1} {𝓤 : Ura M} (𝓛 : Logic 𝓤) (at_m
   abbrev Tells : (Outcome E Z).Denot → Type 0
   Tells r = IfOk r (λ t. (t.1.at ≡ t.0.ptr) × (t.1.slots ≡ replicate len None) × (t.2.at ≡ t.0.ptr) × (t.2.len ≡ len) × (t.2.alloc ≡ a))
 
-  at_end : (r : (Outcome E Z).Denot) (v : Val) → Tells r → ent 𝓤 (⋆ 𝓛 (‵ ((Outcome E Z).own_val r (v ∷ [])) ∷ ‵ (flft κ q) ∷ others ∷ [])) (Post v)
+  at_end : (r : (Outcome E Z).Denot) (v : Val) → Tells r
+      → ent 𝓤 (⋆ 𝓛 (‵ ((Outcome E Z).own_val r (v ∷ [])) ∷ ‵ (flft κ q) ∷ others ∷ [])) (Post v)
   at_end r v tells =
       qed 𝓛 (‵ ((Outcome E Z).own_val r (v ∷ [])) ∷ ‵ (flft κ q) ∷ others ∷ []) ∵
       suffices ! _ (ends_at 𝓛 (ended E Z) (stayed E Z) (clauses E Z 𝓛 at_mem run) bound v r (tt, (tt, tt)) (tt, (tt, tt))) $ says ! tells $
@@ -112,13 +127,15 @@ module _ (E : El) (Z : Al) {M : Type 1} {𝓤 : Ura M} (𝓛 : Logic 𝓤) (at_m
       use1 𝓛 (‵ ((Outcome E Z).own_val (Err (record {})) (refused ∷ []))) (err_of 𝓛 (Parts E Z) Error-type.the_row (record {}) (vstruct vnil)) $
       returns ! (look_at ! 0 refl) $ free_all ! refl $ keep ! (0 ∷ 1 ∷ 2 ∷ []) $ by ! (at_end (Err (record {})) refused tt))))
 
-  entry : FitsInBlock (R E) len → ent 𝓤 (on_entry 𝓛 (ended E Z).signature (κ, (κ₁, (κ₂, tt))) (q, (q₁, (q₂, tt))) (handle, (len, tt)) (vs0, (vs1, tt))) (WpFn 𝓤 H C Λ (function E Z) (vs0 ++ (vs1 ++ [])) Post)
+  entry : FitsInBlock (R E) len → ent 𝓤 (on_entry 𝓛 (ended E Z).signature (κ, (κ₁, (κ₂, tt))) (q, (q₁, (q₂, tt))) (handle, (len, tt))
+      (vs0, (vs1, tt))) (WpFn 𝓤 H C Λ (function E Z) (vs0 ++ (vs1 ++ [])) Post)
   entry asked =
       qed 𝓛 ((‵ (flft κ q) ⊛ others) ∷ ‵ (owns (ShrRef (named 0) κ (P E Z) ∷ usize ∷ []) (handle, (len, tt)) (vs0, (vs1, tt))) ∷ []) ∵ split ! $ move ! (2 ∷ []) $
       fsplit3 ! $ fsplit ! $ feq_l ! (λ e0. move ! (1 ∷ []) $ fsplit ! $ feq_l ! (λ e1. flt_l ! (λ fits. keep ! (0 ∷ 2 ∷ 3 ∷ []) $
       by ! (subst (λ (vss : List Val × List Val). ent 𝓤 (⋆ 𝓛 Given) (WpFn 𝓤 H C Λ (function E Z) (vss.0 ++ (vss.1 ++ [])) Post)) (λ i. (sym e0 i, sym e1 i)) (walk asked fits)))))
 
-meets : (E : El) (Z : Al) {M : Type 1} {𝓤 : Ura M} (𝓛 : Logic 𝓤) (at_mem : Memory → SProp 𝓤) (run : Routine → Fun 𝓤) (𝓣 : Tables 𝓤 𝓛.H) → Triple 𝓤 (𝓣.C (takes_key Z)) (Takes Z 𝓛 at_mem run)
+meets : (E : El) (Z : Al) {M : Type 1} {𝓤 : Ura M} (𝓛 : Logic 𝓤) (at_mem : Memory → SProp 𝓤) (run : Routine → Fun 𝓤) (𝓣 : Tables 𝓤 𝓛.H)
+    → Triple 𝓤 (𝓣.C (takes_key Z)) (Takes Z 𝓛 at_mem run)
     → Meets 𝓛 (ended E Z).signature (WpFn 𝓤 𝓛.H 𝓣.C 𝓣.Λ (function E Z)) (closing 𝓛 (ended E Z) (clauses E Z 𝓛 at_mem run))
 meets E Z {𝓤 = 𝓤} 𝓛 at_mem run 𝓣 callee =
     let Run = WpFn 𝓤 𝓛.H 𝓣.C 𝓣.Λ (function E Z) in

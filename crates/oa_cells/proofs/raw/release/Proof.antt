@@ -1,5 +1,16 @@
 -- `release` makes room of the block's places, and hands it back with the allocator's token. Assumes `Logic`.
-use Rattle.oa_cells.proofs.Steps.{◌≡◌, refl, sym, ap, subst, ◌∙◌, ℕ, ◌*◌, ◌<◌, ◌^◌, arith, List, [], ◌∷◌, ◌++◌, T, length, Ura, SProp, ent, never, id⊢, Lft, Share, ftrue, flft, froom, Incl-trans, Fn, named, w64, ty_array, ty_unit, inst_fn, Val, vptr, vint, vunit, has_ty, WT, Memory, align, capped, capped_fits, Routine, Env, Calls, Loops, WpFn, Tables, Logic, Fun, fact, ◌⊑◌, tables, tables_of, WpFn-mono, FmC, fm_of, Item, ⋆, at_ret, ‵, raw, ◌⊛◌, given, later, await, learn, ◌$◌, ◌∵◌, !, qed, by, move, keep, use1, split, join, group, rewrite, fsplit, fsplit3, fjoin, feq_i, feq_l, flt_l, suffices, done, whole, sub, stop, fld, unit_lit, of_opd, bin, and_then, no_more, first, blocks, exec, returns, enter, size_word, align_word, alloc_all, pass_all, free_all, look_at, get, get_in, sets, lands_last, is, env, yes, no, RattleType, owns, hidden_shr, Ptr, ptr_val, in_a_block, Bor, ShrRef, RefOf, usize, plain, nothing, calls_at_last, Clauses, Ended, closing, on_entry, Meets, triple_of, Triple, entered, needs, Stays, stay_dropped, walk_of, ends_at, Goes-dropped, walk_Meets, El, R, elτ, uncapped, block_ty, block_size, block_align, Al, second, Goes-blank, token, gives_key, Gives, at_gives, Gives-goes, Gives-Gives, as_raw, word, word-Good, after}
+use Rattle.oa_cells.proofs.Steps.{◌≡◌, refl, sym, ap, subst, ◌∙◌, ℕ, ◌*◌, ◌<◌, ◌^◌, arith, List, [], ◌∷◌, ◌++◌, T, length, Ura, SProp, ent}
+use Rattle.oa_cells.proofs.Steps.{never, id⊢, Lft, Share, ftrue, flft, froom, Incl-trans, Fn, named, w64, ty_array, ty_unit, inst_fn, Val}
+use Rattle.oa_cells.proofs.Steps.{vptr, vint, vunit, has_ty, WT, Memory, align, capped, capped_fits, Routine, Env, Calls, Loops, WpFn}
+use Rattle.oa_cells.proofs.Steps.{Tables, Logic, Fun, fact, ◌⊑◌, tables, tables_of, WpFn-mono, FmC, fm_of, Item, ⋆, at_ret, ‵, raw, ◌⊛◌}
+use Rattle.oa_cells.proofs.Steps.{given, later, await, learn, ◌$◌, ◌∵◌, !, qed, by, move, keep, use1, split, join, group, rewrite, fsplit}
+use Rattle.oa_cells.proofs.Steps.{fsplit3, fjoin, feq_i, feq_l, flt_l, suffices, done, whole, sub, stop, fld, unit_lit, of_opd, bin}
+use Rattle.oa_cells.proofs.Steps.{and_then, no_more, first, blocks, exec, returns, enter, size_word, align_word, alloc_all, pass_all}
+use Rattle.oa_cells.proofs.Steps.{free_all, look_at, get, get_in, sets, lands_last, is, env, yes, no, RattleType, owns, hidden_shr, Ptr}
+use Rattle.oa_cells.proofs.Steps.{ptr_val, in_a_block, Bor, ShrRef, RefOf, usize, plain, nothing, calls_at_last, Clauses, Ended, closing}
+use Rattle.oa_cells.proofs.Steps.{on_entry, Meets, triple_of, Triple, entered, needs, Stays, stay_dropped, walk_of, ends_at, Goes-dropped}
+use Rattle.oa_cells.proofs.Steps.{walk_Meets, El, R, elτ, uncapped, block_ty, block_size, block_align, Al, second, Goes-blank, token}
+use Rattle.oa_cells.proofs.Steps.{gives_key, Gives, at_gives, Gives-goes, Gives-Gives, as_raw, word, word-Good, after}
 use Rattle.core.proofs.slots.Leases.{P, args as pair}
 use Rattle.oa_cells.specs.Ownership.{places_owned, freeing}
 use Rattle.oa_cells.proofs.Rows.{Pl, St, size, mark, mark_had, start_had, row_to_room}
@@ -29,7 +40,8 @@ module _ (E : El) (Z : Al) where
   abbrev Asks : Z.row.Denot → (St E).Denot → ℕ → (Pl E).Denot → Fr.Denot → Type 0
   Asks a start len p right = (p.at ≡ start.ptr) × (length p.slots ≡ len) × (right.at ≡ start.ptr) × (right.len ≡ len) × (right.alloc ≡ a)
 
-module _ (E : El) (Z : Al) {M : Type 1} {𝓤 : Ura M} (𝓛 : Logic 𝓤) (at_mem : Memory → SProp 𝓤) (run : Routine → Fun 𝓤) (C : Calls 𝓤 𝓛.H) (Λ : Loops 𝓤 𝓛.H) (fm : FmC 𝓤 𝓛.H 𝓛.laws C)
+module _ (E : El) (Z : Al) {M : Type 1} {𝓤 : Ura M} (𝓛 : Logic 𝓤) (at_mem : Memory → SProp 𝓤) (run : Routine → Fun 𝓤) (C : Calls 𝓤 𝓛.H)
+    (Λ : Loops 𝓤 𝓛.H) (fm : FmC 𝓤 𝓛.H 𝓛.laws C)
     (callee : Triple 𝓤 (C (gives_key Z)) (Gives Z 𝓛 at_mem run)) (κ κ₁ κ₂ : Lft) (q q₁ q₂ : Share) (short : κ ⊑ κ₂) (within : κ₂ ⊑ Z.row.lives) (rb ro : ℕ)
     (a : Z.row.Denot) (start : (St E).Denot) (len : ℕ) (p : (Pl E).Denot) (right : (Fr E Z).Denot) (vs0 vs1 vs2 vs3 vs4 : List Val) where
   open 𝓛 use {H, A}
@@ -56,7 +68,8 @@ module _ (E : El) (Z : Al) {M : Type 1} {𝓤 : Ura M} (𝓛 : Logic 𝓤) (at_m
   abbrev Given : List (Item 𝓤)
   Given = ‵ (places_owned (R E) p.at p.slots) ∷ ‵ (freeing (R E) (token Z right.alloc) right.at right.len) ∷ ‵ (hidden_shr (P E Z) κ a rb ro) ∷ ‵ (flft κ q) ∷ others ∷ []
 
-  walk : Asks E Z a start len p right → len < 2 ^ 64 → ent 𝓤 (⋆ 𝓛 Given) (WpFn 𝓤 H C Λ (function E Z) (vptr rb ro ∷ word start.ptr ∷ vint w64 len ∷ mark ∷ mark ∷ []) Post)
+  walk : Asks E Z a start len p right → len < 2 ^ 64
+      → ent 𝓤 (⋆ 𝓛 Given) (WpFn 𝓤 H C Λ (function E Z) (vptr rb ro ∷ word start.ptr ∷ vint w64 len ∷ mark ∷ mark ∷ []) Post)
   walk asked fits =
       let s = size E in let alignment : ℕ = capped (align (elτ E)) in let long = asked.1 in
       qed 𝓛 Given ∵ enter ! C Λ (function E Z) (vptr rb ro ∷ word start.ptr ∷ vint w64 len ∷ mark ∷ mark ∷ []) _ $
@@ -78,7 +91,8 @@ module _ (E : El) (Z : Al) {M : Type 1} {𝓤 : Ura M} (𝓛 : Logic 𝓤) (at_m
       lands_last ! refl (subst (λ (z : Val). T (has_ty ty_unit z) × WT z) (sym is_unit) (tt, tt)) $ exec ! C Λ En (after 1 (function E Z).body) (at_ret En Post) $
       sets ! (of_opd ! (unit_lit !)) refl (tt, tt) $ returns ! (look_at ! 0 refl) $ free_all ! refl $ keep ! (0 ∷ 1 ∷ []) $ by ! at_end)))))
 
-  entry : Asks E Z a start len p right → ent 𝓤 (on_entry 𝓛 (ended E Z).signature (κ, (κ₁, (κ₂, tt))) (q, (q₁, (q₂, tt))) (handle, (start, (len, (p, (right, tt))))) (vs0, (vs1, (vs2, (vs3, (vs4, tt))))))
+  entry : Asks E Z a start len p right → ent 𝓤 (on_entry 𝓛 (ended E Z).signature (κ, (κ₁, (κ₂, tt))) (q, (q₁, (q₂, tt)))
+      (handle, (start, (len, (p, (right, tt))))) (vs0, (vs1, (vs2, (vs3, (vs4, tt))))))
       (WpFn 𝓤 H C Λ (function E Z) (vs0 ++ (vs1 ++ (vs2 ++ (vs3 ++ (vs4 ++ []))))) Post)
   entry asked =
       qed 𝓛 ((‵ (flft κ q) ⊛ others) ∷ ‵ (owns (ShrRef (named 0) κ (P E Z) ∷ St E ∷ usize ∷ Pl E ∷ Fr E Z ∷ []) (handle, (start, (len, (p, (right, tt))))) (vs0, (vs1, (vs2, (vs3, (vs4, tt)))))) ∷ []) ∵
@@ -87,7 +101,8 @@ module _ (E : El) (Z : Al) {M : Type 1} {𝓤 : Ura M} (𝓛 : Logic 𝓤) (at_m
       by ! (subst (λ (vss : List Val × List Val × List Val × List Val × List Val). ent 𝓤 (⋆ 𝓛 Given) (WpFn 𝓤 H C Λ (function E Z) (vss.0 ++ (vss.1 ++ (vss.2 ++ (vss.3 ++ (vss.4 ++ []))))) Post))
       (λ i. (sym e0 i, sym e1 i, sym e2 i, sym e3 i, sym e4 i)) (walk asked fits))))))))
 
-meets : (E : El) (Z : Al) {M : Type 1} {𝓤 : Ura M} (𝓛 : Logic 𝓤) (at_mem : Memory → SProp 𝓤) (run : Routine → Fun 𝓤) (𝓣 : Tables 𝓤 𝓛.H) → Triple 𝓤 (𝓣.C (gives_key Z)) (Gives Z 𝓛 at_mem run)
+meets : (E : El) (Z : Al) {M : Type 1} {𝓤 : Ura M} (𝓛 : Logic 𝓤) (at_mem : Memory → SProp 𝓤) (run : Routine → Fun 𝓤) (𝓣 : Tables 𝓤 𝓛.H)
+    → Triple 𝓤 (𝓣.C (gives_key Z)) (Gives Z 𝓛 at_mem run)
     → Meets 𝓛 (ended E Z).signature (WpFn 𝓤 𝓛.H 𝓣.C 𝓣.Λ (function E Z)) (closing 𝓛 (ended E Z) (clauses E Z 𝓛 at_mem run))
 meets E Z {𝓤 = 𝓤} 𝓛 at_mem run 𝓣 callee =
     let Run = WpFn 𝓤 𝓛.H 𝓣.C 𝓣.Λ (function E Z) in

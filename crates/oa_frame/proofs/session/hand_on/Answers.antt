@@ -1,5 +1,5 @@
 use Rattle.std.proofs.Common.{inl, inr, refl}
-use Rattle.oa_frame.proofs.Goes.{writes_late, breaks_late}
+use Rattle.oa_frame.proofs.Sessions.{writes_late, breaks_late}
 use Rattle.oa_frame.proofs.session.hand_on.Goals as goal
 
 pub returns-in-Err-deliver : goal.returns-in-Err-deliver

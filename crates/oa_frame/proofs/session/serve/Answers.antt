@@ -1,6 +1,8 @@
 use Rattle.std.proofs.Common.{rules, refl, inl, inr, ◌≡◌, arith}
+use Rattle.oa_model.specs.Limits.{max_records}
 use Rattle.oa_frame.specs.Framings.{frames}
-use Rattle.oa_frame.proofs.Goes.{going_start, going_on, going_fails, going_waits, going_closes, known_over, sound_end, can_over, writes_none, no_call}
+use Rattle.oa_frame.proofs.Sessions.{going_start, going_on, going_fails, going_waits, going_closes, known_over, sound_end, can_over}
+use Rattle.oa_frame.proofs.Sessions.{writes_none, no_call}
 use Rattle.oa_frame.proofs.session.serve.Goals as goal
 
 pub turns-init : goal.turns-init
@@ -49,6 +51,6 @@ turns-preserved g c =
 
 pub returns : goal.returns
 returns g c =
-    let used_up : c.turns.requests ≡ 18446744073709551615 = search rules in
+    let used_up : c.turns.requests ≡ max_records = search rules in
     going_closes (frames c.args.framing) _ _ c.args.last.now _ _ _ _ _ _ _ c.turns.requests c.turns.invariant.going _ _ _ c.close-why-2.result _ 0 (can_over c.args.framing c.turns.requests) (known_over c.args.framing _) (omega arith) (no_call _) (inr used_up) (λ _ _. used_up)
     (writes_none _ c.turns.invariant.unbroken_writer) (g.met.W.Sink.keeps _) c.close-why-2.ensures

@@ -1,5 +1,6 @@
-use Rattle.std.proofs.Common.{◌≡◌, ◌≤◌, true, false, length}
+use Rattle.std.proofs.Common.{◌≡◌, ◌+◌, ◌≤◌, true, false, length}
 use Rattle.std.specs.Prelude.{vec_capacity}
+use Rattle.oa_model.specs.Limits.{max_request_bytes, max_line_characters}
 use Rattle.oa_stream.specs.Ahead.{ahead}
 use Rattle.oa_frame.specs.Framings.{frames}
 use Rattle.oa_frame.specs.Sessions.{Going}
@@ -7,8 +8,8 @@ use Rattle.oa_frame.proofs.session.serve.Given as goal
 
 abbrev pub invariant-turns : goal.invariant-turns
 invariant-turns g l = record {
-  room : 2097153 ≤ vec_capacity l.line;
-  buffer : length l.body ≡ 1048576;
+  room : max_line_characters + 1 ≤ vec_capacity l.line;
+  buffer : length l.body ≡ max_request_bytes;
   count : l.requests ≡ l.counter;
   ready : g.S.Responder.ready l.server;
   unbroken : (ahead g.R.Source.input l.reader).faulted ≡ false;

@@ -1,4 +1,4 @@
-use Rattle.std.proofs.Common.{◌≡◌, false, leb, length-set, length, sym, ◌*◌, ◌∙◌, rules}
+use Rattle.std.proofs.Common.{◌≡◌, false, leb, length-set, length, ◌*◌, ◌∙◌, rules}
 use Rattle.oa_variant.specs.declared.scalar.Scalar.{Scalar}
 use Rattle.oa_wire_array.specs.Reading.{arm_at}
 use Rattle.oa_wire_array.specs.ArrayCanon.{plain_width}

@@ -1,4 +1,4 @@
-use Rattle.std.proofs.Common.{◌≤◌, inl, inr, sym, subst, ◌∙◌, ℕ, arith}
+use Rattle.std.proofs.Common.{inl, inr, sym, subst, ◌∙◌, arith}
 use Rattle.oa_wire_variant.specs.Variants.{IsArrayType}
 use Rattle.oa_wire_array.proofs.Heads.{on_memory, head_lies}
 use Rattle.oa_wire_variant.proofs.variant.variant.Goals as goal

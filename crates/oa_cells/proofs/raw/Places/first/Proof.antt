@@ -1,5 +1,15 @@
 -- `first` shows the values at the begin of the block as a slice. Assumes `Logic`.
-use Rattle.oa_cells.proofs.Steps.{◌≡◌, refl, sym, ap, subst, ◌∙◌, ℕ, ◌*◌, ◌<◌, ◌^◌, arith, List, [], ◌∷◌, ◌++◌, map, length, take, length-take, Ura, full_share, SProp, ent, never, id⊢, Lft, Share, ftrue, fat, flft, Fn, named, w64, inst_fn, Val, vptr, vint, Env, Calls, Loops, WpFn, Tables, Logic, fact, tables, tables_of, WpFn-mono, Item, ⋆, at_ret, ‵, ◌⊛◌, ◌$◌, ◌∵◌, !, qed, by, move, keep, drop, use1, split, join, rewrite, frame, fsplit, fjoin, feq_i, feq_l, flt_i, flt_l, suffices, done, whole, sub, agg, stop, fld, of_opd, and_then, no_more, first, blocks, exec, returns, enter, alloc_all, pass_all, free_all, look_at, take_at, give_at, get, get_in, sets, sets_last, env, yes, no, RattleType, owns, hidden_shr, layout, Ptr, in_a_block, Bor, ShrRef, RefOf, SliceRefOf, usize, plain, ShrSlice, slice_val, elements_shared, hide, unhide, nothing, spared, Clauses, Ended, closing, on_entry, Meets, triple_of, entered, run_framed, says, needs, Stays, stay_dropped, walk_of, ends_at, Goes-dropped, walk_Meets, Some, length-map, El, R, args, el_x, times_below, word, word-Good, after}
+use Rattle.oa_cells.proofs.Steps.{◌≡◌, refl, sym, ap, subst, ◌∙◌, ℕ, ◌*◌, ◌<◌, ◌^◌, arith, List, [], ◌∷◌, ◌++◌, map, length, take}
+use Rattle.oa_cells.proofs.Steps.{length-take, Ura, full_share, SProp, ent, never, id⊢, Lft, Share, ftrue, fat, flft, Fn, named, w64}
+use Rattle.oa_cells.proofs.Steps.{inst_fn, Val, vptr, vint, Env, Calls, Loops, WpFn, Tables, Logic, fact, tables, tables_of, WpFn-mono}
+use Rattle.oa_cells.proofs.Steps.{Item, ⋆, at_ret, ‵, ◌⊛◌, ◌$◌, ◌∵◌, !, qed, by, move, keep, drop, use1, split, join, rewrite, frame}
+use Rattle.oa_cells.proofs.Steps.{fsplit, fjoin, feq_i, feq_l, flt_i, flt_l, suffices, done, whole, sub, agg, stop, fld, of_opd, and_then}
+use Rattle.oa_cells.proofs.Steps.{no_more, first, blocks, exec, returns, enter, alloc_all, pass_all, free_all, look_at, take_at, give_at}
+use Rattle.oa_cells.proofs.Steps.{get, get_in, sets, sets_last, env, yes, no, RattleType, owns, hidden_shr, layout, Ptr, in_a_block, Bor}
+use Rattle.oa_cells.proofs.Steps.{ShrRef, RefOf, SliceRefOf, usize, plain, ShrSlice, slice_val, elements_shared, hide, unhide, nothing}
+use Rattle.oa_cells.proofs.Steps.{spared, Clauses, Ended, closing, on_entry, Meets, triple_of, entered, run_framed, says, needs, Stays}
+use Rattle.oa_cells.proofs.Steps.{stay_dropped, walk_of, ends_at, Goes-dropped, walk_Meets, Some, length-map, El, R, args, el_x}
+use Rattle.oa_cells.proofs.Steps.{times_below, word, word-Good, after}
 use Rattle.oa_cells.specs.Places.{BeginsFilled}
 use Rattle.oa_cells.specs.Ownership.{places_lent}
 use Rattle.oa_cells.proofs.Rows.{Pl, St, size, start_had, first_lent}
@@ -26,7 +36,8 @@ module _ (E : El) where
   abbrev spec : {M : Type 1} {𝓤 : Ura M} (𝓛 : Logic 𝓤) → Clauses 𝓤 ended
   spec {𝓤 = 𝓤} 𝓛 κs a = record { ghost = Unit {0}; requires = λ _. fact 𝓤 (Asks a.0.now a.1.0 a.1.1.0); ensures = λ _ r w. fact 𝓤 (Tells a.0.now a.1.1.0 r.now) }
 
-module _ (E : El) {M : Type 1} {𝓤 : Ura M} (𝓛 : Logic 𝓤) (C : Calls 𝓤 𝓛.H) (Λ : Loops 𝓤 𝓛.H) (κ : Lft) (q : Share) (rb ro : ℕ) (p : (Pl E).Denot) (start : (St E).Denot) (len : ℕ) (vs0 vs1 vs2 : List Val) where
+module _ (E : El) {M : Type 1} {𝓤 : Ura M} (𝓛 : Logic 𝓤) (C : Calls 𝓤 𝓛.H) (Λ : Loops 𝓤 𝓛.H) (κ : Lft) (q : Share) (rb ro : ℕ)
+    (p : (Pl E).Denot) (start : (St E).Denot) (len : ℕ) (vs0 vs1 vs2 : List Val) where
   open 𝓛 use {H, A}
 
   abbrev self : Bor (Pl E).Denot
@@ -50,7 +61,8 @@ module _ (E : El) {M : Type 1} {𝓤 : Ura M} (𝓛 : Logic 𝓤) (C : Calls �
   abbrev Given : List (Item 𝓤)
   Given = ‵ (hidden_shr (Pl E) κ p rb ro) ∷ ‵ (flft κ q) ∷ []
 
-  walk : Asks E p start len → len < 2 ^ 64 → ent 𝓤 (⋆ 𝓛 Given) (WpFn 𝓤 H C Λ (function E) (vptr rb ro ∷ word start.ptr ∷ vint w64 len ∷ []) Post)
+  walk : Asks E p start len → len < 2 ^ 64 → ent 𝓤 (⋆ 𝓛 Given)
+      (WpFn 𝓤 H C Λ (function E) (vptr rb ro ∷ word start.ptr ∷ vint w64 len ∷ []) Post)
   walk asked fits =
       let n = length p.slots in let xs = asked.1.1.0 in let filled = asked.1.1.1 in
       let long : length xs ≡ len = omega (arith, asked.1.0, ap length filled, length-map xs Some, length-take len p.slots) in
@@ -67,7 +79,8 @@ module _ (E : El) {M : Type 1} {𝓤 : Ura M} (𝓛 : Logic 𝓤) (C : Calls �
       feq_i ! (List Val) (slice_val at len ∷ []) (slice_val at (length xs) ∷ []) (ap (λ k. slice_val at k ∷ []) (sym long)) $ fjoin ! $ fjoin ! $
       returns ! (look_at ! 0 refl) $ free_all ! refl $ keep ! (1 ∷ 0 ∷ []) $ by ! (at_end (record { ref_ptr = at; now = xs }) (slice_val at len) filled))))
 
-  entry : Asks E p start len → ent 𝓤 (on_entry 𝓛 (ended E).signature (κ, tt) (q, tt) (self, (start, (len, tt))) (vs0, (vs1, (vs2, tt)))) (WpFn 𝓤 H C Λ (function E) (vs0 ++ (vs1 ++ (vs2 ++ []))) Post)
+  entry : Asks E p start len → ent 𝓤 (on_entry 𝓛 (ended E).signature (κ, tt) (q, tt) (self, (start, (len, tt))) (vs0, (vs1, (vs2, tt))))
+      (WpFn 𝓤 H C Λ (function E) (vs0 ++ (vs1 ++ (vs2 ++ []))) Post)
   entry asked =
       qed 𝓛 ((‵ (flft κ q) ⊛ ‵ ftrue) ∷ ‵ (owns (ShrRef (named 0) κ (Pl E) ∷ St E ∷ usize ∷ []) (self, (start, (len, tt))) (vs0, (vs1, (vs2, tt)))) ∷ []) ∵
       split ! $ move ! (2 ∷ []) $ fsplit ! $ fsplit ! $ feq_l ! (λ e0. move ! (1 ∷ []) $ fsplit ! $ start_had ! start.ptr vs1 (λ e1. fsplit ! $ fsplit ! $ feq_l ! (λ e2. flt_l ! (λ fits.
@@ -75,7 +88,8 @@ module _ (E : El) {M : Type 1} {𝓤 : Ura M} (𝓛 : Logic 𝓤) (C : Calls �
       by ! (subst (λ (vss : List Val × List Val × List Val). ent 𝓤 (⋆ 𝓛 Given) (WpFn 𝓤 H C Λ (function E) (vss.0 ++ (vss.1 ++ (vss.2 ++ []))) Post))
       (λ i. (sym e0 i, sym e1 i, sym e2 i)) (walk asked fits))))))
 
-meets : (E : El) {M : Type 1} {𝓤 : Ura M} (𝓛 : Logic 𝓤) (𝓣 : Tables 𝓤 𝓛.H) → Meets 𝓛 (ended E).signature (WpFn 𝓤 𝓛.H 𝓣.C 𝓣.Λ (function E)) (closing 𝓛 (ended E) (spec E 𝓛))
+meets : (E : El) {M : Type 1} {𝓤 : Ura M} (𝓛 : Logic 𝓤) (𝓣 : Tables 𝓤 𝓛.H)
+    → Meets 𝓛 (ended E).signature (WpFn 𝓤 𝓛.H 𝓣.C 𝓣.Λ (function E)) (closing 𝓛 (ended E) (spec E 𝓛))
 meets E {𝓤 = 𝓤} 𝓛 𝓣 =
     let Run = WpFn 𝓤 𝓛.H 𝓣.C 𝓣.Λ (function E) in
     walk_Meets 𝓛 (ended E) (stayed E) (Goes-dropped 𝓛 1 (RefOf (0 ∷ []) tt (plain (λ _. Pl E)) (λ _. tt)) yes (λ κs x f. refl), (Goes-dropped 𝓛 1 (plain (λ _. St E)) no (λ κs x f. refl), (Goes-dropped 𝓛 1 (plain (λ _. usize)) no (λ κs x f. refl), tt))) (spec E 𝓛) Run (WpFn-mono 𝓤 𝓛.H 𝓛.laws 𝓣 (function E)) (λ z.

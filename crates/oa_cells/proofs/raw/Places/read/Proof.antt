@@ -1,5 +1,15 @@
 -- `read` moves a value out, and leaves its place empty. Assumes `Logic`.
-use Rattle.oa_cells.proofs.Steps.{◌≡◌, refl, sym, subst, ◌∙◌, ℕ, ◌+◌, ◌*◌, ◌<◌, ◌^◌, arith, List, [], ◌∷◌, ◌++◌, length, set, get_or, length-set, Ura, full_share, SProp, ent, never, id⊢, Lft, GName, Share, ftrue, fat, flft, fobs, fbor, froom, Fn, named, w64, inst_fn, Val, vptr, vint, Env, Calls, Loops, WpFn, Tables, Logic, Lent_body, fact, tables, tables_of, WpFn-mono, Item, ⋆, at_ret, ‵, ◌⊛◌, some, given, learn, pick, ◌$◌, ◌∵◌, !, qed, by, move, keep, use1, use2, split, join, rewrite, frame, fsplit, fsplit3, fjoin, fjoin3, feq_i, feq_l, flt_i, flt_l, suffices, done, whole, sub, look, load, stop, fld, of_opd, bin, first, blocks, exec, returns, enter, size_lit, alloc_all, pass_all, free_all, look_at, take_at, give_at, get, get_in, through, sets, sets_last, env, yes, no, owns, mem, layout, Ptr, in_a_block, MutBor, MutRef, RefMutOf, usize, plain, nothing, opens, closes, spared, Clauses, Ended, closing, on_entry, Meets, triple_of, entered, run_framed, says, needs, Stays, stay_dropped, stay_ref, walk_of, ends_at, Goes-dropped, Goes-ref, walk_Meets, Some, None, El, R, args, el_x, elτ, times_below, one_below, as_raw, Good, word, word-Good, after}
+use Rattle.oa_cells.proofs.Steps.{◌≡◌, refl, sym, subst, ◌∙◌, ℕ, ◌+◌, ◌*◌, ◌<◌, ◌^◌, arith, List, [], ◌∷◌, ◌++◌, length, set, get_or}
+use Rattle.oa_cells.proofs.Steps.{length-set, Ura, full_share, SProp, ent, never, id⊢, Lft, GName, Share, ftrue, fat, flft, fobs, fbor}
+use Rattle.oa_cells.proofs.Steps.{froom, Fn, named, w64, inst_fn, Val, vptr, vint, Env, Calls, Loops, WpFn, Tables, Logic, Lent_body, fact}
+use Rattle.oa_cells.proofs.Steps.{tables, tables_of, WpFn-mono, Item, ⋆, at_ret, ‵, ◌⊛◌, some, given, learn, pick, ◌$◌, ◌∵◌, !, qed, by}
+use Rattle.oa_cells.proofs.Steps.{move, keep, use1, use2, split, join, rewrite, frame, fsplit, fsplit3, fjoin, fjoin3, feq_i, feq_l, flt_i}
+use Rattle.oa_cells.proofs.Steps.{flt_l, suffices, done, whole, sub, look, load, stop, fld, of_opd, bin, first, blocks, exec, returns}
+use Rattle.oa_cells.proofs.Steps.{enter, size_lit, alloc_all, pass_all, free_all, look_at, take_at, give_at, get, get_in, through, sets}
+use Rattle.oa_cells.proofs.Steps.{sets_last, env, yes, no, owns, mem, layout, Ptr, in_a_block, MutBor, MutRef, RefMutOf, usize, plain}
+use Rattle.oa_cells.proofs.Steps.{nothing, opens, closes, spared, Clauses, Ended, closing, on_entry, Meets, triple_of, entered, run_framed}
+use Rattle.oa_cells.proofs.Steps.{says, needs, Stays, stay_dropped, stay_ref, walk_of, ends_at, Goes-dropped, Goes-ref, walk_Meets, Some}
+use Rattle.oa_cells.proofs.Steps.{None, El, R, args, el_x, elτ, times_below, one_below, as_raw, Good, word, word-Good, after}
 use Rattle.oa_cells.specs.Places.{HasValue}
 use Rattle.oa_cells.specs.Ownership.{place_owned, row_owned, places_owned}
 use Rattle.oa_cells.proofs.Rows.{Pl, St, size, Slot, start_had, value_out, value_within, Without, take_place, put_place}
@@ -26,7 +36,8 @@ module _ (E : El) where
   abbrev spec : {M : Type 1} {𝓤 : Ura M} (𝓛 : Logic 𝓤) → Clauses 𝓤 ended
   spec {𝓤 = 𝓤} 𝓛 κs a = record { ghost = Unit {0}; requires = λ _. fact 𝓤 (Asks a.0.now a.1.0 a.1.1.0); ensures = λ _ r w. fact 𝓤 (Tells a.0.now a.1.1.0 r w.0.now) }
 
-module _ (E : El) {M : Type 1} {𝓤 : Ura M} (𝓛 : Logic 𝓤) (C : Calls 𝓤 𝓛.H) (Λ : Loops 𝓤 𝓛.H) (κ : Lft) (q : Share) (rb ro : ℕ) (γ : GName) (p : (Pl E).Denot) (start : (St E).Denot) (index : ℕ) (vs0 vs1 vs2 : List Val) where
+module _ (E : El) {M : Type 1} {𝓤 : Ura M} (𝓛 : Logic 𝓤) (C : Calls 𝓤 𝓛.H) (Λ : Loops 𝓤 𝓛.H) (κ : Lft) (q : Share) (rb ro : ℕ) (γ : GName)
+    (p : (Pl E).Denot) (start : (St E).Denot) (index : ℕ) (vs0 vs1 vs2 : List Val) where
   open 𝓛 use {H, A}
 
   abbrev self : MutBor (Pl E).Denot
@@ -42,14 +53,16 @@ module _ (E : El) {M : Type 1} {𝓤 : Ura M} (𝓛 : Logic 𝓤) (C : Calls �
   abbrev Borrow : (Pl E).Denot → List (Item 𝓤) → List (Item 𝓤)
   Borrow now rest = ‵ (fobs γ ((Pl E).coded.code now)) ∷ ‵ (fbor κ (Lent_body (mem (Pl E)) rb ro γ)) ∷ ‵ (flft κ q) ∷ rest
 
-  at_end : vs0 ≡ vptr rb ro ∷ [] → (x : el_x E) (v : Val) (new : (Pl E).Denot) → Tells E p index x new → ent 𝓤 (⋆ 𝓛 (Borrow new (‵ ((R E).own_val x (v ∷ [])) ∷ []))) (Post v)
+  at_end : vs0 ≡ vptr rb ro ∷ [] → (x : el_x E) (v : Val) (new : (Pl E).Denot) → Tells E p index x new
+      → ent 𝓤 (⋆ 𝓛 (Borrow new (‵ ((R E).own_val x (v ∷ [])) ∷ []))) (Post v)
   at_end passed x v new gives =
       qed 𝓛 (Borrow new (‵ ((R E).own_val x (v ∷ [])) ∷ [])) ∵
       suffices ! _ (ends_at 𝓛 (ended E) (stayed E) (spec E 𝓛) bound v x (new, (tt, (tt, tt))) (tt, (tt, (tt, tt)))) $ says ! gives $
       nothing ! $ move ! (3 ∷ 0 ∷ []) $ join ! $ frame ! $ feq_i ! (List Val) vs0 (vptr rb ro ∷ []) passed $ fjoin3 ! $
       nothing ! $ nothing ! $ fjoin ! $ nothing ! $ fjoin ! $ move ! (1 ∷ 0 ∷ []) $ fjoin ! $ done !
 
-  walk : vs0 ≡ vptr rb ro ∷ [] → Asks E p start index → index < 2 ^ 64 → ent 𝓤 (⋆ 𝓛 (Borrow p [])) (WpFn 𝓤 H C Λ (function E) (vptr rb ro ∷ word start.ptr ∷ vint w64 index ∷ []) Post)
+  walk : vs0 ≡ vptr rb ro ∷ [] → Asks E p start index → index < 2 ^ 64
+      → ent 𝓤 (⋆ 𝓛 (Borrow p [])) (WpFn 𝓤 H C Λ (function E) (vptr rb ro ∷ word start.ptr ∷ vint w64 index ∷ []) Post)
   walk passed asked fits =
       let s = size E in let n = length p.slots in let x = asked.1.0 in let within = value_within p.slots index x asked.1.1 in
       let new : (Pl E).Denot = record { mark = p.mark; at = p.at; slots = set p.slots index None } in
@@ -76,7 +89,8 @@ module _ (E : El) {M : Type 1} {𝓤 : Ura M} (𝓛 : Logic 𝓤) (C : Calls �
       rewrite ! 0 (λ (at : Ptr). ‵ (places_owned (R E) at new.slots)) (sym e) refl $ move ! (1 ∷ 0 ∷ []) $ fjoin ! $ move ! (1 ∷ 0 ∷ []) $ closes ! tt (Pl E) new us rb ro $
       returns ! (look_at ! 0 refl) $ free_all ! refl $ keep ! (0 ∷ 1 ∷ 2 ∷ 3 ∷ []) $ by ! (at_end passed x v new (asked.1.1, refl, refl))))))))
 
-  entry : Asks E p start index → ent 𝓤 (on_entry 𝓛 (ended E).signature (κ, tt) (q, tt) (self, (start, (index, tt))) (vs0, (vs1, (vs2, tt)))) (WpFn 𝓤 H C Λ (function E) (vs0 ++ (vs1 ++ (vs2 ++ []))) Post)
+  entry : Asks E p start index → ent 𝓤 (on_entry 𝓛 (ended E).signature (κ, tt) (q, tt) (self, (start, (index, tt)))
+      (vs0, (vs1, (vs2, tt)))) (WpFn 𝓤 H C Λ (function E) (vs0 ++ (vs1 ++ (vs2 ++ []))) Post)
   entry asked =
       qed 𝓛 ((‵ (flft κ q) ⊛ ‵ ftrue) ∷ ‵ (owns (MutRef (named 0) κ (Pl E) ∷ St E ∷ usize ∷ []) (self, (start, (index, tt))) (vs0, (vs1, (vs2, tt)))) ∷ []) ∵
       split ! $ move ! (2 ∷ []) $ fsplit ! $ fsplit3 ! $ feq_l ! (λ e0. move ! (2 ∷ []) $ fsplit ! $ start_had ! start.ptr vs1 (λ e1. fsplit ! $ fsplit ! $ feq_l ! (λ e2. flt_l ! (λ fits.
@@ -84,7 +98,8 @@ module _ (E : El) {M : Type 1} {𝓤 : Ura M} (𝓛 : Logic 𝓤) (C : Calls �
       by ! (subst (λ (vss : List Val × List Val × List Val). ent 𝓤 (⋆ 𝓛 (Borrow p [])) (WpFn 𝓤 H C Λ (function E) (vss.0 ++ (vss.1 ++ (vss.2 ++ []))) Post))
       (λ i. (sym e0 i, sym e1 i, sym e2 i)) (walk e0 asked fits))))))
 
-meets : (E : El) {M : Type 1} {𝓤 : Ura M} (𝓛 : Logic 𝓤) (𝓣 : Tables 𝓤 𝓛.H) → Meets 𝓛 (ended E).signature (WpFn 𝓤 𝓛.H 𝓣.C 𝓣.Λ (function E)) (closing 𝓛 (ended E) (spec E 𝓛))
+meets : (E : El) {M : Type 1} {𝓤 : Ura M} (𝓛 : Logic 𝓤) (𝓣 : Tables 𝓤 𝓛.H)
+    → Meets 𝓛 (ended E).signature (WpFn 𝓤 𝓛.H 𝓣.C 𝓣.Λ (function E)) (closing 𝓛 (ended E) (spec E 𝓛))
 meets E {𝓤 = 𝓤} 𝓛 𝓣 =
     let Run = WpFn 𝓤 𝓛.H 𝓣.C 𝓣.Λ (function E) in
     walk_Meets 𝓛 (ended E) (stayed E) (Goes-ref 𝓛 1 0 tt (plain (λ _. Pl E)), (Goes-dropped 𝓛 1 (plain (λ _. St E)) no (λ κs x f. refl), (Goes-dropped 𝓛 1 (plain (λ _. usize)) no (λ κs x f. refl), tt))) (spec E 𝓛) Run (WpFn-mono 𝓤 𝓛.H 𝓛.laws 𝓣 (function E)) (λ z.

@@ -1,5 +1,15 @@
 -- `write` fills an empty place. Assumes `Logic`.
-use Rattle.oa_cells.proofs.Steps.{◌≡◌, refl, sym, subst, ◌∙◌, ℕ, ◌+◌, ◌*◌, ◌<◌, ◌^◌, arith, List, [], ◌∷◌, ◌++◌, length, set, get_or, length-set, Ura, full_share, SProp, ent, never, id⊢, Lft, GName, Share, ftrue, fat, flft, fobs, fbor, Fn, named, w64, inst_fn, Val, vptr, vint, vunit, Env, Calls, Loops, WpFn, Tables, Logic, Lent_body, fact, tables, tables_of, WpFn-mono, Item, ⋆, at_ret, ‵, ◌⊛◌, ◌$◌, ◌∵◌, !, qed, by, move, keep, use1, use2, split, join, rewrite, frame, fsplit, fsplit3, fjoin, fjoin3, feq_i, feq_l, flt_i, flt_l, suffices, done, whole, sub, init, stop, fld, unit_lit, of_opd, bin, first, blocks, exec, assigns_last, returns, enter, size_lit, alloc_all, pass_all, free_all, look_at, take_at, give_at, get, get_in, through, sets, env, yes, no, owns, mem, layout, Ptr, in_a_block, MutBor, MutRef, RefMutOf, usize, unit, plain, nothing, opens, closes, spared, Clauses, Ended, closing, on_entry, Meets, triple_of, entered, run_framed, says, needs, Stays, stay_dropped, stay_ref, walk_of, ends_at, Goes-dropped, Goes-ref, walk_Meets, Some, None, El, R, args, el_x, elτ, times_below, one_below, as_written, Good, word, word-Good, after}
+use Rattle.oa_cells.proofs.Steps.{◌≡◌, refl, sym, subst, ◌∙◌, ℕ, ◌+◌, ◌*◌, ◌<◌, ◌^◌, arith, List, [], ◌∷◌, ◌++◌, length, set, get_or}
+use Rattle.oa_cells.proofs.Steps.{length-set, Ura, full_share, SProp, ent, never, id⊢, Lft, GName, Share, ftrue, fat, flft, fobs, fbor, Fn}
+use Rattle.oa_cells.proofs.Steps.{named, w64, inst_fn, Val, vptr, vint, vunit, Env, Calls, Loops, WpFn, Tables, Logic, Lent_body, fact}
+use Rattle.oa_cells.proofs.Steps.{tables, tables_of, WpFn-mono, Item, ⋆, at_ret, ‵, ◌⊛◌, ◌$◌, ◌∵◌, !, qed, by, move, keep, use1, use2}
+use Rattle.oa_cells.proofs.Steps.{split, join, rewrite, frame, fsplit, fsplit3, fjoin, fjoin3, feq_i, feq_l, flt_i, flt_l, suffices, done}
+use Rattle.oa_cells.proofs.Steps.{whole, sub, init, stop, fld, unit_lit, of_opd, bin, first, blocks, exec, assigns_last, returns, enter}
+use Rattle.oa_cells.proofs.Steps.{size_lit, alloc_all, pass_all, free_all, look_at, take_at, give_at, get, get_in, through, sets, env, yes}
+use Rattle.oa_cells.proofs.Steps.{no, owns, mem, layout, Ptr, in_a_block, MutBor, MutRef, RefMutOf, usize, unit, plain, nothing, opens}
+use Rattle.oa_cells.proofs.Steps.{closes, spared, Clauses, Ended, closing, on_entry, Meets, triple_of, entered, run_framed, says, needs}
+use Rattle.oa_cells.proofs.Steps.{Stays, stay_dropped, stay_ref, walk_of, ends_at, Goes-dropped, Goes-ref, walk_Meets, Some, None, El, R}
+use Rattle.oa_cells.proofs.Steps.{args, el_x, elτ, times_below, one_below, as_written, Good, word, word-Good, after}
 use Rattle.oa_cells.specs.Ownership.{place_owned, row_owned, places_owned}
 use Rattle.oa_cells.proofs.Rows.{Pl, St, size, Slot, start_had, value_in, value_seen, Without, take_place, put_place}
 use Rattle.oa_cells.specs.contracts.raw.Places.write.Key.{name as #self}
@@ -25,7 +35,8 @@ module _ (E : El) where
   abbrev spec : {M : Type 1} {𝓤 : Ura M} (𝓛 : Logic 𝓤) → Clauses 𝓤 ended
   spec {𝓤 = 𝓤} 𝓛 κs a = record { ghost = Unit {0}; requires = λ _. fact 𝓤 (Asks a.0.now a.1.0 a.1.1.0); ensures = λ _ r w. fact 𝓤 (Tells a.0.now a.1.1.0 a.1.1.1.0 w.0.now) }
 
-module _ (E : El) {M : Type 1} {𝓤 : Ura M} (𝓛 : Logic 𝓤) (C : Calls 𝓤 𝓛.H) (Λ : Loops 𝓤 𝓛.H) (κ : Lft) (q : Share) (rb ro : ℕ) (γ : GName) (p : (Pl E).Denot) (start : (St E).Denot) (index : ℕ) (item : el_x E) (vs0 vs1 vs2 vs3 : List Val) where
+module _ (E : El) {M : Type 1} {𝓤 : Ura M} (𝓛 : Logic 𝓤) (C : Calls 𝓤 𝓛.H) (Λ : Loops 𝓤 𝓛.H) (κ : Lft) (q : Share) (rb ro : ℕ) (γ : GName)
+    (p : (Pl E).Denot) (start : (St E).Denot) (index : ℕ) (item : el_x E) (vs0 vs1 vs2 vs3 : List Val) where
   open 𝓛 use {H, A}
 
   abbrev self : MutBor (Pl E).Denot
@@ -51,7 +62,8 @@ module _ (E : El) {M : Type 1} {𝓤 : Ura M} (𝓛 : Logic 𝓤) (C : Calls �
   abbrev Given : Val → List (Item 𝓤)
   Given v = ‵ (fobs γ ((Pl E).coded.code p)) ∷ ‵ (fbor κ (Lent_body (mem (Pl E)) rb ro γ)) ∷ ‵ (flft κ q) ∷ ‵ ((R E).own_val item (v ∷ [])) ∷ []
 
-  walk : vs0 ≡ vptr rb ro ∷ [] → Asks E p start index → index < 2 ^ 64 → (v : Val) → Good (layout (R E)) v → ent 𝓤 (⋆ 𝓛 (Given v)) (WpFn 𝓤 H C Λ (function E) (vptr rb ro ∷ word start.ptr ∷ vint w64 index ∷ v ∷ []) Post)
+  walk : vs0 ≡ vptr rb ro ∷ [] → Asks E p start index → index < 2 ^ 64 → (v : Val) → Good (layout (R E)) v
+      → ent 𝓤 (⋆ 𝓛 (Given v)) (WpFn 𝓤 H C Λ (function E) (vptr rb ro ∷ word start.ptr ∷ vint w64 index ∷ v ∷ []) Post)
   walk passed asked fits v good =
       let s = size E in let n = length p.slots in
       let new : (Pl E).Denot = record { mark = p.mark; at = p.at; slots = set p.slots index (Some item) } in
@@ -77,7 +89,8 @@ module _ (E : El) {M : Type 1} {𝓤 : Ura M} (𝓛 : Logic 𝓤) (C : Calls �
       rewrite ! 0 (λ (at : Ptr). ‵ (places_owned (R E) at new.slots)) (sym e) refl $ move ! (1 ∷ 0 ∷ []) $ fjoin ! $ move ! (1 ∷ 0 ∷ []) $ closes ! tt (Pl E) new us rb ro $
       returns ! (look_at ! 0 refl) $ free_all ! refl $ keep ! (0 ∷ 1 ∷ 2 ∷ []) $ by ! (at_end passed new (refl, refl))))))
 
-  entry : Asks E p start index → ent 𝓤 (on_entry 𝓛 (ended E).signature (κ, tt) (q, tt) (self, (start, (index, (item, tt)))) (vs0, (vs1, (vs2, (vs3, tt))))) (WpFn 𝓤 H C Λ (function E) (vs0 ++ (vs1 ++ (vs2 ++ (vs3 ++ [])))) Post)
+  entry : Asks E p start index → ent 𝓤 (on_entry 𝓛 (ended E).signature (κ, tt) (q, tt) (self, (start, (index, (item, tt))))
+      (vs0, (vs1, (vs2, (vs3, tt))))) (WpFn 𝓤 H C Λ (function E) (vs0 ++ (vs1 ++ (vs2 ++ (vs3 ++ [])))) Post)
   entry asked =
       qed 𝓛 ((‵ (flft κ q) ⊛ ‵ ftrue) ∷ ‵ (owns (MutRef (named 0) κ (Pl E) ∷ St E ∷ usize ∷ R E ∷ []) (self, (start, (index, (item, tt)))) (vs0, (vs1, (vs2, (vs3, tt))))) ∷ []) ∵
       split ! $ move ! (2 ∷ []) $ fsplit ! $ fsplit3 ! $ feq_l ! (λ e0. move ! (2 ∷ []) $ fsplit ! $ start_had ! start.ptr vs1 (λ e1. fsplit ! $ fsplit ! $ feq_l ! (λ e2. flt_l ! (λ fits.
@@ -85,7 +98,8 @@ module _ (E : El) {M : Type 1} {𝓤 : Ura M} (𝓛 : Logic 𝓤) (C : Calls �
       by ! (subst (λ (vss : List Val × List Val × List Val × List Val). ent 𝓤 (⋆ 𝓛 (Given v)) (WpFn 𝓤 H C Λ (function E) (vss.0 ++ (vss.1 ++ (vss.2 ++ (vss.3 ++ [])))) Post))
       (λ i. (sym e0 i, sym e1 i, sym e2 i, sym e3 i)) (walk e0 asked fits v good)))))))
 
-meets : (E : El) {M : Type 1} {𝓤 : Ura M} (𝓛 : Logic 𝓤) (𝓣 : Tables 𝓤 𝓛.H) → Meets 𝓛 (ended E).signature (WpFn 𝓤 𝓛.H 𝓣.C 𝓣.Λ (function E)) (closing 𝓛 (ended E) (spec E 𝓛))
+meets : (E : El) {M : Type 1} {𝓤 : Ura M} (𝓛 : Logic 𝓤) (𝓣 : Tables 𝓤 𝓛.H)
+    → Meets 𝓛 (ended E).signature (WpFn 𝓤 𝓛.H 𝓣.C 𝓣.Λ (function E)) (closing 𝓛 (ended E) (spec E 𝓛))
 meets E {𝓤 = 𝓤} 𝓛 𝓣 =
     let Run = WpFn 𝓤 𝓛.H 𝓣.C 𝓣.Λ (function E) in
     walk_Meets 𝓛 (ended E) (stayed E) (Goes-ref 𝓛 1 0 tt (plain (λ _. Pl E)), (Goes-dropped 𝓛 1 (plain (λ _. St E)) no (λ κs x f. refl), (Goes-dropped 𝓛 1 (plain (λ _. usize)) no (λ κs x f. refl), (Goes-dropped 𝓛 1 (plain (λ _. R E)) no (λ κs x f. refl), tt)))) (spec E 𝓛) Run (WpFn-mono 𝓤 𝓛.H 𝓛.laws 𝓣 (function E)) (λ z.

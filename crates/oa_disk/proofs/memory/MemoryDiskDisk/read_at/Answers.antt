@@ -14,7 +14,10 @@ invariant_of-self c =
     let h = history self.first self.ledger in
     let ok = recorded self.first Read [] faults.Read self.ledger c.enter.new.self c.enter.result c.enter.ensures in
     let err = refused self.first Read [] faults.Read self.ledger c.enter.new.self c.enter.result c.enter.ensures in
-    record { whole = either_of c.enter.result (λ is. whole_is self.first.size h self.whole Read [] refl _ is) (λ is. same_whole self.first.size h _ is self.whole) ok err }
+    record {
+      whole = either_of c.enter.result (λ is. whole_is self.first.size h self.whole Read [] refl _ is)
+          (λ is. same_whole self.first.size h _ is self.whole) ok err;
+    }
 
 pub returns-clause-read : goal.returns-clause-read
 returns-clause-read c =

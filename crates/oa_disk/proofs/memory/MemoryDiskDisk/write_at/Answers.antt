@@ -13,7 +13,14 @@ invariant_of-self c =
     let h = history self.first self.ledger in
     let ok = recorded self.first (Write c.args.at (length c.args.bytes.now)) c.args.bytes.now faults.Write self.ledger c.enter.new.self c.enter.result c.enter.ensures in
     let err = refused self.first (Write c.args.at (length c.args.bytes.now)) c.args.bytes.now faults.Write self.ledger c.enter.new.self c.enter.result c.enter.ensures in
-    record { whole = either_of c.enter.result (λ is. whole_is self.first.size h self.whole (Write c.args.at (length c.args.bytes.now)) c.args.bytes.now (refl, c.requires, (λ i. (c.type_inv.bytes i).fits)) _ is) (λ is. same_whole self.first.size h _ is self.whole) ok err }
+    record {
+      whole = either_of c.enter.result (λ is.
+          whole_is self.first.size h self.whole (Write c.args.at (length c.args.bytes.now)) c.args.bytes.now (
+            refl,
+            c.requires,
+            (λ i. (c.type_inv.bytes i).fits),
+          ) _ is) (λ is. same_whole self.first.size h _ is self.whole) ok err;
+    }
 
 pub returns-clause-recorded : goal.returns-clause-recorded
 returns-clause-recorded c =
@@ -21,7 +28,14 @@ returns-clause-recorded c =
     let h = history self.first self.ledger in
     let ok = recorded self.first (Write c.args.at (length c.args.bytes.now)) c.args.bytes.now faults.Write self.ledger c.enter.new.self c.enter.result c.enter.ensures in
     let err = refused self.first (Write c.args.at (length c.args.bytes.now)) c.args.bytes.now faults.Write self.ledger c.enter.new.self c.enter.result c.enter.ensures in
-    record { serves = c.enter.ensures.serves; recorded = ok; refused = err; calls_room = c.enter.ensures.calls_room; bytes_room = c.enter.ensures.bytes_room }
+    record {
+      serves = c.enter.ensures.serves;
+      recorded = ok;
+      refused = err;
+      calls_room = c.enter.ensures.calls_room;
+      bytes_room =
+          c.enter.ensures.bytes_room;
+    }
 
 pub returns-clause-time : goal.returns-clause-time
 returns-clause-time c =

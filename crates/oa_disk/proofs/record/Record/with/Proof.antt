@@ -27,7 +27,8 @@ use denote.Slice.{slice_val, shr_slice_vals, shr_slice_Tells}
 use denote.Triple.Entry.{on_entry, alive, Args}
 use denote.Triple.Spec.{Meets, triple_of}
 use denote.Triple.Table.{entered}
-use denote.Triple.Walked.{says, stay_none_ref, stay_none_slice, Stays, walk_of, Walks, ends_at, walked, Goes-none_ref, Goes-none_slice, walk_Meets}
+use denote.Triple.Walked.{says, stay_none_ref, stay_none_slice, Stays, walk_of, Walks, ends_at, walked, Goes-none_ref, Goes-none_slice}
+use denote.Triple.Walked.{walk_Meets}
 use Rattle.oa_disk.specs.declared.record.Record.{Record}
 use Rattle.oa_disk.specs.Record.{noted}
 use Rattle.oa_disk.specs.contracts.record.Record.with.Key.{name as key}
@@ -71,7 +72,8 @@ module _ {M : Type 1} {𝓤 : Ura M} (𝓛 : Logic 𝓤) (mem : Memory → SProp
     abbrev made : Record
     made = noted a.0.now a.1.0.now a.1.1.0.now a.1.1.1.0.now a.1.1.1.1.0.now
 
-    walk : length a.1.1.0.now < 2 ^ 64 → length a.1.1.1.1.0.now < 2 ^ 64 → ent 𝓤 (on_entry 𝓛 f.signature κs qs a (self ∷ [], (call ∷ [], (written ∷ [], (at ∷ [], (given ∷ [], tt))))))
+    walk : length a.1.1.0.now < 2 ^ 64 → length a.1.1.1.1.0.now < 2 ^ 64
+        → ent 𝓤 (on_entry 𝓛 f.signature κs qs a (self ∷ [], (call ∷ [], (written ∷ [], (at ∷ [], (given ∷ [], tt))))))
         (WpFn 𝓤 H C Λ code.function (self ∷ call ∷ written ∷ at ∷ given ∷ []) ((walk_of 𝓛 f.ended stayed (f.clauses 𝓛 mem run)).post bound))
     walk fit_written fit_given =
         qed 𝓛 (raw (alive 𝓛 f.signature κs qs) ∷ ‵ passed ∷ []) ∵ enter ! C Λ code.function (self ∷ call ∷ written ∷ at ∷ given ∷ []) _ $

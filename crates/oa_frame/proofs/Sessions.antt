@@ -5,6 +5,7 @@ use Rattle.std.proofs.lemmas.List.{append-nil, length-append}
 use Rattle.std.proofs.lemmas.List.Elements.{All-nil, All-push}
 use Rattle.std.proofs.lemmas.List.Sums.{sum_by-append}
 use Rattle.std.specs.Io.KnownBytes.{Appends, Keeps}
+use Rattle.oa_model.specs.Limits.{max_read_calls, max_records}
 use Rattle.oa_stream.specs.Source.{Input, later}
 use Rattle.oa_stream.specs.Sink.{Output, Writes, Breaks}
 use Rattle.oa_stream.proofs.Stretches.{writes_nothing, writes_then, breaks_after, breaks_before, tear, lost_few}
@@ -69,11 +70,11 @@ later_more : (m n a b c : ℕ) → b ≡ later (m + 0) a → c ≡ later n b →
 later_more m n a b c e f = omega (arith, e, f)
 
 -- one more was
-calls_more : (requests : ℕ) (i j k : Input) (n : ℕ) → Calls requests 0 i j → n ≤ 4194304 → k.calls ≡ later n j.calls → Calls (requests + 1) 0 i k
+calls_more : (requests : ℕ) (i j k : Input) (n : ℕ) → Calls requests 0 i j → n ≤ max_read_calls → k.calls ≡ later n j.calls → Calls (requests + 1) 0 i k
 calls_more requests i j k n c few clock = record {
   each = c.each ++ n ∷ [];
   one_each = length-append c.each (n ∷ []) ∙ ap (λ l. l + 1) c.one_each;
-  few = All-push (λ k. k ≤ 4194304) c.each n c.few few;
+  few = All-push (λ k. k ≤ max_read_calls) c.each n c.few few;
   clock = rw (sum_more c.each n) (behind_none (sum c.each) n i.calls k.calls (later_more (sum c.each) n i.calls j.calls k.calls c.clock clock));
 }
   where
@@ -186,8 +187,8 @@ module _ {S : Type 0} (f : Frames) (turn : TurnOf S) (ends : EndOf S) (last : Li
       let tears = tear o p q _ _ (spelled_all f.spelled (joined h.handed ++ (held ++ last_reply last end))) (end_spelled (held ++ last_reply last end)) put c.1 in
       inr (record { ended = c.0; torn = tears.torn; few = rw tears.same (lost_few p q _ o.back c.1 keeps put.back) })
 
-  pub going_closes : (p q : Output) (new : S) (why end : End) (over : ℕ) → f.Can (requests + 1) end → Known (f.Stop end) i'.left i''.left → over ≤ 4194304 → i''.calls ≡ later over i'.calls → HasCause (is_read_fault end) over i''.faulted ⊎ (requests ≡ 18446744073709551615)
-      → (i.steady ≡ true → end ≡ ReadFault → requests ≡ 18446744073709551615) → Writes o' p [] → length p.kept ≤ p.back → Closes f ends last why end p q mid new → Session f turn ends last i i'' o q old new (record { requests = requests; why = why })
+  pub going_closes : (p q : Output) (new : S) (why end : End) (over : ℕ) → f.Can (requests + 1) end → Known (f.Stop end) i'.left i''.left → over ≤ max_read_calls → i''.calls ≡ later over i'.calls → HasCause (is_read_fault end) over i''.faulted ⊎ (requests ≡ max_records)
+      → (i.steady ≡ true → end ≡ ReadFault → requests ≡ max_records) → Writes o' p [] → length p.kept ≤ p.back → Closes f ends last why end p q mid new → Session f turn ends last i i'' o q old new (record { requests = requests; why = why })
   going_closes p q new why end over can k few clock cause sound v keeps w = record {
     bodies = h.bodies;
     handed = h.handed;
@@ -224,7 +225,7 @@ pub held_breaks : (s : List ℕ → List ℕ) (held replies : List (List ℕ)) (
 held_breaks s held replies o q b = subst (Breaks o q) (sym (spelled_append s held replies)) (breaks_before o q _ _ b)
 
 -- an end that is no fault of the reader
-pub sound_end : (end : End) (requests : ℕ) → is_read_fault end ≡ false → end ≡ ReadFault → requests ≡ 18446744073709551615
+pub sound_end : (end : End) (requests : ℕ) → is_read_fault end ≡ false → end ≡ ReadFault → requests ≡ max_records
 sound_end end requests sound is = absurd (false≢true (sym sound ∙ ap is_read_fault is))
 
 -- the records are used up: nothing of a further one is read

@@ -11,7 +11,7 @@ use oa_stream::{Sink, Unwritten};
 /// How many bytes are turned into digits at a time, so that writing takes no memory.
 const PIECE: usize = 32;
 
-/// The most bytes of a line that is put at once.
+/// The most bytes of a reply that is put at once.
 const SHORT: usize = 63;
 
 /// Writes a reply that stands in two stretches: as a line of lower-case digits, or with its length before it.
@@ -37,7 +37,7 @@ fn put_line<W: Sink>(writer: &mut W, head: &[u8], fields: &[u8]) -> Result<(), U
     ensures { Puts result (W.out writer.old) (W.out writer.new) (encode_lower (head.now ++ fields.now) ++ 10 ∷ []) }
 {
     if head.len() <= SHORT && fields.len() <= SHORT - head.len() {
-        return put_short(writer, head, fields);
+        return put_short_line(writer, head, fields);
     }
     put_hex(writer, head)?;
     put_hex(writer, fields)?;
@@ -45,7 +45,7 @@ fn put_line<W: Sink>(writer: &mut W, head: &[u8], fields: &[u8]) -> Result<(), U
 }
 
 // Writes two stretches of at most 63 bytes as one line of digits, at once.
-fn put_short<W: Sink>(writer: &mut W, head: &[u8], fields: &[u8]) -> Result<(), Unwritten>
+fn put_short_line<W: Sink>(writer: &mut W, head: &[u8], fields: &[u8]) -> Result<(), Unwritten>
     requires short { length head.now + length fields.now ≤ 63 }
     requires unbroken { (W.out writer.old).broken ≡ false }
     ensures { Puts result (W.out writer.old) (W.out writer.new) (encode_lower (head.now ++ fields.now) ++ 10 ∷ []) }
@@ -75,9 +75,37 @@ fn put_record<W: Sink>(writer: &mut W, head: &[u8], fields: &[u8]) -> Result<(),
     requires unbroken { (W.out writer.old).broken ≡ false }
     ensures { Puts result (W.out writer.old) (W.out writer.new) (to_le_bytes w32 (length (head.now ++ fields.now)) ++ (head.now ++ fields.now)) }
 {
+    if head.len() <= SHORT && fields.len() <= SHORT - head.len() {
+        return put_short_record(writer, head, fields);
+    }
     writer.put(&length_bytes(head, fields))?;
     writer.put(head)?;
     writer.put(fields)
+}
+
+// Writes the length of two stretches of at most 63 bytes, and them, at once.
+fn put_short_record<W: Sink>(writer: &mut W, head: &[u8], fields: &[u8]) -> Result<(), Unwritten>
+    requires short { length head.now + length fields.now ≤ 63 }
+    requires unbroken { (W.out writer.old).broken ≡ false }
+    ensures { Puts result (W.out writer.old) (W.out writer.new) (to_le_bytes w32 (length (head.now ++ fields.now)) ++ (head.now ++ fields.now)) }
+{
+    let mut bytes = [0u8; 67];
+    let end = lay_out(head, fields, &mut bytes);
+    writer.put(&bytes[..end])
+}
+
+// The length of two stretches, and them, at the start of a buffer; answers how many bytes they are.
+fn lay_out(head: &[u8], fields: &[u8], bytes: &mut [u8; 67]) -> usize
+    requires { length head.now + length fields.now ≤ 63 }
+    ensures within { result ≤ 67 }
+    ensures bytes { take result bytes.new ≡ to_le_bytes w32 (length (head.now ++ fields.now)) ++ (head.now ++ fields.now) }
+{
+    let middle = 4 + head.len();
+    let end = middle + fields.len();
+    bytes[..4].copy_from_slice(&length_bytes(head, fields));
+    bytes[4..middle].copy_from_slice(head);
+    bytes[middle..end].copy_from_slice(fields);
+    end
 }
 
 // How many bytes two stretches have.

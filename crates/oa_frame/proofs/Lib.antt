@@ -6,6 +6,7 @@ pub mod Seeks
 pub mod Judged
 pub mod Raws
 mod OneSplit
+mod Pieces
 mod OneReading
 mod OneLines
 mod OneRecords

@@ -1,6 +1,5 @@
 //! Bodies as lines of hexadecimal digits.
 ghost use Rattle.std.specs.Prelude.{◌≡◌, ◌+◌, ◌≤◌, ◌*◌, ℕ, [], true, false, length, take, vec_capacity, Ok, IfSome, IsErr, IsNone};
-ghost use Rattle.std.specs.Option.{unwrap_or};
 ghost use Rattle.hex.specs.Hex.{decode_of, hex_digit_value, pair_value};
 ghost use Rattle.oa_model.specs.Limits.{max_request_bytes, max_line_characters};
 ghost use Rattle.oa_stream.specs.Ahead.{ahead};
@@ -112,22 +111,16 @@ fn pair(high: u8, low: u8) -> (u8, bool)
     )
 }
 
-/// The value of a digit; 16 for what is none.
+/// The value of a digit; 16 or more for what is none.
 fn digit(c: u8) -> u8
-    ensures { result ≡ unwrap_or (hex_digit_value c) 16 }
+    ensures some { IfSome (hex_digit_value c) (λ value. result ≡ value) }
+    ensures none { IsNone (hex_digit_value c) → 16 ≤ result }
 {
-    let (number, upper, lower) = (
-        c.wrapping_sub(b'0'),
-        c.wrapping_sub(b'A'),
-        c.wrapping_sub(b'a'),
-    );
+    let number = c.wrapping_sub(b'0');
+    let letter = c.wrapping_sub(b'A').min(c.wrapping_sub(b'a'));
     if number < 10 {
         number
-    } else if upper < 6 {
-        upper + 10
-    } else if lower < 6 {
-        lower + 10
     } else {
-        16
+        letter.saturating_add(10)
     }
 }

@@ -50,14 +50,16 @@ pub(crate) fn padding(n: usize, place: usize) -> usize
     ensures small { result < n }
 {
     // A remainder by a constant is a mask: a division takes longer than all else that a read or a write does.
-    let over = match n {
-        1 => place % 1,
-        2 => place % 2,
-        4 => place % 4,
-        8 => place % 8,
-        _ => place % n,
-    };
-    if over == 0 { 0 } else { n - over }
+    match n {
+        1 => 0,
+        2 => (2 - place % 2) % 2,
+        4 => (4 - place % 4) % 4,
+        8 => (8 - place % 8) % 8,
+        _ => {
+            let over = place % n;
+            if over == 0 { 0 } else { n - over }
+        }
+    }
 }
 
 impl<'a> Ndr<'a> {

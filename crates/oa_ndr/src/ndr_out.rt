@@ -51,12 +51,19 @@ fn append_zeros(out: &mut Vec<u8>, n: usize) -> Result<(), AllocError>
     out.extend_from_slice(&ZEROS[..n])
 }
 
-// Adds zeros and then these bytes, or nothing.
-fn append_behind_zeros(out: &mut Vec<u8>, zeros: usize, text: &[u8]) -> Result<(), AllocError>
+// Adds zeros and then these bytes, or nothing. The length is a part of the type, so that a number is stored and not copied.
+fn append_behind_zeros<const N: usize>(
+    out: &mut Vec<u8>,
+    zeros: usize,
+    text: &[u8; N],
+) -> Result<(), AllocError>
     requires { zeros ≤ 8 }
     ensures ok { OnOk result (out.new.items ≡ out.old.items ++ (replicate zeros 0 ++ text.now)) }
     ensures err { OnErr result (out.new.items ≡ out.old.items) }
 {
+    if zeros == 0 {
+        return out.extend_from_slice(text);
+    }
     let before = out.len();
     append_zeros(out, zeros)?;
     if let Err(e) = out.extend_from_slice(text) {
@@ -137,7 +144,7 @@ impl NdrOut {
     }
 
     // These bytes at the next multiple of n.
-    fn slot(&mut self, n: usize, number: &[u8]) -> Result<(), AllocError>
+    fn slot<const N: usize>(&mut self, n: usize, number: &[u8; N]) -> Result<(), AllocError>
         requires above { 0 < n }
         requires small { n ≤ 8 }
         ensures ok { OnOk result (self.new ≡ within (put_slot n number.now) self.old) }

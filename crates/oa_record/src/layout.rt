@@ -76,7 +76,7 @@ fn dispids(alloc: Global, count: u32, r: &mut Ndr<'_>) -> Result<Vec<i32>, Recor
     ensures answers { Answers (λ v. v.items) result r.new (many dispid_at count r.old) }
     ensures count { IfOk result (λ v. length v.items ≡ count) }
 {
-    let mut all = Vec::new(alloc);
+    let mut all = Vec::with_capacity(alloc, count as usize)?;
     'dispids: for _ in 0..count {
         let next = dispid(r)?;
         all.push(next)?;
@@ -89,7 +89,7 @@ fn fields<'a>(alloc: Global, count: u32, r: &mut Ndr<'a>) -> Result<Vec<&'a [u8]
     ensures answers { Answers (λ v. map (λ x. x.now) v.items) result r.new (many field_at count r.old) }
     ensures count { IfOk result (λ v. length v.items ≡ count) }
 {
-    let mut all = Vec::new(alloc);
+    let mut all = Vec::with_capacity(alloc, count as usize)?;
     'fields: for _ in 0..count {
         let next = field(r)?;
         all.push(next)?;

@@ -56,7 +56,7 @@ fn values(alloc: Global, fields: &[&[u8]]) -> Result<Vec<Variant>, RecordFault>
     ensures judged { Judges (λ v. v.items) (map (λ f. f.now) fields.now) result }
     ensures count { IfOk result (λ v. length v.items ≡ length fields.now) }
 {
-    let mut values = Vec::new(alloc);
+    let mut values = Vec::with_capacity(alloc, fields.len())?;
     'fields: for field in fields {
         let at = values.len();
         match read_variant(alloc, field) {

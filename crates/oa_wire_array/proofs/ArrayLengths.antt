@@ -31,7 +31,7 @@ unit_len n x out =
     let zeros : List ℕ = replicate (padding n (length out)) 0 in
     omega (arith, length-append out (zeros ++ little_bytes n x), length-append zeros (little_bytes n x), length-replicate {A = ℕ} (padding n (length out)) 0, length-bytes_low_first 0 n x)
 
-align_len : (n : ℕ) (out : List ℕ) → length (put_align n out) ≡ length out + padding n (length out)
+pub align_len : (n : ℕ) (out : List ℕ) → length (put_align n out) ≡ length out + padding n (length out)
 align_len n out = omega (arith, length-append {A = ℕ} out (replicate (padding n (length out)) 0), length-replicate {A = ℕ} (padding n (length out)) 0)
 
 pub no_padding : (n p : ℕ) → p % n ≡ 0 → padding n p ≡ 0

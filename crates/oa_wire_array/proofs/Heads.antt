@@ -1,16 +1,18 @@
--- Where the vt of a wireVARIANT lies that was read, and what is left behind its head.
-use Rattle.std.proofs.Common.{◌≡◌, ℕ, ◌+◌, ◌%◌, ◌≤◌, Bool, List, ◌++◌, length, drop, Some, Result, Ok, Err, refl, sym, ap, ◌∙◌, arith}
+-- Where the vt of a wireVARIANT lies that was read, what is left behind its head, and the bytes of a head that is written.
+use Rattle.std.proofs.Common.{◌≡◌, ℕ, ◌+◌, ◌%◌, ◌≤◌, Bool, List, [], ◌++◌, length, drop, replicate, append_assoc, Some, Result, Ok, Err, OnOk, refl, sym, ap, ◌∙◌, arith}
 use Rattle.std.proofs.lemmas.List.{take_at, drop_at, drop-drop, length-append}
-use Rattle.byteorder.specs.Endian.{little_number, little_from}
+use Rattle.byteorder.specs.Endian.{little_bytes, little_number, little_from}
 use Rattle.byteorder.specs.Numbers.{little_from-take}
 use Rattle.oa_ndr.specs.Forms.{padding}
+use Rattle.oa_ndr.specs.Writing.{Output, within, put_align, put_bytes, put_unit}
 use Rattle.oa_ndr.specs.Reading.{Cursor, align_at, unit_at, referent_at}
 use Rattle.oa_ndr.proofs.Laws.{unit_reads, align_reads, referent_reads}
 use Rattle.oa_wire_array.specs.declared.fault.ReadFault.{ReadFault}
 use Rattle.oa_wire_array.specs.declared.fault.ReadFault.TheVariants.{BadStub, Memory}
 use Rattle.oa_wire_array.specs.Scalars.{own_vt}
+use Rattle.oa_wire_array.specs.Canon.{put_head}
 use Rattle.oa_wire_array.specs.Reading.{OnMemory, from_multiple}
-use Rattle.oa_wire_array.proofs.ArrayLengths.{lands, no_padding, eight}
+use Rattle.oa_wire_array.proofs.ArrayLengths.{align_len, lands, no_padding, eight}
 
 pub on_memory : {A : Type 0} {P Q : Type 0} (r : Result A ReadFault) → (P → Q) → OnMemory r P → OnMemory r Q
 on_memory (Ok x) f h = tt
@@ -70,3 +72,32 @@ anyhow r p = on_memory r (λ _. p) (own r)
     own (Ok x) = tt
     own (Err BadStub) = tt
     own (Err Memory) = tt
+
+unit_adds : (n x : ℕ) (out : List ℕ) → length out % n ≡ 0 → put_unit n x out ≡ out ++ little_bytes n x
+unit_adds n x out even = ap (λ (i : ℕ). out ++ (replicate i 0 ++ little_bytes n x)) (no_padding n (length out) even)
+
+-- a head at a multiple of 8 is that of a field without bytes
+pub head_adds : (size vt : ℕ) (out : List ℕ) → put_head size vt out ≡ put_align 8 out ++ put_head size vt []
+head_adds size vt out =
+    let start = put_align 8 out in
+    let even : length start % 8 ≡ 0 = ap (λ (i : ℕ). i % 8) (align_len 8 out) ∙ lands (length out) 8 eight in
+    let a = little_bytes 4 size in
+    let b = little_bytes 4 0 in
+    let c = little_bytes 2 vt in
+    let d = little_bytes 2 0 in
+    let at_a : length (start ++ a) ≡ length start + 4 = length-append start a in
+    let at_b : length ((start ++ a) ++ b) ≡ length start + 8 = omega (arith, length-append (start ++ a) b, at_a) in
+    let at_c : length (((start ++ a) ++ b) ++ c) ≡ length start + 10 = omega (arith, length-append ((start ++ a) ++ b) c, at_b) in
+    let at_d : length ((((start ++ a) ++ b) ++ c) ++ d) ≡ length start + 12 = omega (arith, length-append (((start ++ a) ++ b) ++ c) d, at_c) in
+    let at_e : length (((((start ++ a) ++ b) ++ c) ++ d) ++ d) ≡ length start + 14 = omega (arith, length-append ((((start ++ a) ++ b) ++ c) ++ d) d, at_d) in
+    let one = unit_adds 4 size start (omega (arith, even)) in
+    let two = ap (put_unit 4 0) one ∙ unit_adds 4 0 (start ++ a) (omega (arith, even, at_a)) in
+    let three = ap (put_unit 2 vt) two ∙ unit_adds 2 vt ((start ++ a) ++ b) (omega (arith, even, at_b)) in
+    let four = ap (put_unit 2 0) three ∙ unit_adds 2 0 (((start ++ a) ++ b) ++ c) (omega (arith, even, at_c)) in
+    let five = ap (put_unit 2 0) four ∙ unit_adds 2 0 ((((start ++ a) ++ b) ++ c) ++ d) (omega (arith, even, at_d)) in
+    let six = ap (put_unit 2 0) five ∙ unit_adds 2 0 (((((start ++ a) ++ b) ++ c) ++ d) ++ d) (omega (arith, even, at_e)) in
+    six ∙ simp append_assoc refl
+
+pub head_then : {X E : Type 0} (r : Result X E) (old aligned new : Output) (size vt : ℕ) (bytes : List ℕ) → bytes ≡ put_head size vt [] → aligned ≡ within (put_align 8) old → OnOk r (new ≡ within (put_bytes bytes) aligned) → OnOk r (new ≡ within (put_head size vt) old)
+head_then (Ok x) old aligned new size vt bytes is first more = rw (more, first, is, head_adds size vt old.field) refl
+head_then (Err e) old aligned new size vt bytes is first more = tt

@@ -1,6 +1,6 @@
 //! Scalars.
 
-ghost use Rattle.std.specs.Prelude.{◌≡◌, ◌≤◌, ◌<◌, OnOk, OnErr, length};
+ghost use Rattle.std.specs.Prelude.{◌≡◌, ◌≤◌, ◌<◌, [], OnOk, OnErr, length};
 ghost use Rattle.oa_model.specs.Types.{vt_of};
 ghost use Rattle.oa_model.specs.declared.var_type.VarType.TheVariants as types;
 ghost use Rattle.oa_ndr.specs.Writing.{Keeps, within};
@@ -201,18 +201,22 @@ pub(crate) fn write_arm(out: &mut NdrOut, value: &Scalar) -> Result<(), AllocErr
     }
 }
 
+// The bytes of a head at a multiple of 8. They are laid out at once, since a scalar is mostly head.
+fn head_bytes(size: u32, vt: u16) -> [u8; 16]
+    ensures { result ≡ put_head size vt [] }
+{
+    let [a, b, c, d] = size.to_le_bytes();
+    let [e, f] = vt.to_le_bytes();
+    [a, b, c, d, 0, 0, 0, 0, e, f, 0, 0, 0, 0, 0, 0]
+}
+
 // The same as `write_head`, but where memory is refused a part of it may stay.
 fn add_head(out: &mut NdrOut, size: u32, vt: u16) -> Result<(), AllocError>
     ensures ok { OnOk result (out.new ≡ within (put_head size vt) out.old) }
     ensures kept { Keeps out.old out.new }
 {
     out.align(8)?;
-    out.u32(size)?;
-    out.u32(0)?;
-    out.u16(vt)?;
-    out.u16(0)?;
-    out.u16(0)?;
-    out.u16(0)
+    out.bytes(&head_bytes(size, vt))
 }
 
 /// Writes what a wireVARIANT (MS-OAUT 2.2.29) begins with, at the next multiple of 8: clSize,

@@ -49,10 +49,10 @@ fn of_release(table: &Table, number: u32) -> Option<TableFault>
 fn of_put(table: &Table, name: &CellName) -> Option<TableFault>
     ensures { (value : AVariant) → Refuses (applied (events.Put name.now value) table.now) result }
 {
-    if table.class_of(name.object).is_none() {
+    let Some(object) = table.object(name.object) else {
         return Some(TableFault::NoObject);
-    }
-    if let Some(value) = table.get(name)
+    };
+    if let Some(value) = object.get(&name.place)
         && locks_of(value) != 0
     {
         return Some(TableFault::Array(ArrayFault::IsLocked));
@@ -68,10 +68,10 @@ fn of_element(
 ) -> Option<TableFault>
     ensures { Refuses (applied (events.PutElement name.now index.now element.now) table.now) result }
 {
-    if table.class_of(name.object).is_none() {
+    let Some(object) = table.object(name.object) else {
         return Some(TableFault::NoObject);
-    }
-    match table.get(name) {
+    };
+    match object.get(&name.place) {
         Some(Variant::Array(array)) => of_array_element(array, index.as_slice(), element),
         _ => Some(TableFault::NotArray),
     }
@@ -99,10 +99,10 @@ fn of_array_element(
 fn of_redim(table: &Table, name: &CellName, bound: Bound) -> Option<TableFault>
     ensures { Refuses (applied (events.Redim name.now bound) table.now) result }
 {
-    if table.class_of(name.object).is_none() {
+    let Some(object) = table.object(name.object) else {
         return Some(TableFault::NoObject);
-    }
-    match table.get(name) {
+    };
+    match object.get(&name.place) {
         Some(Variant::Array(array)) => of_array_redim(array, bound),
         _ => Some(TableFault::NotArray),
     }

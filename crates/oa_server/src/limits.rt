@@ -1,5 +1,5 @@
 //! The limits on what a change makes.
-ghost use Rattle.std.specs.Prelude.{◌≡◌, Ok, length};
+ghost use Rattle.std.specs.Prelude.{◌≡◌, Ok, length, nat_lt};
 ghost use Rattle.oa_image.specs.Tables.{table_image};
 ghost use Rattle.oa_table.specs.Events.{applied};
 ghost use Rattle.oa_table.specs.Tables.{TableValue};
@@ -26,10 +26,21 @@ pub(crate) fn refusal(table: &Table, event: &Event) -> Option<HResult>
     if event_len(event) > MAX_EVENT_BYTES {
         return Some(HResult::E_INVALIDARG);
     }
-    if size_after(table, event) > MAX_TABLE_BYTES {
+    if is_too_large(table, event) {
         return Some(HResult::STG_E_MEDIUMFULL);
     }
     None
+}
+
+/// Whether the image of the table has too many bytes after an event that applies. Where even the most that it can have are few, they are not
+/// counted.
+fn is_too_large(table: &Table, event: &Event) -> bool
+    ensures { (new : TableValue) → applied event.now table.now ≡ Ok new → result ≡ nat_lt 14680064 (length (table_image new)) }
+{
+    if table.most_after(event) <= MAX_TABLE_BYTES {
+        return false;
+    }
+    size_after(table, event) > MAX_TABLE_BYTES
 }
 
 /// How many bytes the image of the table has after an event that applies.

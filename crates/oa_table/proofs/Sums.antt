@@ -2,8 +2,8 @@
 use Rattle.std.proofs.Common.{◌≡◌, ℕ, zero, suc, ◌+◌, ◌-◌, ◌*◌, ◌<◌, ◌≤◌, eqb, leb, ltb, ℤ, Bool, true, false, cond, List, [], ◌∷◌, ◌++◌, length, take, drop, take_all, length-drop, replicate, slice_get, Option, Some, None, Result, Ok, Err, refl, sym, ◌∙◌, subst, arith}
 use Rattle.std.specs.List.{sum_by}
 use Rattle.std.specs.List.Sorted.{IsStrictlySortedBy}
-use Rattle.std.specs.Map.{keys_of}
-use Rattle.std.specs.BTreeMap.{is_at}
+use Rattle.std.specs.Map.{keys_of, lookup, set_value}
+use Rattle.std.specs.BTreeMap.{insert_entry, is_at}
 use Rattle.std.specs.Option.{option_map, unwrap_or}
 use Rattle.std.specs.Ordering.{nat_cmp}
 use Rattle.std.proofs.lemmas.Cmp.{nat_cmp_total}
@@ -30,16 +30,16 @@ use Rattle.oa_array.specs.declared.fault.ArrayFault.TheVariants as arrays
 use Rattle.oa_table.specs.declared.fault.TableFault.{TableFault}
 use Rattle.oa_table.specs.declared.fault.TableFault.TheVariants.{Array}
 use Rattle.oa_table.specs.declared.name.CellName.{CellName}
-use Rattle.oa_table.specs.Elements.{element_put, locked_value, locks_of, redimensioned_value, released_value}
+use Rattle.oa_table.specs.Elements.{element_put, locked_value, locks_of, redimensioned_value, released_value, replaced_value}
 use Rattle.oa_table.specs.declared.event.Event.TheVariants.{Create, Release}
 use Rattle.oa_table.specs.Events.{applied, on_object, released_if_live, with_object}
 use Rattle.oa_table.specs.Locks.{locked_in, locks_at, with_lock, without_lock}
-use Rattle.oa_table.specs.Objects.{with_change, with_put, with_value}
+use Rattle.oa_table.specs.Objects.{locks_of_cell, with_change, with_put, with_value}
 use Rattle.oa_table.specs.Outcomes.{Counts, mapped}
 use Rattle.oa_table.specs.Places.{PlaceValue, place_cmp, places_total}
 use Rattle.oa_table.specs.Sizes.{IsKept, array_size, cell_size, element_size, largest_image, object_size, place_size, size_due, size_in, table_size, value_size}
 use Rattle.oa_table.specs.Tables.{ObjectValue, TableValue, cell_at, object_at}
-use Rattle.oa_table.proofs.Entries.{put_new, put_there, set_weight}
+use Rattle.oa_table.proofs.Entries.{put_new, put_there, put_within, set_weight}
 
 -- ---- arrays
 
@@ -145,12 +145,47 @@ unfolding object_size
 put_over_due place value object old sorted there free =
     rw (there, free, put_there places_total object.cells place old value sorted there) (omega (arith, set_weight place_size value_size (is_at (place_cmp place)) object.cells old value there))
 
+-- another value of a cell, by the lists of cells
+pub set_sum : (place : PlaceValue) (class : List ℕ) (cells entries : List (PlaceValue × Variant)) (old new : Variant) → cell_at place cells ≡ Some old → entries ≡ set_value (is_at (place_cmp place)) cells new
+    → object_size (record { class = class; cells = entries }) + value_size old ≡ object_size (record { class = class; cells = cells }) + value_size new
+unfolding object_size
+set_sum place class cells entries old new there is = rw is (omega (arith, set_weight place_size value_size (is_at (place_cmp place)) cells old new there))
+
+-- a put over a cell that was put is a change of its value
+pub put_is_change : (place : PlaceValue) (value : Variant) (object : ObjectValue) (old : Variant) → IsStrictlySortedBy place_cmp (keys_of object.cells) → cell_at place object.cells ≡ Some old
+    → with_put place value object ≡ with_change place (replaced_value value) object
+put_is_change place value object old sorted there = rw (there, put_there places_total object.cells place old value sorted there) (by (eqb (locks_of old) 0))
+  where
+    by : (b : Bool) → cond b (Ok (with_value place object value)) (Err (Array arrays.IsLocked)) ≡ mapped (with_value place object) (cond b (Ok value) (Err (Array arrays.IsLocked)))
+    by true = refl
+    by false = refl
+
+pub put_free_sum : (place : PlaceValue) (value : Variant) (object new : ObjectValue) → cell_at place object.cells ≡ None
+    → with_put place value object ≡ Ok new → object_size new ≡ object_size object + (place_size place + value_size value)
+put_free_sum place value object new none is = rw is at (put_free_due place value object none)
+
+-- a put adds no more than the place and the value
+pub put_most : (place : PlaceValue) (value : Variant) (object : ObjectValue)
+    → size_due object_size (with_put place value object) object ≤ object_size object + (place_size place + value_size value)
+unfolding object_size
+put_most place value object = by (eqb (locks_of_cell place object) 0)
+  where
+    by : (b : Bool) → size_due object_size (cond b (Ok (record object { cells = insert_entry place_cmp object.cells place value })) (Err (Array arrays.IsLocked))) object
+        ≤ object_size object + (place_size place + value_size value)
+    by true = omega (arith, put_within place_size value_size place_cmp object.cells place value)
+    by false = omega arith
+
 -- ---- tables
 
 size_within : (t : TableValue) (number : ℕ) (object new : ObjectValue) → object_at number t ≡ Some object
     → table_size (with_object number t new) + object_size object ≡ table_size t + object_size new
 unfolding table_size
 size_within t number object new there = omega (arith, sum_by-set_value object_size (is_at (nat_cmp number)) t.objects object new there)
+
+-- another object of a number, by the lists of objects
+pub object_set_sum : (number next : ℕ) (objects entries : List (ℕ × ObjectValue)) (object new : ObjectValue) → lookup (is_at (nat_cmp number)) objects ≡ Some object → entries ≡ set_value (is_at (nat_cmp number)) objects new
+    → table_size (record { next = next; objects = entries }) + object_size object ≡ table_size (record { next = next; objects = objects }) + object_size new
+object_set_sum number next objects entries object new there is = rw is (size_within (record { next = next; objects = objects }) number object new there)
 
 pub object_due : (number : ℕ) (change : ObjectValue → Result ObjectValue TableFault) (t : TableValue) (object : ObjectValue) (gone come : ℕ) → object_at number t ≡ Some object
     → size_due object_size (change object) object + gone ≡ object_size object + come → size_due table_size (on_object number change t) t + gone ≡ table_size t + come
@@ -160,6 +195,20 @@ object_due number change t object gone come there h = rw there (by (change objec
         → size_due table_size (mapped (with_object number t) due) t + gone ≡ table_size t + come
     by (Ok new) h = omega (arith, h, size_within t number object new there)
     by (Err fault) h = omega (arith, h)
+
+-- what a change adds at most to an object, it adds at most to the table
+pub object_most : (number : ℕ) (change : ObjectValue → Result ObjectValue TableFault) (t : TableValue) (most : ℕ) → ((object : ObjectValue) → size_due object_size (change object) object ≤ object_size object + most)
+    → size_due table_size (on_object number change t) t ≤ table_size t + most
+object_most number change t most h = at (object_at number t) refl
+  where
+    by : (object : ObjectValue) → object_at number t ≡ Some object → (due : Result ObjectValue TableFault) → size_due object_size due object ≤ object_size object + most
+        → size_due table_size (mapped (with_object number t) due) t ≤ table_size t + most
+    by object there (Ok new) h = omega (arith, h, size_within t number object new there)
+    by object there (Err fault) h = omega arith
+
+    at : (o : Option ObjectValue) → object_at number t ≡ o → size_due table_size (on_object number change t) t ≤ table_size t + most
+    at None e = rw e (omega arith)
+    at (Some object) e = rw e (by object e (change object) (h object))
 
 pub no_object_due : (number : ℕ) (change : ObjectValue → Result ObjectValue TableFault) (t : TableValue) → object_at number t ≡ None → size_due table_size (on_object number change t) t ≡ table_size t
 no_object_due number change t none = rw none refl

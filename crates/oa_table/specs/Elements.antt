@@ -26,6 +26,10 @@ locks_in (Some value) = locks_of value
 abbrev pub is_locked : Variant → Bool
 is_locked value = not (locks_of value == 0)
 
+-- a value comes in the place of another, unless the array of that one is locked
+abbrev pub replaced_value : Variant → Variant → Result Variant TableFault
+replaced_value value old = if locks_of old == 0 then Ok value else Err (Array arrays.IsLocked)
+
 -- an element is set: the index list has to lie in the bounds, and then the element to be of the array's type
 abbrev pub element_put : List ℤ → Scalar → Variant → Result Variant TableFault
 element_put index element (One s) = Err NotArray

@@ -1,9 +1,9 @@
 //! The objects of a table.
-ghost use Rattle.std.specs.Prelude.{◌≡◌, ◌≤◌, ◌+◌, ◌^◌, []};
+ghost use Rattle.std.specs.Prelude.{◌≡◌, ◌≤◌, ◌+◌, ◌^◌, [], None, IfOk};
 ghost use Rattle.std.specs.List.Sorted.{IsStrictlySortedBy};
 ghost use Rattle.std.specs.Map.{keys_of};
 ghost use Rattle.std.specs.Option.{option_map};
-ghost use Rattle.oa_table.specs.Elements.{element_put, locked_value, locks_in, redimensioned_value, released_value};
+ghost use Rattle.oa_table.specs.Elements.{element_put, locked_value, redimensioned_value, released_value};
 ghost use Rattle.oa_table.specs.Objects.{any_locked, locks_of_cell, with_change, with_put};
 ghost use Rattle.oa_table.specs.Outcomes.{Counts, Does};
 ghost use Rattle.oa_table.specs.Places.{place_cmp};
@@ -12,9 +12,8 @@ ghost use Rattle.oa_table.specs.Tables.{cell_at};
 
 use crate::difference::{Difference, element_difference, no_difference, redim_difference};
 use crate::size::{place_size, value_size};
-use crate::value::{lock, locks_of, put_element, redim, unlock};
+use crate::value::{lock, locks_of, put_element, redim, replace, unlock};
 use crate::{Place, TableFault};
-use oa_array::ArrayFault;
 use oa_model::Bound;
 use oa_variant::{Scalar, Variant};
 use std::alloc::Global;
@@ -160,19 +159,40 @@ impl LiveObject {
         false
     }
 
-    /// Sets a cell, unless its array is locked.
+    /// Sets a cell, unless its array is locked. Answers what that takes from the size of the image, and what it adds.
     pub(crate) fn put(
         &mut self,
         place: Place,
         value: Variant,
-    ) -> Result<(), ((Place, Variant), TableFault)>
-        ensures { Does (place, value) (with_put place value self.old) self.old self.new result }
+    ) -> Result<Difference, ((Place, Variant), TableFault)>
+        ensures does { Does (place, value) (with_put place value self.old) self.old self.new result }
+        ensures size { IfOk result (λ change. object_size self.new + change.gone ≡ object_size self.old + change.come) }
+        ensures small { IfOk result (λ change. change.come ≤ 34400000000) }
     {
-        if locks_at(&self.cells, &place) != 0 {
-            return Err(((place, value), TableFault::Array(ArrayFault::IsLocked)));
+        self.places_rise();
+        let Some(old) = self.cells.get_mut(&place) else {
+            return self.put_new(place, value);
+        };
+        match replace(old, value) {
+            Ok(change) => Ok(change),
+            Err((value, fault)) => Err(((place, value), fault)),
         }
+    }
+
+    /// Sets a cell that was never put.
+    fn put_new(
+        &mut self,
+        place: Place,
+        value: Variant,
+    ) -> Result<Difference, ((Place, Variant), TableFault)>
+        requires { cell_at place self.old.cells ≡ None }
+        ensures does { Does (place, value) (with_put place value self.old) self.old self.new result }
+        ensures size { IfOk result (λ change. object_size self.new + change.gone ≡ object_size self.old + change.come) }
+        ensures small { IfOk result (λ change. change.come ≤ 34400000000) }
+    {
+        let come = place_size(&place) + value_size(&value);
         match self.cells.insert(place, value) {
-            Ok(_) => Ok(()),
+            Ok(_) => Ok(Difference { gone: 0, come }),
             Err(failed) => Err((failed.value, TableFault::Memory)),
         }
     }
@@ -225,15 +245,5 @@ impl LiveObject {
             return Err(TableFault::NotArray);
         };
         unlock(value)
-    }
-}
-
-/// How many locks the array in a cell has; 0 where there is none.
-fn locks_at(cells: &BTreeMap<Place, Variant>, place: &Place) -> u16
-    ensures { result ≡ locks_in (cell_at place.now cells.now.entries) }
-{
-    match cells.get(place) {
-        Some(value) => locks_of(value),
-        None => 0,
     }
 }

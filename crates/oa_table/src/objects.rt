@@ -1,5 +1,5 @@
 //! The objects of a table, and their changes.
-ghost use Rattle.std.specs.Prelude.{◌≡◌, length, IfOk};
+ghost use Rattle.std.specs.Prelude.{◌≡◌, ◌≤◌, ◌+◌, length, IfOk};
 ghost use Rattle.std.specs.List.Sorted.{IsStrictlySortedBy};
 ghost use Rattle.std.specs.Map.{keys_of};
 ghost use Rattle.std.specs.Option.{option_map};
@@ -10,8 +10,10 @@ ghost use Rattle.oa_table.specs.Locks.{locked_in, locks_at, with_lock, without_l
 ghost use Rattle.oa_table.specs.Objects.{with_change};
 ghost use Rattle.oa_table.specs.Outcomes.{Counts, Does};
 ghost use Rattle.oa_table.specs.Parts.{table_of};
+ghost use Rattle.oa_table.specs.Sizes.{table_size};
 ghost use Rattle.oa_table.specs.Tables.{first_table, object_at};
 
+use crate::difference::Difference;
 use crate::parts::ordered_objects;
 use crate::{CellName, Event, LiveObject, Object, TableFault};
 use oa_array::{ArrayFault, Indices};
@@ -121,7 +123,10 @@ impl Objects {
         match event {
             Event::Create { number, class } => self.create(number, class),
             Event::Release { number } => self.release(number),
-            Event::Put { name, value } => self.put(name, value),
+            Event::Put { name, value } => match self.put(name, value) {
+                Ok(_) => Ok(()),
+                Err(refused) => Err(refused),
+            },
             Event::PutElement { name, index, value } => self.put_element(name, index, value),
             Event::Redim { name, bound } => self.redim(name, bound),
         }
@@ -181,19 +186,29 @@ impl Objects {
         }
     }
 
-    fn put(&mut self, name: CellName, value: Variant) -> Result<(), (Event, TableFault)>
-        ensures { let event = Event.Put name value in Does event (applied event self.old) self.old self.new result }
+    /// Sets a cell. Answers what that takes from the size of the image, and what it adds.
+    pub(crate) fn put(
+        &mut self,
+        name: CellName,
+        value: Variant,
+    ) -> Result<Difference, (Event, TableFault)>
+        ensures does { let event = Event.Put name value in Does event (applied event self.old) self.old self.new result }
+        ensures size { IfOk result (λ change. table_size self.new + change.gone ≡ table_size self.old + change.come) }
+        ensures small { IfOk result (λ change. change.come ≤ 34400000000) }
     {
         let CellName { object, place } = name;
         let Some(found) = self.objects.get_mut(&object) else {
             let name = CellName { object, place };
             return Err((Event::Put { name, value }, TableFault::NoObject));
         };
-        let Err(((place, value), fault)) = found.put(place, value) else {
-            return Ok(());
+        let change = match found.put(place, value) {
+            Ok(change) => change,
+            Err(((place, value), fault)) => {
+                let name = CellName { object, place };
+                return Err((Event::Put { name, value }, fault));
+            }
         };
-        let name = CellName { object, place };
-        Err((Event::Put { name, value }, fault))
+        Ok(change)
     }
 
     fn put_element(

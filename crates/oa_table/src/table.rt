@@ -4,6 +4,7 @@ ghost use Rattle.std.specs.List.Sorted.{IsStrictlySortedBy};
 ghost use Rattle.std.specs.Map.{keys_of};
 ghost use Rattle.std.specs.Option.{option_map};
 ghost use Rattle.std.specs.Ordering.{nat_cmp};
+ghost use Rattle.oa_table.specs.Elements.{locks_of};
 ghost use Rattle.oa_table.specs.Events.{BringsNoLocks, applied};
 ghost use Rattle.oa_table.specs.Locks.{locked_in, locks_at, with_lock, without_lock};
 ghost use Rattle.oa_table.specs.Outcomes.{Counts, Does};
@@ -13,6 +14,7 @@ ghost use Rattle.oa_table.specs.Sizes.{largest_image, size_in, table_size};
 ghost use Rattle.oa_table.specs.Tables.{cell_in, class_in, first_table, object_at};
 
 use crate::objects::Objects;
+use crate::size::{place_size, value_size};
 use crate::{CellName, Event, LiveObject, Object, TableFault};
 use oa_array::Indices;
 use oa_model::{Bound, GREATEST_OBJECT_NUMBER};
@@ -24,6 +26,9 @@ use uuid::Uuid;
 
 /// The greatest size of an image whose table fits in memory. A change to more than that finds none.
 const LARGEST_IMAGE: u64 = 0x7FFF_FFFF_FFFF_FFFF;
+
+/// A put that finds no more than this before it leaves no more than `LARGEST_IMAGE`: a place and a value have at most 17,200,000,000 bytes.
+const ROOM_FOR_ANY_PUT: u64 = LARGEST_IMAGE - 34_400_000_000;
 
 /// The table of objects: the next number, and the live objects by their numbers. A number is never used again. How many bytes its image
 /// has is kept beside it.
@@ -106,6 +111,13 @@ impl Table {
         }
     }
 
+    /// An object; None where there is none of that number.
+    pub fn object(&self, number: u32) -> Option<&LiveObject>
+        ensures { option_map (λ o. o.now) result ≡ object_at number self.now }
+    {
+        self.objects.get(number)
+    }
+
     /// The value that was put last into a cell; None where none was, or where there is no such object.
     pub fn get(&self, name: &CellName) -> Option<&Variant>
         ensures { option_map (λ x. x.now) result ≡ cell_in name.now.place (object_at name.now.object self.now) }
@@ -143,6 +155,22 @@ impl Table {
             Event::PutElement { name, index, value } => self.size_with_element(name, index, value),
             Event::Redim { name, bound } => self.size_with_bound(name, *bound),
         }
+    }
+
+    /// A number of bytes that the image has at most after an event. For a put it looks at the event alone.
+    pub fn most_after(&self, event: &Event) -> u64
+        ensures { sizes.size_after event.now self.now ≤ result }
+    {
+        match event {
+            Event::Put { name, value } => self.most_with_put(name, value),
+            _ => self.size_after(event),
+        }
+    }
+
+    fn most_with_put(&self, name: &CellName, value: &Variant) -> u64
+        ensures { sizes.size_after (Event.Put name.now value.now) self.now ≤ result }
+    {
+        self.size + place_size(&name.place) + value_size(value)
     }
 
     /// How many bytes the image has after the creation of an object with a number.
@@ -218,6 +246,34 @@ impl Table {
     /// Makes a change: the table is the one after the event. An event that does not apply, or for which no memory is found, is handed
     /// back with the reason, and nothing changes. A value that is put has no locks.
     pub fn apply(&mut self, event: Event) -> Result<(), (Event, TableFault)>
+        requires { BringsNoLocks event }
+        ensures { Does event (applied event self.old) self.old self.new result }
+    {
+        match event {
+            Event::Put { name, value } => self.put(name, value),
+            event => self.change(event),
+        }
+    }
+
+    /// Sets a cell, by one look-up that finds what this changes of the size too.
+    fn put(&mut self, name: CellName, value: Variant) -> Result<(), (Event, TableFault)>
+        requires { locks_of value ≡ 0 }
+        ensures { let event = Event.Put name value in Does event (applied event self.old) self.old self.new result }
+    {
+        if self.size > ROOM_FOR_ANY_PUT {
+            return self.change(Event::Put { name, value });
+        }
+        match self.objects.put(name, value) {
+            Ok(change) => {
+                self.size = self.size + change.come - change.gone;
+                Ok(())
+            }
+            Err(refused) => Err(refused),
+        }
+    }
+
+    /// Makes a change whose size is counted before.
+    fn change(&mut self, event: Event) -> Result<(), (Event, TableFault)>
         requires { BringsNoLocks event }
         ensures { Does event (applied event self.old) self.old self.new result }
     {

@@ -1,10 +1,13 @@
 //! Changes of the value in a cell.
-ghost use Rattle.std.specs.Prelude.{◌≡◌};
+ghost use Rattle.std.specs.Prelude.{◌≡◌, ◌≤◌, IfOk};
 ghost use Rattle.oa_variant.specs.declared.variant.Variant.TheVariants as variants;
-ghost use Rattle.oa_table.specs.Elements.{element_put, locked_value, locks_of, of_array, redimensioned_value, released_value};
+ghost use Rattle.oa_table.specs.Elements.{element_put, locked_value, locks_of, of_array, redimensioned_value, released_value, replaced_value};
 ghost use Rattle.oa_table.specs.Outcomes.{Counts, Does};
+ghost use Rattle.oa_table.specs.Sizes.{value_size};
 
 use crate::TableFault;
+use crate::difference::Difference;
+use crate::size::value_size;
 use oa_array::{ArrayFault, Cell, SafeArray};
 use oa_model::Bound;
 use oa_variant::{Scalar, Variant};
@@ -18,6 +21,25 @@ pub(crate) fn locks_of(value: &Variant) -> u16
         Variant::One(_) => 0,
         Variant::Array(array) => array.locks(),
     }
+}
+
+/// Replaces a value, unless its array is locked. Answers what that takes from the size of an image, and what it adds.
+pub(crate) fn replace(
+    old: &mut Variant,
+    value: Variant,
+) -> Result<Difference, (Variant, TableFault)>
+    ensures does { Does value (replaced_value value old.old) old.old old.new result }
+    ensures gone { IfOk result (λ change. change.gone ≡ value_size old.old) }
+    ensures come { IfOk result (λ change. change.come ≡ value_size old.new) }
+    ensures small { IfOk result (λ change. change.come ≤ 17200000000) }
+{
+    if locks_of(old) != 0 {
+        return Err((value, TableFault::Array(ArrayFault::IsLocked)));
+    }
+    let gone = value_size(old);
+    let come = value_size(&value);
+    *old = value;
+    Ok(Difference { gone, come })
 }
 
 /// Sets an element of the array.

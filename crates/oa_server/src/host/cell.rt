@@ -1,7 +1,8 @@
 //! The cell of a property that a call names.
-ghost use Rattle.std.specs.Prelude.{◌≡◌, ◌≤◌, length, IfOk};
+ghost use Rattle.std.specs.Prelude.{◌≡◌, ◌≤◌, length, IfOk, Some};
 ghost use Rattle.oa_bind.specs.Bindings.{bound_to};
 ghost use Rattle.oa_server.specs.Cells.{Finds, bound_as, call_found, cell_called, member_found};
+ghost use Rattle.oa_table.specs.Tables.{object_at};
 ghost use Rattle.oa_typelib.specs.Bindable.{IsBindable};
 ghost use Rattle.oa_typelib.specs.Members.{member_in};
 ghost use Rattle.oa_variant.specs.Variants.{HasZero};
@@ -12,7 +13,7 @@ use crate::refusal::Refusal;
 use oa_bind::bind;
 use oa_model::ValueType;
 use oa_record::{Arguments, Call, Dispids};
-use oa_table::{CellName, Place};
+use oa_table::{CellName, LiveObject, Place};
 use oa_typelib::{Access, Dispinterface, Kind, Member};
 use oa_variant::Variant;
 
@@ -36,8 +37,25 @@ impl Host {
         ensures cell { Finds (cell_called self.now call access) result }
         ensures zero { IfOk result (λ cell. HasZero cell.declared) }
     {
+        let object = self.find_object(call.head.object)?;
+        self.find_cell_of(object, call, access)
+    }
+
+    /// The same of an object that was found.
+    #[tactic(auto, unfolding(crate::specs::Cells::cell_called))]
+    pub(super) fn find_cell_of(
+        &self,
+        object: &LiveObject,
+        call: Call,
+        access: Access,
+    ) -> Result<BoundCell, Undecided>
+        requires { object_at call.head.object self.now.table ≡ Some object.now }
+        ensures cell { Finds (cell_called self.now call access) result }
+        ensures object { IfOk result (λ cell. cell.name.object ≡ call.head.object) }
+        ensures zero { IfOk result (λ cell. HasZero cell.declared) }
+    {
         let head = call.head;
-        let interface = self.find_interface(head.object, &head.interface, &head.riid)?;
+        let interface = self.find_interface_of(object, &head.interface, &head.riid)?;
         let (member, form) = find_member(&interface, head.dispid, access)?;
         let declared = member.value_type;
         let kind = bound_as(access, form);

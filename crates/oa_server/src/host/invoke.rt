@@ -1,7 +1,8 @@
 //! INVOKE.
-ghost use Rattle.std.specs.Prelude.{◌≡◌, true, IfOk};
+ghost use Rattle.std.specs.Prelude.{◌≡◌, true, IfOk, Some};
 ghost use Rattle.oa_server.specs.Decisions.{ChangesNoLocks, Decides};
 ghost use Rattle.oa_server.specs.Invoke.{invocation, value_of};
+ghost use Rattle.oa_table.specs.Tables.{object_at};
 ghost use Rattle.oa_variant.specs.Variants.{HasZero};
 
 use super::Host;
@@ -10,7 +11,7 @@ use crate::decision::{Decision, Undecided};
 use crate::fields::Fields;
 use oa_model::{HResult, ValueType};
 use oa_record::{Call, variant_field};
-use oa_table::{CellName, Event};
+use oa_table::{CellName, Event, LiveObject};
 use oa_typelib::Access;
 use oa_variant::Variant;
 use std::alloc::AllocError;
@@ -23,14 +24,15 @@ impl Host {
         ensures unlocked { IfOk result ChangesNoLocks }
     {
         let access = Access::Flags(call.head.flags);
+        let object = self.find_object(call.head.object)?;
         let BoundCell {
             name,
             declared,
             value,
-        } = self.find_cell(call, access)?;
+        } = self.find_cell_of(object, call, access)?;
         match value {
             None => {
-                let fields = self.value_field(&name, declared)?;
+                let fields = self.value_field(object, &name, declared)?;
                 let code = HResult::S_OK;
                 Ok(Decision::Answer { code, fields })
             }
@@ -43,12 +45,18 @@ impl Host {
         }
     }
 
-    /// A cell's value as the fields of a reply.
-    fn value_field(&self, name: &CellName, declared: ValueType) -> Result<Fields, AllocError>
-        requires { HasZero declared }
+    /// The value of a cell of an object as the fields of a reply.
+    fn value_field(
+        &self,
+        object: &LiveObject,
+        name: &CellName,
+        declared: ValueType,
+    ) -> Result<Fields, AllocError>
+        requires object { object_at name.now.object self.now.table ≡ Some object.now }
+        requires zero { HasZero declared }
         ensures { IfOk result (λ fields. fields ≡ value_of self.now name.now declared) }
     {
-        let bytes = match self.table.get(name) {
+        let bytes = match object.get(&name.place) {
             Some(value) => variant_field(self.alloc, value)?,
             None => {
                 let zero = Variant::zero(self.alloc, declared)?;

@@ -3,7 +3,7 @@ use Rattle.std.proofs.Common.{◌≡◌, ◌≢◌, inl, inr, ⊎_elim, ℕ, ◌
 use Rattle.std.proofs.lemmas.Bool.{cases_eq}
 use Rattle.std.specs.Int.{to_le_bytes, w32}
 use Rattle.oa_disk.specs.Disk.{Holds, Torn}
-use Rattle.oa_disk.specs.Ranges.{Torn_refl, Torn_within, Holds-front, Holds-behind, Holds-next}
+use Rattle.oa_disk.specs.Ranges.{Torn_within, Holds-front, Holds-behind, Holds-next}
 use Rattle.oa_disk.specs.Switch.{IsSwitching, MaySwitch, HasSwitched, switching_holds, switching_same, switching_torn}
 use Rattle.oa_journal.specs.Bank.{bank_bytes, from_place, IsGroup}
 use Rattle.oa_journal.specs.Banks.{shut_bank, same_bank, bank_with}
@@ -11,7 +11,8 @@ use Rattle.oa_journal.specs.Append.{sealed, IsWithOrWithout, IsWith}
 use Rattle.oa_journal.proofs.Sealing.{length-sealed}
 
 -- a disk that holds a whole frame behind an open gate has the group there, and a closed gate behind it
-framed : (place gate : ℕ) (group disk : List ℕ) → 0 < length group → Holds disk (place + gate + 1) (sealed group) → get_or disk (place + gate) 0 ≡ 1
+framed : (place gate : ℕ) (group disk : List ℕ) → 0 < length group → Holds disk (place + gate + 1) (sealed group)
+    → get_or disk (place + gate) 0 ≡ 1
     → IsGroup (from_place place disk) gate group × (from_place place disk (gate + (5 + length group)) ≢ 1)
 framed place gate group disk some holds opened =
     let le = to_le_bytes w32 (length group) in
@@ -34,10 +35,6 @@ framed place gate group disk some holds opened =
     at_events : (i : ℕ) → place + (gate + 5 + i) ≡ place + gate + 1 + 4 + i
     at_events i = omega arith
 
--- a disk that is as it was
-pub unchanged : (place gate : ℕ) (group disk : List ℕ) → IsWithOrWithout place gate group disk disk
-unchanged place gate group disk = record { outside = Torn_refl place bank_bytes disk; bank = λ library before after was makes. inl was }
-
 module _ (place gate : ℕ) (group old new : List ℕ) (some : 0 < length group) (fits : gate + (5 + length group) < bank_bytes) where
   size : length (sealed group) ≡ 5 + length group
   size = length-sealed group
@@ -45,7 +42,8 @@ module _ (place gate : ℕ) (group old new : List ℕ) (some : 0 < length group)
   around : IsSwitching (place + gate + 1) (sealed group) (place + gate) old new → Torn place bank_bytes old new
   around is = switching_torn (place + gate + 1) (sealed group) (place + gate) place bank_bytes old new (omega arith) (omega (arith, size)) (omega arith) (omega arith) is
 
-  below : IsSwitching (place + gate + 1) (sealed group) (place + gate) old new → (i : ℕ) → i < gate → from_place place new i ≡ from_place place old i
+  below : IsSwitching (place + gate + 1) (sealed group) (place + gate) old new → (i : ℕ) → i < gate
+      → from_place place new i ≡ from_place place old i
   below is i lt = switching_same (place + gate + 1) (sealed group) (place + gate) old new is (place + i) (inl (omega arith)) (inl (omega arith))
 
   there : IsSwitching (place + gate + 1) (sealed group) (place + gate) old new → Holds new (place + gate + 1) (sealed group)

@@ -25,12 +25,14 @@ all_bring_none [] all = tt
 all_bring_none (e ∷ es) all = (brings_none e all.0, all_bring_none es all.1)
 
 -- a group has one list of events
-not_made : (group : List ℕ) (es : List Event) (old : TableValue) → IsRow event group es → ((after : TableValue) → applied_all es old ≡ Ok after → ⊥) → (after : TableValue) → Replays group old after → ⊥
+not_made : (group : List ℕ) (es : List Event) (old : TableValue) → IsRow event group es
+    → ((after : TableValue) → applied_all es old ≡ Ok after → ⊥) → (after : TableValue) → Replays group old after → ⊥
 not_made group es old row none after replays =
     let same : replays.events ≡ es = one_list event event_bytes replays.events es replays.are.are row.are (sym replays.are.whole ∙ row.whole) in
     none after (subst (λ (xs : List Event). applied_all xs old ≡ Ok after) same replays.makes)
 
-pub refused_group : (U : Type 0) (fault : TableFault) (place : ℕ) (group : List ℕ) (es : List Event) (old new : TableValue) → IsRow event group es → IsRefused fault (applied_all es old)
+pub refused_group : (U : Type 0) (fault : TableFault) (place : ℕ) (group : List ℕ) (es : List Event) (old new : TableValue)
+    → IsRow event group es → IsRefused fault (applied_all es old)
     → IsReplay {U = U} group old new (Err (of_change fault place))
 refused_group U Memory place group es old new row is = tt
 refused_group U NoObject place group es old new row is = not_made group es old row is
@@ -39,7 +41,8 @@ refused_group U NotArray place group es old new row is = not_made group es old r
 refused_group U (Array fault) place group es old new row is = not_made group es old row is
 
 -- behind the gate stands a group that makes no table
-pub no_group : (U : Type 0) (byte : ℕ → ℕ) (at : ℕ) (one : List ℕ) (old new : TableValue) (fault : ImageFault) (place : ℕ) → fault ≡ images.Damaged place → IsReplay {U = U} one old new (Err fault)
+pub no_group : (U : Type 0) (byte : ℕ → ℕ) (at : ℕ) (one : List ℕ) (old new : TableValue) (fault : ImageFault) (place : ℕ)
+    → fault ≡ images.Damaged place → IsReplay {U = U} one old new (Err fault)
     → byte at ≡ 1 → IsGroup byte at one → at + (5 + length one) < bank_bytes → IsNoGroup byte at old
 no_group U byte at one old new fault place is replay opened found fits = record {
   opened = opened;

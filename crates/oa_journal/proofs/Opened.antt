@@ -1,5 +1,6 @@
 -- What is read of a bank.
-use Rattle.std.proofs.Common.{◌≡◌, ℕ, ◌+◌, ◌<◌, ◌≤◌, List, [], ◌∷◌, ◌++◌, length, take, drop, slice_index, Result, Ok, Err, IfOk, refl, sym, ◌∙◌, ap, subst, arith}
+use Rattle.std.proofs.Common.{◌≡◌, ℕ, ◌+◌, ◌<◌, ◌≤◌, List, [], ◌∷◌, ◌++◌, length, take, drop, slice_index, Result, Ok, Err, IfOk, refl, sym}
+use Rattle.std.proofs.Common.{◌∙◌, ap, subst, arith}
 use Rattle.oa_disk.specs.Disk.{Holds}
 use Rattle.oa_layout.specs.Answers.{IsReading}
 use Rattle.oa_layout.specs.declared.fault.ImageFault.{ImageFault}
@@ -17,7 +18,8 @@ use Rattle.oa_journal.specs.declared.bank.BankFault.TheVariants as banks
 use Rattle.oa_journal.proofs.Slices.{long, shown, shows}
 
 -- groups so far, and one more
-pub group_more : (byte : ℕ → ℕ) (from at next : ℕ) (first mid new : TableValue) → (before : List (List ℕ)) × GroupsTo byte from before at × ReplaysAll before first mid
+pub group_more : (byte : ℕ → ℕ) (from at next : ℕ) (first mid new : TableValue)
+    → (before : List (List ℕ)) × GroupsTo byte from before at × ReplaysAll before first mid
     → (group : List ℕ) × IsGroup byte at group × Replays group mid new × (next ≡ at + (5 + length group))
     → (before : List (List ℕ)) × GroupsTo byte from before next × ReplaysAll before first new
 group_more byte from at next first mid new far found = (
@@ -35,7 +37,8 @@ module _ (list bytes : List ℕ) (l s : ℕ) (within : 32 + l + s ≤ length lis
       none.0 first has.is (is ∙ shown list (32 + l) s within (table_image first) (sym has.long) has.image)
 
   -- they are this table's
-  pub snapshot_there : (first : TableValue) → HasHeader (slice_index list) l s → table.Is first × (bytes ≡ table_image first) → HasSnapshot (slice_index list) l s first
+  pub snapshot_there : (first : TableValue) → HasHeader (slice_index list) l s → table.Is first × (bytes ≡ table_image first)
+      → HasSnapshot (slice_index list) l s first
   snapshot_there first has reading =
       let image : take s (drop (32 + l) list) ≡ table_image first = sym is ∙ reading.1 in
       record {
@@ -46,7 +49,8 @@ module _ (list bytes : List ℕ) (l s : ℕ) (within : 32 + l + s ≤ length lis
       }
 
 -- a bank is there
-pub bank_there : (list : List ℕ) (l s : ℕ) (first now : TableValue) (gate : ℕ) → length list ≡ bank_bytes → HasSnapshot (slice_index list) l s first
+pub bank_there : (list : List ℕ) (l s : ℕ) (first now : TableValue) (gate : ℕ) → length list ≡ bank_bytes
+    → HasSnapshot (slice_index list) l s first
     → (groups : List (List ℕ)) × Groups (slice_index list) (32 + l + s) groups gate × ReplaysAll groups first now → gate < bank_bytes
     → IsBank (slice_index list) (take l (drop 32 list)) now gate
 bank_there list l s first now gate whole has groups inside =
@@ -71,11 +75,13 @@ bank_there list l s first now gate whole has groups inside =
 -- ---- from a buffer to the disk that it was read from
 
 -- a buffer shows what the disk has from the place on
-pub filled : (place : ℕ) (disk bytes : List ℕ) (n : ℕ) → Holds disk place bytes → length bytes ≡ n → (i : ℕ) → i < n → from_place place disk i ≡ slice_index bytes i
+pub filled : (place : ℕ) (disk bytes : List ℕ) (n : ℕ) → Holds disk place bytes → length bytes ≡ n → (i : ℕ) → i < n
+    → from_place place disk i ≡ slice_index bytes i
 filled place disk bytes n holds is i lt = holds.each i (omega (arith, is, lt))
 
 module _ (place : ℕ) (disk bytes : List ℕ) (holds : Holds disk place bytes) (whole : length bytes ≡ bank_bytes) where
-  pub disk_bank : (library : List ℕ) (now : TableValue) (gate : ℕ) → gate < bank_bytes → IsBank (slice_index bytes) library now gate → IsBank (from_place place disk) library now gate
+  pub disk_bank : (library : List ℕ) (now : TableValue) (gate : ℕ) → gate < bank_bytes → IsBank (slice_index bytes) library now gate
+      → IsBank (from_place place disk) library now gate
   disk_bank library now gate inside = same_bank (slice_index bytes) (from_place place disk) library now gate (λ i le. filled place disk bytes bank_bytes holds whole i (omega (arith, le, inside)))
 
   pub disk_damage : (at : ℕ) → IsDamagedAt (slice_index bytes) at → IsDamagedAt (from_place place disk) at
@@ -94,7 +100,8 @@ module _ (place : ℕ) (disk head : List ℕ) (holds : Holds disk place head) (s
     inside = has.inside;
   }
 
-  pub library_there : (mid text : List ℕ) (l s : ℕ) → HasHeader (slice_index head) l s → mid ≡ disk → Holds mid (place + 32) text → length text ≡ l → HasLibrary (from_place place disk) text
+  pub library_there : (mid text : List ℕ) (l s : ℕ) → HasHeader (slice_index head) l s → mid ≡ disk → Holds mid (place + 32) text
+      → length text ≡ l → HasLibrary (from_place place disk) text
   library_there mid text l s has stays read is = record {
     snapshot = s;
     has = subst (λ (k : ℕ). HasHeader (from_place place disk) k s) (sym is) (there l s has);
@@ -109,6 +116,7 @@ both_ok P Q R (Ok x) both p q = both x p q
 both_ok P Q R (Err e) both p q = tt
 
 -- damage on the disk is damage of the bank that stands there
-pub offset_of : (place : ℕ) (fault : ImageFault) (at : ℕ) → on_disk place fault ≡ banks.Damaged at → (offset : ℕ) × (fault ≡ images.Damaged offset) × (at ≡ place + offset)
+pub offset_of : (place : ℕ) (fault : ImageFault) (at : ℕ) → on_disk place fault ≡ banks.Damaged at
+    → (offset : ℕ) × (fault ≡ images.Damaged offset) × (at ≡ place + offset)
 offset_of place (images.Damaged offset) at e = let is : at ≡ place + offset = cc in (offset, refl, is)
 offset_of place images.Memory at e = absurd cc

@@ -1,5 +1,6 @@
 -- A frame as it is written.
-use Rattle.std.proofs.Common.{◌≡◌, ℕ, suc, ◌+◌, ◌-◌, ◌<◌, List, [], ◌∷◌, ◌++◌, length, take, drop, sym, ◌∙◌, ap, arith, length-drop, length-append}
+use Rattle.std.proofs.Common.{◌≡◌, ℕ, suc, ◌+◌, ◌-◌, ◌<◌, List, [], ◌∷◌, ◌++◌, length, take, drop, sym, ◌∙◌, ap, arith, length-drop}
+use Rattle.std.proofs.Common.{length-append}
 use Rattle.std.proofs.Math.ListN.{set}
 use Rattle.std.proofs.Math.Seq.{take-append_seam}
 use Rattle.std.proofs.lemmas.List.{set-append_right, set_split, drop_all, length-take-le}
@@ -22,7 +23,8 @@ group-sealed group =
 last_closed : (tail : List ℕ) (n : ℕ) → length tail ≡ suc n → set tail n 0 ≡ take n tail ++ 0 ∷ []
 last_closed tail n is = set_split tail n 0 (omega arith) ∙ ap (λ (l : List ℕ). take n tail ++ 0 ∷ l) (drop_all (suc n) tail (omega arith))
 
-pub sealing : (frame le : List ℕ) → 5 < length frame → le ≡ to_le_bytes w32 (length frame - 5) → set (le ++ drop 4 frame) (length frame - 5 + 4) 0 ≡ sealed (group_of frame)
+pub sealing : (frame le : List ℕ) → 5 < length frame → le ≡ to_le_bytes w32 (length frame - 5)
+    → set (le ++ drop 4 frame) (length frame - 5 + 4) 0 ≡ sealed (group_of frame)
 sealing frame le some is =
     let four : length le ≡ 4 = ap length is in
     let at_tail : length frame - 5 + 4 - 4 ≡ length frame - 5 = omega arith in

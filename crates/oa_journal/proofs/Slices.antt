@@ -20,7 +20,8 @@ module _ (bank : List ℕ) (at n : ℕ) (within : at + n ≤ length bank) where
       (λ i lt. get_or-take n (drop at bank) i 0 (omega (arith, long)) ∙ get_or-drop at bank i 0 ∙ shows_xs i (omega (arith, long)))
 
 -- four bytes that spell a number
-pub number : (byte : ℕ → ℕ) (at n count p q r s : ℕ) → n < 2 ^ 32 → Shows byte at (to_le_bytes w32 n) → p ≡ at + 0 → q ≡ at + 1 → r ≡ at + 2 → s ≡ at + 3
+pub number : (byte : ℕ → ℕ) (at n count p q r s : ℕ) → n < 2 ^ 32 → Shows byte at (to_le_bytes w32 n) → p ≡ at + 0 → q ≡ at + 1
+    → r ≡ at + 2 → s ≡ at + 3
     → count ≡ byte p + byte q * 256 + byte r * 65536 + byte s * 16777216 → count ≡ n
 number byte at n count p q r s small spelled ps qs rs ss is =
     omega (arith, is, from_le_bytes-to_le_bytes_4 n small, ap byte ps ∙ spelled 0 (omega arith), ap byte qs ∙ spelled 1 (omega arith), ap byte rs ∙ spelled 2 (omega arith), ap byte ss ∙ spelled 3 (omega arith))

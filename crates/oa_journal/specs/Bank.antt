@@ -21,7 +21,8 @@ from_place place disk i = slice_index disk (place + i)
 -- "OAUTBK01", the number of the format, both lengths and twelve zeros, each number a u32 in little-endian order: 32 bytes
 unfoldable pub header_of : ℕ → ℕ → List ℕ
 header_of library snapshot =
-    79 ∷ 65 ∷ 85 ∷ 84 ∷ 66 ∷ 75 ∷ 48 ∷ 49 ∷ 1 ∷ 0 ∷ 0 ∷ 0 ∷ (to_le_bytes w32 library ++ (to_le_bytes w32 snapshot ++ 0 ∷ 0 ∷ 0 ∷ 0 ∷ 0 ∷ 0 ∷ 0 ∷ 0 ∷ 0 ∷ 0 ∷ 0 ∷ 0 ∷ []))
+    79 ∷ 65 ∷ 85 ∷ 84 ∷ 66 ∷ 75 ∷ 48 ∷ 49 ∷ 1 ∷ 0 ∷ 0 ∷ 0
+    ∷ (to_le_bytes w32 library ++ (to_le_bytes w32 snapshot ++ 0 ∷ 0 ∷ 0 ∷ 0 ∷ 0 ∷ 0 ∷ 0 ∷ 0 ∷ 0 ∷ 0 ∷ 0 ∷ 0 ∷ []))
 
 -- An open gate at this place, which is a 1, and behind it the group with its length. No group is empty.
 pub record IsGroup (byte : ℕ → ℕ) (at : ℕ) (group : List ℕ) : Type 0 where

@@ -1,5 +1,5 @@
 -- A bank without groups.
-use Rattle.std.proofs.Common.{◌≡◌, ℕ, ◌+◌, ◌<◌, List, [], ◌∷◌, ◌++◌, length, get_or, refl, sym, ◌∙◌, ap, arith, length-append}
+use Rattle.std.proofs.Common.{◌≡◌, ℕ, ◌+◌, ◌<◌, List, [], ◌∷◌, ◌++◌, length, get_or, refl, sym, ◌∙◌, ap, arith}
 use Rattle.oa_disk.specs.Disk.{Holds}
 use Rattle.oa_disk.specs.Ranges.{Holds-front, Holds-behind, Holds-next}
 use Rattle.oa_journal.specs.Bank.{bank_bytes, from_place, Shows, header_of, IsLaidOut}
@@ -9,11 +9,6 @@ use Rattle.oa_journal.specs.LaidOut.{length-header, start_of}
 abbrev pub front_of : List ℕ → List ℕ → List ℕ
 front_of library snapshot = header_of (length library) (length snapshot) ++ (library ++ (snapshot ++ 0 ∷ []))
 
-pub length-front : (library snapshot : List ℕ) → length (front_of library snapshot) ≡ start_of library snapshot + 1
-length-front library snapshot =
-    let header = header_of (length library) (length snapshot) in
-    omega (arith, length-append header (library ++ (snapshot ++ 0 ∷ [])), length-append library (snapshot ++ 0 ∷ []), length-append snapshot (0 ∷ []), length-header (length library) (length snapshot))
-
 -- bytes that a disk holds are shown from the place of the bank on
 pub held : (place at to : ℕ) (disk bytes : List ℕ) → to ≡ place + at → Holds disk to bytes → Shows (from_place place disk) at bytes
 held place at to disk bytes is holds i lt = ap (λ (k : ℕ). get_or disk k 0) (there i) ∙ holds.each i lt
@@ -21,7 +16,8 @@ held place at to disk bytes is holds i lt = ap (λ (k : ℕ). get_or disk k 0) (
     there : (i : ℕ) → place + (at + i) ≡ to + i
     there i = omega (arith, is)
 
-pub front_parts : (place : ℕ) (disk library snapshot : List ℕ) → start_of library snapshot < bank_bytes → Holds disk place (front_of library snapshot)
+pub front_parts : (place : ℕ) (disk library snapshot : List ℕ) → start_of library snapshot < bank_bytes
+    → Holds disk place (front_of library snapshot)
     → IsLaidOut (from_place place disk) library snapshot [] (start_of library snapshot)
 front_parts place disk library snapshot fits holds =
     let header = header_of (length library) (length snapshot) in
@@ -31,8 +27,10 @@ front_parts place disk library snapshot fits holds =
     let second = Holds-front disk (place + length header) library (snapshot ++ 0 ∷ []) behind_header in
     let behind_library = Holds-behind disk (place + length header) library (snapshot ++ 0 ∷ []) behind_header in
     let third = Holds-front disk (place + length header + length library) snapshot (0 ∷ []) behind_library in
-    let last : get_or disk (place + length header + length library + length snapshot) 0 ≡ 0 = Holds-next disk (place + length header + length library) snapshot 0 [] behind_library in
-    let there : place + length header + length library + length snapshot ≡ place + (32 + length library + length snapshot) = omega (arith, long) in
+    let last : get_or disk (place + length header + length library + length snapshot) 0 ≡ 0 =
+    Holds-next disk (place + length header + length library) snapshot 0 [] behind_library in
+    let there : place + length header + length library + length snapshot ≡ place + (32 + length library + length snapshot) =
+    omega (arith, long) in
     let shut : get_or disk (place + (32 + length library + length snapshot)) 0 ≡ 0 = ap (λ (k : ℕ). get_or disk k 0) (sym there) ∙ last in
     record {
       header = held place 0 place disk header (omega arith) first;

@@ -4,29 +4,36 @@ use Rattle.oa_disk.specs.Disk.{Elapses, LeavesOnly, Stays}
 use Rattle.oa_disk.specs.Moments.{started, goes_on, chained}
 
 -- The contents stay, and at every moment each image is one of those at its start.
-pub record OnlyReads {D : Type 0} (contents : D → List ℕ) (image : D → List ℕ → Type 0) (moment : D → ℕ) (image_since : D → ℕ → List ℕ → Type 0) (old new : D) : Type 0 where
+pub record OnlyReads {D : Type 0} (contents : D → List ℕ) (image : D → List ℕ → Type 0) (moment : D → ℕ)
+    (image_since : D → ℕ → List ℕ → Type 0) (old new : D) : Type 0 where
   pub contents_stay : contents new ≡ contents old
   pub images : (c : List ℕ) → image new c → image old c
   pub moments : LeavesOnly moment image_since old new (image old)
 
 module _ {D : Type 0} (contents : D → List ℕ) (image : D → List ℕ → Type 0) (moment : D → ℕ) (image_since : D → ℕ → List ℕ → Type 0) where
   -- no call
-  pub reads_none : (old : D) → ((c : List ℕ) → image_since old (moment old) c → image old c) → OnlyReads contents image moment image_since old old
+  pub reads_none : (old : D) → ((c : List ℕ) → image_since old (moment old) c → image old c)
+      → OnlyReads contents image moment image_since old old
   reads_none old only = record { contents_stay = refl; images = λ c is. is; moments = started moment image_since old (image old) only }
 
   -- one call that leaves contents and images as they were
-  pub reads_one : (old new : D) → ((c : List ℕ) → image_since old (moment old) c → image old c) → Stays (contents old) (contents new) (image old) (image new)
-      → Elapses (moment old) (moment new) (image_since old) (image_since new) (image new) → OnlyReads contents image moment image_since old new
+  pub reads_one : (old new : D) → ((c : List ℕ) → image_since old (moment old) c → image old c)
+      → Stays (contents old) (contents new) (image old) (image new)
+      → Elapses (moment old) (moment new) (image_since old) (image_since new) (image new)
+      → OnlyReads contents image moment image_since old new
   reads_one old new only stays time = record {
     contents_stay = stays.contents;
     images = stays.images;
-    moments = goes_on moment image_since old old new (image old) (image new) (started moment image_since old (image old) only) time stays.images;
+    moments = goes_on moment image_since old old new (image old) (image new)
+        (started moment image_since old (image old) only) time stays.images;
   }
 
   -- one run behind the other
-  pub reads_on : (old mid new : D) → OnlyReads contents image moment image_since old mid → OnlyReads contents image moment image_since mid new → OnlyReads contents image moment image_since old new
+  pub reads_on : (old mid new : D) → OnlyReads contents image moment image_since old mid
+      → OnlyReads contents image moment image_since mid new → OnlyReads contents image moment image_since old new
   reads_on old mid new first second = record {
     contents_stay = second.contents_stay ∙ first.contents_stay;
     images = λ c is. first.images c (second.images c is);
-    moments = chained moment image_since old mid new (image old) (image mid) (image old) first.moments second.moments (λ c is. is) first.images;
+    moments = chained moment image_since old mid new (image old) (image mid)
+        (image old) first.moments second.moments (λ c is. is) first.images;
   }

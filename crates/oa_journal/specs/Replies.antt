@@ -1,5 +1,6 @@
 -- What is answered of groups of events.
-use Rattle.std.specs.Prelude.{◌≡◌, ℕ, ◌+◌, ◌-◌, ◌^◌, ◌<◌, List, Result, Ok, Err, ⊤}
+use Rattle.std.specs.Prelude.{◌≡◌, ℕ, ◌+◌, List, Result, Ok, Err, ⊤}
+use Rattle.oa_disk.specs.Disk.{HasCounted}
 use Rattle.oa_layout.specs.declared.fault.ImageFault.{ImageFault}
 use Rattle.oa_layout.specs.declared.fault.ImageFault.TheVariants as images
 use Rattle.oa_table.specs.declared.event.Event.{Event}
@@ -34,7 +35,7 @@ of_change fault place = images.Damaged place
 -- a fault that speaks of the device is given only where a call has failed, and any other where none has
 abbrev pub IsCaused : ℕ → ℕ → BankFault → Type 0
 IsCaused before now (banks.Damaged place) = now ≡ before
-IsCaused before now (banks.Device fault) = now < 2 ^ 64 - 1 → before < now
+IsCaused before now (banks.Device fault) = HasCounted before now
 IsCaused before now banks.Memory = now ≡ before
 
 -- the damage of a bank that stands at a place of a disk

@@ -1,12 +1,13 @@
 //! One bank, where it stands on a disk.
-ghost use Rattle.std.specs.Prelude.{◌≡◌, ◌↔◌, ◌+◌, ◌-◌, ◌^◌, ◌<◌, ◌≤◌, List, ℕ, Bool, true, false, IsTrue, length, OnOk, IfOk, IfErr, IsErrOf};
-ghost use Rattle.oa_disk.specs.Disk.{LeavesOnly, Follows, Torn};
+ghost use Rattle.std.specs.Prelude.{◌≡◌, ◌↔◌, ◌+◌, ◌-◌, ◌^◌, ◌<◌, ◌≤◌, List, ℕ, Bool, true, false, IsTrue, length, OnOk, IfOk, IfErr};
+ghost use Rattle.std.specs.Prelude.{IsErrOf};
+ghost use Rattle.oa_disk.specs.Disk.{LeavesStep, HasCounted, Follows, Torn};
 ghost use Rattle.oa_disk.specs.declared.disk.DeviceFault.{DeviceFault};
 ghost use Rattle.oa_image.specs.Tables.{is_numbered};
 ghost use Rattle.oa_table.specs.Tables.{unlocked_table};
 ghost use Rattle.oa_journal.specs.Bank.{bank_bytes, from_place, IsBank, HasLibrary};
 ghost use Rattle.oa_journal.specs.Banks.{first_gate};
-ghost use Rattle.oa_journal.specs.Damages.{IsDamagedHeader, IsDamagedAt};
+ghost use Rattle.oa_journal.specs.Damages.{IsDamagedHeader, IsDamagedBank};
 ghost use Rattle.oa_journal.specs.Reads.{OnlyReads};
 ghost use Rattle.oa_journal.specs.Replies.{IsCaused};
 
@@ -158,16 +159,18 @@ impl Bank {
         requires inside { self.old.place + bank_bytes ≤ D.size_of disk.old }
 
         ensures any_moment { IsTrue (D.is_honest disk.old)
-            → LeavesOnly D.moment D.image_since disk.old disk.new (λ c. (d : List ℕ) × D.image disk.old d × Torn self.old.place bank_bytes d c) }
+            → LeavesStep D.moment D.image_since D.image disk.old disk.new (Torn self.old.place bank_bytes) }
         // At `Ok` it is what a read gives.
         ensures written { OnOk result (IsTrue (D.is_honest disk.old)
-            → IsBank (from_place self.old.place (D.contents disk.new)) library.now (unlocked_table table.now) (first_gate library.now table.now)) }
+            → IsBank (from_place self.old.place (D.contents disk.new)) library.now (unlocked_table table.now)
+            (first_gate library.now table.now)) }
         ensures others { IsTrue (D.is_honest disk.old) → Torn self.old.place bank_bytes (D.contents disk.old) (D.contents disk.new) }
         ensures bank { OnOk result (IsAt self.old.place (first_gate library.now table.now) self.old.stopped self.new) }
 
         ensures memory { IsErrOf result StartFault.Memory → (disk.new ≡ disk.old) × (self.new ≡ self.old) }
         ensures device { (fault : DeviceFault) → IsErrOf result (StartFault.Device fault)
-            → IsAt self.old.place self.old.gate true self.new × (fault ≡ DeviceFault.Write) × (D.failures_of disk.new < 2 ^ 64 - 1 → D.failures_of disk.old < D.failures_of disk.new) }
+            → IsAt self.old.place self.old.gate true self.new × (fault ≡ DeviceFault.Write)
+            × HasCounted (D.failures_of disk.old) (D.failures_of disk.new) }
         ensures size { D.size_of disk.new ≡ D.size_of disk.old }
         ensures honest { D.is_honest disk.new ≡ D.is_honest disk.old }
         ensures unfailed { OnOk result (D.failures_of disk.new ≡ D.failures_of disk.old) }
@@ -191,7 +194,8 @@ impl Bank {
     ) -> Result<Vec<u8>, BankFault>
         requires { self.old.place + bank_bytes ≤ D.size_of disk.old }
 
-        ensures found { IfOk result (λ library. IsTrue (D.is_honest disk.new) → HasLibrary (from_place self.old.place (D.contents disk.old)) library.items) }
+        ensures found { IfOk result (λ library. IsTrue (D.is_honest disk.new)
+            → HasLibrary (from_place self.old.place (D.contents disk.old)) library.items) }
         ensures bank { OnOk result (self.new ≡ self.old) }
         // `Damaged` for the header alone.
         ensures damaged { (at : ℕ) → IsErrOf result (BankFault.Damaged at) → (self.new ≡ self.old) × (at ≡ self.old.place)
@@ -216,8 +220,8 @@ impl Bank {
         }
     }
 
-    /// Reads the bank: its library, and its table after its groups. From then on the bank knows where its closed gate stands. After `Device` it
-    /// has stopped.
+    /// Reads the bank: its library, and its table after its groups. From then on the bank knows where its closed gate stands. After
+    /// `Device` it has stopped.
     pub fn read_all<D: Disk>(
         &mut self,
         alloc: Global,
@@ -225,12 +229,13 @@ impl Bank {
     ) -> Result<(Vec<u8>, Table), BankFault>
         requires { self.old.place + bank_bytes ≤ D.size_of disk.old }
 
-        ensures found { IfOk result (λ r. IsTrue (D.is_honest disk.new) → IsBank (from_place self.old.place (D.contents disk.old)) r.0.items r.1 self.new.gate) }
+        ensures found { IfOk result (λ r. IsTrue (D.is_honest disk.new)
+            → IsBank (from_place self.old.place (D.contents disk.old)) r.0.items r.1 self.new.gate) }
         ensures numbered { IfOk result (λ r. is_numbered r.1 ≡ true) }
         ensures bank { OnOk result (IsAt self.old.place self.new.gate self.old.stopped self.new) }
         // `Damaged` with the place on the disk of the first part that fails.
         ensures damaged { (at : ℕ) → IsErrOf result (BankFault.Damaged at) → (self.new ≡ self.old)
-            × (IsTrue (D.is_honest disk.new) → (offset : ℕ) × (at ≡ self.old.place + offset) × IsDamagedAt (from_place self.old.place (D.contents disk.old)) offset) }
+            × (IsTrue (D.is_honest disk.new) → IsDamagedBank self.old.place (D.contents disk.old) at) }
         ensures memory { IsErrOf result BankFault.Memory → self.new ≡ self.old }
         ensures device { (fault : DeviceFault) → IsErrOf result (BankFault.Device fault)
             → IsAt self.old.place self.old.gate true self.new × (fault ≡ DeviceFault.Read) }
@@ -274,8 +279,8 @@ impl Bank {
 
         // A crash at any moment leaves what it might have left, with the group or without it.
         ensures any_moment { IsTrue (D.is_honest disk.old)
-            → LeavesOnly D.moment D.image_since disk.old disk.new (λ c. (d : List ℕ) × D.image disk.old d
-            × IsWithOrWithout self.old.place self.old.gate (group_of frame.old) d c) }
+            → LeavesStep D.moment D.image_since D.image disk.old disk.new
+            (IsWithOrWithout self.old.place self.old.gate (group_of frame.old)) }
         // And at `Ok` with it.
         ensures done { OnOk result (IsTrue (D.is_honest disk.old)
             → Follows (IsWith self.old.place self.old.gate (group_of frame.old)) (D.image disk.old) (D.image disk.new)) }
@@ -287,7 +292,8 @@ impl Bank {
         ensures stopped { IsErrOf result AppendFault.Stopped ↔ (self.old.stopped ≡ true) }
         ensures stopped_same { IsErrOf result AppendFault.Stopped → (disk.new ≡ disk.old) × (self.new ≡ self.old) }
         ensures device { (fault : DeviceFault) → IsErrOf result (AppendFault.Device fault)
-            → IsAt self.old.place self.old.gate true self.new × (fault ≡ DeviceFault.Write) × (D.failures_of disk.new < 2 ^ 64 - 1 → D.failures_of disk.old < D.failures_of disk.new) }
+            → IsAt self.old.place self.old.gate true self.new × (fault ≡ DeviceFault.Write)
+            × HasCounted (D.failures_of disk.old) (D.failures_of disk.new) }
 
         ensures size { D.size_of disk.new ≡ D.size_of disk.old }
         ensures honest { D.is_honest disk.new ≡ D.is_honest disk.old }

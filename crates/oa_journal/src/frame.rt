@@ -1,6 +1,6 @@
 //! A group behind a closed gate, which is opened once the group is on the device.
 ghost use Rattle.std.specs.Prelude.{◌≡◌, ◌+◌, ◌^◌, ◌<◌, ◌≤◌, List, ℕ, IsTrue, length, OnOk, IfErr};
-ghost use Rattle.oa_disk.specs.Disk.{Holds, Torn, LeavesOnly, Follows, Counts};
+ghost use Rattle.oa_disk.specs.Disk.{Holds, Torn, LeavesStep, Follows, Counts};
 ghost use Rattle.oa_disk.specs.declared.disk.DeviceFault.{DeviceFault};
 ghost use Rattle.oa_journal.specs.Bank.{bank_bytes};
 ghost use Rattle.oa_journal.specs.Append.{group_of, sealed, IsWithOrWithout, IsWith};
@@ -32,8 +32,9 @@ pub(crate) fn append_group<D: Disk>(
     requires on_a_disk { place + bank_bytes < 2 ^ 63 }
 
     ensures any_moment { IsTrue (D.is_honest disk.old)
-        → LeavesOnly D.moment D.image_since disk.old disk.new (λ c. (d : List ℕ) × D.image disk.old d × IsWithOrWithout place gate (group_of frame.old) d c) }
-    ensures done { OnOk result (IsTrue (D.is_honest disk.old) → Follows (IsWith place gate (group_of frame.old)) (D.image disk.old) (D.image disk.new)) }
+        → LeavesStep D.moment D.image_since D.image disk.old disk.new (IsWithOrWithout place gate (group_of frame.old)) }
+    ensures done { OnOk result (IsTrue (D.is_honest disk.old)
+        → Follows (IsWith place gate (group_of frame.old)) (D.image disk.old) (D.image disk.new)) }
 
     ensures size { D.size_of disk.new ≡ D.size_of disk.old }
     ensures honest { D.is_honest disk.new ≡ D.is_honest disk.old }
@@ -53,7 +54,7 @@ pub(crate) fn lay_out<D: Disk>(disk: &mut D, place: u64, bytes: &[u8]) -> Result
     requires inside { place + bank_bytes ≤ D.size_of disk.old }
 
     ensures any_moment { IsTrue (D.is_honest disk.old)
-        → LeavesOnly D.moment D.image_since disk.old disk.new (λ c. (d : List ℕ) × D.image disk.old d × Torn place bank_bytes d c) }
+        → LeavesStep D.moment D.image_since D.image disk.old disk.new (Torn place bank_bytes) }
     ensures written { OnOk result (IsTrue (D.is_honest disk.old) → Holds (D.contents disk.new) place bytes.now) }
     ensures others { IsTrue (D.is_honest disk.old) → Torn place bank_bytes (D.contents disk.old) (D.contents disk.new) }
 

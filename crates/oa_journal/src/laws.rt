@@ -19,7 +19,8 @@ pub fn one_replay()
 
 /// What is damaged is no bank.
 pub fn damage_is_no_bank()
-    ensures { (byte : ℕ → ℕ) (place : ℕ) (library : List ℕ) (now : TableValue) (gate : ℕ) → IsDamagedAt byte place → IsBank byte library now gate → ⊥ }
+    ensures { (byte : ℕ → ℕ) (place : ℕ) (library : List ℕ) (now : TableValue) (gate : ℕ) → IsDamagedAt byte place
+        → IsBank byte library now gate → ⊥ }
 {}
 
 /// A bank begins as one of its library.

@@ -5,7 +5,7 @@ ghost use Rattle.oa_disk.specs.declared.disk.DeviceFault.{DeviceFault};
 ghost use Rattle.oa_image.specs.Tables.{is_numbered};
 ghost use Rattle.oa_journal.specs.declared.bank.BankFault.{BankFault};
 ghost use Rattle.oa_journal.specs.Bank.{bank_bytes, from_place, IsBank, HasLibrary};
-ghost use Rattle.oa_journal.specs.Damages.{IsDamagedHeader, IsDamagedAt};
+ghost use Rattle.oa_journal.specs.Damages.{IsDamagedHeader, IsDamagedBank};
 ghost use Rattle.oa_journal.specs.Reads.{OnlyReads};
 ghost use Rattle.oa_journal.specs.Replies.{IsCaused, on_disk};
 ghost use Rattle.oa_layout.specs.declared.fault.ImageFault.{ImageFault};
@@ -60,7 +60,8 @@ pub(crate) fn library_at<D: Disk>(
     requires inside { place + bank_bytes ≤ D.size_of disk.old }
     requires on_a_disk { place + bank_bytes < 2 ^ 63 }
 
-    ensures found { IfOk result (λ library. IsTrue (D.is_honest disk.new) → HasLibrary (from_place place (D.contents disk.old)) library.items) }
+    ensures found { IfOk result (λ library. IsTrue (D.is_honest disk.new)
+        → HasLibrary (from_place place (D.contents disk.old)) library.items) }
     ensures damaged { (at : ℕ) → IsErrOf result (BankFault.Damaged at)
         → (at ≡ place) × (IsTrue (D.is_honest disk.new) → IsDamagedHeader (from_place place (D.contents disk.old)) 0) }
     ensures device { (fault : DeviceFault) → IsErrOf result (BankFault.Device fault) → fault ≡ DeviceFault.Read }
@@ -112,7 +113,7 @@ pub(crate) fn bank_at<D: Disk>(
     ensures numbered { IfOk result (λ r. is_numbered r.1 ≡ true) }
     ensures gate { IfOk result (λ r. r.2 < bank_bytes) }
     ensures damaged { (at : ℕ) → IsErrOf result (BankFault.Damaged at)
-        → IsTrue (D.is_honest disk.new) → (offset : ℕ) × (at ≡ place + offset) × IsDamagedAt (from_place place (D.contents disk.old)) offset }
+        → IsTrue (D.is_honest disk.new) → IsDamagedBank place (D.contents disk.old) at }
     ensures device { (fault : DeviceFault) → IsErrOf result (BankFault.Device fault) → fault ≡ DeviceFault.Read }
 
     ensures reads { IsTrue (D.is_honest disk.new) → OnlyReads D.contents D.image D.moment D.image_since disk.old disk.new }

@@ -1,5 +1,6 @@
 //! Reading a bank's bytes.
-ghost use Rattle.std.specs.Prelude.{◌≡◌, ◌↔◌, ◌+◌, ◌<◌, ◌≤◌, ℕ, List, length, take, drop, slice_index, true, IfOk, IfErr, IsErr, IsErrOf, IsTrue};
+ghost use Rattle.std.specs.Prelude.{◌≡◌, ◌↔◌, ◌+◌, ◌<◌, ◌≤◌, ℕ, List, length, take, drop, slice_index, true, IfOk, IfErr, IsErr, IsErrOf};
+ghost use Rattle.std.specs.Prelude.{IsTrue};
 ghost use Rattle.oa_layout.specs.declared.fault.ImageFault.{ImageFault};
 ghost use Rattle.oa_image.specs.Tables.{is_numbered};
 ghost use Rattle.oa_table.specs.Tables.{TableValue};
@@ -82,10 +83,12 @@ fn read_group(alloc: Global, bank: &[u8], at: usize, table: &mut Table) -> Resul
     requires whole { length bank.now ≡ bank_bytes }
     requires inside { at < bank_bytes }
     requires opened { slice_index bank.now at ≡ 1 }
-    ensures found { IfOk result (λ next. (group : List ℕ) × IsGroup (slice_index bank.now) at group × Replays group table.old table.new × (next ≡ at + (5 + length group))) }
+    ensures found { IfOk result (λ next. (group : List ℕ) × IsGroup (slice_index bank.now) at group × Replays group table.old table.new
+        × (next ≡ at + (5 + length group))) }
     ensures inside { IfOk result (λ next. next < bank_bytes) }
     ensures nearer { IfOk result (λ next. at < next) }
-    ensures damaged { (place : ℕ) → IsErrOf result (ImageFault.Damaged place) → (place ≡ at) × IsNoGroup (slice_index bank.now) at table.old }
+    ensures damaged { (place : ℕ) → IsErrOf result (ImageFault.Damaged place)
+        → (place ≡ at) × IsNoGroup (slice_index bank.now) at table.old }
 {
     let Ok(group) = next_group(bank, at) else {
         return Err(ImageFault::Damaged(at));
@@ -106,7 +109,8 @@ fn read_groups(
 ) -> Result<(Table, usize), ImageFault>
     requires whole { length bank.now ≡ bank_bytes }
     requires inside { from < bank_bytes }
-    ensures found { IfOk result (λ r. (groups : List (List ℕ)) × Groups (slice_index bank.now) from groups r.1 × ReplaysAll groups first r.0) }
+    ensures found { IfOk result (λ r. (groups : List (List ℕ)) × Groups (slice_index bank.now) from groups r.1
+        × ReplaysAll groups first r.0) }
     ensures inside { IfOk result (λ r. r.1 < bank_bytes) }
     ensures damaged { (place : ℕ) → IsErrOf result (ImageFault.Damaged place) → StopsAt (slice_index bank.now) from first place }
 {

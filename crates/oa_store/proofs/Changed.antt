@@ -18,23 +18,27 @@ still_formatted at n chosen old new high torn was = record {
 }
 
 -- a group more in the bank, or not
-pub commit : (chosen gate : ℕ) (group old new : List ℕ) → IsWithOrWithout (bank_place chosen) gate group old new → IsCommit chosen gate group old new
+pub commit : (chosen gate : ℕ) (group old new : List ℕ) → IsWithOrWithout (bank_place chosen) gate group old new
+    → IsCommit chosen gate group old new
 commit chosen gate group old new is library table after was makes =
     let head = still_formatted (bank_place chosen) bank_bytes chosen old new (omega arith) is.outside was.head in
     ⊎_elim (λ without. inl (record { head = head; bank = without })) (λ with_it. inr (record { head = head; bank = with_it })) (is.bank library table after was.bank makes)
 
-pub committed : (chosen gate : ℕ) (group old new : List ℕ) → IsWith (bank_place chosen) gate group old new → IsCommitted chosen gate group old new
+pub committed : (chosen gate : ℕ) (group old new : List ℕ) → IsWith (bank_place chosen) gate group old new
+    → IsCommitted chosen gate group old new
 committed chosen gate group old new is library table after was makes = record {
   head = still_formatted (bank_place chosen) bank_bytes chosen old new (omega arith) is.outside was.head;
   bank = is.bank library table after was.bank makes;
 }
 
 -- bytes apart from a bank
-aside : (at n place : ℕ) (old new : List ℕ) → (at + n ≤ place) ⊎ (place + bank_bytes ≤ at) → Torn at n old new → (i : ℕ) → i < bank_bytes → from_place place new i ≡ from_place place old i
+aside : (at n place : ℕ) (old new : List ℕ) → (at + n ≤ place) ⊎ (place + bank_bytes ≤ at) → Torn at n old new → (i : ℕ) → i < bank_bytes
+    → from_place place new i ≡ from_place place old i
 aside at n place old new (inl under) torn i lt = torn.above (place + i) (omega arith)
 aside at n place old new (inr over) torn i lt = torn.below (place + i) (omega arith)
 
-stays : (at n place : ℕ) (old new library : List ℕ) (table : TableValue) (gate : ℕ) → gate < bank_bytes → (at + n ≤ place) ⊎ (place + bank_bytes ≤ at) → Torn at n old new
+stays : (at n place : ℕ) (old new library : List ℕ) (table : TableValue) (gate : ℕ) → gate < bank_bytes
+    → (at + n ≤ place) ⊎ (place + bank_bytes ≤ at) → Torn at n old new
     → IsBank (from_place place old) library table gate → IsBank (from_place place new) library table gate
 stays at n place old new library table gate inside apart torn bank =
     same_bank (from_place place old) (from_place place new) library table gate (λ i le. aside at n place old new apart torn i (omega (arith, inside, le))) bank
@@ -44,14 +48,16 @@ module _ (chosen gate next : ℕ) (library : List ℕ) (table : TableValue) (two
   apart = ⊎_elim (λ zero_is. inr (omega (arith, zero_is))) (λ not_zero. inl (omega (arith, not_zero, two))) (cases_eq chosen 0)
 
   -- the idle bank alone
-  pub staged : (old new : List ℕ) → Torn (bank_place (1 - chosen)) bank_bytes old new → IsStoreAt chosen gate library table old → IsStoreAt chosen gate library table new
+  pub staged : (old new : List ℕ) → Torn (bank_place (1 - chosen)) bank_bytes old new → IsStoreAt chosen gate library table old
+      → IsStoreAt chosen gate library table new
   staged old new torn was = record {
     head = still_formatted (bank_place (1 - chosen)) bank_bytes chosen old new (omega arith) torn was.head;
     bank = stays (bank_place (1 - chosen)) bank_bytes (bank_place chosen) old new library table gate was.bank.parts.inside apart torn was.bank;
   }
 
   -- and then the selector
-  module _ (old mid new : List ℕ) (torn : Torn (bank_place (1 - chosen)) bank_bytes old mid) (idle : IsBank (from_place (bank_place (1 - chosen)) mid) library table next) (switched : Torn 4096 1 mid new) where
+  module _ (old mid new : List ℕ) (torn : Torn (bank_place (1 - chosen)) bank_bytes old mid)
+      (idle : IsBank (from_place (bank_place (1 - chosen)) mid) library table next) (switched : Torn 4096 1 mid new) where
     size : IsStoreAt chosen gate library table old → 33562624 ≤ length new
     size was = omega (arith, switched.size, torn.size, was.head.size)
 

@@ -22,14 +22,16 @@ pub not_one : (n : ℕ) → n ≡ 0 → n ≢ 1
 not_one n is is_one = absurd (cc (is, is_one))
 
 -- bytes and selector, and behind them any first byte
-pub laid_down : (bytes a b c : List ℕ) (size : ℕ) → Holds a 8192 bytes → Torn 4096 1 a b → Holds b 4096 (0 ∷ []) → length b ≡ size → store_bytes ≤ size → Torn 0 1 b c → HasBank bytes c
+pub laid_down : (bytes a b c : List ℕ) (size : ℕ) → Holds a 8192 bytes → Torn 4096 1 a b → Holds b 4096 (0 ∷ []) → length b ≡ size
+    → store_bytes ≤ size → Torn 0 1 b c → HasBank bytes c
 laid_down bytes a b c size bank others selector long big torn = record {
   size = omega (arith, torn.size, long, big);
   bank = Holds_above 0 1 8192 bytes b c (omega arith) torn (Holds_above 4096 1 8192 bytes a b (omega arith) others bank);
   selector = torn.above 4096 (omega arith) ∙ selector.each 0 (omega arith);
 }
 
-module _ (library image bytes : List ℕ) (is : bytes ≡ front_of library (table_image first_table)) (is_table : a_table.Is first_table) (fits : first_gate library first_table < bank_bytes) where
+module _ (library image bytes : List ℕ) (is : bytes ≡ front_of library (table_image first_table)) (is_table : a_table.Is first_table)
+    (fits : first_gate library first_table < bank_bytes) where
   pub first_store : HasBank bytes image → get_or image 0 0 ≡ 1 → IsStoreAt 0 (first_gate library first_table) library first_table image
   first_store laid formatted = record {
     head = record { size = laid.size; formatted = formatted; selected = ap (λ (k : ℕ). k % 2) laid.selector };

@@ -9,12 +9,14 @@ use Rattle.oa_store.specs.Stores.{store_bytes, IsStoreAt}
 
 -- the store of before, with the group or without it
 abbrev pub IsCommit : ℕ → ℕ → List ℕ → List ℕ → List ℕ → Type 0
-IsCommit chosen gate group old new = (library : List ℕ) (table after : TableValue) → IsStoreAt chosen gate library table old → Replays group table after
+IsCommit chosen gate group old new = (library : List ℕ) (table after : TableValue) → IsStoreAt chosen gate library table old
+    → Replays group table after
     → IsStoreAt chosen gate library table new ⊎ IsStoreAt chosen (gate + (5 + length group)) library after new
 
 -- with it
 abbrev pub IsCommitted : ℕ → ℕ → List ℕ → List ℕ → List ℕ → Type 0
-IsCommitted chosen gate group old new = (library : List ℕ) (table after : TableValue) → IsStoreAt chosen gate library table old → Replays group table after
+IsCommitted chosen gate group old new = (library : List ℕ) (table after : TableValue) → IsStoreAt chosen gate library table old
+    → Replays group table after
     → IsStoreAt chosen (gate + (5 + length group)) library after new
 
 -- a store of the same table, in this bank or in the other one, with its closed gate at the next place

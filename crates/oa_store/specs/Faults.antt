@@ -1,5 +1,6 @@
 -- What the answers of an opening say.
-use Rattle.std.specs.Prelude.{◌≡◌, ◌≢◌, ◌⊎◌, ℕ, ◌+◌, ◌<◌, ◌-◌, ◌^◌, List, Option, Some, None, ⊤}
+use Rattle.std.specs.Prelude.{◌≡◌, ◌≢◌, ◌⊎◌, ℕ, ◌+◌, List, Option, Some, None, ⊤}
+use Rattle.oa_disk.specs.Disk.{HasCounted}
 use Rattle.oa_journal.specs.Bank.{from_place, HasLibrary}
 use Rattle.oa_journal.specs.Damages.{IsDamagedAt}
 use Rattle.oa_store.specs.declared.fault.OpenFault.{OpenFault}
@@ -43,7 +44,7 @@ abbrev pub IsCaused : ℕ → ℕ → OpenFault → Type 0
 IsCaused before now NotAStore = now ≡ before
 IsCaused before now LibraryDiffers = now ≡ before
 IsCaused before now (Damaged place) = now ≡ before
-IsCaused before now (Device fault) = now < 2 ^ 64 - 1 → before < now
+IsCaused before now (Device fault) = HasCounted before now
 IsCaused before now Memory = now ≡ before
 
 -- Its bank begins as one of another library.

@@ -9,8 +9,10 @@ pub record IsSameStore (library : List ℕ) (table : TableValue) (text : List �
   pub library_same : library ≡ text
   pub table_same : table ≡ other
 
-pub one_store : (image library text : List ℕ) (table other : TableValue) → IsStore image library table → IsStore image text other → IsSameStore library table text other
+pub one_store : (image library text : List ℕ) (table other : TableValue) → IsStore image library table → IsStore image text other
+    → IsSameStore library table text other
 one_store image library text table other one two =
-    let bank = subst (λ (k : ℕ). IsBank (from_place (bank_place k) image) text other two.1) (sym two.2.head.selected ∙ one.2.head.selected) two.2.bank in
+    let bank = subst (λ (k : ℕ). IsBank (from_place (bank_place k) image) text other two.1)
+    (sym two.2.head.selected ∙ one.2.head.selected) two.2.bank in
     let same = one_bank (from_place (bank_place one.0) image) library table one.1 text other two.1 one.2.bank bank in
     record { library_same = same.library_same; table_same = same.table_same }

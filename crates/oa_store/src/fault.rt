@@ -16,8 +16,8 @@ pub enum FormatFault {
     Memory,
 }
 
-/// Why a disk was not opened. An opening looks at the size, the first byte, the header of the bank, its library, its snapshot and its groups,
-/// and answers for the first of these that fails.
+/// Why a disk was not opened. An opening looks at the size, the first byte, the header of the bank, its library, its snapshot and its
+/// groups, and answers for the first of these that fails.
 #[derive(Clone, Copy, Debug, PartialEq, Eq, Error)]
 pub enum OpenFault {
     /// It has fewer bytes than a store, or its first byte is not 1.

@@ -1,7 +1,9 @@
 //! Making a store.
-ghost use Rattle.std.specs.Prelude.{◌≡◌, ◌≢◌, ◌⊎◌, ◌↔◌, ◌+◌, ◌-◌, ◌^◌, ◌<◌, ◌≤◌, List, ℕ, IsTrue, length, slice_index, OnOk, IfErr, IsErrOf};
-ghost use Rattle.oa_disk.specs.Disk.{LeavesOnly, Counts, Torn};
+ghost use Rattle.std.specs.Prelude.{◌≡◌, ◌≢◌, ◌⊎◌, ◌↔◌, ◌+◌, ◌-◌, ◌^◌, ◌<◌, ◌≤◌, List, ℕ, IsTrue, length, slice_index, OnOk, IfErr};
+ghost use Rattle.std.specs.Prelude.{IsErrOf};
+ghost use Rattle.oa_disk.specs.Disk.{LeavesOnly, LeavesStep, HasCounted, Counts, Torn};
 ghost use Rattle.oa_disk.specs.declared.disk.DeviceFault.{DeviceFault};
+ghost use Rattle.oa_model.specs.Limits.{max_library_bytes};
 ghost use Rattle.oa_table.specs.Tables.{first_table};
 ghost use Rattle.oa_store.specs.declared.fault.FormatFault.{FormatFault};
 ghost use Rattle.oa_store.specs.Stores.{store_bytes, IsStoreAt};
@@ -20,7 +22,7 @@ use std::alloc::Global;
 fn close<D: Disk>(disk: &mut D) -> Result<(), DeviceFault>
     requires { 0 < D.size_of disk.old }
     ensures any_moment { IsTrue (D.is_honest disk.old)
-        → LeavesOnly D.moment D.image_since disk.old disk.new (λ c. (d : List ℕ) × D.image disk.old d × Torn 0 1 d c) }
+        → LeavesStep D.moment D.image_since D.image disk.old disk.new (Torn 0 1) }
     ensures done { OnOk result (IsTrue (D.is_honest disk.old) → (c : List ℕ) → D.image disk.new c → slice_index c 0 ≡ 0) }
     ensures size { D.size_of disk.new ≡ D.size_of disk.old }
     ensures honest { D.is_honest disk.new ≡ D.is_honest disk.old }
@@ -37,7 +39,8 @@ fn fill<D: Disk>(disk: &mut D, bytes: &[u8]) -> Result<(), DeviceFault>
     requires few { length bytes.now ≤ 16777216 }
     ensures any_moment { IsTrue (D.is_honest disk.old) → ((c : List ℕ) → D.image disk.old c → slice_index c 0 ≡ 0)
         → LeavesOnly D.moment D.image_since disk.old disk.new (λ c. (slice_index c 0 ≢ 1) ⊎ HasBank bytes.now c) }
-    ensures done { OnOk result (IsTrue (D.is_honest disk.old) → (c : List ℕ) → D.image disk.new c → HasBank bytes.now c × (slice_index c 0 ≡ 1)) }
+    ensures done { OnOk result (IsTrue (D.is_honest disk.old) → (c : List ℕ) → D.image disk.new c
+        → HasBank bytes.now c × (slice_index c 0 ≡ 1)) }
     ensures size { D.size_of disk.new ≡ D.size_of disk.old }
     ensures honest { D.is_honest disk.new ≡ D.is_honest disk.old }
     ensures counts { Counts (D.failures_of disk.old) (D.failures_of disk.new) result }
@@ -53,15 +56,17 @@ fn fill<D: Disk>(disk: &mut D, bytes: &[u8]) -> Result<(), DeviceFault>
 /// Refused as `TooSmall` and for want of memory before the first call of the disk. A stop within it leaves what was there but for the
 /// first byte, or a disk that is not formatted, or the new store.
 pub fn format<D: Disk>(alloc: Global, disk: &mut D, library: &[u8]) -> Result<(), FormatFault>
-    requires { length library.now ≤ 262144 }
+    requires { length library.now ≤ max_library_bytes }
 
-    ensures any_moment { IsTrue (D.is_honest disk.old) → LeavesOnly D.moment D.image_since disk.old disk.new (IsFormatting (D.image disk.old) library.now) }
-    ensures done { OnOk result (IsTrue (D.is_honest disk.old) → (c : List ℕ) → D.image disk.new c → IsStoreAt 0 (first_gate library.now first_table) library.now first_table c) }
+    ensures any_moment { IsTrue (D.is_honest disk.old)
+        → LeavesOnly D.moment D.image_since disk.old disk.new (IsFormatting (D.image disk.old) library.now) }
+    ensures done { OnOk result (IsTrue (D.is_honest disk.old) → (c : List ℕ) → D.image disk.new c
+        → IsStoreAt 0 (first_gate library.now first_table) library.now first_table c) }
     ensures small { IsErrOf result FormatFault.TooSmall ↔ (D.size_of disk.old < store_bytes) }
     ensures small_same { IsErrOf result FormatFault.TooSmall → disk.new ≡ disk.old }
     ensures memory { IsErrOf result FormatFault.Memory → disk.new ≡ disk.old }
     ensures device { (fault : DeviceFault) → IsErrOf result (FormatFault.Device fault)
-        → (fault ≡ DeviceFault.Write) × (D.failures_of disk.new < 2 ^ 64 - 1 → D.failures_of disk.old < D.failures_of disk.new) }
+        → (fault ≡ DeviceFault.Write) × HasCounted (D.failures_of disk.old) (D.failures_of disk.new) }
     ensures size { D.size_of disk.new ≡ D.size_of disk.old }
     ensures honest { D.is_honest disk.new ≡ D.is_honest disk.old }
     ensures unfailed { OnOk result (D.failures_of disk.new ≡ D.failures_of disk.old) }

@@ -51,7 +51,8 @@ pub(crate) fn find_bank<D: Disk>(disk: &mut D) -> Result<u8, OpenFault>
     ensures big { OnOk result (store_bytes ≤ D.size_of disk.old) }
     ensures synced { OnOk result (IsTrue (D.is_honest disk.new) → Only (D.contents disk.old) (D.image disk.new)) }
     ensures early { IfErr result IsEarly }
-    ensures foreign { IsErrOf result OpenFault.NotAStore → IsTrue (D.is_honest disk.new) → IsForeign (D.size_of disk.old) (D.contents disk.old) }
+    ensures foreign { IsErrOf result OpenFault.NotAStore → IsTrue (D.is_honest disk.new)
+        → IsForeign (D.size_of disk.old) (D.contents disk.old) }
     ensures contents { OnOk result (IsTrue (D.is_honest disk.new) → D.contents disk.new ≡ D.contents disk.old) }
     ensures reads { IsTrue (D.is_honest disk.new) → WritesNothing D.image D.moment D.image_since disk.old disk.new }
     ensures size { D.size_of disk.new ≡ D.size_of disk.old }

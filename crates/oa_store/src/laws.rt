@@ -8,7 +8,8 @@ ghost use Rattle.oa_store.specs.Stores.{IsStoreAt, IsStore};
 
 /// An image is a store of one library and one table.
 pub fn one_store()
-    ensures { (image library text : List ℕ) (table other : TableValue) → IsStore image library table → IsStore image text other → IsSameStore library table text other }
+    ensures { (image library text : List ℕ) (table other : TableValue) → IsStore image library table → IsStore image text other
+        → IsSameStore library table text other }
 {}
 
 /// What a stop within a commit may leave is a store of the table before or of the one after.
@@ -19,6 +20,7 @@ pub fn commit_leaves_a_store()
 
 /// What a stop within a checkpoint may leave is a store of the same table.
 pub fn checkpoint_leaves_a_store()
-    ensures { (chosen gate next : ℕ) (library : List ℕ) (table : TableValue) (old new : List ℕ) → IsSwitch chosen gate next library table old new
+    ensures { (chosen gate next : ℕ) (library : List ℕ) (table : TableValue) (old new : List ℕ)
+        → IsSwitch chosen gate next library table old new
         → IsStoreAt chosen gate library table old → IsStore new library table }
 {}

@@ -1,10 +1,11 @@
 //! Reading a store.
-ghost use Rattle.std.specs.Prelude.{◌≡◌, ◌↔◌, ◌+◌, ◌-◌, ◌^◌, ◌<◌, ◌≤◌, ℕ, List, true, false, Some, None, IsTrue, OnOk, IfOk, IfErr, IsErrOf};
+ghost use Rattle.std.specs.Prelude.{◌≡◌, ◌↔◌, ◌+◌, ◌-◌, ◌^◌, ◌<◌, ◌≤◌, ℕ, List, true, false, Some, None, IsTrue, OnOk, IfOk, IfErr};
+ghost use Rattle.std.specs.Prelude.{IsErrOf};
 ghost use Rattle.oa_disk.specs.Disk.{Only};
 ghost use Rattle.oa_image.specs.Tables.{is_numbered};
 ghost use Rattle.oa_journal.specs.Append.{IsAt};
 ghost use Rattle.oa_journal.specs.Bank.{bank_bytes, from_place, IsBank, HasLibrary};
-ghost use Rattle.oa_journal.specs.Damages.{IsDamagedAt};
+ghost use Rattle.oa_journal.specs.Damages.{IsDamagedAt, IsDamagedBank};
 ghost use Rattle.oa_store.specs.declared.fault.OpenFault.{OpenFault};
 ghost use Rattle.oa_store.specs.Faults.{IsEarly, IsLate, IfDamaged, IsCaused, Says};
 ghost use Rattle.oa_store.specs.Reads.{WritesNothing};
@@ -35,9 +36,11 @@ fn same(one: &[u8], other: &[u8]) -> bool
 /// The library of a bank, from its header and its text alone.
 fn read_library<D: Disk>(alloc: Global, disk: &mut D, bank: &mut Bank) -> Result<Vec<u8>, OpenFault>
     requires { bank.old.place + bank_bytes ≤ D.size_of disk.old }
-    ensures found { IfOk result (λ text. IsTrue (D.is_honest disk.new) → HasLibrary (from_place bank.old.place (D.contents disk.old)) text.items) }
+    ensures found { IfOk result (λ text. IsTrue (D.is_honest disk.new)
+        → HasLibrary (from_place bank.old.place (D.contents disk.old)) text.items) }
     ensures bank { OnOk result (bank.new ≡ bank.old) }
-    ensures damaged { IfErr result (λ e. IsTrue (D.is_honest disk.new) → IfDamaged e (λ at. (at ≡ bank.old.place) × IsDamagedAt (from_place bank.old.place (D.contents disk.old)) 0)) }
+    ensures damaged { IfErr result (λ e. IsTrue (D.is_honest disk.new)
+        → IfDamaged e (λ at. (at ≡ bank.old.place) × IsDamagedAt (from_place bank.old.place (D.contents disk.old)) 0)) }
     ensures late { IfErr result IsLate }
     ensures cause { IfErr result (IsCaused (D.failures_of disk.old) (D.failures_of disk.new)) }
     ensures contents { IsTrue (D.is_honest disk.new) → D.contents disk.new ≡ D.contents disk.old }
@@ -62,10 +65,12 @@ fn read_all<D: Disk>(
     bank: &mut Bank,
 ) -> Result<(Vec<u8>, Table), OpenFault>
     requires { bank.old.place + bank_bytes ≤ D.size_of disk.old }
-    ensures found { IfOk result (λ r. IsTrue (D.is_honest disk.new) → IsBank (from_place bank.old.place (D.contents disk.old)) r.0.items r.1 bank.new.gate) }
+    ensures found { IfOk result (λ r. IsTrue (D.is_honest disk.new)
+        → IsBank (from_place bank.old.place (D.contents disk.old)) r.0.items r.1 bank.new.gate) }
     ensures numbered { IfOk result (λ r. is_numbered r.1 ≡ true) }
     ensures bank { OnOk result (IsAt bank.old.place bank.new.gate bank.old.stopped bank.new) }
-    ensures damaged { IfErr result (λ e. IsTrue (D.is_honest disk.new) → IfDamaged e (λ at. (offset : ℕ) × (at ≡ bank.old.place + offset) × IsDamagedAt (from_place bank.old.place (D.contents disk.old)) offset)) }
+    ensures damaged { IfErr result (λ e. IsTrue (D.is_honest disk.new)
+        → IfDamaged e (IsDamagedBank bank.old.place (D.contents disk.old))) }
     ensures late { IfErr result IsLate }
     ensures cause { IfErr result (IsCaused (D.failures_of disk.old) (D.failures_of disk.new)) }
     ensures contents { IsTrue (D.is_honest disk.new) → D.contents disk.new ≡ D.contents disk.old }
@@ -90,7 +95,8 @@ pub(crate) fn find_store<D: Disk>(
     library: &[u8],
 ) -> Result<Found, OpenFault>
     // what the contents are a store of
-    ensures found { IfOk result (λ f. IsTrue (D.is_honest disk.new) → IsStoreAt f.chosen f.bank.gate library.now f.table (D.contents disk.old)) }
+    ensures found { IfOk result (λ f. IsTrue (D.is_honest disk.new)
+        → IsStoreAt f.chosen f.bank.gate library.now f.table (D.contents disk.old)) }
     ensures library { IfOk result (λ f. f.library.items ≡ library.now) }
     ensures numbered { IfOk result (λ f. is_numbered f.table ≡ true) }
     ensures bank { IfOk result (λ f. IsAt (bank_place f.chosen) f.bank.gate false f.bank) }
@@ -100,7 +106,8 @@ pub(crate) fn find_store<D: Disk>(
     ensures synced { OnOk result (IsTrue (D.is_honest disk.new) → Only (D.contents disk.old) (D.image disk.new)) }
     ensures contents { OnOk result (IsTrue (D.is_honest disk.new) → D.contents disk.new ≡ D.contents disk.old) }
     ensures reads { IsTrue (D.is_honest disk.new) → WritesNothing D.image D.moment D.image_since disk.old disk.new }
-    ensures says { IfErr result (λ e. IsTrue (D.is_honest disk.new) → Says (Some library.now) (D.size_of disk.old) (D.contents disk.old) e) }
+    ensures says { IfErr result (λ e. IsTrue (D.is_honest disk.new)
+        → Says (Some library.now) (D.size_of disk.old) (D.contents disk.old) e) }
     ensures early { IfErr result (λ e. IsTrue (D.is_honest disk.new) → IsForeign (D.size_of disk.old) (D.contents disk.old) → IsEarly e) }
     ensures size { D.size_of disk.new ≡ D.size_of disk.old }
     ensures honest { IsTrue (D.is_honest disk.new) → IsTrue (D.is_honest disk.old) }

@@ -1,7 +1,9 @@
 //! A store that is open.
-ghost use Rattle.std.specs.Prelude.{◌≡◌, ◌↔◌, ◌+◌, ◌*◌, ◌-◌, ◌^◌, ◌<◌, ◌≤◌, List, ℕ, Bool, true, false, Some, IsTrue, length, OnOk, OnErr, IfOk, IfErr, IsErr, IsErrOf};
-ghost use Rattle.oa_disk.specs.Disk.{LeavesOnly, Follows};
+ghost use Rattle.std.specs.Prelude.{◌≡◌, ◌↔◌, ◌+◌, ◌*◌, ◌-◌, ◌^◌, ◌<◌, ◌≤◌, List, ℕ, Bool, true, false, Some, IsTrue, length, OnOk, OnErr};
+ghost use Rattle.std.specs.Prelude.{IfOk, IfErr, IsErr, IsErrOf};
+ghost use Rattle.oa_disk.specs.Disk.{LeavesStep, HasCounted, Follows};
 ghost use Rattle.oa_disk.specs.declared.disk.DeviceFault.{DeviceFault};
+ghost use Rattle.oa_model.specs.Limits.{max_library_bytes, max_table_bytes};
 ghost use Rattle.oa_table.specs.Tables.{TableValue, unlocked_table};
 ghost use Rattle.oa_image.specs.Tables.{is_numbered, table_image};
 ghost use Rattle.oa_journal.specs.Bank.{bank_bytes};
@@ -40,7 +42,7 @@ pub struct Store<D: Disk> {
     ghost two: { chosen < 2 },
     ghost placed: { bank.place ≡ bank_place chosen },
     ghost goes_on: { stopped ≡ false → bank.stopped ≡ false },
-    ghost small: { length library.items ≤ 262144 },
+    ghost small: { length library.items ≤ max_library_bytes },
     ghost big: { store_bytes ≤ D.size_of disk },
 }
 
@@ -48,16 +50,20 @@ impl<D: Disk> Store<D> {
     /// Opens the store of this library that is on the disk, and answers its table, which has no locks. It writes nothing, and begins with
     /// a sync. A refusal hands the disk back.
     pub fn open(alloc: Global, disk: D, library: &[u8]) -> Result<(Store<D>, Table), (D, OpenFault)>
-        requires { length library.now ≤ 262144 }
+        requires { length library.now ≤ max_library_bytes }
 
         // Each image at the end is a store of the answered table, and of that alone.
-        ensures found { IfOk result (λ r. IsTrue (D.is_honest r.0.disk) → (c : List ℕ) → D.image r.0.disk c → IsStoreAt r.0.chosen r.0.bank.gate library.now r.1 c) }
+        ensures found { IfOk result (λ r. IsTrue (D.is_honest r.0.disk) → (c : List ℕ) → D.image r.0.disk c
+            → IsStoreAt r.0.chosen r.0.bank.gate library.now r.1 c) }
         // So are the contents at the start, and they of no other.
-        ensures contents { IfOk result (λ r. IsTrue (D.is_honest r.0.disk) → IsStoreAt r.0.chosen r.0.bank.gate library.now r.1 (D.contents disk)) }
-        ensures only { IfOk result (λ r. IsTrue (D.is_honest r.0.disk) → (table : TableValue) → IsStore (D.contents disk) library.now table → table ≡ r.1) }
+        ensures contents { IfOk result (λ r. IsTrue (D.is_honest r.0.disk)
+            → IsStoreAt r.0.chosen r.0.bank.gate library.now r.1 (D.contents disk)) }
+        ensures only { IfOk result (λ r. IsTrue (D.is_honest r.0.disk) → (table : TableValue) → IsStore (D.contents disk) library.now table
+            → table ≡ r.1) }
         // A refusal is true of the contents at the start, and they are no store of this library.
         ensures says { IfErr result (λ e. IsTrue (D.is_honest e.0) → Says (Some library.now) (D.size_of disk) (D.contents disk) e.1) }
-        ensures refused { IfErr result (λ e. IsRefusal e.1 → IsTrue (D.is_honest e.0) → (table : TableValue) → IsStore (D.contents disk) library.now table → ⊥) }
+        ensures refused { IfErr result (λ e. IsRefusal e.1 → IsTrue (D.is_honest e.0) → (table : TableValue)
+            → IsStore (D.contents disk) library.now table → ⊥) }
         // A disk that is too small or not formatted is found to be that before memory is taken.
         ensures early { IfErr result (λ e. IsTrue (D.is_honest e.0) → IsForeign (D.size_of disk) (D.contents disk) → IsEarly e.1) }
         ensures starts { IfOk result (λ r. (r.0.stopped ≡ false) × (r.0.library.items ≡ library.now) × (is_numbered r.1 ≡ true)) }
@@ -126,11 +132,12 @@ impl<D: Disk> Store<D> {
 
         // A crash at any moment leaves the store of before, with the group or without it.
         ensures any_moment { IsTrue (D.is_honest self.old.disk)
-            → LeavesOnly D.moment D.image_since self.old.disk self.new.disk (λ c. (d : List ℕ) × D.image self.old.disk d
-            × IsCommit self.old.chosen self.old.bank.gate (group_of frame.old) d c) }
+            → LeavesStep D.moment D.image_since D.image self.old.disk self.new.disk
+            (IsCommit self.old.chosen self.old.bank.gate (group_of frame.old)) }
         // And at `Ok` with it.
         ensures done { OnOk result (IsTrue (D.is_honest self.old.disk)
-            → Follows (IsCommitted self.old.chosen self.old.bank.gate (group_of frame.old)) (D.image self.old.disk) (D.image self.new.disk)) }
+            → Follows (IsCommitted self.old.chosen self.old.bank.gate (group_of frame.old)) (D.image self.old.disk)
+            (D.image self.new.disk)) }
         ensures gate { OnOk result (self.new.bank.gate ≡ self.old.bank.gate + (5 + length (group_of frame.old))) }
         ensures refused { OnErr result (self.new.bank.gate ≡ self.old.bank.gate) }
         ensures kept { group_of frame.new ≡ group_of frame.old }
@@ -141,7 +148,8 @@ impl<D: Disk> Store<D> {
         ensures stopped { IsErrOf result CommitFault.Stopped ↔ (self.old.stopped ≡ true) }
         ensures stopped_same { self.old.stopped ≡ true → self.new.disk ≡ self.old.disk }
         ensures fault { (fault : DeviceFault) → IsErrOf result (CommitFault.Device fault) → fault ≡ DeviceFault.Write }
-        ensures cause { IsErr result → self.old.stopped ≡ false → D.failures_of self.new.disk < 2 ^ 64 - 1 → D.failures_of self.old.disk < D.failures_of self.new.disk }
+        ensures cause { IsErr result → self.old.stopped ≡ false
+            → HasCounted (D.failures_of self.old.disk) (D.failures_of self.new.disk) }
         ensures honest { D.is_honest self.new.disk ≡ D.is_honest self.old.disk }
         ensures unfailed { OnOk result (D.failures_of self.new.disk ≡ D.failures_of self.old.disk) }
         ensures failures { D.failures_of self.old.disk ≤ D.failures_of self.new.disk }
@@ -164,16 +172,18 @@ impl<D: Disk> Store<D> {
     ///
     /// That the table, its locks apart, is the committed one is a premise of what the images hold, not a condition of the call.
     pub fn checkpoint(&mut self, table: &Table) -> Result<(), CheckpointFault>
-        requires fits { length (table_image table.now) ≤ 14680064 }
+        requires fits { length (table_image table.now) ≤ max_table_bytes }
         requires numbered { is_numbered table.now ≡ true }
 
         // A crash at any moment leaves a store of the same table.
         ensures any_moment { IsTrue (D.is_honest self.old.disk)
-            → LeavesOnly D.moment D.image_since self.old.disk self.new.disk (λ c. (d : List ℕ) × D.image self.old.disk d
-            × IsSwitch self.old.chosen self.old.bank.gate (first_gate self.old.library.items table.now) self.old.library.items (unlocked_table table.now) d c) }
+            → LeavesStep D.moment D.image_since D.image self.old.disk self.new.disk
+            (IsSwitch self.old.chosen self.old.bank.gate (first_gate self.old.library.items table.now)
+            self.old.library.items (unlocked_table table.now)) }
         // And at `Ok` in the other bank.
         ensures done { OnOk result (IsTrue (D.is_honest self.old.disk)
-            → Follows (IsSwitched self.old.chosen self.old.bank.gate (first_gate self.old.library.items table.now) self.old.library.items (unlocked_table table.now)) (D.image self.old.disk) (D.image self.new.disk)) }
+            → Follows (IsSwitched self.old.chosen self.old.bank.gate (first_gate self.old.library.items table.now)
+            self.old.library.items (unlocked_table table.now)) (D.image self.old.disk) (D.image self.new.disk)) }
         ensures gate { OnOk result (self.new.bank.gate ≡ first_gate self.old.library.items table.now) }
         ensures room { OnOk result (1572869 ≤ bank_bytes - self.new.bank.gate) }
         ensures chosen { OnOk result (self.new.chosen ≡ 1 - self.old.chosen) }
@@ -182,9 +192,13 @@ impl<D: Disk> Store<D> {
         ensures goes_on { OnOk result (self.new.stopped ≡ false) }
         ensures stopped { IsErrOf result CheckpointFault.Stopped ↔ (self.old.stopped ≡ true) }
         ensures stopped_same { self.old.stopped ≡ true → (self.new.disk ≡ self.old.disk) × (self.new.stopped ≡ true) }
-        ensures memory { IsErrOf result CheckpointFault.Memory → (self.new.disk ≡ self.old.disk) × (self.new.chosen ≡ self.old.chosen) × (self.new.bank.gate ≡ self.old.bank.gate) × (self.new.stopped ≡ false) }
-        ensures device { (fault : DeviceFault) → IsErrOf result (CheckpointFault.Device fault) → (self.new.stopped ≡ true) × (fault ≡ DeviceFault.Write) }
-        ensures cause { (fault : DeviceFault) → IsErrOf result (CheckpointFault.Device fault) → D.failures_of self.new.disk < 2 ^ 64 - 1 → D.failures_of self.old.disk < D.failures_of self.new.disk }
+        ensures memory { IsErrOf result CheckpointFault.Memory
+            → (self.new.disk ≡ self.old.disk) × (self.new.chosen ≡ self.old.chosen) × (self.new.bank.gate ≡ self.old.bank.gate)
+            × (self.new.stopped ≡ false) }
+        ensures device { (fault : DeviceFault) → IsErrOf result (CheckpointFault.Device fault)
+            → (self.new.stopped ≡ true) × (fault ≡ DeviceFault.Write) }
+        ensures cause { (fault : DeviceFault) → IsErrOf result (CheckpointFault.Device fault)
+            → HasCounted (D.failures_of self.old.disk) (D.failures_of self.new.disk) }
         ensures honest { D.is_honest self.new.disk ≡ D.is_honest self.old.disk }
         ensures unfailed { OnOk result (D.failures_of self.new.disk ≡ D.failures_of self.old.disk) }
         ensures failures { D.failures_of self.old.disk ≤ D.failures_of self.new.disk }

@@ -1,4 +1,4 @@
-use Rattle.std.proofs.Common.{◌≡◌, ◌∙◌, length, ap, sym}
+use Rattle.std.proofs.Common.{◌∙◌, length, ap, sym}
 use Rattle.std.proofs.lemmas.List.{length-take-le}
 use Rattle.oa_journal.specs.LaidOut.{length-header}
 use Rattle.oa_journal.proofs.layout.put_header.Goals as goal

@@ -7,6 +7,7 @@ pub mod Refused
 pub mod Keys
 pub mod Reached
 pub mod Bound
+pub mod Disconnected
 pub mod Fitting
 pub mod Planned
 pub mod Planning

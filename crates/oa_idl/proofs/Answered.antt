@@ -1,5 +1,6 @@
 -- What reading a whole text says of it.
-use Rattle.std.proofs.Common.{◌≡◌, ℕ, ◌-◌, true, List, [], ◌∷◌, ◌++◌, length, map, refl, sym, ap, subst, ◌∙◌, append_assoc, arith, Result, Ok, Err}
+use Rattle.std.proofs.Common.{◌≡◌, ℕ, ◌-◌, true, List, [], ◌∷◌, ◌++◌, length, map, refl, sym, ap, subst, ◌∙◌, append_assoc, arith, Result}
+use Rattle.std.proofs.Common.{Ok, Err}
 use Rattle.std.proofs.lemmas.List.{append-nil}
 use Rattle.oa_idl.specs.declared.lexer.Token.{Token}
 use Rattle.oa_idl.specs.declared.stop.Stop.TheVariants.{Syntax}
@@ -43,7 +44,13 @@ record Closed (text : List Word) : Type 0 where
 closed_after : {F G : List Word → Type 0} (text : List Word) → ((ws : List Word) → G ws → Closed ws) → Then F G text → Closed text
 closed_after text close f =
     let c = close f.back f.second in
-    record { front = f.front ++ c.front; word = c.word; parts = f.parts ∙ ap (λ (ws : List Word). f.front ++ ws) c.parts ∙ sym (append_assoc f.front c.front (c.word ∷ [])); is = c.is }
+    record {
+      front = f.front ++ c.front;
+      word = c.word;
+      parts =
+          f.parts ∙ ap (λ (ws : List Word). f.front ++ ws) c.parts ∙ sym (append_assoc f.front c.front (c.word ∷ []));
+      is = c.is;
+    }
 
 closed_sign : (text : List Word) → (sign [] ▸ nothing) text → Closed text
 closed_sign text f = record { front = []; word = f.first.word; parts = f.parts ∙ ap (λ (ws : List Word). f.front ++ ws) f.second ∙ append-nil f.front ∙ f.first.parts; is = f.first.is }
@@ -51,7 +58,8 @@ closed_sign text f = record { front = []; word = f.first.word; parts = f.parts �
 closed_text : (t : TreeValue) (text : List Word) → library t text → Closed text
 closed_text t text f = closed_after text (λ a g. closed_after a (λ b h. closed_after b (λ c i. closed_after c (λ d j. closed_after d (λ e k. closed_after e (λ m l. closed_sign m l) k) j) i) h) g) f
 
-tree_is : (words : List Word) (t : TreeValue) (left : List Word) → Ended words → library_at words ≡ Got t left → library t words × ((l : TreeLimit) → Keeps l t)
+tree_is : (words : List Word) (t : TreeValue) (left : List Word) → Ended words → library_at words ≡ Got t left
+    → library t words × ((l : TreeLimit) → Keeps l t)
 tree_is words t left ended e =
     let h = (library_parses {n = length words}).takes words t left (omega arith) e in
     let c = closed_text t h.1.text h.1.form in
@@ -60,8 +68,10 @@ tree_is words t left ended e =
     let all : words ≡ h.1.text = h.1.parts ∙ ap (λ (ws : List Word). h.1.text ++ ws) none ∙ append-nil h.1.text in
     (subst (library t) (sym all) h.1.form, tree_kept t h.0.1)
 
-syntax_is : (text : List ℕ) (ts : List Token) (left : List Word) (place : ℕ) → AreTokens 0 text ts → library_at (words_of text ts) ≡ Stuck Syntax left
-    → place ≡ place_after (length text) (ts ++ end_token (length text) ∷ []) (length (ts ++ end_token (length text) ∷ []) - length left) → Refused AnyTree text place
+syntax_is : (text : List ℕ) (ts : List Token) (left : List Word) (place : ℕ) → AreTokens 0 text ts
+    → library_at (words_of text ts) ≡ Stuck Syntax left
+    → place ≡ place_after (length text) (ts ++ end_token (length text) ∷ []) (length (ts ++ end_token (length text) ∷ []) - length left)
+    → Refused AnyTree text place
 syntax_is text ts left place are e at =
     let h = (library_parses {n = length (words_of text ts)}).stuck (words_of text ts) Syntax left (omega arith) e in
     record {
@@ -74,7 +84,8 @@ syntax_is text ts left place are e at =
       never = λ t other _ f b. h.apart t other [] tt tt f (subst (Begins h.front left) (sym (append-nil other)) b);
     }
 
-limit_is : (text : List ℕ) (ts : List Token) (left : List Word) (l : TreeLimit) → AreTokens 0 text ts → library_at (words_of text ts) ≡ Stuck (stops.Limit l) left → BrokenAt l text
+limit_is : (text : List ℕ) (ts : List Token) (left : List Word) (l : TreeLimit) → AreTokens 0 text ts
+    → library_at (words_of text ts) ≡ Stuck (stops.Limit l) left → BrokenAt l text
 limit_is text ts left l are e =
     let h = (library_parses {n = length (words_of text ts)}).stuck (words_of text ts) (stops.Limit l) left (omega arith) e in
     record {
@@ -95,13 +106,16 @@ limit_answer text limits.Coclasses h = h
 limit_answer text limits.Members h = h
 limit_answer text limits.Params h = h
 
-answer_is : (text : List ℕ) (ts : List Token) → AreTokens 0 text ts → MayBeText text → (r : Result TreeValue ParseError) → IsParsed (length text) (ts ++ end_token (length text) ∷ []) (words_of text ts) r → IsAnswer text r
+answer_is : (text : List ℕ) (ts : List Token) → AreTokens 0 text ts → MayBeText text → (r : Result TreeValue ParseError)
+    → IsParsed (length text) (ts ++ end_token (length text) ∷ []) (words_of text ts) r → IsAnswer text r
 answer_is text ts are short (Ok t) p = let h = tree_is (words_of text ts) t p.0 (ended text 0 text ts are) p.1 in record { short = short; tokens = ts; are = are; form = h.0; kept = h.1 }
 answer_is text ts are short (Err (errors.Syntax place)) p = (short, syntax_is text ts p.0 place are p.1 p.2)
 answer_is text ts are short (Err (errors.Limit l)) p = subst (λ m. IsAnswer text (Err (errors.Limit m))) (sym p.2) (limit_answer text p.1 (short, limit_is text ts p.0 p.1 are p.3))
 answer_is text ts are short (Err errors.Memory) p = short
 
-pub answered : (text bytes : List ℕ) (ts all : List Token) (r : Result TreeValue ParseError) → bytes ≡ text → all ≡ ts ++ end_token (length text) ∷ [] → AreTokens 0 text ts → MayBeText text → IsParsed (length bytes) all (map (word_of bytes) all) r → IsAnswer text r
+pub answered : (text bytes : List ℕ) (ts all : List Token) (r : Result TreeValue ParseError) → bytes ≡ text
+    → all ≡ ts ++ end_token (length text) ∷ [] → AreTokens 0 text ts → MayBeText text
+    → IsParsed (length bytes) all (map (word_of bytes) all) r → IsAnswer text r
 answered text bytes ts all r same more are short p =
     let a = subst (λ (b : List ℕ). IsParsed (length b) all (map (word_of b) all) r) same p in
     let b = subst (λ (us : List Token). IsParsed (length text) us (map (word_of text) us) r) more a in

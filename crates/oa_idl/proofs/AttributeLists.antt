@@ -7,7 +7,8 @@ use Rattle.oa_idl.specs.Reading.{Step, Reading, and_then, bind, give, gather_at}
 use Rattle.oa_idl.specs.Reading.Step.{Got, Stuck}
 use Rattle.oa_idl.specs.Grammar.{sign, next_attribute, last_attribute, attributes}
 use Rattle.oa_idl.specs.GrammarReading.{grown_at, next_at, next_grown_at, last_at, attributes_at}
-use Rattle.oa_idl.proofs.Parses.{Parses, Always, NoLimit, enough, said_parses, alike_parses, require_parses, with_parses, skip_parses, demand_parses, then_map, this_heads}
+use Rattle.oa_idl.proofs.Parses.{Parses, Always, NoLimit, enough, said_parses, alike_parses, require_parses, with_parses, skip_parses}
+use Rattle.oa_idl.proofs.Parses.{demand_parses, then_map, this_heads}
 use Rattle.oa_idl.proofs.Lists.{gather_parses}
 use Rattle.oa_idl.proofs.Heads.{sign_heads, this_some}
 
@@ -27,7 +28,8 @@ module _ {S A B : Type 0} {attribute : A → List Word → Type 0} {may_come : S
     more_parses : (n : ℕ) (s : S) → Parses n Always (gathered (next_attribute attribute may_come) grow nowhere (last_attribute finish) s) NoLimit Always (gather_at (passes (codes "]")) (next_grown_at read grow full) (last_at finish) s)
     more_parses n s = gather_parses grow (passes (codes "]")) next_parses last_parses (λ s x text f. this_some text f.1) (λ s x text more f. sign_heads (codes "]") (codes ",") refl text more f.1) (λ s b text more f. this_heads (passes (codes "]")) text more f.1) n s
 
-    regrow : (s : S) (next : S → Reading B) (words : List Word) → bind (grown_at read grow s) next words ≡ bind (read s) (λ x. next (grow s x)) words
+    regrow : (s : S) (next : S → Reading B) (words : List Word)
+        → bind (grown_at read grow s) next words ≡ bind (read s) (λ x. next (grow s x)) words
     unfolding bind give
     regrow s next words = by_step (read s words)
       where
@@ -35,7 +37,8 @@ module _ {S A B : Type 0} {attribute : A → List Word → Type 0} {may_come : S
         by_step (Got x left) = refl
         by_step (Stuck why left) = refl
 
-    pub attributes_parses : (n : ℕ) (s : S) → Parses n Always (attributes attribute may_come grow finish s) NoLimit Always (attributes_at read grow full finish s)
+    pub attributes_parses : (n : ℕ) (s : S)
+        → Parses n Always (attributes attribute may_come grow finish s) NoLimit Always (attributes_at read grow full finish s)
     attributes_parses n s = skip_parses (passes (codes "[")) (alike_parses (λ words. sym (regrow s (gather_at (passes (codes "]")) (next_grown_at read grow full) (last_at finish)) words))
         (with_parses {G = λ x b. gathered (next_attribute attribute may_come) grow nowhere (last_attribute finish) (grow s x) b} (r n s) (enough (λ x ws. (may_come s x ≡ true) × attribute x ws) n) (λ l x b text _ g k. tt)
         (λ x. said_parses (λ c h. h) (λ c h. h) (λ c t h f. f) (λ c t h f. f) (λ c h _. h) (more_parses n (grow s x)))))

@@ -1,5 +1,6 @@
 -- The words of a text end with the end, and nowhere before.
-use Rattle.std.proofs.Common.{◌≡◌, ℕ, zero, suc, ◌+◌, ◌-◌, Bool, true, false, cond, List, [], ◌∷◌, ◌++◌, length, drop, map, get_or, Option, Some, None, refl, sym, ap, subst, ◌∙◌, arith}
+use Rattle.std.proofs.Common.{◌≡◌, ℕ, zero, suc, ◌+◌, ◌-◌, Bool, true, false, cond, List, [], ◌∷◌, ◌++◌, length, drop, map, get_or, Option}
+use Rattle.std.proofs.Common.{Some, None, refl, sym, ap, subst, ◌∙◌, arith}
 use Rattle.std.specs.Prelude.{◌&&◌, ◌==◌, slice_get}
 use Rattle.std.proofs.lemmas.List.{map-append, length-append, length-map}
 use Rattle.std.proofs.Math.Nat.{sub_self}
@@ -87,7 +88,8 @@ past_end end (t ∷ ts) zero = refl
 past_end end (t ∷ ts) (suc n) = past_end end ts n
 
 pub place_is : (text : List ℕ) (ts : List Token) (front left : List forms.Word) → words_of text ts ≡ front ++ left
-    → place_after (length text) (ts ++ end_token (length text) ∷ []) (length (ts ++ end_token (length text) ∷ []) - length left) ≡ place_after (length text) ts (length front)
+    → place_after (length text) (ts ++ end_token (length text) ∷ [])
+    (length (ts ++ end_token (length text) ∷ []) - length left) ≡ place_after (length text) ts (length front)
 place_is text ts front left parts =
     let k : length (ts ++ end_token (length text) ∷ []) - length left ≡ length front = omega (arith, long, ap length parts, length-append front left) in
     ap (λ (n : ℕ). place_after (length text) (ts ++ end_token (length text) ∷ []) n) k ∙ past_end (length text) ts (length front)

@@ -29,16 +29,19 @@ other_sign a b ne w q = ⊎_elim (λ (p : passes a w ≡ true). absurd (clash (d
 pub one_sign_heads : (a b : List ℕ) → bytes_eq b a ≡ false → (text more : List Word) → sign b text → heads (passes a) (text ++ more) ≡ false
 one_sign_heads a b ne text more f = ap (λ (ws : List Word). heads (passes a) (ws ++ more)) f.parts ∙ other_sign a b ne f.word f.is
 
-pub sign_heads : {G : List Word → Type 0} (a b : List ℕ) → bytes_eq b a ≡ false → (text more : List Word) → Then (sign b) G text → heads (passes a) (text ++ more) ≡ false
+pub sign_heads : {G : List Word → Type 0} (a b : List ℕ) → bytes_eq b a ≡ false → (text more : List Word) → Then (sign b) G text
+    → heads (passes a) (text ++ more) ≡ false
 sign_heads a b ne text more f = then_heads (passes a) false text more (λ front left h. one_sign_heads a b ne front left h) f
 
-pub same_heads : {G : List Word → Type 0} (a : List ℕ) (text more : List Word) → Then (sign a) G text → heads (passes a) (text ++ more) ≡ true
+pub same_heads : {G : List Word → Type 0} (a : List ℕ) (text more : List Word) → Then (sign a) G text
+    → heads (passes a) (text ++ more) ≡ true
 same_heads a text more f = then_heads (passes a) true text more (λ front left h. this_heads (passes a) front left h) f
 
 pub this_some : {test : Word → Bool} {G : List Word → Type 0} (text : List Word) → Then (this test) G text → 0 < length text
 this_some text f = omega (arith, ap length f.parts, ap length f.first.parts, length-append f.front f.back)
 
-pub one_heads : {A : Type 0} (meaning : Word → Option A) (test : Word → Bool) (x : A) → ((w : Word) → meaning w ≡ Some x → test w ≡ false) → (text more : List Word) → one meaning x text → heads test (text ++ more) ≡ false
+pub one_heads : {A : Type 0} (meaning : Word → Option A) (test : Word → Bool) (x : A) → ((w : Word) → meaning w ≡ Some x → test w ≡ false)
+    → (text more : List Word) → one meaning x text → heads test (text ++ more) ≡ false
 one_heads meaning test x apart text more f = ap (λ (ws : List Word). heads test (ws ++ more)) f.parts ∙ apart f.word f.is
 
 -- ---- numbers are no signs
@@ -67,7 +70,8 @@ no_type true in_array None is e = absurd cc
 no_type false in_array None is e = absurd cc
 no_type b in_array (Some t) is e = absurd cc
 
-pub type_no_sign : (s : List ℕ) → plain_type s ≡ None → (in_array : Bool) (t : VarType) (w : Word) → type_of in_array false w ≡ Some t → passes s w ≡ false
+pub type_no_sign : (s : List ℕ) → plain_type s ≡ None → (in_array : Bool) (t : VarType) (w : Word) → type_of in_array false w ≡ Some t
+    → passes s w ≡ false
 unfolding passes type_of
 type_no_sign s none in_array t w e = ⊎_elim (λ (p : passes s w ≡ true). absurd (clashing p)) (λ (p : passes s w ≡ false). p) (test_cases (passes s w))
   where
@@ -152,14 +156,16 @@ unfolding characters_of
 characters_kind cs w e = text_is w.kind (kind_known (same_kind w.kind kinds.Text) _ cs e)
 
 -- the number of a default is no sign that is no number
-pub amount_no_sign : (s : List ℕ) → same_kind kinds.Number (kind_of s) ≡ false → (negative : Bool) (i : ℤ) (w : Word) → amount_of negative w ≡ Some i → passes s w ≡ false
+pub amount_no_sign : (s : List ℕ) → same_kind kinds.Number (kind_of s) ≡ false → (negative : Bool) (i : ℤ) (w : Word)
+    → amount_of negative w ≡ Some i → passes s w ≡ false
 amount_no_sign s ne negative i w e = other_kind kinds.Number s ne w (amount_kind negative i w e)
 
 pub amount_no_text : (negative : Bool) (i : ℤ) (w : Word) → amount_of negative w ≡ Some i → is_text w ≡ false
 unfolding is_text
 amount_no_text negative i w e = ap (λ (k : Kind). same_kind k kinds.Text) (amount_kind negative i w e)
 
-pub characters_no_sign : (s : List ℕ) → same_kind kinds.Text (kind_of s) ≡ false → (cs : List ℕ) (w : Word) → characters_of w ≡ Some cs → passes s w ≡ false
+pub characters_no_sign : (s : List ℕ) → same_kind kinds.Text (kind_of s) ≡ false → (cs : List ℕ) (w : Word) → characters_of w ≡ Some cs
+    → passes s w ≡ false
 characters_no_sign s ne cs w e = other_kind kinds.Text s ne w (characters_kind cs w e)
 
 pub characters_text : (cs : List ℕ) (w : Word) → characters_of w ≡ Some cs → is_text w ≡ true

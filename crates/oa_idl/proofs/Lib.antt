@@ -13,7 +13,7 @@ mod Maps
 pub mod MarkedTrees
 mod MethodTexts
 mod OneList
-mod Overs
+mod NameLimits
 mod ParameterTexts
 mod Parses
 mod PrintedMembers

@@ -11,7 +11,8 @@ use Rattle.oa_idl.specs.Printable.{AreEntries, IsItem, IsPrintable}
 use Rattle.oa_idl.specs.Trees.{TreeValue}
 use Rattle.oa_idl.proofs.FirstDefault.{first_default}
 
-by_mark : (e : Entry) (es : List Entry) (b : Bool) → AreEntries no_entry (e ∷ es) → (b ≡ false → AreEntries no_entry (mark e ∷ es)) → AreEntries no_entry (if b then e ∷ es else mark e ∷ es)
+by_mark : (e : Entry) (es : List Entry) (b : Bool) → AreEntries no_entry (e ∷ es) → (b ≡ false → AreEntries no_entry (mark e ∷ es))
+    → AreEntries no_entry (if b then e ∷ es else mark e ∷ es)
 by_mark e es true are first = are
 by_mark e es false are first = first refl
 
@@ -23,15 +24,18 @@ item_marked : (x : Item) → IsItem x → IsItem (marked_item x)
 item_marked (Interface i) is = is
 item_marked (Coclass c) is = (is.0, is.1, entries_marked c.entries is.2)
 
-all_marked : (P : Item → Type 0) → ((x : Item) → P x → P (marked_item x)) → (xs : List Item) → AllByRecursion P xs → AllByRecursion P (map marked_item xs)
+all_marked : (P : Item → Type 0) → ((x : Item) → P x → P (marked_item x)) → (xs : List Item) → AllByRecursion P xs
+    → AllByRecursion P (map marked_item xs)
 all_marked P each [] all = tt
 all_marked P each (x ∷ xs) all = (each x all.0, all_marked P each xs all.1)
 
-short_by : (e : Entry) (es : List Entry) (b : Bool) → AllByRecursion (λ (x : Entry). IsShort x.interface) (e ∷ es) → AllByRecursion (λ (x : Entry). IsShort x.interface) (if b then e ∷ es else mark e ∷ es)
+short_by : (e : Entry) (es : List Entry) (b : Bool) → AllByRecursion (λ (x : Entry). IsShort x.interface) (e ∷ es)
+    → AllByRecursion (λ (x : Entry). IsShort x.interface) (if b then e ∷ es else mark e ∷ es)
 short_by e es true all = all
 short_by e es false all = (all.0, all.1)
 
-short_marked : (es : List Entry) → AllByRecursion (λ (x : Entry). IsShort x.interface) es → AllByRecursion (λ (x : Entry). IsShort x.interface) (marked_entries es)
+short_marked : (es : List Entry) → AllByRecursion (λ (x : Entry). IsShort x.interface) es
+    → AllByRecursion (λ (x : Entry). IsShort x.interface) (marked_entries es)
 short_marked [] all = tt
 short_marked (e ∷ es) all = short_by e es (list_any (λ (x : Entry). x.is_default) (e ∷ es)) all
 
@@ -47,7 +51,8 @@ few_parameters : (x : Item) → HasFewParameters x → HasFewParameters (marked_
 few_parameters (Interface i) is = is
 few_parameters (Coclass c) is = is
 
-as_many : (weight : Item → ℕ) → ((x : Item) → weight (marked_item x) ≡ weight x) → (xs : List Item) → how_many weight (map marked_item xs) ≡ how_many weight xs
+as_many : (weight : Item → ℕ) → ((x : Item) → weight (marked_item x) ≡ weight x) → (xs : List Item)
+    → how_many weight (map marked_item xs) ≡ how_many weight xs
 as_many weight each [] = refl
 as_many weight each (x ∷ xs) = rw (each x, as_many weight each xs) refl
 

@@ -1,11 +1,13 @@
 -- The readings of methods read them.
-use Rattle.std.proofs.Common.{◌≡◌, ℕ, ◌<◌, Bool, true, false, List, [], ◌∷◌, ◌++◌, length, Option, Some, None, refl, sym, ap, subst, ◌∙◌, arith}
+use Rattle.std.proofs.Common.{◌≡◌, ℕ, ◌<◌, Bool, true, false, List, [], ◌∷◌, ◌++◌, length, Option, Some, None, refl, sym, ap, subst, ◌∙◌}
+use Rattle.std.proofs.Common.{arith}
 use Rattle.std.specs.Prelude.{ℤ, pos, not, is_some, ◌&&◌, ◌||◌, codes}
 use Rattle.std.proofs.Math.Logic.{⊎_elim, inl, inr}
 use Rattle.std.proofs.lemmas.List.{length-append}
 use Rattle.oa_model.specs.declared.var_type.VarType.TheVariants as types
 use Rattle.oa_model.specs.declared.var_type.ValueType.{ValueType}
 use Rattle.oa_model.specs.declared.var_type.ValueType.TheVariants as values
+use Rattle.oa_model.specs.Limits.{max_members}
 use Rattle.oa_idl.specs.declared.stop.TreeLimit.{TreeLimit}
 use Rattle.oa_idl.specs.declared.stop.TreeLimit.TheVariants as limits
 use Rattle.oa_idl.specs.declared.parts.MethodKind.{MethodKind}
@@ -16,11 +18,15 @@ use Rattle.oa_idl.specs.MethodValues.{MethodValue}
 use Rattle.oa_idl.specs.Forms.{Word, ◌▸◌, where_is, listed, nowhere}
 use Rattle.oa_idl.specs.Words.{passes, name_of, over}
 use Rattle.oa_idl.specs.Reading.{heads, done, list_at}
-use Rattle.oa_idl.specs.Grammar.{sign, one_more, closing, MethodAttribute, numbered, method_attribute, no_method, is_form, method_may, method_grow, method_finish, method_head, may_be_void, may_have_type, result_type, method_body, method, methods}
+use Rattle.oa_idl.specs.Grammar.{sign, one_more, closing, MethodAttribute, numbered, method_attribute, no_method, is_form, method_may}
+use Rattle.oa_idl.specs.Grammar.{method_grow, method_finish, method_head, may_be_void, may_have_type, result_type, method_body, method}
+use Rattle.oa_idl.specs.Grammar.{methods}
 use Rattle.oa_idl.specs.Grammar.MethodAttribute.{MethodId, Propget, Propput, MethodHelp}
-use Rattle.oa_idl.specs.GrammarReading.{closing_at, numbered_at, method_attribute_at, method_full, method_head_at, result_type_at, method_body_at, method_at, methods_at, ends_properties}
-use Rattle.oa_idl.proofs.Overs.{over_named}
-use Rattle.oa_idl.proofs.Parses.{Parses, Always, NoLimit, clash, said_parses, fact_parses, require_parses, part_parses, skip_parses, give_parses, one_parses, choose_parses, this_parses, end_parses, end_part_parses, then_heads, this_heads}
+use Rattle.oa_idl.specs.GrammarReading.{closing_at, numbered_at, method_attribute_at, method_full, method_head_at, result_type_at}
+use Rattle.oa_idl.specs.GrammarReading.{method_body_at, method_at, methods_at, ends_properties}
+use Rattle.oa_idl.proofs.NameLimits.{over_named}
+use Rattle.oa_idl.proofs.Parses.{Parses, Always, NoLimit, clash, said_parses, fact_parses, require_parses, part_parses, skip_parses}
+use Rattle.oa_idl.proofs.Parses.{give_parses, one_parses, choose_parses, this_parses, end_parses, end_part_parses, then_heads, this_heads}
 use Rattle.oa_idl.proofs.Choices.{tagged_parses, free_branch_parses, first_heads}
 use Rattle.oa_idl.proofs.Lists.{KeepsFrom, both, list_parses}
 use Rattle.oa_idl.proofs.Heads.{other_sign, sign_heads, one_sign_heads, same_heads, this_some, void_no_type}
@@ -64,13 +70,15 @@ id_heads Propget text more f = one_sign_heads (codes "id") (codes "propget") ref
 id_heads Propput text more f = one_sign_heads (codes "id") (codes "propput") refl text more f
 id_heads MethodHelp text more f = sign_heads (codes "id") (codes "helpstring") refl text more f
 
-get_heads : (x : MethodAttribute) (text more : List Word) → method_attribute x text → heads (passes (codes "propget")) (text ++ more) ≡ is_get x
+get_heads : (x : MethodAttribute) (text more : List Word) → method_attribute x text
+    → heads (passes (codes "propget")) (text ++ more) ≡ is_get x
 get_heads (MethodId i) text more f = sign_heads (codes "propget") (codes "id") refl text more f
 get_heads Propget text more f = this_heads (passes (codes "propget")) text more f
 get_heads Propput text more f = one_sign_heads (codes "propget") (codes "propput") refl text more f
 get_heads MethodHelp text more f = sign_heads (codes "propget") (codes "helpstring") refl text more f
 
-put_heads : (x : MethodAttribute) (text more : List Word) → method_attribute x text → heads (passes (codes "propput")) (text ++ more) ≡ is_put x
+put_heads : (x : MethodAttribute) (text more : List Word) → method_attribute x text
+    → heads (passes (codes "propput")) (text ++ more) ≡ is_put x
 put_heads (MethodId i) text more f = sign_heads (codes "propput") (codes "id") refl text more f
 put_heads Propget text more f = one_sign_heads (codes "propput") (codes "propget") refl text more f
 put_heads Propput text more f = this_heads (passes (codes "propput")) text more f
@@ -104,7 +112,8 @@ only_help MethodHelp h = refl
 Coming : MethodSeen → MethodAttribute → List Word → Type 0
 Coming s x ws = (method_may s x ≡ true) × method_attribute x ws
 
-method_attribute_parses : {n : ℕ} (s : MethodSeen) → Parses n Always (λ x ws. (method_may s x ≡ true) × method_attribute x ws) NoLimit Always (method_attribute_at s)
+method_attribute_parses : {n : ℕ} (s : MethodSeen)
+    → Parses n Always (λ x ws. (method_may s x ≡ true) × method_attribute x ws) NoLimit Always (method_attribute_at s)
 unfolding method_attribute_at Coming
 method_attribute_parses s = tagged_parses {F = Coming s} (passes (codes "id")) is_id (λ x text more f. id_heads x text more f.1)
     (free_branch_parses {F = Coming s} (λ i. MethodId i) id_in only_id (λ a. ((tt, refl), refl)) (require_parses (not (is_some s.id)) numbered_parses))
@@ -134,7 +143,8 @@ abbrev type_in : Option ValueType → ValueType
 type_in None = values.One types.Empty
 type_in (Some t) = t
 
-void_heads : (k : MethodKind) (o : Option ValueType) (text more : List Word) → result_type k o text → heads (passes (codes "void")) (text ++ more) ≡ is_void o
+void_heads : (k : MethodKind) (o : Option ValueType) (text more : List Word) → result_type k o text
+    → heads (passes (codes "void")) (text ++ more) ≡ is_void o
 unfolding result_type
 void_heads k None text more f = this_heads (passes (codes "void")) text more f.1
 void_heads k (Some t) text more f = value_type_heads (codes "void") void_no_type refl refl t text more f.1
@@ -157,10 +167,10 @@ result_type_parses k = tagged_parses {F = result_type k} (passes (codes "void"))
 
 -- a method is none too many, its name is not too long, and its parameters keep the limits
 abbrev pub MethodKeeps : ℕ → TreeLimit → MethodValue → Type 0
-MethodKeeps n l m = (over limits.Members 512 n m.name ≡ Some l → ⊥) × KeepsFrom {B = Unit {0}} one_more (λ k p. ParameterKeeps k l p) NoEndLimit 0 m.parameters tt
+MethodKeeps n l m = (over limits.Members max_members n m.name ≡ Some l → ⊥) × KeepsFrom {B = Unit {0}} one_more (λ k p. ParameterKeeps k l p) NoEndLimit 0 m.parameters tt
 
 abbrev pub MethodKept : ℕ → MethodValue → Type 0
-MethodKept n m = (over limits.Members 512 n m.name ≡ None) × KeepsFrom {B = Unit {0}} one_more ParameterKept NoEndLimit 0 m.parameters tt
+MethodKept n m = (over limits.Members max_members n m.name ≡ None) × KeepsFrom {B = Unit {0}} one_more ParameterKept NoEndLimit 0 m.parameters tt
 
 marks : MethodValue → MethodHead
 marks m = record { id = m.id; kind = m.kind }
@@ -171,9 +181,11 @@ parameters_of m = both m.parameters tt
 abbrev ps_of : List Parameter × Unit {0} → List Parameter
 ps_of p = p.0
 
-method_body_parses : {n : ℕ} (count : ℕ) (h : MethodHead) → Parses n (λ m. Always m × (marks m ≡ h)) (method_body h.kind) (λ l m. MethodKeeps count l m) (λ m. MethodKept count m) (method_body_at count h)
+method_body_parses : {n : ℕ} (count : ℕ) (h : MethodHead)
+    → Parses n (λ m. Always m × (marks m ≡ h)) (method_body h.kind) (λ l m. MethodKeeps count l m) (λ m. MethodKept count m)
+    (method_body_at count h)
 unfolding method_body_at marks parameters_of
-method_body_parses count h = part_parses (λ m. m.value_type) (result_type_parses h.kind) (λ l m r k. tt) (λ t. part_parses (λ m. m.name) (one_parses name_of (over limits.Members 512 count) (over_named limits.Members 512 count (λ k. absurd cc))) (λ l m r k. k.0) (λ name. skip_parses (passes (codes "("))
+method_body_parses count h = part_parses (λ m. m.value_type) (result_type_parses h.kind) (λ l m r k. tt) (λ t. part_parses (λ m. m.name) (one_parses name_of (over limits.Members max_members count) (over_named limits.Members max_members count (λ k. absurd cc))) (λ l m r k. k.0) (λ name. skip_parses (passes (codes "("))
     (part_parses parameters_of (parameters_parses h.kind) (λ l m r k. k.1) (λ ps. skip_parses (passes (codes ";"))
     (give_parses (record { id = h.id; kind = h.kind; value_type = t; name = name; parameters = ps.0 }) ((((tt, refl), refl), refl), refl) (λ all kept _. (kept, all))
     (λ m k. λ i. record { id = (k.0.0.0.1 i).id; kind = (k.0.0.0.1 i).kind; value_type = k.0.0.1 i; name = k.0.1 i; parameters = ps_of (k.1 i) }))))))
@@ -186,7 +198,8 @@ method_parses count = part_parses marks method_head_parses (λ l m h k. tt) (λ 
     kind_in : MethodHead → MethodKind
     kind_in h = h.kind
 
-method_heads : (test : Word → Bool) → ((w : Word) → passes (codes "[") w ≡ true → test w ≡ false) → (m : MethodValue) (text more : List Word) → method m text → heads test (text ++ more) ≡ false
+method_heads : (test : Word → Bool) → ((w : Word) → passes (codes "[") w ≡ true → test w ≡ false)
+    → (m : MethodValue) (text more : List Word) → method m text → heads test (text ++ more) ≡ false
 unfolding method method_head
 method_heads test is m text more f = then_heads test false text more (λ front left h. first_heads test (passes (codes "[")) false is front left h) f
 
@@ -206,7 +219,9 @@ MethodsKeep n l ms = KeepsFrom {B = Unit {0}} one_more (λ k m. MethodKeeps k l 
 abbrev pub MethodsKept : ℕ → List MethodValue → Type 0
 MethodsKept n ms = KeepsFrom {B = Unit {0}} one_more MethodKept NoEndLimit n ms tt
 
-method_list_parses : {n : ℕ} (count : ℕ) → Parses n Always (λ p. listed (λ k. method) one_more nowhere closing count p.0 p.1) (λ l p. KeepsFrom one_more (λ n m. MethodKeeps n l m) NoEndLimit count p.0 p.1) (λ p. KeepsFrom one_more MethodKept NoEndLimit count p.0 p.1) (list_at (passes (codes "}")) nowhere method_at one_more closing_at count)
+method_list_parses : {n : ℕ} (count : ℕ) → Parses n Always (λ p. listed (λ k. method) one_more nowhere closing count p.0 p.1)
+    (λ l p. KeepsFrom one_more (λ n m. MethodKeeps n l m) NoEndLimit count p.0 p.1)
+    (λ p. KeepsFrom one_more MethodKept NoEndLimit count p.0 p.1) (list_at (passes (codes "}")) nowhere method_at one_more closing_at count)
 method_list_parses {n} count = list_parses one_more (passes (codes "}")) nowhere (λ n s. method_parses s) (λ n s. this_parses (passes (codes "}"))) (λ s m text f. method_some m text f) (λ s m text more f. method_heads (passes (codes "}")) (λ w is. other_sign (codes "}") (codes "[") refl w is) m text more f)
     (λ s b text more f. this_heads (passes (codes "}")) text more f) (λ y s m text more f. never_heads y (text ++ more)) (λ y s b text more f. never_heads y (text ++ more)) n count
 
@@ -216,7 +231,8 @@ ms_of p = p.0
 section : ℕ → List MethodValue → List Word → Type 0
 section n ms = sign (codes "methods") ▸ sign (codes ":") ▸ listed (λ k. method) one_more nowhere closing n ms tt
 
-pub methods_parses : {n : ℕ} (count : ℕ) → Parses n Always (methods count) (λ l ms. MethodsKeep count l ms) (λ ms. MethodsKept count ms) (methods_at count)
+pub methods_parses : {n : ℕ} (count : ℕ) → Parses n Always (methods count) (λ l ms. MethodsKeep count l ms) (λ ms. MethodsKept count ms)
+    (methods_at count)
 unfolding methods_at section
 methods_parses count = choose_parses {A = section count} {B = λ ms ws. (ms ≡ []) × sign (codes "}") ws} (passes (codes "methods"))
     (λ ms text more _ f is. ⊎_elim (λ (k : section count ms text). k) (λ (k : where_is (ms ≡ []) (sign (codes "}")) text). absurd (clash is (one_sign_heads (codes "methods") (codes "}") refl text more k.1))) f)
@@ -232,12 +248,14 @@ or_right : (b : Bool) → (b || true) ≡ true
 or_right true = refl
 or_right false = refl
 
-pub methods_heads : (n : ℕ) (ms : List MethodValue) (text more : List Word) → methods n ms text → heads ends_properties (text ++ more) ≡ true
+pub methods_heads : (n : ℕ) (ms : List MethodValue) (text more : List Word) → methods n ms text
+    → heads ends_properties (text ++ more) ≡ true
 methods_heads n ms text more f = ⊎_elim
     (λ (k : (sign (codes "methods") ▸ sign (codes ":") ▸ listed (λ j. method) one_more nowhere closing n ms tt) text). first_heads ends_properties (passes (codes "methods")) true (λ w is. ap (λ (b : Bool). b || passes (codes "}") w) is) text more k)
     (λ (k : where_is (ms ≡ []) (sign (codes "}")) text). ap (λ (ws : List Word). heads ends_properties (ws ++ more)) k.1.parts ∙ ap (λ (b : Bool). passes (codes "methods") k.1.word || b) k.1.is ∙ or_right (passes (codes "methods") k.1.word)) f
 
-pub methods_begin : (n : ℕ) (ms : List MethodValue) (text more : List Word) → methods n ms text → heads (passes (codes "properties")) (text ++ more) ≡ false
+pub methods_begin : (n : ℕ) (ms : List MethodValue) (text more : List Word) → methods n ms text
+    → heads (passes (codes "properties")) (text ++ more) ≡ false
 methods_begin n ms text more f = ⊎_elim
     (λ (k : (sign (codes "methods") ▸ sign (codes ":") ▸ listed (λ j. method) one_more nowhere closing n ms tt) text). sign_heads (codes "properties") (codes "methods") refl text more k)
     (λ (k : where_is (ms ≡ []) (sign (codes "}")) text). one_sign_heads (codes "properties") (codes "}") refl text more k.1) f

@@ -1,5 +1,7 @@
--- A reading reads a form: what it takes is of the form; where it stops, nothing of the form begins with the words up to that one; and no text of the form begins another.
-use Rattle.std.proofs.Common.{◌≡◌, ℕ, ◌≤◌, Bool, true, false, cond, List, [], ◌∷◌, ◌++◌, length, Option, Some, None, ◌⊎◌, refl, sym, ap, subst, ◌∙◌, append_assoc, arith}
+-- A reading reads a form: what it takes is of the form; where it stops, nothing of the form begins with the words up to that one; and no
+-- text of the form begins another.
+use Rattle.std.proofs.Common.{◌≡◌, ℕ, ◌≤◌, Bool, true, false, cond, List, [], ◌∷◌, ◌++◌, length, Option, Some, None, ◌⊎◌, refl, sym, ap}
+use Rattle.std.proofs.Common.{subst, ◌∙◌, append_assoc, arith}
 use Rattle.std.proofs.lemmas.List.{append-nil, length-append}
 use Rattle.std.proofs.Math.Logic.{⊎_elim, inl, inr}
 use Rattle.oa_idl.specs.declared.stop.TreeLimit.{TreeLimit}
@@ -7,7 +9,8 @@ use Rattle.oa_idl.specs.declared.stop.Stop.{Stop}
 use Rattle.oa_idl.specs.declared.stop.Stop.TheVariants.{Syntax, Memory}
 use Rattle.oa_idl.specs.declared.stop.Stop.TheVariants as stops
 use Rattle.oa_idl.specs.Forms.{Word, Then, ◌▸◌, nothing, given, this, one, optional, with, Begins}
-use Rattle.oa_idl.specs.Reading.{Step, Reading, and_then, bind, give, heads, done, choose, rest_of, this_at, meaning_of, unless_over, if_meant, one_at, perhaps_at, require, demand}
+use Rattle.oa_idl.specs.Reading.{Step, Reading, and_then, bind, give, heads, done, choose, rest_of, this_at, meaning_of, unless_over}
+use Rattle.oa_idl.specs.Reading.{if_meant, one_at, perhaps_at, require, demand}
 use Rattle.oa_idl.specs.Words.{never_over, NamedAt}
 use Rattle.oa_idl.specs.Reading.Step.{Got, Stuck}
 
@@ -37,17 +40,21 @@ StopsAt Syntax left = Unit {0}
 StopsAt (stops.Limit l) left = AtName l left
 StopsAt Memory left = Unit {0}
 
-pub record Stops {C : Type 0} (R : C → Type 0) (F : C → List Word → Type 0) (K : TreeLimit → C → Type 0) (words : List Word) (why : Stop) (left : List Word) : Type 0 where
+pub record Stops {C : Type 0} (R : C → Type 0) (F : C → List Word → Type 0) (K : TreeLimit → C → Type 0) (words : List Word) (why : Stop)
+    (left : List Word) : Type 0 where
   pub front : List Word
   pub parts : words ≡ front ++ left
   pub named : StopsAt why left
   pub apart : (c : C) (text more : List Word) → R c → Keeps K why c → F c text → Begins front left (text ++ more) → ⊥
 
 -- R says which values are meant, K which of them keep a limit, and Q what is known of a value that was read
-pub record Parses (n : ℕ) {C : Type 0} (R : C → Type 0) (F : C → List Word → Type 0) (K : TreeLimit → C → Type 0) (Q : C → Type 0) (read : List Word → Step C) : Type 0 where
+pub record Parses (n : ℕ) {C : Type 0} (R : C → Type 0) (F : C → List Word → Type 0) (K : TreeLimit → C → Type 0) (Q : C → Type 0)
+    (read : List Word → Step C) : Type 0 where
   pub same : (x y : C) (a b s t : List Word) → R x → R y → F x a → F y b → a ++ s ≡ b ++ t → (x ≡ y) × (s ≡ t)
-  pub takes : (words : List Word) (x : C) (left : List Word) → length words ≤ n → read words ≡ Got x left → (R x × Q x) × Takes (F x) words left
-  pub stuck : (words : List Word) (why : Stop) (left : List Word) → length words ≤ n → read words ≡ Stuck why left → Stops R F K words why left
+  pub takes : (words : List Word) (x : C) (left : List Word) → length words ≤ n → read words ≡ Got x left
+      → (R x × Q x) × Takes (F x) words left
+  pub stuck : (words : List Word) (why : Stop) (left : List Word) → length words ≤ n → read words ≡ Stuck why left
+      → Stops R F K words why left
 
 abbrev pub Always : {A : Type 0} → A → Type 0
 Always x = Unit {0}
@@ -69,7 +76,8 @@ got x left = Got x left
 got_is : {A : Type 0} (x y : A) (s t : List Word) → got x s ≡ Got y t → (x ≡ y) × (s ≡ t)
 got_is x y s t e = (cc, cc)
 
-pub bind_got : {A B : Type 0} (r : Step A) (next : A → Reading B) (y : B) (t : List Word) → and_then r next ≡ Got y t → (x : A) × (s : List Word) × (r ≡ Got x s) × (next x s ≡ Got y t)
+pub bind_got : {A B : Type 0} (r : Step A) (next : A → Reading B) (y : B) (t : List Word) → and_then r next ≡ Got y t
+    → (x : A) × (s : List Word) × (r ≡ Got x s) × (next x s ≡ Got y t)
 bind_got (Got x s) next y t e = (x, s, refl, e)
 bind_got (Stuck why s) next y t e = absurd cc
 
@@ -80,7 +88,8 @@ pub record Later {A B : Type 0} (r : Step A) (next : A → List Word → Step B)
   pub first : r ≡ Got value left
   pub second : next value left ≡ Stuck why t
 
-bind_stuck : {A B : Type 0} (r : Step A) (next : A → Reading B) (why : Stop) (t : List Word) → and_then r next ≡ Stuck why t → (r ≡ Stuck why t) ⊎ Later r next why t
+bind_stuck : {A B : Type 0} (r : Step A) (next : A → Reading B) (why : Stop) (t : List Word) → and_then r next ≡ Stuck why t
+    → (r ≡ Stuck why t) ⊎ Later r next why t
 bind_stuck {A} {B} (Got x s) next why t e = inr (record { value = x; left = s; first = refl; second = e })
 bind_stuck {A} {B} (Stuck w s) next why t e = inl (same_stop w why s t e)
   where
@@ -88,7 +97,8 @@ bind_stuck {A} {B} (Stuck w s) next why t e = inl (same_stop w why s t e)
     same_stop w why s t e = cc
 
 -- a fault of syntax stands anywhere
-pub syntax_stops : {A : Type 0} (words : List Word) (why : Stop) (left : List Word) → stuck_at {A = A} Syntax words ≡ Stuck why left → StopsAt why left
+pub syntax_stops : {A : Type 0} (words : List Word) (why : Stop) (left : List Word) → stuck_at {A = A} Syntax words ≡ Stuck why left
+    → StopsAt why left
 syntax_stops words why left e = let z : Syntax ≡ why = cc in subst (λ (v : Stop). StopsAt v left) z tt
 
 apart_cons : (w v : Word) (s t : List Word) → w ∷ s ≡ v ∷ t → (w ≡ v) × (s ≡ t)
@@ -99,7 +109,8 @@ begins_after : (a b left words : List Word) → Begins (a ++ b) left words → (
 begins_after a b [] words e = (b, e, refl)
 begins_after a b (w ∷ left) words e = (b ++ w ∷ e.0, e.1 ∙ append_assoc a b (w ∷ e.0), (e.0, refl))
 
-begins_heads : (test : Word → Bool) (front left words other : List Word) → words ≡ front ++ left → Begins front left other → heads test words ≡ heads test other
+begins_heads : (test : Word → Bool) (front left words other : List Word) → words ≡ front ++ left → Begins front left other
+    → heads test words ≡ heads test other
 begins_heads test front [] words other e b = ap (heads test) (e ∙ append-nil front ∙ sym b)
 begins_heads test [] (w ∷ left) words other e b = ap (heads test) e ∙ ap (heads test) (sym b.1)
 begins_heads test (v ∷ front) (w ∷ left) words other e b = ap (heads test) e ∙ ap (heads test) (sym b.1)
@@ -124,15 +135,20 @@ this_parses {n} test = record {
     same_one : (a b s t : List Word) → this test a → this test b → a ++ s ≡ b ++ t → (done ≡ done) × (s ≡ t)
     same_one a b s t f g e = (refl, (apart_cons f.word g.word s t (ap (λ (ws : List Word). ws ++ s) (sym f.parts) ∙ e ∙ ap (λ (ws : List Word). ws ++ t) g.parts)).1)
 
-    takes_one : (words : List Word) (x : Unit {0}) (left : List Word) → cond (heads test words) (got done (rest_of words)) (stuck_at Syntax words) ≡ Got x left → (Always x × Always x) × Takes (this test) words left
+    takes_one : (words : List Word) (x : Unit {0}) (left : List Word)
+        → cond (heads test words) (got done (rest_of words)) (stuck_at Syntax words) ≡ Got x left
+        → (Always x × Always x) × Takes (this test) words left
     takes_one [] x left e = absurd cc
     takes_one (w ∷ words) x left e = taken (test w) refl e
       where
-        taken : (b : Bool) → test w ≡ b → cond b (got done words) (stuck_at Syntax (w ∷ words)) ≡ Got x left → (Always x × Always x) × Takes (this test) (w ∷ words) left
+        taken : (b : Bool) → test w ≡ b → cond b (got done words) (stuck_at Syntax (w ∷ words)) ≡ Got x left
+            → (Always x × Always x) × Takes (this test) (w ∷ words) left
         taken true is e = ((tt, tt), record { text = w ∷ []; parts = ap (λ (ws : List Word). w ∷ ws) (got_is done x words left e).1; form = record { word = w; parts = refl; is = is } })
         taken false is e = absurd cc
 
-    stops_one : (words : List Word) (why : Stop) (left : List Word) → cond (heads test words) (got done (rest_of words)) (stuck_at Syntax words) ≡ Stuck why left → Stops Always (λ (_ : Unit {0}). this test) NoLimit words why left
+    stops_one : (words : List Word) (why : Stop) (left : List Word)
+        → cond (heads test words) (got done (rest_of words)) (stuck_at Syntax words) ≡ Stuck why left
+        → Stops Always (λ (_ : Unit {0}). this test) NoLimit words why left
     stops_one [] why left e = record {
       front = [];
       parts = left_is e;
@@ -147,7 +163,8 @@ this_parses {n} test = record {
         never text more f b = let k : f.word ∷ more ≡ [] = ap (λ (ws : List Word). ws ++ more) (sym f.parts) ∙ b in absurd cc
     stops_one (w ∷ words) why left e = stopped (test w) refl e
       where
-        stopped : (b : Bool) → test w ≡ b → cond b (got done words) (stuck_at Syntax (w ∷ words)) ≡ Stuck why left → Stops Always (λ (_ : Unit {0}). this test) NoLimit (w ∷ words) why left
+        stopped : (b : Bool) → test w ≡ b → cond b (got done words) (stuck_at Syntax (w ∷ words)) ≡ Stuck why left
+            → Stops Always (λ (_ : Unit {0}). this test) NoLimit (w ∷ words) why left
         stopped true is e = absurd cc
         stopped false is e = record {
           front = [];
@@ -168,7 +185,8 @@ this_parses {n} test = record {
 -- ---- one stretch after another
 
 -- a part that says what follows, where H is known of its value
-pub with_known_parses : {n m : ℕ} {A C : Type 0} {F : A → List Word → Type 0} {K : TreeLimit → A → Type 0} {P H : A → Type 0} {R : C → Type 0} {G : A → C → List Word → Type 0} {L : TreeLimit → C → Type 0} {Q : C → Type 0} {read : Reading A} {next : A → Reading C}
+pub with_known_parses : {n m : ℕ} {A C : Type 0} {F : A → List Word → Type 0} {K : TreeLimit → A → Type 0} {P H : A → Type 0} {R : C
+    → Type 0} {G : A → C → List Word → Type 0} {L : TreeLimit → C → Type 0} {Q : C → Type 0} {read : Reading A} {next : A → Reading C}
     → Parses n Always F K P read
     → ((a : A) (text left : List Word) → F a text → length (text ++ left) ≤ n → length left ≤ m)
     → ((l : TreeLimit) (a : A) (c : C) (text : List Word) → R c → G a c text → L l c → K l a)
@@ -202,7 +220,8 @@ with_known_parses {n} {m} {A} {C} {F} {K} {P} {H} {R} {G} {L} {Q} {read} {next} 
     keeps (stops.Limit l) a c text h g k = has l a c text h g k
     keeps Memory a c text h g k = tt
 
-    early : (words : List Word) (why : Stop) (left : List Word) → length words ≤ n → read words ≡ Stuck why left → Stops R (λ c. with F (λ a. G a c)) L words why left
+    early : (words : List Word) (why : Stop) (left : List Word) → length words ≤ n → read words ≡ Stuck why left
+        → Stops R (λ c. with F (λ a. G a c)) L words why left
     early words why left le e =
         let s = r.stuck words why left le e in
         record {
@@ -213,7 +232,8 @@ with_known_parses {n} {m} {A} {C} {F} {K} {P} {H} {R} {G} {L} {Q} {read} {next} 
               s.apart f.value f.form.front (f.form.back ++ more) tt (keeps why f.value c f.form.back h f.form.second k) f.form.first (subst (Begins s.front left) (sym (regroup text f.form.front f.form.back more f.form.parts)) b);
         }
 
-    late : (words : List Word) (why : Stop) (left : List Word) → length words ≤ n → Later (read words) next why left → Stops R (λ c. with F (λ a. G a c)) L words why left
+    late : (words : List Word) (why : Stop) (left : List Word) → length words ≤ n → Later (read words) next why left
+        → Stops R (λ c. with F (λ a. G a c)) L words why left
     late words why left le d =
         let first = (r.takes words d.value d.left le d.first).1 in
         let s = (then d.value (known d.value first.text first.form)).stuck d.left why left (less d.value first.text d.left first.form (shorter n words first.text d.left le first.parts)) d.second in
@@ -228,7 +248,8 @@ with_known_parses {n} {m} {A} {C} {F} {K} {P} {H} {R} {G} {L} {Q} {read} {next} 
         }
 
 -- a part that says what follows
-pub with_parses : {n m : ℕ} {A C : Type 0} {F : A → List Word → Type 0} {K : TreeLimit → A → Type 0} {P : A → Type 0} {R : C → Type 0} {G : A → C → List Word → Type 0} {L : TreeLimit → C → Type 0} {Q : C → Type 0} {read : Reading A} {next : A → Reading C}
+pub with_parses : {n m : ℕ} {A C : Type 0} {F : A → List Word → Type 0} {K : TreeLimit → A → Type 0} {P : A → Type 0} {R : C
+    → Type 0} {G : A → C → List Word → Type 0} {L : TreeLimit → C → Type 0} {Q : C → Type 0} {read : Reading A} {next : A → Reading C}
     → Parses n Always F K P read
     → ((a : A) (text left : List Word) → F a text → length (text ++ left) ≤ n → length left ≤ m)
     → ((l : TreeLimit) (a : A) (c : C) (text : List Word) → R c → G a c text → L l c → K l a)
@@ -237,8 +258,10 @@ pub with_parses : {n m : ℕ} {A C : Type 0} {F : A → List Word → Type 0} {K
 with_parses r less has then = with_known_parses {H = Always} r less has (λ a text f. tt) (λ a h. then a)
 
 -- the same texts, said otherwise
-pub said_parses : {n : ℕ} {C : Type 0} {R S : C → Type 0} {F G : C → List Word → Type 0} {K : TreeLimit → C → Type 0} {P Q : C → Type 0} {read : Reading C}
-    → ((c : C) → R c → S c) → ((c : C) → S c → R c) → ((c : C) (text : List Word) → R c → F c text → G c text) → ((c : C) (text : List Word) → S c → G c text → F c text) → ((c : C) → P c → Q c)
+pub said_parses : {n : ℕ} {C : Type 0} {R S : C → Type 0} {F G : C → List Word → Type 0} {K : TreeLimit → C → Type 0} {P Q : C
+    → Type 0} {read : Reading C}
+    → ((c : C) → R c → S c) → ((c : C) → S c → R c) → ((c : C) (text : List Word) → R c → F c text → G c text)
+    → ((c : C) (text : List Word) → S c → G c text → F c text) → ((c : C) → P c → Q c)
     → Parses n R F K P read → Parses n S G K Q read
 said_parses to from there back known r = record {
   same = λ x y a b s t hx hy f g e. r.same x y a b s t (from x hx) (from y hy) (back x a hx f) (back y b hy g) e;
@@ -247,15 +270,23 @@ said_parses to from there back known r = record {
       ((to x h.0.0, known x h.0.1), record { text = h.1.text; parts = h.1.parts; form = there x h.1.text h.0.0 h.1.form });
   stuck = λ words why left le e.
       let h = r.stuck words why left le e in
-      record { front = h.front; parts = h.parts; named = h.named; apart = λ c text more s k f b. h.apart c text more (from c s) k (back c text s f) b };
+      record {
+        front = h.front;
+        parts = h.parts;
+        named = h.named;
+        apart =
+            λ c text more s k f b. h.apart c text more (from c s) k (back c text s f) b;
+      };
 }
 
 -- no fewer words are left than that
-pub enough : {A : Type 0} (F : A → List Word → Type 0) (n : ℕ) (a : A) (text left : List Word) → F a text → length (text ++ left) ≤ n → length left ≤ n
+pub enough : {A : Type 0} (F : A → List Word → Type 0) (n : ℕ) (a : A) (text left : List Word) → F a text → length (text ++ left) ≤ n
+    → length left ≤ n
 enough F n a text left f le = omega (arith, le, length-append text left)
 
 -- a part of which the value keeps proj
-pub part_parses : {n : ℕ} {A C : Type 0} {F : A → List Word → Type 0} {K : TreeLimit → A → Type 0} {P : A → Type 0} {R : C → Type 0} {G : C → List Word → Type 0} {L : TreeLimit → C → Type 0} {Q : C → Type 0} {read : Reading A} {next : A → Reading C}
+pub part_parses : {n : ℕ} {A C : Type 0} {F : A → List Word → Type 0} {K : TreeLimit → A → Type 0} {P : A → Type 0} {R : C → Type 0} {G : C
+    → List Word → Type 0} {L : TreeLimit → C → Type 0} {Q : C → Type 0} {read : Reading A} {next : A → Reading C}
     (proj : C → A)
     → Parses n Always F K P read
     → ((l : TreeLimit) (c : C) → R c → L l c → K l (proj c))
@@ -275,7 +306,13 @@ part_parses {n} {A} {C} {F} {K} {P} {R} {G} {L} {Q} {read} {next} proj r has the
               ((h.0.0.0, h.0.1), record { text = h.1.text; parts = h.1.parts; form = (h.0.0.1, h.1.form) });
           stuck = λ words why left le e.
               let h = r.stuck words why left le e in
-              record { front = h.front; parts = h.parts; named = h.named; apart = λ c text more s k f b. h.apart c text more (s, f.0) k f.1 b };
+              record {
+                front = h.front;
+                parts = h.parts;
+                named = h.named;
+                apart =
+                    λ c text more s k f b. h.apart c text more (s, f.0) k f.1 b;
+              };
         }
 
     there : (c : C) (text : List Word) → R c → with F (λ a ws. (proj c ≡ a) × G c ws) text → (F (proj c) ▸ G c) text
@@ -285,13 +322,15 @@ part_parses {n} {A} {C} {F} {K} {P} {R} {G} {L} {Q} {read} {next} proj r has the
     back c text h f = record { value = proj c; form = record { front = f.front; back = f.back; parts = f.parts; first = f.first; second = (refl, f.second) } }
 
 -- a word that says nothing
-pub skip_parses : {n : ℕ} {C : Type 0} {R : C → Type 0} {G : C → List Word → Type 0} {L : TreeLimit → C → Type 0} {Q : C → Type 0} {read : Reading C} (test : Word → Bool)
+pub skip_parses : {n : ℕ} {C : Type 0} {R : C → Type 0} {G : C → List Word → Type 0} {L : TreeLimit → C → Type 0} {Q : C
+    → Type 0} {read : Reading C} (test : Word → Bool)
     → Parses n R G L Q read → Parses n R (λ c. this test ▸ G c) L Q (bind (this_at test) (λ _. read))
 skip_parses {n} {C} {R} {G} {L} {Q} {read} test r =
     part_parses {G = G} (λ c. done) (this_parses test) (λ l c h k. tt) (λ a. said_parses (λ c h. (h, refl)) (λ c h. h.0) (λ c ws h g. g) (λ c ws h g. g) (λ c h _. h) r)
 
 -- no words, and the one value that is meant
-pub give_parses : {n : ℕ} {C : Type 0} {R : C → Type 0} {L : TreeLimit → C → Type 0} {Q : C → Type 0} (v : C) → R v → Q v → ((c : C) → R c → c ≡ v) → Parses n R (λ _. nothing) L Q (give v)
+pub give_parses : {n : ℕ} {C : Type 0} {R : C → Type 0} {L : TreeLimit → C → Type 0} {Q : C → Type 0} (v : C) → R v → Q v
+    → ((c : C) → R c → c ≡ v) → Parses n R (λ _. nothing) L Q (give v)
 unfolding give
 give_parses {n} {C} {R} {L} {Q} v hr hq only = record {
   same = λ x y a b s t hx hy f g e. (only x hx ∙ sym (only y hy), ap (λ (ws : List Word). ws ++ s) (sym f) ∙ e ∙ ap (λ (ws : List Word). ws ++ t) g);
@@ -302,7 +341,9 @@ give_parses {n} {C} {R} {L} {Q} v hr hq only = record {
 }
 
 -- one word that has a meaning
-pub one_parses : {n : ℕ} {A : Type 0} (meaning : Word → Option A) (over : A → Option TreeLimit) → ((l : TreeLimit) (w : Word) (x : A) → meaning w ≡ Some x → over x ≡ Some l → NamedAt l w) → Parses n Always (one meaning) (λ l x. over x ≡ Some l → ⊥) (λ x. over x ≡ None) (one_at meaning over)
+pub one_parses : {n : ℕ} {A : Type 0} (meaning : Word → Option A) (over : A → Option TreeLimit)
+    → ((l : TreeLimit) (w : Word) (x : A) → meaning w ≡ Some x → over x ≡ Some l → NamedAt l w)
+    → Parses n Always (one meaning) (λ l x. over x ≡ Some l → ⊥) (λ x. over x ≡ None) (one_at meaning over)
 unfolding one_at
 one_parses {n} {A} meaning over name_at = record {
   same = λ x y a b s t _ _ f g e.
@@ -315,29 +356,35 @@ one_parses {n} {A} meaning over name_at = record {
     some_is : (x y : A) → some x ≡ Some y → x ≡ y
     some_is x y e = cc
 
-    takes_one : (words : List Word) (x : A) (left : List Word) → if_meant (meaning_of meaning words) over words ≡ Got x left → (Always x × (over x ≡ None)) × Takes (one meaning x) words left
+    takes_one : (words : List Word) (x : A) (left : List Word) → if_meant (meaning_of meaning words) over words ≡ Got x left
+        → (Always x × (over x ≡ None)) × Takes (one meaning x) words left
     takes_one [] x left e = absurd cc
     takes_one (w ∷ words) x left e = meant (meaning w) refl e
       where
-        within : (y : A) → meaning w ≡ Some y → (o : Option TreeLimit) → over y ≡ o → unless_over o y (w ∷ words) ≡ Got x left → (Always x × (over x ≡ None)) × Takes (one meaning x) (w ∷ words) left
+        within : (y : A) → meaning w ≡ Some y → (o : Option TreeLimit) → over y ≡ o → unless_over o y (w ∷ words) ≡ Got x left
+            → (Always x × (over x ≡ None)) × Takes (one meaning x) (w ∷ words) left
         within y is None kept e =
             let b = got_is y x words left e in
             ((tt, ap over (sym b.0) ∙ kept), record { text = w ∷ []; parts = ap (λ (ws : List Word). w ∷ ws) b.1; form = record { word = w; parts = refl; is = is ∙ ap some b.0 } })
         within y is (Some l) kept e = absurd cc
 
-        meant : (o : Option A) → meaning w ≡ o → if_meant o over (w ∷ words) ≡ Got x left → (Always x × (over x ≡ None)) × Takes (one meaning x) (w ∷ words) left
+        meant : (o : Option A) → meaning w ≡ o → if_meant o over (w ∷ words) ≡ Got x left
+            → (Always x × (over x ≡ None)) × Takes (one meaning x) (w ∷ words) left
         meant None is e = absurd cc
         meant (Some y) is e = within y is (over y) refl e
 
     -- it stopped at the first word, which stands for nothing or breaks a limit
-    at_first : (words : List Word) (why : Stop) (left : List Word) → words ≡ left → StopsAt why left → ((x : A) (text more : List Word) → Keeps (λ l x. over x ≡ Some l → ⊥) why x → one meaning x text → Begins [] words (text ++ more) → ⊥)
+    at_first : (words : List Word) (why : Stop) (left : List Word) → words ≡ left → StopsAt why left
+        → ((x : A) (text more : List Word) → Keeps (λ l x. over x ≡ Some l → ⊥) why x → one meaning x text → Begins [] words (text ++ more)
+        → ⊥)
         → Stops Always (one meaning) (λ l x. over x ≡ Some l → ⊥) words why left
     at_first words why left e named never = record { front = []; parts = e; named = named; apart = λ x text more _ k f b. never x text more k f (subst (λ (l : List Word). Begins [] l (text ++ more)) (sym e) b) }
 
     stop_is : (v w : Stop) (s t : List Word) → stuck_at {A = A} v s ≡ Stuck w t → (v ≡ w) × (s ≡ t)
     stop_is v w s t e = (cc, cc)
 
-    stops_one : (words : List Word) (why : Stop) (left : List Word) → if_meant (meaning_of meaning words) over words ≡ Stuck why left → Stops Always (one meaning) (λ l x. over x ≡ Some l → ⊥) words why left
+    stops_one : (words : List Word) (why : Stop) (left : List Word) → if_meant (meaning_of meaning words) over words ≡ Stuck why left
+        → Stops Always (one meaning) (λ l x. over x ≡ Some l → ⊥) words why left
     stops_one [] why left e = at_first [] why left (stop_is Syntax why [] left e).1 (syntax_stops [] why left e) (λ x text more k f b. let z : f.word ∷ more ≡ [] = ap (λ (ws : List Word). ws ++ more) (sym f.parts) ∙ b in absurd cc)
     stops_one (w ∷ words) why left e = meant (meaning w) refl e
       where
@@ -346,7 +393,8 @@ one_parses {n} {A} meaning over name_at = record {
             let k : f.word ∷ more ≡ w ∷ b.0 = ap (λ (ws : List Word). ws ++ more) (sym f.parts) ∙ b.1 in
             ap meaning (sym (apart_cons f.word w more b.0 k).0) ∙ f.is
 
-        within : (y : A) → meaning w ≡ Some y → (o : Option TreeLimit) → over y ≡ o → unless_over o y (w ∷ words) ≡ Stuck why left → Stops Always (one meaning) (λ l x. over x ≡ Some l → ⊥) (w ∷ words) why left
+        within : (y : A) → meaning w ≡ Some y → (o : Option TreeLimit) → over y ≡ o → unless_over o y (w ∷ words) ≡ Stuck why left
+            → Stops Always (one meaning) (λ l x. over x ≡ Some l → ⊥) (w ∷ words) why left
         within y is None kept e = absurd cc
         within y is (Some l) kept e =
             let b = stop_is (stops.Limit l) why (w ∷ words) left e in
@@ -354,14 +402,16 @@ one_parses {n} {A} meaning over name_at = record {
             let keeps : over x ≡ Some l → ⊥ = subst (λ (v : Stop). Keeps (λ l x. over x ≡ Some l → ⊥) v x) (sym b.0) k in
             keeps (ap over (some_is x y (sym (first_word x text more f h) ∙ is)) ∙ kept))
 
-        meant : (o : Option A) → meaning w ≡ o → if_meant o over (w ∷ words) ≡ Stuck why left → Stops Always (one meaning) (λ l x. over x ≡ Some l → ⊥) (w ∷ words) why left
+        meant : (o : Option A) → meaning w ≡ o → if_meant o over (w ∷ words) ≡ Stuck why left
+            → Stops Always (one meaning) (λ l x. over x ≡ Some l → ⊥) (w ∷ words) why left
         meant None is e = at_first (w ∷ words) why left (stop_is Syntax why (w ∷ words) left e).1 (syntax_stops (w ∷ words) why left e) (λ x text more k f b. let z = sym is ∙ first_word x text more f b in absurd cc)
         meant (Some y) is e = within y is (over y) refl e
 
 -- ---- by the next word
 
 -- A is the part of F that begins with a word that passes the test, B the part that begins with another
-pub choose_parses : {n : ℕ} {C : Type 0} {R : C → Type 0} {F A B : C → List Word → Type 0} {K : TreeLimit → C → Type 0} {Q : C → Type 0} {first other : Reading C} (test : Word → Bool)
+pub choose_parses : {n : ℕ} {C : Type 0} {R : C → Type 0} {F A B : C → List Word → Type 0} {K : TreeLimit → C → Type 0} {Q : C
+    → Type 0} {first other : Reading C} (test : Word → Bool)
     → ((c : C) (text more : List Word) → R c → F c text → heads test (text ++ more) ≡ true → A c text)
     → ((c : C) (text more : List Word) → R c → F c text → heads test (text ++ more) ≡ false → B c text)
     → ((c : C) (text : List Word) → R c → A c text → F c text) → ((c : C) (text : List Word) → R c → B c text → F c text)
@@ -376,20 +426,37 @@ choose_parses {n} {C} {R} {F} {A} {B} {K} {Q} {first} {other} test yes_a no_b fr
   stuck = λ words why left le e. stopped words why left le (heads test words) refl e;
 }
   where
-    taken : (words : List Word) (x : C) (left : List Word) → length words ≤ n → (v : Bool) → heads test words ≡ v → cond v (first words) (other words) ≡ Got x left → (R x × Q x) × Takes (F x) words left
+    taken : (words : List Word) (x : C) (left : List Word) → length words ≤ n → (v : Bool) → heads test words ≡ v
+        → cond v (first words) (other words) ≡ Got x left → (R x × Q x) × Takes (F x) words left
     taken words x left le true is e = let h = r.takes words x left le e in (h.0, record { text = h.1.text; parts = h.1.parts; form = from_a x h.1.text h.0.0 h.1.form })
     taken words x left le false is e = let h = q.takes words x left le e in (h.0, record { text = h.1.text; parts = h.1.parts; form = from_b x h.1.text h.0.0 h.1.form })
 
-    stopped : (words : List Word) (why : Stop) (left : List Word) → length words ≤ n → (v : Bool) → heads test words ≡ v → cond v (first words) (other words) ≡ Stuck why left → Stops R F K words why left
+    stopped : (words : List Word) (why : Stop) (left : List Word) → length words ≤ n → (v : Bool) → heads test words ≡ v
+        → cond v (first words) (other words) ≡ Stuck why left → Stops R F K words why left
     stopped words why left le true is e =
         let h = r.stuck words why left le e in
-        record { front = h.front; parts = h.parts; named = h.named; apart = λ c text more s k f b. h.apart c text more s k (yes_a c text more s f (sym (begins_heads test h.front left words (text ++ more) h.parts b) ∙ is)) b }
+        record {
+          front = h.front;
+          parts = h.parts;
+          named = h.named;
+          apart =
+              λ c text more s k f b.
+              h.apart c text more s k (yes_a c text more s f (sym (begins_heads test h.front left words (text ++ more) h.parts b) ∙ is)) b;
+        }
     stopped words why left le false is e =
         let h = q.stuck words why left le e in
-        record { front = h.front; parts = h.parts; named = h.named; apart = λ c text more s k f b. h.apart c text more s k (no_b c text more s f (sym (begins_heads test h.front left words (text ++ more) h.parts b) ∙ is)) b }
+        record {
+          front = h.front;
+          parts = h.parts;
+          named = h.named;
+          apart =
+              λ c text more s k f b.
+              h.apart c text more s k (no_b c text more s f (sym (begins_heads test h.front left words (text ++ more) h.parts b) ∙ is)) b;
+        }
 
 -- no words, and a value that a form tells
-pub given_parses : {n : ℕ} {C : Type 0} {R : C → Type 0} {L : TreeLimit → C → Type 0} {Q : C → Type 0} (v : C) → R v → Q v → Parses n R (λ c. given (c ≡ v)) L Q (give v)
+pub given_parses : {n : ℕ} {C : Type 0} {R : C → Type 0} {L : TreeLimit → C → Type 0} {Q : C → Type 0} (v : C) → R v → Q v
+    → Parses n R (λ c. given (c ≡ v)) L Q (give v)
 unfolding give
 given_parses {n} {C} {R} {L} {Q} v hr hq = record {
   same = λ x y a b s t hx hy f g e. (f.fact ∙ sym g.fact, ap (λ (ws : List Word). ws ++ s) (sym f.none) ∙ e ∙ ap (λ (ws : List Word). ws ++ t) g.none);
@@ -406,11 +473,13 @@ clash e f = let z = sym e ∙ f in absurd cc
 pub this_heads : (test : Word → Bool) (text more : List Word) → this test text → heads test (text ++ more) ≡ true
 this_heads test text more f = ap (λ (ws : List Word). heads test (ws ++ more)) f.parts ∙ f.is
 
-pub then_heads : {F G : List Word → Type 0} (test : Word → Bool) (v : Bool) (text more : List Word) → ((a left : List Word) → F a → heads test (a ++ left) ≡ v) → Then F G text → heads test (text ++ more) ≡ v
+pub then_heads : {F G : List Word → Type 0} (test : Word → Bool) (v : Bool) (text more : List Word)
+    → ((a left : List Word) → F a → heads test (a ++ left) ≡ v) → Then F G text → heads test (text ++ more) ≡ v
 then_heads test v text more begins f = ap (λ (ws : List Word). heads test (ws ++ more)) f.parts ∙ ap (heads test) (append_assoc f.front f.back more) ∙ begins f.front (f.back ++ more) f.first
 
 -- a word that may stand or not, before what never begins with it
-pub perhaps_parses : {n : ℕ} {C : Type 0} {R : C → Type 0} {G : C → List Word → Type 0} {L : TreeLimit → C → Type 0} {Q : C → Type 0} {read : Reading C} (test : Word → Bool)
+pub perhaps_parses : {n : ℕ} {C : Type 0} {R : C → Type 0} {G : C → List Word → Type 0} {L : TreeLimit → C → Type 0} {Q : C
+    → Type 0} {read : Reading C} (test : Word → Bool)
     → ((c : C) (text more : List Word) → R c → G c text → heads test (text ++ more) ≡ false)
     → Parses n R G L Q read → Parses n R (λ c. optional (this test) ▸ G c) L Q (bind (perhaps_at test) (λ _. read))
 unfolding bind choose this_at perhaps_at
@@ -423,11 +492,13 @@ perhaps_parses {n} {C} {R} {G} {L} {Q} {read} test free r =
     }
   where
     alike : (words : List Word) (v : Bool) → heads test words ≡ v
-        → cond (heads test words) (and_then (cond (heads test words) (got done (rest_of words)) (stuck_at Syntax words)) (λ _. read)) (read words) ≡ read (cond (heads test words) (rest_of words) words)
+        → cond (heads test words) (and_then (cond (heads test words) (got done (rest_of words)) (stuck_at Syntax words)) (λ _. read))
+        (read words) ≡ read (cond (heads test words) (rest_of words) words)
     alike words true is = rw is refl
     alike words false is = rw is refl
 
-    yes : (c : C) (text more : List Word) → R c → (optional (this test) ▸ G c) text → heads test (text ++ more) ≡ true → (this test ▸ G c) text
+    yes : (c : C) (text more : List Word) → R c → (optional (this test) ▸ G c) text → heads test (text ++ more) ≡ true
+        → (this test ▸ G c) text
     yes c text more h f is = ⊎_elim
         (λ (k : this test f.front). record { front = f.front; back = f.back; parts = f.parts; first = k; second = f.second })
         (λ (k : f.front ≡ []). absurd (clash is (ap (λ (ws : List Word). heads test (ws ++ more)) (f.parts ∙ ap (λ (ws : List Word). ws ++ f.back) k) ∙ free c f.back more h f.second)))
@@ -448,7 +519,8 @@ perhaps_parses {n} {C} {R} {G} {L} {Q} {read} test free r =
 -- ---- further steps
 
 -- a reading that does the same
-pub alike_parses : {n : ℕ} {C : Type 0} {R : C → Type 0} {F : C → List Word → Type 0} {K : TreeLimit → C → Type 0} {Q : C → Type 0} {f g : Reading C} → ((words : List Word) → f words ≡ g words) → Parses n R F K Q f → Parses n R F K Q g
+pub alike_parses : {n : ℕ} {C : Type 0} {R : C → Type 0} {F : C → List Word → Type 0} {K : TreeLimit → C → Type 0} {Q : C
+    → Type 0} {f g : Reading C} → ((words : List Word) → f words ≡ g words) → Parses n R F K Q f → Parses n R F K Q g
 alike_parses alike r = record {
   same = r.same;
   takes = λ words x left le e. r.takes words x left le (alike words ∙ e);
@@ -456,7 +528,8 @@ alike_parses alike r = record {
 }
 
 -- a fact that the form tells
-pub fact_parses : {n : ℕ} {C : Type 0} {R P : C → Type 0} {F : C → List Word → Type 0} {K : TreeLimit → C → Type 0} {Q : C → Type 0} {read : Reading C} → Parses n (λ c. R c × P c) F K Q read → Parses n R (λ c ws. P c × F c ws) K Q read
+pub fact_parses : {n : ℕ} {C : Type 0} {R P : C → Type 0} {F : C → List Word → Type 0} {K : TreeLimit → C → Type 0} {Q : C
+    → Type 0} {read : Reading C} → Parses n (λ c. R c × P c) F K Q read → Parses n R (λ c ws. P c × F c ws) K Q read
 fact_parses r = record {
   same = λ x y f g s t hx hy k h e. r.same x y f g s t (hx, k.0) (hy, h.0) k.1 h.1 e;
   takes = λ words x left le e.
@@ -468,7 +541,8 @@ fact_parses r = record {
 }
 
 -- only where a test holds
-pub require_parses : {n : ℕ} {C : Type 0} {R : C → Type 0} {F : C → List Word → Type 0} {K : TreeLimit → C → Type 0} {Q : C → Type 0} {read : Reading C} (b : Bool) → Parses n R F K Q read → Parses n R (λ c ws. (b ≡ true) × F c ws) K Q (require b read)
+pub require_parses : {n : ℕ} {C : Type 0} {R : C → Type 0} {F : C → List Word → Type 0} {K : TreeLimit → C → Type 0} {Q : C
+    → Type 0} {read : Reading C} (b : Bool) → Parses n R F K Q read → Parses n R (λ c ws. (b ≡ true) × F c ws) K Q (require b read)
 unfolding require
 require_parses true r = fact_parses (said_parses (λ c h. (h, refl)) (λ c h. h.0) (λ c text h f. f) (λ c text h f. f) (λ c h. h) r)
 require_parses {n} {C} {R} {F} {K} {Q} false r = record {
@@ -505,24 +579,34 @@ pub add_nothing : {F : List Word → Type 0} (text : List Word) → F text → T
 add_nothing text f = record { front = text; back = []; parts = sym (append-nil text); first = f; second = refl }
 
 -- a last word that says nothing, and the one value that is meant
-pub end_parses : {n : ℕ} {C : Type 0} {R : C → Type 0} {L : TreeLimit → C → Type 0} {Q : C → Type 0} (test : Word → Bool) (v : C) → R v → Q v → ((c : C) → R c → c ≡ v) → Parses n R (λ _. this test) L Q (bind (this_at test) (λ _. give v))
+pub end_parses : {n : ℕ} {C : Type 0} {R : C → Type 0} {L : TreeLimit → C → Type 0} {Q : C → Type 0} (test : Word → Bool) (v : C) → R v
+    → Q v → ((c : C) → R c → c ≡ v) → Parses n R (λ _. this test) L Q (bind (this_at test) (λ _. give v))
 end_parses test v hr hq only = said_parses {F = λ _. this test ▸ nothing} (λ c h. h) (λ c h. h) (λ c t h f. less_nothing t f) (λ c t h f. add_nothing t f) (λ c h. h) (skip_parses test (give_parses v hr hq only))
 
 -- a last part, which tells the value
-pub end_part_parses : {n : ℕ} {A C : Type 0} {F : A → List Word → Type 0} {K : TreeLimit → A → Type 0} {P : A → Type 0} {R : C → Type 0} {L : TreeLimit → C → Type 0} {Q : C → Type 0} {read : Reading A}
-    (proj : C → A) (v : A → C) → Parses n Always F K P read → ((l : TreeLimit) (c : C) → R c → L l c → K l (proj c)) → ((a : A) → R (v a) × (proj (v a) ≡ a)) → ((a : A) → P a → Q (v a)) → ((a : A) (c : C) → R c × (proj c ≡ a) → c ≡ v a)
+pub end_part_parses : {n : ℕ} {A C : Type 0} {F : A → List Word → Type 0} {K : TreeLimit → A → Type 0} {P : A → Type 0} {R : C
+    → Type 0} {L : TreeLimit → C → Type 0} {Q : C → Type 0} {read : Reading A}
+    (proj : C → A) (v : A → C) → Parses n Always F K P read → ((l : TreeLimit) (c : C) → R c → L l c → K l (proj c))
+    → ((a : A) → R (v a) × (proj (v a) ≡ a)) → ((a : A) → P a → Q (v a)) → ((a : A) (c : C) → R c × (proj c ≡ a) → c ≡ v a)
     → Parses n R (λ c. F (proj c)) L Q (bind read (λ a. give (v a)))
 end_part_parses {F = F} proj v r has hr hq only = said_parses {F = λ c. F (proj c) ▸ nothing} (λ c h. h) (λ c h. h) (λ c t h f. less_nothing t f) (λ c t h f. add_nothing t f) (λ c h. h)
     (part_parses {G = λ _. nothing} proj r has (λ a. give_parses (v a) (hr a) (hq a) (only a)))
 
 -- the same with a stronger limit
-pub limit_parses : {n : ℕ} {C : Type 0} {R : C → Type 0} {F : C → List Word → Type 0} {K L : TreeLimit → C → Type 0} {Q : C → Type 0} {read : Reading C} → ((l : TreeLimit) (c : C) → L l c → K l c) → Parses n R F K Q read → Parses n R F L Q read
+pub limit_parses : {n : ℕ} {C : Type 0} {R : C → Type 0} {F : C → List Word → Type 0} {K L : TreeLimit → C → Type 0} {Q : C
+    → Type 0} {read : Reading C} → ((l : TreeLimit) (c : C) → L l c → K l c) → Parses n R F K Q read → Parses n R F L Q read
 limit_parses {n} {C} {R} {F} {K} {L} {Q} {read} has r = record {
   same = r.same;
   takes = r.takes;
   stuck = λ words why left le e.
       let h = r.stuck words why left le e in
-      record { front = h.front; parts = h.parts; named = h.named; apart = λ c text more s k f b. h.apart c text more s (keeps why c k) f b };
+      record {
+        front = h.front;
+        parts = h.parts;
+        named = h.named;
+        apart =
+            λ c text more s k f b. h.apart c text more s (keeps why c k) f b;
+      };
 }
   where
     keeps : (why : Stop) (c : C) → Keeps L why c → Keeps K why c
@@ -531,11 +615,13 @@ limit_parses {n} {C} {R} {F} {K} {L} {Q} {read} has r = record {
     keeps Memory c k = tt
 
 -- one word that has a meaning, and no limit
-pub sure_parses : {n : ℕ} {A : Type 0} (meaning : Word → Option A) → Parses n Always (one meaning) NoLimit Always (one_at meaning never_over)
+pub sure_parses : {n : ℕ} {A : Type 0} (meaning : Word → Option A)
+    → Parses n Always (one meaning) NoLimit Always (one_at meaning never_over)
 sure_parses meaning = limit_parses (λ l c _ e. absurd cc) (said_parses (λ c h. h) (λ c h. h) (λ c t h f. f) (λ c t h f. f) (λ c h. tt) (one_parses meaning never_over (λ l w x e o. absurd cc)))
 
 -- where there is a value, a last word, which says nothing
-pub demand_parses : {n : ℕ} {B : Type 0} (test : Word → Bool) (o : Option B) → Parses n Always (λ b ws. (o ≡ Some b) × this test ws) NoLimit Always (demand o (λ b. bind (this_at test) (λ _. give b)))
+pub demand_parses : {n : ℕ} {B : Type 0} (test : Word → Bool) (o : Option B)
+    → Parses n Always (λ b ws. (o ≡ Some b) × this test ws) NoLimit Always (demand o (λ b. bind (this_at test) (λ _. give b)))
 unfolding demand
 demand_parses {n} {B} test None = record {
   same = λ x y a b s t _ _ f g e. let z = f.0 in absurd cc;

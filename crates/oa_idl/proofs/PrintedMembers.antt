@@ -1,5 +1,6 @@
 -- The members of an interface are spelled by their printed texts.
-use Rattle.std.proofs.Common.{◌≡◌, ℕ, suc, ◌+◌, ◌^◌, ◌<◌, ◌≤◌, Bool, true, false, List, [], ◌∷◌, ◌++◌, length, Option, Some, None, refl, sym, ap, subst, ◌∙◌, append_assoc, arith, ltb-false, leb-false}
+use Rattle.std.proofs.Common.{◌≡◌, ℕ, suc, ◌+◌, ◌^◌, ◌<◌, ◌≤◌, Bool, true, false, List, [], ◌∷◌, ◌++◌, length, Option, Some, None, refl}
+use Rattle.std.proofs.Common.{sym, ap, subst, ◌∙◌, append_assoc, arith, ltb-false, leb-false}
 use Rattle.std.specs.Prelude.{codes, ℤ, pos, negsuc, is_some, ◌==◌, ◌||◌, nat_lt, nat_le}
 use Rattle.std.specs.Fmt.{decimal, signed_decimal}
 use Rattle.std.specs.List.{AllByRecursion, flat_map}
@@ -25,41 +26,54 @@ use Rattle.oa_idl.specs.declared.seen.ParameterSeen.{ParameterSeen}
 use Rattle.oa_idl.specs.MethodValues.{MethodValue}
 use Rattle.oa_idl.specs.Bytes.{is_in, run}
 use Rattle.oa_idl.specs.Tokens.{front}
-use Rattle.oa_idl.specs.Forms.{Form, ◌▸◌, nothing, this, one, optional, either_of, where_is, with, listed, nowhere}
+use Rattle.oa_idl.specs.Forms.{◌▸◌, nothing, one, optional, listed, nowhere}
 use Rattle.oa_idl.specs.Forms as forms
-use Rattle.oa_idl.specs.Words.{passes, name_of, is_printable, guid_of, part_of, id_of, amount_of, characters_of, type_of, type_named, plain_type, unsigned_type}
-use Rattle.oa_idl.specs.Grammar.{sign, type_word, value_type, property_attribute, id_form, numbered, no_property, property_head, property, amount, literal, parameter_attribute, no_parameter, parameter_head, parameter, method_attribute, no_method, method_head, result_type, separated, next_parameter, one_more, may_end, last_parameter, method}
+use Rattle.oa_idl.specs.Words.{passes, name_of, is_printable, guid_of, part_of, id_of, amount_of, characters_of, type_of, type_named}
+use Rattle.oa_idl.specs.Words.{plain_type, unsigned_type}
+use Rattle.oa_idl.specs.Grammar.{sign, type_word, value_type, property_attribute, id_form, numbered, no_property, property_head, property}
+use Rattle.oa_idl.specs.Grammar.{amount, literal, parameter_attribute, no_parameter, parameter_head, parameter, method_attribute, no_method}
+use Rattle.oa_idl.specs.Grammar.{method_head, result_type, separated, next_parameter, one_more, may_end, last_parameter, method}
 use Rattle.oa_idl.specs.Grammar.PropertyAttribute.{Id, Readonly}
 use Rattle.oa_idl.specs.Grammar.ParameterAttribute.{IsIn, IsOptional, HasDefault}
 use Rattle.oa_idl.specs.Grammar.MethodAttribute.{MethodId, Propget, Propput}
-use Rattle.oa_idl.specs.Canonical.{type_text, value_type_text, result_text, named_text, character_text, literal_text, mark_text, default_text, parameter_marks, parameter_text, further_text, parameters_text, id_text, readonly_text, property_text, kind_text, list_text, method_text, digits_text}
-use Rattle.oa_idl.specs.Printable.{IsGuid, IsNameText, IsName, IsId, IsType, IsValueType, IsLiteral, IsDefault, IsParameter, IsProperty, IsResult, IsMethod}
-use Rattle.oa_idl.proofs.PrintedTokens.{word, by_test, clash, is_not, Ends, AreDigits, number_front}
+use Rattle.oa_idl.specs.Canonical.{type_text, value_type_text, result_text, named_text, character_text, literal_text, mark_text}
+use Rattle.oa_idl.specs.Canonical.{default_text, parameter_marks, parameter_text, further_text, parameters_text, id_text, readonly_text}
+use Rattle.oa_idl.specs.Canonical.{property_text, kind_text, list_text, method_text, digits_text}
+use Rattle.oa_idl.specs.Printable.{IsGuid, IsNameText, IsName, IsId, IsType, IsValueType, IsLiteral, IsDefault, IsParameter, IsProperty}
+use Rattle.oa_idl.specs.Printable.{IsResult, IsMethod}
+use Rattle.oa_idl.proofs.PrintedTokens.{word, by_test, clash, is_not, EndsWord, AreDigits, number_front}
 use Rattle.oa_idl.proofs.PrintedParts.{decimal_is, number_is, guid_front, string_front, string_value}
-use Rattle.oa_idl.proofs.Spelled.{Spells, ◌▹◌, at, said, nothing_spelled, left_out, blank, left_mark, right_mark, comma_mark, semicolon_mark, minus_mark, sign_word, meant_word, whole_word, last_spelled, next_spelled, attributes_spelled, then_blank, then_line}
+use Rattle.oa_idl.proofs.Spelled.{Spells, ◌▹◌, at, said, nothing_spelled, left_out, blank, left_mark, right_mark, comma_mark}
+use Rattle.oa_idl.proofs.Spelled.{semicolon_mark, minus_mark, sign_word, meant_word, whole_word, last_spelled, next_spelled}
+use Rattle.oa_idl.proofs.Spelled.{attributes_spelled, then_blank, then_line}
 
 -- ---- names and types
 
-pub name_spelled : (name : List ℕ) (b : ℕ) (x : List ℕ) → IsName name → Ends (b ∷ x) → Spells (one name_of name) (name ++ b ∷ x) (b ∷ x)
+pub name_spelled : (name : List ℕ) (b : ℕ) (x : List ℕ) → IsName name → EndsWord (b ∷ x) → Spells (one name_of name) (name ++ b ∷ x) (b ∷ x)
 unfolding name_of
 name_spelled name b x h ends = meant_word name_of name name b x h.0 ends (rw h.1 refl)
 
-type_means : (in_array unsigned : Bool) (t : VarType) (text : List ℕ) → type_named unsigned text ≡ Some t → (in_array ≡ true → is_some (sf_type_of t) ≡ true) → type_of in_array unsigned (word kinds.Name text) ≡ Some t
+type_means : (in_array unsigned : Bool) (t : VarType) (text : List ℕ) → type_named unsigned text ≡ Some t
+    → (in_array ≡ true → is_some (sf_type_of t) ≡ true) → type_of in_array unsigned (word kinds.Name text) ≡ Some t
 unfolding type_of
 type_means true unsigned t text e some = rw (e, some refl) refl
 type_means false unsigned t text e some = rw e refl
 
 -- one word for a type
-plain_spelled : (in_array : Bool) (t : VarType) (text : List ℕ) (b : ℕ) (x : List ℕ) → IsNameText text → Ends (b ∷ x) → plain_type text ≡ Some t → (in_array ≡ true → is_some (sf_type_of t) ≡ true) → Spells (type_word in_array t) (text ++ b ∷ x) (b ∷ x)
+plain_spelled : (in_array : Bool) (t : VarType) (text : List ℕ) (b : ℕ) (x : List ℕ) → IsNameText text → EndsWord (b ∷ x)
+    → plain_type text ≡ Some t → (in_array ≡ true → is_some (sf_type_of t) ≡ true) → Spells (type_word in_array t) (text ++ b ∷ x) (b ∷ x)
 plain_spelled in_array t text b x is ends e some = said (λ ws f. inr f) (meant_word (type_of in_array false) t text b x is ends (type_means in_array false t text e some))
 
 -- and `unsigned` before it
-unsigned_spelled : (in_array : Bool) (t : VarType) (text : List ℕ) (b : ℕ) (x : List ℕ) → IsNameText text → Ends (b ∷ x) → unsigned_type text ≡ Some t → (in_array ≡ true → is_some (sf_type_of t) ≡ true) → Spells (type_word in_array t) (codes "unsigned " ++ (text ++ b ∷ x)) (b ∷ x)
+unsigned_spelled : (in_array : Bool) (t : VarType) (text : List ℕ) (b : ℕ) (x : List ℕ) → IsNameText text → EndsWord (b ∷ x)
+    → unsigned_type text ≡ Some t → (in_array ≡ true → is_some (sf_type_of t) ≡ true)
+    → Spells (type_word in_array t) (codes "unsigned " ++ (text ++ b ∷ x)) (b ∷ x)
 unfolding is_in run passes
 unsigned_spelled in_array t text b x is ends e some = said (λ ws f. inl f)
     (sign_word (codes "unsigned") (codes "unsigned") 32 (text ++ b ∷ x) (refl, refl) (refl, refl) refl ▹ blank (meant_word (type_of in_array true) t text b x is ends (type_means in_array true t text e some)))
 
-pub type_spelled : (in_array : Bool) (t : VarType) (b : ℕ) (x : List ℕ) → IsType in_array t → Ends (b ∷ x) → Spells (type_word in_array t) (type_text t ++ b ∷ x) (b ∷ x)
+pub type_spelled : (in_array : Bool) (t : VarType) (b : ℕ) (x : List ℕ) → IsType in_array t → EndsWord (b ∷ x)
+    → Spells (type_word in_array t) (type_text t ++ b ∷ x) (b ∷ x)
 unfolding type_text is_in run plain_type unsigned_type
 type_spelled in_array types.Empty b x h ends = absurd h
 type_spelled in_array types.Null b x h ends = absurd h
@@ -82,11 +96,11 @@ type_spelled false types.Decimal b x h ends = plain_spelled false types.Decimal 
 type_spelled in_array types.Bstr b x h ends = plain_spelled in_array types.Bstr (codes "BSTR") b x (refl, refl) ends refl (λ _. refl)
 type_spelled in_array types.Variant b x h ends = plain_spelled in_array types.Variant (codes "VARIANT") b x (refl, refl) ends refl (λ _. refl)
 
-right_ends : (x : List ℕ) → Ends (41 ∷ x)
+right_ends : (x : List ℕ) → EndsWord (41 ∷ x)
 unfolding is_in
 right_ends x = (refl, refl)
 
-space_ends : (x : List ℕ) → Ends (32 ∷ x)
+space_ends : (x : List ℕ) → EndsWord (32 ∷ x)
 unfolding is_in
 space_ends x = (refl, refl)
 
@@ -98,14 +112,16 @@ value_type_spelled (values.Array t) x h = at (ap (λ (bs : List ℕ). codes "SAF
 
 -- ---- numbers
 
-digits_front : (ds : List ℕ) (b : ℕ) (x : List ℕ) → 0 < length ds → AreDigits ds → Ends (b ∷ x) → front (ds ++ b ∷ x) ≡ Word kinds.Number (length ds)
+digits_front : (ds : List ℕ) (b : ℕ) (x : List ℕ) → 0 < length ds → AreDigits ds → EndsWord (b ∷ x)
+    → front (ds ++ b ∷ x) ≡ Word kinds.Number (length ds)
 digits_front [] b x some h ends = absurd (omega (arith, some))
 digits_front (d ∷ ds) b x some h ends = number_front d ds b x h ends ∙ ap (λ (n : ℕ). Word kinds.Number n) (one_plus (length ds))
   where
     one_plus : (n : ℕ) → 1 + n ≡ suc n
     one_plus n = omega arith
 
-number_spelled : {A : Type 0} (meaning : forms.Word → Option A) (v : A) (n b : ℕ) (x : List ℕ) → n < 2 ^ 96 → Ends (b ∷ x) → meaning (word kinds.Number (decimal n)) ≡ Some v → Spells (one meaning v) (decimal n ++ b ∷ x) (b ∷ x)
+number_spelled : {A : Type 0} (meaning : forms.Word → Option A) (v : A) (n b : ℕ) (x : List ℕ) → n < 2 ^ 96 → EndsWord (b ∷ x)
+    → meaning (word kinds.Number (decimal n)) ≡ Some v → Spells (one meaning v) (decimal n ++ b ∷ x) (b ∷ x)
 number_spelled meaning v n b x small ends means =
     let h = decimal_is n small in
     whole_word kinds.Number (decimal n) (b ∷ x) h.some (digits_front (decimal n) b x h.some h.digits ends) (record { word = word kinds.Number (decimal n); parts = refl; is = means })
@@ -130,7 +146,7 @@ minus_means : (n : ℕ) → n < 2147483648 → (n == 0 || n == 2) ≡ false → 
 unfolding id_of
 minus_means n h ok = let k = number_is (suc n) (decimal (suc n)) (small_minus n h) (decimal_is (suc n) (small_minus n h)) in rw (k.0, k.1, most (suc n) 2147483648 (omega (arith, h))) (rw ok refl)
 
-pub id_spelled : (i : ℤ) (b : ℕ) (x : List ℕ) → IsId i → Ends (b ∷ x) → Spells (id_form i) (signed_decimal i ++ b ∷ x) (b ∷ x)
+pub id_spelled : (i : ℤ) (b : ℕ) (x : List ℕ) → IsId i → EndsWord (b ∷ x) → Spells (id_form i) (signed_decimal i ++ b ∷ x) (b ∷ x)
 id_spelled (pos n) b x h ends = said (λ ws f. inr f) (number_spelled (id_of false) (pos n) n b x (small_id n h) ends (id_means n h))
 id_spelled (negsuc n) b x h ends = said (λ ws f. inl f) (minus_mark ▹ number_spelled (id_of true) (negsuc n) (suc n) b x (small_minus n h.0) ends (minus_means n h.0 h.1))
 
@@ -142,7 +158,8 @@ less_means : (n : ℕ) → suc n < 2 ^ 96 → amount_of true (word kinds.Number 
 unfolding amount_of
 less_means n h = let k = number_is (suc n) (decimal (suc n)) h (decimal_is (suc n) h) in rw k.1 refl
 
-amount_spelled : (i : ℤ) (b : ℕ) (x : List ℕ) → IsLiteral (literals.Number i) → Ends (b ∷ x) → Spells (amount i) (signed_decimal i ++ b ∷ x) (b ∷ x)
+amount_spelled : (i : ℤ) (b : ℕ) (x : List ℕ) → IsLiteral (literals.Number i) → EndsWord (b ∷ x)
+    → Spells (amount i) (signed_decimal i ++ b ∷ x) (b ∷ x)
 amount_spelled (pos n) b x h ends = said (λ ws f. inr f) (number_spelled (amount_of false) (pos n) n b x h ends (amount_means n h))
 amount_spelled (negsuc n) b x h ends = said (λ ws f. inl f) (minus_mark ▹ number_spelled (amount_of true) (negsuc n) (suc n) b x (omega (arith, h)) ends (less_means n (omega (arith, h))))
 
@@ -150,7 +167,7 @@ part_means : (n : ℕ) → n < 65536 → part_of true (word kinds.Number (decima
 unfolding part_of
 part_means n h = let small : n < 2 ^ 96 = omega (arith, h) in let k = number_is n (decimal n) small (decimal_is n small) in rw (k.1, less n 65536 h) refl
 
-pub part_spelled : (n b : ℕ) (x : List ℕ) → n < 65536 → Ends (b ∷ x) → Spells (one (part_of true) n) (decimal n ++ b ∷ x) (b ∷ x)
+pub part_spelled : (n b : ℕ) (x : List ℕ) → n < 65536 → EndsWord (b ∷ x) → Spells (one (part_of true) n) (decimal n ++ b ∷ x) (b ∷ x)
 part_spelled n b x h ends = number_spelled (part_of true) n n b x (omega (arith, h)) ends (part_means n h)
 
 -- ---- GUIDs
@@ -169,14 +186,16 @@ guid_spelled g x h = whole_word kinds.Guid (digits_text g) (41 ∷ x) (omega (ar
 
 -- ---- literals
 
-string_means : (cs : List ℕ) → AllByRecursion (λ b. is_printable b ≡ true) cs → characters_of (word kinds.Text (34 ∷ (flat_map character_text cs ++ 34 ∷ []))) ≡ Some cs
+string_means : (cs : List ℕ) → AllByRecursion (λ b. is_printable b ≡ true) cs
+    → characters_of (word kinds.Text (34 ∷ (flat_map character_text cs ++ 34 ∷ []))) ≡ Some cs
 unfolding characters_of
 string_means cs h = string_value cs h
 
 string_length : (cs : List ℕ) → 1 + suc (length (flat_map character_text cs)) ≡ length (34 ∷ (flat_map character_text cs ++ 34 ∷ []))
 string_length cs = omega (arith, length-append (flat_map character_text cs) (34 ∷ []))
 
-string_spelled : (cs x : List ℕ) → AllByRecursion (λ b. is_printable b ≡ true) cs → Spells (one characters_of cs) (34 ∷ (flat_map character_text cs ++ 34 ∷ x)) x
+string_spelled : (cs x : List ℕ) → AllByRecursion (λ b. is_printable b ≡ true) cs
+    → Spells (one characters_of cs) (34 ∷ (flat_map character_text cs ++ 34 ∷ x)) x
 string_spelled cs x h = at (ap (λ (bs : List ℕ). 34 ∷ bs) (sym (append_assoc (flat_map character_text cs) (34 ∷ []) x)))
     (whole_word kinds.Text (34 ∷ (flat_map character_text cs ++ 34 ∷ [])) x (omega arith) (ap (λ (bs : List ℕ). front (34 ∷ bs)) (append_assoc (flat_map character_text cs) (34 ∷ []) x) ∙ string_front cs x ∙ ap (λ (n : ℕ). Word kinds.Text n) (string_length cs))
     (record { word = word kinds.Text (34 ∷ (flat_map character_text cs ++ 34 ∷ [])); parts = refl; is = string_means cs h }))
@@ -195,7 +214,9 @@ numbered_spelled : (i : ℤ) (x : List ℕ) → IsId i → Spells (numbered i) (
 unfolding is_in run passes
 numbered_spelled i x h = sign_word (codes "id") (codes "id") 40 (signed_decimal i ++ 41 ∷ x) (refl, refl) (refl, refl) refl ▹ left_mark ▹ id_spelled i 41 x h (right_ends x) ▹ right_mark
 
-property_head_spelled : (i : ℤ) (readonly : Bool) (x : List ℕ) → IsId i → Spells (property_head (record { id = i; readonly = readonly })) (codes "[id(" ++ (signed_decimal i ++ (readonly_text readonly ++ x))) x
+property_head_spelled : (i : ℤ) (readonly : Bool) (x : List ℕ) → IsId i
+    → Spells (property_head (record { id = i; readonly = readonly }))
+    (codes "[id(" ++ (signed_decimal i ++ (readonly_text readonly ++ x))) x
 unfolding property_head is_in run passes
 property_head_spelled i false x h = then_blank (attributes_spelled {attribute = property_attribute} no_property (record { id = i; readonly = false }) (Id i) refl (numbered_spelled i (93 ∷ 32 ∷ x) h) (last_spelled _ (record { id = i; readonly = false }) refl))
 property_head_spelled i true x h = then_blank (attributes_spelled {attribute = property_attribute} no_property (record { id = i; readonly = true }) (Id i) refl (numbered_spelled i (codes ", readonly] " ++ x) h)
@@ -209,7 +230,7 @@ property_layout : (p : Property) (x : List ℕ) → property_text p ++ x ≡ cod
 unfolding property_text id_text named_text
 property_layout p x = ap (λ (bs : List ℕ). codes "[id(" ++ bs) (member_layout (signed_decimal p.id) (readonly_text p.readonly) (value_type_text p.value_type) p.name (codes ";\n") x)
 
-semicolon_ends : (x : List ℕ) → Ends (59 ∷ x)
+semicolon_ends : (x : List ℕ) → EndsWord (59 ∷ x)
 unfolding is_in
 semicolon_ends x = (refl, refl)
 
@@ -218,12 +239,14 @@ property_spelled p x h = at (property_layout p x) (property_head_spelled p.id p.
 
 -- ---- parameters
 
-typed_spelled : (t : ValueType) (name : List ℕ) (b : ℕ) (x : List ℕ) → IsValueType t → IsName name → Ends (b ∷ x) → Spells (value_type t ▸ one name_of name ▸ nothing) (named_text (value_type_text t) name ++ b ∷ x) (b ∷ x)
+typed_spelled : (t : ValueType) (name : List ℕ) (b : ℕ) (x : List ℕ) → IsValueType t → IsName name → EndsWord (b ∷ x)
+    → Spells (value_type t ▸ one name_of name ▸ nothing) (named_text (value_type_text t) name ++ b ∷ x) (b ∷ x)
 unfolding named_text
 typed_spelled t name b x h k ends = at (append_assoc (value_type_text t ++ 32 ∷ []) name (b ∷ x) ∙ append_assoc (value_type_text t) (32 ∷ []) (name ++ b ∷ x))
     (value_type_spelled t (name ++ b ∷ x) h ▹ blank (name_spelled name b x k ends) ▹ nothing_spelled)
 
-default_spelled : (v : Literal) (x : List ℕ) → IsLiteral v → Spells (parameter_attribute (HasDefault v)) (codes "defaultvalue(" ++ (literal_text v ++ 41 ∷ x)) x
+default_spelled : (v : Literal) (x : List ℕ) → IsLiteral v
+    → Spells (parameter_attribute (HasDefault v)) (codes "defaultvalue(" ++ (literal_text v ++ 41 ∷ x)) x
 unfolding is_in run passes
 default_spelled v x h = sign_word (codes "defaultvalue") (codes "defaultvalue") 40 (literal_text v ++ 41 ∷ x) (refl, refl) (refl, refl) refl ▹ left_mark ▹ literal_spelled v x h ▹ right_mark
 
@@ -233,24 +256,26 @@ marked_layout l n y = append_assoc ((l ++ 41 ∷ []) ++ 93 ∷ 32 ∷ []) n y �
 abbrev marks : Bool → Bool → Option Literal → ParameterSeen
 marks i o d = record { is_in = i; is_optional = o; default = d }
 
-in_spelled : (b : ℕ) (x : List ℕ) → Ends (b ∷ x) → Spells (sign (codes "in")) (codes "in" ++ b ∷ x) (b ∷ x)
+in_spelled : (b : ℕ) (x : List ℕ) → EndsWord (b ∷ x) → Spells (sign (codes "in")) (codes "in" ++ b ∷ x) (b ∷ x)
 unfolding is_in run passes
 in_spelled b x ends = sign_word (codes "in") (codes "in") b x (refl, refl) ends refl
 
-optional_spelled : (b : ℕ) (x : List ℕ) → Ends (b ∷ x) → Spells (sign (codes "optional")) (codes "optional" ++ b ∷ x) (b ∷ x)
+optional_spelled : (b : ℕ) (x : List ℕ) → EndsWord (b ∷ x) → Spells (sign (codes "optional")) (codes "optional" ++ b ∷ x) (b ∷ x)
 unfolding is_in run passes
 optional_spelled b x ends = sign_word (codes "optional") (codes "optional") b x (refl, refl) ends refl
 
-close_ends : (x : List ℕ) → Ends (93 ∷ x)
+close_ends : (x : List ℕ) → EndsWord (93 ∷ x)
 unfolding is_in
 close_ends x = (refl, refl)
 
-comma_ends : (x : List ℕ) → Ends (44 ∷ x)
+comma_ends : (x : List ℕ) → EndsWord (44 ∷ x)
 unfolding is_in
 comma_ends x = (refl, refl)
 
-marked : (i o : Bool) (d : Option Literal) (t : ValueType) (name : List ℕ) (b : ℕ) (x : List ℕ) → IsDefault d → IsValueType t → IsName name → Ends (b ∷ x)
-    → Spells (parameter (record { is_in = i; is_optional = o; default = d; value_type = t; name = name })) (parameter_text (record { is_in = i; is_optional = o; default = d; value_type = t; name = name }) ++ b ∷ x) (b ∷ x)
+marked : (i o : Bool) (d : Option Literal) (t : ValueType) (name : List ℕ) (b : ℕ) (x : List ℕ) → IsDefault d → IsValueType t → IsName name
+    → EndsWord (b ∷ x)
+    → Spells (parameter (record { is_in = i; is_optional = o; default = d; value_type = t; name = name }))
+    (parameter_text (record { is_in = i; is_optional = o; default = d; value_type = t; name = name }) ++ b ∷ x) (b ∷ x)
 unfolding parameter parameter_head parameter_text parameter_marks mark_text default_text
 marked false false None t name b x h k n ends = said (λ ws f. inr (refl, f)) (typed_spelled t name b x k n ends)
 marked true false None t name b x h k n ends = let y = named_text (value_type_text t) name ++ b ∷ x in
@@ -277,14 +302,15 @@ marked true true (Some v) t name b x h k n ends = let y = named_text (value_type
     (next_spelled _ (marks true true (Some v)) IsOptional refl (blank (optional_spelled 44 (codes " defaultvalue(" ++ (literal_text v ++ 41 ∷ 93 ∷ 32 ∷ y)) (comma_ends (codes " defaultvalue(" ++ (literal_text v ++ 41 ∷ 93 ∷ 32 ∷ y)))))
     (next_spelled _ (marks true true (Some v)) (HasDefault v) refl (blank (default_spelled v (93 ∷ 32 ∷ y) h)) (last_spelled _ (marks true true (Some v)) refl)))) ▹ typed_spelled t name b x k n ends))
 
-parameter_spelled : (p : Parameter) (b : ℕ) (x : List ℕ) → IsParameter p → Ends (b ∷ x) → Spells (parameter p) (parameter_text p ++ b ∷ x) (b ∷ x)
+parameter_spelled : (p : Parameter) (b : ℕ) (x : List ℕ) → IsParameter p → EndsWord (b ∷ x)
+    → Spells (parameter p) (parameter_text p ++ b ∷ x) (b ∷ x)
 parameter_spelled p b x h ends = marked p.is_in p.is_optional p.default p.value_type p.name b x h.0 h.1 h.2 ends
 
-parameter_before : (p : Parameter) (y : List ℕ) → IsParameter p → Ends y → Spells (parameter p) (parameter_text p ++ y) y
+parameter_before : (p : Parameter) (y : List ℕ) → IsParameter p → EndsWord y → Spells (parameter p) (parameter_text p ++ y) y
 parameter_before p [] h ends = absurd ends
 parameter_before p (b ∷ x) h ends = parameter_spelled p b x h ends
 
-rest_ends : (ps : List Parameter) (x : List ℕ) → Ends (flat_map further_text ps ++ 41 ∷ x)
+rest_ends : (ps : List Parameter) (x : List ℕ) → EndsWord (flat_map further_text ps ++ 41 ∷ x)
 unfolding further_text
 rest_ends [] x = right_ends x
 rest_ends (p ∷ ps) x = comma_ends (32 ∷ ((parameter_text p ++ flat_map further_text ps) ++ 41 ∷ x))
@@ -292,16 +318,20 @@ rest_ends (p ∷ ps) x = comma_ends (32 ∷ ((parameter_text p ++ flat_map furth
 right_spelled : (k : MethodKind) (n : ℕ) (x : List ℕ) → may_end k n ≡ true → Spells (last_parameter k n tt) (41 ∷ x) x
 right_spelled k n x e = said (λ ws f. (e, f)) right_mark
 
-further_spelled : (n : ℕ) (p : Parameter) (y : List ℕ) → 0 < n → IsParameter p → Ends y → Spells (next_parameter n p) (further_text p ++ y) y
+further_spelled : (n : ℕ) (p : Parameter) (y : List ℕ) → 0 < n → IsParameter p → EndsWord y
+    → Spells (next_parameter n p) (further_text p ++ y) y
 unfolding further_text
 further_spelled n p y some h ends = subst (λ (c : Bool). Spells (separated c p) (codes ", " ++ (parameter_text p ++ y)) y) (sym (is_not n 0 (λ e. omega (arith, e, some)))) (comma_mark ▹ blank (parameter_before p y h ends))
 
-rest_spelled : (k : MethodKind) (n : ℕ) (ps : List Parameter) (x : List ℕ) → 0 < n → AllByRecursion IsParameter ps → may_end k (n + length ps) ≡ true → Spells (listed next_parameter one_more nowhere (last_parameter k) n ps tt) (flat_map further_text ps ++ 41 ∷ x) x
+rest_spelled : (k : MethodKind) (n : ℕ) (ps : List Parameter) (x : List ℕ) → 0 < n → AllByRecursion IsParameter ps
+    → may_end k (n + length ps) ≡ true → Spells (listed next_parameter one_more nowhere (last_parameter k) n ps tt)
+    (flat_map further_text ps ++ 41 ∷ x) x
 rest_spelled k n [] x some h e = right_spelled k n x (subst (λ (m : ℕ). may_end k m ≡ true) (omega arith) e)
 rest_spelled k n (p ∷ ps) x some h e = at (append_assoc (further_text p) (flat_map further_text ps) (41 ∷ x))
     (further_spelled n p (flat_map further_text ps ++ 41 ∷ x) some h.0 (rest_ends ps x) ▹ left_out ▹ rest_spelled k (n + 1) ps x (omega arith) h.1 (subst (λ (m : ℕ). may_end k m ≡ true) (omega arith) e))
 
-parameters_spelled : (k : MethodKind) (ps : List Parameter) (x : List ℕ) → AllByRecursion IsParameter ps → may_end k (length ps) ≡ true → Spells (listed next_parameter one_more nowhere (last_parameter k) 0 ps tt) (parameters_text ps ++ 41 ∷ x) x
+parameters_spelled : (k : MethodKind) (ps : List Parameter) (x : List ℕ) → AllByRecursion IsParameter ps → may_end k (length ps) ≡ true
+    → Spells (listed next_parameter one_more nowhere (last_parameter k) 0 ps tt) (parameters_text ps ++ 41 ∷ x) x
 unfolding parameters_text
 parameters_spelled k [] x h e = right_spelled k 0 x e
 parameters_spelled k (p ∷ ps) x h e = at (append_assoc (parameter_text p) (flat_map further_text ps) (41 ∷ x))
@@ -312,7 +342,8 @@ parameters_spelled k (p ∷ ps) x h e = at (append_assoc (parameter_text p) (fla
 abbrev head_of : ℤ → MethodKind → MethodHead
 head_of i k = record { id = i; kind = k }
 
-method_head_spelled : (i : ℤ) (k : MethodKind) (x : List ℕ) → IsId i → Spells (method_head (head_of i k)) (codes "[id(" ++ (signed_decimal i ++ (kind_text k ++ x))) x
+method_head_spelled : (i : ℤ) (k : MethodKind) (x : List ℕ) → IsId i
+    → Spells (method_head (head_of i k)) (codes "[id(" ++ (signed_decimal i ++ (kind_text k ++ x))) x
 unfolding method_head is_in run passes
 method_head_spelled i methods_of.Method x h = then_blank (attributes_spelled {attribute = method_attribute} no_method (head_of i methods_of.Method) (MethodId i) refl (numbered_spelled i (93 ∷ 32 ∷ x) h) (last_spelled _ (head_of i methods_of.Method) refl))
 method_head_spelled i methods_of.Get x h = then_blank (attributes_spelled {attribute = method_attribute} no_method (head_of i methods_of.Get) (MethodId i) refl (numbered_spelled i (codes ", propget] " ++ x) h)
@@ -320,12 +351,13 @@ method_head_spelled i methods_of.Get x h = then_blank (attributes_spelled {attri
 method_head_spelled i methods_of.Put x h = then_blank (attributes_spelled {attribute = method_attribute} no_method (head_of i methods_of.Put) (MethodId i) refl (numbered_spelled i (codes ", propput] " ++ x) h)
     (next_spelled _ (head_of i methods_of.Put) Propput refl (blank (sign_word (codes "propput") (codes "propput") 93 (32 ∷ x) (refl, refl) (refl, refl) refl)) (last_spelled _ (head_of i methods_of.Put) refl)))
 
-result_spelled : (k : MethodKind) (t : Option ValueType) (x : List ℕ) → IsResult k t → Spells (result_type k t) (result_text t ++ 32 ∷ x) (32 ∷ x)
+result_spelled : (k : MethodKind) (t : Option ValueType) (x : List ℕ) → IsResult k t
+    → Spells (result_type k t) (result_text t ++ 32 ∷ x) (32 ∷ x)
 unfolding result_type result_text is_in run passes
 result_spelled k None x h = said (λ ws f. (h, f)) (sign_word (codes "void") (codes "void") 32 x (refl, refl) (refl, refl) refl)
 result_spelled k (Some t) x h = said (λ ws f. (h.0, f)) (value_type_spelled t x h.1)
 
-left_ends : (x : List ℕ) → Ends (40 ∷ x)
+left_ends : (x : List ℕ) → EndsWord (40 ∷ x)
 unfolding is_in
 left_ends x = (refl, refl)
 

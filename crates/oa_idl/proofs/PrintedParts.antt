@@ -1,5 +1,6 @@
 -- The parts of a printed text that are one word each: numbers, GUIDs and strings.
-use Rattle.std.proofs.Common.{◌≡◌, ℕ, suc, ◌+◌, ◌-◌, ◌*◌, ◌^◌, ◌<◌, ◌≤◌, Bool, true, false, List, [], ◌∷◌, ◌++◌, length, map, Some, refl, sym, ap, subst, ◌∙◌, arith, ltb-true, ltb-false, leb-false}
+use Rattle.std.proofs.Common.{◌≡◌, ℕ, suc, ◌+◌, ◌-◌, ◌*◌, ◌^◌, ◌<◌, ◌≤◌, Bool, true, false, List, [], ◌∷◌, ◌++◌, length, map, Some, refl}
+use Rattle.std.proofs.Common.{sym, ap, subst, ◌∙◌, arith, ltb-true, ltb-false, leb-false}
 use Rattle.std.specs.Prelude.{◌&&◌, ◌==◌, nat_lt, nat_le}
 use Rattle.std.specs.List.{AllByRecursion, flat_map}
 use Rattle.std.specs.Fmt.{decimal}
@@ -65,7 +66,8 @@ hex_digit_is d small = by_test (nat_lt d 10)
     (λ (e : nat_lt d 10 ≡ true). rw (e, within 48 57 (48 + d) (omega arith) (omega (arith, ltb-true d 10 e))) refl)
     (λ (e : nat_lt d 10 ≡ false). let ge = ltb-false d 10 e in rw (e, within 97 102 (97 + d - 10) (omega (arith, ge)) (omega (arith, ge, small)), outside 48 57 (97 + d - 10) (λ p q. omega (arith, ge, q)), outside 65 70 (97 + d - 10) (λ p q. omega (arith, ge, q))) refl)
 
-digits_hex : (g ks : List ℕ) (b : ℕ) (bs : List ℕ) → is_in classes.Hexadecimal b ≡ false → run (is_in classes.Hexadecimal) (digits_at g ks ++ b ∷ bs) ≡ length ks
+digits_hex : (g ks : List ℕ) (b : ℕ) (bs : List ℕ) → is_in classes.Hexadecimal b ≡ false
+    → run (is_in classes.Hexadecimal) (digits_at g ks ++ b ∷ bs) ≡ length ks
 unfolding run
 digits_hex g [] b bs stop = rw stop refl
 digits_hex g (k ∷ ks) b bs stop = rw (hex_digit_is (nibble g k) (nibble_small g k)) (ap suc (digits_hex g ks b bs stop))
@@ -120,7 +122,8 @@ printed_is_guid g b bs stop = subst (λ (xs : List ℕ). is_guid xs ≡ true) (s
     (group_4 g 16 17 18 19 (digits_at g last_digits ++ b ∷ bs))
     (twelve _ (digits_hex g last_digits b bs stop)))
 
-pub guid_front : (g : List ℕ) (b : ℕ) (bs : List ℕ) → is_in classes.Hexadecimal b ≡ false → front (digits_text g ++ b ∷ bs) ≡ Word kinds.Guid 36
+pub guid_front : (g : List ℕ) (b : ℕ) (bs : List ℕ) → is_in classes.Hexadecimal b ≡ false
+    → front (digits_text g ++ b ∷ bs) ≡ Word kinds.Guid 36
 unfolding front
 guid_front g b bs stop = rw (printed_is_guid g b bs stop) refl
 
@@ -131,19 +134,22 @@ no_quote b e = by_test (b == 34) (λ (x : (b == 34) ≡ true). absurd (clash (rw
     by_test (b == 92) (λ (y : (b == 92) ≡ true). absurd (clash (rw (x, y) refl) e)) (λ (y : (b == 92) ≡ false). (x, y)))
 
 -- where a printed string closes
-string_end : (cs bs : List ℕ) → end_from Quote false (flat_map character_text cs ++ 34 ∷ bs) ≡ Some (suc (length (flat_map character_text cs)))
+string_end : (cs bs : List ℕ)
+    → end_from Quote false (flat_map character_text cs ++ 34 ∷ bs) ≡ Some (suc (length (flat_map character_text cs)))
 unfolding end_from character_text
 string_end [] bs = refl
 string_end (c ∷ cs) bs = by_test (is_escaped c)
     (λ (e : is_escaped c ≡ true). rw (e, string_end cs bs) refl)
     (λ (e : is_escaped c ≡ false). rw (e, (no_quote c e).0, (no_quote c e).1, string_end cs bs) refl)
 
-pub string_front : (cs bs : List ℕ) → front (34 ∷ (flat_map character_text cs ++ 34 ∷ bs)) ≡ Word kinds.Text (1 + suc (length (flat_map character_text cs)))
+pub string_front : (cs bs : List ℕ)
+    → front (34 ∷ (flat_map character_text cs ++ 34 ∷ bs)) ≡ Word kinds.Text (1 + suc (length (flat_map character_text cs)))
 unfolding front is_guid group run is_in
 string_front cs bs = rw (string_end cs bs) refl
 
 -- and its characters
-pub string_value : (cs : List ℕ) → AllByRecursion (λ b. is_printable b ≡ true) cs → characters_from false (flat_map character_text cs ++ 34 ∷ []) ≡ Some cs
+pub string_value : (cs : List ℕ) → AllByRecursion (λ b. is_printable b ≡ true) cs
+    → characters_from false (flat_map character_text cs ++ 34 ∷ []) ≡ Some cs
 unfolding characters_from character_text
 string_value [] h = refl
 string_value (c ∷ cs) h = by_test (is_escaped c)

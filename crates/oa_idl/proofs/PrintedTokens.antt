@@ -1,5 +1,6 @@
 -- The words of bytes that are put together from their front.
-use Rattle.std.proofs.Common.{◌≡◌, ℕ, suc, ◌+◌, ◌-◌, ◌<◌, ◌≤◌, Bool, true, false, List, [], ◌∷◌, ◌++◌, length, take, drop, map, get_or, refl, sym, ap, subst, ◌∙◌, arith, leb-true, leb-false}
+use Rattle.std.proofs.Common.{◌≡◌, ℕ, suc, ◌+◌, ◌-◌, ◌<◌, ◌≤◌, Bool, true, false, List, [], ◌∷◌, ◌++◌, length, take, drop, map, get_or}
+use Rattle.std.proofs.Common.{refl, sym, ap, subst, ◌∙◌, arith, leb-true, leb-false}
 use Rattle.std.specs.Prelude.{◌&&◌, ◌==◌, nat_lt, nat_le}
 use Rattle.std.specs.Int.{is_in_range}
 use Rattle.std.proofs.lemmas.List.{drop-drop}
@@ -23,7 +24,8 @@ word kind text = record { kind = kind; text = text }
 pub data HasWords : List ℕ → List forms.Word → Type 0 where
   Nil : HasWords [] []
   Skip : (n : ℕ) (bs : List ℕ) (ws : List forms.Word) → 0 < length bs → front bs ≡ Gap n → HasWords (drop n bs) ws → HasWords bs ws
-  Take : (n : ℕ) (kind : Kind) (bs : List ℕ) (ws : List forms.Word) → 0 < length bs → front bs ≡ Word kind n → HasWords (drop n bs) ws → HasWords bs (word kind (take n bs) ∷ ws)
+  Take : (n : ℕ) (kind : Kind) (bs : List ℕ) (ws : List forms.Word) → 0 < length bs → front bs ≡ Word kind n → HasWords (drop n bs) ws
+      → HasWords bs (word kind (take n bs) ∷ ws)
 
 -- their tokens from a place of a text on
 pub record TokensAt (text : List ℕ) (p : ℕ) (bs : List ℕ) (ws : List forms.Word) : Type 0 where
@@ -48,9 +50,9 @@ tokens_at text p _ _ at (Take n kind bs ws lt is h) =
 -- ---- what stands at the front
 
 -- a byte that ends a name and a number
-abbrev pub Ends : List ℕ → Type 0
-Ends [] = ⊥
-Ends (b ∷ bs) = (is_in classes.Named b ≡ false) × ((b == 45) ≡ false)
+abbrev pub EndsWord : List ℕ → Type 0
+EndsWord [] = ⊥
+EndsWord (b ∷ bs) = (is_in classes.Named b ≡ false) × ((b == 45) ≡ false)
 
 -- by a test
 pub by_test : {P : Type 0} (b : Bool) → (b ≡ true → P) → (b ≡ false → P) → P
@@ -109,7 +111,8 @@ run_append p (x ∷ xs) b bs e stop = by_test (p x)
 -- ---- names and numbers are no GUIDs
 
 -- behind hexadecimal digits stands no hyphen
-not_hyphen : (xs : List ℕ) (b : ℕ) (bs : List ℕ) → run (is_in classes.Named) xs ≡ length xs → Ends (b ∷ bs) → (get_or (xs ++ b ∷ bs) (run (is_in classes.Hexadecimal) (xs ++ b ∷ bs)) 0 == 45) ≡ false
+not_hyphen : (xs : List ℕ) (b : ℕ) (bs : List ℕ) → run (is_in classes.Named) xs ≡ length xs → EndsWord (b ∷ bs)
+    → (get_or (xs ++ b ∷ bs) (run (is_in classes.Hexadecimal) (xs ++ b ∷ bs)) 0 == 45) ≡ false
 unfolding run
 not_hyphen [] b bs e ends = by_test (is_in classes.Hexadecimal b)
     (λ (is : is_in classes.Hexadecimal b ≡ true). absurd (clash (hex_named b is) ends.0))
@@ -146,7 +149,8 @@ name_run : (c : ℕ) (cs : List ℕ) → IsNameText (c ∷ cs) → run (is_in cl
 unfolding run
 name_run c cs is = rw (letter_named c is.0) (ap suc is.1)
 
-pub name_front : (c : ℕ) (cs : List ℕ) (b : ℕ) (bs : List ℕ) → IsNameText (c ∷ cs) → Ends (b ∷ bs) → front (c ∷ (cs ++ b ∷ bs)) ≡ Word kinds.Name (1 + length cs)
+pub name_front : (c : ℕ) (cs : List ℕ) (b : ℕ) (bs : List ℕ) → IsNameText (c ∷ cs) → EndsWord (b ∷ bs)
+    → front (c ∷ (cs ++ b ∷ bs)) ≡ Word kinds.Name (1 + length cs)
 unfolding front
 name_front c cs b bs is ends =
     rw (no_guid (c ∷ (cs ++ b ∷ bs)) (not_hyphen (c ∷ cs) b bs (name_run c cs is) ends), is.0) (ap (λ (n : ℕ). Word kinds.Name (1 + n)) (run_append (is_in classes.Named) cs b bs is.1 ends.0))
@@ -187,11 +191,12 @@ digit_is_named b is = rw is refl
 ends_no_digit : (b : ℕ) → is_in classes.Named b ≡ false → is_in classes.Digit b ≡ false
 ends_no_digit b e = by_test (is_in classes.Digit b) (λ (is : is_in classes.Digit b ≡ true). absurd (clash (digit_is_named b is) e)) (λ (is : is_in classes.Digit b ≡ false). is)
 
-second_no_x : (ds : List ℕ) (b : ℕ) (bs : List ℕ) → AreDigits ds → Ends (b ∷ bs) → (get_or (ds ++ b ∷ bs) 0 0 == 120) ≡ false
+second_no_x : (ds : List ℕ) (b : ℕ) (bs : List ℕ) → AreDigits ds → EndsWord (b ∷ bs) → (get_or (ds ++ b ∷ bs) 0 0 == 120) ≡ false
 second_no_x [] b bs h ends = named_no_x b ends.0
 second_no_x (d ∷ ds) b bs h ends = is_not d 120 (λ e. omega (arith, e, h.1))
 
-pub number_front : (d : ℕ) (ds : List ℕ) (b : ℕ) (bs : List ℕ) → AreDigits (d ∷ ds) → Ends (b ∷ bs) → front (d ∷ (ds ++ b ∷ bs)) ≡ Word kinds.Number (1 + length ds)
+pub number_front : (d : ℕ) (ds : List ℕ) (b : ℕ) (bs : List ℕ) → AreDigits (d ∷ ds) → EndsWord (b ∷ bs)
+    → front (d ∷ (ds ++ b ∷ bs)) ≡ Word kinds.Number (1 + length ds)
 unfolding front
 number_front d ds b bs h ends =
     rw (no_guid (d ∷ (ds ++ b ∷ bs)) (not_hyphen (d ∷ ds) b bs (digits_named (d ∷ ds) h) ends), no_letter d h.0 h.1, and_false (d == 48) (get_or (ds ++ b ∷ bs) 0 0 == 120) (λ _. second_no_x ds b bs h.2 ends), is_digit d h.0 h.1)

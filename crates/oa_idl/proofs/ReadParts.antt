@@ -1,5 +1,6 @@
 -- What words stand for: what is known of each name, number, GUID, type and string that was read.
-use Rattle.std.proofs.Common.{◌≡◌, ℕ, zero, suc, ◌+◌, ◌-◌, ◌*◌, ◌^◌, ◌<◌, ◌≤◌, Bool, true, false, cond, List, [], ◌∷◌, ◌++◌, length, take, drop, map, get_or, Option, Some, None, refl, sym, ap, subst, ◌∙◌, arith, ltb-true, ltb-false, leb-true}
+use Rattle.std.proofs.Common.{◌≡◌, ℕ, zero, suc, ◌+◌, ◌-◌, ◌*◌, ◌^◌, ◌<◌, ◌≤◌, Bool, true, false, cond, List, [], ◌∷◌, ◌++◌, length, take}
+use Rattle.std.proofs.Common.{drop, map, get_or, Option, Some, None, refl, sym, ap, subst, ◌∙◌, arith, ltb-true, ltb-false, leb-true}
 use Rattle.std.specs.Prelude.{◌&&◌, ◌||◌, ◌==◌, not, nat_lt, nat_le, ℤ, pos, negsuc, neg_ℤ, is_some, slice_index, codes}
 use Rattle.std.specs.Int.{cast_signed, w32}
 use Rattle.std.specs.List.{AllByRecursion, list_all}
@@ -28,7 +29,10 @@ use Rattle.oa_idl.specs.Tokens.{front, closed, AreTokens}
 use Rattle.oa_idl.specs.Tokens.AreTokens.{End, Apart, Next, Rest}
 use Rattle.oa_idl.specs.Forms.{one}
 use Rattle.oa_idl.specs.Forms as forms
-use Rattle.oa_idl.specs.Words.{same_kind, name_of, is_reserved, guid_of, below, number_of, value_of, part_of, part_from, id_of, id_from, id_number, usable, is_hexadecimal, amount_of, amount_from, signed, characters_of, characters_from, with_character, is_printable, is_escaped, type_of, type_named, plain_type, unsigned_type, if_cell, word_of, end_word, words_of}
+use Rattle.oa_idl.specs.Words.{same_kind, name_of, is_reserved, guid_of, below, number_of, value_of, part_of, part_from, id_of, id_from}
+use Rattle.oa_idl.specs.Words.{id_number, usable, is_hexadecimal, amount_of, amount_from, signed, characters_of, characters_from}
+use Rattle.oa_idl.specs.Words.{with_character, is_printable, is_escaped, type_of, type_named, plain_type, unsigned_type, if_cell, word_of}
+use Rattle.oa_idl.specs.Words.{end_word, words_of}
 use Rattle.oa_idl.specs.Printable.{IsGuid, IsNameText, IsName, IsId, IsType, IsLiteral}
 use Rattle.oa_idl.proofs.PrintedTokens.{by_test, clash}
 
@@ -99,7 +103,8 @@ front_piece bs = if_either (OfPiece bs) (is_guid bs) _ _ (λ _. tt) (λ _. if_ei
     (λ _. if_either (OfPiece bs) (get_or bs 0 0 == 47 && get_or bs 1 0 == 47) _ _ (λ _. tt)
     (λ _. if_either (OfPiece bs) (get_or bs 0 0 == 47 && get_or bs 1 0 == 42) _ _ (λ _. gap_piece bs (end_from Comment false (drop 2 bs))) (λ _. tt)))))))))
 
-tokens_fine : (text : List ℕ) (p : ℕ) (bs : List ℕ) (ts : List Token) → drop p text ≡ bs → AreTokens p bs ts → AllByRecursion Fine (map (word_of text) ts)
+tokens_fine : (text : List ℕ) (p : ℕ) (bs : List ℕ) (ts : List Token) → drop p text ≡ bs → AreTokens p bs ts
+    → AllByRecursion Fine (map (word_of text) ts)
 tokens_fine text _ _ _ at (End p) = tt
 tokens_fine text _ _ _ at (Apart p n bs ts lt is h) = tokens_fine text (p + n) (drop n bs) ts (sym (drop-drop n p text) ∙ ap (drop n) at) h
 tokens_fine text _ _ _ at (Next p n kind bs ts lt is h) =
@@ -195,7 +200,8 @@ signed_is true zero h = omega arith
 signed_is true (suc n) h = omega (arith, h)
 signed_is false n h = h
 
-amount_from_is : (negative : Bool) (o : Option ℕ) (i : ℤ) → ((n : ℕ) → o ≡ Some n → n < 2 ^ 96) → amount_from negative o ≡ Some i → IsLiteral (literals.Number i)
+amount_from_is : (negative : Bool) (o : Option ℕ) (i : ℤ) → ((n : ℕ) → o ≡ Some n → n < 2 ^ 96) → amount_from negative o ≡ Some i
+    → IsLiteral (literals.Number i)
 amount_from_is negative None i h e = no_some i e
 amount_from_is negative (Some n) i h e = subst (λ (j : ℤ). IsLiteral (literals.Number j)) (some_is (signed negative n) i e) (signed_is negative n (h n refl))
 

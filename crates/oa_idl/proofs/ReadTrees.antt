@@ -31,15 +31,25 @@ use Rattle.oa_idl.specs.MethodValues.{MethodValue}
 use Rattle.oa_idl.specs.Trees.{TreeValue}
 use Rattle.oa_idl.specs.Forms.{Word, Then, ◌▸◌, one, where_is, listed, nowhere}
 use Rattle.oa_idl.specs.Words.{part_of, id_of, amount_of, type_of, words_of}
-use Rattle.oa_idl.specs.Grammar.{sign, next_attribute, last_attribute, attributes, HeadAttribute, head_attribute, no_head, head_may, head_grow, head_finish, head, type_word, value_type, PropertyAttribute, property_attribute, id_form, no_property, property_may, property_grow, property_head_of, property_finish, property_head, property, one_more, closing, literal, ParameterAttribute, parameter_attribute, no_parameter, parameter_may, parameter_grow, parameter_finish, parameter_head, head_of_parameter, typed, parameter, MethodAttribute, method_attribute, no_method, method_may, method_grow, method_head_of, method_finish, method_head, result_type, separated, next_parameter, may_end, last_parameter, method, methods, members, named, entry_by, no_entry, entry_grow, entry, last_entry, guid_of_item, body, item, Content, element, semicolon_after, no_items, elements_grow, items_in, elements}
+use Rattle.oa_idl.specs.Grammar.{sign, next_attribute, last_attribute, attributes, HeadAttribute, head_attribute, no_head, head_may}
+use Rattle.oa_idl.specs.Grammar.{head_grow, head_finish, head, type_word, value_type, PropertyAttribute, property_attribute, id_form}
+use Rattle.oa_idl.specs.Grammar.{no_property, property_may, property_grow, property_head_of, property_finish, property_head, property}
+use Rattle.oa_idl.specs.Grammar.{one_more, closing, literal, ParameterAttribute, parameter_attribute, no_parameter, parameter_may}
+use Rattle.oa_idl.specs.Grammar.{parameter_grow, parameter_finish, parameter_head, head_of_parameter, typed, parameter, MethodAttribute}
+use Rattle.oa_idl.specs.Grammar.{method_attribute, no_method, method_may, method_grow, method_head_of, method_finish, method_head}
+use Rattle.oa_idl.specs.Grammar.{result_type, separated, next_parameter, may_end, last_parameter, method, methods, members, named, entry_by}
+use Rattle.oa_idl.specs.Grammar.{no_entry, entry_grow, entry, last_entry, guid_of_item, body, item, Content, element, semicolon_after}
+use Rattle.oa_idl.specs.Grammar.{no_items, elements_grow, items_in, elements}
 use Rattle.oa_idl.specs.Grammar.HeadAttribute.{Guid, Numbered, HeadHelp}
 use Rattle.oa_idl.specs.Grammar.PropertyAttribute.{Id, Readonly, PropertyHelp}
 use Rattle.oa_idl.specs.Grammar.ParameterAttribute.{IsIn, IsOptional, HasDefault}
 use Rattle.oa_idl.specs.Grammar.MethodAttribute.{MethodId, Propget, Propput, MethodHelp}
 use Rattle.oa_idl.specs.Grammar.Content.{Import, OfItem}
 use Rattle.oa_idl.specs.IsTree.{IsTree}
-use Rattle.oa_idl.specs.Printable.{IsGuid, IsVersion, IsName, IsId, IsType, IsValueType, IsLiteral, IsDefault, IsParameter, IsProperty, IsResult, IsMethod, AreEntries, IsItem, IsPrintable}
-use Rattle.oa_idl.proofs.ReadParts.{Fine, some_is, no_some, words_fine, name_read, id_read, amount_read, part_read, guid_read, type_read, characters_read}
+use Rattle.oa_idl.specs.Printable.{IsGuid, IsVersion, IsName, IsId, IsType, IsValueType, IsLiteral, IsDefault, IsParameter, IsProperty}
+use Rattle.oa_idl.specs.Printable.{IsResult, IsMethod, AreEntries, IsItem, IsPrintable}
+use Rattle.oa_idl.proofs.ReadParts.{Fine, some_is, no_some, words_fine, name_read, id_read, amount_read, part_read, guid_read, type_read}
+use Rattle.oa_idl.proofs.ReadParts.{characters_read}
 
 abbrev AllFine : List Word → Type 0
 AllFine ws = AllByRecursion Fine ws
@@ -61,13 +71,16 @@ second_fine ws f h = back_fine f.front f.back (subst AllFine f.parts h)
 
 -- ---- attributes
 
-gathered_read : {S A B : Type 0} (attribute : A → List Word → Type 0) (may_come : S → A → Bool) (grow : S → A → S) (finish : S → Option B) (P : S → Type 0) (Q : B → Type 0) (b : B)
+gathered_read : {S A B : Type 0} (attribute : A → List Word → Type 0) (may_come : S → A → Bool) (grow : S → A → S) (finish : S → Option B)
+    (P : S → Type 0) (Q : B → Type 0) (b : B)
     → ((s : S) (x : A) (ws : List Word) → P s → attribute x ws → P (grow s x)) → ((s : S) → P s → finish s ≡ Some b → Q b)
-    → (s : S) (xs : List A) (ws : List Word) → P s → listed (next_attribute attribute may_come) grow nowhere (last_attribute finish) s xs b ws → Q b
+    → (s : S) (xs : List A) (ws : List Word) → P s
+    → listed (next_attribute attribute may_come) grow nowhere (last_attribute finish) s xs b ws → Q b
 gathered_read attribute may_come grow finish P Q b step end s [] ws h f = end s h f.0
 gathered_read attribute may_come grow finish P Q b step end s (x ∷ xs) ws h f = gathered_read attribute may_come grow finish P Q b step end (grow s x) xs f.second.back (step s x f.first.1.back h f.first.1.second) f.second.second
 
-attributes_read : {S A B : Type 0} (attribute : A → List Word → Type 0) (may_come : S → A → Bool) (grow : S → A → S) (finish : S → Option B) (P : S → Type 0) (Q : B → Type 0) (b : B)
+attributes_read : {S A B : Type 0} (attribute : A → List Word → Type 0) (may_come : S → A → Bool) (grow : S → A → S)
+    (finish : S → Option B) (P : S → Type 0) (Q : B → Type 0) (b : B)
     → ((s : S) (x : A) (ws : List Word) → P s → attribute x ws → P (grow s x)) → ((s : S) → P s → finish s ≡ Some b → Q b)
     → (s : S) (ws : List Word) → P s → attributes attribute may_come grow finish s b ws → Q b
 attributes_read attribute may_come grow finish P Q b step end s ws h f =
@@ -100,12 +113,14 @@ version_read true v ws f =
     )
 version_read false v ws f = tt
 
-head_step : (counts : Bool) (s : HeadSeen) (x : HeadAttribute) (ws : List Word) → HeadIf counts s.head → head_attribute counts x ws → HeadIf counts (head_grow s x).head
+head_step : (counts : Bool) (s : HeadSeen) (x : HeadAttribute) (ws : List Word) → HeadIf counts s.head → head_attribute counts x ws
+    → HeadIf counts (head_grow s x).head
 head_step counts s (Guid g) ws h f = (guid_read g f.second.second.first.word f.second.second.first.is, h.1)
 head_step counts s (Numbered v) ws h f = (h.0, version_read counts v ws f)
 head_step counts s HeadHelp ws h f = h
 
-head_end : (counts : Bool) (b : Head) (uuid : Bool) (h : Head) → HeadIf counts h → (if uuid then Some h else None) ≡ Some b → HeadIf counts b
+head_end : (counts : Bool) (b : Head) (uuid : Bool) (h : Head) → HeadIf counts h → (if uuid then Some h else None) ≡ Some b
+    → HeadIf counts b
 head_end counts b true h k e = subst (HeadIf counts) (some_is h b e) k
 head_end counts b false h k e = no_some b e
 
@@ -138,7 +153,8 @@ abbrev IdIf : Option ℤ → Type 0
 IdIf None = Unit {0}
 IdIf (Some i) = IsId i
 
-property_step : (s : PropertySeen) (x : PropertyAttribute) (ws : List Word) → IdIf s.id → property_attribute x ws → IdIf (property_grow s x).id
+property_step : (s : PropertySeen) (x : PropertyAttribute) (ws : List Word) → IdIf s.id → property_attribute x ws
+    → IdIf (property_grow s x).id
 property_step s (Id i) ws h f = id_form_read i f.second.second.front f.second.second.first
 property_step s Readonly ws h f = h
 property_step s PropertyHelp ws h f = h
@@ -159,7 +175,8 @@ property_read p ws f h =
 
 -- ---- parameters
 
-parameter_step : (s : ParameterSeen) (x : ParameterAttribute) (ws : List Word) → IsDefault s.default → parameter_attribute x ws → IsDefault (parameter_grow s x).default
+parameter_step : (s : ParameterSeen) (x : ParameterAttribute) (ws : List Word) → IsDefault s.default → parameter_attribute x ws
+    → IsDefault (parameter_grow s x).default
 parameter_step s IsIn ws h f = h
 parameter_step s IsOptional ws h f = h
 parameter_step s (HasDefault v) ws h f = literal_read v f.second.second.front f.second.second.first
@@ -184,7 +201,8 @@ separated_read false p ws f h = parameter_read p f.back f.second (second_fine ws
 -- ---- lists
 
 -- what is known of each item, and of the end
-list_read : {S A B : Type 0} (F : S → A → List Word → Type 0) (grow : S → A → S) (apart : A → Word → Bool) (E : S → B → List Word → Type 0) (P : A → Type 0) (Q : Type 0) (b : B)
+list_read : {S A B : Type 0} (F : S → A → List Word → Type 0) (grow : S → A → S) (apart : A → Word → Bool) (E : S → B → List Word → Type 0)
+    (P : A → Type 0) (Q : Type 0) (b : B)
     → ((s : S) (x : A) (ws : List Word) → F s x ws → AllFine ws → P x) → ((s : S) (ws : List Word) → E s b ws → AllFine ws → Q)
     → (s : S) (xs : List A) (ws : List Word) → listed F grow apart E s xs b ws → AllFine ws → AllByRecursion P xs × Q
 list_read F grow apart E P Q b each end s [] ws f h = (tt, end s ws f h)
@@ -194,7 +212,8 @@ list_read F grow apart E P Q b each end s (x ∷ xs) ws f h =
     ((each s x f.front f.first (first_fine ws f h), others.0), others.1)
 
 -- how many there are
-parameters_end : (k : MethodKind) (n : ℕ) (ps : List Parameter) (ws : List Word) → listed next_parameter one_more nowhere (last_parameter k) n ps tt ws → may_end k (n + length ps) ≡ true
+parameters_end : (k : MethodKind) (n : ℕ) (ps : List Parameter) (ws : List Word)
+    → listed next_parameter one_more nowhere (last_parameter k) n ps tt ws → may_end k (n + length ps) ≡ true
 parameters_end k n [] ws f = subst (λ (m : ℕ). may_end k m ≡ true) (omega arith) f.0
 parameters_end k n (p ∷ ps) ws f = subst (λ (m : ℕ). may_end k m ≡ true) (omega arith) (parameters_end k (n + 1) ps f.second.back f.second.second)
 
@@ -242,7 +261,8 @@ methods_read n ms ws f h = ⊎_elim
     (λ (k : (sign (codes "methods") ▸ sign (codes ":") ▸ listed (λ (k : ℕ). method) one_more nowhere closing n ms tt) ws). (list_read (λ (k : ℕ). method) one_more nowhere closing IsMethod (Unit {0}) tt (λ n m vs g l. method_read m vs g l) (λ n vs g l. tt) n ms k.second.back k.second.second (second_fine k.back k.second (second_fine ws k h))).0)
     (λ (k : where_is (ms ≡ []) (sign (codes "}")) ws). subst (AllByRecursion IsMethod) (sym k.0) tt) f
 
-members_read : (ps : List Property) (ms : List MethodValue) (ws : List Word) → members ps ms ws → AllFine ws → AllByRecursion IsProperty ps × AllByRecursion IsMethod ms
+members_read : (ps : List Property) (ms : List MethodValue) (ws : List Word) → members ps ms ws → AllFine ws
+    → AllByRecursion IsProperty ps × AllByRecursion IsMethod ms
 members_read ps ms ws f h = ⊎_elim
     (λ (k : (sign (codes "properties") ▸ sign (codes ":") ▸ listed (λ (n : ℕ). property) one_more nowhere methods 0 ps ms) ws). list_read (λ (n : ℕ). property) one_more nowhere methods IsProperty (AllByRecursion IsMethod ms) ms (λ n p vs g l. property_read p vs g l) (λ n vs g l. methods_read n ms vs g l) 0 ps k.second.back k.second.second (second_fine k.back k.second (second_fine ws k h)))
     (λ (k : where_is (ps ≡ []) (methods 0 ms) ws). (subst (AllByRecursion IsProperty) (sym k.0) tt, methods_read 0 ms ws k.1 h)) f
@@ -254,7 +274,8 @@ entry_read : (d : Bool) (e : Entry) (ws : List Word) → entry_by d e ws → All
 entry_read true e ws f h = let a = second_fine ws f h in let b = second_fine f.back f.second a in named_read e f.second.second.back f.second.second.second (second_fine f.second.back f.second.second b)
 entry_read false e ws f h = named_read e ws f h
 
-entries_read : (s : EntriesSeen) (es : List Entry) (ws : List Word) → listed entry entry_grow nowhere last_entry s es tt ws → AllFine ws → AreEntries s es
+entries_read : (s : EntriesSeen) (es : List Entry) (ws : List Word) → listed entry entry_grow nowhere last_entry s es tt ws → AllFine ws
+    → AreEntries s es
 entries_read s [] ws f h = f.0
 entries_read s (e ∷ es) ws f h = (f.first.0, entry_read e.is_default e f.front f.first.1 (first_fine ws f h), entries_read (entry_grow s e) es f.second.back f.second.second (second_fine f.back f.second (second_fine ws f h)))
 

@@ -1,5 +1,6 @@
 -- The tokens of bytes lie in order inside them.
-use Rattle.std.proofs.Common.{◌≡◌, ℕ, suc, ◌+◌, ◌<◌, ◌≤◌, Bool, true, false, List, [], ◌∷◌, length, drop, get_or, Option, Some, None, refl, sym, subst, ◌∙◌, arith}
+use Rattle.std.proofs.Common.{◌≡◌, ℕ, suc, ◌+◌, ◌<◌, ◌≤◌, Bool, true, false, List, [], ◌∷◌, length, drop, get_or, Option, Some, None, refl}
+use Rattle.std.proofs.Common.{sym, subst, ◌∙◌, arith}
 use Rattle.std.specs.Prelude.{if◌then◌else◌, ◌&&◌, ◌==◌, nat_le}
 use Rattle.std.proofs.lemmas.Bool.{and_parts, leb-true}
 use Rattle.std.proofs.lemmas.List.{length-drop}
@@ -62,11 +63,13 @@ by_case : (b : Bool) (x y : Piece) (n : ℕ) → (b ≡ true → IsPiece x n) �
 by_case true x y n f g = f refl
 by_case false x y n f g = g refl
 
-text_within : (n : ℕ) (o : Option ℕ) (bs : List ℕ) → 0 < n → n ≤ length bs → IsWithin o (length (drop n bs)) → IsPiece (closed (Word kinds.Text) n o) (length bs)
+text_within : (n : ℕ) (o : Option ℕ) (bs : List ℕ) → 0 < n → n ≤ length bs → IsWithin o (length (drop n bs))
+    → IsPiece (closed (Word kinds.Text) n o) (length bs)
 text_within n None bs lt some le = tt
 text_within n (Some k) bs lt some le = (omega (arith, lt), past n k bs some le)
 
-gap_within : (n : ℕ) (o : Option ℕ) (bs : List ℕ) → 0 < n → n ≤ length bs → IsWithin o (length (drop n bs)) → IsPiece (closed Gap n o) (length bs)
+gap_within : (n : ℕ) (o : Option ℕ) (bs : List ℕ) → 0 < n → n ≤ length bs → IsWithin o (length (drop n bs))
+    → IsPiece (closed Gap n o) (length bs)
 gap_within n None bs lt some le = tt
 gap_within n (Some k) bs lt some le = (omega (arith, lt), past n k bs some le)
 
@@ -93,7 +96,8 @@ earlier p q end [] le h = omega (arith, le, h)
 earlier p q end (t ∷ ts) le h = (omega (arith, le, h.0), h.1, h.2)
 
 -- what lies behind n bytes
-behind : (p n : ℕ) (bs : List ℕ) (ts : List Token) → n ≤ length bs → AreInOrder (p + n) (p + n + length (drop n bs)) ts → AreInOrder (p + n) (p + length bs) ts
+behind : (p n : ℕ) (bs : List ℕ) (ts : List Token) → n ≤ length bs → AreInOrder (p + n) (p + n + length (drop n bs)) ts
+    → AreInOrder (p + n) (p + length bs) ts
 behind p n bs ts le h = subst (λ (end : ℕ). AreInOrder (p + n) end ts) (omega (arith, le, length-drop n bs)) h
 
 pub in_order : (p : ℕ) (bs : List ℕ) (ts : List Token) → AreTokens p bs ts → AreInOrder p (p + length bs) ts

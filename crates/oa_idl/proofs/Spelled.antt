@@ -1,6 +1,7 @@
 -- Bytes that spell a form: its words stand at their front, before those of the bytes that follow.
 use Rattle.std.specs.Prelude.{codes}
-use Rattle.std.proofs.Common.{◌≡◌, ℕ, suc, ◌+◌, ◌<◌, Bool, true, List, [], ◌∷◌, ◌++◌, length, take, drop, Option, Some, refl, sym, ap, subst, ◌∙◌, append_assoc, arith}
+use Rattle.std.proofs.Common.{◌≡◌, ℕ, suc, ◌+◌, ◌<◌, Bool, true, List, [], ◌∷◌, ◌++◌, length, take, drop, Option, Some, refl, sym, ap}
+use Rattle.std.proofs.Common.{subst, ◌∙◌, append_assoc, arith}
 use Rattle.std.specs.List.{AllByRecursion, flat_map}
 use Rattle.std.proofs.Math.Logic.{inr}
 use Rattle.std.proofs.Math.Seq.{take-append_seam, drop-append_seam}
@@ -9,12 +10,12 @@ use Rattle.oa_idl.specs.declared.lexer.Kind.TheVariants as kinds
 use Rattle.oa_idl.specs.declared.lexer.Piece.TheVariants.{Word}
 use Rattle.oa_idl.specs.Bytes.{is_in, run, group, is_guid}
 use Rattle.oa_idl.specs.Tokens.{front}
-use Rattle.oa_idl.specs.Forms.{Form, Then, ◌▸◌, nothing, given, this, one, optional, either_of, where_is, with, listed, gathered, nowhere}
+use Rattle.oa_idl.specs.Forms.{◌▸◌, nothing, this, one, optional, listed, gathered, nowhere}
 use Rattle.oa_idl.specs.Forms as forms
 use Rattle.oa_idl.specs.Words.{passes}
 use Rattle.oa_idl.specs.Grammar.{sign, next_attribute, last_attribute, attributes}
 use Rattle.oa_idl.specs.Printable.{IsNameText}
-use Rattle.oa_idl.proofs.PrintedTokens.{word, HasWords, Ends, name_front}
+use Rattle.oa_idl.proofs.PrintedTokens.{word, HasWords, EndsWord, name_front}
 use Rattle.oa_idl.proofs.PrintedTokens.HasWords.{Skip, Take}
 
 pub record SpelledBy (F : List forms.Word → Type 0) (x : List ℕ) (ws : List forms.Word) : Type 0 where
@@ -53,7 +54,8 @@ left_out ws h = record { words = []; form = inr refl; has = h }
 
 -- ---- one word
 
-one_word : {F : List forms.Word → Type 0} (k : Kind) (n : ℕ) (x y text : List ℕ) → 0 < length x → front x ≡ Word k n → take n x ≡ text → drop n x ≡ y → F (word k text ∷ []) → Spells F x y
+one_word : {F : List forms.Word → Type 0} (k : Kind) (n : ℕ) (x y text : List ℕ) → 0 < length x → front x ≡ Word k n → take n x ≡ text
+    → drop n x ≡ y → F (word k text ∷ []) → Spells F x y
 one_word {F} k n x y text lt is same rest f ws h = record {
   words = word k text ∷ [];
   form = f;
@@ -68,7 +70,8 @@ pub line : {F : List forms.Word → Type 0} {x y : List ℕ} → Spells F x y �
 unfolding front is_guid group run is_in
 line {F} {x} {y} f ws h = let r = f ws h in record { words = r.words; form = r.form; has = Skip 1 (10 ∷ x) (r.words ++ ws) (omega arith) refl r.has }
 
-mark : (s : List ℕ) (b : ℕ) (x : List ℕ) → front (b ∷ x) ≡ Word kinds.Mark 1 → passes s (word kinds.Mark (b ∷ [])) ≡ true → Spells (sign s) (b ∷ x) x
+mark : (s : List ℕ) (b : ℕ) (x : List ℕ) → front (b ∷ x) ≡ Word kinds.Mark 1 → passes s (word kinds.Mark (b ∷ [])) ≡ true
+    → Spells (sign s) (b ∷ x) x
 mark s b x is pass = one_word kinds.Mark 1 (b ∷ x) x (b ∷ []) (omega arith) is refl refl (record { word = word kinds.Mark (b ∷ []); parts = refl; is = pass })
 
 pub open_mark : {x : List ℕ} → Spells (sign (codes "[")) (91 ∷ x) x
@@ -119,18 +122,22 @@ one_plus : (n : ℕ) → 1 + n ≡ suc n
 one_plus n = omega arith
 
 -- a name before a byte that ends it
-pub named_word : {F : List forms.Word → Type 0} (text : List ℕ) (b : ℕ) (x : List ℕ) → IsNameText text → Ends (b ∷ x) → F (word kinds.Name text ∷ []) → Spells F (text ++ b ∷ x) (b ∷ x)
+pub named_word : {F : List forms.Word → Type 0} (text : List ℕ) (b : ℕ) (x : List ℕ) → IsNameText text → EndsWord (b ∷ x)
+    → F (word kinds.Name text ∷ []) → Spells F (text ++ b ∷ x) (b ∷ x)
 named_word {F} [] b x is ends f = absurd is
 named_word {F} (c ∷ cs) b x is ends f = one_word kinds.Name (suc (length cs)) (c ∷ (cs ++ b ∷ x)) (b ∷ x) (c ∷ cs) (omega arith) (name_front c cs b x is ends ∙ ap (λ (n : ℕ). Word kinds.Name n) (one_plus (length cs))) (ap (λ (t : List ℕ). c ∷ t) (take-append_seam cs (b ∷ x))) (drop-append_seam cs (b ∷ x)) f
 
-pub sign_word : (s : List ℕ) (text : List ℕ) (b : ℕ) (x : List ℕ) → IsNameText text → Ends (b ∷ x) → passes s (word kinds.Name text) ≡ true → Spells (sign s) (text ++ b ∷ x) (b ∷ x)
+pub sign_word : (s : List ℕ) (text : List ℕ) (b : ℕ) (x : List ℕ) → IsNameText text → EndsWord (b ∷ x)
+    → passes s (word kinds.Name text) ≡ true → Spells (sign s) (text ++ b ∷ x) (b ∷ x)
 sign_word s text b x is ends pass = named_word text b x is ends (record { word = word kinds.Name text; parts = refl; is = pass })
 
-pub meant_word : {A : Type 0} (meaning : forms.Word → Option A) (v : A) (text : List ℕ) (b : ℕ) (x : List ℕ) → IsNameText text → Ends (b ∷ x) → meaning (word kinds.Name text) ≡ Some v → Spells (one meaning v) (text ++ b ∷ x) (b ∷ x)
+pub meant_word : {A : Type 0} (meaning : forms.Word → Option A) (v : A) (text : List ℕ) (b : ℕ) (x : List ℕ) → IsNameText text
+    → EndsWord (b ∷ x) → meaning (word kinds.Name text) ≡ Some v → Spells (one meaning v) (text ++ b ∷ x) (b ∷ x)
 meant_word meaning v text b x is ends means = named_word text b x is ends (record { word = word kinds.Name text; parts = refl; is = means })
 
 -- a word of another kind
-pub whole_word : {F : List forms.Word → Type 0} (k : Kind) (text x : List ℕ) → 0 < length text → front (text ++ x) ≡ Word k (length text) → F (word k text ∷ []) → Spells F (text ++ x) x
+pub whole_word : {F : List forms.Word → Type 0} (k : Kind) (text x : List ℕ) → 0 < length text → front (text ++ x) ≡ Word k (length text)
+    → F (word k text ∷ []) → Spells F (text ++ x) x
 whole_word {F} k text x some is f = one_word k (length text) (text ++ x) x text (some_more text x some) is (take-append_seam text x) (drop-append_seam text x) f
   where
     some_more : (text x : List ℕ) → 0 < length text → 0 < length (text ++ x)
@@ -140,7 +147,8 @@ whole_word {F} k text x some is f = one_word k (length text) (text ++ x) x text 
 -- ---- lists
 
 -- a list whose items do not depend on those before
-pub all_spelled : {S A B : Type 0} (F : A → List forms.Word → Type 0) (grow : S → A → S) (apart : A → forms.Word → Bool) (E : S → B → List forms.Word → Type 0) (text : A → List ℕ) (P : A → Type 0) (b : B) (y z : List ℕ)
+pub all_spelled : {S A B : Type 0} (F : A → List forms.Word → Type 0) (grow : S → A → S) (apart : A → forms.Word → Bool)
+    (E : S → B → List forms.Word → Type 0) (text : A → List ℕ) (P : A → Type 0) (b : B) (y z : List ℕ)
     → ((a : A) (x : List ℕ) → P a → Spells (F a) (text a ++ x) x) → ((s : S) → Spells (E s b) y z)
     → (s : S) (all : List A) → AllByRecursion P all → Spells (listed (λ s. F) grow apart E s all b) (flat_map text all ++ y) z
 all_spelled F grow apart E text P b y z each ends s [] h = ends s
@@ -149,11 +157,13 @@ all_spelled F grow apart E text P b y z each ends s (a ∷ all) h =
 
 -- ---- attributes
 
-pub last_spelled : {S A B : Type 0} {attribute : A → List forms.Word → Type 0} {may_come : S → A → Bool} {grow : S → A → S} {finish : S → Option B} (s : S) (b : B) {x : List ℕ} → finish s ≡ Some b
+pub last_spelled : {S A B : Type 0} {attribute : A → List forms.Word → Type 0} {may_come : S → A → Bool} {grow : S → A → S} {finish : S
+    → Option B} (s : S) (b : B) {x : List ℕ} → finish s ≡ Some b
     → Spells (gathered (next_attribute attribute may_come) grow nowhere (last_attribute finish) s b) (93 ∷ x) x
 last_spelled {attribute = attribute} {may_come = may_come} {grow = grow} {finish = finish} s b e ws h = let r = close_mark ws h in record { words = r.words; form = record { all = []; form = (e, r.form) }; has = r.has }
 
-pub next_spelled : {S A B : Type 0} {attribute : A → List forms.Word → Type 0} {may_come : S → A → Bool} {grow : S → A → S} {finish : S → Option B} (s : S) (b : B) (a : A) {x y z : List ℕ} → may_come s a ≡ true → Spells (attribute a) x y
+pub next_spelled : {S A B : Type 0} {attribute : A → List forms.Word → Type 0} {may_come : S → A → Bool} {grow : S → A → S} {finish : S
+    → Option B} (s : S) (b : B) (a : A) {x y z : List ℕ} → may_come s a ≡ true → Spells (attribute a) x y
     → Spells (gathered (next_attribute attribute may_come) grow nowhere (last_attribute finish) (grow s a) b) y z
     → Spells (gathered (next_attribute attribute may_come) grow nowhere (last_attribute finish) s b) (44 ∷ x) z
 next_spelled s b a may f g ws h =
@@ -168,7 +178,8 @@ next_spelled s b a may f g ws h =
     append_parts : (all a b c : List forms.Word) → all ≡ a ++ b → all ++ c ≡ a ++ (b ++ c)
     append_parts all a b c e = ap (λ (ws : List forms.Word). ws ++ c) e ∙ append_assoc a b c
 
-pub attributes_spelled : {S A B : Type 0} {attribute : A → List forms.Word → Type 0} {may_come : S → A → Bool} {grow : S → A → S} {finish : S → Option B} (s : S) (b : B) (a : A) {x y z : List ℕ} → may_come s a ≡ true → Spells (attribute a) x y
+pub attributes_spelled : {S A B : Type 0} {attribute : A → List forms.Word → Type 0} {may_come : S → A → Bool} {grow : S → A
+    → S} {finish : S → Option B} (s : S) (b : B) (a : A) {x y z : List ℕ} → may_come s a ≡ true → Spells (attribute a) x y
     → Spells (gathered (next_attribute attribute may_come) grow nowhere (last_attribute finish) (grow s a) b) y z
     → Spells (attributes attribute may_come grow finish s b) (91 ∷ x) z
 attributes_spelled s b a may f g = open_mark ▹ (λ ws h.

@@ -1,5 +1,6 @@
 -- What one turn adds to the tokens so far.
-use Rattle.std.proofs.Common.{◌≡◌, ℕ, ◌+◌, ◌-◌, ◌<◌, ◌≤◌, List, [], ◌∷◌, ◌++◌, length, take, drop, sym, ap, subst, ◌∙◌, append_assoc, arith, length-drop}
+use Rattle.std.proofs.Common.{◌≡◌, ℕ, ◌+◌, ◌-◌, ◌<◌, ◌≤◌, List, [], ◌∷◌, ◌++◌, length, take, drop, sym, ap, subst, ◌∙◌, append_assoc, arith}
+use Rattle.std.proofs.Common.{length-drop}
 use Rattle.std.proofs.lemmas.List.{append-nil, take_all, drop_all, drop-drop}
 use Rattle.oa_idl.specs.declared.lexer.Kind.{Kind}
 use Rattle.oa_idl.specs.declared.lexer.Kind.TheVariants.{Junk}
@@ -21,15 +22,19 @@ sliced bs at = take_all (length bs - at) (drop at bs) (omega (arith, length-drop
 past : (bs : List ℕ) (at n : ℕ) (ts : List Token) → AreTokens (at + n) (drop (at + n) bs) ts → AreTokens (at + n) (drop n (drop at bs)) ts
 past bs at n ts h = subst (λ (l : List ℕ). AreTokens (at + n) l ts) (sym (drop-drop n at bs)) h
 
-pub gap_more : (bs : List ℕ) (out : List Token) (at n : ℕ) → at < length bs → Gap n ≡ front (take (length bs - at) (drop at bs)) → SoFar bs out at → SoFar bs out (at + n)
+pub gap_more : (bs : List ℕ) (out : List Token) (at n : ℕ) → at < length bs → Gap n ≡ front (take (length bs - at) (drop at bs))
+    → SoFar bs out at → SoFar bs out (at + n)
 gap_more bs out at n lt is so_far ts h = so_far ts (Apart at n (drop at bs) ts (some_left bs at lt) (sym (is ∙ ap front (sliced bs at))) (past bs at n ts h))
 
-pub word_more : (bs : List ℕ) (out new : List Token) (at n : ℕ) (kind : Kind) → at < length bs → Word kind n ≡ front (take (length bs - at) (drop at bs)) → new ≡ out ++ token kind at (at + n) ∷ [] → SoFar bs out at → SoFar bs new (at + n)
+pub word_more : (bs : List ℕ) (out new : List Token) (at n : ℕ) (kind : Kind) → at < length bs
+    → Word kind n ≡ front (take (length bs - at) (drop at bs)) → new ≡ out ++ token kind at (at + n) ∷ [] → SoFar bs out at
+    → SoFar bs new (at + n)
 word_more bs out new at n kind lt is grown so_far ts h =
     let all = so_far (token kind at (at + n) ∷ ts) (Next at n kind (drop at bs) ts (some_left bs at lt) (sym (is ∙ ap front (sliced bs at))) (past bs at n ts h)) in
     subst (AreTokens 0 bs) (sym (append_assoc out (token kind at (at + n) ∷ []) ts) ∙ ap (λ (l : List Token). l ++ ts) (sym grown)) all
 
-pub junk_ends : (bs : List ℕ) (out new : List Token) (at : ℕ) → at < length bs → Broken ≡ front (take (length bs - at) (drop at bs)) → new ≡ out ++ token Junk at (length bs) ∷ [] → SoFar bs out at → AreTokens 0 bs new
+pub junk_ends : (bs : List ℕ) (out new : List Token) (at : ℕ) → at < length bs → Broken ≡ front (take (length bs - at) (drop at bs))
+    → new ≡ out ++ token Junk at (length bs) ∷ [] → SoFar bs out at → AreTokens 0 bs new
 junk_ends bs out new at lt is grown so_far =
     let all = so_far (token Junk at (at + length (drop at bs)) ∷ []) (Rest at (drop at bs) (some_left bs at lt) (sym (is ∙ ap front (sliced bs at)))) in
     let end : at + length (drop at bs) ≡ length bs = omega (arith, length-drop at bs) in

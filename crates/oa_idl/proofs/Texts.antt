@@ -6,6 +6,7 @@ use Rattle.oa_model.specs.declared.var_type.VarType.{VarType}
 use Rattle.oa_model.specs.declared.var_type.ValueType.{ValueType}
 use Rattle.oa_model.specs.declared.var_type.ValueType.TheVariants as values
 use Rattle.std.specs.Str.{bytes_eq}
+use Rattle.oa_model.specs.Limits.{max_members}
 use Rattle.oa_idl.specs.declared.stop.TreeLimit.TheVariants as limits
 use Rattle.oa_idl.specs.declared.parts.Version.{Version}
 use Rattle.oa_idl.specs.declared.parts.Property.{Property}
@@ -15,13 +16,19 @@ use Rattle.oa_idl.specs.declared.seen.PropertyHead.{PropertyHead}
 use Rattle.oa_idl.specs.Forms.{Word, ◌▸◌, one, either_of, where_is}
 use Rattle.oa_idl.specs.Words.{passes, plain_type, is_text, name_of, over, guid_of, part_of, id_of, type_of}
 use Rattle.oa_idl.specs.Reading.{bind, give, heads, done}
-use Rattle.oa_idl.specs.Grammar.{sign, help, HeadAttribute, head_attribute, no_head, head_may, head_grow, head_finish, head, type_word, value_type, PropertyAttribute, id_form, property_attribute, no_property, property_may, property_grow, property_finish, property_head, property}
+use Rattle.oa_idl.specs.Grammar.{sign, help, HeadAttribute, head_attribute, no_head, head_may, head_grow, head_finish, head, type_word}
+use Rattle.oa_idl.specs.Grammar.{value_type, PropertyAttribute, id_form, property_attribute, no_property, property_may, property_grow}
+use Rattle.oa_idl.specs.Grammar.{property_finish, property_head, property}
 use Rattle.oa_idl.specs.Grammar.HeadAttribute.{Guid, Numbered, HeadHelp}
 use Rattle.oa_idl.specs.Grammar.PropertyAttribute.{Id, Readonly, PropertyHelp}
-use Rattle.oa_idl.specs.GrammarReading.{sign_at, help_at, minor_at, uuid_at, version_at, head_attribute_at, head_full, head_at, type_word_at, value_type_at, signed_at, id_at, property_attribute_at, property_full, property_head_at, property_at}
-use Rattle.oa_idl.proofs.Overs.{over_named}
-use Rattle.oa_idl.proofs.Parses.{Parses, Always, NoLimit, clash, fact_parses, require_parses, part_parses, skip_parses, give_parses, one_parses, sure_parses, choose_parses, this_parses, end_parses, end_part_parses, this_heads}
-use Rattle.oa_idl.proofs.Heads.{sign_heads, one_sign_heads, same_heads, one_heads, this_some, id_no_minus, type_no_sign, unsigned_no_type, array_no_type}
+use Rattle.oa_idl.specs.GrammarReading.{sign_at, help_at, minor_at, uuid_at, version_at, head_attribute_at, head_full, head_at}
+use Rattle.oa_idl.specs.GrammarReading.{type_word_at, value_type_at, signed_at, id_at, property_attribute_at, property_full}
+use Rattle.oa_idl.specs.GrammarReading.{property_head_at, property_at}
+use Rattle.oa_idl.proofs.NameLimits.{over_named}
+use Rattle.oa_idl.proofs.Parses.{Parses, Always, NoLimit, clash, fact_parses, require_parses, part_parses, skip_parses, give_parses}
+use Rattle.oa_idl.proofs.Parses.{one_parses, sure_parses, choose_parses, this_parses, end_parses, end_part_parses, this_heads}
+use Rattle.oa_idl.proofs.Heads.{sign_heads, one_sign_heads, same_heads, one_heads, this_some, id_no_minus, type_no_sign, unsigned_no_type}
+use Rattle.oa_idl.proofs.Heads.{array_no_type}
 use Rattle.oa_idl.proofs.AttributeLists.{attributes_parses}
 
 pub help_parses : {n : ℕ} → Parses n Always (λ _. help) NoLimit Always help_at
@@ -117,7 +124,8 @@ uuid_parses = fact_parses (skip_parses (passes (codes "uuid")) (skip_parses (pas
 version_form : Bool → HeadAttribute → List Word → Type 0
 version_form counts x = sign (codes "version") ▸ sign (codes "(") ▸ one (part_of counts) (major_in x) ▸ minor counts (minor_in x)
 
-version_parses : {n : ℕ} (counts : Bool) → Parses n Always (λ x ws. (is_numbered x ≡ true) × version_form counts x ws) NoLimit Always (version_at counts)
+version_parses : {n : ℕ} (counts : Bool)
+    → Parses n Always (λ x ws. (is_numbered x ≡ true) × version_form counts x ws) NoLimit Always (version_at counts)
 unfolding version_at version_form version
 version_parses counts = fact_parses (skip_parses (passes (codes "version")) (skip_parses (passes (codes "(")) (part_parses major_in (sure_parses (part_of counts)) (λ l x h k. tt) (λ a.
     end_part_parses minor_in (λ b. Numbered (version a b)) (minor_parses counts) (λ l x h k. tt) (λ b. (((tt, refl), refl), refl)) (λ b _ _. tt) (λ b x h. only_numbered a b x h.0.0.1 h.0.1 h.1)))))
@@ -125,7 +133,8 @@ version_parses counts = fact_parses (skip_parses (passes (codes "version")) (ski
 head_help_parses : {n : ℕ} → Parses n Always (λ x ws. (is_help x ≡ true) × help ws) NoLimit Always (bind help_at (λ _. give HeadHelp))
 head_help_parses = fact_parses (end_part_parses (λ _. done) (λ _. HeadHelp) help_parses (λ l x h k. tt) (λ a. ((tt, refl), refl)) (λ a _. tt) (λ a x h. only_help x h.0.1))
 
-head_attribute_parses : {n : ℕ} (counts : Bool) (s : HeadSeen) → Parses n Always (λ x ws. (head_may s x ≡ true) × head_attribute counts x ws) NoLimit Always (head_attribute_at counts s)
+head_attribute_parses : {n : ℕ} (counts : Bool) (s : HeadSeen)
+    → Parses n Always (λ x ws. (head_may s x ≡ true) × head_attribute counts x ws) NoLimit Always (head_attribute_at counts s)
 unfolding head_attribute_at guid_form version_form minor
 head_attribute_parses counts s = choose_parses {A = λ x ws. (not s.uuid ≡ true) × ((is_guid x ≡ true) × guid_form x ws)} {B = λ x ws. (is_guid x ≡ false) × ((head_may s x ≡ true) × head_attribute counts x ws)} (passes (codes "uuid"))
     (λ x text more _ f is. yes x text more f is) (λ x text more _ f is. other x text more f is) (λ x text _ f. from_yes x text f) (λ x text _ f. f.1)
@@ -135,37 +144,46 @@ head_attribute_parses counts s = choose_parses {A = λ x ws. (not s.uuid ≡ tru
     (require_parses (not s.version) (version_parses counts))
     (require_parses (not s.help) head_help_parses))
   where
-    yes : (x : HeadAttribute) (text more : List Word) → (head_may s x ≡ true) × head_attribute counts x text → heads (passes (codes "uuid")) (text ++ more) ≡ true → (not s.uuid ≡ true) × ((is_guid x ≡ true) × guid_form x text)
+    yes : (x : HeadAttribute) (text more : List Word) → (head_may s x ≡ true) × head_attribute counts x text
+        → heads (passes (codes "uuid")) (text ++ more) ≡ true → (not s.uuid ≡ true) × ((is_guid x ≡ true) × guid_form x text)
     yes (Guid g) text more f is = (f.0, (refl, f.1))
     yes (Numbered v) text more f is = absurd (clash is (sign_heads (codes "uuid") (codes "version") refl text more f.1))
     yes HeadHelp text more f is = absurd (clash is (sign_heads (codes "uuid") (codes "helpstring") refl text more f.1))
 
-    other : (x : HeadAttribute) (text more : List Word) → (head_may s x ≡ true) × head_attribute counts x text → heads (passes (codes "uuid")) (text ++ more) ≡ false → (is_guid x ≡ false) × ((head_may s x ≡ true) × head_attribute counts x text)
+    other : (x : HeadAttribute) (text more : List Word) → (head_may s x ≡ true) × head_attribute counts x text
+        → heads (passes (codes "uuid")) (text ++ more) ≡ false
+        → (is_guid x ≡ false) × ((head_may s x ≡ true) × head_attribute counts x text)
     other (Guid g) text more f is = absurd (clash (same_heads (codes "uuid") text more f.1) is)
     other (Numbered v) text more f is = (refl, f)
     other HeadHelp text more f is = (refl, f)
 
-    from_yes : (x : HeadAttribute) (text : List Word) → (not s.uuid ≡ true) × ((is_guid x ≡ true) × guid_form x text) → (head_may s x ≡ true) × head_attribute counts x text
+    from_yes : (x : HeadAttribute) (text : List Word) → (not s.uuid ≡ true) × ((is_guid x ≡ true) × guid_form x text)
+        → (head_may s x ≡ true) × head_attribute counts x text
     from_yes (Guid g) text f = (f.0, f.1.1)
     from_yes (Numbered v) text f = absurd (clash f.1.0 refl)
     from_yes HeadHelp text f = absurd (clash f.1.0 refl)
 
-    yes2 : (x : HeadAttribute) (text more : List Word) → (is_guid x ≡ false) × ((head_may s x ≡ true) × head_attribute counts x text) → heads (passes (codes "version")) (text ++ more) ≡ true → (not s.version ≡ true) × ((is_numbered x ≡ true) × version_form counts x text)
+    yes2 : (x : HeadAttribute) (text more : List Word) → (is_guid x ≡ false) × ((head_may s x ≡ true) × head_attribute counts x text)
+        → heads (passes (codes "version")) (text ++ more) ≡ true
+        → (not s.version ≡ true) × ((is_numbered x ≡ true) × version_form counts x text)
     yes2 (Guid g) text more f is = absurd (clash refl f.0)
     yes2 (Numbered v) text more f is = (f.1.0, (refl, f.1.1))
     yes2 HeadHelp text more f is = absurd (clash is (sign_heads (codes "version") (codes "helpstring") refl text more f.1.1))
 
-    other2 : (x : HeadAttribute) (text more : List Word) → (is_guid x ≡ false) × ((head_may s x ≡ true) × head_attribute counts x text) → heads (passes (codes "version")) (text ++ more) ≡ false → (not s.help ≡ true) × ((is_help x ≡ true) × help text)
+    other2 : (x : HeadAttribute) (text more : List Word) → (is_guid x ≡ false) × ((head_may s x ≡ true) × head_attribute counts x text)
+        → heads (passes (codes "version")) (text ++ more) ≡ false → (not s.help ≡ true) × ((is_help x ≡ true) × help text)
     other2 (Guid g) text more f is = absurd (clash refl f.0)
     other2 (Numbered v) text more f is = absurd (clash (same_heads (codes "version") text more f.1.1) is)
     other2 HeadHelp text more f is = (f.1.0, (refl, f.1.1))
 
-    from_yes2 : (x : HeadAttribute) (text : List Word) → (not s.version ≡ true) × ((is_numbered x ≡ true) × version_form counts x text) → (is_guid x ≡ false) × ((head_may s x ≡ true) × head_attribute counts x text)
+    from_yes2 : (x : HeadAttribute) (text : List Word) → (not s.version ≡ true) × ((is_numbered x ≡ true) × version_form counts x text)
+        → (is_guid x ≡ false) × ((head_may s x ≡ true) × head_attribute counts x text)
     from_yes2 (Guid g) text f = absurd (clash f.1.0 refl)
     from_yes2 (Numbered v) text f = (refl, (f.0, f.1.1))
     from_yes2 HeadHelp text f = absurd (clash f.1.0 refl)
 
-    from_other2 : (x : HeadAttribute) (text : List Word) → (not s.help ≡ true) × ((is_help x ≡ true) × help text) → (is_guid x ≡ false) × ((head_may s x ≡ true) × head_attribute counts x text)
+    from_other2 : (x : HeadAttribute) (text : List Word) → (not s.help ≡ true) × ((is_help x ≡ true) × help text)
+        → (is_guid x ≡ false) × ((head_may s x ≡ true) × head_attribute counts x text)
     from_other2 (Guid g) text f = absurd (clash f.1.0 refl)
     from_other2 (Numbered v) text f = absurd (clash f.1.0 refl)
     from_other2 HeadHelp text f = (refl, (f.0, f.1.1))
@@ -189,7 +207,8 @@ type_word_parses in_array = choose_parses {A = λ t. sign (codes "unsigned") ▸
     (λ t text _ f. inl f) (λ t text _ f. inr f)
     (skip_parses (passes (codes "unsigned")) (sure_parses (type_of in_array true))) (sure_parses (type_of in_array false))
   where
-    plain_heads : (t : VarType) (text more : List Word) → one (type_of in_array false) t text → heads (passes (codes "unsigned")) (text ++ more) ≡ false
+    plain_heads : (t : VarType) (text more : List Word) → one (type_of in_array false) t text
+        → heads (passes (codes "unsigned")) (text ++ more) ≡ false
     plain_heads t text more k = one_heads (type_of in_array false) (passes (codes "unsigned")) t (λ w e. type_no_sign (codes "unsigned") unsigned_no_type in_array t w e) text more k
 
 abbrev is_array : ValueType → Bool
@@ -222,11 +241,13 @@ value_type_parses = choose_parses {A = λ v ws. (is_array v ≡ true) × array_f
     word_heads t text more f = ⊎_elim (λ (k : (sign (codes "unsigned") ▸ one (type_of false true) t) text). sign_heads (codes "SAFEARRAY") (codes "unsigned") refl text more k)
         (λ (k : one (type_of false false) t text). one_heads (type_of false false) (passes (codes "SAFEARRAY")) t (λ w e. type_no_sign (codes "SAFEARRAY") array_no_type false t w e) text more k) f
 
-    yes : (v : ValueType) (text more : List Word) → value_type v text → heads (passes (codes "SAFEARRAY")) (text ++ more) ≡ true → (is_array v ≡ true) × array_form v text
+    yes : (v : ValueType) (text more : List Word) → value_type v text → heads (passes (codes "SAFEARRAY")) (text ++ more) ≡ true
+        → (is_array v ≡ true) × array_form v text
     yes (values.One t) text more f is = absurd (clash is (word_heads t text more f))
     yes (values.Array t) text more f is = (refl, f)
 
-    other : (v : ValueType) (text more : List Word) → value_type v text → heads (passes (codes "SAFEARRAY")) (text ++ more) ≡ false → (is_array v ≡ false) × type_word false (cell_of v) text
+    other : (v : ValueType) (text more : List Word) → value_type v text → heads (passes (codes "SAFEARRAY")) (text ++ more) ≡ false
+        → (is_array v ≡ false) × type_word false (cell_of v) text
     other (values.One t) text more f is = (refl, f)
     other (values.Array t) text more f is = absurd (clash (same_heads (codes "SAFEARRAY") text more f) is)
 
@@ -239,11 +260,13 @@ value_type_parses = choose_parses {A = λ v ws. (is_array v ≡ true) × array_f
     from_other (values.Array t) text f = absurd (clash refl f.0)
 
 -- a type begins with no other sign
-type_word_heads : (a : List ℕ) → plain_type a ≡ None → bytes_eq (codes "unsigned") a ≡ false → (in_array : Bool) (t : VarType) (text more : List Word) → type_word in_array t text → heads (passes a) (text ++ more) ≡ false
+type_word_heads : (a : List ℕ) → plain_type a ≡ None → bytes_eq (codes "unsigned") a ≡ false
+    → (in_array : Bool) (t : VarType) (text more : List Word) → type_word in_array t text → heads (passes a) (text ++ more) ≡ false
 type_word_heads a none ne in_array t text more f = ⊎_elim (λ (k : (sign (codes "unsigned") ▸ one (type_of in_array true) t) text). sign_heads a (codes "unsigned") ne text more k)
     (λ (k : one (type_of in_array false) t text). one_heads (type_of in_array false) (passes a) t (λ w e. type_no_sign a none in_array t w e) text more k) f
 
-pub value_type_heads : (a : List ℕ) → plain_type a ≡ None → bytes_eq (codes "unsigned") a ≡ false → bytes_eq (codes "SAFEARRAY") a ≡ false → (v : ValueType) (text more : List Word) → value_type v text → heads (passes a) (text ++ more) ≡ false
+pub value_type_heads : (a : List ℕ) → plain_type a ≡ None → bytes_eq (codes "unsigned") a ≡ false → bytes_eq (codes "SAFEARRAY") a ≡ false
+    → (v : ValueType) (text more : List Word) → value_type v text → heads (passes a) (text ++ more) ≡ false
 unfolding value_type
 value_type_heads a none ne other (values.One t) text more f = type_word_heads a none ne false t text more f
 value_type_heads a none ne other (values.Array t) text more f = sign_heads a (codes "SAFEARRAY") other text more f
@@ -311,13 +334,16 @@ id_parses : {n : ℕ} → Parses n Always (λ x ws. (is_id x ≡ true) × number
 unfolding id_at numbered_form
 id_parses = fact_parses (skip_parses (passes (codes "id")) (skip_parses (passes (codes "(")) (part_parses id_in signed_parses (λ l x h k. tt) (λ i. end_parses (passes (codes ")")) (Id i) ((tt, refl), refl) (λ _. tt) (λ x h. only_id i x h.0.1 h.1)))))
 
-readonly_parses : {n : ℕ} → Parses n Always (λ x ws. (is_readonly x ≡ true) × sign (codes "readonly") ws) NoLimit Always (bind (sign_at (codes "readonly")) (λ _. give Readonly))
+readonly_parses : {n : ℕ} → Parses n Always (λ x ws. (is_readonly x ≡ true)
+    × sign (codes "readonly") ws) NoLimit Always (bind (sign_at (codes "readonly")) (λ _. give Readonly))
 readonly_parses = fact_parses (end_parses (passes (codes "readonly")) Readonly (tt, refl) tt (λ x h. only_readonly x h.1))
 
-property_help_parses : {n : ℕ} → Parses n Always (λ x ws. (is_property_help x ≡ true) × help ws) NoLimit Always (bind help_at (λ _. give PropertyHelp))
+property_help_parses : {n : ℕ} → Parses n Always (λ x ws. (is_property_help x ≡ true)
+    × help ws) NoLimit Always (bind help_at (λ _. give PropertyHelp))
 property_help_parses = fact_parses (end_part_parses (λ _. done) (λ _. PropertyHelp) help_parses (λ l x h k. tt) (λ a. ((tt, refl), refl)) (λ a _. tt) (λ a x h. only_property_help x h.0.1))
 
-property_attribute_parses : {n : ℕ} (s : PropertySeen) → Parses n Always (λ x ws. (property_may s x ≡ true) × property_attribute x ws) NoLimit Always (property_attribute_at s)
+property_attribute_parses : {n : ℕ} (s : PropertySeen)
+    → Parses n Always (λ x ws. (property_may s x ≡ true) × property_attribute x ws) NoLimit Always (property_attribute_at s)
 unfolding property_attribute_at numbered_form
 property_attribute_parses s = choose_parses {A = λ x ws. (not (is_some s.id) ≡ true) × ((is_id x ≡ true) × numbered_form x ws)} {B = λ x ws. (is_id x ≡ false) × ((property_may s x ≡ true) × property_attribute x ws)} (passes (codes "id"))
     (λ x text more _ f is. yes x text more f is) (λ x text more _ f is. other x text more f is) (λ x text _ f. from_yes x text f) (λ x text _ f. f.1)
@@ -327,37 +353,46 @@ property_attribute_parses s = choose_parses {A = λ x ws. (not (is_some s.id) �
     (require_parses (not s.readonly) readonly_parses)
     (require_parses (not s.help) property_help_parses))
   where
-    yes : (x : PropertyAttribute) (text more : List Word) → (property_may s x ≡ true) × property_attribute x text → heads (passes (codes "id")) (text ++ more) ≡ true → (not (is_some s.id) ≡ true) × ((is_id x ≡ true) × numbered_form x text)
+    yes : (x : PropertyAttribute) (text more : List Word) → (property_may s x ≡ true) × property_attribute x text
+        → heads (passes (codes "id")) (text ++ more) ≡ true → (not (is_some s.id) ≡ true) × ((is_id x ≡ true) × numbered_form x text)
     yes (Id i) text more f is = (f.0, (refl, f.1))
     yes Readonly text more f is = absurd (clash is (one_sign_heads (codes "id") (codes "readonly") refl text more f.1))
     yes PropertyHelp text more f is = absurd (clash is (sign_heads (codes "id") (codes "helpstring") refl text more f.1))
 
-    other : (x : PropertyAttribute) (text more : List Word) → (property_may s x ≡ true) × property_attribute x text → heads (passes (codes "id")) (text ++ more) ≡ false → (is_id x ≡ false) × ((property_may s x ≡ true) × property_attribute x text)
+    other : (x : PropertyAttribute) (text more : List Word) → (property_may s x ≡ true) × property_attribute x text
+        → heads (passes (codes "id")) (text ++ more) ≡ false → (is_id x ≡ false) × ((property_may s x ≡ true) × property_attribute x text)
     other (Id i) text more f is = absurd (clash (same_heads (codes "id") text more f.1) is)
     other Readonly text more f is = (refl, f)
     other PropertyHelp text more f is = (refl, f)
 
-    from_yes : (x : PropertyAttribute) (text : List Word) → (not (is_some s.id) ≡ true) × ((is_id x ≡ true) × numbered_form x text) → (property_may s x ≡ true) × property_attribute x text
+    from_yes : (x : PropertyAttribute) (text : List Word) → (not (is_some s.id) ≡ true) × ((is_id x ≡ true) × numbered_form x text)
+        → (property_may s x ≡ true) × property_attribute x text
     from_yes (Id i) text f = (f.0, f.1.1)
     from_yes Readonly text f = absurd (clash f.1.0 refl)
     from_yes PropertyHelp text f = absurd (clash f.1.0 refl)
 
-    yes2 : (x : PropertyAttribute) (text more : List Word) → (is_id x ≡ false) × ((property_may s x ≡ true) × property_attribute x text) → heads (passes (codes "readonly")) (text ++ more) ≡ true → (not s.readonly ≡ true) × ((is_readonly x ≡ true) × sign (codes "readonly") text)
+    yes2 : (x : PropertyAttribute) (text more : List Word) → (is_id x ≡ false) × ((property_may s x ≡ true) × property_attribute x text)
+        → heads (passes (codes "readonly")) (text ++ more) ≡ true
+        → (not s.readonly ≡ true) × ((is_readonly x ≡ true) × sign (codes "readonly") text)
     yes2 (Id i) text more f is = absurd (clash refl f.0)
     yes2 Readonly text more f is = (f.1.0, (refl, f.1.1))
     yes2 PropertyHelp text more f is = absurd (clash is (sign_heads (codes "readonly") (codes "helpstring") refl text more f.1.1))
 
-    other2 : (x : PropertyAttribute) (text more : List Word) → (is_id x ≡ false) × ((property_may s x ≡ true) × property_attribute x text) → heads (passes (codes "readonly")) (text ++ more) ≡ false → (not s.help ≡ true) × ((is_property_help x ≡ true) × help text)
+    other2 : (x : PropertyAttribute) (text more : List Word) → (is_id x ≡ false) × ((property_may s x ≡ true) × property_attribute x text)
+        → heads (passes (codes "readonly")) (text ++ more) ≡ false → (not s.help ≡ true) × ((is_property_help x ≡ true) × help text)
     other2 (Id i) text more f is = absurd (clash refl f.0)
     other2 Readonly text more f is = absurd (clash (this_heads (passes (codes "readonly")) text more f.1.1) is)
     other2 PropertyHelp text more f is = (f.1.0, (refl, f.1.1))
 
-    from_yes2 : (x : PropertyAttribute) (text : List Word) → (not s.readonly ≡ true) × ((is_readonly x ≡ true) × sign (codes "readonly") text) → (is_id x ≡ false) × ((property_may s x ≡ true) × property_attribute x text)
+    from_yes2 : (x : PropertyAttribute) (text : List Word)
+        → (not s.readonly ≡ true) × ((is_readonly x ≡ true) × sign (codes "readonly") text)
+        → (is_id x ≡ false) × ((property_may s x ≡ true) × property_attribute x text)
     from_yes2 (Id i) text f = absurd (clash f.1.0 refl)
     from_yes2 Readonly text f = (refl, (f.0, f.1.1))
     from_yes2 PropertyHelp text f = absurd (clash f.1.0 refl)
 
-    from_other2 : (x : PropertyAttribute) (text : List Word) → (not s.help ≡ true) × ((is_property_help x ≡ true) × help text) → (is_id x ≡ false) × ((property_may s x ≡ true) × property_attribute x text)
+    from_other2 : (x : PropertyAttribute) (text : List Word) → (not s.help ≡ true) × ((is_property_help x ≡ true) × help text)
+        → (is_id x ≡ false) × ((property_may s x ≡ true) × property_attribute x text)
     from_other2 (Id i) text f = absurd (clash f.1.0 refl)
     from_other2 Readonly text f = absurd (clash f.1.0 refl)
     from_other2 PropertyHelp text f = (refl, (f.0, f.1.1))
@@ -377,8 +412,9 @@ property_with id readonly t name = record { id = id; readonly = readonly; value_
 marks : Property → PropertyHead
 marks p = record { id = p.id; readonly = p.readonly }
 
-pub property_parses : {n : ℕ} (count : ℕ) → Parses n Always property (λ l p. over limits.Members 512 count p.name ≡ Some l → ⊥) (λ p. over limits.Members 512 count p.name ≡ None) (property_at count)
+pub property_parses : {n : ℕ} (count : ℕ) → Parses n Always property (λ l p. over limits.Members max_members count p.name ≡ Some l → ⊥)
+    (λ p. over limits.Members max_members count p.name ≡ None) (property_at count)
 unfolding property_at property_with marks
 property_parses count = part_parses marks property_head_parses (λ l p h k. tt) (λ h. part_parses (λ p. p.value_type) value_type_parses (λ l p h k. tt) (λ t.
-    part_parses (λ p. p.name) (one_parses name_of (over limits.Members 512 count) (over_named limits.Members 512 count (λ k. absurd cc))) (λ l p h k. k) (λ name. skip_parses (passes (codes ";"))
+    part_parses (λ p. p.name) (one_parses name_of (over limits.Members max_members count) (over_named limits.Members max_members count (λ k. absurd cc))) (λ l p h k. k) (λ name. skip_parses (passes (codes ";"))
     (give_parses (property_with h.id h.readonly t name) (((tt, refl), refl), refl) (λ kept _ _. kept) (λ p k. λ i. record { id = (k.0.0.1 i).id; readonly = (k.0.0.1 i).readonly; value_type = k.0.1 i; name = k.1 i })))))

@@ -1,5 +1,6 @@
 -- Bytes by their classes, and where a stretch of them ends.
-use Rattle.std.specs.Prelude.{ℕ, suc, ◌==◌, ◌≤◌, ◌&&◌, ◌||◌, Bool, not, nat_lt, nat_le, if◌then◌else◌, List, [], ◌∷◌, length, drop, get_or, Option, Some, None}
+use Rattle.std.specs.Prelude.{ℕ, suc, ◌==◌, ◌≤◌, ◌&&◌, ◌||◌, Bool, not, nat_lt, nat_le, if◌then◌else◌, List, [], ◌∷◌, length, drop, get_or}
+use Rattle.std.specs.Prelude.{Option, Some, None}
 use Rattle.std.specs.Char.{is_ascii_digit, is_ascii_hexdigit, is_ascii_alphabetic, is_ascii_alphanumeric}
 use Rattle.oa_idl.specs.declared.scan.Class.{Class}
 use Rattle.oa_idl.specs.declared.scan.Class.TheVariants.{Digit, Hexadecimal, Letter, Named, Blank, Line, Mark}
@@ -48,4 +49,5 @@ group n bs = run (is_in Hexadecimal) bs == n && (nat_lt n (length bs) && get_or 
 
 -- 8-4-4-4-12 hexadecimal digits
 unfoldable pub is_guid : List ℕ → Bool
-is_guid bs = group 8 bs && (group 4 (drop 9 bs) && (group 4 (drop 14 bs) && (group 4 (drop 19 bs) && nat_le 12 (run (is_in Hexadecimal) (drop 24 bs)))))
+is_guid bs = group 8 bs && (group 4 (drop 9 bs) && (group 4 (drop 14 bs) && (group 4 (drop 19 bs) && nat_le 12 (run (is_in Hexadecimal)
+    (drop 24 bs)))))

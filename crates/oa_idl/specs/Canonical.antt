@@ -82,7 +82,10 @@ abbrev pub has_marks : Parameter → Bool
 has_marks p = (p.is_in || p.is_optional) || is_some p.default
 
 unfoldable pub parameter_marks : Parameter → List ℕ
-parameter_marks p = mark_text false p.is_in (codes "in") ++ mark_text p.is_in p.is_optional (codes "optional") ++ default_text (p.is_in || p.is_optional) p.default ++ (if has_marks p then codes "] " else [])
+parameter_marks p =
+    mark_text false p.is_in (codes "in")
+    ++ mark_text p.is_in p.is_optional (codes "optional")
+    ++ default_text (p.is_in || p.is_optional) p.default ++ (if has_marks p then codes "] " else [])
 
 unfoldable pub parameter_text : Parameter → List ℕ
 parameter_text p = parameter_marks p ++ named_text (value_type_text p.value_type) p.name

@@ -79,7 +79,8 @@ listed F grow apart E s [] b = E s b
 listed F grow apart E s (x ∷ xs) b = F s x ▸ optional (this (apart x)) ▸ listed F grow apart E (grow s x) xs b
 
 -- the same, of which only the end's value counts
-pub record Gathered_is {S A B : Type 0} (F : S → A → List Word → Type 0) (grow : S → A → S) (apart : A → Word → Bool) (E : S → B → List Word → Type 0) (s : S) (b : B) (words : List Word) : Type 0 where
+pub record Gathered_is {S A B : Type 0} (F : S → A → List Word → Type 0) (grow : S → A → S) (apart : A → Word → Bool)
+    (E : S → B → List Word → Type 0) (s : S) (b : B) (words : List Word) : Type 0 where
   pub all : List A
   pub form : listed F grow apart E s all b words
 

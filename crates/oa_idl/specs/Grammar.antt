@@ -1,5 +1,6 @@
 -- The grammar of a library text, over its words.
-use Rattle.std.specs.Prelude.{◌≡◌, ℕ, ◌+◌, ◌==◌, ◌||◌, ◌&&◌, Bool, true, false, not, List, [], ◌∷◌, Option, Some, None, ℤ, is_some, if◌then◌else◌, codes}
+use Rattle.std.specs.Prelude.{◌≡◌, ℕ, ◌+◌, ◌==◌, ◌||◌, ◌&&◌, Bool, true, false, not, List, [], ◌∷◌, Option, Some, None, ℤ, is_some}
+use Rattle.std.specs.Prelude.{if◌then◌else◌, codes}
 use Rattle.uuid.specs.Parts.{zero_bytes}
 use Rattle.oa_model.specs.declared.var_type.VarType.{VarType}
 use Rattle.oa_model.specs.declared.var_type.ValueType.{ValueType}
@@ -42,7 +43,8 @@ abbrev pub last_attribute : {S B : Type 0} → (S → Option B) → S → B → 
 last_attribute finish s b = where_is (finish s ≡ Some b) (sign (codes "]"))
 
 abbrev pub attributes : {S A B : Type 0} → (A → Form) → (S → A → Bool) → (S → A → S) → (S → Option B) → S → B → Form
-attributes attribute may_come grow finish s b = sign (codes "[") ▸ with (λ x. where_is (may_come s x ≡ true) (attribute x)) (λ x. gathered (next_attribute attribute may_come) grow nowhere (last_attribute finish) (grow s x) b)
+attributes attribute may_come grow finish s b = sign (codes "[") ▸ with (λ x. where_is (may_come s x ≡ true) (attribute x))
+    (λ x. gathered (next_attribute attribute may_come) grow nowhere (last_attribute finish) (grow s x) b)
 
 -- help = "helpstring" "(" string ")"
 abbrev pub help : Form
@@ -63,7 +65,13 @@ head_attribute counts HeadHelp = help
 
 -- version 0.0 where none is given
 abbrev pub no_head : HeadSeen
-no_head = record { uuid = false; version = false; help = false; head = record { guid = zero_bytes; version = record { major = 0; minor = 0 } } }
+no_head = record {
+  uuid = false;
+  version = false;
+  help = false;
+  head =
+      record { guid = zero_bytes; version = record { major = 0; minor = 0 } };
+}
 
 abbrev pub head_may : HeadSeen → HeadAttribute → Bool
 head_may s (Guid g) = not s.uuid
@@ -132,7 +140,11 @@ unfoldable pub property_head : PropertyHead → Form
 property_head h = attributes property_attribute property_may property_grow property_finish no_property h
 
 abbrev pub property : Property → Form
-property p = property_head (record { id = p.id; readonly = p.readonly }) ▸ value_type p.value_type ▸ one name_of p.name ▸ sign (codes ";") ▸ nothing
+property p = property_head (record {
+  id = p.id;
+  readonly =
+      p.readonly;
+}) ▸ value_type p.value_type ▸ one name_of p.name ▸ sign (codes ";") ▸ nothing
 
 -- ---- param = ["[" patt {"," patt} "]"] type name    patt = "in" | "optional" | "defaultvalue" "(" literal ")"
 
@@ -276,7 +288,9 @@ abbrev pub last_parameter : MethodKind → ℕ → Unit {0} → Form
 last_parameter k n x = where_is (may_end k n ≡ true) (sign (codes ")"))
 
 abbrev pub method_body : MethodKind → MethodValue → Form
-method_body k m = result_type k m.value_type ▸ one name_of m.name ▸ sign (codes "(") ▸ listed next_parameter one_more nowhere (last_parameter k) 0 m.parameters tt ▸ sign (codes ";") ▸ nothing
+method_body k m =
+    result_type k m.value_type ▸ one name_of m.name ▸ sign (codes "(")
+    ▸ listed next_parameter one_more nowhere (last_parameter k) 0 m.parameters tt ▸ sign (codes ";") ▸ nothing
 
 unfoldable pub method : MethodValue → Form
 method m = method_head (record { id = m.id; kind = m.kind }) ▸ method_body m.kind m
@@ -285,10 +299,12 @@ method m = method_head (record { id = m.id; kind = m.kind }) ▸ method_body m.k
 
 -- the second section, after n members of the first, and the brace that closes the interface
 abbrev pub methods : ℕ → List MethodValue → Form
-methods n ms = either_of (sign (codes "methods") ▸ sign (codes ":") ▸ listed (λ k. method) one_more nowhere closing n ms tt) (where_is (ms ≡ []) (sign (codes "}")))
+methods n ms = either_of (sign (codes "methods") ▸ sign (codes ":") ▸ listed (λ k. method) one_more nowhere closing n ms tt)
+    (where_is (ms ≡ []) (sign (codes "}")))
 
 abbrev pub members : List Property → List MethodValue → Form
-members ps ms = either_of (sign (codes "properties") ▸ sign (codes ":") ▸ listed (λ n. property) one_more nowhere methods 0 ps ms) (where_is (ps ≡ []) (methods 0 ms))
+members ps ms = either_of (sign (codes "properties") ▸ sign (codes ":") ▸ listed (λ n. property) one_more nowhere methods 0 ps ms)
+    (where_is (ps ≡ []) (methods 0 ms))
 
 abbrev pub interface : List ℕ → List Property → List MethodValue → Form
 interface name ps ms = sign (codes "dispinterface") ▸ one name_of name ▸ sign (codes "{") ▸ members ps ms ▸ nothing
@@ -323,7 +339,9 @@ abbrev pub last_entry : EntriesSeen → Unit {0} → Form
 last_entry s x = where_is (s.some ≡ true) (sign (codes "}"))
 
 abbrev pub coclass : List ℕ → List Entry → Form
-coclass name es = sign (codes "coclass") ▸ one name_of name ▸ sign (codes "{") ▸ listed entry entry_grow nowhere last_entry no_entry es tt ▸ nothing
+coclass name es =
+    sign (codes "coclass") ▸ one name_of name ▸ sign (codes "{")
+    ▸ listed entry entry_grow nowhere last_entry no_entry es tt ▸ nothing
 
 -- ---- text = attrs "library" name "{" {import | (disp | class) [";"]} "}" [";"]    import = "importlib" "(" string ")" ";"
 

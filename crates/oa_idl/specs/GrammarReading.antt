@@ -25,9 +25,13 @@ use Rattle.oa_idl.specs.declared.seen.EntriesSeen.{EntriesSeen}
 use Rattle.oa_idl.specs.declared.seen.ItemsSeen.{ItemsSeen}
 use Rattle.oa_idl.specs.Trees.{TreeValue}
 use Rattle.oa_idl.specs.Forms.{Word, nowhere}
-use Rattle.oa_idl.specs.Words.{passes, is_text, name_of, over, too_long, guid_of, part_of, id_of, type_of, amount_of, characters_of, never_over}
+use Rattle.oa_idl.specs.Words.{passes, is_text, name_of, over, too_long, guid_of, part_of, id_of, type_of, amount_of, characters_of}
+use Rattle.oa_idl.specs.Words.{never_over}
 use Rattle.oa_idl.specs.Reading.{Reading, ◌>>=◌, give, choose, require, demand, this_at, one_at, perhaps_at, until, list_at, gather_at}
-use Rattle.oa_idl.specs.Grammar.{HeadAttribute, no_head, head_grow, head_finish, PropertyAttribute, no_property, property_grow, property_finish, one_more, entry_word, no_entry, entry_grow, no_items, semicolon_after, Content, elements_grow, items_in, ParameterAttribute, no_parameter, parameter_grow, parameter_finish, MethodAttribute, no_method, method_grow, method_finish, is_form, may_be_void, may_have_type, may_end}
+use Rattle.oa_idl.specs.Grammar.{HeadAttribute, no_head, head_grow, head_finish, PropertyAttribute, no_property, property_grow}
+use Rattle.oa_idl.specs.Grammar.{property_finish, one_more, entry_word, no_entry, entry_grow, no_items, semicolon_after, Content}
+use Rattle.oa_idl.specs.Grammar.{elements_grow, items_in, ParameterAttribute, no_parameter, parameter_grow, parameter_finish}
+use Rattle.oa_idl.specs.Grammar.{MethodAttribute, no_method, method_grow, method_finish, is_form, may_be_void, may_have_type, may_end}
 use Rattle.oa_idl.specs.Grammar.HeadAttribute.{Guid, Numbered, HeadHelp}
 use Rattle.oa_idl.specs.Grammar.PropertyAttribute.{Id, Readonly, PropertyHelp}
 use Rattle.oa_idl.specs.Grammar.ParameterAttribute.{IsIn, IsOptional, HasDefault}
@@ -54,7 +58,8 @@ abbrev pub last_at : {S B : Type 0} → (S → Option B) → S → Reading B
 last_at finish s = demand (finish s) (λ b. sign_at (codes "]") >>= λ _. give b)
 
 abbrev pub attributes_at : {S A B : Type 0} → (S → Reading A) → (S → A → S) → (S → Bool) → (S → Option B) → S → Reading B
-attributes_at attribute grow full finish s = sign_at (codes "[") >>= λ _. grown_at attribute grow s >>= λ t. gather_at (passes (codes "]")) (next_grown_at attribute grow full) (last_at finish) t
+attributes_at attribute grow full finish s = sign_at (codes "[") >>= λ _. grown_at attribute grow s >>= λ t. gather_at (passes (codes "]"))
+    (next_grown_at attribute grow full) (last_at finish) t
 
 unfoldable pub help_at : Reading (Unit {0})
 help_at = sign_at (codes "helpstring") >>= λ _. sign_at (codes "(") >>= λ _. this_at is_text >>= λ _. sign_at (codes ")")
@@ -68,10 +73,12 @@ minor_at counts = choose (passes (codes "."))
     (sign_at (codes ")") >>= λ _. give 0)
 
 unfoldable pub uuid_at : Reading HeadAttribute
-uuid_at = sign_at (codes "uuid") >>= λ _. sign_at (codes "(") >>= λ _. one_at guid_of never_over >>= λ g. sign_at (codes ")") >>= λ _. give (Guid g)
+uuid_at = sign_at (codes "uuid") >>= λ _. sign_at (codes "(") >>= λ _. one_at guid_of never_over >>= λ g. sign_at (codes ")") >>= λ _.
+    give (Guid g)
 
 unfoldable pub version_at : Bool → Reading HeadAttribute
-version_at counts = sign_at (codes "version") >>= λ _. sign_at (codes "(") >>= λ _. one_at (part_of counts) never_over >>= λ a. minor_at counts >>= λ b. give (Numbered (record { major = a; minor = b }))
+version_at counts = sign_at (codes "version") >>= λ _. sign_at (codes "(") >>= λ _. one_at (part_of counts) never_over >>= λ a.
+    minor_at counts >>= λ b. give (Numbered (record { major = a; minor = b }))
 
 unfoldable pub head_attribute_at : Bool → HeadSeen → Reading HeadAttribute
 head_attribute_at counts s = choose (passes (codes "uuid"))
@@ -95,7 +102,8 @@ type_word_at in_array = choose (passes (codes "unsigned"))
 
 unfoldable pub value_type_at : Reading ValueType
 value_type_at = choose (passes (codes "SAFEARRAY"))
-    (sign_at (codes "SAFEARRAY") >>= λ _. sign_at (codes "(") >>= λ _. type_word_at true >>= λ t. sign_at (codes ")") >>= λ _. give (values.Array t))
+    (sign_at (codes "SAFEARRAY") >>= λ _. sign_at (codes "(") >>= λ _. type_word_at true >>= λ t. sign_at (codes ")") >>= λ _.
+    give (values.Array t))
     (type_word_at false >>= λ t. give (values.One t))
 
 -- ---- properties
@@ -123,7 +131,8 @@ property_head_at = attributes_at property_attribute_at property_grow property_fu
 
 -- a property after n members of its interface
 unfoldable pub property_at : ℕ → Reading Property
-property_at n = property_head_at >>= λ h. value_type_at >>= λ t. one_at name_of (over limits.Members max_members n) >>= λ name. sign_at (codes ";") >>= λ _.
+property_at n = property_head_at >>= λ h. value_type_at >>= λ t. one_at name_of (over limits.Members max_members n) >>= λ name.
+    sign_at (codes ";") >>= λ _.
     give (record { id = h.id; readonly = h.readonly; value_type = t; name = name })
 
 abbrev pub closing_at : {S : Type 0} → S → Reading (Unit {0})
@@ -201,7 +210,8 @@ result_type_at k = choose (passes (codes "void")) (require (may_be_void k) (sign
 
 -- what follows the attributes of a method after n members of its interface
 unfoldable pub method_body_at : ℕ → MethodHead → Reading MethodValue
-method_body_at n h = result_type_at h.kind >>= λ t. one_at name_of (over limits.Members max_members n) >>= λ name. sign_at (codes "(") >>= λ _. parameters_at h.kind >>= λ ps. sign_at (codes ";") >>= λ _.
+method_body_at n h = result_type_at h.kind >>= λ t. one_at name_of (over limits.Members max_members n) >>= λ name.
+    sign_at (codes "(") >>= λ _. parameters_at h.kind >>= λ ps. sign_at (codes ";") >>= λ _.
     give (record { id = h.id; kind = h.kind; value_type = t; name = name; parameters = ps.0 })
 
 unfoldable pub method_at : ℕ → Reading MethodValue
@@ -211,7 +221,8 @@ method_at n = method_head_at >>= λ h. method_body_at n h
 
 unfoldable pub methods_at : ℕ → Reading (List MethodValue)
 methods_at n = choose (passes (codes "methods"))
-    (sign_at (codes "methods") >>= λ _. sign_at (codes ":") >>= λ _. list_at (passes (codes "}")) nowhere method_at one_more closing_at n >>= λ ms. give ms.0)
+    (sign_at (codes "methods") >>= λ _. sign_at (codes ":") >>= λ _.
+    list_at (passes (codes "}")) nowhere method_at one_more closing_at n >>= λ ms. give ms.0)
     (sign_at (codes "}") >>= λ _. give [])
 
 -- the first section ends before the second, or before the brace
@@ -224,13 +235,15 @@ members_at = choose (passes (codes "properties"))
     (methods_at 0 >>= λ ms. give ([], ms))
 
 unfoldable pub interface_at : ItemsSeen → List ℕ → Reading Item
-interface_at s guid = sign_at (codes "dispinterface") >>= λ _. one_at name_of (over limits.Interfaces max_interfaces s.interfaces) >>= λ name. sign_at (codes "{") >>= λ _. members_at >>= λ all.
+interface_at s guid = sign_at (codes "dispinterface") >>= λ _.
+    one_at name_of (over limits.Interfaces max_interfaces s.interfaces) >>= λ name. sign_at (codes "{") >>= λ _. members_at >>= λ all.
     give (items.Interface (record { guid = guid; name = name; properties = all.0; methods = all.1 }))
 
 -- ---- coclasses
 
 unfoldable pub named_at : Bool → Reading Entry
-named_at is_default = this_at entry_word >>= λ _. one_at name_of too_long >>= λ name. sign_at (codes ";") >>= λ _. give (record { is_default = is_default; interface = name })
+named_at is_default = this_at entry_word >>= λ _. one_at name_of too_long >>= λ name. sign_at (codes ";") >>= λ _.
+    give (record { is_default = is_default; interface = name })
 
 unfoldable pub entry_at : EntriesSeen → Reading Entry
 entry_at s = choose (passes (codes "["))
@@ -244,7 +257,8 @@ unfoldable pub entries_at : Reading (List Entry × Unit {0})
 entries_at = list_at (passes (codes "}")) nowhere entry_at entry_grow last_entry_at no_entry
 
 unfoldable pub coclass_at : ItemsSeen → List ℕ → Reading Item
-coclass_at s guid = sign_at (codes "coclass") >>= λ _. one_at name_of (over limits.Coclasses max_coclasses s.coclasses) >>= λ name. sign_at (codes "{") >>= λ _. entries_at >>= λ es.
+coclass_at s guid = sign_at (codes "coclass") >>= λ _. one_at name_of (over limits.Coclasses max_coclasses s.coclasses) >>= λ name.
+    sign_at (codes "{") >>= λ _. entries_at >>= λ es.
     give (items.Coclass (record { guid = guid; name = name; entries = es.0 }))
 
 -- ---- a text
@@ -253,7 +267,8 @@ unfoldable pub item_at : ItemsSeen → Reading Item
 item_at s = head_at false >>= λ h. choose (passes (codes "dispinterface")) (interface_at s h.guid) (coclass_at s h.guid)
 
 unfoldable pub import_at : Reading (Unit {0})
-import_at = sign_at (codes "importlib") >>= λ _. sign_at (codes "(") >>= λ _. this_at is_text >>= λ _. sign_at (codes ")") >>= λ _. sign_at (codes ";")
+import_at = sign_at (codes "importlib") >>= λ _. sign_at (codes "(") >>= λ _. this_at is_text >>= λ _. sign_at (codes ")") >>= λ _.
+    sign_at (codes ";")
 
 unfoldable pub element_at : ItemsSeen → Reading Content
 element_at s = choose (passes (codes "importlib")) (import_at >>= λ _. give Import) (item_at s >>= λ x. give (OfItem x))
@@ -266,5 +281,7 @@ unfoldable pub elements_at : Reading (List Item)
 elements_at words = elements_within (length words) words
 
 unfoldable pub library_at : Reading TreeValue
-library_at = head_at true >>= λ h. sign_at (codes "library") >>= λ _. one_at name_of too_long >>= λ name. sign_at (codes "{") >>= λ _. elements_at >>= λ xs.
-    perhaps_at (passes (codes ";")) >>= λ _. sign_at [] >>= λ _. give (record { guid = h.guid; version = h.version; name = name; items = xs })
+library_at = head_at true >>= λ h. sign_at (codes "library") >>= λ _. one_at name_of too_long >>= λ name. sign_at (codes "{") >>= λ _.
+    elements_at >>= λ xs.
+    perhaps_at (passes (codes ";")) >>= λ _. sign_at [] >>= λ _.
+    give (record { guid = h.guid; version = h.version; name = name; items = xs })

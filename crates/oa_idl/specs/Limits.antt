@@ -20,7 +20,8 @@ HasShortParameters m = IsShort m.name × AllByRecursion (λ (p : Parameter). IsS
 
 -- each name of an item is short
 abbrev pub HasShortNames : Item → Type 0
-HasShortNames (items.Interface d) = IsShort d.name × AllByRecursion (λ (p : Property). IsShort p.name) d.properties × AllByRecursion HasShortParameters d.methods
+HasShortNames (items.Interface d) = IsShort d.name × AllByRecursion (λ (p : Property). IsShort p.name) d.properties
+    × AllByRecursion HasShortParameters d.methods
 HasShortNames (items.Coclass c) = IsShort c.name × AllByRecursion (λ (e : Entry). IsShort e.interface) c.entries
 
 abbrev pub one_interface : Item → ℕ

@@ -1,5 +1,6 @@
 -- The trees whose canonical text is read as the same tree: what holds of each tree that a text stands for.
-use Rattle.std.specs.Prelude.{◌≡◌, ℕ, ◌+◌, ◌^◌, ◌<◌, ◌≤◌, ◌==◌, ◌||◌, Bool, true, false, List, [], ◌∷◌, length, Option, Some, None, ℤ, pos, negsuc, is_some}
+use Rattle.std.specs.Prelude.{◌≡◌, ℕ, ◌+◌, ◌^◌, ◌<◌, ◌≤◌, ◌==◌, ◌||◌, Bool, true, false, List, [], ◌∷◌, length, Option, Some, None, ℤ, pos}
+use Rattle.std.specs.Prelude.{negsuc, is_some}
 use Rattle.std.specs.List.{All, AllByRecursion}
 use Rattle.oa_model.specs.declared.var_type.VarType.{VarType}
 use Rattle.oa_model.specs.declared.var_type.VarType.TheVariants as types
@@ -80,7 +81,8 @@ IsResult k None = may_be_void k ≡ true
 IsResult k (Some t) = (may_have_type k ≡ true) × IsValueType t
 
 abbrev pub IsMethod : MethodValue → Type 0
-IsMethod m = IsId m.id × IsResult m.kind m.value_type × IsName m.name × AllByRecursion IsParameter m.parameters × (may_end m.kind (length m.parameters) ≡ true)
+IsMethod m = IsId m.id × IsResult m.kind m.value_type × IsName m.name × AllByRecursion IsParameter m.parameters
+    × (may_end m.kind (length m.parameters) ≡ true)
 
 -- one at least, and at most one default
 abbrev pub AreEntries : EntriesSeen → List Entry → Type 0

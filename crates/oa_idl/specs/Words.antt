@@ -1,5 +1,7 @@
 -- Words: what stands for itself, names, types, numbers and GUIDs.
-use Rattle.std.specs.Prelude.{◌≡◌, ℕ, ◌+◌, ◌-◌, ◌*◌, ◌^◌, ◌==◌, ◌<◌, ◌&&◌, ◌||◌, not, Bool, true, false, nat_lt, nat_le, if◌then◌else◌, List, [], ◌∷◌, ◌++◌, length, take, drop, get_or, map, codes, Option, Some, None, ℤ, pos, negsuc, neg_ℤ, is_some}
+use Rattle.std.specs.Prelude.{◌≡◌, ℕ, ◌+◌, ◌-◌, ◌*◌, ◌^◌, ◌==◌, ◌<◌, ◌&&◌, ◌||◌, not, Bool, true, false, nat_lt, nat_le, if◌then◌else◌}
+use Rattle.std.specs.Prelude.{List, [], ◌∷◌, ◌++◌, length, take, drop, get_or, map, codes, Option, Some, None, ℤ, pos, negsuc, neg_ℤ}
+use Rattle.std.specs.Prelude.{is_some}
 use Rattle.std.specs.Int.{cast_signed, w32}
 use Rattle.std.specs.Char.{is_ascii_alphabetic}
 use Rattle.std.specs.Str.{bytes_eq}
@@ -82,10 +84,14 @@ type_of in_array unsigned w = if same_kind w.kind kinds.Name then if_cell in_arr
 -- ---- names
 
 abbrev pub is_structure : List ℕ → Bool
-is_structure text = bytes_eq text (codes "library") || (bytes_eq text (codes "importlib") || (bytes_eq text (codes "dispinterface") || (bytes_eq text (codes "interface") || (bytes_eq text (codes "coclass") || bytes_eq text (codes "properties")))))
+is_structure text = bytes_eq text (codes "library") || (bytes_eq text (codes "importlib")
+    || (bytes_eq text (codes "dispinterface") || (bytes_eq text (codes "interface")
+    || (bytes_eq text (codes "coclass") || bytes_eq text (codes "properties")))))
 
 abbrev pub is_type_mark : List ℕ → Bool
-is_type_mark text = bytes_eq text (codes "methods") || (bytes_eq text (codes "void") || (bytes_eq text (codes "unsigned") || bytes_eq text (codes "SAFEARRAY")))
+is_type_mark text =
+    bytes_eq text (codes "methods") || (bytes_eq text (codes "void")
+    || (bytes_eq text (codes "unsigned") || bytes_eq text (codes "SAFEARRAY")))
 
 -- the words of the language, compared as they are written
 unfoldable pub is_reserved : List ℕ → Bool

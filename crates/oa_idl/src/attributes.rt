@@ -5,7 +5,8 @@ ghost use Rattle.oa_idl.specs.declared.seen.PropertySeen.{PropertySeen};
 ghost use Rattle.oa_idl.specs.Words.{passes};
 ghost use Rattle.oa_idl.specs.Reading.{Answers, done, gather};
 ghost use Rattle.oa_idl.specs.Grammar.{head_grow, head_finish, property_grow, property_finish};
-ghost use Rattle.oa_idl.specs.GrammarReading.{grown_at, next_grown_at, last_at, help_at, minor_at, head_attribute_at, head_full, head_at, signed_at, property_attribute_at, property_full, property_head_at};
+ghost use Rattle.oa_idl.specs.GrammarReading.{grown_at, next_grown_at, last_at, help_at, minor_at, head_attribute_at, head_full, head_at};
+ghost use Rattle.oa_idl.specs.GrammarReading.{signed_at, property_attribute_at, property_full, property_head_at};
 
 use crate::parts::Version;
 use crate::reader::Reader;
@@ -111,7 +112,8 @@ fn more_head_attributes(
     seen: HeadSeen,
     room: usize,
 ) -> Result<Head, Stop>
-    ensures { Answers (λ h. h) result r.new (gather (passes (codes "]")) (next_grown_at (head_attribute_at counts) head_grow head_full) (last_at head_finish) room seen r.old) }
+    ensures { Answers (λ h. h) result r.new (gather (passes (codes "]")) (next_grown_at (head_attribute_at counts) head_grow head_full)
+        (last_at head_finish) room seen r.old) }
 {
     if room == 0 {
         return Err(Stop::Syntax);
@@ -225,7 +227,8 @@ fn more_property_attributes(
     seen: PropertySeen,
     room: usize,
 ) -> Result<PropertyHead, Stop>
-    ensures { Answers (λ h. h) result r.new (gather (passes (codes "]")) (next_grown_at property_attribute_at property_grow property_full) (last_at property_finish) room seen r.old) }
+    ensures { Answers (λ h. h) result r.new (gather (passes (codes "]")) (next_grown_at property_attribute_at property_grow property_full)
+        (last_at property_finish) room seen r.old) }
 {
     if room == 0 {
         return Err(Stop::Syntax);

@@ -40,5 +40,6 @@ pub fn marked_is_printable()
 
 /// The canonical text of a text's tree with its defaults marked stands for that tree, unless it is too long for a text.
 pub fn marked_is_read()
-    ensures { (text : List ℕ) (t : TreeValue) → IsTree text t → MayBeText (canonical (marked t)) → IsTree (canonical (marked t)) (marked t) }
+    ensures { (text : List ℕ) (t : TreeValue) → IsTree text t → MayBeText (canonical (marked t))
+        → IsTree (canonical (marked t)) (marked t) }
 {}

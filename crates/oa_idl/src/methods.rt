@@ -5,7 +5,8 @@ ghost use Rattle.oa_idl.specs.Forms.{nowhere};
 ghost use Rattle.oa_idl.specs.Words.{passes};
 ghost use Rattle.oa_idl.specs.Reading.{Answers, done, gather, until};
 ghost use Rattle.oa_idl.specs.Grammar.{one_more, is_form, method_grow, method_finish, may_be_void, may_have_type};
-ghost use Rattle.oa_idl.specs.GrammarReading.{grown_at, next_grown_at, last_at, numbered_at, method_attribute_at, method_full, method_head_at, result_type_at, method_body_at, method_at, closing_at, methods_at};
+ghost use Rattle.oa_idl.specs.GrammarReading.{grown_at, next_grown_at, last_at, numbered_at, method_attribute_at, method_full};
+ghost use Rattle.oa_idl.specs.GrammarReading.{method_head_at, result_type_at, method_body_at, method_at, closing_at, methods_at};
 
 use crate::attributes::{help, signed};
 use crate::method::Method;
@@ -111,7 +112,8 @@ fn more_method_attributes(
     seen: MethodSeen,
     room: usize,
 ) -> Result<MethodHead, Stop>
-    ensures { Answers (λ h. h) result r.new (gather (passes (codes "]")) (next_grown_at method_attribute_at method_grow method_full) (last_at method_finish) room seen r.old) }
+    ensures { Answers (λ h. h) result r.new (gather (passes (codes "]")) (next_grown_at method_attribute_at method_grow method_full)
+        (last_at method_finish) room seen r.old) }
 {
     if room == 0 {
         return Err(Stop::Syntax);
@@ -221,7 +223,8 @@ fn method_list(
     before: usize,
     room: usize,
 ) -> Result<Vec<Method>, Stop>
-    ensures { Answers (λ v. (v.items, done)) result r.new (until (passes (codes "}")) nowhere method_at one_more closing_at room before r.old) }
+    ensures { Answers (λ v. (v.items, done)) result r.new
+        (until (passes (codes "}")) nowhere method_at one_more closing_at room before r.old) }
 {
     let mut all = Vec::new(alloc);
     let mut count = before;

@@ -5,7 +5,9 @@ ghost use Rattle.oa_idl.specs.Forms.{nowhere};
 ghost use Rattle.oa_idl.specs.Words.{passes};
 ghost use Rattle.oa_idl.specs.Reading.{Answers, done, gather, until};
 ghost use Rattle.oa_idl.specs.Grammar.{one_more, no_parameter, parameter_grow, parameter_finish, may_end};
-ghost use Rattle.oa_idl.specs.GrammarReading.{grown_at, next_grown_at, last_at, amount_at, literal_at, default_at, parameter_attribute_at, parameter_full, parameter_head_at, typed_at, parameter_at, next_parameter_at, last_parameter_at};
+ghost use Rattle.oa_idl.specs.GrammarReading.{grown_at, next_grown_at, last_at, amount_at, literal_at, default_at, parameter_attribute_at};
+ghost use Rattle.oa_idl.specs.GrammarReading.{parameter_full, parameter_head_at, typed_at, parameter_at, next_parameter_at};
+ghost use Rattle.oa_idl.specs.GrammarReading.{last_parameter_at};
 
 use crate::parser::value_type;
 use crate::parts::{Literal, MethodKind, Parameter};
@@ -128,7 +130,8 @@ fn more_parameter_attributes(
     seen: ParameterSeen,
     room: usize,
 ) -> Result<ParameterSeen, Stop>
-    ensures { Answers (λ h. h) result r.new (gather (passes (codes "]")) (next_grown_at parameter_attribute_at parameter_grow parameter_full) (last_at parameter_finish) room seen r.old) }
+    ensures { Answers (λ h. h) result r.new (gather (passes (codes "]"))
+        (next_grown_at parameter_attribute_at parameter_grow parameter_full) (last_at parameter_finish) room seen r.old) }
 {
     if room == 0 {
         return Err(Stop::Syntax);
@@ -226,7 +229,8 @@ pub(crate) fn parameters(
     kind: MethodKind,
     room: usize,
 ) -> Result<Vec<Parameter>, Stop>
-    ensures { Answers (λ v. (v.items, done)) result r.new (until (passes (codes ")")) nowhere next_parameter_at one_more (last_parameter_at kind) room 0 r.old) }
+    ensures { Answers (λ v. (v.items, done)) result r.new
+        (until (passes (codes ")")) nowhere next_parameter_at one_more (last_parameter_at kind) room 0 r.old) }
 {
     let mut all = Vec::new(alloc);
     let mut count = 0;

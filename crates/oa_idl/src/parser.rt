@@ -6,7 +6,9 @@ ghost use Rattle.oa_idl.specs.Words.{word_of, passes};
 ghost use Rattle.oa_idl.specs.Reading.{Answers, done, heads, until};
 ghost use Rattle.oa_idl.specs.IsTree.{IsTree, IsAnswer, IsFound, place_after};
 ghost use Rattle.oa_idl.specs.Grammar.{one_more, entry_grow, no_entry, items_grow};
-ghost use Rattle.oa_idl.specs.GrammarReading.{type_word_at, value_type_at, property_at, methods_at, ends_properties, members_at, interface_at, named_at, entry_at, last_entry_at, coclass_at, import_at, item_at, elements_within, library_at};
+ghost use Rattle.oa_idl.specs.GrammarReading.{type_word_at, value_type_at, property_at, methods_at, ends_properties, members_at};
+ghost use Rattle.oa_idl.specs.GrammarReading.{interface_at, named_at, entry_at, last_entry_at, coclass_at, import_at, item_at};
+ghost use Rattle.oa_idl.specs.GrammarReading.{elements_within, library_at};
 ghost use Rattle.oa_idl.specs.Trees.{TreeValue};
 ghost use Rattle.oa_idl.specs.Parsed.{IsParsed};
 
@@ -83,7 +85,8 @@ fn properties(
     r: &mut Reader<'_>,
     room: usize,
 ) -> Result<(Vec<Property>, Vec<Method>), Stop>
-    ensures { Answers (λ v. (v.0.items, v.1.items)) result r.new (until ends_properties nowhere property_at one_more methods_at room 0 r.old) }
+    ensures { Answers (λ v. (v.0.items, v.1.items)) result r.new
+        (until ends_properties nowhere property_at one_more methods_at room 0 r.old) }
 {
     let mut all = Vec::new(alloc);
     let mut count = 0;
@@ -176,7 +179,8 @@ fn with_entry(seen: EntriesSeen, entry: &Entry) -> EntriesSeen
 /// At most so many entries, and the brace that closes them.
 #[tactic(auto, using(crate::proofs::Loop::until_err, crate::proofs::Loop::until_out))]
 fn entries(alloc: Global, r: &mut Reader<'_>, room: usize) -> Result<Vec<Entry>, Stop>
-    ensures { Answers (λ v. (v.items, done)) result r.new (until (passes (codes "}")) nowhere entry_at entry_grow last_entry_at room no_entry r.old) }
+    ensures { Answers (λ v. (v.items, done)) result r.new
+        (until (passes (codes "}")) nowhere entry_at entry_grow last_entry_at room no_entry r.old) }
 {
     let mut all = Vec::new(alloc);
     let mut seen = EntriesSeen {
@@ -336,7 +340,8 @@ fn parse_words(alloc: Global, text: &[u8], words: &[Token]) -> Result<Tree, Pars
 /// `Ok` exactly where the text is in the grammar (docs/idl.md), with its one tree. `Limit(Text)` exactly where the text has more than
 /// 262,144 bytes. `Syntax(place)` where the token that begins at this byte, or the end, cannot stand there: no text of the grammar
 /// begins with the tokens up to and with that one. Another `Limit` where a name is too long, or is that of an item, member or parameter
-/// that is one too many: no text of the grammar that keeps this limit begins with the tokens up to and with that name. `Memory` where none was found.
+/// that is one too many: no text of the grammar that keeps this limit begins with the tokens up to and with that name. `Memory` where none
+/// was found.
 pub fn parse(alloc: Global, text: &str) -> Result<Tree, ParseError>
     ensures exact { IsAnswer text.now result }
     ensures found { (t : TreeValue) → IsTree text.now t → IsFound t result }

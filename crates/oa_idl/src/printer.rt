@@ -2,7 +2,11 @@
 ghost use Rattle.std.specs.Prelude.{◌≡◌, ◌++◌, ℕ, List, codes, IfOk};
 ghost use Rattle.std.specs.List.{flat_map};
 ghost use Rattle.std.specs.Fmt.{decimal, signed_decimal};
-ghost use Rattle.oa_idl.specs.Canonical.{type_text, value_type_text, result_text, named_text, character_text, literal_text, mark_text, default_text, parameter_marks, parameter_text, further_text, parameters_text, id_text, readonly_text, property_text, kind_text, list_text, method_text, entry_word_text, entry_text, digits_text, guid_text, interface_line, properties_line, title_text, properties_text, methods_text, interface_text, coclass_text, item_text, version_text, canonical};
+ghost use Rattle.oa_idl.specs.Canonical.{type_text, value_type_text, result_text, named_text, character_text, literal_text, mark_text};
+ghost use Rattle.oa_idl.specs.Canonical.{default_text, parameter_marks, parameter_text, further_text, parameters_text, id_text};
+ghost use Rattle.oa_idl.specs.Canonical.{readonly_text, property_text, kind_text, list_text, method_text, entry_word_text, entry_text};
+ghost use Rattle.oa_idl.specs.Canonical.{digits_text, guid_text, interface_line, properties_line, title_text, properties_text};
+ghost use Rattle.oa_idl.specs.Canonical.{methods_text, interface_text, coclass_text, item_text, version_text, canonical};
 
 use crate::items::{Coclass, Interface, Item};
 use crate::method::Method;

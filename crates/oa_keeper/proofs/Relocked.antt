@@ -4,6 +4,7 @@ use Rattle.std.specs.Prelude.{if◌then◌else◌}
 use Rattle.std.specs.BTreeMap.{is_at}
 use Rattle.std.specs.Map.{lookup, set_value}
 use Rattle.std.specs.Ordering.{nat_cmp}
+use Rattle.oa_model.specs.Limits.{max_cell_locks}
 use Rattle.oa_array.specs.Arrays.{with_locks}
 use Rattle.oa_array.specs.declared.fault.ArrayFault.TheVariants as arrays
 use Rattle.oa_variant.specs.Variants.{unlocked}
@@ -51,7 +52,7 @@ set_unseen {K} {X} g test (e ∷ es) old new found same = by (test e.0) found (s
 
 lock_unseen : (value : Variant) → Unseen unlocked locked_value value
 lock_unseen (One s) new is = absurd cc
-lock_unseen (AnArray a) new is = by (a.locks == 65535) is
+lock_unseen (AnArray a) new is = by (a.locks == max_cell_locks) is
   where
     by : (b : Bool) → (if b then Err (Array arrays.Unexpected) else Ok (AnArray (with_locks a (a.locks + 1)))) ≡ Ok new → unlocked new ≡ unlocked (AnArray a)
     by true e = absurd cc

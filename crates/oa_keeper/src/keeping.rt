@@ -1,5 +1,6 @@
 //! Changes of a table in memory that a store keeps: their events are held, and go out under one gate.
 ghost use Rattle.std.specs.Prelude.{◌≡◌, ◌⊎◌, ◌+◌, ◌-◌, ◌^◌, ◌<◌, ◌≤◌, ◌++◌, [], true, false, length, IsErr, IsErrOf, IsOk, OnErr, OnOk};
+ghost use Rattle.oa_model.specs.Limits.{max_table_bytes};
 ghost use Rattle.oa_image.specs.Events.{event_image};
 ghost use Rattle.oa_image.specs.Tables.{is_numbered, table_image};
 ghost use Rattle.oa_journal.specs.Append.{group_of};
@@ -25,7 +26,7 @@ pub fn make_room<D: Disk>(
 ) -> Result<(), KeepFault>
     requires goes_on { store.old.stopped ≡ false }
     requires numbered { is_numbered table.now ≡ true }
-    requires fits { length (table_image table.now) ≤ 14680064 }
+    requires fits { length (table_image table.now) ≤ max_table_bytes }
     requires room { HasRoom frame.now store.old }
 
     // Whatever table the images hold, which is the one in memory while no event is in hand.
@@ -87,7 +88,7 @@ pub fn hold<D: Disk>(
 ) -> Result<(), KeepFault>
     requires goes_on { store.old.stopped ≡ false }
     requires numbered { is_numbered table.old ≡ true }
-    requires fits { length (table_image table.old) ≤ 14680064 }
+    requires fits { length (table_image table.old) ≤ max_table_bytes }
     requires unlocked { BringsNoLocks event }
     requires applies { IsOk (applied event table.old) }
     requires room { HasRoom frame.old store.old }

@@ -2,6 +2,7 @@
 use Rattle.std.proofs.Common.{◌≡◌, ℕ, ℤ, ◌+◌, ◌≤◌, Bool, true, false, eqb, leb, ◌&&◌, cond, List, ◌++◌, length, Option, Some, None, refl, sym, ap, subst, ◌∙◌, arith}
 use Rattle.std.proofs.lemmas.Bool.{leb-true, leb-false, eqb-true}
 use Rattle.std.specs.Int.{w32, cast_signed}
+use Rattle.oa_model.specs.Limits.{max_arguments, max_dimensions, max_names}
 use Rattle.oa_model.specs.Guids.{wire_order}
 use Rattle.oa_model.specs.declared.bound.Bound.{Bound}
 use Rattle.oa_ndr.specs.Forms.{unit, exactly, each, nothing}
@@ -16,7 +17,8 @@ use Rattle.oa_record.specs.declared.opcode.Opcode.{Opcode}
 use Rattle.oa_record.specs.declared.opcode.Opcode.TheVariants as opcodes
 use Rattle.oa_record.specs.declared.request.CallHead.{CallHead}
 use Rattle.oa_record.specs.declared.request.GetIds.{GetIds}
-use Rattle.oa_record.specs.Layouts.{Layout, opcode_of, guid, dispid, field, call_head, call_parts, indices, element_parts, put_parts, redim_parts, string, get_ids, number, fields, layout, max_arguments, max_indices, max_names}
+use Rattle.oa_record.specs.Layouts.{Layout, opcode_of, guid, dispid, field, call_head, call_parts, indices, element_parts, put_parts}
+use Rattle.oa_record.specs.Layouts.{redim_parts, string, get_ids, number, fields, layout}
 use Rattle.oa_record.specs.Reading.{guid_at, dispid_at, field_at, head_of, call_head_at, parts_of, lists_at, call_at, index_list_at, indices_at, element_of, element_at, put_of, put_at, redim_of, redim_at, string_at, ids_of, names_at, get_ids_at, number_at, fields_at, listed_at, layout_at}
 
 guid_reads : Reads Always guid guid_at
@@ -83,14 +85,14 @@ call_reads =
         parts true false e x y = omega (arith, leb-false _ _ y, b, fits.1)
         parts false q e x y = omega (arith, leb-false _ _ x, a, fits.0)
 
-few_indices : (n : ℕ) (xs : List ℤ) → leb n max_indices ≡ true → length xs ≡ n → length xs ≤ max_indices
+few_indices : (n : ℕ) (xs : List ℤ) → leb n max_dimensions ≡ true → length xs ≡ n → length xs ≤ max_dimensions
 few_indices n xs e is = omega (arith, leb-true _ _ e, is)
 
 indices_reads : Reads Always indices indices_at
 unfolding indices_at index_list_at
 indices_reads =
     bind_reads (unit 4) (λ (xs : List ℤ). length xs) (unit_reads 4) (λ _ _. tt) (λ n _.
-    ignored_then 4 (choose_reads (leb n max_indices)
+    ignored_then 4 (choose_reads (leb n max_dimensions)
     (λ few. given_then (λ xs p. few_indices n xs few p.1)
     (bind_reads (each dispid) (λ (xs : List ℤ). xs) (many_reads dispid_reads n) (λ xs p. (p.1, all_always xs)) (λ xs is_n.
     made_reads (λ _. xs) (align_reads 8) (λ _ _. ((tt, is_n.0), refl)) (λ c p text h form. (tt, tt, sym h.1)))))

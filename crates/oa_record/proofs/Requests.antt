@@ -1,5 +1,6 @@
 -- A body asks one request, or is refused.
 use Rattle.std.proofs.Common.{◌≡◌, inl, inr, ℕ, ℤ, ◌≤◌, true, List, [], ◌∷◌, ◌++◌, length, Option, Some, None, Result, Ok, Err, refl, sym, ap, subst, ◌∙◌}
+use Rattle.oa_model.specs.Limits.{max_request_bytes}
 use Rattle.oa_ndr.specs.Reading.{whole}
 use Rattle.oa_ndr.proofs.Laws.{one_value, whole_takes, whole_again}
 use Rattle.oa_variant.specs.declared.variant.Variant.{Variant}
@@ -14,7 +15,8 @@ use Rattle.oa_record.specs.declared.opcode.Opcode.TheVariants as opcodes
 use Rattle.oa_record.specs.declared.fault.RecordFault.{RecordFault}
 use Rattle.oa_record.specs.declared.fault.RecordFault.TheVariants.{Stub, BadVarType, Memory}
 use Rattle.oa_record.specs.declared.request.Request.TheVariants as requests
-use Rattle.oa_record.specs.Asks.{Lies, AllSpell, call_of, index_of, with_last, request_of, request_opcode, Asks, Spoils, HasBroken, HasBadType, HasNoLayout, IsStub, IsBadVarType, IsRequest, max_body}
+use Rattle.oa_record.specs.Asks.{Lies, AllSpell, call_of, index_of, with_last, request_of, request_opcode, Asks, Spoils, HasBroken}
+use Rattle.oa_record.specs.Asks.{HasBadType, HasNoLayout, IsStub, IsBadVarType, IsRequest}
 use Rattle.oa_record.specs.declared.request.Request.{Request}
 use Rattle.oa_record.specs.declared.request.Call.{Call}
 use Rattle.oa_record.proofs.LayoutLaws.{layout_reads, listed_back}
@@ -103,21 +105,24 @@ no_layout body none parts lies = let some = whole_again layout_reads body parts 
     clash None a parts b = cc
     clash (Some x) a parts b = cc
 
-lies_so : (body : List ℕ) (parts : Layout) → length body ≤ max_body → whole layout_at body ≡ Some parts → Lies parts body
+lies_so : (body : List ℕ) (parts : Layout) → length body ≤ max_request_bytes → whole layout_at body ≡ Some parts → Lies parts body
 lies_so body parts short e =
     let h = whole_takes layout_reads body parts e in
     record { short = short; listed = h.0; form = h.1 }
 
-pub no_parts : (body : List ℕ) (e : RecordFault) → length body ≤ max_body → Fails e (whole layout_at body) → IsStarvedBody e body → IsRequest body (Err e)
+pub no_parts : (body : List ℕ) (e : RecordFault) → length body ≤ max_request_bytes → Fails e (whole layout_at body) → IsStarvedBody e body
+    → IsRequest body (Err e)
 no_parts body Stub short none s = inl (no_layout body none)
 no_parts body (BadVarType i) short none s = absurd none
 no_parts body Memory short none s = record { long = s.0; short = short; opcode = s.1 }
 
 -- what the values of a layout answer is the answer
-asks : (body : List ℕ) (parts : Layout) (q : Request) → length body ≤ max_body → whole layout_at body ≡ Some parts → Takes parts q → Asks body q
+asks : (body : List ℕ) (parts : Layout) (q : Request) → length body ≤ max_request_bytes → whole layout_at body ≡ Some parts → Takes parts q
+    → Asks body q
 asks body parts q short read t = record { parts = parts; lies = lies_so body parts short read; values = t.values; spelled = t.spelled; is = t.is }
 
-refuses : (body : List ℕ) (parts : Layout) (e : RecordFault) → length body ≤ max_body → whole layout_at body ≡ Some parts → Requests parts (Err e) → IsRequest body (Err e)
+refuses : (body : List ℕ) (parts : Layout) (e : RecordFault) → length body ≤ max_request_bytes → whole layout_at body ≡ Some parts
+    → Requests parts (Err e) → IsRequest body (Err e)
 refuses body parts Stub short read h = inr (record { parts = parts; lies = lies_so body parts short read; broken = h })
 refuses body parts (BadVarType index) short read h = record { parts = parts; lies = lies_so body parts short read; place = h.place; bad = h.bad; named = h.named }
 refuses body parts Memory short read h =
@@ -125,7 +130,8 @@ refuses body parts Memory short read h =
     let at = opcode_lies parts body lies.form in
     record { long = at.0; short = short; opcode = ap opcode_takes_memory at.1 ∙ ap some_takes_memory (listed_back (opcode_of parts) lies.listed) ∙ h }
 
-pub answered : (body : List ℕ) (parts : Layout) (r : Result Request RecordFault) → length body ≤ max_body → whole layout_at body ≡ Some parts → Requests parts r → IsRequest body r
+pub answered : (body : List ℕ) (parts : Layout) (r : Result Request RecordFault) → length body ≤ max_request_bytes
+    → whole layout_at body ≡ Some parts → Requests parts r → IsRequest body r
 answered body parts (Ok q) short read h = asks body parts q short read h
 answered body parts (Err e) short read h = refuses body parts e short read h
 

@@ -2,6 +2,7 @@
 use Rattle.std.specs.Prelude.{◌≡◌, ◌⊎◌, ℕ, ◌≤◌, ◌==◌, nat_lt, if◌then◌else◌, true, List, [], ◌∷◌, ◌++◌, length, Option, Some, None, Result, Ok, Err}
 use Rattle.std.specs.List.{AllByRecursion}
 use Rattle.byteorder.specs.Endian.{little_number}
+use Rattle.oa_model.specs.Limits.{max_request_bytes}
 use Rattle.oa_variant.specs.declared.variant.Variant.{Variant}
 use Rattle.oa_wire_variant.specs.Variants.{Spells, field_fault}
 use Rattle.oa_wire_array.specs.declared.fault.WireFault.{WireFault}
@@ -17,13 +18,9 @@ use Rattle.oa_record.specs.declared.request.Request.TheVariants.{Create, Release
 use Rattle.oa_record.specs.declared.fault.RecordFault.{RecordFault}
 use Rattle.oa_record.specs.declared.fault.RecordFault.TheVariants.{Stub, BadVarType, Memory}
 
--- the longest body
-abbrev pub max_body : ℕ
-max_body = 1048576
-
 -- the body is laid out so, for an opcode whose requests are read
 pub record Lies (parts : Layout) (body : List ℕ) : Type 0 where
-  pub short : length body ≤ max_body
+  pub short : length body ≤ max_request_bytes
   pub listed : is_listed (opcode_of parts) ≡ true
   pub form : layout parts 0 body
 
@@ -153,7 +150,7 @@ tag_at body = if nat_lt (length body) 8 then 0 else little_number 4 body
 -- The body is of a listed opcode whose bodies take memory to be read. No other body is answered with want of memory.
 pub record MayStarve (body : List ℕ) : Type 0 where
   pub long : 8 ≤ length body
-  pub short : length body ≤ max_body
+  pub short : length body ≤ max_request_bytes
   pub opcode : opcode_takes_memory (opcode_at body) ≡ true
 
 -- what reading a body answers

@@ -3,6 +3,7 @@
 -- In each body: a tag of 4 bytes, the opcode in 2, 2 reserved bytes, and from the offset 8 on the opcode's own fields, which fill the body exactly.
 use Rattle.std.specs.Prelude.{◌≡◌, ℕ, ℤ, ◌≤◌, List, [], ◌∷◌, ◌++◌, length}
 use Rattle.std.specs.Int.{w32, cast_signed}
+use Rattle.oa_model.specs.Limits.{max_arguments, max_dimensions, max_names}
 use Rattle.oa_ndr.specs.Forms.{Form, ◌▸◌, nothing, align, ignored, unit, exactly, with, given, each, made}
 use Rattle.oa_model.specs.Guids.{wire_order}
 use Rattle.oa_wire_array.specs.Arrays.{bound}
@@ -70,10 +71,6 @@ field bytes = unit 4 (length bytes) ▸ ignored 4 ▸ exactly bytes ▸ align 8
 abbrev pub call_head : CallHead → Form
 call_head h = unit 4 h.object ▸ dispid h.dispid ▸ guid h.interface ▸ guid h.riid ▸ unit 4 h.lcid ▸ unit 2 h.flags ▸ ignored 2 ▸ nothing
 
--- the greatest number of arguments of a call, and of named ones among them
-abbrev pub max_arguments : ℕ
-max_arguments = 32
-
 -- a call: these, cArgs, cNamed, the DISPIDs of the named arguments, padding up to a multiple of 8, and the arguments in the order of rgvarg
 abbrev pub call_parts : CallParts → Form
 call_parts c =
@@ -81,13 +78,9 @@ call_parts c =
     ▸ unit 4 (length c.fields) ▸ unit 4 (length c.named) ▸ given ((length c.fields ≤ max_arguments) × (length c.named ≤ max_arguments))
     ▸ each dispid c.named ▸ align 8 ▸ each field c.fields
 
--- the greatest number of indices
-abbrev pub max_indices : ℕ
-max_indices = 16
-
 -- an index list: how many, a reserved number, the indices, padding up to a multiple of 8
 abbrev pub indices : List ℤ → Form
-indices xs = unit 4 (length xs) ▸ ignored 4 ▸ given (length xs ≤ max_indices) ▸ each dispid xs ▸ align 8
+indices xs = unit 4 (length xs) ▸ ignored 4 ▸ given (length xs ≤ max_dimensions) ▸ each dispid xs ▸ align 8
 
 -- a call that names an array, and the index list of a cell
 abbrev pub element_parts : ElementParts → Form
@@ -104,10 +97,6 @@ redim_parts r = call_parts r.call ▸ bound r.bound
 -- a string: how many UTF-16 units, a reserved number, the units, padding up to a multiple of 8
 abbrev pub string : List ℕ → Form
 string units = unit 4 (length units) ▸ ignored 4 ▸ each (unit 2) units ▸ align 8
-
--- the greatest number of names of a look-up
-abbrev pub max_names : ℕ
-max_names = 17
 
 -- a look-up: object, a reserved number, interface, riid, lcid, the number of names, the names (MS-OAUT section 3.1.4.3 has the meaning of each)
 abbrev pub get_ids : GetIds → Form

@@ -1,12 +1,13 @@
 -- Reading a layout as a function on lists, which says the same as the forms (proofs/LayoutLaws has the laws).
 use Rattle.std.specs.Prelude.{◌≡◌, ℕ, ℤ, ◌≤◌, ◌&&◌, nat_le, true, List, length, Option, Some, None, Result, Ok, Err}
 use Rattle.std.specs.Int.{w32, cast_signed}
+use Rattle.oa_model.specs.Limits.{max_arguments, max_dimensions, max_names}
 use Rattle.oa_ndr.specs.Reading.{Cursor, Reading, ◌>>=◌, give, fail, choose, unit_at, bytes_at, align_at, many}
 use Rattle.oa_model.specs.Guids.{wire_order}
 use Rattle.oa_model.specs.declared.bound.Bound.{Bound}
 use Rattle.oa_wire_array.specs.ArrayReading.{bound_at}
 use Rattle.oa_record.specs.CallParts.{CallParts, ElementParts, PutParts, RedimParts}
-use Rattle.oa_record.specs.Layouts.{Layout, max_arguments, max_indices, max_names}
+use Rattle.oa_record.specs.Layouts.{Layout}
 use Rattle.oa_record.specs.Opcodes.{listed_opcode, opcode_at, opcode_takes_memory, takes_memory}
 use Rattle.oa_record.specs.declared.opcode.Opcode.{Opcode}
 use Rattle.oa_record.specs.declared.opcode.Opcode.TheVariants as opcodes
@@ -117,7 +118,7 @@ unfoldable pub indices_at : Reading (List ℤ)
 indices_at = do
   count ← unit_at 4
   _ ← unit_at 4
-  choose (nat_le count max_indices) (index_list_at count) fail
+  choose (nat_le count max_dimensions) (index_list_at count) fail
 
 abbrev pub element_of : CallParts → List ℤ → ElementParts
 element_of call indices = record { call = call; indices = indices }

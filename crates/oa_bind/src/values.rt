@@ -109,7 +109,7 @@ pub(crate) fn key(
     ensures others { OnOk result (Stay named.now arguments.old.items arguments.new.items (length parameters.now)) }
     ensures len { length arguments.new.items ≡ length arguments.old.items }
 {
-    let mut key = Vec::new(alloc);
+    let mut key = Vec::with_capacity(alloc, parameters.len())?;
     'parameters: for place in 0..parameters.len() {
         let value = value(
             alloc,

@@ -1,5 +1,5 @@
 -- What is allowed applies, and leaves a sound table.
-use Rattle.std.proofs.Common.{◌≡◌, ◌≤◌, Bool, true, false, true≢false, length, Result, Ok, Err, IsOk, refl, sym, ap, subst, ◌∙◌, arith}
+use Rattle.std.proofs.Common.{◌≡◌, ◌≤◌, ◌⊎◌, inl, inr, Bool, true, false, true≢false, length, Result, Ok, Err, IsOk, refl, sym, ap, subst, ◌∙◌, arith}
 use Rattle.std.specs.Prelude.{nat_lt, if◌then◌else◌}
 use Rattle.std.proofs.lemmas.Bool.{ltb-false}
 use Rattle.oa_image.specs.Events.{event_image}
@@ -10,10 +10,13 @@ use Rattle.oa_layout.specs.Formats.{only, made_where, counted, coded, next_by, t
 use Rattle.oa_layout.specs.Numbers.{u32}
 use Rattle.oa_keeper.proofs.Relocked.{lock_stays, unlock_stays}
 use Rattle.oa_model.specs.declared.hresult.HResult.{HResult}
-use Rattle.oa_model.specs.Codes.{e_invalidarg, stg_e_mediumfull}
+use Rattle.oa_model.specs.Codes.{e_invalidarg, e_outofmemory, stg_e_mediumfull}
 use Rattle.oa_table.specs.declared.event.Event.{Event}
 use Rattle.oa_table.specs.declared.fault.TableFault.{TableFault}
+use Rattle.oa_table.specs.declared.fault.TableFault.TheVariants.{Memory, NoObject, WrongNumber, NotArray, Array}
 use Rattle.oa_table.specs.Events.{applied}
+use Rattle.oa_table.specs.Faults.{code_of}
+use Rattle.oa_table.specs.Outcomes.{Because}
 use Rattle.oa_table.specs.Tables.{TableValue, first_table, unlocked_table}
 use Rattle.oa_server.specs.declared.decision.LockChange.{LockChange}
 use Rattle.oa_server.specs.declared.decision.LockChange.TheVariants.{Lock, Unlock}
@@ -80,6 +83,26 @@ allowed_applies event old ok = by (applied event old) refl ok
 
 pub stays_sound : (event : Event) (old new : TableValue) → IsSound old → IsOk (allowed event old) → applied event old ≡ Ok new → IsSound new
 stays_sound event old new sound ok at = record { numbered = numbers_stay event old new sound.numbered at; small = (is_allowed event old new ok at).table_small }
+
+pub allowed_sound : (event : Event) (old new : TableValue) → IsSound old → allowed event old ≡ Ok new → IsSound new
+allowed_sound event old new sound is = stays_sound event old new sound (rw is refl) (is_made event old new is).applies
+
+-- an event that is within the limits is allowed where it applies
+pub within_allowed : (event : Event) (old new : TableValue) → applied event old ≡ Ok new → within_limits event new ≡ Ok new → allowed event old ≡ Ok new
+within_allowed event old new at is = rw at is
+
+-- why the table does not apply an event that is within the limits
+pub why_refused : (event : Event) (old : TableValue) (fault : TableFault) → ((new : TableValue) → applied event old ≡ Ok new → within_limits event new ≡ Ok new) → Because (applied event old) fault
+    → (allowed event old ≡ Err (code_of fault)) ⊎ ((code_of fault ≡ e_outofmemory) × IsOk (allowed event old))
+why_refused event old Memory within ok = inr (refl, by (applied event old) refl ok)
+  where
+    by : (due : Result TableValue TableFault) → applied event old ≡ due → IsOk due → IsOk (allowed event old)
+    by (Ok new) at ok = rw at (rw (within new at) refl)
+    by (Err fault) at ok = absurd (true≢false (sym ok))
+why_refused event old NoObject within is = inl (rw is refl)
+why_refused event old WrongNumber within is = inl (rw is refl)
+why_refused event old NotArray within is = inl (rw is refl)
+why_refused event old (Array fault) within is = inl (rw is refl)
 
 -- locks are no part of it
 as_unlocked : (old new : TableValue) → unlocked_table new ≡ unlocked_table old → IsSound old → IsSound new

@@ -1,5 +1,5 @@
 -- A turn over a store.
-use Rattle.std.proofs.Common.{◌≡◌, ℕ, ◌≤◌, ◌++◌, List, [], length, None, Ok, refl, sym, ap, ◌∙◌, subst, arith}
+use Rattle.std.proofs.Common.{◌≡◌, inr, ℕ, ◌≤◌, ◌++◌, List, [], length, None, Ok, refl, sym, ap, ◌∙◌, subst, arith}
 use Rattle.std.proofs.lemmas.List.{append-nil}
 use Rattle.oa_image.specs.Events.{event_image}
 use Rattle.oa_journal.specs.Replays.{Replays}
@@ -17,7 +17,7 @@ use Rattle.oa_server.specs.Steps.{refusal}
 use Rattle.oa_server.specs.Turns.{Turn}
 use Rattle.oa_server.proofs.Allowed.{is_allowed}
 use Rattle.oa_server.proofs.Eventless.{has_event, undone}
-use Rattle.oa_server.proofs.Planned.{done, lacks}
+use Rattle.oa_server.proofs.Planned.{done, drafted, refused}
 
 -- no events
 no_events : (before after : TableValue) → after ≡ before → Replays [] before after
@@ -41,7 +41,7 @@ module _ (one_request : (body : List ℕ) (p q : Request) → Asks body p → As
       record {
         event = event_image planned.event;
         asked = record {
-          turn = done old body planned is new reply at leaves told;
+          turn = done old body planned (drafted old body planned is) new reply (is_allowed planned.event old.table new.table is.allows at).is leaves told;
           made = has_event old body one_request is.request is.asked planned new.table reply is.decided_is (is_allowed planned.event old.table new.table is.allows at).is (rw told refl);
           replays = replays;
         };
@@ -53,7 +53,7 @@ module _ (one_request : (body : List ℕ) (p q : Request) → Asks body p → As
   pub starved : (new : State) (reply : ReplyValue) (events events' : List ℕ) → new ≡ old → events' ≡ events → reply ≡ refusal planned.tag e_outofmemory None → IsHeldBack body reply events events' old new
   starved new reply events events' same none told = record {
     event = [];
-    asked = record { turn = lacks old body planned is new reply told same; made = undone old body reply (rw told refl); replays = no_events (held_of old) (held_of new) (ap held_of same) };
+    asked = record { turn = refused old body planned (drafted old body planned is) new reply e_outofmemory (inr (refl, is.allows)) told same; made = undone old body reply (rw told refl); replays = no_events (held_of old) (held_of new) (ap held_of same) };
     added = none ∙ sym (append-nil events);
     small = omega arith;
   }
@@ -62,6 +62,6 @@ module _ (one_request : (body : List ℕ) (p q : Request) → Asks body p → As
   pub has_turn : (new : State) → new ≡ old → HasTurn body old new
   has_turn new same = record {
     reply = refusal planned.tag e_outofmemory None;
-    asked = record { turn = lacks old body planned is new (refusal planned.tag e_outofmemory None) refl same; made = undone old body (refusal planned.tag e_outofmemory None) refl; replays = no_events (held_of old) (held_of new) (ap held_of same) };
+    asked = record { turn = refused old body planned (drafted old body planned is) new (refusal planned.tag e_outofmemory None) e_outofmemory (inr (refl, is.allows)) refl same; made = undone old body (refusal planned.tag e_outofmemory None) refl; replays = no_events (held_of old) (held_of new) (ap held_of same) };
     same = ap held_of same;
   }

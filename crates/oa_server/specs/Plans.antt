@@ -16,7 +16,14 @@ use Rattle.oa_server.specs.States.{State}
 use Rattle.oa_server.specs.Steps.{decided, refusal}
 use Rattle.oa_server.specs.Turns.{Turn}
 
--- the body asks a request of which this change is decided, and it is allowed
+-- the body asks a request of which this change is decided
+pub record IsDrafted (state : State) (body : List ℕ) (planned : Planned) : Type 0 where
+  pub request : Request
+  pub asked : Asks body request
+  pub tag : planned.tag ≡ tag_at body
+  pub decided_is : decided state request ≡ Ok (decisions.Change planned.event planned.fields)
+
+-- the same, and the change is allowed
 pub record IsPlanned (state : State) (body : List ℕ) (planned : Planned) : Type 0 where
   pub request : Request
   pub asked : Asks body request
@@ -28,6 +35,11 @@ pub record IsPlanned (state : State) (body : List ℕ) (planned : Planned) : Typ
 pub record HoldsSame (old new : State) : Type 0 where
   pub table : unlocked_table new.table ≡ unlocked_table old.table
   pub library : new.library ≡ old.library
+
+-- the turn was taken, and changed nothing that images hold; or a change was decided
+abbrev pub Drafts : State → List ℕ → State → Plan → Type 0
+Drafts old body new (Answered reply) = Turn old body reply new × HoldsSame old new
+Drafts old body new (Change planned) = IsDrafted old body planned × BringsNoLocks planned.event × (new ≡ old)
 
 -- the turn was taken, and changed nothing that images hold; or a change is to be made
 abbrev pub Plans : State → List ℕ → State → Plan → Type 0

@@ -1,20 +1,22 @@
 //! The ways in which a table changes.
-ghost use Rattle.std.specs.Prelude.{◌≡◌, ◌<◌, ◌≤◌, ◌++◌, IsErrOf, IsOk, OnErr, OnOk, false, length, true};
+ghost use Rattle.std.specs.Prelude.{◌≡◌, ◌<◌, ◌≤◌, ◌++◌, IsErrOf, IsOk, Ok, OnErr, OnOk, false, length, true};
 ghost use Rattle.oa_groups.specs.Served.{Goes};
 ghost use Rattle.oa_image.specs.Events.{event_image};
 ghost use Rattle.oa_journal.specs.Replays.{Replays};
 ghost use Rattle.oa_keeper.specs.Kept.{AllHold, HasRoom, LeavesTable};
 ghost use Rattle.oa_keeper.specs.declared.fault.KeepFault.{KeepFault};
 ghost use Rattle.oa_server.specs.Decisions.{MakesTable, RelocksTable};
-ghost use Rattle.oa_server.specs.Limits.{IsSound, allowed};
+ghost use Rattle.oa_server.specs.Limits.{ChangesTable, IsSound, allowed, within_limits};
 ghost use Rattle.oa_server.specs.declared.decision.LockChange.TheVariants.{Lock as ALock, Unlock as AnUnlock};
-ghost use Rattle.oa_table.specs.Events.{BringsNoLocks};
+ghost use Rattle.oa_table.specs.Events.{BringsNoLocks, applied};
 ghost use Rattle.oa_table.specs.Tables.{TableValue, unlocked_table};
 
 use crate::decision::LockChange;
+use crate::limits::{is_surely_within, refusal};
 use oa_disk::Disk;
 use oa_image::laws::is_event;
 use oa_keeper::{Frame, KeepFault, hold};
+use oa_model::HResult;
 use oa_store::Store;
 use oa_table::{CellName, Event, Table, TableFault};
 use std::alloc::AllocError;
@@ -29,6 +31,40 @@ pub(crate) fn apply(table: &mut Table, event: Event) -> Result<(), AllocError>
 {
     if let Err(_) = table.apply(event) {
         return Err(AllocError);
+    }
+    Ok(())
+}
+
+/// Makes a change where it is allowed. Err tells why it is not, or that no memory was found; then nothing changes.
+pub(crate) fn change(table: &mut Table, event: Event) -> Result<(), HResult>
+    requires unlocked { BringsNoLocks event }
+    requires sound { IsSound table.old }
+    ensures change { ChangesTable event table.old table.new result }
+    ensures sound { IsSound table.new }
+{
+    // Far from the limits, as most changes are, the table alone tells whether the event applies, as it makes the change.
+    if is_surely_within(table, &event) {
+        return change_within(table, event);
+    }
+    if let Some(code) = refusal(table, &event) {
+        return Err(code);
+    }
+    match apply(table, event) {
+        Ok(()) => Ok(()),
+        Err(_) => Err(HResult::E_OUTOFMEMORY),
+    }
+}
+
+/// The same of one that is within the limits, where it applies.
+fn change_within(table: &mut Table, event: Event) -> Result<(), HResult>
+    requires unlocked { BringsNoLocks event }
+    requires sound { IsSound table.old }
+    requires within { (new : TableValue) → applied event table.old ≡ Ok new → within_limits event new ≡ Ok new }
+    ensures change { ChangesTable event table.old table.new result }
+    ensures sound { IsSound table.new }
+{
+    if let Err((_, fault)) = table.apply(event) {
+        return Err(fault.code());
     }
     Ok(())
 }

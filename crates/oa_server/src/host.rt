@@ -4,14 +4,14 @@ ghost use Rattle.oa_groups.specs.Served.{Goes};
 ghost use Rattle.oa_keeper.specs.Kept.{AllHold, HasRoom, LeavesTable};
 ghost use Rattle.oa_server.specs.Decisions.{ChangesNoLocks, Decides, after_outcome, relocked, relocking};
 ghost use Rattle.oa_server.specs.Limits.{IsSound, allowed};
-ghost use Rattle.oa_server.specs.Plans.{HasNoEvent, HoldsSame, IsPlanned, Plans, PlansChange};
+ghost use Rattle.oa_server.specs.Plans.{Drafts, HasNoEvent, HoldsSame, IsDrafted, IsPlanned, Plans, PlansChange};
 ghost use Rattle.oa_server.specs.Requests.{HasTurn, IsHeldBack, held_of, is_starved};
 ghost use Rattle.oa_server.specs.Steps.{decided, reply_with, takes_memory};
 ghost use Rattle.oa_server.specs.Turns.{Run, Turn};
 ghost use Rattle.oa_table.specs.Events.{BringsNoLocks};
 ghost use Rattle.oa_table.specs.Tables.{TableValue, first_table};
 
-use crate::changes::{apply, change_locks, hold_change};
+use crate::changes::{change, change_locks, hold_change};
 use crate::decision::{Decision, LockChange, Undecided};
 use crate::fields::Fields;
 use crate::limits::refusal;
@@ -89,7 +89,7 @@ impl Host {
     pub(crate) fn turn(&mut self, body: &[u8]) -> Reply
         ensures { Turn self.old body.now result self.new }
     {
-        match self.plan(body) {
+        match self.draft(body) {
             Plan::Answered(reply) => reply,
             Plan::Change(planned) => self.make(planned),
         }
@@ -98,6 +98,18 @@ impl Host {
     /// The turn of a body, but for the change that an event makes of the table: that is planned.
     pub(crate) fn plan(&mut self, body: &[u8]) -> Plan
         ensures plans { Plans self.old body.now self.new result }
+        ensures quiet { HasNoEvent self.old body.now result }
+    {
+        one_request();
+        match self.draft(body) {
+            Plan::Answered(reply) => Plan::Answered(reply),
+            Plan::Change(Planned { tag, event, fields }) => self.plan_change(tag, event, fields),
+        }
+    }
+
+    /// The same, but a change that was decided may still be refused.
+    fn draft(&mut self, body: &[u8]) -> Plan
+        ensures drafts { Drafts self.old body.now self.new result }
         ensures quiet { HasNoEvent self.old body.now result }
     {
         one_request();
@@ -113,7 +125,7 @@ impl Host {
             Ok(Decision::Answer { code, fields }) => {
                 Plan::Answered(Reply::new(tag, code, None, fields.into_vec()))
             }
-            Ok(Decision::Change { event, fields }) => self.plan_change(tag, event, fields),
+            Ok(Decision::Change { event, fields }) => Plan::Change(Planned { tag, event, fields }),
             Ok(Decision::Relock { change, fields }) => {
                 Plan::Answered(self.relock(tag, change, fields))
             }
@@ -198,16 +210,15 @@ impl Host {
         }
     }
 
-    /// Makes a change in memory, and tells it.
+    /// Makes a change in memory, and tells it, or why it is refused.
     fn make(&mut self, planned: Planned) -> Reply
-        requires unlocked { BringsNoLocks planned.event }
-        requires allowed { IsOk (allowed planned.event self.old.table) }
-        ensures { (body : List ℕ) → IsPlanned self.old body planned → Turn self.old body result self.new }
+        requires { BringsNoLocks planned.event }
+        ensures { (body : List ℕ) → IsDrafted self.old body planned → Turn self.old body result self.new }
     {
         let Planned { tag, event, fields } = planned;
-        let Ok(()) = apply(&mut self.table, event) else {
-            return Reply::bare(self.alloc, tag, HResult::E_OUTOFMEMORY, None);
-        };
+        if let Err(code) = change(&mut self.table, event) {
+            return Reply::bare(self.alloc, tag, code, None);
+        }
         Reply::new(tag, HResult::S_OK, None, fields.into_vec())
     }
 

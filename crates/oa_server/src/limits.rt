@@ -1,9 +1,9 @@
 //! The limits on what a change makes.
-ghost use Rattle.std.specs.Prelude.{◌≡◌, Ok, length, nat_lt};
+ghost use Rattle.std.specs.Prelude.{◌≡◌, true, Ok, length, nat_lt};
 ghost use Rattle.oa_image.specs.Tables.{table_image};
 ghost use Rattle.oa_table.specs.Events.{applied};
 ghost use Rattle.oa_table.specs.Tables.{TableValue};
-ghost use Rattle.oa_server.specs.Limits.{Refuses, allowed};
+ghost use Rattle.oa_server.specs.Limits.{Refuses, allowed, within_limits};
 
 use oa_image::event_len;
 use oa_keeper::refusal_of;
@@ -30,6 +30,13 @@ pub(crate) fn refusal(table: &Table, event: &Event) -> Option<HResult>
         return Some(HResult::STG_E_MEDIUMFULL);
     }
     None
+}
+
+/// Whether an event that applies is within the limits for certain: where even the most bytes that the table can have then are few enough.
+pub(crate) fn is_surely_within(table: &Table, event: &Event) -> bool
+    ensures { result ≡ true → (new : TableValue) → applied event.now table.now ≡ Ok new → within_limits event.now new ≡ Ok new }
+{
+    event_len(event) <= MAX_EVENT_BYTES && table.most_after(event) <= MAX_TABLE_BYTES
 }
 
 /// Whether the image of the table has too many bytes after an event that applies. Where even the most that it can have are few, they are not

@@ -1,5 +1,5 @@
 // The declarations of a member.
-ghost use Rattle.std.specs.Prelude.{◌≡◌, map, slice_get};
+ghost use Rattle.std.specs.Prelude.{◌≡◌, is_some, map, slice_get};
 ghost use Rattle.std.specs.List.{filter_map};
 ghost use Rattle.oa_typelib.specs.Declarations.{declarations, own_parameters};
 ghost use Rattle.oa_typelib.specs.Defaults.{default_value};
@@ -95,6 +95,19 @@ fn form_at<'a>(interface: &Dispinterface<'a>, places: &[usize], kind: Kind) -> O
     }
 }
 
+// Whether some declaration lets a call read a value, or set it. Looks at no more of a declaration than its kind.
+fn any_lets(interface: &Dispinterface<'_>, places: &[usize], kind: Kind) -> bool
+    ensures { result ≡ is_some (form_for kind (filter_map (slice_get (declarations interface.now)) places.now)) }
+{
+    let Some((place, places)) = places.split_first() else {
+        return false;
+    };
+    match interface.kind_at(*place) {
+        Some(found) => found.lets(kind) || any_lets(interface, places, kind),
+        None => any_lets(interface, places, kind),
+    }
+}
+
 /// Declarations of an interface.
 #[derive(Drop)]
 pub(crate) struct Forms<'a> {
@@ -125,6 +138,13 @@ impl<'a> Forms<'a> {
         ensures { result ≡ form_for kind self.now }
     {
         form_at(&self.interface, self.places, kind)
+    }
+
+    /// Whether there is such a one.
+    pub(crate) fn any_lets(&self, kind: Kind) -> bool
+        ensures { result ≡ is_some (form_for kind self.now) }
+    {
+        any_lets(&self.interface, self.places, kind)
     }
 
     /// The one that speaks for the member.

@@ -55,8 +55,8 @@ impl<'a> Member<'a> {
             value_type: declaration.type_of_value()?,
             parameters: declaration.own_parameters(),
             defaults: main.own_defaults(),
-            has_get: forms.form_for(Kind::Get).is_some(),
-            has_put: forms.form_for(Kind::Put).is_some(),
+            has_get: forms.any_lets(Kind::Get),
+            has_put: forms.any_lets(Kind::Put),
         })
     }
 

@@ -1,6 +1,7 @@
 // The members of an interface: its declarations by their names and by their DISPIDs.
 ghost use Rattle.std.specs.Prelude.{◌≡◌, [], true, List, ℕ, IfOk, IfSome, OnOk, map, position, slice_get, is_some, option_copied};
 ghost use Rattle.std.specs.List.{filter, position_or_len};
+ghost use Rattle.std.specs.Option.{option_map};
 ghost use Rattle.std.specs.Ordering.{int_eq};
 ghost use Rattle.indexmap.specs.IndexSet.{insert_key};
 ghost use Rattle.oa_model.specs.Folding.{folded_name};
@@ -17,7 +18,7 @@ ghost use Rattle.oa_typelib.specs.Typed.{IsDeclarable};
 
 use crate::access::{Access, Kind, MemberFault};
 use crate::checks::{entry_names, item_name};
-use crate::declaration::{Declaration, declarations};
+use crate::declaration::{Declaration, DeclarationKind, declarations};
 use crate::default_value::value_of_default;
 use crate::forms::{Form, Forms, declaration_at};
 use crate::member::{Member, find, property};
@@ -434,6 +435,14 @@ impl<'a> Dispinterface<'a> {
         let declaration = declaration_at(interface, place)?;
         let defaults = at(members.defaults.as_slice(), place)?;
         Some(Form::of(declaration, defaults.as_slice()))
+    }
+
+    /// What the declaration at a place declares.
+    pub(crate) fn kind_at(&self, place: usize) -> Option<DeclarationKind>
+        ensures { result ≡ option_map (λ d. d.kind) (slice_get (declarations self.now) place) }
+    {
+        let declaration = declaration_at(self.interface, place)?;
+        Some(declaration.kind)
     }
 
     /// The same interface again.

@@ -1,0 +1,31 @@
+use Rattle.std.proofs.Common.{Ok, Err, refl}
+use Rattle.oa_server.specs.declared.decision.Decision.TheVariants as decisions
+use Rattle.oa_server.proofs.Eventless.{eventless, relocked_eventless}
+use Rattle.oa_server.proofs.Refused.{refused_turn}
+use Rattle.oa_server.proofs.host.Host.draft.Goals as goal
+
+pub returns-in-Err-clause-drafts : goal.returns-in-Err-clause-drafts
+returns-in-Err-clause-drafts c = (
+  refused_turn c.args.self.now c.args.self.now c.args.body.now c.bare-reply.result c.in-Err.fault c.in-Err.ensures
+      (rw (c.bare-reply.ensures, c.tag_of-tag.ensures, c.code.ensures, c.index.ensures) refl) refl,
+  record { table = refl; library = refl },
+)
+
+pub returns-in-Ok-Change-clause-drafts : goal.returns-in-Ok-Change-clause-drafts
+returns-in-Ok-Change-clause-drafts c = (
+  record { request = c.in-Ok.request; asked = c.in-Ok.ensures; tag = c.tag_of-tag.ensures; decided_is = rw c.in-Ok-Change.field-0-is at c.in-Ok-Change.ensures.decided },
+  rw c.in-Ok-Change.field-0-is at c.in-Ok-Change.ensures.unlocked,
+  refl,
+)
+
+pub returns-in-Ok-Answer-clause-quiet : goal.returns-in-Ok-Answer-clause-quiet
+returns-in-Ok-Answer-clause-quiet c =
+    eventless c.args.self.now c.args.body.now c.one_request.ensures c.in-Ok.request c.in-Ok.ensures (Ok (decisions.Answer c.in-Ok-Answer.code c.in-Ok-Answer.fields)) c.new.result (rw c.in-Ok-Answer.field-0-is at c.in-Ok-Answer.ensures.decided) refl
+
+pub returns-in-Ok-Relock-clause-quiet : goal.returns-in-Ok-Relock-clause-quiet
+returns-in-Ok-Relock-clause-quiet c =
+    relocked_eventless c.args.self.now c.args.body.now c.one_request.ensures c.in-Ok.request c.in-Ok.ensures c.in-Ok-Relock.change c.in-Ok-Relock.fields c.relock.result (rw c.in-Ok-Relock.field-0-is at c.in-Ok-Relock.ensures.decided)
+
+pub returns-in-Err-Refused-clause-quiet : goal.returns-in-Err-Refused-clause-quiet
+returns-in-Err-Refused-clause-quiet c =
+    eventless c.args.self.now c.args.body.now c.one_request.ensures c.in-Ok.request c.in-Ok.ensures (Err c.in-Err-Refused.refusal) c.refuse.result (rw c.in-Err-Refused.field-0-is at c.in-Err-Refused.ensures.decided) refl

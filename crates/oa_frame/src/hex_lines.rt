@@ -1,8 +1,9 @@
 //! Bodies as lines of hexadecimal digits.
-ghost use Rattle.std.specs.Prelude.{◌≡◌, ◌+◌, ◌≤◌, ◌*◌, ℕ, [], true, false, length, take, vec_capacity, Ok, IfSome, IsErr, IsNone};
-ghost use Rattle.hex.specs.Hex.{decode_of, hex_digit_value, pair_value};
+ghost use Rattle.std.specs.Prelude.{◌≡◌, ◌<◌, ◌≤◌, ◌+◌, ◌*◌, ℕ, [], true, false, length, slice_index, take, vec_capacity, Ok, IfSome, IsErr, IsNone};
+ghost use Rattle.hex.specs.Hex.{decode_of, pair_value};
 ghost use Rattle.oa_model.specs.Limits.{max_request_bytes, max_line_characters};
 ghost use Rattle.oa_stream.specs.Ahead.{ahead};
+ghost use Rattle.oa_frame.specs.Digits.{HasValue};
 ghost use Rattle.oa_frame.specs.Lines.{Judges, without_return};
 ghost use Rattle.oa_frame.specs.Framings.{Hands, Inputs, IsWithin, hex_lines, is_fault};
 ghost use Rattle.oa_frame.specs.Paces.{Paced};
@@ -11,6 +12,9 @@ use crate::lines::{Found, LINE_LIMIT, read_line};
 use crate::{End, Read};
 use memchr::memchr;
 use oa_stream::{Ahead, Sink, Source, Unwritten};
+
+/// How many bytes are decoded at a time.
+const BLOCK: usize = 16;
 
 /// Reads the body of the line with this number. A line that was read ahead whole is decoded from where it stands.
 pub(crate) fn read_hex<R: Source + Drop, W: Sink>(
@@ -91,7 +95,17 @@ fn decode(line: &[u8], buffer: &mut [u8]) -> Option<usize>
     }
     let count = line.len() / 2;
     let mut good = true;
-    'pairs: for i in 0..count {
+    let mut at = 0;
+    'groups: while count - at >= BLOCK {
+        let values = values_at(line, 2 * at);
+        'joined: for k in 0..BLOCK {
+            let (byte, is_pair) = join(values[2 * k], values[2 * k + 1]);
+            buffer[at + k] = byte;
+            good = good & is_pair;
+        }
+        at += BLOCK;
+    }
+    'pairs: for i in at..count {
         let (byte, is_pair) = pair(line[2 * i], line[2 * i + 1]);
         buffer[i] = byte;
         good = good & is_pair;
@@ -99,12 +113,31 @@ fn decode(line: &[u8], buffer: &mut [u8]) -> Option<usize>
     if good { Some(count) } else { None }
 }
 
+/// The values of the digits of a block, which stand side by side: so many are read at a time.
+fn values_at(line: &[u8], from: usize) -> [u8; 32]
+    requires { from + 32 ≤ length line.now }
+    ensures { (k : ℕ) → k < 32 → HasValue (slice_index line.now (from + k)) (slice_index result k) }
+{
+    let mut values = [0u8; 32];
+    'digits: for k in 0..32 {
+        values[k] = digit(line[from + k]);
+    }
+    values
+}
+
 /// The byte of two digits, where they are digits.
 fn pair(high: u8, low: u8) -> (u8, bool)
     ensures some { result.1 ≡ true → (i : ℕ) → pair_value high low i ≡ Ok result.0 }
     ensures none { result.1 ≡ false → (i : ℕ) → IsErr (pair_value high low i) }
 {
-    let (high, low) = (digit(high), digit(low));
+    join(digit(high), digit(low))
+}
+
+/// The byte of two digits with these values, where they are digits.
+fn join(high: u8, low: u8) -> (u8, bool)
+    ensures some { result.1 ≡ true → (c d : ℕ) → HasValue c high → HasValue d low → (i : ℕ) → pair_value c d i ≡ Ok result.0 }
+    ensures none { result.1 ≡ false → (c d : ℕ) → HasValue c high → HasValue d low → (i : ℕ) → IsErr (pair_value c d i) }
+{
     (
         high.wrapping_mul(16).wrapping_add(low),
         high < 16 && low < 16,
@@ -113,8 +146,7 @@ fn pair(high: u8, low: u8) -> (u8, bool)
 
 /// The value of a digit; 16 or more for what is none.
 fn digit(c: u8) -> u8
-    ensures some { IfSome (hex_digit_value c) (λ value. result ≡ value) }
-    ensures none { IsNone (hex_digit_value c) → 16 ≤ result }
+    ensures { HasValue c result }
 {
     let number = c.wrapping_sub(b'0');
     let letter = c.wrapping_sub(b'A').min(c.wrapping_sub(b'a'));

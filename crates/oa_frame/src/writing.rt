@@ -9,7 +9,7 @@ use crate::Framing;
 use oa_stream::{Sink, Unwritten};
 
 /// How many bytes are turned into digits at a time, so that writing takes no memory.
-const PIECE: usize = 32;
+const PIECE: usize = 128;
 
 /// The most bytes of a reply that is put at once.
 const SHORT: usize = 63;
@@ -130,13 +130,13 @@ fn put_hex<W: Sink>(writer: &mut W, bytes: &[u8]) -> Result<(), Unwritten>
     Ok(())
 }
 
-// Writes at most 32 bytes as digits.
+// Writes at most 128 bytes as digits.
 fn put_piece<W: Sink>(writer: &mut W, piece: &[u8]) -> Result<(), Unwritten>
-    requires short { length piece.now ≤ 32 }
+    requires short { length piece.now ≤ 128 }
     requires unbroken { (W.out writer.old).broken ≡ false }
     ensures { Puts result (W.out writer.old) (W.out writer.new) (encode_lower piece.now) }
 {
-    let mut digits = [0u8; 64];
+    let mut digits = [0u8; 256];
     encode(piece, &mut digits);
     writer.put(&digits[..2 * piece.len()])
 }

@@ -1,6 +1,6 @@
 -- The requests in hand of a session over a store, and the end of their group.
 use Rattle.std.proofs.Common.{rules, ◌≡◌, ◌⊎◌, inl, inr, ℕ, ◌≤◌, true, false, true≢false, List, [], ◌∷◌, ◌++◌, length, map, refl, sym, ap, ◌∙◌, subst, arith}
-use Rattle.std.proofs.lemmas.List.{length-map, map_push, same_from_push}
+use Rattle.std.proofs.lemmas.List.{append-nil, length-map, map_push, nil_from_length, same_from_push}
 use Rattle.oa_disk.specs.declared.disk.Disk.{Ghosts}
 use Rattle.oa_groups.specs.Desks.{Desk, IsEnded, IsFailed, IsHeld, IsSettled}
 use Rattle.oa_groups.specs.Groups.{events_in, fills, is_full}
@@ -83,16 +83,19 @@ module _ {D : Type 0} {g : Ghosts D} (size : ℕ) where
         bodies_are = more_bodies;
         run = subst (λ (s : State). Run requests first more s) (sym settled.state) (more_run mid.state one.turn);
         short = not_before;
+        ends = inl (sym (full_is size mid.pending mid.events more (more_pending mid one) (more_events mid one)) ∙ full);
         whole = λ going. (sym (full_is size mid.pending mid.events more (more_pending mid one) (more_events mid one)) ∙ full, (settled.well going).0 ∙ more_pending mid one);
       }
 
       -- the checkpoint before it fails
-      pub group_faulted : (new : Desk State ReplyValue D g) (told : List ReplyValue) → requests.Turn asked before new.state → new.store.stopped ≡ true → IsGroup size new.store first (bodies ++ body ∷ []) told new.state
-      group_faulted new told turn stopped = record {
+      pub group_faulted : (new : Desk State ReplyValue D g) (told : List ReplyValue) → requests.Turn asked before new.state → length events ≡ 0 → event ≡ [] → new.store.stopped ≡ true
+          → IsGroup size new.store first (bodies ++ body ∷ []) told new.state
+      group_faulted new told turn empty none stopped = record {
         group = more;
         bodies_are = more_bodies;
         run = more_run new.state turn;
         short = not_before;
+        ends = inr (events_push was.held asked ∙ rw (none, append-nil (events_in was.held)) (sym was.events_are ∙ nil_from_length events empty));
         whole = λ going. absurd (true≢false (sym stopped ∙ going));
       }
 

@@ -289,7 +289,7 @@ module _ {D : Type 0} {g : Ghosts D} (only : (d : D) (c : List ℕ) → IsTrue (
             none (inl going) = (filled.settled.well going).1
             none (inr stopped) = is.ready.late stopped
         by (inr (inr (inl faulted))) = ends (is.ready.late faulted.failed.stopped) (λ going. absurd (true≢false (sym faulted.failed.stopped ∙ going)))
-            (λ going. group_faulted size first old before hand.replies.items hand.frame bodies (was.short.0 going) body faulted.failed.reply faulted.failed.event now is.told faulted.failed.turn faulted.failed.stopped)
+            (λ going. group_faulted size first old before hand.replies.items hand.frame bodies (was.short.0 going) body faulted.failed.reply faulted.failed.event now is.told faulted.failed.turn faulted.failed.first faulted.failed.none faulted.failed.stopped)
         by (inr (inr (inr too_late))) = ends (is.ready.late too_late.over.is) (λ going. absurd (true≢false (sym too_late.over.is ∙ going)))
             (λ going. absurd (true≢false (sym too_late.over.was ∙ (was.short.0 going).going)))
 

@@ -2,6 +2,7 @@
 ghost use Rattle.std.specs.Prelude.{◌≡◌, ◌<◌, ◌≤◌, ◌++◌, IsErrOf, IsOk, Ok, OnErr, OnOk, false, length, true};
 ghost use Rattle.oa_groups.specs.Served.{Goes};
 ghost use Rattle.oa_image.specs.Events.{event_image};
+ghost use Rattle.oa_journal.specs.Bank.{bank_bytes};
 ghost use Rattle.oa_journal.specs.Replays.{Replays};
 ghost use Rattle.oa_keeper.specs.Kept.{AllHold, HasRoom, LeavesTable};
 ghost use Rattle.oa_keeper.specs.declared.fault.KeepFault.{KeepFault};
@@ -128,6 +129,8 @@ pub(crate) fn hold_change<D: Disk>(
     ensures same { OnErr result (frame.new ≡ frame.old) }
     ensures any_moment { (committed : TableValue) → (length frame.old ≡ 0 → unlocked_table table.old ≡ committed) → AllHold store.old committed → LeavesTable store.old store.new committed }
     ensures each { store.new.stopped ≡ false → (committed : TableValue) → (length frame.old ≡ 0 → unlocked_table table.old ≡ committed) → AllHold store.old committed → AllHold store.new committed }
+    // No checkpoint is made that is not due.
+    ensures undue { 1572869 ≤ bank_bytes - store.old.bank.gate → store.new.disk ≡ store.old.disk }
     ensures room { store.new.stopped ≡ false → HasRoom frame.new store.new }
     ensures going { (IsErrOf result KeepFault.Write → ⊥) → store.new.stopped ≡ false }
     ensures stops { IsErrOf result KeepFault.Write → store.new.stopped ≡ true }

@@ -1,6 +1,7 @@
 //! A library and a table in memory, and one turn after another.
-ghost use Rattle.std.specs.Prelude.{◌≡◌, ◌⊎◌, ◌<◌, List, ℕ, [], map, length, true, false, IsOk, IfOk, OnOk, OnErr};
+ghost use Rattle.std.specs.Prelude.{◌≡◌, ◌⊎◌, ◌<◌, ◌≤◌, List, ℕ, [], map, length, true, false, IsOk, IfOk, OnOk, OnErr};
 ghost use Rattle.oa_groups.specs.Served.{Goes};
+ghost use Rattle.oa_journal.specs.Bank.{bank_bytes};
 ghost use Rattle.oa_keeper.specs.Kept.{AllHold, HasRoom, LeavesTable};
 ghost use Rattle.oa_server.specs.Decisions.{ChangesNoLocks, Decides, after_outcome, relocked, relocking};
 ghost use Rattle.oa_server.specs.Limits.{IsSound, allowed};
@@ -154,6 +155,8 @@ impl Host {
         ensures calls { IfOk result (λ reply. (store.new.disk ≡ store.old.disk) ⊎ ((length frame.old < length frame.new) ⊎ (is_starved reply ≡ true))) }
         ensures any_moment { (committed : TableValue) → (length frame.old ≡ 0 → held_of self.old ≡ committed) → AllHold store.old committed → LeavesTable store.old store.new committed }
         ensures each { store.new.stopped ≡ false → (committed : TableValue) → (length frame.old ≡ 0 → held_of self.old ≡ committed) → AllHold store.old committed → AllHold store.new committed }
+        // No checkpoint is made that is not due.
+        ensures undue { 1572869 ≤ bank_bytes - store.old.bank.gate → store.new.disk ≡ store.old.disk }
         ensures room { store.new.stopped ≡ false → HasRoom frame.new store.new }
         ensures going { OnOk result (store.new.stopped ≡ false) }
         ensures stops { OnErr result (store.new.stopped ≡ true) }
@@ -184,6 +187,8 @@ impl Host {
         ensures calls { IfOk result (λ reply. (store.new.disk ≡ store.old.disk) ⊎ ((length frame.old < length frame.new) ⊎ (is_starved reply ≡ true))) }
         ensures any_moment { (committed : TableValue) → (length frame.old ≡ 0 → held_of self.old ≡ committed) → AllHold store.old committed → LeavesTable store.old store.new committed }
         ensures each { store.new.stopped ≡ false → (committed : TableValue) → (length frame.old ≡ 0 → held_of self.old ≡ committed) → AllHold store.old committed → AllHold store.new committed }
+        // No checkpoint is made that is not due.
+        ensures undue { 1572869 ≤ bank_bytes - store.old.bank.gate → store.new.disk ≡ store.old.disk }
         ensures room { store.new.stopped ≡ false → HasRoom frame.new store.new }
         ensures going { OnOk result (store.new.stopped ≡ false) }
         ensures stops { OnErr result (store.new.stopped ≡ true) }

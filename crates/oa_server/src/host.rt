@@ -1,5 +1,5 @@
 //! A library and a table in memory, and one turn after another.
-ghost use Rattle.std.specs.Prelude.{◌≡◌, ◌⊎◌, ◌<◌, ◌≤◌, List, ℕ, [], map, length, true, false, IsOk, IfOk, OnOk, OnErr};
+ghost use Rattle.std.specs.Prelude.{◌≡◌, ◌⊎◌, ◌-◌, ◌<◌, ◌≤◌, List, ℕ, [], map, length, true, false, IsOk, IfOk, OnOk, OnErr};
 ghost use Rattle.oa_groups.specs.Served.{Goes};
 ghost use Rattle.oa_journal.specs.Bank.{bank_bytes};
 ghost use Rattle.oa_keeper.specs.Kept.{AllHold, HasRoom, LeavesTable};

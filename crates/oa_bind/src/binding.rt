@@ -1,5 +1,6 @@
 //! Binding a call.
 ghost use Rattle.std.specs.Prelude.{◌≡◌, ◌≤◌, length, map};
+ghost use Rattle.oa_model.specs.Limits.{max_arguments};
 ghost use Rattle.oa_typelib.specs.Bindable.{IsBindable};
 ghost use Rattle.oa_typelib.specs.Defaults.{default_value};
 ghost use Rattle.oa_variant.specs.Variants.{HasZero};
@@ -33,7 +34,7 @@ pub fn bind(
     named: &[i32],
 ) -> Result<Call, BindFault>
     requires bindable { IsBindable member.now }
-    requires named { length named.now ≤ 32 }
+    requires named { length named.now ≤ max_arguments }
     ensures { Answers (λ c. c) (bound_to member.now kind (record { named = named.now; arguments = arguments.items })) result }
 {
     bind_parts(
@@ -61,7 +62,7 @@ fn bind_parts(
     requires defaults { defaults.now ≡ map default_value parameters.now }
     requires few { length parameters.now ≤ 16 }
     requires zero { HasZero declared }
-    requires named { length named.now ≤ 32 }
+    requires named { length named.now ≤ max_arguments }
     ensures { Answers (λ c. c) (bound parameters.now declared kind (record { named = named.now; arguments = arguments.items })) result }
 {
     check_names(parameters, kind, named, arguments.len())?;

@@ -1,6 +1,7 @@
 //! What is refused before any value is looked at. None of it takes memory.
 ghost use Rattle.std.specs.Prelude.{◌≡◌, ◌≤◌, ◌<◌, length, true, IfSome, OnOk};
 ghost use Rattle.std.specs.List.{position_from};
+ghost use Rattle.oa_model.specs.Limits.{max_arguments};
 ghost use Rattle.oa_bind.specs.Names.{complete, is_consistent, lacks, most, names_none, repeats, well_named};
 ghost use Rattle.oa_bind.specs.Refusals.{any_at};
 
@@ -13,7 +14,7 @@ use oa_variant::Variant;
 
 /// Whether a DISPID stands twice. Each is compared with those behind it.
 fn has_repeat(named: &[i32]) -> bool
-    requires { length named.now ≤ 32 }
+    requires { length named.now ≤ max_arguments }
     ensures { result ≡ repeats named.now }
 {
     'named: for i in 0..named.len() {
@@ -26,7 +27,7 @@ fn has_repeat(named: &[i32]) -> bool
 
 /// Whether no more arguments are named than there are, none twice, and a new value in a put alone.
 fn is_consistent(kind: Kind, named: &[i32], count: usize) -> bool
-    requires { length named.now ≤ 32 }
+    requires { length named.now ≤ max_arguments }
     ensures test { result ≡ is_consistent kind named.now count }
     ensures few { result ≡ true → length named.now ≤ count }
 {
@@ -110,7 +111,7 @@ pub(crate) fn check_names(
     count: usize,
 ) -> Result<(), BindFault>
     requires parameters { length parameters.now ≤ 16 }
-    requires named { length named.now ≤ 32 }
+    requires named { length named.now ≤ max_arguments }
     ensures value { result ≡ well_named parameters.now kind named.now count }
     ensures named { OnOk result (length named.now ≤ count) }
     ensures few { OnOk result (count ≤ 17) }

@@ -1,5 +1,6 @@
 -- What is left of a list where nothing is left out, and what stands at the end of the descriptions.
-use Rattle.std.proofs.Common.{◌≡◌, ◌+◌, ℕ, suc, List, [], ◌∷◌, ◌++◌, length, map, slice_get, Option, None, Some, IsSome, IfSome, refl, sym, ap, subst, ◌∙◌, true≢false, arith}
+use Rattle.std.proofs.Common.{◌≡◌, ◌+◌, ℕ, suc, List, [], ◌∷◌, ◌++◌, length, map, slice_get, Option, None, Some, IsSome, IfSome, refl, sym}
+use Rattle.std.proofs.Common.{ap, subst, ◌∙◌, true≢false, arith}
 use Rattle.std.specs.List.{AllByRecursion, cons_option, filter_map}
 use Rattle.std.specs.Option.{option_map}
 use Rattle.std.proofs.lemmas.List.{length-map}
@@ -9,12 +10,14 @@ use Rattle.oa_idl.specs.Values.{CoclassValue}
 use Rattle.oa_idl.specs.declared.items.Item.{Item}
 use Rattle.oa_idl.specs.declared.items.Item.TheVariants.{Interface, Coclass}
 use Rattle.oa_typelib.specs.Checked.{IsChecked, IsClass, HasClass}
-use Rattle.oa_typelib.specs.Descriptions.{class_description, classes_of, description_at, entry_description, interface_description, interfaces_of}
+use Rattle.oa_typelib.specs.Descriptions.{class_description, classes_of, description_at, entry_description, interface_description}
+use Rattle.oa_typelib.specs.Descriptions.{interfaces_of}
 use Rattle.oa_typelib.proofs.Classes.{tree_whole}
 use Rattle.oa_typelib.proofs.Found.{get_all}
 
 -- what every member has is left of the list with no member left out
-one_there : {Y : Type 0} (o : Option Y) (ys : List Y) (os : List (Option Y)) → IsSome o → map Some ys ≡ os → map Some (cons_option o ys) ≡ o ∷ os
+one_there : {Y : Type 0} (o : Option Y) (ys : List Y) (os : List (Option Y)) → IsSome o → map Some ys ≡ os
+    → map Some (cons_option o ys) ≡ o ∷ os
 one_there None ys os some rest = absurd (true≢false (sym some))
 one_there (Some y) ys os some rest = ap (λ (zs : List (Option _)). Some y ∷ zs) rest
 
@@ -28,7 +31,8 @@ classes ws [] all = tt
 classes ws (Interface i ∷ xs) all = classes ws xs all.1
 classes ws (Coclass c ∷ xs) all = (all.0, classes ws xs all.1)
 
-pub entries_there : (library : TreeValue) (index : ℕ) (class : CoclassValue) → IsChecked library → slice_get (classes_of library.items) index ≡ Some class
+pub entries_there : (library : TreeValue) (index : ℕ) (class : CoclassValue) → IsChecked library
+    → slice_get (classes_of library.items) index ≡ Some class
     → map Some (filter_map (entry_description (interfaces_of library.items)) class.entries) ≡ map (entry_description (interfaces_of library.items)) class.entries
 entries_there library index class checked at =
     let all = classes library.items library.items (tree_whole library checked).classes in

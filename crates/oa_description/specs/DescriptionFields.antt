@@ -1,7 +1,10 @@
--- The bytes of a description in a reply (this project's choice). Its numbers are those of MS-OAUT: TYPEKIND, INVOKEKIND, VARFLAG_FREADONLY, VARTYPE, PARAMFLAGS.
+-- The bytes of a description in a reply (this project's choice). Its numbers are those of MS-OAUT: TYPEKIND, INVOKEKIND, VARFLAG_FREADONLY,
+-- VARTYPE, PARAMFLAGS.
 use Rattle.std.specs.Prelude.{ℕ, ◌+◌, Bool, if◌then◌else◌, List, [], ◌++◌, length, Option, Some, None, is_some}
 use Rattle.std.specs.List.{flat_map}
 use Rattle.oa_model.specs.Guids.{wire_order}
+use Rattle.oa_model.specs.Invoke.{coclass_kind, default_flag, has_default_flag, in_flag, interface_kind, invoke_get, invoke_method}
+use Rattle.oa_model.specs.Invoke.{invoke_put, optional_flag, readonly_flag, vt_void}
 use Rattle.oa_model.specs.Types.{vt_of_value}
 use Rattle.oa_model.specs.declared.var_type.ValueType.{ValueType}
 use Rattle.oa_variant.specs.declared.scalar.Scalar.{Scalar}
@@ -9,25 +12,26 @@ use Rattle.oa_variant.specs.declared.variant.Variant.TheVariants.{One}
 use Rattle.oa_record.specs.Replies.{word, half_word, signed_word, string_field, variant_field}
 use Rattle.oa_typelib.specs.declared.declaration.DeclarationKind.{DeclarationKind}
 use Rattle.oa_typelib.specs.declared.declaration.DeclarationKind.TheVariants.{Property, ReadonlyProperty, Method, Get, Put}
-use Rattle.oa_typelib.specs.DescriptionValues.{ParameterDescription, MemberDescription, EntryDescription, ContentDescription, DescriptionValue}
+use Rattle.oa_typelib.specs.DescriptionValues.{ParameterDescription, MemberDescription, EntryDescription, ContentDescription}
+use Rattle.oa_typelib.specs.DescriptionValues.{DescriptionValue}
 use Rattle.oa_typelib.specs.DescriptionValues.ContentDescription.{OfInterface, OfCoclass}
 
--- VT_VOID stands for no type
+-- VT_VOID where there is none
 abbrev pub type_number : Option ValueType → ℕ
-type_number None = 24
+type_number None = vt_void
 type_number (Some t) = vt_of_value t
 
 -- how a member is called; 0 for one of `properties:`
 abbrev pub invoke_kind : DeclarationKind → ℕ
 invoke_kind Property = 0
 invoke_kind ReadonlyProperty = 0
-invoke_kind Method = 1
-invoke_kind Get = 2
-invoke_kind Put = 4
+invoke_kind Method = invoke_method
+invoke_kind Get = invoke_get
+invoke_kind Put = invoke_put
 
 abbrev pub member_flags : DeclarationKind → ℕ
 member_flags Property = 0
-member_flags ReadonlyProperty = 1
+member_flags ReadonlyProperty = readonly_flag
 member_flags Method = 0
 member_flags Get = 0
 member_flags Put = 0
@@ -35,9 +39,8 @@ member_flags Put = 0
 abbrev pub flag : Bool → ℕ → ℕ
 flag b n = if b then n else 0
 
--- PARAMFLAG_FIN, PARAMFLAG_FOPT, PARAMFLAG_FHASDEFAULT
 abbrev pub parameter_flags : ParameterDescription → ℕ
-parameter_flags p = flag p.is_in 1 + flag p.is_optional 16 + flag (is_some p.default) 32
+parameter_flags p = flag p.is_in in_flag + flag p.is_optional optional_flag + flag (is_some p.default) has_default_flag
 
 -- type, flags, a reserved number
 unfoldable pub parameter_head : ParameterDescription → List ℕ
@@ -55,19 +58,19 @@ parameter_field p = parameter_head p ++ (string_field p.name ++ default_field p.
 unfoldable pub member_head : MemberDescription → List ℕ
 member_head m =
     signed_word m.id
-    ++ (half_word (invoke_kind m.kind) ++ (half_word (member_flags m.kind) ++ (half_word (type_number m.value_type) ++ (half_word (length m.parameters) ++ word 0))))
+    ++ (half_word (invoke_kind m.kind) ++ (half_word (member_flags m.kind)
+    ++ (half_word (type_number m.value_type) ++ (half_word (length m.parameters) ++ word 0))))
 
 unfoldable pub member_field : MemberDescription → List ℕ
 member_field m = member_head m ++ (string_field m.name ++ flat_map parameter_field m.parameters)
 
--- 1 for the default interface, the index of the interface
+-- the flag of the default interface, the index of the interface
 unfoldable pub entry_field : EntryDescription → List ℕ
-entry_field e = word (flag e.is_default 1) ++ word e.interface
+entry_field e = word (flag e.is_default default_flag) ++ word e.interface
 
--- TKIND_DISPATCH, TKIND_COCLASS
 abbrev pub type_kind : ContentDescription → ℕ
-type_kind (OfInterface members) = 4
-type_kind (OfCoclass entries) = 5
+type_kind (OfInterface members) = interface_kind
+type_kind (OfCoclass entries) = coclass_kind
 
 abbrev pub entry_count : ContentDescription → ℕ
 entry_count (OfInterface members) = length members

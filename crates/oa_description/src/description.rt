@@ -3,11 +3,16 @@ ghost use Rattle.std.specs.Prelude.{◌≡◌, ◌≤◌, ◌++◌, length, IfOk
 ghost use Rattle.std.specs.List.{flat_map};
 ghost use Rattle.oa_record.specs.Replies.{string_field};
 ghost use Rattle.oa_typelib.specs.Contents.{content_of};
-ghost use Rattle.oa_description.specs.DescriptionFields.{content_head, default_field, description_field, description_head, entry_field, entry_fields, flag, invoke_kind, member_field, member_flags, member_head, parameter_field, parameter_flags, parameter_head, type_number};
+ghost use Rattle.oa_description.specs.DescriptionFields.{content_head, default_field, description_field, description_head, entry_field};
+ghost use Rattle.oa_description.specs.DescriptionFields.{entry_fields, flag, invoke_kind, member_field, member_flags, member_head};
+ghost use Rattle.oa_description.specs.DescriptionFields.{parameter_field, parameter_flags, parameter_head, type_number};
 
 use oa_array::Cell;
 use oa_idl::Name;
-use oa_model::{ValueType, guid_to_wire};
+use oa_model::{
+    COCLASS_KIND, DEFAULT_FLAG, HAS_DEFAULT_FLAG, IN_FLAG, INTERFACE_KIND, INVOKE_GET,
+    INVOKE_METHOD, INVOKE_PUT, OPTIONAL_FLAG, READONLY_FLAG, VT_VOID, ValueType, guid_to_wire,
+};
 use oa_record::{MAX_FIELDS_BYTES, string_field, variant_field};
 use oa_typelib::{
     Content, DeclarationKind, DescribedEntry, DescribedMember, DescribedParameter, Description,
@@ -15,22 +20,13 @@ use oa_typelib::{
 use oa_variant::{Scalar, Variant};
 use std::alloc::{AllocError, Global};
 
-/// The type of a method without a result: VT_VOID.
-const VOID: u16 = 24;
-
-/// The kind of an interface: TKIND_DISPATCH.
-const DISPATCH: u32 = 4;
-
-/// The kind of a coclass: TKIND_COCLASS.
-const COCLASS: u32 = 5;
-
 /// The number of a type.
 fn type_number(value_type: Option<ValueType>) -> u16
     ensures { result ≡ type_number value_type }
 {
     match value_type {
         Some(value_type) => value_type.vt(),
-        None => VOID,
+        None => VT_VOID,
     }
 }
 
@@ -40,9 +36,9 @@ fn invoke_kind(kind: DeclarationKind) -> u16
 {
     match kind {
         DeclarationKind::Property | DeclarationKind::ReadonlyProperty => 0,
-        DeclarationKind::Method => 1,
-        DeclarationKind::Get => 2,
-        DeclarationKind::Put => 4,
+        DeclarationKind::Method => INVOKE_METHOD,
+        DeclarationKind::Get => INVOKE_GET,
+        DeclarationKind::Put => INVOKE_PUT,
     }
 }
 
@@ -51,7 +47,7 @@ fn member_flags(kind: DeclarationKind) -> u16
     ensures { result ≡ member_flags kind }
 {
     match kind {
-        DeclarationKind::ReadonlyProperty => 1,
+        DeclarationKind::ReadonlyProperty => READONLY_FLAG,
         DeclarationKind::Property
         | DeclarationKind::Method
         | DeclarationKind::Get
@@ -70,9 +66,9 @@ fn flag(is_set: bool, n: u16) -> u16
 fn parameter_flags(parameter: &DescribedParameter<'_>) -> u16
     ensures { result ≡ parameter_flags parameter.now }
 {
-    let of_in = flag(parameter.is_in, 1);
-    let of_optional = flag(parameter.is_optional, 16);
-    let of_default = flag(parameter.default.is_some(), 32);
+    let of_in = flag(parameter.is_in, IN_FLAG);
+    let of_optional = flag(parameter.is_optional, OPTIONAL_FLAG);
+    let of_default = flag(parameter.default.is_some(), HAS_DEFAULT_FLAG);
     of_in + of_optional + of_default
 }
 
@@ -192,7 +188,7 @@ fn put_members(out: &mut Vec<u8>, members: &[DescribedMember<'_>]) -> Result<(),
 fn entry_field(entry: &DescribedEntry) -> [u8; 8]
     ensures { result ≡ entry_field entry.now }
 {
-    let [a, b] = flag(entry.is_default, 1).to_le_bytes();
+    let [a, b] = flag(entry.is_default, DEFAULT_FLAG as u16).to_le_bytes();
     let [c, d, e, f] = entry.interface.to_le_bytes();
     [a, b, 0, 0, c, d, e, f]
 }
@@ -212,8 +208,8 @@ fn content_head(content: &Content<'_>) -> Result<[u8; 8], AllocError>
     ensures { IfOk result (λ head. head ≡ content_head (content_of content.now)) }
 {
     let (kind, len) = match content {
-        Content::Interface(members) => (DISPATCH, members.len()),
-        Content::Coclass(entries) => (COCLASS, entries.len()),
+        Content::Interface(members) => (INTERFACE_KIND, members.len()),
+        Content::Coclass(entries) => (COCLASS_KIND, entries.len()),
     };
     let [a, b, c, d] = kind.to_le_bytes();
     let [e, f, g, h] = wide_count(len)?.to_le_bytes();

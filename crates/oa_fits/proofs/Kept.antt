@@ -1,5 +1,6 @@
 -- A table that a library can have stays so by events that bring what fits, and by changes of locks.
-use Rattle.std.proofs.Common.{◌≡◌, ℕ, ℤ, ◌+◌, ◌-◌, ◌==◌, ◌&&◌, nat_lt, List, [], ◌∷◌, map, Bool, true, false, cond, is_some, Option, Some, None, Result, Ok, Err, IfOk, refl, sym, ap, subst, ◌∙◌}
+use Rattle.std.proofs.Common.{◌≡◌, ℕ, ℤ, ◌+◌, ◌-◌, ◌==◌, ◌&&◌, nat_lt, List, [], ◌∷◌, map, Bool, true, false, cond, is_some, Option, Some}
+use Rattle.std.proofs.Common.{None, Result, Ok, Err, IfOk, refl, sym, ap, subst, ◌∙◌}
 use Rattle.std.proofs.lemmas.Bool.{and_from, and_parts}
 use Rattle.std.proofs.lemmas.Map.Lookups.{CmpEqualImpliesEq, exact_unsigned}
 use Rattle.std.proofs.lemmas.Option.{none-some}
@@ -10,6 +11,7 @@ use Rattle.std.specs.Ordering.{match_ordering, nat_cmp}
 use Rattle.std.specs.Prelude.{if◌then◌else◌}
 use Rattle.std.specs.declared.cmp.Ordering.{Ordering}
 use Rattle.std.specs.declared.cmp.Ordering.TheVariants.{Less, Equal, Greater}
+use Rattle.oa_model.specs.Limits.{max_cell_locks, max_cells}
 use Rattle.oa_array.specs.Arrays.{ArrayValue, redimensioned, with_cell, with_first, with_locks}
 use Rattle.oa_array.specs.Boxes.{box_size}
 use Rattle.oa_array.specs.Within.{in_bounds}
@@ -21,7 +23,7 @@ use Rattle.oa_model.specs.declared.var_type.ValueType.TheVariants as kinds
 use Rattle.oa_table.specs.declared.event.Event.{Event}
 use Rattle.oa_table.specs.declared.event.Event.TheVariants.{Create, Release, Put, PutElement, Redim}
 use Rattle.oa_table.specs.declared.fault.TableFault.{TableFault}
-use Rattle.oa_table.specs.declared.fault.TableFault.TheVariants.{Array, NotArray, WrongNumber}
+use Rattle.oa_table.specs.declared.fault.TableFault.TheVariants.{Array, WrongNumber}
 use Rattle.oa_table.specs.declared.name.CellName.{CellName}
 use Rattle.oa_table.specs.Elements.{element_put, locked_value, redimensioned_value, released_value}
 use Rattle.oa_table.specs.Events.{applied, changed_if_live, on_object, released_if_live, with_object}
@@ -46,19 +48,23 @@ use Rattle.oa_fits.proofs.Places.{exact_places}
 
 -- ---- what holds of all entries, where one is set, added or taken out
 module _ {K X : Type 0} (p : K × X → Bool) where
-  set_all : (test : K → Bool) (es : List (K × X)) (v w : X) → lookup test es ≡ Some v → ((k : K) → p (k, v) ≡ true → p (k, w) ≡ true) → list_all p es ≡ true → list_all p (set_value test es w) ≡ true
+  set_all : (test : K → Bool) (es : List (K × X)) (v w : X) → lookup test es ≡ Some v → ((k : K) → p (k, v) ≡ true → p (k, w) ≡ true)
+      → list_all p es ≡ true → list_all p (set_value test es w) ≡ true
   set_all test [] v w h keeps all = refl
   set_all test (e ∷ es) v w h keeps all = by (test e.0) h (set_all test es v w)
     where
       parts : (p e ≡ true) × (list_all p es ≡ true)
       parts = and_parts (p e) (list_all p es) all
 
-      by : (b : Bool) → cond b (Some e.1) (lookup test es) ≡ Some v → (lookup test es ≡ Some v → ((k : K) → p (k, v) ≡ true → p (k, w) ≡ true) → list_all p es ≡ true → list_all p (set_value test es w) ≡ true)
+      by : (b : Bool) → cond b (Some e.1) (lookup test es) ≡ Some v
+          → (lookup test es ≡ Some v → ((k : K) → p (k, v) ≡ true → p (k, w) ≡ true) → list_all p es ≡ true
+          → list_all p (set_value test es w) ≡ true)
           → list_all p (cond b ((e.0, w) ∷ es) (e ∷ set_value test es w)) ≡ true
       by true is rest = let same : e.1 ≡ v = cc in and_from (p (e.0, w)) (list_all p es) (keeps e.0 (subst (λ x. p (e.0, x) ≡ true) same parts.0)) parts.1
       by false is rest = and_from (p e) (list_all p (set_value test es w)) parts.0 (rest is keeps parts.1)
 
-  insert_all : (cmp : K → K → Ordering) → CmpEqualImpliesEq cmp → (es : List (K × X)) (k : K) (v : X) → p (k, v) ≡ true → list_all p es ≡ true → list_all p (insert_entry cmp es k v) ≡ true
+  insert_all : (cmp : K → K → Ordering) → CmpEqualImpliesEq cmp → (es : List (K × X)) (k : K) (v : X) → p (k, v) ≡ true
+      → list_all p es ≡ true → list_all p (insert_entry cmp es k v) ≡ true
   insert_all cmp exact [] k v here all = and_from (p (k, v)) true here refl
   insert_all cmp exact (e ∷ es) k v here all = by (cmp k e.0) refl (insert_all cmp exact es k v here parts.1)
     where
@@ -83,14 +89,16 @@ module _ {K X : Type 0} (p : K × X → Bool) where
       by false rest = and_from (p e) (list_all p (remove_entry test es)) parts.0 rest
 
 -- what holds of all values holds of the one that is found
-found_passes : {K X : Type 0} (q : X → Bool) (test : K → Bool) (es : List (K × X)) (v : X) → lookup test es ≡ Some v → list_all (λ (e : K × X). q e.1) es ≡ true → q v ≡ true
+found_passes : {K X : Type 0} (q : X → Bool) (test : K → Bool) (es : List (K × X)) (v : X) → lookup test es ≡ Some v
+    → list_all (λ (e : K × X). q e.1) es ≡ true → q v ≡ true
 found_passes q test [] v h all = absurd (none-some v h)
 found_passes {K} {X} q test (e ∷ es) v h all = by (test e.0) h (found_passes q test es v)
   where
     parts : (q e.1 ≡ true) × (list_all (λ (e : K × X). q e.1) es ≡ true)
     parts = and_parts (q e.1) (list_all (λ (e : K × X). q e.1) es) all
 
-    by : (b : Bool) → cond b (Some e.1) (lookup test es) ≡ Some v → (lookup test es ≡ Some v → list_all (λ (e : K × X). q e.1) es ≡ true → q v ≡ true) → q v ≡ true
+    by : (b : Bool) → cond b (Some e.1) (lookup test es) ≡ Some v
+        → (lookup test es ≡ Some v → list_all (λ (e : K × X). q e.1) es ≡ true → q v ≡ true) → q v ≡ true
     by true is rest = let same : e.1 ≡ v = cc in subst (λ x. q x ≡ true) same parts.0
     by false is rest = rest is parts.1
 
@@ -116,7 +124,7 @@ element_leaves index element (AnArray a) = by (in_bounds a.bounds index) (fits_t
 
 pub redim_leaves : (bound : Bound) → LeavesType (redimensioned_value bound)
 redim_leaves bound (One s) = tt
-redim_leaves bound (AnArray a) = by (nat_lt 0 a.locks) (nat_lt 65536 (box_size (with_first bound a.bounds)))
+redim_leaves bound (AnArray a) = by (nat_lt 0 a.locks) (nat_lt max_cells (box_size (with_first bound a.bounds)))
   where
     by : (b c : Bool) → IfOk (if b then Err (Array arrays.IsLocked) else if c then Err (Array arrays.InvalidArgument) else Ok (AnArray (redimensioned (zero_of a.elem) bound a))) (Alike (AnArray a))
     by true c = tt
@@ -125,7 +133,7 @@ redim_leaves bound (AnArray a) = by (nat_lt 0 a.locks) (nat_lt 65536 (box_size (
 
 lock_leaves : LeavesType locked_value
 lock_leaves (One s) = tt
-lock_leaves (AnArray a) = by (a.locks == 65535)
+lock_leaves (AnArray a) = by (a.locks == max_cell_locks)
   where
     by : (b : Bool) → IfOk (if b then Err (Array arrays.Unexpected) else Ok (AnArray (with_locks a (a.locks + 1)))) (Alike (AnArray a))
     by true = tt
@@ -146,31 +154,38 @@ unlocked_alike (AnArray a) (kinds.Array t) = refl
 
 -- ---- a cell with another value of its type
 module _ (library : TreeValue) where
-  property_alike : (v w : Variant) (key : List Scalar) → Alike v w → (o : Option MemberValue) → property_fits key v o ≡ property_fits key w o
+  property_alike : (v w : Variant) (key : List Scalar) → Alike v w → (o : Option MemberValue)
+      → property_fits key v o ≡ property_fits key w o
   property_alike v w key alike None = refl
   property_alike v w key alike (Some member) = ap (λ b. key_fits member.parameters key && b) (alike member.value_type)
 
-  interface_alike : (v w : Variant) (place : PlaceValue) → Alike v w → (o : Option InterfaceValue) → interface_fits place v o ≡ interface_fits place w o
+  interface_alike : (v w : Variant) (place : PlaceValue) → Alike v w → (o : Option InterfaceValue)
+      → interface_fits place v o ≡ interface_fits place w o
   interface_alike v w place alike None = refl
   interface_alike v w place alike (Some i) = property_alike v w place.key alike (property_in i place.dispid)
 
-  pub cell_alike : (v w : Variant) (class : List ℕ) (place : PlaceValue) → Alike v w → cell_fits library class (place, v) ≡ cell_fits library class (place, w)
+  pub cell_alike : (v w : Variant) (class : List ℕ) (place : PlaceValue) → Alike v w
+      → cell_fits library class (place, v) ≡ cell_fits library class (place, w)
   cell_alike v w class place alike = interface_alike v w place alike (entered library class place.interface)
 
   -- ---- an object
-  object_parts : (object : ObjectValue) → object_fits library object ≡ true → (is_some (class_of library object.class) ≡ true) × (list_all (cell_fits library object.class) object.cells ≡ true)
+  object_parts : (object : ObjectValue) → object_fits library object ≡ true
+      → (is_some (class_of library object.class) ≡ true) × (list_all (cell_fits library object.class) object.cells ≡ true)
   object_parts object h = and_parts (is_some (class_of library object.class)) (list_all (cell_fits library object.class) object.cells) h
 
-  object_from : (class : List ℕ) (cells : List (PlaceValue × Variant)) → is_some (class_of library class) ≡ true → list_all (cell_fits library class) cells ≡ true → object_fits library (record { class = class; cells = cells }) ≡ true
+  object_from : (class : List ℕ) (cells : List (PlaceValue × Variant)) → is_some (class_of library class) ≡ true
+      → list_all (cell_fits library class) cells ≡ true → object_fits library (record { class = class; cells = cells }) ≡ true
   object_from class cells known all = and_from (is_some (class_of library class)) (list_all (cell_fits library class) cells) known all
 
   abbrev Fitting : ObjectValue → Type 0
   Fitting object = object_fits library object ≡ true
 
-  change_kept : (place : PlaceValue) (change : Variant → Result Variant TableFault) → LeavesType change → (object : ObjectValue) → Fitting object → IfOk (with_change place change object) Fitting
+  change_kept : (place : PlaceValue) (change : Variant → Result Variant TableFault) → LeavesType change → (object : ObjectValue)
+      → Fitting object → IfOk (with_change place change object) Fitting
   change_kept place change leaves object fit = by (cell_at place object.cells) refl
     where
-      on : (value : Variant) (due : Result Variant TableFault) → cell_at place object.cells ≡ Some value → IfOk due (Alike value) → IfOk (mapped (with_value place object) due) Fitting
+      on : (value : Variant) (due : Result Variant TableFault) → cell_at place object.cells ≡ Some value → IfOk due (Alike value)
+          → IfOk (mapped (with_value place object) due) Fitting
       on value (Ok new) is alike =
           let parts = object_parts object fit in
           object_from object.class (set_value (is_at (place_cmp place)) object.cells new) parts.0
@@ -181,10 +196,14 @@ module _ (library : TreeValue) where
       by None is = tt
       by (Some value) is = on value (change value) is (leaves value)
 
-  put_kept : (place : PlaceValue) (value : Variant) (object : ObjectValue) → CmpEqualImpliesEq scalar_cmp → cell_fits library object.class (place, value) ≡ true → Fitting object → IfOk (with_put place value object) Fitting
+  put_kept : (place : PlaceValue) (value : Variant) (object : ObjectValue) → CmpEqualImpliesEq scalar_cmp
+      → cell_fits library object.class (place, value) ≡ true → Fitting object → IfOk (with_put place value object) Fitting
   put_kept place value object exact new fit = by (locks_of_cell place object == 0)
     where
-      by : (b : Bool) → IfOk (if b then Ok (record object { cells = insert_entry place_cmp object.cells place value }) else Err (Array arrays.IsLocked)) Fitting
+      by : (b : Bool) → IfOk (if b then Ok (record object {
+        cells =
+            insert_entry place_cmp object.cells place value;
+      }) else Err (Array arrays.IsLocked)) Fitting
       by true =
           let parts = object_parts object fit in
           object_from object.class (insert_entry place_cmp object.cells place value) parts.0
@@ -199,10 +218,12 @@ module _ (library : TreeValue) where
   entry_fits entry = object_fits library entry.1
 
   on_kept : (number : ℕ) (table : TableValue) (change : ObjectValue → Result ObjectValue TableFault)
-      → ((object : ObjectValue) → object_at number table ≡ Some object → Fitting object → IfOk (change object) Fitting) → Fits table → IfOk (on_object number change table) Fits
+      → ((object : ObjectValue) → object_at number table ≡ Some object → Fitting object → IfOk (change object) Fitting) → Fits table
+      → IfOk (on_object number change table) Fits
   on_kept number table change each fit = by (object_at number table) refl
     where
-      on : (object : ObjectValue) (due : Result ObjectValue TableFault) → object_at number table ≡ Some object → IfOk due Fitting → IfOk (mapped (with_object number table) due) Fits
+      on : (object : ObjectValue) (due : Result ObjectValue TableFault) → object_at number table ≡ Some object → IfOk due Fitting
+          → IfOk (mapped (with_object number table) due) Fits
       on object (Ok new) is h = set_all entry_fits (is_at (nat_cmp number)) table.objects object new is (λ k was. h) fit
       on object (Err fault) is h = tt
 
@@ -210,20 +231,29 @@ module _ (library : TreeValue) where
       by None is = tt
       by (Some object) is = on object (change object) is (each object is (found_passes (object_fits library) (is_at (nat_cmp number)) table.objects object is fit))
 
-  cell_kept : (name : CellName) (table : TableValue) (change : Variant → Result Variant TableFault) → LeavesType change → Fits table → IfOk (on_object name.object (with_change name.place change) table) Fits
+  cell_kept : (name : CellName) (table : TableValue) (change : Variant → Result Variant TableFault) → LeavesType change → Fits table
+      → IfOk (on_object name.object (with_change name.place change) table) Fits
   cell_kept name table change leaves = on_kept name.object table (with_change name.place change) (λ object is. change_kept name.place change leaves object)
 
-  create_kept : (table : TableValue) (number : ℕ) (class : List ℕ) → is_some (class_of library class) ≡ true → Fits table → IfOk (applied (Create number class) table) Fits
+  create_kept : (table : TableValue) (number : ℕ) (class : List ℕ) → is_some (class_of library class) ≡ true → Fits table
+      → IfOk (applied (Create number class) table) Fits
   create_kept table number class known fit = by _
     where
-      by : (b : Bool) → IfOk (if b then Ok (record { next = number + 1; objects = insert_entry nat_cmp table.objects number (record { class = class; cells = [] }) }) else Err WrongNumber) Fits
+      by : (b : Bool) → IfOk (if b then Ok (record {
+        next = number + 1;
+        objects =
+            insert_entry nat_cmp table.objects number (record { class = class; cells = [] });
+      }) else Err WrongNumber) Fits
       by true = insert_all entry_fits nat_cmp exact_unsigned table.objects number (record { class = class; cells = [] }) (object_from class [] known refl) fit
       by false = tt
 
   release_kept : (table : TableValue) (number : ℕ) → Fits table → IfOk (applied (Release number) table) Fits
   release_kept table number fit = by (object_at number table)
     where
-      on : (b : Bool) → IfOk (if b then Err (Array arrays.IsLocked) else Ok (record table { objects = remove_entry (is_at (nat_cmp number)) table.objects })) Fits
+      on : (b : Bool) → IfOk (if b then Err (Array arrays.IsLocked) else Ok (record table {
+        objects =
+            remove_entry (is_at (nat_cmp number)) table.objects;
+      })) Fits
       on true = tt
       on false = remove_all entry_fits (is_at (nat_cmp number)) table.objects fit
 
@@ -231,11 +261,13 @@ module _ (library : TreeValue) where
       by None = tt
       by (Some object) = on (any_locked object.cells)
 
-  put_here : (place : PlaceValue) (value : Variant) (o : Option ObjectValue) (object : ObjectValue) → put_fits library place value o ≡ true → o ≡ Some object → cell_fits library object.class (place, value) ≡ true
+  put_here : (place : PlaceValue) (value : Variant) (o : Option ObjectValue) (object : ObjectValue) → put_fits library place value o ≡ true
+      → o ≡ Some object → cell_fits library object.class (place, value) ≡ true
   put_here place value None object h is = absurd (none-some object is)
   put_here place value (Some other) object h is = let same : other ≡ object = cc in subst (λ (x : ObjectValue). cell_fits library x.class (place, value) ≡ true) same h
 
-  pub event_kept : CmpEqualImpliesEq scalar_cmp → (table : TableValue) (event : Event) → Fits table → brings_fitting library table event ≡ true → IfOk (applied event table) Fits
+  pub event_kept : CmpEqualImpliesEq scalar_cmp → (table : TableValue) (event : Event) → Fits table
+      → brings_fitting library table event ≡ true → IfOk (applied event table) Fits
   event_kept exact table (Create number class) fit brings = create_kept table number class brings fit
   event_kept exact table (Release number) fit brings = release_kept table number fit
   event_kept exact table (Put name value) fit brings =
@@ -250,7 +282,8 @@ module _ (library : TreeValue) where
   unlock_kept table name = cell_kept name table released_value unlock_leaves
 
   -- ---- without locks
-  cells_unlocked : (class : List ℕ) (cells : List (PlaceValue × Variant)) → list_all (cell_fits library class) (map unlocked_cell cells) ≡ list_all (cell_fits library class) cells
+  cells_unlocked : (class : List ℕ) (cells : List (PlaceValue × Variant))
+      → list_all (cell_fits library class) (map unlocked_cell cells) ≡ list_all (cell_fits library class) cells
   cells_unlocked class [] = refl
   cells_unlocked class (cell ∷ cells) =
       let here : cell_fits library class (unlocked_cell cell) ≡ cell_fits library class cell = sym (cell_alike cell.1 (unlocked cell.1) class cell.0 (unlocked_alike cell.1)) in

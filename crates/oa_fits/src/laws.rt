@@ -20,10 +20,13 @@ use oa_variant::laws::equal_is_same;
 /// change of locks; locks are no part of it.
 pub fn changes_that_fit()
     ensures first { (library : TreeValue) → fits library first_table ≡ true }
-    ensures event { (library : TreeValue) (table : TableValue) (event : AnEvent) → fits library table ≡ true → brings_fitting library table event ≡ true
+    ensures event { (library : TreeValue) (table : TableValue) (event : AnEvent) → fits library table ≡ true
+        → brings_fitting library table event ≡ true
         → IfOk (applied event table) (λ new. fits library new ≡ true) }
-    ensures lock { (library : TreeValue) (table : TableValue) (name : AName) → fits library table ≡ true → IfOk (with_lock name table) (λ new. fits library new ≡ true) }
-    ensures unlock { (library : TreeValue) (table : TableValue) (name : AName) → fits library table ≡ true → IfOk (without_lock name table) (λ new. fits library new ≡ true) }
+    ensures lock { (library : TreeValue) (table : TableValue) (name : AName) → fits library table ≡ true
+        → IfOk (with_lock name table) (λ new. fits library new ≡ true) }
+    ensures unlock { (library : TreeValue) (table : TableValue) (name : AName) → fits library table ≡ true
+        → IfOk (without_lock name table) (λ new. fits library new ≡ true) }
     ensures locks { (library : TreeValue) (table : TableValue) → fits library (unlocked_table table) ≡ fits library table }
 {
     equal_is_same();
@@ -34,5 +37,6 @@ pub fn changes_that_fit()
 pub fn calls_reach_what_fits()
     ensures interface { (library : TreeValue) (class guid : List ℕ) → IsChecked library
         → IfSome (selected_in library class guid) (λ found. entered library class found.guid ≡ Some found) }
-    ensures property { (interface : InterfaceValue) (id : ℤ) (access : AnAccess) → IfOk (member_in interface id access) (λ found. property_in interface id ≡ Some found.0) }
+    ensures property { (interface : InterfaceValue) (id : ℤ) (access : AnAccess)
+        → IfOk (member_in interface id access) (λ found. property_in interface id ≡ Some found.0) }
 {}

@@ -6,6 +6,7 @@ use Rattle.std.proofs.lemmas.List.{take_more, take_more_set, take_all, map-appen
 use Rattle.std.proofs.lemmas.Bool.Decides.{nat_tests}
 use Rattle.std.proofs.lemmas.Option.{slice_get-map}
 use Rattle.std.specs.Option.{option_map, option_map_or, option_and_then, option_or, unwrap_or}
+use Rattle.oa_model.specs.Limits.{max_library_bytes}
 use Rattle.oa_model.specs.Folding.{folded_name}
 use Rattle.std.specs.Prelude.{nat_le, if◌then◌else◌}
 use Rattle.oa_idl.specs.Trees.{TreeValue}
@@ -74,7 +75,8 @@ pub all_written : {X : Type 0} (f : X → X) (xs ys : List X) (i : ℕ) → leng
 all_written f xs ys i h len before = sym (take_all i ys (omega (arith, h, len))) ∙ before ∙ ap (map f) (take_all i xs h)
 
 -- the text's length, where it is that of the canonical text
-pub text_is : (tree : TreeValue) (bs : List ℕ) (b : Bool) → bs ≡ canonical (marked tree) → nat_le (length bs) 262144 ≡ b → text_breach tree ≡ (if b then None else Some TextTooLong)
+pub text_is : (tree : TreeValue) (bs : List ℕ) (b : Bool) → bs ≡ canonical (marked tree) → nat_le (length bs) max_library_bytes ≡ b
+    → text_breach tree ≡ (if b then None else Some TextTooLong)
 unfolding text_breach
 text_is tree bs b is h = rw (← is, h) refl
 
@@ -85,7 +87,7 @@ breach_before a b x is = rw is refl
 pub no_breach_before : {X : Type 0} (a b : Option X) → a ≡ None → option_or a b ≡ b
 no_breach_before a b is = rw is refl
 
-pub short_text : (bs : List ℕ) → nat_le (length bs) 262144 ≡ true → length bs ≤ 262144
+pub short_text : (bs : List ℕ) → nat_le (length bs) max_library_bytes ≡ true → length bs ≤ max_library_bytes
 short_text bs h = grind (arith, nat_tests)
 
 -- ---- the interface at a place, where an entry of a coclass names it

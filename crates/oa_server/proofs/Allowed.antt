@@ -2,6 +2,7 @@
 use Rattle.std.proofs.Common.{◌≡◌, ◌≤◌, ◌⊎◌, inl, inr, Bool, true, false, true≢false, length, Result, Ok, Err, IsOk, refl, sym, ap, subst, ◌∙◌, arith}
 use Rattle.std.specs.Prelude.{nat_lt, if◌then◌else◌}
 use Rattle.std.proofs.lemmas.Bool.{ltb-false}
+use Rattle.oa_model.specs.Limits.{max_event_bytes, max_table_bytes}
 use Rattle.oa_image.specs.Events.{event_image}
 use Rattle.oa_image.specs.Tables.{is_numbered, objects, table as a_table, table_image}
 use Rattle.oa_image.proofs.Numbered.{numbers_stay, unlocked_numbers}
@@ -26,13 +27,15 @@ use Rattle.oa_server.specs.Limits.{IsSound, allowed, limited, within_limits}
 -- a table that is allowed
 pub record IsWithin (event : Event) (made new : TableValue) : Type 0 where
   pub same : made ≡ new
-  pub event_small : length (event_image event) ≤ 1048576
-  pub table_small : length (table_image new) ≤ 14680064
+  pub event_small : length (event_image event) ≤ max_event_bytes
+  pub table_small : length (table_image new) ≤ max_table_bytes
 
 within : (event : Event) (made new : TableValue) → within_limits event made ≡ Ok new → IsWithin event made new
-within event made new = by (nat_lt 1048576 (length (event_image event))) refl (nat_lt 14680064 (length (table_image made))) refl
+within event made new =
+    by (nat_lt max_event_bytes (length (event_image event))) refl (nat_lt max_table_bytes (length (table_image made))) refl
   where
-    by : (long : Bool) → nat_lt 1048576 (length (event_image event)) ≡ long → (full : Bool) → nat_lt 14680064 (length (table_image made)) ≡ full
+    by : (long : Bool) → nat_lt max_event_bytes (length (event_image event)) ≡ long → (full : Bool)
+        → nat_lt max_table_bytes (length (table_image made)) ≡ full
         → (if long then Err e_invalidarg else if full then Err stg_e_mediumfull else Ok made) ≡ Ok new → IsWithin event made new
     by true a full b is = absurd cc
     by false a true b is = absurd cc
@@ -40,14 +43,15 @@ within event made new = by (nat_lt 1048576 (length (event_image event))) refl (n
         let same : made ≡ new = cc in
         record {
           same = same;
-          event_small = ltb-false 1048576 (length (event_image event)) a;
-          table_small = subst (λ (t : TableValue). length (table_image t) ≤ 14680064) same (ltb-false 14680064 (length (table_image made)) b);
+          event_small = ltb-false max_event_bytes (length (event_image event)) a;
+          table_small = subst (λ (t : TableValue).
+              length (table_image t) ≤ max_table_bytes) same (ltb-false max_table_bytes (length (table_image made)) b);
         }
 
 pub record IsMade (event : Event) (old new : TableValue) : Type 0 where
   pub applies : applied event old ≡ Ok new
-  pub event_small : length (event_image event) ≤ 1048576
-  pub table_small : length (table_image new) ≤ 14680064
+  pub event_small : length (event_image event) ≤ max_event_bytes
+  pub table_small : length (table_image new) ≤ max_table_bytes
 
 pub is_made : (event : Event) (old new : TableValue) → allowed event old ≡ Ok new → IsMade event old new
 is_made event old new is = by (applied event old) refl is
@@ -61,8 +65,8 @@ is_made event old new is = by (applied event old) refl is
 -- the table that is allowed is the one after the event
 pub record IsAllowed (event : Event) (old new : TableValue) : Type 0 where
   pub is : allowed event old ≡ Ok new
-  pub event_small : length (event_image event) ≤ 1048576
-  pub table_small : length (table_image new) ≤ 14680064
+  pub event_small : length (event_image event) ≤ max_event_bytes
+  pub table_small : length (table_image new) ≤ max_table_bytes
 
 pub is_allowed : (event : Event) (old new : TableValue) → IsOk (allowed event old) → applied event old ≡ Ok new → IsAllowed event old new
 is_allowed event old new ok at = by (allowed event old) refl ok
@@ -71,7 +75,12 @@ is_allowed event old new ok at = by (allowed event old) refl ok
     by (Ok made) is ok =
         let one = is_made event old made is in
         let same : made ≡ new = cc in
-        record { is = is ∙ ap (λ (t : TableValue). Ok t) same; event_small = one.event_small; table_small = subst (λ (t : TableValue). length (table_image t) ≤ 14680064) same one.table_small }
+        record {
+          is = is ∙ ap (λ (t : TableValue). Ok t) same;
+          event_small = one.event_small;
+          table_small =
+              subst (λ (t : TableValue). length (table_image t) ≤ max_table_bytes) same one.table_small;
+        }
     by (Err code) is ok = absurd (true≢false (sym ok))
 
 pub allowed_applies : (event : Event) (old : TableValue) → IsOk (allowed event old) → IsOk (applied event old)

@@ -1,6 +1,7 @@
 -- A turn over a store.
 use Rattle.std.proofs.Common.{◌≡◌, inr, ℕ, ◌≤◌, ◌++◌, List, [], length, None, Ok, refl, sym, ap, ◌∙◌, subst, arith}
 use Rattle.std.proofs.lemmas.List.{append-nil}
+use Rattle.oa_model.specs.Limits.{max_event_bytes}
 use Rattle.oa_image.specs.Events.{event_image}
 use Rattle.oa_journal.specs.Replays.{Replays}
 use Rattle.oa_model.specs.Codes.{e_outofmemory, s_ok}
@@ -35,7 +36,8 @@ answered body reply events old new turn same none = record {
 module _ (one_request : (body : List ℕ) (p q : Request) → Asks body p → Asks body q → p ≡ q) (old : State) (body : List ℕ) (planned : Planned) (is : IsPlanned old body planned) where
   -- a change that is made
   pub held : (new : State) (reply : ReplyValue) (events events' : List ℕ) → applied planned.event old.table ≡ Ok new.table → new ≡ record old { table = new.table }
-      → reply ≡ record { tag = planned.tag; code = s_ok; index = None; body = planned.fields } → Replays (event_image planned.event) (held_of old) (held_of new) → length (event_image planned.event) ≤ 1048576
+      → reply ≡ record { tag = planned.tag; code = s_ok; index = None; body = planned.fields }
+      → Replays (event_image planned.event) (held_of old) (held_of new) → length (event_image planned.event) ≤ max_event_bytes
       → events' ≡ events ++ event_image planned.event → IsHeldBack body reply events events' old new
   held new reply events events' at leaves told replays small added =
       record {

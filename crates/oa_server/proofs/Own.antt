@@ -1,6 +1,7 @@
 -- No step answers a code that tells of the device.
 use Rattle.std.proofs.Common.{◌≡◌, inl, inr, ℕ, ◌+◌, Bool, true, false, if◌then◌else◌, List, [], ◌∷◌, Option, Some, None, Result, Ok, Err, refl, sym, ap, ◌∙◌}
 use Rattle.std.specs.Prelude.{ℤ, nat_lt, ⊤, length}
+use Rattle.oa_model.specs.Limits.{max_event_bytes, max_table_bytes}
 use Rattle.oa_array.specs.Arrays.{ArrayValue}
 use Rattle.oa_array.specs.Faults.{code_of as array_code}
 use Rattle.oa_array.specs.declared.fault.ArrayFault.{ArrayFault}
@@ -266,7 +267,8 @@ refused_own (Err fault) = table_own fault
 
 -- what an event is refused for
 limits_own : (event : Event) (new : TableValue) → (code : HResult) → within_limits event new ≡ Err code → is_own code ≡ true
-limits_own event new code is = by (nat_lt 1048576 (length (event_image event))) (nat_lt 14680064 (length (table_image new))) is
+limits_own event new code is = by (nat_lt max_event_bytes (length (event_image event)))
+    (nat_lt max_table_bytes (length (table_image new))) is
   where
     same : (a b : HResult) → err a ≡ err b → a ≡ b
     same a b e = cc

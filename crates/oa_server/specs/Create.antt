@@ -1,5 +1,6 @@
 -- CREATE: a new object of a coclass. (This project's choice.)
-use Rattle.std.specs.Prelude.{ℕ, ◌||◌, ◌==◌, nat_lt, not, Bool, List, length, Result, Ok, Err}
+use Rattle.std.specs.Prelude.{◌+◌, ℕ, ◌||◌, ◌==◌, nat_lt, not, Bool, List, length, Result, Ok, Err}
+use Rattle.oa_model.specs.Limits.{greatest_object_number, max_live_objects}
 use Rattle.oa_model.specs.declared.hresult.HResult.{HResult}
 use Rattle.oa_model.specs.Codes.{e_unexpected, regdb_e_classnotreg}
 use Rattle.oa_record.specs.Replies.{number_field}
@@ -15,7 +16,7 @@ use Rattle.oa_server.specs.States.{State}
 
 -- whether no further object can be made: 65,536 are live, or the numbers are used up
 abbrev pub is_full : TableValue → Bool
-is_full table = not (nat_lt (length table.objects) 65536) || (table.next == 4294967295)
+is_full table = not (nat_lt (length table.objects) max_live_objects) || (table.next == greatest_object_number + 1)
 
 -- whether an object of the coclass can be made
 abbrev pub class_found : State → List ℕ → Result (Unit {0}) Refusal

@@ -1,6 +1,7 @@
 -- The limits on what a change makes. (This project's choice: a group of one event and a table have to fit a bank of a store, and a server in memory refuses what one over a
 -- store refuses.)
 use Rattle.std.specs.Prelude.{◌≡◌, ◌⊎◌, ◌≤◌, nat_lt, if◌then◌else◌, length, true, Option, Some, None, Result, Ok, Err, IsOk}
+use Rattle.oa_model.specs.Limits.{max_event_bytes, max_table_bytes}
 use Rattle.oa_image.specs.Events.{event_image}
 use Rattle.oa_image.specs.Tables.{is_numbered, table_image}
 use Rattle.oa_model.specs.declared.hresult.HResult.{HResult}
@@ -13,7 +14,10 @@ use Rattle.oa_table.specs.Tables.{TableValue}
 
 -- the image of the event, and then that of the table after it
 abbrev pub within_limits : Event → TableValue → Result TableValue HResult
-within_limits event new = if nat_lt 1048576 (length (event_image event)) then Err e_invalidarg else if nat_lt 14680064 (length (table_image new)) then Err stg_e_mediumfull else Ok new
+within_limits event new =
+    if nat_lt max_event_bytes (length (event_image event)) then Err e_invalidarg
+    else if nat_lt max_table_bytes (length (table_image new)) then Err stg_e_mediumfull
+    else Ok new
 
 abbrev pub limited : Event → Result TableValue TableFault → Result TableValue HResult
 limited event (Ok new) = within_limits event new
@@ -36,4 +40,4 @@ ChangesTable event old new (Err code) = (new ≡ old) × ((allowed event old ≡
 -- What a server's table always is: its objects have numbers from 1 to below the next one, and its image is within the limit.
 pub record IsSound (table : TableValue) : Type 0 where
   pub numbered : is_numbered table ≡ true
-  pub small : length (table_image table) ≤ 14680064
+  pub small : length (table_image table) ≤ max_table_bytes

@@ -1,5 +1,6 @@
 -- With which tables a server begins, and what opening a disk answers.
 use Rattle.std.specs.Prelude.{◌≡◌, ◌⊎◌, ◌≤◌, ℕ, List, length, Some, IsTrue, false, true}
+use Rattle.oa_model.specs.Limits.{max_table_bytes}
 use Rattle.oa_disk.specs.declared.disk.Disk.{Ghosts}
 use Rattle.oa_fits.specs.Fits.{fits}
 use Rattle.oa_idl.specs.Canonical.{canonical}
@@ -18,7 +19,7 @@ use Rattle.oa_server.specs.States.{State}
 -- the library can have the table, and a bank has room for its image
 pub record CanServe (library : TreeValue) (table : TableValue) : Type 0 where
   pub fit : fits library table ≡ true
-  pub small : length (table_image table) ≤ 14680064
+  pub small : length (table_image table) ≤ max_table_bytes
 
 -- a server can begin with this state: its library is one that was checked, and can have its table, whose objects are numbered
 pub record CanBegin (state : State) : Type 0 where

@@ -1,6 +1,7 @@
 -- The requests of a server, as the theory of groups sees them.
 use Rattle.std.specs.Prelude.{◌≡◌, ℕ, ◌==◌, ◌≤◌, ◌++◌, Bool, false, true, List, [], length, Option, Some, None}
 use Rattle.std.proofs.Common.{ap, inl, inr, sym, ◌∙◌, true≢false}
+use Rattle.oa_model.specs.Limits.{max_event_bytes}
 use Rattle.oa_groups.specs.Turns.{Entry, Turns, entry}
 use Rattle.oa_journal.specs.Replays.{Replays}
 use Rattle.oa_keeper.proofs.Relocked.{unlocked_twice}
@@ -48,7 +49,7 @@ pub record IsHeldBack (body : List ℕ) (reply : ReplyValue) (events events' : L
   pub event : List ℕ
   pub asked : IsAsked (entry body reply event) old new
   pub added : events' ≡ events ++ event
-  pub small : length event ≤ 1048576
+  pub small : length event ≤ max_event_bytes
 
 -- some turn of the body that leaves what images hold
 pub record HasTurn (body : List ℕ) (old new : State) : Type 0 where

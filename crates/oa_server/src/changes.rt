@@ -1,5 +1,6 @@
 //! The ways in which a table changes.
 ghost use Rattle.std.specs.Prelude.{◌≡◌, ◌-◌, ◌<◌, ◌≤◌, ◌++◌, IsErrOf, IsOk, Ok, OnErr, OnOk, false, length, true};
+ghost use Rattle.oa_model.specs.Limits.{max_event_bytes};
 ghost use Rattle.oa_groups.specs.Served.{Goes};
 ghost use Rattle.oa_image.specs.Events.{event_image};
 ghost use Rattle.oa_journal.specs.Bank.{bank_bytes};
@@ -122,7 +123,7 @@ pub(crate) fn hold_change<D: Disk>(
     ensures change { MakesTable event table.old table.new result }
     ensures sound { IsSound table.new }
     ensures replays { OnOk result (Replays (event_image event) (unlocked_table table.old) (unlocked_table table.new)) }
-    ensures small { OnOk result (length (event_image event) ≤ 1048576) }
+    ensures small { OnOk result (length (event_image event) ≤ max_event_bytes) }
     ensures some { OnOk result (0 < length (event_image event)) }
     ensures first { IsErrOf result KeepFault.Write → length frame.old ≡ 0 }
     ensures event { OnOk result (frame.new ≡ frame.old ++ event_image event) }

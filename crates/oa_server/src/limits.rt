@@ -7,14 +7,8 @@ ghost use Rattle.oa_server.specs.Limits.{Refuses, allowed, within_limits};
 
 use oa_image::event_len;
 use oa_keeper::refusal_of;
-use oa_model::HResult;
+use oa_model::{HResult, MAX_EVENT_BYTES, MAX_TABLE_BYTES};
 use oa_table::{Event, Table};
-
-/// The most bytes of an event's image.
-const MAX_EVENT_BYTES: usize = 1_048_576;
-
-/// The most bytes of a table's image.
-pub(crate) const MAX_TABLE_BYTES: u64 = 14_680_064;
 
 /// Why an event is not allowed; None where it is. Takes no memory.
 pub(crate) fn refusal(table: &Table, event: &Event) -> Option<HResult>

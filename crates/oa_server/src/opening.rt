@@ -1,5 +1,6 @@
 // Opening a store with a library: its table has to be one of that library.
 ghost use Rattle.std.specs.Prelude.{◌≡◌, ◌↔◌, ◌⊎◌, ◌≤◌, List, ℕ, Some, IsTrue, false, length, true, IfOk, IfErr};
+ghost use Rattle.oa_model.specs.Limits.{max_library_bytes, max_table_bytes};
 ghost use Rattle.oa_idl.specs.Canonical.{canonical};
 ghost use Rattle.oa_image.specs.Tables.{is_numbered, table_image};
 ghost use Rattle.oa_server.specs.Openings.{CanServe, EachEither, HoldsEither, IsNotOpened, IsOpened, IsUnfit};
@@ -10,10 +11,10 @@ ghost use Rattle.oa_store.specs.Stores.{IsForeign, IsStore, IsStoreAt};
 ghost use Rattle.oa_table.specs.Tables.{TableValue, unlocked_table};
 
 use crate::Server;
-use crate::limits::MAX_TABLE_BYTES;
 use oa_disk::Disk;
 use oa_fits::fits;
 use oa_image::laws::images_are_counted;
+use oa_model::MAX_TABLE_BYTES;
 use oa_store::{OpenFault, Store};
 use oa_table::Table;
 use oa_typelib::Library;
@@ -22,14 +23,14 @@ use std::alloc::Global;
 /// The library's text, which is no longer than a library text may be.
 fn text_of(library: &Library) -> &[u8]
     ensures text { result.now ≡ canonical library.now }
-    ensures short { length result.now ≤ 262144 }
+    ensures short { length result.now ≤ max_library_bytes }
 {
     library.text()
 }
 
 /// Whether a bank has room for the table's image.
 fn is_small(table: &Table) -> bool
-    ensures { IsTrue result ↔ (length (table_image table.now) ≤ 14680064) }
+    ensures { IsTrue result ↔ (length (table_image table.now) ≤ max_table_bytes) }
 {
     images_are_counted();
     table.image_size() <= MAX_TABLE_BYTES

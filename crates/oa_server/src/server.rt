@@ -1,5 +1,6 @@
 //! The server: a library and a table in memory, and where the table is kept.
 ghost use Rattle.std.specs.Prelude.{◌≡◌, ◌≤◌, map, IfOk, OnErr, false};
+ghost use Rattle.oa_model.specs.Limits.{max_group};
 ghost use Rattle.oa_idl.specs.Canonical.{canonical};
 ghost use Rattle.oa_server.specs.Limits.{IsSound};
 ghost use Rattle.oa_server.specs.Storages.{Answers, InMemory, Serves, disk_of};
@@ -76,7 +77,7 @@ impl<D: Disk> Server<D> {
     /// In memory it makes no difference. Err only where memory is refused before anything was done.
     pub fn run(&mut self, bodies: &[Vec<u8>], group: usize) -> Result<Vec<Reply>, AllocError>
         requires positive { 1 ≤ group }
-        requires small { group ≤ 1024 }
+        requires small { group ≤ max_group }
         ensures serves { IfOk result (λ replies. Serves group self.old.clerk.storage self.new.clerk.storage self.old.clerk.host (map (λ b. b.items) bodies.now) replies.items self.new.clerk.host) }
         ensures memory { InMemory self.old.clerk.storage → IfOk result (λ replies. Run self.old.clerk.host (map (λ b. b.items) bodies.now) replies.items self.new.clerk.host) }
         ensures err { OnErr result ((self.new.clerk.storage ≡ self.old.clerk.storage) × (self.new.clerk.host ≡ self.old.clerk.host)) }

@@ -1,5 +1,6 @@
 //! Sessions over streams.
 ghost use Rattle.std.specs.Prelude.{◌≡◌, ◌≤◌, IfOk, OnErr, false, length, map};
+ghost use Rattle.oa_model.specs.Limits.{max_group};
 ghost use Rattle.oa_stream.specs.Ahead.{ahead};
 ghost use Rattle.oa_stream.specs.Sink.{Puts};
 ghost use Rattle.oa_frame.specs.Framings.{frames, hex_lines, records};
@@ -201,7 +202,7 @@ impl<D: Disk> Server<D> {
         group: usize,
     ) -> Result<Served, AllocError>
         requires positive { 1 ≤ group }
-        requires small { group ≤ 1024 }
+        requires small { group ≤ max_group }
         requires unbroken { (ahead R.input reader.old).faulted ≡ false }
         requires unbroken_writer { (W.out writer.old).broken ≡ false }
         ensures session { IfOk result (λ served. ServesSession hex_lines last_written (ahead R.input reader.old) (ahead R.input reader.new) (W.out writer.old) (W.out writer.new)
@@ -223,7 +224,7 @@ impl<D: Disk> Server<D> {
         group: usize,
     ) -> Result<Served, AllocError>
         requires positive { 1 ≤ group }
-        requires small { group ≤ 1024 }
+        requires small { group ≤ max_group }
         requires unbroken { (ahead R.input reader.old).faulted ≡ false }
         requires unbroken_writer { (W.out writer.old).broken ≡ false }
         ensures session { IfOk result (λ served. ServesSession records last_written (ahead R.input reader.old) (ahead R.input reader.new) (W.out writer.old) (W.out writer.new)

@@ -1,5 +1,6 @@
 // Sessions of a small library, as tables of requests and replies.
 ghost use Rattle.std.specs.Prelude.{◌≡◌, ◌≤◌, false};
+ghost use Rattle.oa_model.specs.Limits.{max_group};
 
 use crate::tests::{Halting, Refusing, Small};
 use crate::{End, Served, Server};
@@ -306,7 +307,7 @@ fn ran(
     group: usize,
 ) -> Result<String, Fail>
     requires positive { 1 ≤ group }
-    requires small { group ≤ 1024 }
+    requires small { group ≤ max_group }
 {
     let bodies = bodies(alloc, rows)?;
     let replies = server.run(bodies.as_slice(), group)?;
@@ -320,7 +321,7 @@ fn ran(
 /// How a session over these bytes went, and what it wrote.
 fn served(alloc: Global, input: &[u8], group: usize) -> Result<(Served, Vec<u8>), Fail>
     requires positive { 1 ≤ group }
-    requires small { group ≤ 1024 }
+    requires small { group ≤ max_group }
 {
     let mut reader = Ahead::new(alloc, input)?;
     let mut writer = Gathered::new(Vec::new(alloc));
@@ -331,7 +332,7 @@ fn served(alloc: Global, input: &[u8], group: usize) -> Result<(Served, Vec<u8>)
 /// What `run` replies to the four worked bodies, and what `answer` replies to a get after them.
 fn run_and_get(alloc: Global, group: usize) -> Result<(String, String), Fail>
     requires positive { 1 ≤ group }
-    requires small { group ≤ 1024 }
+    requires small { group ≤ max_group }
 {
     let mut server = server(alloc)?;
     let replies = ran(alloc, &mut server, &COUNT, group)?;
@@ -534,7 +535,7 @@ fn a_byte_in_every_second_call_is_enough(rt: HostRuntime) -> Result<(), Fail> {
 /// What is left of three lines of 50 characters after a session over a writer that fails after so many calls; a reply takes 18 of them.
 fn left_by(alloc: Global, group: usize, calls: u32) -> Result<(Served, usize), Fail>
     requires positive { 1 ≤ group }
-    requires small { group ≤ 1024 }
+    requires small { group ≤ max_group }
 {
     let input = asked(alloc, &CREATES)?;
     let mut reader = Ahead::new(alloc, input.as_bytes())?;

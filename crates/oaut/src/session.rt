@@ -1,5 +1,6 @@
 // Sessions over standard input and output.
 ghost use Rattle.std.specs.Prelude.{◌≤◌};
+ghost use Rattle.oa_model.specs.Limits.{max_group};
 
 use crate::fault::Fault;
 use oa_disk::Disk;
@@ -16,7 +17,7 @@ pub(crate) fn hold<D: Disk + Drop>(
     hex: bool,
 ) -> Result<(), Fault>
     requires positive { 1 ≤ group }
-    requires small { group ≤ 1024 }
+    requires small { group ≤ max_group }
 {
     let alloc = rt.alloc();
     let mut reader = Ahead::new(alloc, Inlet::new(rt.reader()))?;

@@ -1,5 +1,6 @@
 //! The cell of a property that a call names.
 ghost use Rattle.std.specs.Prelude.{◌≡◌, ◌≤◌, length, IfOk, Some};
+ghost use Rattle.oa_model.specs.Limits.{max_key_scalars};
 ghost use Rattle.oa_bind.specs.Bindings.{bound_to};
 ghost use Rattle.oa_server.specs.Cells.{Finds, bound_as, call_found, cell_called, member_found};
 ghost use Rattle.oa_table.specs.Tables.{object_at};
@@ -82,7 +83,7 @@ impl Host {
     ) -> Result<oa_bind::Call, Undecided>
         requires { IsBindable member.now }
         ensures call { Finds (call_found (bound_to member.now kind (record { named = named.now; arguments = arguments }))) result }
-        ensures few { IfOk result (λ bound. length bound.key ≤ 65535) }
+        ensures few { IfOk result (λ bound. length bound.key ≤ max_key_scalars) }
     {
         let arguments = arguments.into_vec();
         Ok(bind(self.alloc, member, kind, arguments, named.as_slice())?)

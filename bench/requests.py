@@ -29,8 +29,8 @@ LINES = int(sys.argv[2]) if len(sys.argv) > 2 else 200_000
 OBJECTS = 1_000
 # the DISPIDs of SAFEARRAY(unsigned char), SAFEARRAY(long), SAFEARRAY(hyper), SAFEARRAY(BSTR) and VARIANT in examples/arrays.idl
 BYTES, LONGS, HYPERS, NAMES, ANY = 2, 5, 9, 13, 15
-# objects that keep an array, and cells of each
-KEEPERS, KEPT = 100, 65_536
+# objects that keep an array, and cells of each: as many as an image holds of cells of eight bytes
+KEEPERS, KEPT = 25, 65_536
 INTERFACES = 256
 # cells of a property with three parameters, and objects
 CELLS, MANY = (1, 1_000, 100_000), (1, 65_536)

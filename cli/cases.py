@@ -751,6 +751,7 @@ talk(
         puts_of(56, COUNT_ID, i4(0), MEDIUM_FULL),
         creates(57)[:1] + (lambda tag: wire.reply(tag, MEDIUM_FULL),),
         puts_of(55, NAME_ID, name_of(WHOLE_TEXT)),
+        of(55, NAME_ID, name_of(WHOLE_TEXT)),
         puts_of(56, NAME_ID, name_of(259_225), MEDIUM_FULL),
         puts_of(56, NAME_ID, name_of(259_200)),
         creates(57),

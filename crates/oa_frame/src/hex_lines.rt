@@ -5,7 +5,7 @@ ghost use Rattle.hex.specs.Hex.{decode_of, pair_value};
 ghost use Rattle.oa_model.specs.Limits.{max_request_bytes, max_line_characters};
 ghost use Rattle.oa_stream.specs.Ahead.{ahead};
 ghost use Rattle.oa_frame.specs.Digits.{HasValue};
-ghost use Rattle.oa_frame.specs.Lines.{Judges, without_return};
+ghost use Rattle.oa_frame.specs.Lines.{DecodesLine, without_return};
 ghost use Rattle.oa_frame.specs.Framings.{Hands, Inputs, IsWithin, hex_lines, is_fault};
 ghost use Rattle.oa_frame.specs.Paces.{Paced};
 
@@ -68,7 +68,7 @@ fn trimmed(raw: &[u8]) -> &[u8]
 fn judge(line: &[u8], body: &mut [u8], number: u64) -> Read
     requires { length body.now ≡ max_request_bytes }
     ensures len { length body.new ≡ max_request_bytes }
-    ensures says { Judges result number line.now body.new }
+    ensures says { DecodesLine result number line.now body.new }
 {
     if line.is_empty() {
         return Read::Ends(End::Closed);

@@ -9,8 +9,8 @@ use Rattle.oa_wire_array.specs.declared.fault.WireFault.{WireFault}
 use Rattle.oa_wire_array.specs.declared.fault.WireFault.TheVariants as faults
 use Rattle.oa_record.specs.declared.fault.RecordFault.{RecordFault}
 use Rattle.oa_record.specs.declared.fault.RecordFault.TheVariants.{Stub, BadVarType, Memory}
-use Rattle.oa_record.specs.Judging.{Refuses, Sounds, SoundsOne}
-use Rattle.oa_record.specs.Asks.{AllSpell, IsSpelled, IsUnbroken, Spoils, HasBroken, HasBadType}
+use Rattle.oa_record.specs.Judging.{Refuses, TestsFields, TestsField}
+use Rattle.oa_record.specs.Asks.{AllSpell, IsSpelled, IsUnbroken, SpellsNothing, HasBroken, HasBadType}
 
 abbrev pub shown : List (Bor (List ℕ)) → List (List ℕ)
 shown xs = map (λ (x : Bor (List ℕ)). x.now) xs
@@ -30,10 +30,10 @@ take_next xs i d lt =
     take_more (shown xs) i d.now h.0 ∙ ap (λ (x : List ℕ). take i (shown xs) ++ x ∷ []) h.1
 
 -- a field that was read and spells nothing
-spoils : (field : List ℕ) (why : WireFault) → ((v : Variant) → Spells field v → ⊥) × (field_fault field ≡ why) → Spoils field why
+spoils : (field : List ℕ) (why : WireFault) → ((v : Variant) → Spells field v → ⊥) × (field_fault field ≡ why) → SpellsNothing field why
 spoils field why h = record { nothing = h.0; fault = h.1 }
 
-pub broken_at : (xs : List (Bor (List ℕ))) (i : ℕ) (d : Bor (List ℕ)) → i < length xs → Spoils (get_or xs i d).now faults.BadStub → HasBroken (shown xs)
+pub broken_at : (xs : List (Bor (List ℕ))) (i : ℕ) (d : Bor (List ℕ)) → i < length xs → SpellsNothing (get_or xs i d).now faults.BadStub → HasBroken (shown xs)
 broken_at xs i d lt bad = record { front = take i (shown xs); field = (get_or xs i d).now; back = drop (i + 1) (shown xs); whole = split_at xs i d lt; broken = bad }
 
 pub broken_read : (xs : List (Bor (List ℕ))) (i : ℕ) (d : Bor (List ℕ)) (e : WireFault) → i < length xs → e ≡ faults.BadStub → IsReading (get_or xs i d).now (Err e) → HasBroken (shown xs)
@@ -61,7 +61,7 @@ all_spelled (f ∷ fs) (v ∷ vs) h = ((v, h.0), all_spelled fs vs h.1)
 all_spelled [] (v ∷ vs) h = absurd h
 all_spelled (f ∷ fs) [] h = absurd h
 
-bad_type_at : (xs : List (Bor (List ℕ))) (i : ℕ) (d : Bor (List ℕ)) (vs : List Variant) → i < length xs → AllSpell (take i (shown xs)) vs → Spoils (get_or xs i d).now faults.BadVarType → AllByRecursion IsUnbroken (drop (i + 1) (shown xs)) → HasBadType (shown xs) i
+bad_type_at : (xs : List (Bor (List ℕ))) (i : ℕ) (d : Bor (List ℕ)) (vs : List Variant) → i < length xs → AllSpell (take i (shown xs)) vs → SpellsNothing (get_or xs i d).now faults.BadVarType → AllByRecursion IsUnbroken (drop (i + 1) (shown xs)) → HasBadType (shown xs) i
 bad_type_at xs i d vs lt h bad rest = record {
   front = take i (shown xs);
   field = (get_or xs i d).now;
@@ -83,7 +83,7 @@ broken_behind fs n b = record {
   broken = b.broken;
 }
 
-pub sound_ends : (xs : List (Bor (List ℕ))) (i : ℕ) (d : Bor (List ℕ)) (e : RecordFault) → i < length xs → SoundsOne (get_or xs i d).now (Err e) → Sounds (shown xs) (Err e)
+pub sound_ends : (xs : List (Bor (List ℕ))) (i : ℕ) (d : Bor (List ℕ)) (e : RecordFault) → i < length xs → TestsField (get_or xs i d).now (Err e) → TestsFields (shown xs) (Err e)
 sound_ends xs i d Stub lt h = broken_at xs i d lt h
 sound_ends xs i d (BadVarType index) lt h = absurd h
 sound_ends xs i d Memory lt h = tt
@@ -100,7 +100,7 @@ bad_type_read xs i n d e vs lt same h is bad rest =
     let behind : AllByRecursion IsUnbroken (drop (i + 1) (shown xs)) = subst (λ (k : ℕ). AllByRecursion IsUnbroken (drop (k + 1) (shown xs))) same (subst (AllByRecursion IsUnbroken) (behind_is xs (n + 1)) rest) in
     rw same (bad_type_at xs i d vs lt h (spoils _ _ (subst (λ (w : WireFault). IsReading (get_or xs i d).now (Err w)) is bad)) behind)
 
-pub ends_behind : (xs : List (Bor (List ℕ))) (n : ℕ) (e : RecordFault) → Sounds (map (λ (x : Bor (List ℕ)). x.now) (take (length xs - n) (drop n xs))) (Err e) → Refuses (shown xs) e
+pub ends_behind : (xs : List (Bor (List ℕ))) (n : ℕ) (e : RecordFault) → TestsFields (map (λ (x : Bor (List ℕ)). x.now) (take (length xs - n) (drop n xs))) (Err e) → Refuses (shown xs) e
 ends_behind xs n Stub h = broken_behind (shown xs) n (subst HasBroken (behind_is xs n) h)
 ends_behind xs n (BadVarType index) h = absurd h
 ends_behind xs n Memory h = tt

@@ -4,18 +4,18 @@ use Rattle.std.specs.List.{AllByRecursion}
 use Rattle.oa_wire_variant.specs.Variants.{Spells}
 use Rattle.oa_wire_array.specs.declared.fault.WireFault.TheVariants as faults
 use Rattle.oa_record.specs.Layouts.{variant_fields}
-use Rattle.oa_record.specs.Asks.{index_of, IsSpelled, IsUnbroken, Spoils, IsStub, IsBadVarType}
+use Rattle.oa_record.specs.Asks.{index_of, IsSpelled, IsUnbroken, SpellsNothing, IsStub, IsBadVarType}
 use Rattle.oa_record.proofs.Requests.{one_layout}
 
-one_fault : (field : List ℕ) → Spoils field faults.BadVarType → Spoils field faults.BadStub → ⊥
+one_fault : (field : List ℕ) → SpellsNothing field faults.BadVarType → SpellsNothing field faults.BadStub → ⊥
 one_fault field a b = let e : faults.BadVarType ≡ faults.BadStub = sym a.fault ∙ b.fault in absurd cc
 
 -- where the lowest bad type is named, no field is broken
-all_unbroken : (front back : List (List ℕ)) (field : List ℕ) → AllByRecursion IsSpelled front → Spoils field faults.BadVarType → AllByRecursion IsUnbroken back → AllByRecursion IsUnbroken (front ++ field ∷ back)
+all_unbroken : (front back : List (List ℕ)) (field : List ℕ) → AllByRecursion IsSpelled front → SpellsNothing field faults.BadVarType → AllByRecursion IsUnbroken back → AllByRecursion IsUnbroken (front ++ field ∷ back)
 all_unbroken [] back field h bad rest = (one_fault field bad, rest)
 all_unbroken (f ∷ front) back field h bad rest = ((λ broken. broken.nothing h.0.0 h.0.1), all_unbroken front back field h.1 bad rest)
 
-none_broken : (front back : List (List ℕ)) (field : List ℕ) → AllByRecursion IsUnbroken (front ++ field ∷ back) → Spoils field faults.BadStub → ⊥
+none_broken : (front back : List (List ℕ)) (field : List ℕ) → AllByRecursion IsUnbroken (front ++ field ∷ back) → SpellsNothing field faults.BadStub → ⊥
 none_broken [] back field h broken = h.0 broken
 none_broken (f ∷ front) back field h broken = none_broken front back field h.1 broken
 
@@ -28,7 +28,7 @@ one_code body index (inr a) b =
     a.broken.broken
 
 -- the first field that spells no value, in two splits of one list
-same_place : (a b p q : List (List ℕ)) (x y : List ℕ) → AllByRecursion IsSpelled a → AllByRecursion IsSpelled b → Spoils x faults.BadVarType → Spoils y faults.BadVarType → a ++ x ∷ p ≡ b ++ y ∷ q → length a ≡ length b
+same_place : (a b p q : List (List ℕ)) (x y : List ℕ) → AllByRecursion IsSpelled a → AllByRecursion IsSpelled b → SpellsNothing x faults.BadVarType → SpellsNothing y faults.BadVarType → a ++ x ∷ p ≡ b ++ y ∷ q → length a ≡ length b
 same_place [] [] p q x y ha hb bad_x bad_y e = refl
 same_place [] (f ∷ b) p q x y ha hb bad_x bad_y e = let same : f ≡ x = cc in absurd (bad_x.nothing hb.0.0 (subst (λ (r : List ℕ). Spells r hb.0.0) same hb.0.1))
 same_place (f ∷ a) [] p q x y ha hb bad_x bad_y e = let same : f ≡ y = cc in absurd (bad_y.nothing ha.0.0 (subst (λ (r : List ℕ). Spells r ha.0.0) same ha.0.1))

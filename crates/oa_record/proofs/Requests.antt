@@ -15,7 +15,7 @@ use Rattle.oa_record.specs.declared.opcode.Opcode.TheVariants as opcodes
 use Rattle.oa_record.specs.declared.fault.RecordFault.{RecordFault}
 use Rattle.oa_record.specs.declared.fault.RecordFault.TheVariants.{Stub, BadVarType, Memory}
 use Rattle.oa_record.specs.declared.request.Request.TheVariants as requests
-use Rattle.oa_record.specs.Asks.{Lies, AllSpell, call_of, index_of, with_last, request_of, request_opcode, Asks, Spoils, HasBroken}
+use Rattle.oa_record.specs.Asks.{HasLayout, AllSpell, call_of, index_of, with_last, request_of, request_opcode, Asks, SpellsNothing, HasBroken}
 use Rattle.oa_record.specs.Asks.{HasBadType, HasNoLayout, IsStub, IsBadVarType, IsRequest}
 use Rattle.oa_record.specs.declared.request.Request.{Request}
 use Rattle.oa_record.specs.declared.request.Call.{Call}
@@ -37,7 +37,7 @@ same_spelled one [] [] (w ∷ ws) a b = absurd b
 same_spelled one (f ∷ fs) [] ws a b = absurd a
 same_spelled one (f ∷ fs) (v ∷ vs) [] a b = absurd b
 
-pub one_layout : (body : List ℕ) (p q : Layout) → Lies p body → Lies q body → p ≡ q
+pub one_layout : (body : List ℕ) (p q : Layout) → HasLayout p body → HasLayout q body → p ≡ q
 one_layout body p q a b = one_value layout_reads body p q a.listed a.form b.listed b.form
 
 abbrev some_request : Request → Option Request
@@ -78,13 +78,13 @@ opcode_stands body q a =
     (h.0, h.1 ∙ ap number_of (sym (opcode_same a.parts a.values q a.is)))
 
 -- a field that spells nothing is no field of values
-not_spelled : (why : WireFault) (front back : List (List ℕ)) (field : List ℕ) (vs : List Variant) → Spoils field why → AllSpell (front ++ field ∷ back) vs → ⊥
+not_spelled : (why : WireFault) (front back : List (List ℕ)) (field : List ℕ) (vs : List Variant) → SpellsNothing field why → AllSpell (front ++ field ∷ back) vs → ⊥
 not_spelled why [] back field [] bad s = absurd s
 not_spelled why [] back field (v ∷ vs) bad s = bad.nothing v s.0
 not_spelled why (f ∷ front) back field [] bad s = absurd s
 not_spelled why (f ∷ front) back field (v ∷ vs) bad s = not_spelled why front back field vs bad s.1
 
-spoilt_asks_nothing : (why : WireFault) (body : List ℕ) (q : Request) (parts : Layout) (front back : List (List ℕ)) (field : List ℕ) → Lies parts body → variant_fields parts ≡ front ++ field ∷ back → Spoils field why → Asks body q → ⊥
+spoilt_asks_nothing : (why : WireFault) (body : List ℕ) (q : Request) (parts : Layout) (front back : List (List ℕ)) (field : List ℕ) → HasLayout parts body → variant_fields parts ≡ front ++ field ∷ back → SpellsNothing field why → Asks body q → ⊥
 spoilt_asks_nothing why body q parts front back field lies is bad a =
     let same : a.parts ≡ parts = one_layout body a.parts parts a.lies lies in
     not_spelled why front back field a.values bad (subst (λ (fs : List (List ℕ)). AllSpell fs a.values) (ap variant_fields same ∙ is) a.spelled)
@@ -105,7 +105,7 @@ no_layout body none parts lies = let some = whole_again layout_reads body parts 
     clash None a parts b = cc
     clash (Some x) a parts b = cc
 
-lies_so : (body : List ℕ) (parts : Layout) → length body ≤ max_request_bytes → whole layout_at body ≡ Some parts → Lies parts body
+lies_so : (body : List ℕ) (parts : Layout) → length body ≤ max_request_bytes → whole layout_at body ≡ Some parts → HasLayout parts body
 lies_so body parts short e =
     let h = whole_takes layout_reads body parts e in
     record { short = short; listed = h.0; form = h.1 }

@@ -19,7 +19,7 @@ use Rattle.oa_record.specs.declared.fault.RecordFault.{RecordFault}
 use Rattle.oa_record.specs.declared.fault.RecordFault.TheVariants.{Stub, BadVarType, Memory}
 
 -- the body is laid out so, for an opcode whose requests are read
-pub record Lies (parts : Layout) (body : List ℕ) : Type 0 where
+pub record HasLayout (parts : Layout) (body : List ℕ) : Type 0 where
   pub short : length body ≤ max_request_bytes
   pub listed : is_listed (opcode_of parts) ≡ true
   pub form : layout parts 0 body
@@ -72,7 +72,7 @@ request_opcode Objects = opcodes.Objects
 -- the body asks this request
 pub record Asks (body : List ℕ) (request : Request) : Type 0 where
   pub parts : Layout
-  pub lies : Lies parts body
+  pub lies : HasLayout parts body
   pub values : List Variant
   pub spelled : AllSpell (variant_fields parts) values
   pub is : request_of parts values ≡ Some request
@@ -82,12 +82,12 @@ abbrev pub IsSpelled : List ℕ → Type 0
 IsSpelled field = (v : Variant) × Spells field v
 
 -- a field that spells none, with its fault
-pub record Spoils (field : List ℕ) (why : WireFault) : Type 0 where
+pub record SpellsNothing (field : List ℕ) (why : WireFault) : Type 0 where
   pub nothing : (v : Variant) → Spells field v → ⊥
   pub fault : field_fault field ≡ why
 
 abbrev pub IsUnbroken : List ℕ → Type 0
-IsUnbroken field = Spoils field faults.BadStub → ⊥
+IsUnbroken field = SpellsNothing field faults.BadStub → ⊥
 
 -- a broken field
 pub record HasBroken (fields : List (List ℕ)) : Type 0 where
@@ -95,7 +95,7 @@ pub record HasBroken (fields : List (List ℕ)) : Type 0 where
   pub field : List ℕ
   pub back : List (List ℕ)
   pub whole : fields ≡ front ++ field ∷ back
-  pub broken : Spoils field faults.BadStub
+  pub broken : SpellsNothing field faults.BadStub
 
 -- the lowest index of a field whose type is none of a value, where no field is broken
 pub record HasBadType (fields : List (List ℕ)) (index : ℕ) : Type 0 where
@@ -105,16 +105,16 @@ pub record HasBadType (fields : List (List ℕ)) (index : ℕ) : Type 0 where
   pub whole : fields ≡ front ++ field ∷ back
   pub place : length front ≡ index
   pub lowest : AllByRecursion IsSpelled front
-  pub bad : Spoils field faults.BadVarType
+  pub bad : SpellsNothing field faults.BadVarType
   pub unbroken : AllByRecursion IsUnbroken back
 
 -- the body has no layout
 abbrev pub HasNoLayout : List ℕ → Type 0
-HasNoLayout body = (parts : Layout) → Lies parts body → ⊥
+HasNoLayout body = (parts : Layout) → HasLayout parts body → ⊥
 
 pub record IsBroken (body : List ℕ) : Type 0 where
   pub parts : Layout
-  pub lies : Lies parts body
+  pub lies : HasLayout parts body
   pub broken : HasBroken (variant_fields parts)
 
 -- the body is refused as bad stub data: it has no layout, or some field of it is broken
@@ -138,7 +138,7 @@ index_of Layout.ObjectsBody place = Some place
 -- the body is refused for the type of a value: it has a layout with no broken field, and this is the index of the first field with a type of no value
 pub record IsBadVarType (body : List ℕ) (index : Option ℕ) : Type 0 where
   pub parts : Layout
-  pub lies : Lies parts body
+  pub lies : HasLayout parts body
   pub place : ℕ
   pub bad : HasBadType (variant_fields parts) place
   pub named : index ≡ index_of parts place

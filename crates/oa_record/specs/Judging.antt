@@ -5,7 +5,7 @@ use Rattle.oa_variant.specs.declared.variant.Variant.{Variant}
 use Rattle.oa_wire_array.specs.declared.fault.WireFault.TheVariants as faults
 use Rattle.oa_record.specs.Layouts.{Layout, opcode_of, variant_fields}
 use Rattle.oa_record.specs.Opcodes.{takes_memory}
-use Rattle.oa_record.specs.Asks.{AllSpell, IsUnbroken, Spoils, HasBroken, HasBadType, index_of, request_of}
+use Rattle.oa_record.specs.Asks.{AllSpell, IsUnbroken, SpellsNothing, HasBroken, HasBadType, index_of, request_of}
 use Rattle.oa_record.specs.declared.request.Request.{Request}
 use Rattle.oa_record.specs.declared.fault.RecordFault.{RecordFault}
 use Rattle.oa_record.specs.declared.fault.RecordFault.TheVariants.{Stub, BadVarType, Memory}
@@ -17,23 +17,23 @@ Refuses fields (BadVarType index) = (i : ℕ) × (index ≡ Some i) × HasBadTyp
 Refuses fields Memory = Unit {0}
 
 -- the values of all fields, or their refusal
-abbrev pub Judges : {X : Type 0} → (X → List Variant) → List (List ℕ) → Result X RecordFault → Type 0
-Judges values fields (Ok x) = AllSpell fields (values x)
-Judges values fields (Err e) = Refuses fields e
+abbrev pub AnswersFields : {X : Type 0} → (X → List Variant) → List (List ℕ) → Result X RecordFault → Type 0
+AnswersFields values fields (Ok x) = AllSpell fields (values x)
+AnswersFields values fields (Err e) = Refuses fields e
 
 -- whether a field is unbroken
-abbrev pub SoundsOne : List ℕ → Result (Unit {0}) RecordFault → Type 0
-SoundsOne field (Ok u) = IsUnbroken field
-SoundsOne field (Err Stub) = Spoils field faults.BadStub
-SoundsOne field (Err (BadVarType index)) = ⊥
-SoundsOne field (Err Memory) = Unit {0}
+abbrev pub TestsField : List ℕ → Result (Unit {0}) RecordFault → Type 0
+TestsField field (Ok u) = IsUnbroken field
+TestsField field (Err Stub) = SpellsNothing field faults.BadStub
+TestsField field (Err (BadVarType index)) = ⊥
+TestsField field (Err Memory) = Unit {0}
 
 -- whether no field is broken
-abbrev pub Sounds : List (List ℕ) → Result (Unit {0}) RecordFault → Type 0
-Sounds fields (Ok u) = AllByRecursion IsUnbroken fields
-Sounds fields (Err Stub) = HasBroken fields
-Sounds fields (Err (BadVarType index)) = ⊥
-Sounds fields (Err Memory) = Unit {0}
+abbrev pub TestsFields : List (List ℕ) → Result (Unit {0}) RecordFault → Type 0
+TestsFields fields (Ok u) = AllByRecursion IsUnbroken fields
+TestsFields fields (Err Stub) = HasBroken fields
+TestsFields fields (Err (BadVarType index)) = ⊥
+TestsFields fields (Err Memory) = Unit {0}
 
 -- the request of a layout, with values that its fields spell
 pub record Takes (parts : Layout) (request : Request) : Type 0 where

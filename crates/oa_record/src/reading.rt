@@ -1,7 +1,7 @@
 //! Bodies as requests.
 ghost use Rattle.std.specs.Prelude.{◌≡◌, ◌<◌, ◌≤◌, ◌++◌, ◌∷◌, [], map, length, IfOk, IfErr};
 ghost use Rattle.oa_record.specs.Asks.{IsRequest, call_of, tag_at};
-ghost use Rattle.oa_record.specs.Judging.{Judges, Requests, Sounds, SoundsOne, put_fault};
+ghost use Rattle.oa_record.specs.Judging.{AnswersFields, Requests, TestsFields, TestsField, put_fault};
 ghost use Rattle.oa_record.specs.Layouts.{Layout};
 ghost use Rattle.oa_record.specs.Reading.{element_of, put_of};
 ghost use Rattle.oa_record.specs.Shown.{shown};
@@ -31,7 +31,7 @@ pub fn tag_of(body: &[u8]) -> u32
 
 // Looks at one field.
 fn unbroken(alloc: Global, field: &[u8]) -> Result<(), RecordFault>
-    ensures { SoundsOne field.now result }
+    ensures { TestsField field.now result }
 {
     match read_variant(alloc, field) {
         Ok(_) | Err(WireFault::BadVarType) => Ok(()),
@@ -42,7 +42,7 @@ fn unbroken(alloc: Global, field: &[u8]) -> Result<(), RecordFault>
 
 // Looks for a broken field.
 fn sound(alloc: Global, fields: &[&[u8]]) -> Result<(), RecordFault>
-    ensures { Sounds (map (λ f. f.now) fields.now) result }
+    ensures { TestsFields (map (λ f. f.now) fields.now) result }
 {
     'fields: for field in fields {
         unbroken(alloc, field)?;
@@ -53,7 +53,7 @@ fn sound(alloc: Global, fields: &[&[u8]]) -> Result<(), RecordFault>
 // The values of all fields; a bad type is told by its place among them.
 fn values(alloc: Global, fields: &[&[u8]]) -> Result<Vec<Variant>, RecordFault>
     requires { length fields.now ≤ 33 }
-    ensures judged { Judges (λ v. v.items) (map (λ f. f.now) fields.now) result }
+    ensures judged { AnswersFields (λ v. v.items) (map (λ f. f.now) fields.now) result }
     ensures count { IfOk result (λ v. length v.items ≡ length fields.now) }
 {
     let mut values = Vec::with_capacity(alloc, fields.len())?;
@@ -74,7 +74,7 @@ fn values(alloc: Global, fields: &[&[u8]]) -> Result<Vec<Variant>, RecordFault>
 
 // A call with the values of its arguments.
 fn called(alloc: Global, call: RawCall<'_>) -> Result<Call, RecordFault>
-    ensures judged { Judges (λ q. q.arguments) call.entry.fields result }
+    ensures judged { AnswersFields (λ q. q.arguments) call.entry.fields result }
     ensures is { IfOk result (λ q. q ≡ call_of call.entry q.arguments) }
 {
     let values = values(alloc, call.fields())?;

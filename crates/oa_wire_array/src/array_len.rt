@@ -79,7 +79,7 @@ pub(crate) fn is_pointed(elem: VarType) -> bool
 }
 
 // The bytes of a cell without a pointee.
-fn width_of(elem: VarType) -> usize
+fn plain_len(elem: VarType) -> usize
     requires plain { is_pointed elem ≡ false }
     requires typed { IsSome (sf_type_of elem) }
     ensures value { element_size_of elem ≡ Some result }
@@ -104,7 +104,7 @@ fn plain_end(elem: VarType, cells: &[Scalar], place: usize) -> usize
     if count == 0 {
         return place;
     }
-    let width = width_of(elem);
+    let width = plain_len(elem);
     aligned(width, place) + width * count
 }
 

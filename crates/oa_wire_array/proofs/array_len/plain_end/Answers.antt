@@ -7,11 +7,11 @@ pub returns : goal.returns
 returns c =
     let some : 0 < length c.args.cells.now = search rules in
     let own = own_types c.args.elem c.requires.plain c.args.cells.now c.requires.fits in
-    let few = row_small (length c.args.cells.now) c.width_of-width.result c.width_of-width.ensures.width in
+    let few = row_small (length c.args.cells.now) c.plain_len-width.result c.plain_len-width.ensures.width in
     record {
       value = λ out e.
-          let here = row_from c.args.elem c.width_of-width.result c.width_of-width.ensures.width c.width_of-width.ensures.value c.requires.plain c.args.cells.now own some out in
-          let pad = ap (padding c.width_of-width.result) e in
+          let here = row_from c.args.elem c.plain_len-width.result c.plain_len-width.ensures.width c.plain_len-width.ensures.value c.requires.plain c.args.cells.now own some out in
+          let pad = ap (padding c.plain_len-width.result) e in
           omega (arith, here, pad, e, c.aligned.ensures.value);
-      near = omega (arith, few, some, c.aligned.ensures.near, c.width_of-width.ensures.small);
+      near = omega (arith, few, some, c.aligned.ensures.near, c.plain_len-width.ensures.small);
     }

@@ -1,5 +1,5 @@
 use Rattle.oa_wire_array.proofs.ArrayLengths.{size_is, width_bounds}
-use Rattle.oa_wire_array.proofs.array_len.width_of.Goals as goal
+use Rattle.oa_wire_array.proofs.array_len.plain_len.Goals as goal
 
 pub returns : goal.returns
 returns c =

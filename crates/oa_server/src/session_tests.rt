@@ -532,7 +532,8 @@ fn a_byte_in_every_second_call_is_enough(rt: HostRuntime) -> Result<(), Fail> {
     Ok(())
 }
 
-/// What is left of three lines of 50 characters after a session over a writer that fails after so many calls; a reply takes 18 of them.
+/// What is left of three lines of 50 characters after a session over a writer that fails after so many calls; a reply takes 17 of them, each of at most three
+/// characters.
 fn left_by(alloc: Global, group: usize, calls: u32) -> Result<(Served, usize), Fail>
     requires positive { 1 ≤ group }
     requires small { group ≤ max_group }
@@ -555,13 +556,13 @@ fn failed(requests: u64) -> Served {
 
 #[test]
 fn nothing_is_read_past_a_failed_write(rt: HostRuntime) -> Result<(), Fail> {
-    let (how, left) = left_by(rt.alloc(), 1, 17)?;
+    let (how, left) = left_by(rt.alloc(), 1, 16)?;
     assert_eq!(rt; how, failed(1));
     assert_eq!(rt; left, 100);
-    let (how, left) = left_by(rt.alloc(), 1, 18)?;
+    let (how, left) = left_by(rt.alloc(), 1, 17)?;
     assert_eq!(rt; how, failed(2));
     assert_eq!(rt; left, 50);
-    let (how, left) = left_by(rt.alloc(), 3, 53)?;
+    let (how, left) = left_by(rt.alloc(), 3, 50)?;
     assert_eq!(rt; how, failed(3));
     assert_eq!(rt; left, 0);
     let (how, left) = left_by(rt.alloc(), 1024, 0)?;

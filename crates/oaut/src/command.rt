@@ -1,4 +1,4 @@
-// The command line.
+//! The command line.
 use crate::fault::Fault;
 use clap::{Arg, ArgAction, Command, value_parser};
 use std::alloc::{AllocError, Global};

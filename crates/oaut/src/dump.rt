@@ -1,4 +1,4 @@
-// The objects of a store as lines of text.
+//! The objects of a store as lines of text.
 ghost use Rattle.std.specs.Prelude.{◌≡◌, ◌≤◌, false, length, OnOk};
 
 use crate::fault::Fault;

@@ -1,4 +1,4 @@
-// What ends the program early: one line on standard error, and a status.
+//! What ends the program early: one line on standard error, and a status.
 use crate::place::Place;
 use oa_disk::DeviceFault;
 use oa_idl::ParseError;
@@ -55,7 +55,8 @@ pub(crate) enum Fault {
 }
 
 impl Fault {
-    /// 1 for a file, a device, a reader or a writer, 2 for a command line or a library, 3 for a store, 4 for a record, 5 for want of memory.
+    /// 1 for a file, a device, a reader or a writer, 2 for a command line or a library, 3 for a store, 4 for a record, 5 for want of
+    /// memory.
     pub(crate) fn status(&self) -> u8 {
         match self {
             Fault::CannotRead(_)

@@ -1,4 +1,4 @@
-// Texts of libraries, and the libraries that they stand for.
+//! Texts of libraries, and the libraries that they stand for.
 ghost use Rattle.std.specs.Prelude.{◌≤◌, length, IfSome};
 
 use crate::fault::Fault;
@@ -17,8 +17,8 @@ pub(crate) const STANDARD_INPUT: &str = "-";
 /// The bytes that are read at once of what stands behind a text's limit.
 const PIECE: u64 = 65_536;
 
-/// The text of a library, from a file or from standard input. Of a text above the limit one piece at a time is kept, and it is read on only as long as it
-/// is UTF-8: that fault goes before the limit, wherever it stands.
+/// The text of a library, from a file or from standard input. Of a text above the limit one piece at a time is kept, and it is read on only
+/// as long as it is UTF-8: that fault goes before the limit, wherever it stands.
 pub(crate) fn read_text(rt: &HostRuntime, alloc: Global, path: &str) -> Result<String, Fault> {
     if path == STANDARD_INPUT {
         return text_of(alloc, &mut rt.reader(), path);

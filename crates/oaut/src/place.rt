@@ -1,4 +1,4 @@
-// Where in a text a fault stands, for a person to read.
+//! Where in a text a fault stands, for a person to read.
 use crate::shown::shown_name;
 use std::alloc::{AllocError, Global};
 use std::fmt;

@@ -1,4 +1,4 @@
-// Answering requests with objects in memory.
+//! Answering requests with objects in memory.
 use crate::fault::Fault;
 use crate::library::{STANDARD_INPUT, library_of, read_text};
 use crate::session::hold;

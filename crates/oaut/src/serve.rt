@@ -1,4 +1,4 @@
-// Answering requests with objects that a store keeps.
+//! Answering requests with objects that a store keeps.
 use crate::fault::Fault;
 use crate::library::{STANDARD_INPUT, library_of, read_text};
 use crate::session::hold;

@@ -1,4 +1,4 @@
-// Sessions over standard input and output.
+//! Sessions over standard input and output.
 ghost use Rattle.std.specs.Prelude.{◌≤◌};
 ghost use Rattle.oa_model.specs.Limits.{max_group};
 
@@ -8,8 +8,8 @@ use oa_server::{End, Server};
 use oa_stream::{Ahead, Behind, Inlet, Outlet};
 use std::io;
 
-/// Answers the requests of standard input on standard output, until the input ends or is refused: records, or lines of hexadecimal digits, so many of them
-/// committed together.
+/// Answers the requests of standard input on standard output, until the input ends or is refused: records, or lines of hexadecimal digits,
+/// so many of them committed together.
 pub(crate) fn hold<D: Disk + Drop>(
     rt: &HostRuntime,
     server: &mut Server<D>,

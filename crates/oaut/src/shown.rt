@@ -1,4 +1,4 @@
-// Names as a line of standard error shows them.
+//! Names as a line of standard error shows them.
 use std::alloc::{AllocError, Global};
 
 /// A file's name, with `\u{a}` and the like for its control characters: one that ends a line would break a fault in two.

@@ -1,26 +1,23 @@
-// Files that hold a store.
+//! Files that hold a store.
 use crate::fault::Fault;
 use crate::library::{library_of, read_text, unread};
 use crate::shown::shown_name;
 use crate::streams::Streams;
 use oa_disk::FileDisk;
-use oa_idl::{Limit, ParseError};
-use oa_model::MAX_LIBRARY_BYTES;
 use oa_store::STORE_BYTES;
 use oa_stream::{Outlet, Sink};
-use oa_typelib::Library;
 use std::alloc::Global;
 use std::io;
 use std::io::ErrorKind;
 
-/// Makes a file the store of a library, without objects, and says so. A file that is not there is made; one that is there is used in its own length, and
-/// what it held is gone.
+/// Makes a file the store of a library, without objects, and says so. A file that is not there is made; one that is there is used in its
+/// own length, and what it held is gone.
 pub(crate) fn format_store(rt: &HostRuntime, path: &str, library: &str) -> Result<(), Fault> {
     let alloc = rt.alloc();
     let _streams = Streams::new(rt);
     let library = library_of(alloc, &read_text(rt, alloc, library)?)?;
     let mut disk = found_or_made(rt, alloc, path)?;
-    lay_down(alloc, &mut disk, &library)?;
+    oa_store::format(alloc, &mut disk, library.text())?;
     let mut writer = Outlet::new(io::writer(rt));
     writer.put(b"formatted\n")?;
     writer.deliver()?;
@@ -51,14 +48,4 @@ fn made(rt: &HostRuntime, alloc: Global, path: &str) -> Result<FileDisk, Fault> 
         Err(error) if error.kind() == ErrorKind::OutOfMemory => Err(Fault::Memory),
         Err(_) => Err(Fault::CannotWrite(shown_name(alloc, path)?)),
     }
-}
-
-/// Lays the store of a library down, which is kept as its canonical text.
-fn lay_down(alloc: Global, disk: &mut FileDisk, library: &Library) -> Result<(), Fault> {
-    let text = library.text();
-    if text.len() > MAX_LIBRARY_BYTES {
-        return Err(Fault::Parse(ParseError::Limit(Limit::Text)));
-    }
-    oa_store::format(alloc, disk, text)?;
-    Ok(())
 }

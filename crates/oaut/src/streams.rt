@@ -1,8 +1,9 @@
-// Standard streams that are closed.
+//! Standard streams that are closed.
 use std::fs::File;
 
-/// What takes the place of standard streams that are closed, as long as it is kept. Without it a file that is opened next would take it, and be read as the
-/// requests or written over by the replies. A folder can be neither read nor written, so a closed stream stays one that fails.
+/// What takes the place of standard streams that are closed, as long as it is kept. Without it a file that is opened next would take it,
+/// and be read as the requests or written over by the replies. A folder can be neither read nor written, so a closed stream stays one that
+/// fails.
 #[derive(Drop)]
 pub(crate) struct Streams {
     input: Option<File>,

@@ -1,4 +1,4 @@
-// The canonical text of a library.
+//! The canonical text of a library.
 use crate::fault::Fault;
 use crate::library::{library_of, read_text};
 use crate::place::Place;

@@ -1,5 +1,5 @@
-// Lists of attributes.
-ghost use Rattle.std.specs.Prelude.{◌≡◌, ℤ, codes};
+//! Lists of attributes.
+ghost use Rattle.std.specs.Prelude.{codes};
 ghost use Rattle.oa_idl.specs.declared.seen.HeadSeen.{HeadSeen};
 ghost use Rattle.oa_idl.specs.declared.seen.PropertySeen.{PropertySeen};
 ghost use Rattle.oa_idl.specs.Words.{passes};

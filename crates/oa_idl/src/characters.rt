@@ -1,4 +1,4 @@
-// The characters of a default string.
+//! The characters of a default string.
 ghost use Rattle.std.specs.Prelude.{◌≡◌};
 
 use std::marker::Model;

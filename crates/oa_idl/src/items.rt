@@ -1,4 +1,4 @@
-// The items of a library.
+//! The items of a library.
 use crate::method::Method;
 use crate::name::Name;
 use crate::parts::{Entry, Property};

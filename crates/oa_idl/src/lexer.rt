@@ -1,3 +1,4 @@
+//! The tokens of a library text.
 ghost use Rattle.std.specs.Prelude.{◌≡◌, ◌<◌, length, IfOk};
 ghost use Rattle.oa_idl.specs.Tokens.{front, IsPiece, AreTokens};
 

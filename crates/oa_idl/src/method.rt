@@ -1,4 +1,4 @@
-// Members of the section `methods:`.
+//! Members of the section `methods:`.
 use crate::name::Name;
 use crate::parts::{MethodKind, Parameter};
 use oa_model::ValueType;

@@ -1,4 +1,4 @@
-// The section `methods:`.
+//! The section `methods:`.
 ghost use Rattle.std.specs.Prelude.{◌≡◌, ◌<◌, IfOk, codes};
 ghost use Rattle.oa_model.specs.Limits.{max_members};
 ghost use Rattle.oa_idl.specs.Forms.{nowhere};

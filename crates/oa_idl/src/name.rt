@@ -1,4 +1,4 @@
-// Names of a library text.
+//! Names of a library text.
 ghost use Rattle.std.specs.Prelude.{◌≡◌};
 
 use std::marker::Model;

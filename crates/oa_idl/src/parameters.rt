@@ -1,4 +1,4 @@
-// Parameters of a member.
+//! Parameters of a member.
 ghost use Rattle.std.specs.Prelude.{◌≡◌, ◌<◌, IfOk, codes};
 ghost use Rattle.oa_model.specs.Limits.{max_parameters};
 ghost use Rattle.oa_idl.specs.Forms.{nowhere};

@@ -1,4 +1,4 @@
-// The parts of a tree.
+//! The parts of a tree.
 use crate::characters::Characters;
 use crate::name::Name;
 use oa_model::ValueType;

@@ -1,3 +1,4 @@
+//! Classes of bytes, and how far a stretch of them goes.
 ghost use Rattle.std.specs.Prelude.{◌≡◌, ◌≤◌, ◌<◌, length, drop, IsTrue, false};
 ghost use Rattle.oa_idl.specs.Bytes.{is_in, run, end_from, is_guid, group, IsWithin, closes, marks};
 

@@ -1,4 +1,4 @@
-// What was seen so far of a list that is being read.
+//! What was seen so far of a list that is being read.
 use crate::parts::{Literal, MethodKind, Version};
 use uuid::Uuid;
 

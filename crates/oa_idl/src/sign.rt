@@ -1,4 +1,4 @@
-// Words that stand for themselves.
+//! Words that stand for themselves.
 ghost use Rattle.std.specs.Prelude.{◌≡◌};
 ghost use Rattle.std.specs.Str.{bytes_eq};
 ghost use Rattle.oa_idl.specs.Words.{kind_of, is_structure, is_type_mark, is_reserved, plain_type, unsigned_type, type_named, if_cell};

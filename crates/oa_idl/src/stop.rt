@@ -1,4 +1,4 @@
-// Why a text has no tree.
+//! Why a text has no tree.
 ghost use Rattle.std.specs.Prelude.{◌≡◌};
 ghost use Rattle.oa_idl.specs.TextLimits.{limit_of};
 ghost use Rattle.oa_idl.specs.declared.stop.Stop.TheVariants.{Memory};

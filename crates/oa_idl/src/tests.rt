@@ -1,4 +1,4 @@
-// Texts that are read and printed, and their tokens; what is refused is shown by the cases of the program.
+//! Texts that are read and printed, and their tokens; what is refused is shown by the cases of the program.
 use super::*;
 use std::alloc::Global;
 use std::test::*;

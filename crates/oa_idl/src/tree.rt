@@ -1,4 +1,4 @@
-// The tree of a library text.
+//! The tree of a library text.
 use crate::items::Item;
 use crate::name::Name;
 use crate::parts::Version;

@@ -4,8 +4,8 @@ use Rattle.std.proofs.Common.{Some, None, refl, sym, ap, subst, ◌∙◌, arith
 use Rattle.std.specs.Prelude.{◌&&◌, ◌==◌, slice_get}
 use Rattle.std.proofs.lemmas.List.{map-append, length-append, length-map}
 use Rattle.std.proofs.Math.Nat.{sub_self}
-use Rattle.oa_idl.specs.declared.lexer.Kind.{Kind}
-use Rattle.oa_idl.specs.declared.lexer.Kind.TheVariants as kinds
+use Rattle.oa_idl.specs.declared.lexer.TokenKind.{TokenKind}
+use Rattle.oa_idl.specs.declared.lexer.TokenKind.TheVariants as kinds
 use Rattle.oa_idl.specs.declared.lexer.Token.{Token}
 use Rattle.oa_idl.specs.declared.lexer.Piece.{Piece}
 use Rattle.oa_idl.specs.declared.lexer.Piece.TheVariants.{Word, Gap, Broken}
@@ -49,7 +49,7 @@ front_no_end bs = pick (is_guid bs) _ _ refl (pick (is_in classes.Letter (get_or
     (pick (get_or bs 0 0 == 34) _ _ (text_closed (end_from Quote false (drop 1 bs))) (pick (is_in classes.Mark (get_or bs 0 0)) _ _ refl (pick (is_in classes.Blank (get_or bs 0 0)) _ _ tt (pick (get_or bs 0 0 == 47 && get_or bs 1 0 == 47) _ _ tt
     (pick (get_or bs 0 0 == 47 && get_or bs 1 0 == 42) _ _ (gap_closed (end_from Comment false (drop 2 bs))) tt))))))))
 
-word_no_end : (bs : List ℕ) (kind : Kind) (n : ℕ) → front bs ≡ Word kind n → same_kind kind kinds.End ≡ false
+word_no_end : (bs : List ℕ) (kind : TokenKind) (n : ℕ) → front bs ≡ Word kind n → same_kind kind kinds.End ≡ false
 word_no_end bs kind n is = subst NoEnd is (front_no_end bs)
 
 end_passes : passes [] end_word ≡ true

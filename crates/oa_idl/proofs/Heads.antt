@@ -7,8 +7,8 @@ use Rattle.std.proofs.lemmas.Bool.{and_parts}
 use Rattle.std.proofs.lemmas.Slice.Eq.{bytes_eq-Decides}
 use Rattle.std.proofs.lemmas.List.{length-append}
 use Rattle.oa_model.specs.declared.var_type.VarType.{VarType}
-use Rattle.oa_idl.specs.declared.lexer.Kind.{Kind}
-use Rattle.oa_idl.specs.declared.lexer.Kind.TheVariants as kinds
+use Rattle.oa_idl.specs.declared.lexer.TokenKind.{TokenKind}
+use Rattle.oa_idl.specs.declared.lexer.TokenKind.TheVariants as kinds
 use Rattle.oa_idl.specs.Forms.{Word, Then, this, one}
 use Rattle.oa_idl.specs.Words.{same_kind, kind_of, passes, is_text, id_of, type_of, plain_type, if_cell, amount_of, characters_of}
 use Rattle.oa_idl.specs.Reading.{heads}
@@ -46,7 +46,7 @@ one_heads meaning test x apart text more f = ap (λ (ws : List Word). heads test
 
 -- ---- numbers are no signs
 
-number_kind : (k : Kind) → same_kind k kinds.Number ≡ true → same_kind k kinds.Mark ≡ false
+number_kind : (k : TokenKind) → same_kind k kinds.Number ≡ true → same_kind k kinds.Mark ≡ false
 number_kind kinds.Guid e = absurd cc
 number_kind kinds.Name e = absurd cc
 number_kind kinds.Number e = refl
@@ -107,7 +107,7 @@ kind_known : {A : Type 0} (b : Bool) (o : Option A) (x : A) → (if b then o els
 kind_known true o x e = refl
 kind_known false o x e = absurd cc
 
-number_is : (k : Kind) → same_kind k kinds.Number ≡ true → k ≡ kinds.Number
+number_is : (k : TokenKind) → same_kind k kinds.Number ≡ true → k ≡ kinds.Number
 number_is kinds.Guid e = absurd cc
 number_is kinds.Name e = absurd cc
 number_is kinds.Number e = refl
@@ -116,7 +116,7 @@ number_is kinds.Mark e = absurd cc
 number_is kinds.Junk e = absurd cc
 number_is kinds.End e = absurd cc
 
-text_is : (k : Kind) → same_kind k kinds.Text ≡ true → k ≡ kinds.Text
+text_is : (k : TokenKind) → same_kind k kinds.Text ≡ true → k ≡ kinds.Text
 text_is kinds.Guid e = absurd cc
 text_is kinds.Name e = absurd cc
 text_is kinds.Number e = absurd cc
@@ -125,7 +125,7 @@ text_is kinds.Mark e = absurd cc
 text_is kinds.Junk e = absurd cc
 text_is kinds.End e = absurd cc
 
-mark_no_text : (k : Kind) → same_kind k kinds.Mark ≡ true → same_kind k kinds.Text ≡ false
+mark_no_text : (k : TokenKind) → same_kind k kinds.Mark ≡ true → same_kind k kinds.Text ≡ false
 mark_no_text kinds.Guid e = absurd cc
 mark_no_text kinds.Name e = absurd cc
 mark_no_text kinds.Number e = absurd cc
@@ -134,7 +134,7 @@ mark_no_text kinds.Mark e = refl
 mark_no_text kinds.Junk e = absurd cc
 mark_no_text kinds.End e = absurd cc
 
-name_no_text : (k : Kind) → same_kind k kinds.Name ≡ true → same_kind k kinds.Text ≡ false
+name_no_text : (k : TokenKind) → same_kind k kinds.Name ≡ true → same_kind k kinds.Text ≡ false
 name_no_text kinds.Guid e = absurd cc
 name_no_text kinds.Name e = refl
 name_no_text kinds.Number e = absurd cc
@@ -143,9 +143,9 @@ name_no_text kinds.Mark e = absurd cc
 name_no_text kinds.Junk e = absurd cc
 name_no_text kinds.End e = absurd cc
 
-other_kind : (k : Kind) (s : List ℕ) → same_kind k (kind_of s) ≡ false → (w : Word) → w.kind ≡ k → passes s w ≡ false
+other_kind : (k : TokenKind) (s : List ℕ) → same_kind k (kind_of s) ≡ false → (w : Word) → w.kind ≡ k → passes s w ≡ false
 unfolding passes
-other_kind k s ne w e = ap (λ (j : Kind). same_kind j (kind_of s) && bytes_eq w.text s) e ∙ ap (λ (b : Bool). b && bytes_eq w.text s) ne
+other_kind k s ne w e = ap (λ (j : TokenKind). same_kind j (kind_of s) && bytes_eq w.text s) e ∙ ap (λ (b : Bool). b && bytes_eq w.text s) ne
 
 amount_kind : (negative : Bool) (i : ℤ) (w : Word) → amount_of negative w ≡ Some i → w.kind ≡ kinds.Number
 unfolding amount_of
@@ -162,7 +162,7 @@ amount_no_sign s ne negative i w e = other_kind kinds.Number s ne w (amount_kind
 
 pub amount_no_text : (negative : Bool) (i : ℤ) (w : Word) → amount_of negative w ≡ Some i → is_text w ≡ false
 unfolding is_text
-amount_no_text negative i w e = ap (λ (k : Kind). same_kind k kinds.Text) (amount_kind negative i w e)
+amount_no_text negative i w e = ap (λ (k : TokenKind). same_kind k kinds.Text) (amount_kind negative i w e)
 
 pub characters_no_sign : (s : List ℕ) → same_kind kinds.Text (kind_of s) ≡ false → (cs : List ℕ) (w : Word) → characters_of w ≡ Some cs
     → passes s w ≡ false
@@ -170,7 +170,7 @@ characters_no_sign s ne cs w e = other_kind kinds.Text s ne w (characters_kind c
 
 pub characters_text : (cs : List ℕ) (w : Word) → characters_of w ≡ Some cs → is_text w ≡ true
 unfolding is_text
-characters_text cs w e = ap (λ (k : Kind). same_kind k kinds.Text) (characters_kind cs w e)
+characters_text cs w e = ap (λ (k : TokenKind). same_kind k kinds.Text) (characters_kind cs w e)
 
 pub minus_no_text : (w : Word) → passes (codes "-") w ≡ true → is_text w ≡ false
 unfolding passes is_text

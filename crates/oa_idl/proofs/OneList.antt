@@ -1,6 +1,6 @@
 -- Bytes have one list of tokens.
 use Rattle.std.proofs.Common.{◌≡◌, ℕ, ◌+◌, List, ◌∷◌, drop, refl, sym, subst, ◌∙◌, arith}
-use Rattle.oa_idl.specs.declared.lexer.Kind.{Kind}
+use Rattle.oa_idl.specs.declared.lexer.TokenKind.{TokenKind}
 use Rattle.oa_idl.specs.declared.lexer.Token.{Token}
 use Rattle.oa_idl.specs.declared.lexer.Piece.TheVariants.{Word, Gap, Broken}
 use Rattle.oa_idl.specs.Tokens.{token, AreTokens}
@@ -9,16 +9,16 @@ use Rattle.oa_idl.specs.Tokens.AreTokens.{End, Apart, Next, Rest}
 gap_is : (m n : ℕ) → Gap m ≡ Gap n → m ≡ n
 gap_is m n e = cc
 
-word_is : (j k : Kind) (m n : ℕ) → Word j m ≡ Word k n → (j ≡ k) × (m ≡ n)
+word_is : (j k : TokenKind) (m n : ℕ) → Word j m ≡ Word k n → (j ≡ k) × (m ≡ n)
 word_is j k m n e = (cc, cc)
 
-gap_word : (m n : ℕ) (k : Kind) → Gap m ≡ Word k n → ⊥
+gap_word : (m n : ℕ) (k : TokenKind) → Gap m ≡ Word k n → ⊥
 gap_word m n k e = absurd cc
 
 gap_broken : (m : ℕ) → Gap m ≡ Broken → ⊥
 gap_broken m e = absurd cc
 
-word_broken : (m : ℕ) (k : Kind) → Word k m ≡ Broken → ⊥
+word_broken : (m : ℕ) (k : TokenKind) → Word k m ≡ Broken → ⊥
 word_broken m k e = absurd cc
 
 pub one_list : (p : ℕ) (bs : List ℕ) (ts us : List Token) → AreTokens p bs ts → AreTokens p bs us → ts ≡ us

@@ -5,8 +5,8 @@ use Rattle.std.specs.Prelude.{◌&&◌, ◌==◌, nat_lt, nat_le}
 use Rattle.std.specs.Int.{is_in_range}
 use Rattle.std.proofs.lemmas.List.{drop-drop}
 use Rattle.std.proofs.lemmas.Bool.{eqb-true}
-use Rattle.oa_idl.specs.declared.lexer.Kind.{Kind}
-use Rattle.oa_idl.specs.declared.lexer.Kind.TheVariants as kinds
+use Rattle.oa_idl.specs.declared.lexer.TokenKind.{TokenKind}
+use Rattle.oa_idl.specs.declared.lexer.TokenKind.TheVariants as kinds
 use Rattle.oa_idl.specs.declared.lexer.Token.{Token}
 use Rattle.oa_idl.specs.declared.lexer.Piece.TheVariants.{Word, Gap}
 use Rattle.oa_idl.specs.declared.scan.Class.TheVariants as classes
@@ -17,14 +17,14 @@ use Rattle.oa_idl.specs.Forms as forms
 use Rattle.oa_idl.specs.Words.{word_of}
 use Rattle.oa_idl.specs.Printable.{IsNameText}
 
-abbrev pub word : Kind → List ℕ → forms.Word
+abbrev pub word : TokenKind → List ℕ → forms.Word
 word kind text = record { kind = kind; text = text }
 
 -- which words bytes have, wherever they stand
 pub data HasWords : List ℕ → List forms.Word → Type 0 where
   Nil : HasWords [] []
   Skip : (n : ℕ) (bs : List ℕ) (ws : List forms.Word) → 0 < length bs → front bs ≡ Gap n → HasWords (drop n bs) ws → HasWords bs ws
-  Take : (n : ℕ) (kind : Kind) (bs : List ℕ) (ws : List forms.Word) → 0 < length bs → front bs ≡ Word kind n → HasWords (drop n bs) ws
+  Take : (n : ℕ) (kind : TokenKind) (bs : List ℕ) (ws : List forms.Word) → 0 < length bs → front bs ≡ Word kind n → HasWords (drop n bs) ws
       → HasWords bs (word kind (take n bs) ∷ ws)
 
 -- their tokens from a place of a text on

@@ -16,8 +16,8 @@ use Rattle.uuid.proofs.TextLemmas.{by_index_length, by_index_at}
 use Rattle.oa_model.specs.declared.var_type.VarType.{VarType}
 use Rattle.oa_model.specs.declared.var_type.VarType.TheVariants as types
 use Rattle.oa_model.specs.Types.{sf_type_of}
-use Rattle.oa_idl.specs.declared.lexer.Kind.{Kind}
-use Rattle.oa_idl.specs.declared.lexer.Kind.TheVariants as kinds
+use Rattle.oa_idl.specs.declared.lexer.TokenKind.{TokenKind}
+use Rattle.oa_idl.specs.declared.lexer.TokenKind.TheVariants as kinds
 use Rattle.oa_idl.specs.declared.lexer.Token.{Token}
 use Rattle.oa_idl.specs.declared.lexer.Piece.{Piece}
 use Rattle.oa_idl.specs.declared.lexer.Piece.TheVariants.{Word, Gap, Broken}
@@ -55,7 +55,7 @@ no_some x e = absurd cc
 
 -- ---- what is known of a word
 
-abbrev pub OfKind : Kind → List ℕ → Type 0
+abbrev pub OfKind : TokenKind → List ℕ → Type 0
 OfKind kinds.Name text = IsNameText text
 OfKind k text = Unit {0}
 
@@ -124,7 +124,7 @@ words_fine text ts are = append_fine (map (word_of text) ts) (end_word ∷ []) (
 
 -- ---- names
 
-kind_is_name : (k : Kind) (text : List ℕ) → same_kind k kinds.Name ≡ true → OfKind k text → IsNameText text
+kind_is_name : (k : TokenKind) (text : List ℕ) → same_kind k kinds.Name ≡ true → OfKind k text → IsNameText text
 kind_is_name kinds.Guid text e h = absurd (clash e refl)
 kind_is_name kinds.Name text e h = h
 kind_is_name kinds.Number text e h = absurd (clash e refl)

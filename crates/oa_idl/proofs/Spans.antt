@@ -8,7 +8,7 @@ use Rattle.oa_idl.specs.declared.scan.Class.TheVariants.{Digit, Hexadecimal, Let
 use Rattle.oa_idl.specs.declared.scan.Class.TheVariants as classes
 use Rattle.oa_idl.specs.declared.scan.Close.{Close}
 use Rattle.oa_idl.specs.declared.scan.Close.TheVariants.{Quote, Comment}
-use Rattle.oa_idl.specs.declared.lexer.Kind.TheVariants as kinds
+use Rattle.oa_idl.specs.declared.lexer.TokenKind.TheVariants as kinds
 use Rattle.oa_idl.specs.declared.lexer.Token.{Token}
 use Rattle.oa_idl.specs.declared.lexer.Piece.{Piece}
 use Rattle.oa_idl.specs.declared.lexer.Piece.TheVariants.{Word, Gap}

@@ -5,8 +5,8 @@ use Rattle.std.proofs.Common.{subst, ◌∙◌, append_assoc, arith}
 use Rattle.std.specs.List.{AllByRecursion, flat_map}
 use Rattle.std.proofs.Math.Logic.{inr}
 use Rattle.std.proofs.Math.Seq.{take-append_seam, drop-append_seam}
-use Rattle.oa_idl.specs.declared.lexer.Kind.{Kind}
-use Rattle.oa_idl.specs.declared.lexer.Kind.TheVariants as kinds
+use Rattle.oa_idl.specs.declared.lexer.TokenKind.{TokenKind}
+use Rattle.oa_idl.specs.declared.lexer.TokenKind.TheVariants as kinds
 use Rattle.oa_idl.specs.declared.lexer.Piece.TheVariants.{Word}
 use Rattle.oa_idl.specs.Bytes.{is_in, run, group, is_guid}
 use Rattle.oa_idl.specs.Tokens.{front}
@@ -54,7 +54,7 @@ left_out ws h = record { words = []; form = inr refl; has = h }
 
 -- ---- one word
 
-one_word : {F : List forms.Word → Type 0} (k : Kind) (n : ℕ) (x y text : List ℕ) → 0 < length x → front x ≡ Word k n → take n x ≡ text
+one_word : {F : List forms.Word → Type 0} (k : TokenKind) (n : ℕ) (x y text : List ℕ) → 0 < length x → front x ≡ Word k n → take n x ≡ text
     → drop n x ≡ y → F (word k text ∷ []) → Spells F x y
 one_word {F} k n x y text lt is same rest f ws h = record {
   words = word k text ∷ [];
@@ -136,7 +136,7 @@ pub meant_word : {A : Type 0} (meaning : forms.Word → Option A) (v : A) (text 
 meant_word meaning v text b x is ends means = named_word text b x is ends (record { word = word kinds.Name text; parts = refl; is = means })
 
 -- a word of another kind
-pub whole_word : {F : List forms.Word → Type 0} (k : Kind) (text x : List ℕ) → 0 < length text → front (text ++ x) ≡ Word k (length text)
+pub whole_word : {F : List forms.Word → Type 0} (k : TokenKind) (text x : List ℕ) → 0 < length text → front (text ++ x) ≡ Word k (length text)
     → F (word k text ∷ []) → Spells F (text ++ x) x
 whole_word {F} k text x some is f = one_word k (length text) (text ++ x) x text (some_more text x some) is (take-append_seam text x) (drop-append_seam text x) f
   where

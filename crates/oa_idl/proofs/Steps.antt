@@ -2,8 +2,8 @@
 use Rattle.std.proofs.Common.{◌≡◌, ℕ, ◌+◌, ◌-◌, ◌<◌, ◌≤◌, List, [], ◌∷◌, ◌++◌, length, take, drop, sym, ap, subst, ◌∙◌, append_assoc, arith}
 use Rattle.std.proofs.Common.{length-drop}
 use Rattle.std.proofs.lemmas.List.{append-nil, take_all, drop_all, drop-drop}
-use Rattle.oa_idl.specs.declared.lexer.Kind.{Kind}
-use Rattle.oa_idl.specs.declared.lexer.Kind.TheVariants.{Junk}
+use Rattle.oa_idl.specs.declared.lexer.TokenKind.{TokenKind}
+use Rattle.oa_idl.specs.declared.lexer.TokenKind.TheVariants.{Junk}
 use Rattle.oa_idl.specs.declared.lexer.Token.{Token}
 use Rattle.oa_idl.specs.declared.lexer.Piece.TheVariants.{Word, Gap, Broken}
 use Rattle.oa_idl.specs.Tokens.{front, token, AreTokens}
@@ -26,7 +26,7 @@ pub gap_more : (bs : List ℕ) (out : List Token) (at n : ℕ) → at < length b
     → SoFar bs out at → SoFar bs out (at + n)
 gap_more bs out at n lt is so_far ts h = so_far ts (Apart at n (drop at bs) ts (some_left bs at lt) (sym (is ∙ ap front (sliced bs at))) (past bs at n ts h))
 
-pub word_more : (bs : List ℕ) (out new : List Token) (at n : ℕ) (kind : Kind) → at < length bs
+pub word_more : (bs : List ℕ) (out new : List Token) (at n : ℕ) (kind : TokenKind) → at < length bs
     → Word kind n ≡ front (take (length bs - at) (drop at bs)) → new ≡ out ++ token kind at (at + n) ∷ [] → SoFar bs out at
     → SoFar bs new (at + n)
 word_more bs out new at n kind lt is grown so_far ts h =

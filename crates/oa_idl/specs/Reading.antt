@@ -5,7 +5,7 @@ use Rattle.oa_idl.specs.declared.stop.TreeLimit.{TreeLimit}
 use Rattle.oa_idl.specs.declared.stop.Stop.{Stop}
 use Rattle.oa_idl.specs.declared.stop.Stop.TheVariants.{Syntax, Memory}
 use Rattle.oa_idl.specs.declared.stop.Stop.TheVariants as stops
-use Rattle.oa_idl.specs.declared.lexer.Kind.{Kind}
+use Rattle.oa_idl.specs.declared.lexer.TokenKind.{TokenKind}
 use Rattle.oa_idl.specs.Forms.{Word}
 
 pub data Step (A : Type 0) : Type 0 where
@@ -112,10 +112,10 @@ Answers view (Err (stops.Limit l)) new read = read ≡ Stuck (stops.Limit l) new
 Answers view (Err Memory) new read = Unit {0}
 
 -- what the next word is, and its bytes
-abbrev pub first_of : List Word → Option (Kind × List ℕ)
+abbrev pub first_of : List Word → Option (TokenKind × List ℕ)
 first_of [] = None
 first_of (w ∷ words) = Some (w.kind, w.text)
 
-abbrev pub seen_first : Option (Kind × Bor (List ℕ)) → Option (Kind × List ℕ)
+abbrev pub seen_first : Option (TokenKind × Bor (List ℕ)) → Option (TokenKind × List ℕ)
 seen_first None = None
 seen_first (Some f) = Some (f.0, f.1.now)

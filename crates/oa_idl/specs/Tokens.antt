@@ -4,9 +4,9 @@ use Rattle.std.specs.Prelude.{None}
 use Rattle.oa_idl.specs.declared.scan.Class.TheVariants.{Digit, Hexadecimal, Letter, Named, Blank, Line}
 use Rattle.oa_idl.specs.declared.scan.Class.TheVariants as classes
 use Rattle.oa_idl.specs.declared.scan.Close.TheVariants.{Quote, Comment}
-use Rattle.oa_idl.specs.declared.lexer.Kind.{Kind}
-use Rattle.oa_idl.specs.declared.lexer.Kind.TheVariants.{Guid, Name, Number, Text, Junk}
-use Rattle.oa_idl.specs.declared.lexer.Kind.TheVariants as kinds
+use Rattle.oa_idl.specs.declared.lexer.TokenKind.{TokenKind}
+use Rattle.oa_idl.specs.declared.lexer.TokenKind.TheVariants.{Guid, Name, Number, Text, Junk}
+use Rattle.oa_idl.specs.declared.lexer.TokenKind.TheVariants as kinds
 use Rattle.oa_idl.specs.declared.lexer.Token.{Token}
 use Rattle.oa_idl.specs.declared.lexer.Piece.{Piece}
 use Rattle.oa_idl.specs.declared.lexer.Piece.TheVariants.{Word, Gap, Broken}
@@ -32,7 +32,7 @@ front bs =
     else (if get_or bs 0 0 == 47 && get_or bs 1 0 == 42 then closed Gap 2 (end_from Comment false (drop 2 bs))
     else Broken))))))))
 
-abbrev pub token : Kind → ℕ → ℕ → Token
+abbrev pub token : TokenKind → ℕ → ℕ → Token
 token kind start end = record { kind = kind; start = start; end = end }
 
 -- which tokens the bytes have that begin at a place
@@ -40,7 +40,7 @@ pub data AreTokens : ℕ → List ℕ → List Token → Type 0 where
   End : (p : ℕ) → AreTokens p [] []
   Apart : (p n : ℕ) (bs : List ℕ) (ts : List Token) → 0 < length bs → front bs ≡ Gap n → AreTokens (p + n) (drop n bs) ts
       → AreTokens p bs ts
-  Next : (p n : ℕ) (kind : Kind) (bs : List ℕ) (ts : List Token) → 0 < length bs → front bs ≡ Word kind n
+  Next : (p n : ℕ) (kind : TokenKind) (bs : List ℕ) (ts : List Token) → 0 < length bs → front bs ≡ Word kind n
       → AreTokens (p + n) (drop n bs) ts → AreTokens p bs (token kind p (p + n) ∷ ts)
   Rest : (p : ℕ) (bs : List ℕ) → 0 < length bs → front bs ≡ Broken → AreTokens p bs (token Junk p (p + length bs) ∷ [])
 

@@ -10,19 +10,19 @@ use Rattle.oa_model.specs.declared.var_type.VarType.{VarType}
 use Rattle.oa_model.specs.declared.var_type.VarType.TheVariants as types
 use Rattle.oa_model.specs.Limits.{max_name_characters}
 use Rattle.oa_model.specs.Types.{sf_type_of}
-use Rattle.oa_idl.specs.declared.lexer.Kind.{Kind}
-use Rattle.oa_idl.specs.declared.lexer.Kind.TheVariants as kinds
+use Rattle.oa_idl.specs.declared.lexer.TokenKind.{TokenKind}
+use Rattle.oa_idl.specs.declared.lexer.TokenKind.TheVariants as kinds
 use Rattle.oa_idl.specs.declared.lexer.Token.{Token}
 use Rattle.oa_idl.specs.declared.stop.TreeLimit.{TreeLimit}
 use Rattle.oa_idl.specs.declared.stop.TreeLimit.TheVariants as limits
 use Rattle.oa_idl.specs.Forms.{Word}
 
 -- A sign is a word that stands for itself, by its bytes: a name, a mark, or the end of the text, which has none.
-abbrev pub kind_of : List ℕ → Kind
+abbrev pub kind_of : List ℕ → TokenKind
 kind_of [] = kinds.End
 kind_of (b ∷ bs) = if is_ascii_alphabetic b then kinds.Name else kinds.Mark
 
-abbrev pub same_kind : Kind → Kind → Bool
+abbrev pub same_kind : TokenKind → TokenKind → Bool
 same_kind kinds.Guid kinds.Guid = true
 same_kind kinds.Name kinds.Name = true
 same_kind kinds.Number kinds.Number = true

@@ -7,7 +7,7 @@ use std::alloc::{AllocError, Global};
 
 /// What a token is.
 #[derive(Clone, Copy, Debug, PartialEq, Eq)]
-pub enum Kind {
+pub enum TokenKind {
     /// 36 bytes of the form 8-4-4-4-12.
     Guid,
     /// A name, or a word of the language.
@@ -28,7 +28,7 @@ pub enum Kind {
 #[derive(Clone, Copy, Debug, PartialEq, Eq)]
 pub struct Token {
     /// What it is.
-    pub kind: Kind,
+    pub kind: TokenKind,
     /// The place of its first byte.
     pub start: usize,
     /// The place behind its last byte.
@@ -37,7 +37,7 @@ pub struct Token {
 
 /// What stands at the front of bytes.
 pub(crate) enum Piece {
-    Word(Kind, usize),
+    Word(TokenKind, usize),
     Gap(usize),
     Broken,
 }
@@ -51,26 +51,26 @@ fn front(bytes: &[u8]) -> Piece
     let first = bytes[0];
     let next = if 1 < bytes.len() { bytes[1] } else { 0 };
     if is_guid(bytes) {
-        return Piece::Word(Kind::Guid, 36);
+        return Piece::Word(TokenKind::Guid, 36);
     }
     if is_in(Class::Letter, first) {
-        return Piece::Word(Kind::Name, 1 + run(Class::Named, after(bytes, 1)));
+        return Piece::Word(TokenKind::Name, 1 + run(Class::Named, after(bytes, 1)));
     }
     if first == b'0' && next == b'x' {
         let digits = run(Class::Hexadecimal, after(bytes, 2));
-        return Piece::Word(Kind::Number, if digits == 0 { 1 } else { 2 + digits });
+        return Piece::Word(TokenKind::Number, if digits == 0 { 1 } else { 2 + digits });
     }
     if is_in(Class::Digit, first) {
-        return Piece::Word(Kind::Number, 1 + run(Class::Digit, after(bytes, 1)));
+        return Piece::Word(TokenKind::Number, 1 + run(Class::Digit, after(bytes, 1)));
     }
     if first == b'"' {
         return match end_of(Close::Quote, after(bytes, 1)) {
-            Some(n) => Piece::Word(Kind::Text, 1 + n),
+            Some(n) => Piece::Word(TokenKind::Text, 1 + n),
             None => Piece::Broken,
         };
     }
     if is_in(Class::Mark, first) {
-        return Piece::Word(Kind::Mark, 1);
+        return Piece::Word(TokenKind::Mark, 1);
     }
     if is_in(Class::Blank, first) {
         return Piece::Gap(1);
@@ -107,7 +107,7 @@ pub fn tokens(alloc: Global, text: &str) -> Result<Vec<Token>, AllocError>
             }
             Piece::Broken => {
                 out.push(Token {
-                    kind: Kind::Junk,
+                    kind: TokenKind::Junk,
                     start: at,
                     end: bytes.len(),
                 })?;

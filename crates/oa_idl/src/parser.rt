@@ -14,7 +14,7 @@ ghost use Rattle.oa_idl.specs.Parsed.{IsParsed};
 
 use crate::attributes::{head, property_head};
 use crate::items::{Coclass, Interface, Item};
-use crate::lexer::{Kind, Token, tokens};
+use crate::lexer::{Token, TokenKind, tokens};
 use crate::method::Method;
 use crate::methods::methods;
 use crate::parts::{Entry, Property};
@@ -351,7 +351,7 @@ pub fn parse(alloc: Global, text: &str) -> Result<Tree, ParseError>
     }
     let mut words = tokens(alloc, text)?;
     words.push(Token {
-        kind: Kind::End,
+        kind: TokenKind::End,
         start: text.len(),
         end: text.len(),
     })?;

@@ -8,7 +8,7 @@ ghost use Rattle.oa_idl.specs.Reading.{Answers, heads, rest_of, this_at, one_at,
 ghost use Rattle.uuid.specs.Text.{parsed_hyphenated};
 
 use crate::characters::Characters;
-use crate::lexer::{Kind, Token};
+use crate::lexer::{Token, TokenKind};
 use crate::name::Name;
 use crate::scan::after;
 use crate::sign::{is_reserved, kind_of, same_bytes, type_named};
@@ -35,17 +35,17 @@ impl<'a> Model for Reader<'a> {
     ghost view = { λ r. map (word_of r.text.now) r.rest.now };
 }
 
-fn same_kind(a: Kind, b: Kind) -> bool
+fn same_kind(a: TokenKind, b: TokenKind) -> bool
     ensures { result ≡ same_kind a b }
 {
     match (a, b) {
-        (Kind::Guid, Kind::Guid) => true,
-        (Kind::Name, Kind::Name) => true,
-        (Kind::Number, Kind::Number) => true,
-        (Kind::Text, Kind::Text) => true,
-        (Kind::Mark, Kind::Mark) => true,
-        (Kind::Junk, Kind::Junk) => true,
-        (Kind::End, Kind::End) => true,
+        (TokenKind::Guid, TokenKind::Guid) => true,
+        (TokenKind::Name, TokenKind::Name) => true,
+        (TokenKind::Number, TokenKind::Number) => true,
+        (TokenKind::Text, TokenKind::Text) => true,
+        (TokenKind::Mark, TokenKind::Mark) => true,
+        (TokenKind::Junk, TokenKind::Junk) => true,
+        (TokenKind::End, TokenKind::End) => true,
         _ => false,
     }
 }
@@ -225,7 +225,7 @@ impl<'a> Reader<'a> {
     }
 
     /// What the next word is, and its bytes.
-    fn first(&self) -> Option<(Kind, &'a [u8])>
+    fn first(&self) -> Option<(TokenKind, &'a [u8])>
         ensures { seen_first result ≡ first_of self.now }
     {
         if self.rest.is_empty() {
@@ -276,7 +276,7 @@ impl<'a> Reader<'a> {
         let Some((kind, text)) = self.first() else {
             return Err(Stop::Syntax);
         };
-        if same_kind(kind, Kind::Name)
+        if same_kind(kind, TokenKind::Name)
             && (same_bytes(text, b"dispinterface") || same_bytes(text, b"interface"))
         {
             self.skip();
@@ -293,7 +293,7 @@ impl<'a> Reader<'a> {
         let Some((kind, _text)) = self.first() else {
             return Err(Stop::Syntax);
         };
-        if !same_kind(kind, Kind::Text) {
+        if !same_kind(kind, TokenKind::Text) {
             return Err(Stop::Syntax);
         }
         self.skip();
@@ -325,7 +325,7 @@ impl<'a> Reader<'a> {
         let Some((kind, text)) = self.first() else {
             return Err(Stop::Syntax);
         };
-        if !same_kind(kind, Kind::Name) || is_reserved(text) {
+        if !same_kind(kind, TokenKind::Name) || is_reserved(text) {
             return Err(Stop::Syntax);
         }
         if text.len() > MAX_NAME_CHARACTERS {
@@ -347,7 +347,7 @@ impl<'a> Reader<'a> {
         let Some((kind, text)) = self.first() else {
             return Err(Stop::Syntax);
         };
-        if !same_kind(kind, Kind::Guid) {
+        if !same_kind(kind, TokenKind::Guid) {
             return Err(Stop::Syntax);
         }
         match guid_of(text) {
@@ -367,7 +367,7 @@ impl<'a> Reader<'a> {
         let Some((kind, text)) = self.first() else {
             return Err(Stop::Syntax);
         };
-        if !same_kind(kind, Kind::Number) {
+        if !same_kind(kind, TokenKind::Number) {
             return Err(Stop::Syntax);
         }
         match part_from(counts, number_of(text)) {
@@ -387,7 +387,7 @@ impl<'a> Reader<'a> {
         let Some((kind, text)) = self.first() else {
             return Err(Stop::Syntax);
         };
-        if !same_kind(kind, Kind::Number) {
+        if !same_kind(kind, TokenKind::Number) {
             return Err(Stop::Syntax);
         }
         match id_from(negative, is_hexadecimal(text), number_of(text)) {
@@ -407,7 +407,7 @@ impl<'a> Reader<'a> {
         let Some((kind, text)) = self.first() else {
             return Err(Stop::Syntax);
         };
-        if !same_kind(kind, Kind::Name) {
+        if !same_kind(kind, TokenKind::Name) {
             return Err(Stop::Syntax);
         }
         match type_named(in_array, unsigned, text) {
@@ -425,7 +425,7 @@ impl<'a> Reader<'a> {
         ensures { result ≡ heads is_text self.now }
     {
         match self.first() {
-            Some((kind, _text)) => same_kind(kind, Kind::Text),
+            Some((kind, _text)) => same_kind(kind, TokenKind::Text),
             None => false,
         }
     }
@@ -438,7 +438,7 @@ impl<'a> Reader<'a> {
         let Some((kind, text)) = self.first() else {
             return Err(Stop::Syntax);
         };
-        if !same_kind(kind, Kind::Number) {
+        if !same_kind(kind, TokenKind::Number) {
             return Err(Stop::Syntax);
         }
         match amount_from(negative, number_of(text)) {
@@ -458,7 +458,7 @@ impl<'a> Reader<'a> {
         let Some((kind, text)) = self.first() else {
             return Err(Stop::Syntax);
         };
-        if !same_kind(kind, Kind::Text) {
+        if !same_kind(kind, TokenKind::Text) {
             return Err(Stop::Syntax);
         }
         match characters(alloc, after(text, 1))? {

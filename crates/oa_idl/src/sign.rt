@@ -3,22 +3,22 @@ ghost use Rattle.std.specs.Prelude.{◌≡◌};
 ghost use Rattle.std.specs.Str.{bytes_eq};
 ghost use Rattle.oa_idl.specs.Words.{kind_of, is_structure, is_type_mark, is_reserved, plain_type, unsigned_type, type_named, if_cell};
 
-use crate::lexer::Kind;
+use crate::lexer::TokenKind;
 use oa_model::VarType;
 
 /// What a word is that stands for itself: a name, a mark, or the end of the text, which has no bytes.
-pub(crate) fn kind_of(sign: &[u8]) -> Kind
+pub(crate) fn kind_of(sign: &[u8]) -> TokenKind
     ensures { result ≡ kind_of sign.now }
 {
     match sign.split_first() {
         Some((first, _)) => {
             if first.is_ascii_alphabetic() {
-                Kind::Name
+                TokenKind::Name
             } else {
-                Kind::Mark
+                TokenKind::Mark
             }
         }
-        None => Kind::End,
+        None => TokenKind::End,
     }
 }
 

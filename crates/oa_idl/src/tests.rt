@@ -243,15 +243,15 @@ a+ b=NJ__
 é=J_
 "é"é=T___J_"#;
 
-fn letter_of(kind: Kind) -> &'static str {
+fn letter_of(kind: TokenKind) -> &'static str {
     match kind {
-        Kind::Guid => "G",
-        Kind::Name => "N",
-        Kind::Number => "D",
-        Kind::Text => "T",
-        Kind::Mark => "M",
-        Kind::Junk => "J",
-        Kind::End => "E",
+        TokenKind::Guid => "G",
+        TokenKind::Name => "N",
+        TokenKind::Number => "D",
+        TokenKind::Text => "T",
+        TokenKind::Mark => "M",
+        TokenKind::Junk => "J",
+        TokenKind::End => "E",
     }
 }
 

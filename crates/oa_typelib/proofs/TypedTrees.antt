@@ -6,7 +6,7 @@ use Rattle.oa_model.specs.Types.{sf_type_of}
 use Rattle.oa_model.specs.declared.var_type.VarType.{VarType}
 use Rattle.oa_model.specs.declared.var_type.ValueType.{ValueType}
 use Rattle.oa_model.specs.declared.var_type.ValueType.TheVariants.{One, Array}
-use Rattle.oa_idl.specs.declared.lexer.Kind.TheVariants as kinds
+use Rattle.oa_idl.specs.declared.lexer.TokenKind.TheVariants as kinds
 use Rattle.oa_idl.specs.Forms.{Word, Form, listed, nowhere}
 use Rattle.oa_idl.specs.Words.{same_kind, type_of, type_named, if_cell}
 use Rattle.oa_idl.specs.Grammar.{value_type, property, result_type, parameter, separated, method, methods, members, entry, entry_grow, last_entry, no_entry, item, Content, element, elements, items_in, library}

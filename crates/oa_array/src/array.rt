@@ -1,4 +1,4 @@
-// The safe array.
+//! The safe array.
 ghost use Rattle.std.specs.Prelude.{◌≡◌, ◌↔◌, ◌+◌, ◌-◌, ◌<◌, ◌≤◌, ◌⊎◌, Some, length, slice_get, All, MatchOption, MatchResult, IfOk};
 ghost use Rattle.std.specs.Prelude.{replicate};
 ghost use Rattle.oa_array.specs.Boxes.{InBounds, box_size};

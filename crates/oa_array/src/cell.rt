@@ -1,4 +1,4 @@
-// What a cell of an array can be.
+//! What a cell of an array can be.
 ghost use Rattle.std.specs.Prelude.{◌≡◌, ◌↔◌, IsTrue, IsSome, IfOk};
 ghost use Rattle.oa_model.specs.declared.var_type.VarType.{VarType};
 ghost use Rattle.oa_model.specs.Types.{sf_type_of};

@@ -1,4 +1,4 @@
-// Why a call on an array is refused.
+//! Why a call on an array is refused.
 ghost use Rattle.std.specs.Prelude.{◌≡◌};
 ghost use Rattle.oa_array.specs.declared.fault.ArrayFault.TheVariants.{Memory};
 ghost use Rattle.oa_array.specs.Faults.{code_of};

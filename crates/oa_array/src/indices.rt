@@ -1,4 +1,4 @@
-// Index lists.
+//! Index lists.
 ghost use Rattle.std.specs.Prelude.{◌≡◌, ◌≤◌, length};
 ghost use Rattle.oa_model.specs.Limits.{max_index_list};
 

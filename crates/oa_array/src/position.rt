@@ -1,4 +1,4 @@
-// The place of an index list in the row of cells, as a sum of products.
+//! The place of an index list in the row of cells, as a sum of products.
 ghost use Rattle.std.specs.Prelude.{◌≡◌, ◌<◌, ◌≤◌, ◌∷◌, MatchOption, pos, ◌+ℤ◌};
 ghost use Rattle.oa_model.specs.Limits.{max_cells};
 ghost use Rattle.oa_array.specs.Boxes.{IsWithin, InBounds, box_size, position_of};

@@ -1,4 +1,4 @@
-// Arrays of a small cell type: what takes memory, and which cell stands where.
+//! Arrays of a small cell type: what takes memory, and which cell stands where.
 ghost use Rattle.std.specs.Prelude.{◌≡◌, false, ◌==◌, pos, refl};
 ghost use Rattle.oa_model.specs.Types.{vt_of};
 

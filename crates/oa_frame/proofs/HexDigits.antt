@@ -1,5 +1,7 @@
 -- Bytes as digits, part by part.
-use Rattle.std.proofs.Common.{◌≡◌, ℕ, ◌+◌, ◌-◌, ◌*◌, ◌/◌, ◌%◌, ◌<◌, ◌≤◌, ◌&&◌, ◌==◌, zero, suc, inl, inr, Bool, true, false, List, [], ◌∷◌, ◌++◌, length, take, drop, slice_index, slice_set, Result, Ok, Err, refl, sym, ap, ◌∙◌, subst, append_assoc, length-append, arith}
+use Rattle.std.proofs.Common.{◌≡◌, ℕ, ◌+◌, ◌-◌, ◌*◌, ◌/◌, ◌%◌, ◌<◌, ◌≤◌, ◌&&◌, ◌==◌, zero, suc, inl, inr, Bool, true, false, List, [], ◌∷◌}
+use Rattle.std.proofs.Common.{◌++◌, length, take, drop, slice_index, slice_set, Result, Ok, Err, refl, sym, ap, ◌∙◌, subst, append_assoc}
+use Rattle.std.proofs.Common.{length-append, arith}
 use Rattle.std.specs.Prelude.{IsErr}
 use Rattle.std.proofs.lemmas.Bool.{and_parts, cases_lt, eqb-true, false≢true}
 use Rattle.std.proofs.lemmas.List.{append-nil, drop_all, get_or-set_other, get_or-set_same, length-drop, length-take-le}
@@ -9,7 +11,7 @@ use borrow.Rule.Slice.PartMut.{mid_of, put_mid}
 use lib.Seq.{take-add}
 use Rattle.hex.specs.Hex.{decode_of, decode_pairs, encode_lower, encode_with, lower_digits, pair_value}
 use Rattle.hex.specs.declared.error.FromHexError.{FromHexError}
-use Rattle.hex.proofs.HexLemmas.{decode_of-even, decode_of-odd}
+use Rattle.hex.proofs.HexLemmas.{decode_of-even}
 use Rattle.oa_frame.specs.Digits.{HasValue}
 use Rattle.hex.proofs.Pairs.{decode_err, decode_step, prepend}
 use Rattle.oa_stream.specs.Sink.{Output, Writes, Breaks}
@@ -124,12 +126,6 @@ pairs_all text out i all even so_far =
 
 pub pairs_at : (text out : List ℕ) (i n : ℕ) → i ≡ n → n ≡ length text / 2 → length text % 2 ≡ 0 → IsDecoded text out i → decode_of text ≡ Ok (take n out)
 pairs_at text out i n same half even so_far = rw (sym same) (pairs_all text out i (omega (arith, same, half, even)) even so_far)
-
-pub pairs_bad : (text : List ℕ) → length text % 2 ≡ 0 → IsErr (decode_pairs 0 text) → IsErr (decode_of text)
-pairs_bad text even bad = rw (decode_of-even text even) bad
-
-pub odd_bad : (text : List ℕ) → length text % 2 ≡ 1 → IsErr (decode_of text)
-odd_bad text odd = rw (decode_of-odd text odd) refl
 
 -- a test of all numbers below one
 abbrev all_below : (ℕ → Bool) → ℕ → Bool

@@ -1,5 +1,6 @@
 -- Records of a length and that many bytes.
-use Rattle.std.proofs.Common.{◌≡◌, ℕ, ◌+◌, ◌-◌, ◌≤◌, ◌<◌, Bool, false, List, ◌++◌, Option, Some, None, take, drop, length, slice_range, inr, sym, ap, ◌∙◌, append_assoc, length-take-le, arith}
+use Rattle.std.proofs.Common.{◌≡◌, ℕ, ◌+◌, ◌-◌, ◌≤◌, ◌<◌, Bool, false, List, ◌++◌, Option, Some, None, take, drop, length, slice_range, inr}
+use Rattle.std.proofs.Common.{sym, ap, ◌∙◌, append_assoc, length-take-le, arith}
 use Rattle.std.proofs.lemmas.List.{append-nil, length-append, length-drop}
 use lib.Seq.{take-add}
 use Rattle.std.specs.Io.KnownBytes.{Consumes, IsAtEnd}

@@ -1,5 +1,6 @@
 -- A session, body by body, in any framing.
-use Rattle.std.proofs.Common.{◌≡◌, ℕ, ◌+◌, ◌≤◌, true, false, List, [], ◌∷◌, ◌++◌, Option, Some, None, length, refl, sym, ap, ◌∙◌, subst, inl, inr, ◌⊎◌, arith}
+use Rattle.std.proofs.Common.{◌≡◌, ℕ, ◌+◌, ◌≤◌, true, false, List, [], ◌∷◌, ◌++◌, Option, Some, None, length, refl, sym, ap, ◌∙◌, subst}
+use Rattle.std.proofs.Common.{inl, inr, ◌⊎◌, arith}
 use Rattle.std.specs.List.{sum}
 use Rattle.std.proofs.lemmas.List.{append-nil, length-append}
 use Rattle.std.proofs.lemmas.List.Elements.{All-nil, All-push}
@@ -17,7 +18,8 @@ use Rattle.oa_frame.specs.declared.framing.Framing.TheVariants.{HexLines, Record
 use Rattle.std.proofs.lemmas.Bool.{false≢true}
 use Rattle.oa_frame.specs.Framings.{Frames, frames, is_read_fault}
 use Rattle.oa_frame.specs.Paces.{HasCause, Paced}
-use Rattle.oa_frame.specs.Sessions.{TurnOf, EndOf, Run, Bodies, ReadTo, spelled_all, joined, last_reply, Calls, Told, Fails, Session, Going, HandsOn, Closes}
+use Rattle.oa_frame.specs.Sessions.{TurnOf, EndOf, Run, Bodies, ReadTo, spelled_all, joined, last_reply, Calls, Told, Fails, Session, Going}
+use Rattle.oa_frame.specs.Sessions.{HandsOn, Closes}
 use Rattle.oa_frame.proofs.Spelled.{spelled_append, joined_more, latest_more}
 
 run_more : {S : Type 0} (turn : TurnOf S) (old mid new : S) (bodies : List (List ℕ)) (handed : List (List (List ℕ))) (body : List ℕ) (replies : List (List ℕ))

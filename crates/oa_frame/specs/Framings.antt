@@ -14,9 +14,9 @@ use Rattle.oa_frame.specs.declared.framing.Read.TheVariants as read
 use Rattle.oa_frame.specs.Known.{Known}
 use Rattle.oa_frame.specs.Lines.{FirstLine, IsLong, IsPart}
 
--- A framing. Next: the bytes begin with this body, and the rest follows it. Stop: this ends the bodies where these bytes are left, of which the
--- others are left after it was read. Can: this may end them at the body with this number, whatever the reader gives. spelled: how a reply stands
--- on the writer.
+-- A framing. Next: the bytes begin with this body, and the rest follows it. Stop: this ends the bodies where these bytes are left, of which
+-- the others are left after it was read. Can: this may end them at the body with this number, whatever the reader gives. spelled: how a
+-- reply stands on the writer.
 pub record Frames : Type 1 where
   pub Next : List ℕ → List ℕ → List ℕ → Type 0
   pub Stop : End → List ℕ → List ℕ → Type 0

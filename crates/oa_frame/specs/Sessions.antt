@@ -1,5 +1,6 @@
 -- What a session over a reader and a writer read, answered and wrote, in any framing.
-use Rattle.std.specs.Prelude.{◌≡◌, ◌⊎◌, ℕ, ◌+◌, ◌≤◌, Bool, true, false, if◌then◌else◌, List, [], ◌∷◌, ◌++◌, length, Option, Some, None, Result, ⊤}
+use Rattle.std.specs.Prelude.{◌≡◌, ◌⊎◌, ℕ, ◌+◌, ◌≤◌, Bool, true, false, if◌then◌else◌, List, [], ◌∷◌, ◌++◌, length, Option, Some, None}
+use Rattle.std.specs.Prelude.{Result, ⊤}
 use Rattle.std.specs.List.{All, sum}
 use Rattle.std.specs.Io.KnownBytes.{Appends}
 use Rattle.oa_model.specs.Limits.{max_read_calls, max_records}
@@ -67,13 +68,15 @@ given_last last None handed held = latest handed
 given_last last (Some why) handed held = held ++ last_reply last why
 
 -- a body was answered: the replies that were handed out were put, or the writer failed in them
-pub record Answers {S : Type 0} (f : Frames) (turn : TurnOf S) (result : Result (Unit {0}) Unwritten) (body : List ℕ) (out out' : Output) (old new : S) : Type 0 where
+pub record Answers {S : Type 0} (f : Frames) (turn : TurnOf S) (result : Result (Unit {0}) Unwritten) (body : List ℕ)
+    (out out' : Output) (old new : S) : Type 0 where
   pub replies : List (List ℕ)
   pub turned : turn old body replies new
   pub put : Puts result out out' (spelled_all f.spelled replies)
 
 -- the replies that were still held were put, or the writer failed in them
-pub record Finishes {S : Type 0} (f : Frames) (ends : EndOf S) (result : Result (Unit {0}) Unwritten) (out out' : Output) (old new : S) : Type 0 where
+pub record Finishes {S : Type 0} (f : Frames) (ends : EndOf S) (result : Result (Unit {0}) Unwritten)
+    (out out' : Output) (old new : S) : Type 0 where
   pub held : List (List ℕ)
   pub ended : ends old held new
   pub put : Puts result out out' (spelled_all f.spelled held)
@@ -116,23 +119,26 @@ IsCaused requests None over faulted = faulted ≡ false
 IsCaused requests (Some why) over faulted = HasCause (is_read_fault why) over faulted ⊎ (requests ≡ max_records)
 
 -- all replies have left the writer
-pub record Told (f : Frames) (last : List ℕ) (why : End) (stop : Option End) (handed : List (List (List ℕ))) (held : List (List ℕ)) (old new : Output) : Type 0 where
+pub record Told (f : Frames) (last : List ℕ) (why : End) (stop : Option End)
+    (handed : List (List (List ℕ))) (held : List (List ℕ)) (old new : Output) : Type 0 where
   pub ended : stop ≡ Some why
   pub reached : Appends old.reached new.reached (old.kept ++ spelled_all f.spelled (joined handed ++ (held ++ last_reply last why)))
   pub handed_on : IsHandedOn new
   pub sound : new.broken ≡ false
 
--- The writer failed: no more than a first part of these replies has left it, and it had promised no room for all of them. What is lost is no more
--- than it may keep back and the replies that it was given last: so no further body was answered once it had failed.
-pub record Fails (f : Frames) (last : List ℕ) (why : End) (stop : Option End) (handed : List (List (List ℕ))) (held : List (List ℕ)) (old new : Output) : Type 0 where
+-- The writer failed: no more than a first part of these replies has left it, and it had promised no room for all of them. What is lost is
+-- no more than it may keep back and the replies that it was given last: so no further body was answered once it had failed.
+pub record Fails (f : Frames) (last : List ℕ) (why : End) (stop : Option End)
+    (handed : List (List (List ℕ))) (held : List (List ℕ)) (old new : Output) : Type 0 where
   pub ended : why ≡ WriteFault
   pub torn : Breaks old new (spelled_all f.spelled (joined handed ++ finals last stop held))
   pub few : length torn.lost ≤ old.back + length (spelled_all f.spelled (given_last last stop handed held))
 
--- A whole session: the bodies that were read, their run with the replies that were handed out at each, those that were still held at the end, and
--- what has left the writer. `stop` is what ended the reading; None where the writer failed between two bodies: then nothing past the last body
--- that was answered was taken. `over` is how often the reader was called behind the last body.
-pub record Session {S : Type 0} (f : Frames) (turn : TurnOf S) (ends : EndOf S) (last : List ℕ) (input input' : Input) (out out' : Output) (old new : S) (served : Served) : Type 0 where
+-- A whole session: the bodies that were read, their run with the replies that were handed out at each, those that were still held at the
+-- end, and what has left the writer. `stop` is what ended the reading; None where the writer failed between two bodies: then nothing past
+-- the last body that was answered was taken. `over` is how often the reader was called behind the last body.
+pub record Session {S : Type 0} (f : Frames) (turn : TurnOf S) (ends : EndOf S) (last : List ℕ)
+    (input input' : Input) (out out' : Output) (old new : S) (served : Served) : Type 0 where
   pub bodies : List (List ℕ)
   pub handed : List (List (List ℕ))
   pub held : List (List ℕ)
@@ -151,7 +157,8 @@ pub record Session {S : Type 0} (f : Frames) (turn : TurnOf S) (ends : EndOf S) 
   pub written : Told f last served.why stop handed held out out' ⊎ Fails f last served.why stop handed held out out'
 
 -- the same so far
-pub record Going {S : Type 0} (f : Frames) (turn : TurnOf S) (input input' : Input) (out out' : Output) (old now : S) (requests : ℕ) : Type 0 where
+pub record Going {S : Type 0} (f : Frames) (turn : TurnOf S) (input input' : Input)
+    (out out' : Output) (old now : S) (requests : ℕ) : Type 0 where
   pub bodies : List (List ℕ)
   pub handed : List (List (List ℕ))
   pub run : Run turn old bodies handed now
@@ -167,7 +174,8 @@ HandsOn spelled result why replies old new =
     ⊎ ((result ≡ WriteFault) × Breaks old new (spelled_all spelled replies))
 
 -- what was held and the last reply went so
-pub record Closes {S : Type 0} (f : Frames) (ends : EndOf S) (last : List ℕ) (result why : End) (out out' : Output) (old new : S) : Type 0 where
+pub record Closes {S : Type 0} (f : Frames) (ends : EndOf S) (last : List ℕ) (result why : End)
+    (out out' : Output) (old new : S) : Type 0 where
   pub held : List (List ℕ)
   pub ended : ends old held new
   pub closed : HandsOn f.spelled result why (held ++ last_reply last why) out out'

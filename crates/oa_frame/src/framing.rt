@@ -32,9 +32,9 @@ pub enum Read {
 
 /// Reads the body with this number, counted from 1, into the start of `body`, and takes nothing past it.
 ///
-/// Where all of it was read ahead, neither reader nor writer is called. Else what the writer keeps back is handed on before the first of its
-/// bytes is taken, and the reader is called at most 4,194,304 times. Takes no memory: `line` has room for the longest line, which the records'
-/// framing leaves alone.
+/// Where all of it was read ahead, neither reader nor writer is called. Else what the writer keeps back is handed on before the first of
+/// its bytes is taken, and the reader is called at most 4,194,304 times. Takes no memory: `line` has room for the longest line, which the
+/// records' framing leaves alone.
 pub fn read_body<R: Source + Drop, W: Sink>(
     framing: Framing,
     reader: &mut Ahead<R>,

@@ -82,8 +82,8 @@ fn judge(line: &[u8], body: &mut [u8], number: u64) -> Read
     }
 }
 
-/// Decodes digits into the front of a buffer, and answers how many bytes they are. A pair that is none does not end the loop, so that many are
-/// decoded at a time.
+/// Decodes digits into the front of a buffer, and answers how many bytes they are. A pair that is none does not end the loop, so that many
+/// are decoded at a time.
 fn decode(line: &[u8], buffer: &mut [u8]) -> Option<usize>
     requires { length line.now ≤ 2 * length buffer.old }
     ensures len { length buffer.new ≡ length buffer.old }

@@ -9,13 +9,16 @@ ghost use Rattle.oa_frame.specs.Sessions.{CanStop, ReadTo};
 
 /// Bytes have one first line, and one rest after it.
 pub fn one_line()
-    ensures { (bytes line line' rest rest' : List ℕ) → FirstLine bytes line rest → FirstLine bytes line' rest' → (line ≡ line') × (rest ≡ rest') }
+    ensures { (bytes line line' rest rest' : List ℕ)
+        → FirstLine bytes line rest → FirstLine bytes line' rest' → (line ≡ line') × (rest ≡ rest') }
 {}
 
 /// Bytes hold one list of bodies and one end of it in a framing, where no fault of the reader ended the reading.
 pub fn one_end()
     ensures { (framing : AFraming) (bytes rest rest' : List ℕ) (bodies others : List (List ℕ)) (why other : AnEnd)
-        → ReadTo (frames framing) (Some why) bodies bytes rest → CanStop (frames framing) (length bodies) (Some why) → (why ≡ ReadFault → ⊥)
-        → ReadTo (frames framing) (Some other) others bytes rest' → CanStop (frames framing) (length others) (Some other) → (other ≡ ReadFault → ⊥)
+        → ReadTo (frames framing) (Some why) bodies bytes rest
+        → CanStop (frames framing) (length bodies) (Some why) → (why ≡ ReadFault → ⊥)
+        → ReadTo (frames framing) (Some other) others bytes rest'
+        → CanStop (frames framing) (length others) (Some other) → (other ≡ ReadFault → ⊥)
         → (bodies ≡ others) × (why ≡ other) }
 {}

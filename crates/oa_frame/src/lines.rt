@@ -41,8 +41,8 @@ pub(crate) enum Piece {
     Part,
 }
 
-/// Reads one line into `line`, which has room for the longest, without its line feed and a carriage return before that, and takes nothing past
-/// the line feed. All that was put was handed on, so that whoever sends the line has all replies.
+/// Reads one line into `line`, which has room for the longest, without its line feed and a carriage return before that, and takes nothing
+/// past the line feed. All that was put was handed on, so that whoever sends the line has all replies.
 pub(crate) fn read_line<R: Source + Drop, W: Sink>(
     reader: &mut Ahead<R>,
     writer: &W,
@@ -52,7 +52,8 @@ pub(crate) fn read_line<R: Source + Drop, W: Sink>(
     requires unbroken { (ahead R.input reader.old).faulted ≡ false }
     requires quiet { IsHandedOn (W.out writer.now) }
     ensures capacity { vec_capacity line.old ≤ vec_capacity line.new }
-    ensures found { Known (λ bytes rest. Finds result bytes line.new.items rest) (ahead R.input reader.old).left (ahead R.input reader.new).left }
+    ensures found { Known (λ bytes rest. Finds result bytes line.new.items rest)
+        (ahead R.input reader.old).left (ahead R.input reader.new).left }
     ensures paced { Paced (is_lost result) (ahead R.input reader.old) (ahead R.input reader.new) }
 {
     line.clear();
@@ -82,7 +83,8 @@ fn take_piece<R: Source + Drop>(reader: &mut Ahead<R>, line: &mut Vec<u8>) -> Pi
     requires short { length line.old.items ≤ max_line_characters + 1 }
     ensures capacity { vec_capacity line.old ≤ vec_capacity line.new }
     ensures short { length line.new.items ≤ max_line_characters + 1 }
-    ensures piece { Pieces result (held reader.old) (ahead R.input reader.old) (ahead R.input reader.new) line.old.items line.new.items (held reader.new) }
+    ensures piece { Pieces result (held reader.old) (ahead R.input reader.old) (ahead R.input reader.new)
+        line.old.items line.new.items (held reader.new) }
 {
     let front = reader.buffered();
     match memchr(b'\n', front) {

@@ -150,7 +150,8 @@ fn fill_up<R: Source + Drop, W: Sink>(
 fn fetch<R: Source + Drop>(reader: &mut Ahead<R>, out: &mut [u8], at: usize) -> usize
     requires { at ≤ length out.old }
     ensures len { length out.new ≡ length out.old }
-    ensures fetches { Fetches result at (held reader.old) (held reader.new) (ahead R.input reader.old) (ahead R.input reader.new) out.old out.new }
+    ensures fetches { Fetches result at (held reader.old) (held reader.new)
+        (ahead R.input reader.old) (ahead R.input reader.new) out.old out.new }
 {
     let front = reader.buffered();
     let n = front.len().min(out.len() - at);

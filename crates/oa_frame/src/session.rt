@@ -56,8 +56,8 @@ pub struct Served {
     pub why: End,
 }
 
-/// Answers the bodies of a reader on a writer, one after another. All replies that the server hands out are handed on before each wait for more
-/// input and at the end; those that it holds it is asked for when the reading has ended.
+/// Answers the bodies of a reader on a writer, one after another. All replies that the server hands out are handed on before each wait for
+/// more input and at the end; those that it holds it is asked for when the reading has ended.
 ///
 /// `last` is the reply to a record that is cut or too long, without a length. `line` has room for the longest line, and `body`
 /// for the longest body: no memory is taken here.
@@ -76,7 +76,8 @@ pub fn serve<S: Responder, R: Source + Drop, W: Sink>(
     requires ready { S.ready server.old }
     requires unbroken { (ahead R.input reader.old).faulted ≡ false }
     requires unbroken_writer { (W.out writer.old).broken ≡ false }
-    ensures { Session (frames framing) S.turn S.ends last.now (ahead R.input reader.old) (ahead R.input reader.new) (W.out writer.old) (W.out writer.new) server.old server.new result }
+    ensures { Session (frames framing) S.turn S.ends last.now (ahead R.input reader.old) (ahead R.input reader.new)
+        (W.out writer.old) (W.out writer.new) server.old server.new result }
 {
     let mut requests = 0u64;
     'turns: for _ in 0..u64::MAX {

@@ -1,4 +1,4 @@
-// Sessions over readers in memory that cut and are interrupted, and over writers that fail.
+//! Sessions over readers in memory that cut and are interrupted, and over writers that fail.
 ghost use Rattle.std.specs.Prelude.{false, ⊤, ◌≡◌};
 ghost use Rattle.oa_stream.specs.Ahead.{ahead};
 

@@ -73,7 +73,8 @@ fn spell(head: &[u8], fields: &[u8], line: &mut [u8; 128]) -> usize
 fn put_record<W: Sink>(writer: &mut W, head: &[u8], fields: &[u8]) -> Result<(), Unwritten>
     requires short { length head.now + length fields.now ≤ 4294967295 }
     requires unbroken { (W.out writer.old).broken ≡ false }
-    ensures { Puts result (W.out writer.old) (W.out writer.new) (to_le_bytes w32 (length (head.now ++ fields.now)) ++ (head.now ++ fields.now)) }
+    ensures { Puts result (W.out writer.old) (W.out writer.new)
+        (to_le_bytes w32 (length (head.now ++ fields.now)) ++ (head.now ++ fields.now)) }
 {
     if head.len() <= SHORT && fields.len() <= SHORT - head.len() {
         return put_short_record(writer, head, fields);
@@ -87,7 +88,8 @@ fn put_record<W: Sink>(writer: &mut W, head: &[u8], fields: &[u8]) -> Result<(),
 fn put_short_record<W: Sink>(writer: &mut W, head: &[u8], fields: &[u8]) -> Result<(), Unwritten>
     requires short { length head.now + length fields.now ≤ 63 }
     requires unbroken { (W.out writer.old).broken ≡ false }
-    ensures { Puts result (W.out writer.old) (W.out writer.new) (to_le_bytes w32 (length (head.now ++ fields.now)) ++ (head.now ++ fields.now)) }
+    ensures { Puts result (W.out writer.old) (W.out writer.new)
+        (to_le_bytes w32 (length (head.now ++ fields.now)) ++ (head.now ++ fields.now)) }
 {
     let mut bytes = [0u8; 67];
     let end = lay_out(head, fields, &mut bytes);

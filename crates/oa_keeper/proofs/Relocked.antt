@@ -1,5 +1,6 @@
 -- Locks are no part of what an image holds.
-use Rattle.std.proofs.Common.{◌≡◌, ℕ, ◌+◌, ◌-◌, ◌==◌, Bool, true, false, cond, List, [], ◌∷◌, map, Option, Some, None, Result, Ok, Err, refl, sym, ap, ◌∙◌}
+use Rattle.std.proofs.Common.{◌≡◌, ℕ, ◌+◌, ◌-◌, ◌==◌, Bool, true, false, cond, List, [], ◌∷◌, map, Option, Some, None, Result, Ok, Err}
+use Rattle.std.proofs.Common.{refl, sym, ap, ◌∙◌}
 use Rattle.std.specs.Prelude.{if◌then◌else◌}
 use Rattle.std.specs.BTreeMap.{is_at}
 use Rattle.std.specs.Map.{lookup, set_value}
@@ -19,7 +20,8 @@ use Rattle.oa_table.specs.Locks.{with_lock, without_lock}
 use Rattle.oa_table.specs.Objects.{changed_if_put, with_change, with_value}
 use Rattle.oa_table.specs.Outcomes.{mapped}
 use Rattle.oa_table.specs.Places.{PlaceValue, place_cmp}
-use Rattle.oa_table.specs.Tables.{ObjectValue, TableValue, cell_at, object_at, unlocked_cell, unlocked_entry, unlocked_object, unlocked_table}
+use Rattle.oa_table.specs.Tables.{ObjectValue, TableValue, cell_at, object_at, unlocked_cell, unlocked_entry, unlocked_object}
+use Rattle.oa_table.specs.Tables.{unlocked_table}
 
 -- a change that is not seen through g
 abbrev Unseen : {A : Type 0} → (A → A) → (A → Result A TableFault) → A → Type 0

@@ -16,7 +16,8 @@ EachIs image chosen gate library held = (c : List ℕ) → image c → IsStoreAt
 
 -- its disk is honest, and each image of it holds this table
 abbrev pub AllHold : {D : Type 0} {g : Ghosts D} → Store D g → TableValue → Type 0
-AllHold {D} {g} store held = IsTrue (g.is_honest store.disk) × EachIs (g.image store.disk) store.chosen store.bank.gate store.library.items held
+AllHold {D} {g} store held =
+    IsTrue (g.is_honest store.disk) × EachIs (g.image store.disk) store.chosen store.bank.gate store.library.items held
 
 -- a crash at any moment of a call leaves a store of this table
 abbrev pub LeavesTable : {D : Type 0} {g : Ghosts D} → Store D g → Store D g → TableValue → Type 0
@@ -24,7 +25,8 @@ LeavesTable {D} {g} old new held = LeavesOnly g.moment g.image_since old.disk ne
 
 -- or of the one table or the other
 abbrev pub LeavesEither : {D : Type 0} {g : Ghosts D} → Store D g → Store D g → TableValue → TableValue → Type 0
-LeavesEither {D} {g} old new before after = LeavesOnly g.moment g.image_since old.disk new.disk (λ c. IsStore c old.library.items before ⊎ IsStore c old.library.items after)
+LeavesEither {D} {g} old new before after =
+    LeavesOnly g.moment g.image_since old.disk new.disk (λ c. IsStore c old.library.items before ⊎ IsStore c old.library.items after)
 
 -- Where events are in hand, the bank in use has room for the greatest group.
 abbrev pub HasRoom : {D : Type 0} {g : Ghosts D} → List ℕ → Store D g → Type 0

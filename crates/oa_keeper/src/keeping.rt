@@ -30,8 +30,10 @@ pub fn make_room<D: Disk>(
     requires room { HasRoom frame.now store.old }
 
     // Whatever table the images hold, which is the one in memory while no event is in hand.
-    ensures any_moment { (committed : TableValue) → (length frame.now ≡ 0 → unlocked_table table.now ≡ committed) → AllHold store.old committed → LeavesTable store.old store.new committed }
-    ensures each { store.new.stopped ≡ false → (committed : TableValue) → (length frame.now ≡ 0 → unlocked_table table.now ≡ committed) → AllHold store.old committed → AllHold store.new committed }
+    ensures any_moment { (committed : TableValue) → (length frame.now ≡ 0 → unlocked_table table.now ≡ committed)
+        → AllHold store.old committed → LeavesTable store.old store.new committed }
+    ensures each { store.new.stopped ≡ false → (committed : TableValue) → (length frame.now ≡ 0 → unlocked_table table.now ≡ committed)
+        → AllHold store.old committed → AllHold store.new committed }
     ensures quiet { 0 < length frame.now → (store.new.disk ≡ store.old.disk) × IsOk result }
     // No checkpoint is made that is not due.
     ensures undue { 1572869 ≤ bank_bytes - store.old.bank.gate → (store.new.disk ≡ store.old.disk) × IsOk result }
@@ -39,7 +41,8 @@ pub fn make_room<D: Disk>(
     ensures room_kept { store.new.stopped ≡ false → HasRoom frame.now store.new }
 
     ensures going { (IsErrOf result KeepFault.Write → ⊥) → store.new.stopped ≡ false }
-    ensures stops { IsErrOf result KeepFault.Write → (store.new.stopped ≡ true) × (D.failures_of store.new.disk < 2 ^ 64 - 1 → D.failures_of store.old.disk < D.failures_of store.new.disk) }
+    ensures stops { IsErrOf result KeepFault.Write → (store.new.stopped ≡ true)
+        × (D.failures_of store.new.disk < 2 ^ 64 - 1 → D.failures_of store.old.disk < D.failures_of store.new.disk) }
     ensures library { store.new.library.items ≡ store.old.library.items }
     ensures honest { D.is_honest store.new.disk ≡ D.is_honest store.old.disk }
     ensures failures { D.failures_of store.old.disk ≤ D.failures_of store.new.disk }
@@ -98,8 +101,10 @@ pub fn hold<D: Disk>(
     ensures same { OnErr result (frame.new ≡ frame.old) }
     ensures numbered { is_numbered table.new ≡ true }
     // Whatever table the images hold, which is the one in memory while no event is in hand, they go on to hold it.
-    ensures any_moment { (committed : TableValue) → (length frame.old ≡ 0 → unlocked_table table.old ≡ committed) → AllHold store.old committed → LeavesTable store.old store.new committed }
-    ensures each { store.new.stopped ≡ false → (committed : TableValue) → (length frame.old ≡ 0 → unlocked_table table.old ≡ committed) → AllHold store.old committed → AllHold store.new committed }
+    ensures any_moment { (committed : TableValue) → (length frame.old ≡ 0 → unlocked_table table.old ≡ committed)
+        → AllHold store.old committed → LeavesTable store.old store.new committed }
+    ensures each { store.new.stopped ≡ false → (committed : TableValue) → (length frame.old ≡ 0 → unlocked_table table.old ≡ committed)
+        → AllHold store.old committed → AllHold store.new committed }
     ensures quiet { 0 < length frame.old → store.new.disk ≡ store.old.disk }
     // It is the first event of a group before which a checkpoint fails.
     ensures first { IsErrOf result KeepFault.Write → length frame.old ≡ 0 }
@@ -107,7 +112,8 @@ pub fn hold<D: Disk>(
     ensures room { store.new.stopped ≡ false → HasRoom frame.new store.new }
 
     ensures going { (IsErrOf result KeepFault.Write → ⊥) → store.new.stopped ≡ false }
-    ensures stops { IsErrOf result KeepFault.Write → (store.new.stopped ≡ true) × (D.failures_of store.new.disk < 2 ^ 64 - 1 → D.failures_of store.old.disk < D.failures_of store.new.disk) }
+    ensures stops { IsErrOf result KeepFault.Write → (store.new.stopped ≡ true)
+        × (D.failures_of store.new.disk < 2 ^ 64 - 1 → D.failures_of store.old.disk < D.failures_of store.new.disk) }
     ensures library { store.new.library.items ≡ store.old.library.items }
     ensures honest { D.is_honest store.new.disk ≡ D.is_honest store.old.disk }
     ensures failures { D.failures_of store.old.disk ≤ D.failures_of store.new.disk }
@@ -127,13 +133,16 @@ pub fn commit<D: Disk>(store: &mut Store<D>, frame: &mut Frame) -> Result<(), Br
     requires few { length frame.old ≤ 1572863 }
 
     // Whatever table the images hold, and whatever the events make of it.
-    ensures any_moment { (committed now : TableValue) → Replays frame.old committed now → AllHold store.old committed → LeavesEither store.old store.new committed now }
-    ensures each { store.new.stopped ≡ false → (committed now : TableValue) → Replays frame.old committed now → AllHold store.old committed → AllHold store.new now }
+    ensures any_moment { (committed now : TableValue) → Replays frame.old committed now
+        → AllHold store.old committed → LeavesEither store.old store.new committed now }
+    ensures each { store.new.stopped ≡ false → (committed now : TableValue) → Replays frame.old committed now
+        → AllHold store.old committed → AllHold store.new now }
     ensures quiet { length frame.old ≡ 0 → (store.new.disk ≡ store.old.disk) × IsOk result }
     ensures emptied { frame.new ≡ [] }
 
     ensures going { OnOk result (store.new.stopped ≡ false) }
-    ensures stops { OnErr result ((store.new.stopped ≡ true) × (D.failures_of store.new.disk < 2 ^ 64 - 1 → D.failures_of store.old.disk < D.failures_of store.new.disk)) }
+    ensures stops { OnErr result ((store.new.stopped ≡ true)
+        × (D.failures_of store.new.disk < 2 ^ 64 - 1 → D.failures_of store.old.disk < D.failures_of store.new.disk)) }
     ensures library { store.new.library.items ≡ store.old.library.items }
     ensures honest { D.is_honest store.new.disk ≡ D.is_honest store.old.disk }
     ensures failures { D.failures_of store.old.disk ≤ D.failures_of store.new.disk }
@@ -149,12 +158,15 @@ fn commit_bytes<D: Disk>(store: &mut Store<D>, bytes: &mut Vec<u8>) -> Result<()
     requires len { (length bytes.old.items ≡ 0) ⊎ (5 ≤ length bytes.old.items) }
     requires room { HasRoom (group_of bytes.old.items) store.old }
     requires few { length bytes.old.items ≤ 1572868 }
-    ensures any_moment { (committed now : TableValue) → Replays (group_of bytes.old.items) committed now → AllHold store.old committed → LeavesEither store.old store.new committed now }
-    ensures each { store.new.stopped ≡ false → (committed now : TableValue) → Replays (group_of bytes.old.items) committed now → AllHold store.old committed → AllHold store.new now }
+    ensures any_moment { (committed now : TableValue) → Replays (group_of bytes.old.items) committed now
+        → AllHold store.old committed → LeavesEither store.old store.new committed now }
+    ensures each { store.new.stopped ≡ false → (committed now : TableValue) → Replays (group_of bytes.old.items) committed now
+        → AllHold store.old committed → AllHold store.new now }
     ensures quiet { length (group_of bytes.old.items) ≡ 0 → (store.new.disk ≡ store.old.disk) × IsOk result }
     ensures emptied { bytes.new.items ≡ [] }
     ensures going { OnOk result (store.new.stopped ≡ false) }
-    ensures stops { OnErr result ((store.new.stopped ≡ true) × (D.failures_of store.new.disk < 2 ^ 64 - 1 → D.failures_of store.old.disk < D.failures_of store.new.disk)) }
+    ensures stops { OnErr result ((store.new.stopped ≡ true)
+        × (D.failures_of store.new.disk < 2 ^ 64 - 1 → D.failures_of store.old.disk < D.failures_of store.new.disk)) }
     ensures library { store.new.library.items ≡ store.old.library.items }
     ensures honest { D.is_honest store.new.disk ≡ D.is_honest store.old.disk }
     ensures failures { D.failures_of store.old.disk ≤ D.failures_of store.new.disk }

@@ -25,10 +25,6 @@ put_ref_flag = 8
 abbrev pub unknown_dispid : ℤ
 unknown_dispid = negsuc 0
 
--- DISPID_PROPERTYPUT, -3: of a put's new value
-abbrev pub put_dispid : ℤ
-put_dispid = negsuc 2
-
 -- ---- how a member is called (INVOKEKIND, MS-OAUT section 2.2.14)
 
 -- INVOKE_FUNC

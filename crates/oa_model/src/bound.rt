@@ -1,4 +1,4 @@
-// The bounds of a dimension.
+//! The bounds of a dimension.
 
 /// A dimension of a safe array (SAFEARRAYBOUND, MS-OAUT section 2.2.30.1): its indices are those `i` with
 /// `lower <= i < lower + count`, by exact sums.

@@ -1,4 +1,4 @@
-// Names without regard to case.
+//! Names without regard to case.
 ghost use Rattle.std.specs.Prelude.{◌≡◌};
 ghost use Rattle.oa_model.specs.Folding.{folded};
 

@@ -1,4 +1,4 @@
-// GUIDs on the wire.
+//! GUIDs on the wire.
 ghost use Rattle.std.specs.Prelude.{◌≡◌, length};
 ghost use Rattle.oa_model.specs.Guids.{wire_order};
 

@@ -1,4 +1,4 @@
-// The codes of replies.
+//! The codes of replies.
 ghost use Rattle.std.specs.Prelude.{◌≡◌, ◌↔◌, IsTrue};
 ghost use Rattle.oa_model.specs.Codes.{s_ok};
 

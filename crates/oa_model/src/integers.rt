@@ -1,4 +1,4 @@
-// The integer types.
+//! The integer types.
 ghost use Rattle.std.specs.Prelude.{◌≡◌};
 ghost use Rattle.oa_model.specs.Integers.{is_integer_type, is_signed_integer};
 

@@ -1,4 +1,4 @@
-// The numbers of Invoke and of type information, which are those of MS-OAUT.
+//! The numbers of Invoke and of type information, which are those of MS-OAUT.
 
 /// DISPATCH_METHOD, a flag of a call (MS-OAUT section 3.1.4.4).
 pub const METHOD_FLAG: u16 = 1;
@@ -10,8 +10,6 @@ pub const PUT_FLAG: u16 = 4;
 pub const PUT_REF_FLAG: u16 = 8;
 /// DISPID_UNKNOWN: of a name that is not known (MS-OAUT section 2.2.32.1).
 pub const UNKNOWN_DISPID: i32 = -1;
-/// DISPID_PROPERTYPUT: of a put's new value (MS-OAUT section 2.2.32.1).
-pub const PUT_DISPID: i32 = -3;
 /// INVOKE_FUNC (INVOKEKIND, MS-OAUT section 2.2.14).
 pub const INVOKE_METHOD: u16 = 1;
 /// INVOKE_PROPERTYGET.

@@ -1,4 +1,4 @@
-// The limits of this server, all of them this project's choice.
+//! The limits of this server, all of them this project's choice.
 
 /// Bytes of a request's body.
 pub const MAX_REQUEST_BYTES: u32 = 1_048_576;

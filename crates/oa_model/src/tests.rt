@@ -1,4 +1,4 @@
-// Values of the standards, as tables.
+//! Values of the standards, as tables.
 use crate::{HResult, ValueType, VarType, fold, guid_from_wire, guid_to_wire, laws};
 use std::rt::HostRuntime;
 use std::test::Fail;

@@ -1,4 +1,4 @@
-// The types of values.
+//! The types of values.
 ghost use Rattle.std.specs.Prelude.{◌≡◌};
 ghost use Rattle.oa_model.specs.Types.{vt_of, type_at, vt_of_value, sf_type_of, element_size_of, is_signed_type};
 

@@ -1,13 +1,17 @@
 -- A reading reads a form: what it takes is of the form, and what is of the form is read again, whatever follows.
-use Rattle.std.proofs.Common.{◌≡◌, ℕ, zero, suc, ◌+◌, ◌<◌, ◌≤◌, ◌^◌, Bool, true, false, not, cond, ltb, eqb, List, [], ◌∷◌, ◌++◌, length, take, drop, replicate, Option, Some, None, refl, sym, ap, subst, ◌∙◌, append_assoc, arith}
+use Rattle.std.proofs.Common.{◌≡◌, ℕ, zero, suc, ◌+◌, ◌<◌, ◌≤◌, ◌^◌, Bool, true, false, not, cond, ltb, eqb, List, [], ◌∷◌, ◌++◌, length}
+use Rattle.std.proofs.Common.{take, drop, replicate, Option, Some, None, refl, sym, ap, subst, ◌∙◌, append_assoc, arith}
 use Rattle.std.specs.List.{AllByRecursion}
 use Rattle.std.proofs.lemmas.Bool.{ltb-false, le-ltb, eqb-true}
-use Rattle.std.proofs.lemmas.List.{append-nil, nil_from_length, take_at, drop_at, take-append-drop, length-append, length-take-le, length-drop, length-replicate, drop-append-le, drop-take}
+use Rattle.std.proofs.lemmas.List.{append-nil, nil_from_length, take_at, drop_at, take-append-drop, length-append, length-take-le}
+use Rattle.std.proofs.lemmas.List.{length-drop, length-replicate, drop-append-le, drop-take}
 use Rattle.byteorder.specs.Endian.{little_number, little_bytes}
 use Rattle.byteorder.specs.Numbers.{length-bytes_low_first, little_number-reads_back}
-use Rattle.oa_ndr.specs.Forms.{padding, Then, ◌▸◌, nothing, align, ignored, unit, packed, exactly, any, with, given, referent, each, pairwise, made}
-use Rattle.oa_ndr.specs.Reading.{Cursor, at, Reading, and_then, bind, give, fail, choose, bytes_at, align_at, slot_at, unit_at, packed_at, referent_at, many, map_at, all_used, whole}
-use Rattle.oa_ndr.specs.Writing.{put_align, put_unit, put_packed, put_bytes, put_referent, put_all}
+use Rattle.oa_ndr.specs.Forms.{padding, Then, ◌▸◌, nothing, align, ignored, unit, exactly, any, with, given, referent, each}
+use Rattle.oa_ndr.specs.Forms.{pairwise, made}
+use Rattle.oa_ndr.specs.Reading.{Cursor, at, Reading, and_then, bind, give, fail, choose, bytes_at, align_at, slot_at, unit_at}
+use Rattle.oa_ndr.specs.Reading.{referent_at, many, map_at, all_used, whole}
+use Rattle.oa_ndr.specs.Writing.{put_align, put_unit, put_bytes, put_referent, put_all}
 
 -- what a reader took from the front
 pub record Takes (F : ℕ → List ℕ → Type 0) (p : ℕ) (bytes : List ℕ) (t : Cursor) : Type 0 where
@@ -125,22 +129,6 @@ bytes_reads n = record {
       rw (long, take_at text rest n whole_text, drop_at text rest n whole_text, form, len) refl;
 }
 
-pub packed_reads : (n : ℕ) → Reads Always (packed n) (packed_at n)
-unfolding packed_at bind give
-packed_reads n = record {
-  takes = λ p bytes x t e.
-      let b = bind_some (bytes_at n (at p bytes)) (λ y. give (little_number n y)) (x, t) e in
-      let first = (bytes_reads n).takes p bytes b.0.0 b.0.1 b.1 in
-      let made = some_is (little_number n b.0.0, b.0.1) (x, t) b.2 in
-      let one = first.1 in
-      let len : length one.text ≡ n = ap length one.form ∙ first.0 in
-      let value : little_number n one.text ≡ x = ap (little_number n) one.form ∙ ap (λ (y : ℕ × Cursor). y.0) made in
-      (tt, subst (Takes (packed n x) p bytes) (ap (λ (y : ℕ × Cursor). y.1) made) (record { text = one.text; parts = one.parts; place = one.place; form = record { len = len; value = value } }));
-  again = λ p text rest x _ form.
-      ap (λ (o : Option (List ℕ × Cursor)). and_then o (λ y. give (little_number n y))) ((bytes_reads n).again p text rest text form.len refl)
-      ∙ ap (λ (k : ℕ). Some (k, at (p + length text) rest)) form.value;
-}
-
 pub align_reads : (n : ℕ) → Reads Always (λ _. align n) (align_at n)
 unfolding align_at
 align_reads n = record {
@@ -248,17 +236,6 @@ pub same_values : {C : Type 0} {P Q : C → Type 0} {F : C → ℕ → List ℕ 
 same_values r to from = record {
   takes = λ p bytes c t e. let one = r.takes p bytes c t e in (to c one.0, one.1);
   again = λ p text rest c h form. r.again p text rest c (from c h) form;
-}
-
--- the first part, said in other words
-pub first_as : {C : Type 0} {P : C → Type 0} {F H G : C → ℕ → List ℕ → Type 0} {read : Reading C} → Reads P (λ c. F c ▸ G c) read
-    → ((c : C) (p : ℕ) (text : List ℕ) → P c → F c p text → H c p text) → ((c : C) (p : ℕ) (text : List ℕ) → P c → H c p text → F c p text) → Reads P (λ c. H c ▸ G c) read
-first_as {C} {P} {F} {H} {G} r to from = record {
-  takes = λ p bytes c t e.
-      let one = r.takes p bytes c t e in
-      let f = one.1.form in
-      (one.0, record { text = one.1.text; parts = one.1.parts; place = one.1.place; form = record { front = f.front; back = f.back; parts = f.parts; first = to c p f.front one.0 f.first; second = f.second } });
-  again = λ p text rest c h f. r.again p text rest c h (record { front = f.front; back = f.back; parts = f.parts; first = from c p f.front h f.first; second = f.second });
 }
 
 pub referent_reads : Reads Always referent referent_at
@@ -488,13 +465,6 @@ unit_writes n x lt = record {
         parts = refl;
         form = record { len = omega (arith, zeros_len, length-append zeros (little_bytes n x), length-bytes_low_first 0 n x); value = ap (little_number n) rest ∙ back };
       };
-}
-
-pub packed_writes : (n x : ℕ) → x < 256 ^ n → Writes (packed n x) (put_packed n x)
-packed_writes n x lt = record {
-  adds = λ out.
-      let back : little_number n (little_bytes n x) ≡ x = ap (little_number n) (sym (append-nil (little_bytes n x))) ∙ little_number-reads_back n x [] lt in
-      record { text = little_bytes n x; parts = refl; form = record { len = length-bytes_low_first 0 n x; value = back } };
 }
 
 -- any number may stand where it is ignored

@@ -1,7 +1,7 @@
 -- How values lie in bytes (C706 chapter 14, little-endian).
 --
--- A form relates the place at which a stretch of bytes begins, counted from the first byte of its field, to the bytes of that stretch. The form of a value is stated
--- in the direction of reading: these bytes stand for that value. So a part that is ignored holds any bytes.
+-- A form relates the place at which a stretch of bytes begins, counted from the first byte of its field, to the bytes of that stretch. The
+-- form of a value is stated in the direction of reading: these bytes stand for that value. So a part that is ignored holds any bytes.
 use Rattle.std.specs.Prelude.{◌≡◌, ℕ, ◌+◌, ◌-◌, ◌%◌, ◌==◌, Bool, not, if◌then◌else◌, List, [], ◌∷◌, ◌++◌, length, drop}
 use Rattle.byteorder.specs.Endian.{little_number}
 

@@ -1,5 +1,6 @@
 -- The fields of a request, one after the other.
-use Rattle.std.proofs.Common.{◌≡◌, ℕ, ◌+◌, ◌<◌, List, [], ◌∷◌, ◌++◌, Bor, length, take, drop, map, get_or, Err, sym, ap, subst, ◌∙◌, append_assoc, take_all, ◌-◌, arith}
+use Rattle.std.proofs.Common.{◌≡◌, ℕ, ◌+◌, ◌<◌, List, [], ◌∷◌, ◌++◌, Bor, length, take, drop, map, get_or, Err, sym, ap, subst, ◌∙◌}
+use Rattle.std.proofs.Common.{append_assoc, take_all, ◌-◌, arith}
 use Rattle.std.proofs.lemmas.List.{take_more, drop_more, take-append-drop, get_or-map, length-map, length-drop, length-take-le}
 use Rattle.std.specs.List.{drop-map}
 use Rattle.std.specs.List.{AllByRecursion}

@@ -1,5 +1,6 @@
 -- Reading a layout reads its form.
-use Rattle.std.proofs.Common.{◌≡◌, ℕ, ℤ, ◌+◌, ◌≤◌, Bool, true, false, eqb, leb, ◌&&◌, cond, List, ◌++◌, length, Option, Some, None, refl, sym, ap, subst, ◌∙◌, arith}
+use Rattle.std.proofs.Common.{◌≡◌, ℕ, ℤ, ◌+◌, ◌≤◌, Bool, true, false, eqb, leb, ◌&&◌, cond, List, ◌++◌, length, Option, Some, None, refl}
+use Rattle.std.proofs.Common.{sym, ap, subst, ◌∙◌, arith}
 use Rattle.std.proofs.lemmas.Bool.{leb-true, leb-false, eqb-true}
 use Rattle.std.specs.Int.{w32, cast_signed}
 use Rattle.oa_model.specs.Limits.{max_arguments, max_dimensions, max_names}
@@ -7,7 +8,9 @@ use Rattle.oa_model.specs.Guids.{wire_order}
 use Rattle.oa_model.specs.declared.bound.Bound.{Bound}
 use Rattle.oa_ndr.specs.Forms.{unit, exactly, each, nothing}
 use Rattle.oa_ndr.specs.Reading.{Cursor, at}
-use Rattle.oa_ndr.proofs.Laws.{Reads, Takes, Always, all_always, fail_reads, choose_reads, give_reads, none_reads, unit_reads, bytes_reads, align_reads, align_then, bind_reads, with_reads, told_reads, made_from, made_reads, made_takes, made_again, nothing_takes, nothing_again, many_reads, ignored_then, given_then, same_values}
+use Rattle.oa_ndr.proofs.Laws.{Reads, Takes, Always, all_always, fail_reads, choose_reads, give_reads, none_reads, unit_reads, bytes_reads}
+use Rattle.oa_ndr.proofs.Laws.{align_reads, align_then, bind_reads, with_reads, told_reads, made_from, made_reads, made_takes, made_again}
+use Rattle.oa_ndr.proofs.Laws.{nothing_takes, nothing_again, many_reads, ignored_then, given_then, same_values}
 use Rattle.oa_wire_array.specs.Arrays.{bound}
 use Rattle.oa_wire_array.specs.ArrayReading.{bound_at}
 use Rattle.oa_wire_array.proofs.ScalarLaws.{signed_reads}
@@ -19,7 +22,9 @@ use Rattle.oa_record.specs.declared.request.CallHead.{CallHead}
 use Rattle.oa_record.specs.declared.request.GetIds.{GetIds}
 use Rattle.oa_record.specs.Layouts.{Layout, opcode_of, guid, dispid, field, call_head, call_parts, indices, element_parts, put_parts}
 use Rattle.oa_record.specs.Layouts.{redim_parts, string, get_ids, number, fields, layout}
-use Rattle.oa_record.specs.Reading.{guid_at, dispid_at, field_at, head_of, call_head_at, parts_of, lists_at, call_at, index_list_at, indices_at, element_of, element_at, put_of, put_at, redim_of, redim_at, string_at, ids_of, names_at, get_ids_at, number_at, fields_at, listed_at, layout_at}
+use Rattle.oa_record.specs.Reading.{guid_at, dispid_at, field_at, head_of, call_head_at, parts_of, lists_at, call_at, index_list_at}
+use Rattle.oa_record.specs.Reading.{indices_at, element_of, element_at, put_of, put_at, redim_of, redim_at, string_at, ids_of, names_at}
+use Rattle.oa_record.specs.Reading.{get_ids_at, number_at, fields_at, listed_at, layout_at}
 
 guid_reads : Reads Always guid guid_at
 unfolding guid_at

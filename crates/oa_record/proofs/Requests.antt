@@ -1,5 +1,6 @@
 -- A body asks one request, or is refused.
-use Rattle.std.proofs.Common.{◌≡◌, inl, inr, ℕ, ℤ, ◌≤◌, true, List, [], ◌∷◌, ◌++◌, length, Option, Some, None, Result, Ok, Err, refl, sym, ap, subst, ◌∙◌}
+use Rattle.std.proofs.Common.{◌≡◌, inl, inr, ℕ, ℤ, ◌≤◌, true, List, [], ◌∷◌, ◌++◌, length, Option, Some, None, Result, Ok, Err, refl, sym}
+use Rattle.std.proofs.Common.{ap, subst, ◌∙◌}
 use Rattle.oa_model.specs.Limits.{max_request_bytes}
 use Rattle.oa_ndr.specs.Reading.{whole}
 use Rattle.oa_ndr.proofs.Laws.{one_value, whole_takes, whole_again}
@@ -15,7 +16,8 @@ use Rattle.oa_record.specs.declared.opcode.Opcode.TheVariants as opcodes
 use Rattle.oa_record.specs.declared.fault.RecordFault.{RecordFault}
 use Rattle.oa_record.specs.declared.fault.RecordFault.TheVariants.{Stub, BadVarType, Memory}
 use Rattle.oa_record.specs.declared.request.Request.TheVariants as requests
-use Rattle.oa_record.specs.Asks.{HasLayout, AllSpell, call_of, index_of, with_last, request_of, request_opcode, Asks, SpellsNothing, HasBroken}
+use Rattle.oa_record.specs.Asks.{HasLayout, AllSpell, call_of, index_of, with_last, request_of, request_opcode, Asks, SpellsNothing}
+use Rattle.oa_record.specs.Asks.{HasBroken}
 use Rattle.oa_record.specs.Asks.{HasBadType, HasNoLayout, IsStub, IsBadVarType, IsRequest}
 use Rattle.oa_record.specs.declared.request.Request.{Request}
 use Rattle.oa_record.specs.declared.request.Call.{Call}

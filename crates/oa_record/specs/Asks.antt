@@ -1,5 +1,6 @@
 -- Which body asks which request, and the refusal of a body that asks none (this project's choice).
-use Rattle.std.specs.Prelude.{◌≡◌, ◌⊎◌, ℕ, ◌≤◌, ◌==◌, nat_lt, if◌then◌else◌, true, List, [], ◌∷◌, ◌++◌, length, Option, Some, None, Result, Ok, Err}
+use Rattle.std.specs.Prelude.{◌≡◌, ◌⊎◌, ℕ, ◌≤◌, ◌==◌, nat_lt, if◌then◌else◌, true, List, [], ◌∷◌, ◌++◌, length, Option, Some, None, Result}
+use Rattle.std.specs.Prelude.{Ok, Err}
 use Rattle.std.specs.List.{AllByRecursion}
 use Rattle.byteorder.specs.Endian.{little_number}
 use Rattle.oa_model.specs.Limits.{max_request_bytes}
@@ -14,7 +15,8 @@ use Rattle.oa_record.specs.declared.opcode.Opcode.{Opcode}
 use Rattle.oa_record.specs.declared.opcode.Opcode.TheVariants as opcodes
 use Rattle.oa_record.specs.declared.request.Call.{Call}
 use Rattle.oa_record.specs.declared.request.Request.{Request}
-use Rattle.oa_record.specs.declared.request.Request.TheVariants.{Create, Release, GetIds, Invoke, GetElement, PutElement, Redimension, Lock, Unlock, TypeInfo, Objects}
+use Rattle.oa_record.specs.declared.request.Request.TheVariants.{Create, Release, GetIds, Invoke, GetElement, PutElement, Redimension, Lock}
+use Rattle.oa_record.specs.declared.request.Request.TheVariants.{Unlock, TypeInfo, Objects}
 use Rattle.oa_record.specs.declared.fault.RecordFault.{RecordFault}
 use Rattle.oa_record.specs.declared.fault.RecordFault.TheVariants.{Stub, BadVarType, Memory}
 
@@ -48,7 +50,8 @@ request_of (Layout.ReleaseBody object) values = Some (Release object)
 request_of (Layout.GetIdsBody call) values = Some (GetIds call)
 request_of (Layout.InvokeBody call) values = Some (Invoke (call_of call values))
 request_of (Layout.GetElementBody element) values = Some (GetElement (call_of element.call values) element.indices)
-request_of (Layout.PutElementBody put) values = with_last values (λ arguments value. Some (PutElement (call_of put.element.call arguments) put.element.indices value))
+request_of (Layout.PutElementBody put) values =
+    with_last values (λ arguments value. Some (PutElement (call_of put.element.call arguments) put.element.indices value))
 request_of (Layout.RedimensionBody redim) values = Some (Redimension (call_of redim.call values) redim.bound)
 request_of (Layout.LockBody call) values = Some (Lock (call_of call values))
 request_of (Layout.UnlockBody call) values = Some (Unlock (call_of call values))
@@ -135,7 +138,8 @@ index_of (Layout.UnlockBody call) place = Some place
 index_of (Layout.TypeInfoBody index) place = Some place
 index_of Layout.ObjectsBody place = Some place
 
--- the body is refused for the type of a value: it has a layout with no broken field, and this is the index of the first field with a type of no value
+-- the body is refused for the type of a value: it has a layout with no broken field, and this is the index of the first field with a type
+-- of no value
 pub record IsBadVarType (body : List ℕ) (index : Option ℕ) : Type 0 where
   pub parts : Layout
   pub lies : HasLayout parts body

@@ -62,7 +62,8 @@ opcode_at body = little_number 2 (drop 4 body)
 abbrev pub opcode_in : List ℕ → Option Opcode
 opcode_in body = if nat_lt (length body) 8 then None else opcode_named (opcode_at body)
 
--- The opcodes whose bodies take memory to be read: for names, for the lists of a call, for indices. The others have fields of a fixed length.
+-- The opcodes whose bodies take memory to be read: for names, for the lists of a call, for indices. The others have fields of a fixed
+-- length.
 abbrev pub takes_memory : Opcode → Bool
 takes_memory opcodes.Create = false
 takes_memory opcodes.Release = false

@@ -76,7 +76,8 @@ field_at = do
   give bytes
 
 abbrev pub head_of : ℕ → ℤ → List ℕ → List ℕ → ℕ → ℕ → CallHead
-head_of object dispid interface riid lcid flags = record { object = object; dispid = dispid; interface = interface; riid = riid; lcid = lcid; flags = flags }
+head_of object dispid interface riid lcid flags =
+    record { object = object; dispid = dispid; interface = interface; riid = riid; lcid = lcid; flags = flags }
 
 unfoldable pub call_head_at : Reading CallHead
 call_head_at = do

@@ -38,8 +38,8 @@ impl Dispids {
     }
 }
 
-/// The arguments of a call in the order of rgvarg, at most 32 (MS-OAUT section 3.1.4.4): the named ones first, then the others from the last
-/// parameter to the first.
+/// The arguments of a call in the order of rgvarg, at most 32 (MS-OAUT section 3.1.4.4): the named ones first, then the others from the
+/// last parameter to the first.
 #[derive(Debug, Drop)]
 pub struct Arguments {
     values: Vec<Variant>,

@@ -79,8 +79,8 @@ fn add_value(out: &mut Vec<u8>, value: &Variant, len: usize) -> Result<(), Alloc
 
 /// Adds a value as a field: u32 count of the value's bytes, u32 reserved, these bytes, zeros up to a multiple of 8.
 ///
-/// `TooLong` for an array above 4,294,967,264 bytes on the wire, and for nothing else. At Err a first part of the field may stand at the end
-/// of `out`.
+/// `TooLong` for an array above 4,294,967,264 bytes on the wire, and for nothing else. At Err a first part of the field may stand at the
+/// end of `out`.
 pub fn put_variant_field(out: &mut Vec<u8>, value: &Variant) -> Result<(), FieldFault>
     ensures value { OnOk result (out.new.items ≡ out.old.items ++ variant_field value.now) }
     ensures long { IsErrOf result TooLong ↔ (4294967264 < length (canon value.now)) }
@@ -202,8 +202,8 @@ fn put_units(out: &mut Vec<u8>, text: &[u8]) -> Result<(), AllocError>
 
 /// Adds a text of ASCII characters as a string: u32 count, u32 reserved, a UTF-16 unit for each, zeros up to a multiple of 8.
 ///
-/// `TooLong` for a text of more than 4,294,967,295 characters, and for nothing else. At Err a first part of the field may stand at the end of
-/// `out`.
+/// `TooLong` for a text of more than 4,294,967,295 characters, and for nothing else. At Err a first part of the field may stand at the end
+/// of `out`.
 pub fn put_string_field(out: &mut Vec<u8>, text: &[u8]) -> Result<(), FieldFault>
     ensures value { OnOk result (out.new.items ≡ out.old.items ++ string_field text.now) }
     ensures long { IsErrOf result TooLong ↔ (4294967295 < length text.now) }

@@ -1,4 +1,4 @@
-// Each call that takes memory, with enough of it; bytes are written as digits.
+//! Each call that takes memory, with enough of it; bytes are written as digits.
 use crate::{
     ids_field, number_field, put_number_field, put_object_field, put_scalar_field,
     put_string_field, put_variant_field, read_request, scalar_field, string_field, variant_field,

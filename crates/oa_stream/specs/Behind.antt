@@ -6,13 +6,21 @@ use Rattle.oa_stream.specs.Sink.{Output}
 
 -- a writer before which these bytes are kept back
 abbrev pub with_back : Output → List ℕ → Output
-with_back o back = record { reached = o.reached; kept = o.kept ++ back; flushed = o.flushed; back = o.back + 8192; room = o.room - length back; broken = o.broken }
+with_back o back = record {
+  reached = o.reached;
+  kept = o.kept ++ back;
+  flushed = o.flushed;
+  back = o.back + 8192;
+  room = o.room - length back;
+  broken = o.broken;
+}
 
 abbrev pub behind : {W : Type 0} → (W → Output) → Behind W → Output
 behind out b = with_back (out b.writer) b.back.bytes.items
 
 -- what is kept back, by the writer and before it
-pub back_keeps : {W : Type 0} (out : W → Output) → ((w : W) → length (out w).kept ≤ (out w).back) → (b : Behind W) → length (behind out b).kept ≤ (behind out b).back
+pub back_keeps : {W : Type 0} (out : W → Output) → ((w : W) → length (out w).kept ≤ (out w).back) → (b : Behind W)
+    → length (behind out b).kept ≤ (behind out b).back
 back_keeps out keeps b =
     let inner = keeps b.writer in
     let within = b.back.within in

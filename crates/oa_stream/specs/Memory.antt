@@ -8,7 +8,14 @@ use Rattle.oa_stream.specs.Sink.{Output}
 
 -- the bytes of the vector have left; it takes what its capacity has room for
 abbrev pub gathered : Gathered → Output
-gathered g = record { reached = Some g.bytes.items; kept = []; flushed = true; back = 0; room = vec_capacity g.bytes - vec_len g.bytes + 1; broken = g.broken }
+gathered g = record {
+  reached = Some g.bytes.items;
+  kept = [];
+  flushed = true;
+  back = 0;
+  room = vec_capacity g.bytes - vec_len g.bytes + 1;
+  broken = g.broken;
+}
 
 -- where the bytes are cut does not show
 abbrev pub cutting : Cutting → Input
@@ -16,4 +23,6 @@ cutting c = in_memory c.bytes.now
 
 -- steady where no interruption is left and the reader within is steady
 abbrev pub interrupted : {R : Type 0} → (R → Input) → Interrupted R → Input
-interrupted input i = let inner = input i.reader in record { left = inner.left; calls = i.calls; faulted = inner.faulted; steady = (i.times == 0) && inner.steady }
+interrupted input i =
+    let inner = input i.reader in
+    record { left = inner.left; calls = i.calls; faulted = inner.faulted; steady = (i.times == 0) && inner.steady }

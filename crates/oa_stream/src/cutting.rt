@@ -4,8 +4,8 @@ ghost use Rattle.oa_stream.specs.Memory.{cutting};
 
 use crate::{Next, Source};
 
-/// Bytes in memory, of which a call gives no more than the next of some lengths, and after these what the buffer has room for. A length of 0
-/// counts as 1.
+/// Bytes in memory, of which a call gives no more than the next of some lengths, and after these what the buffer has room for. A length of
+/// 0 counts as 1.
 #[derive(Drop)]
 pub struct Cutting<'a> {
     bytes: &'a [u8],

@@ -26,7 +26,8 @@ impl<R: Read> Inlet<R> {
     }
 }
 
-// What tells an interrupted call from a failure is `ErrorKind::Interrupted` alone: the standard library's word, of which no contract speaks.
+// What tells an interrupted call from a failure is `ErrorKind::Interrupted` alone: the standard library's word, of which no contract
+// speaks.
 impl<R: Read> Source for Inlet<R> {
     ghost input = { inlet R.remaining };
 

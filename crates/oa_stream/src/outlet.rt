@@ -17,8 +17,8 @@ pub(crate) enum Taken {
     Fault,
 }
 
-/// A writer of the standard library. It promises nothing, keeps nothing back itself, and remembers whether a flush is wanting and whether it
-/// failed.
+/// A writer of the standard library. It promises nothing, keeps nothing back itself, and remembers whether a flush is wanting and whether
+/// it failed.
 #[derive(Drop)]
 pub struct Outlet<W> {
     writer: W,
@@ -29,7 +29,8 @@ pub struct Outlet<W> {
 impl<W: Write> Outlet<W> {
     /// A writer to which nothing was written yet.
     pub fn new(writer: W) -> Outlet<W>
-        ensures { outlet W.contents result ≡ record { reached = W.contents writer; kept = []; flushed = true; back = 0; room = 0; broken = false } }
+        ensures { outlet W.contents result
+            ≡ record { reached = W.contents writer; kept = []; flushed = true; back = 0; room = 0; broken = false } }
     {
         Outlet {
             writer,

@@ -11,8 +11,8 @@ pub struct Unwritten;
 
 /// A writer that takes whole stretches of bytes, and may keep some of them back until they are asked for.
 ///
-/// Contracts see one as an `Output`: what has left it, what it keeps back and how much of that at most, whether a flush is wanting, how many
-/// bytes it promises to take, and whether it failed. A writer that failed is never called again.
+/// Contracts see one as an `Output`: what has left it, what it keeps back and how much of that at most, whether a flush is wanting, how
+/// many bytes it promises to take, and whether it failed. A writer that failed is never called again.
 pub trait Sink {
     ghost out: { Self → Output };
 

@@ -45,7 +45,8 @@ impl Front {
     /// Takes the first of them.
     pub(crate) fn advance(&mut self, count: usize)
         requires { count ≤ length (slice_range self.old.bytes.items self.old.from self.old.to) }
-        ensures { slice_range self.new.bytes.items self.new.from self.new.to ≡ drop count (slice_range self.old.bytes.items self.old.from self.old.to) }
+        ensures { slice_range self.new.bytes.items self.new.from self.new.to
+            ≡ drop count (slice_range self.old.bytes.items self.old.from self.old.to) }
     {
         self.from += count;
     }

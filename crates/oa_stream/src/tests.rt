@@ -1,4 +1,4 @@
-// What the standard library's answers become, and what the buffers pass on.
+//! What the standard library's answers become, and what the buffers pass on.
 use crate::{
     Ahead, Behind, Cutting, Gathered, Inlet, Interrupted, More, Next, Outlet, Sink, Source,
     Unwritten,

@@ -1,5 +1,7 @@
 -- Sizes of wholes after changes of parts.
-use Rattle.std.proofs.Common.{◌≡◌, ℕ, zero, suc, ◌+◌, ◌-◌, ◌*◌, ◌<◌, ◌≤◌, eqb, leb, ltb, ℤ, Bool, true, false, cond, List, [], ◌∷◌, ◌++◌, length, take, drop, take_all, length-drop, replicate, slice_get, Option, Some, None, Result, Ok, Err, refl, sym, ◌∙◌, subst, arith}
+use Rattle.std.proofs.Common.{◌≡◌, ℕ, zero, suc, ◌+◌, ◌-◌, ◌*◌, ◌<◌, ◌≤◌, eqb, leb, ltb, ℤ, Bool, true, false, cond, List, [], ◌∷◌, ◌++◌}
+use Rattle.std.proofs.Common.{length, take, drop, take_all, length-drop, replicate, slice_get, Option, Some, None, Result, Ok, Err, refl}
+use Rattle.std.proofs.Common.{sym, ◌∙◌, subst, arith}
 use Rattle.std.specs.List.{sum_by}
 use Rattle.std.specs.List.Sorted.{IsStrictlySortedBy}
 use Rattle.std.specs.Map.{keys_of, lookup, set_value}
@@ -37,7 +39,8 @@ use Rattle.oa_table.specs.Locks.{locked_in, locks_at, with_lock, without_lock}
 use Rattle.oa_table.specs.Objects.{locks_of_cell, with_change, with_put, with_value}
 use Rattle.oa_table.specs.Outcomes.{Counts, mapped}
 use Rattle.oa_table.specs.Places.{PlaceValue, place_cmp, places_total}
-use Rattle.oa_table.specs.Sizes.{IsKept, array_size, cell_size, element_size, largest_image, object_size, place_size, size_due, size_in, table_size, value_size}
+use Rattle.oa_table.specs.Sizes.{IsKept, array_size, cell_size, element_size, largest_image, object_size, place_size, size_due, size_in}
+use Rattle.oa_table.specs.Sizes.{table_size, value_size}
 use Rattle.oa_table.specs.Tables.{ObjectValue, TableValue, cell_at, object_at}
 use Rattle.oa_table.proofs.Entries.{put_new, put_there, put_within, set_weight}
 
@@ -209,9 +212,6 @@ object_most number change t most h = at (object_at number t) refl
     at : (o : Option ObjectValue) → object_at number t ≡ o → size_due table_size (on_object number change t) t ≤ table_size t + most
     at None e = rw e (omega arith)
     at (Some object) e = rw e (by object e (change object) (h object))
-
-pub no_object_due : (number : ℕ) (change : ObjectValue → Result ObjectValue TableFault) (t : TableValue) → object_at number t ≡ None → size_due table_size (on_object number change t) t ≡ table_size t
-no_object_due number change t none = rw none refl
 
 sized : (o : Option ObjectValue) → unwrap_or (option_map object_size o) 0 ≡ size_in o
 sized None = refl

@@ -1,5 +1,6 @@
 -- An event does with what an image holds of a table what it does with the table.
-use Rattle.std.proofs.Common.{◌≡◌, ℕ, ◌+◌, ◌==◌, ◌&&◌, nat_lt, nat_le, Bool, true, false, cond, List, [], ◌∷◌, map, Option, Some, None, Result, Ok, Err, IfOk, refl, sym, ap, ◌∙◌}
+use Rattle.std.proofs.Common.{◌≡◌, ℕ, ◌+◌, ◌==◌, ◌&&◌, nat_lt, nat_le, Bool, true, false, cond, List, [], ◌∷◌, map, Option, Some, None}
+use Rattle.std.proofs.Common.{Result, Ok, Err, IfOk, refl, sym, ap, ◌∙◌}
 use Rattle.std.specs.Map.{remove_entry, set_value}
 use Rattle.std.specs.BTreeMap.{insert_entry, is_at}
 use Rattle.std.specs.Option.{option_map}
@@ -28,7 +29,8 @@ use Rattle.oa_table.specs.Events.{BringsNoLocks, applied, changed_if_live, on_ob
 use Rattle.oa_table.specs.Objects.{any_locked, changed_if_put, with_change, with_put, with_value}
 use Rattle.oa_table.specs.Outcomes.{mapped}
 use Rattle.oa_table.specs.Places.{PlaceValue, place_cmp}
-use Rattle.oa_table.specs.Tables.{ObjectValue, TableValue, cell_at, object_at, unlocked_cell, unlocked_entry, unlocked_object, unlocked_table}
+use Rattle.oa_table.specs.Tables.{ObjectValue, TableValue, cell_at, object_at, unlocked_cell, unlocked_entry, unlocked_object}
+use Rattle.oa_table.specs.Tables.{unlocked_table}
 
 module _ {K X : Type 0} (g : X → X) where
   abbrev at_values : List (K × X) → List (K × X)

@@ -34,7 +34,8 @@ replaced_value value old = if locks_of old == 0 then Ok value else Err (Array ar
 abbrev pub element_put : List ℤ → Scalar → Variant → Result Variant TableFault
 element_put index element (One s) = Err NotArray
 element_put index element (AnArray a) =
-    if in_bounds a.bounds index then (if fits_type element a.elem then Ok (AnArray (with_cell a index element)) else Err (Array arrays.TypeMismatch))
+    if in_bounds a.bounds index
+    then (if fits_type element a.elem then Ok (AnArray (with_cell a index element)) else Err (Array arrays.TypeMismatch))
     else Err (Array arrays.BadIndex)
 
 -- the first bound is replaced: there must be no lock, and then not too many cells

@@ -17,7 +17,8 @@ use Rattle.oa_table.specs.Tables.{ObjectValue, TableValue, object_at}
 abbrev pub with_object : ℕ → TableValue → ObjectValue → TableValue
 with_object number table object = record table { objects = set_value (is_at (nat_cmp number)) table.objects object }
 
-abbrev pub changed_if_live : ℕ → (ObjectValue → Result ObjectValue TableFault) → TableValue → Option ObjectValue → Result TableValue TableFault
+abbrev pub changed_if_live : ℕ → (ObjectValue → Result ObjectValue TableFault) → TableValue
+    → Option ObjectValue → Result TableValue TableFault
 changed_if_live number change table None = Err NoObject
 changed_if_live number change table (Some object) = mapped (with_object number table) (change object)
 
@@ -28,13 +29,15 @@ on_object number change table = changed_if_live number change table (object_at n
 -- the next number is used, unless it is above the greatest
 abbrev pub created : ℕ → ObjectValue → TableValue → Result TableValue TableFault
 created number object table =
-    if (number == table.next) && nat_le number greatest_object_number then Ok (record { next = number + 1; objects = insert_entry nat_cmp table.objects number object })
+    if (number == table.next) && nat_le number greatest_object_number
+    then Ok (record { next = number + 1; objects = insert_entry nat_cmp table.objects number object })
     else Err WrongNumber
 
 abbrev pub released_if_live : ℕ → TableValue → Option ObjectValue → Result TableValue TableFault
 released_if_live number table None = Err NoObject
 released_if_live number table (Some object) =
-    if any_locked object.cells then Err (Array arrays.IsLocked) else Ok (record table { objects = remove_entry (is_at (nat_cmp number)) table.objects })
+    if any_locked object.cells then Err (Array arrays.IsLocked)
+    else Ok (record table { objects = remove_entry (is_at (nat_cmp number)) table.objects })
 
 -- an object goes, unless one of its arrays is locked
 abbrev pub released : ℕ → TableValue → Result TableValue TableFault

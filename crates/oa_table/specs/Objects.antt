@@ -29,7 +29,8 @@ abbrev pub with_value : PlaceValue → ObjectValue → Variant → ObjectValue
 with_value place object value = record object { cells = set_value (is_at (place_cmp place)) object.cells value }
 
 -- the value of a cell that was put is changed
-abbrev pub changed_if_put : PlaceValue → (Variant → Result Variant TableFault) → ObjectValue → Option Variant → Result ObjectValue TableFault
+abbrev pub changed_if_put : PlaceValue → (Variant → Result Variant TableFault) → ObjectValue
+    → Option Variant → Result ObjectValue TableFault
 changed_if_put place change object None = Err NotArray
 changed_if_put place change object (Some value) = mapped (with_value place object) (change value)
 

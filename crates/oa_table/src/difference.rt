@@ -31,7 +31,8 @@ pub(crate) fn no_difference() -> Difference
 /// An element of the array in a value is set.
 #[tactic(auto, unfolding(crate::specs::Sizes::value_size))]
 pub(crate) fn element_difference(value: &Variant, index: &[i32], element: &Scalar) -> Difference
-    ensures size { size_due value_size (element_put index.now element.now value.now) value.now + result.gone ≡ value_size value.now + result.come }
+    ensures size { size_due value_size (element_put index.now element.now value.now) value.now + result.gone
+        ≡ value_size value.now + result.come }
     ensures small { result.come ≤ 17200000000 }
 {
     match value {
@@ -42,7 +43,8 @@ pub(crate) fn element_difference(value: &Variant, index: &[i32], element: &Scala
 
 #[tactic(auto, unfolding(crate::specs::Sizes::value_size))]
 fn element_set(array: &SafeArray<Scalar>, index: &[i32], element: &Scalar) -> Difference
-    ensures size { let value = variants.Array array.now in size_due value_size (element_put index.now element.now value) value + result.gone ≡ value_size value + result.come }
+    ensures size { let value = variants.Array array.now in
+        size_due value_size (element_put index.now element.now value) value + result.gone ≡ value_size value + result.come }
     ensures small { result.come ≤ 17200000000 }
 {
     let elem = array.elem();
@@ -75,7 +77,8 @@ pub(crate) fn redim_difference(value: &Variant, bound: Bound) -> Difference
 
 #[tactic(auto, unfolding(crate::specs::Sizes::value_size))]
 fn array_resized(array: &SafeArray<Scalar>, bound: Bound) -> Difference
-    ensures size { let value = variants.Array array.now in size_due value_size (redimensioned_value bound value) value + result.gone ≡ value_size value + result.come }
+    ensures size { let value = variants.Array array.now in
+        size_due value_size (redimensioned_value bound value) value + result.gone ≡ value_size value + result.come }
     ensures small { result.come ≤ 17200000000 }
 {
     let _cells = array.cells();
@@ -91,7 +94,8 @@ fn array_resized(array: &SafeArray<Scalar>, bound: Bound) -> Difference
 /// So many elements stay, or zeros are added to them. Looks at those that go.
 fn elements_kept(array: &SafeArray<Scalar>, count: usize) -> Difference
     requires { count ≤ max_cells }
-    ensures size { sum_by (element_size array.now.elem) (kept_by_position (zero_of array.now.elem) count array.now.cells) + result.gone ≡ sum_by (element_size array.now.elem) array.now.cells + result.come }
+    ensures size { sum_by (element_size array.now.elem) (kept_by_position (zero_of array.now.elem) count array.now.cells) + result.gone
+        ≡ sum_by (element_size array.now.elem) array.now.cells + result.come }
     ensures small { result.come ≤ 17200000000 }
 {
     let elem = array.elem();

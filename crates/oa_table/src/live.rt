@@ -99,7 +99,8 @@ impl LiveObject {
 
     /// What a put takes from the size of the image, and what it adds. Looks at the elements of the two values.
     pub(crate) fn put_difference(&self, place: &Place, value: &Variant) -> Difference
-        ensures size { size_due object_size (with_put place.now value.now self.now) self.now + result.gone ≡ object_size self.now + result.come }
+        ensures size { size_due object_size (with_put place.now value.now self.now) self.now + result.gone
+            ≡ object_size self.now + result.come }
         ensures small { result.come ≤ 34400000000 }
     {
         self.places_rise();
@@ -127,7 +128,8 @@ impl LiveObject {
         index: &[i32],
         element: &Scalar,
     ) -> Difference
-        ensures size { size_due object_size (with_change place.now (element_put index.now element.now) self.now) self.now + result.gone ≡ object_size self.now + result.come }
+        ensures size { size_due object_size (with_change place.now (element_put index.now element.now) self.now) self.now + result.gone
+            ≡ object_size self.now + result.come }
         ensures small { result.come ≤ 34400000000 }
     {
         match self.get(place) {
@@ -138,7 +140,8 @@ impl LiveObject {
 
     /// The same where the array in a cell gets another first bound. Looks at the elements that go.
     pub(crate) fn redim_difference(&self, place: &Place, bound: Bound) -> Difference
-        ensures size { size_due object_size (with_change place.now (redimensioned_value bound) self.now) self.now + result.gone ≡ object_size self.now + result.come }
+        ensures size { size_due object_size (with_change place.now (redimensioned_value bound) self.now) self.now + result.gone
+            ≡ object_size self.now + result.come }
         ensures small { result.come ≤ 34400000000 }
     {
         match self.get(place) {

@@ -157,9 +157,10 @@ impl Table {
         }
     }
 
-    /// A number of bytes that the image has at most after an event. For a put it looks at the event alone.
+    /// A number of bytes that the image has at most after an event: `size_after`, but for a put, of which it looks at the event alone.
     pub fn most_after(&self, event: &Event) -> u64
-        ensures { sizes.size_after event.now self.now ≤ result }
+        ensures value { result ≡ sizes.most_after event.now self.now }
+        ensures bound { sizes.size_after event.now self.now ≤ result }
     {
         match event {
             Event::Put { name, value } => self.most_with_put(name, value),
@@ -167,8 +168,10 @@ impl Table {
         }
     }
 
+    /// How many bytes the image has now, and the place and the value of a put have.
     fn most_with_put(&self, name: &CellName, value: &Variant) -> u64
-        ensures { sizes.size_after (Event.Put name.now value.now) self.now ≤ result }
+        ensures value { result ≡ sizes.most_with_put name.now.place value.now self.now }
+        ensures bound { sizes.size_after (Event.Put name.now value.now) self.now ≤ result }
     {
         self.size + place_size(&name.place) + value_size(value)
     }
@@ -309,7 +312,8 @@ impl Table {
 /// How many bytes the image of the objects has, together with what stands before them; None where no memory holds so many.
 #[tactic(auto, unfolding(crate::specs::Sizes::table_size))]
 fn counted(objects: &Objects) -> Option<u64>
-    ensures { MatchOption result (largest_image < table_size objects.now) (λ size. (size ≡ table_size objects.now) × (size ≤ largest_image)) }
+    ensures { MatchOption result (largest_image < table_size objects.now)
+        (λ size. (size ≡ table_size objects.now) × (size ≤ largest_image)) }
 {
     let mut size = 8;
     'objects: for (_number, object) in objects.objects() {

@@ -1,7 +1,8 @@
 //! Changes of the value in a cell.
 ghost use Rattle.std.specs.Prelude.{◌≡◌, ◌≤◌, IfOk};
 ghost use Rattle.oa_variant.specs.declared.variant.Variant.TheVariants as variants;
-ghost use Rattle.oa_table.specs.Elements.{element_put, locked_value, locks_of, of_array, redimensioned_value, released_value, replaced_value};
+ghost use Rattle.oa_table.specs.Elements.{element_put, locked_value, locks_of, of_array, redimensioned_value, released_value};
+ghost use Rattle.oa_table.specs.Elements.{replaced_value};
 ghost use Rattle.oa_table.specs.Outcomes.{Counts, Does};
 ghost use Rattle.oa_table.specs.Sizes.{value_size};
 
@@ -61,7 +62,8 @@ fn put_into(
     index: &[i32],
     element: Scalar,
 ) -> Result<(), (Scalar, TableFault)>
-    ensures { Does element (element_put index.now element (variants.Array array.old)) (variants.Array array.old) (variants.Array array.new) result }
+    ensures { Does element (element_put index.now element (variants.Array array.old))
+        (variants.Array array.old) (variants.Array array.new) result }
 {
     let _fits = element.fits(array.elem());
     match array.put_element(index, element) {

@@ -1,4 +1,4 @@
-// What takes memory, with enough of it; the order of keys; the size of a cell.
+//! What takes memory, with enough of it; the order of keys; the size of a cell.
 use crate::{Decimal, Scalar, Variant};
 use oa_array::Cell;
 use oa_bstr::Bstr;

@@ -1,13 +1,16 @@
 -- Reading an array reads its form.
-use Rattle.std.proofs.Common.{◌≡◌, ℕ, ◌+◌, inl, inr, Bool, true, false, eqb, leb, ltb, ◌&&◌, List, [], ◌∷◌, ◌++◌, length, Option, Some, None, All, is_some, refl, sym, ap, subst, ◌∙◌, arith, ℤ}
+use Rattle.std.proofs.Common.{◌≡◌, ℕ, ◌+◌, inl, inr, Bool, true, false, eqb, leb, ltb, ◌&&◌, List, [], ◌∷◌, ◌++◌, length, Option, Some}
+use Rattle.std.proofs.Common.{None, All, is_some, refl, sym, ap, subst, ◌∙◌, arith, ℤ}
 use Rattle.std.specs.Int.{w32}
 use Rattle.std.specs.List.{AllByRecursion}
-use Rattle.std.proofs.lemmas.Bool.{eqb-true, eq-eqb, leb-true, le-leb, ltb-true, lt-ltb, and_parts, and_from, true≢false, false_from_ne_true}
+use Rattle.std.proofs.lemmas.Bool.{eqb-true, eq-eqb, leb-true, le-leb, ltb-true, lt-ltb, and_parts, and_from, true≢false}
+use Rattle.std.proofs.lemmas.Bool.{false_from_ne_true}
 use Rattle.std.proofs.lemmas.List.Elements.{All-from_recursion, All-head, All-tail}
 use Rattle.oa_model.specs.Limits.{max_dimensions, max_cells}
 use Rattle.oa_ndr.specs.Forms.{◌▸◌, unit, referent, each, given, made}
 use Rattle.oa_ndr.specs.Reading.{Cursor, Reading, many}
-use Rattle.oa_ndr.proofs.Laws.{Reads, Always, all_always, give_reads, fail_reads, choose_reads, unit_reads, referent_reads, bind_reads, with_reads, ignored_then, same_values, made_reads, made_from, many_reads, pairwise_reads, pairwise_length}
+use Rattle.oa_ndr.proofs.Laws.{Reads, Always, all_always, give_reads, fail_reads, choose_reads, unit_reads, referent_reads, bind_reads}
+use Rattle.oa_ndr.proofs.Laws.{with_reads, ignored_then, same_values, made_reads, made_from, many_reads, pairwise_reads, pairwise_length}
 use Rattle.oa_model.specs.declared.bound.Bound.{Bound}
 use Rattle.oa_model.specs.declared.var_type.VarType.{VarType}
 use Rattle.oa_model.specs.declared.var_type.VarType.TheVariants as types
@@ -21,7 +24,8 @@ use Rattle.oa_wire_array.specs.Texts.{pointee}
 use Rattle.oa_wire_array.specs.Scalars.{arm}
 use Rattle.oa_wire_array.specs.Reading.{arm_at}
 use Rattle.oa_wire_array.specs.Arrays.{bound, cell_pointee, pointed, elements, IsUnlocked, dimensions, header, array}
-use Rattle.oa_wire_array.specs.ArrayReading.{bound_at, text_cell_at, variant_cell_at, pointee_at, pointed_at, elements_at, is_number, has_sf_type, is_count, array_of, cells_at, data_at, header_at, array_at}
+use Rattle.oa_wire_array.specs.ArrayReading.{bound_at, text_cell_at, variant_cell_at, pointee_at, pointed_at, elements_at, is_number}
+use Rattle.oa_wire_array.specs.ArrayReading.{has_sf_type, is_count, array_of, cells_at, data_at, header_at, array_at}
 use Rattle.oa_wire_array.proofs.TextLaws.{pointee_reads}
 use Rattle.oa_wire_array.proofs.ScalarLaws.{signed_reads, arm_reads, scalar_reads}
 

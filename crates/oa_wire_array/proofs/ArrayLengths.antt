@@ -1,5 +1,6 @@
 -- How many bytes are written.
-use Rattle.std.proofs.Common.{◌≡◌, ℕ, ◌+◌, ◌-◌, ◌*◌, ◌%◌, ◌<◌, ◌≤◌, ◌⊎◌, inl, inr, Bool, true, false, cond, eqb, List, [], ◌∷◌, ◌++◌, length, drop, get_or, replicate, Option, Some, None, All, is_some, refl, sym, ap, subst, ◌∙◌, arith}
+use Rattle.std.proofs.Common.{◌≡◌, ℕ, ◌+◌, ◌-◌, ◌*◌, ◌%◌, ◌<◌, ◌≤◌, ◌⊎◌, inl, inr, Bool, true, false, cond, eqb, List, [], ◌∷◌, ◌++◌}
+use Rattle.std.proofs.Common.{length, drop, get_or, replicate, Option, Some, None, All, is_some, refl, sym, ap, subst, ◌∙◌, arith}
 use Rattle.std.specs.List.{AllByRecursion}
 use Rattle.std.specs.Option.{unwrap_or}
 use Rattle.std.specs.Int.{w32, cast_unsigned}
@@ -21,7 +22,8 @@ use Rattle.oa_variant.specs.declared.scalar.Scalar.TheVariants as scalars
 use Rattle.oa_wire_array.specs.Texts.{units}
 use Rattle.oa_wire_array.specs.Scalars.{scalar_vt, sign_of}
 use Rattle.oa_wire_array.specs.Canon.{put_blob, put_bstr, put_decimal, put_arm, put_sized, put_scalar, scalar_len, cl_size}
-use Rattle.oa_wire_array.specs.ArrayCanon.{put_bound, has_pointee, put_pointee, put_cell_referent, put_pointed, is_pointed, put_elements, features_of, put_shape, put_size}
+use Rattle.oa_wire_array.specs.ArrayCanon.{put_bound, has_pointee, put_pointee, put_cell_referent, put_pointed, is_pointed, put_elements}
+use Rattle.oa_wire_array.specs.ArrayCanon.{features_of, put_shape, put_size}
 use Rattle.oa_wire_array.proofs.ArrayLaws.{Fits, by_recursion}
 
 -- ---- places

@@ -6,7 +6,8 @@ use Rattle.std.proofs.Common.{inl, inr}
 use Rattle.std.proofs.lemmas.List.Elements.{All-head, All-tail}
 use Rattle.oa_ndr.specs.Forms.{referent, each, pairwise, made}
 use Rattle.oa_ndr.specs.Writing.{put_all, put_unit}
-use Rattle.oa_ndr.proofs.Laws.{Writes, then_writes, with_writes, unit_writes, ignored_writes, nothing_writes, given_writes, referent_writes, each_writes}
+use Rattle.oa_ndr.proofs.Laws.{Writes, then_writes, with_writes, unit_writes, ignored_writes, nothing_writes, given_writes, referent_writes}
+use Rattle.oa_ndr.proofs.Laws.{each_writes}
 use Rattle.oa_model.specs.Types.{vt_of, sf_type_of, element_size_of}
 use Rattle.oa_model.specs.declared.bound.Bound.{Bound}
 use Rattle.oa_model.specs.declared.var_type.VarType.{VarType}
@@ -17,7 +18,8 @@ use Rattle.oa_variant.specs.Variants.{IsBound}
 use Rattle.oa_variant.specs.declared.scalar.Scalar.{Scalar}
 use Rattle.oa_variant.specs.declared.scalar.Scalar.TheVariants as scalars
 use Rattle.oa_wire_array.specs.Arrays.{bound, cell_pointee, pointed, elements, IsUnlocked, dimensions, array}
-use Rattle.oa_wire_array.specs.ArrayCanon.{put_bound, has_pointee, put_pointee, put_cell_referent, put_pointed, put_elements, features_of, put_array}
+use Rattle.oa_wire_array.specs.ArrayCanon.{put_bound, has_pointee, put_pointee, put_cell_referent, put_pointed, put_elements, features_of}
+use Rattle.oa_wire_array.specs.ArrayCanon.{put_array}
 use Rattle.oa_wire_array.proofs.Written.{signed32_writes, blob_writes, arm_writes, scalar_writes}
 
 bound_writes : (b : Bound) → IsBound b → Writes (bound b) (put_bound b)

@@ -1,10 +1,12 @@
 -- Reading a scalar, and a whole field, reads its form.
-use Rattle.std.proofs.Common.{◌≡◌, ℕ, ◌+◌, ◌*◌, ◌^◌, Bool, true, false, not, eqb, leb, cond, List, ◌++◌, length, Option, Some, None, refl, sym, ap, subst, ◌∙◌, arith}
+use Rattle.std.proofs.Common.{◌≡◌, ℕ, ◌+◌, ◌*◌, ◌^◌, Bool, true, false, not, eqb, leb, cond, List, ◌++◌, length, Option, Some, None, refl}
+use Rattle.std.proofs.Common.{sym, ap, subst, ◌∙◌, arith}
 use Rattle.std.proofs.lemmas.Bool.{eqb-true, eqb-false, leb-true, leb-false}
 use Rattle.std.specs.Int.{Width, w8, w16, w32, w64, cast_signed}
 use Rattle.oa_ndr.specs.Forms.{unit}
 use Rattle.oa_ndr.specs.Reading.{Cursor, at}
-use Rattle.oa_ndr.proofs.Laws.{Takes, Reads, Always, give_reads, fail_reads, choose_reads, unit_reads, bind_reads, with_reads, ignored_then, align_then, same_values, made_takes, made_again, nothing_takes, nothing_again}
+use Rattle.oa_ndr.proofs.Laws.{Takes, Reads, Always, give_reads, fail_reads, choose_reads, unit_reads, bind_reads, with_reads, ignored_then}
+use Rattle.oa_ndr.proofs.Laws.{align_then, same_values, made_takes, made_again, nothing_takes, nothing_again}
 use Rattle.oa_model.specs.Types.{vt_of, type_at}
 use Rattle.oa_model.specs.declared.var_type.VarType.{VarType}
 use Rattle.oa_model.specs.declared.var_type.VarType.TheVariants as types

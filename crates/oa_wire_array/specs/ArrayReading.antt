@@ -62,7 +62,8 @@ has_sf_type t sf = is_number (sf_type_of t) sf
 -- whether there is an array of these bounds, and has n cells
 unfoldable pub is_count : VarType → List Bound → ℕ → Bool
 is_count t bounds n =
-    is_some (sf_type_of t) && nat_lt 0 (length bounds) && nat_le (length bounds) max_dimensions && nat_le (box_size bounds) max_cells && (box_size bounds == n)
+    is_some (sf_type_of t) && nat_lt 0 (length bounds) && nat_le (length bounds) max_dimensions
+    && nat_le (box_size bounds) max_cells && (box_size bounds == n)
 
 abbrev pub array_of : VarType → List Bound → List Scalar → ArrayValue Scalar
 array_of t bounds cells = record { elem = t; bounds = bounds; cells = cells; locks = 0 }

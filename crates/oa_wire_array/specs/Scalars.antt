@@ -1,5 +1,5 @@
--- How a scalar lies in bytes: wireVARIANT (MS-OAUT 2.2.29) with the arm of its type. Alignment is NDR's (C706 14.2.2); that CURRENCY, DECIMAL and wireVARIANT
--- begin at a multiple of 8 is this project's choice.
+-- How a scalar lies in bytes: wireVARIANT (MS-OAUT 2.2.29) with the arm of its type. Alignment is NDR's (C706 14.2.2); that CURRENCY,
+-- DECIMAL and wireVARIANT begin at a multiple of 8 is this project's choice.
 use Rattle.std.specs.Prelude.{◌≡◌, ℕ, ℤ, ◌+◌, ◌*◌, ◌^◌, ◌≤◌, ◌==◌, Bool, true, false, not, List, length, drop}
 use Rattle.byteorder.specs.Endian.{little_number}
 use Rattle.std.specs.Int.{Width, w8, w16, w32, w64, cast_signed}

@@ -1,4 +1,4 @@
-// Parts of fields as digits: what is read, and what is written again.
+//! Parts of fields as digits: what is read, and what is written again.
 use super::*;
 use oa_model::VarType;
 use oa_ndr::{Ndr, NdrOut};

@@ -1,9 +1,12 @@
 -- Reading a whole field reads its form, and what is written is of the form.
-use Rattle.std.proofs.Common.{◌≡◌, ℕ, ◌+◌, ◌-◌, ◌/◌, ◌%◌, ◌^◌, ◌<◌, ◌≤◌, ◌⊎◌, inl, inr, Bool, true, false, eqb, ltb, ◌&&◌, ◌||◌, is_some, List, [], ◌++◌, length, Result, Ok, Err, Option, Some, None, refl, sym, ap, ◌∙◌, arith}
+use Rattle.std.proofs.Common.{◌≡◌, ℕ, ◌+◌, ◌-◌, ◌/◌, ◌%◌, ◌^◌, ◌<◌, ◌≤◌, ◌⊎◌, inl, inr, Bool, true, false, eqb, ltb, ◌&&◌, ◌||◌, is_some}
+use Rattle.std.proofs.Common.{List, [], ◌++◌, length, Result, Ok, Err, Option, Some, None, refl, sym, ap, ◌∙◌, arith}
 use Rattle.std.proofs.lemmas.Bool.{eqb-true, eq-eqb, ltb-true, ltb-false, and_parts, and_from, or_left, or_right, true≢false}
 use Rattle.oa_ndr.specs.Forms.{unit, referent}
 use Rattle.oa_ndr.specs.Reading.{Cursor, at}
-use Rattle.oa_ndr.proofs.Laws.{Reads, Always, made_reads, fail_reads, choose_reads, unit_reads, referent_reads, bind_reads, with_reads, ignored_then, align_then, same_values, Writes, then_writes, with_writes, unit_writes, ignored_writes, align_writes, given_writes, referent_writes}
+use Rattle.oa_ndr.proofs.Laws.{Reads, Always, made_reads, fail_reads, choose_reads, unit_reads, referent_reads, bind_reads, with_reads}
+use Rattle.oa_ndr.proofs.Laws.{ignored_then, align_then, same_values, Writes, then_writes, with_writes, unit_writes, ignored_writes}
+use Rattle.oa_ndr.proofs.Laws.{align_writes, given_writes, referent_writes}
 use Rattle.oa_model.specs.Types.{vt_of, type_at, sf_type_of}
 use Rattle.oa_model.specs.declared.var_type.VarType.{VarType}
 use Rattle.oa_array.specs.Arrays.{ArrayValue}

@@ -1,5 +1,6 @@
 -- Which bytes of a whole field spell which value, and the fault of a field that spells none: wireVARIANT (MS-OAUT 2.2.29).
-use Rattle.std.specs.Prelude.{◌≡◌, ℕ, ◌+◌, ◌-◌, ◌≤◌, ◌&&◌, ◌⊎◌, nat_le, nat_lt, is_some, Bool, true, false, not, if◌then◌else◌, List, length, Option, Some, None, Result, Ok, Err}
+use Rattle.std.specs.Prelude.{◌≡◌, ℕ, ◌+◌, ◌-◌, ◌≤◌, ◌&&◌, ◌⊎◌, nat_le, nat_lt, is_some, Bool, true, false, not, if◌then◌else◌, List}
+use Rattle.std.specs.Prelude.{length, Option, Some, None, Result, Ok, Err}
 use Rattle.oa_ndr.specs.Forms.{Form, ◌▸◌, align, ignored, unit, with, given, referent}
 use Rattle.oa_model.specs.Types.{vt_of, vt_of_value, type_at, sf_type_of}
 use Rattle.oa_model.specs.declared.var_type.VarType.{VarType}
@@ -18,7 +19,8 @@ use Rattle.oa_wire_array.specs.declared.fault.WireFault.TheVariants.{BadStub, Ba
 abbrev pub value_vt : Variant → ℕ
 value_vt v = vt_of_value (value_type_of v)
 
--- the union of an array: the discriminant, which is VT_ARRAY or vt (this project's choice), a referent, which is set, and what lies behind it
+-- the union of an array: the discriminant, which is VT_ARRAY or vt (this project's choice), a referent, which is set, and what lies behind
+-- it
 abbrev pub array_union : ArrayValue Scalar → Form
 array_union a = with (unit 4) (λ d. given ((d ≡ 8192) ⊎ (d ≡ vt_of a.elem + 8192)) ▸ referent true ▸ array a)
 
@@ -49,7 +51,8 @@ is_cell_type (Some t) = is_some (sf_type_of t)
 abbrev pub is_value_type : ℕ → Bool
 is_value_type vt = if nat_lt vt 8192 then is_scalar_type (type_at vt) else is_cell_type (type_at (vt - 8192))
 
--- the fault of a field that spells no value (this project's choice): its vt, at the offset 8, is asked where the field has room for a vt and a discriminant
+-- the fault of a field that spells no value (this project's choice): its vt, at the offset 8, is asked where the field has room for a vt
+-- and a discriminant
 abbrev pub field_fault : List ℕ → WireFault
 field_fault bytes = if nat_le 20 (length bytes) && not (is_value_type (own_vt bytes)) then BadVarType else BadStub
 
@@ -61,7 +64,8 @@ IsArrayType vt = (8192 ≤ vt) × (is_cell_type (type_at (vt - 8192)) ≡ true)
 abbrev pub TakesMemory : List ℕ → Type 0
 TakesMemory bytes = (20 ≤ length bytes) × ((own_vt bytes ≡ 8) ⊎ IsArrayType (own_vt bytes))
 
--- what reading a field answers: the value that its bytes spell, or its fault where they spell none; want of memory only where a value takes some
+-- what reading a field answers: the value that its bytes spell, or its fault where they spell none; want of memory only where a value takes
+-- some
 abbrev pub IsReading : List ℕ → Result Variant WireFault → Type 0
 IsReading bytes (Ok v) = Spells bytes v
 IsReading bytes (Err Memory) = TakesMemory bytes

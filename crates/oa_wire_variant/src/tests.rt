@@ -1,4 +1,4 @@
-// Fields as digits, and what is read from them.
+//! Fields as digits, and what is read from them.
 ghost use Rattle.oa_variant.specs.Variants.{unlocked};
 ghost use Rattle.oa_wire_variant.specs.Variants.{Spells};
 ghost use Rattle.oa_wire_variant.specs.Canon.{canon};

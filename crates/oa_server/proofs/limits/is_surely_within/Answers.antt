@@ -9,5 +9,5 @@ pub returns-then-event_len-le-MAX_EVENT_BYTES : goal.returns-then-event_len-le-M
 returns-then-event_len-le-MAX_EVENT_BYTES c = λ is new made.
     let most : c.most_after.result ≤ 14680064 = leb-true c.most_after.result 14680064 is in
     let event : length (event_image c.args.event.now) ≤ 1048576 = omega (arith, c.event_len.ensures) in
-    let table : length (table_image new) ≤ 14680064 = omega (arith, most, c.most_after.ensures, applied_sized c.args.event.now c.args.table.now new made) in
+    let table : length (table_image new) ≤ 14680064 = omega (arith, most, c.most_after.ensures.bound, applied_sized c.args.event.now c.args.table.now new made) in
     rw (le-ltb 1048576 (length (event_image c.args.event.now)) event, le-ltb 14680064 (length (table_image new)) table) refl

@@ -1,5 +1,6 @@
 -- What follows of a checked tree: each coclass has a default interface, and each of its entries has a description.
-use Rattle.std.proofs.Common.{◌≡◌, ◌≤◌, ℕ, Bool, true, false, cond, ◌||◌, if◌then◌else◌, List, [], ◌∷◌, length, map, find, position, slice_get, nat_lt, Option, None, Some, is_some, IsSome, IfSome, refl, sym, ap, subst, ◌∙◌, true≢false, arith}
+use Rattle.std.proofs.Common.{◌≡◌, ◌≤◌, ℕ, Bool, true, false, cond, ◌||◌, if◌then◌else◌, List, [], ◌∷◌, length, map, find, position}
+use Rattle.std.proofs.Common.{slice_get, nat_lt, Option, None, Some, is_some, IsSome, IfSome, refl, sym, ap, subst, ◌∙◌, true≢false, arith}
 use Rattle.std.proofs.lemmas.Bool.Decides.{nat_tests}
 use Rattle.std.specs.List.{AllByRecursion, list_any, position_or_len}
 use Rattle.std.specs.Option.{option_and_then}
@@ -14,7 +15,8 @@ use Rattle.oa_idl.specs.declared.stop.TreeLimit.TheVariants as limits
 use Rattle.oa_typelib.specs.Breaches.{unknown_name, entry_breach}
 use Rattle.oa_typelib.specs.Checked.{IsChecked, HasClass, IsWhole}
 use Rattle.oa_typelib.specs.Descriptions.{entry_at, entry_description, interfaces_of}
-use Rattle.oa_typelib.specs.Libraries.{same, same_name, name_of, guid_of, as_interface, as_class, interface_named, item_with, class_of, default_interface, mark_first, marked_entries, marked_item}
+use Rattle.oa_typelib.specs.Libraries.{same, same_name, name_of, guid_of, as_interface, as_class, interface_named}
+use Rattle.oa_typelib.specs.Libraries.{item_with, class_of, default_interface, mark_first, marked_entries, marked_item}
 use Rattle.oa_typelib.proofs.Found.{find_all}
 use Rattle.oa_typelib.proofs.Groups.{any_place}
 use Rattle.oa_typelib.proofs.Lists.{list_any-map, position-map}

@@ -1,5 +1,6 @@
 -- What the indexes of a library find.
-use Rattle.std.proofs.Common.{◌≡◌, ◌<◌, ◌≤◌, ◌+◌, ℕ, suc, Bool, List, [], ◌∷◌, ◌++◌, length, map, take, drop, get_or, slice_get, position, find, Option, None, Some, true, false, refl, sym, ap, ◌∙◌, arith, add-one}
+use Rattle.std.proofs.Common.{◌≡◌, ◌<◌, ◌≤◌, ◌+◌, ℕ, suc, Bool, List, [], ◌∷◌, ◌++◌, length, map, take, drop, get_or}
+use Rattle.std.proofs.Common.{slice_get, position, find, Option, None, Some, true, false, refl, sym, ap, ◌∙◌, arith, add-one}
 use Rattle.std.proofs.Math.Seq.{drop-cons}
 use Rattle.std.proofs.Math.ListN.{set}
 use Rattle.std.proofs.lemmas.List.{take_more, take_more_set, take_all, map-append, drop-set-lt}
@@ -14,7 +15,8 @@ use Rattle.oa_idl.specs.Canonical.{canonical}
 use Rattle.oa_idl.specs.declared.parts.Entry.{Entry}
 use Rattle.oa_idl.specs.declared.items.Item.{Item}
 use Rattle.oa_idl.specs.declared.items.Item.TheVariants.{Interface, Coclass}
-use Rattle.oa_typelib.specs.Libraries.{same, name_of, guid_of, as_interface, as_class, has_interface, if_entered, interface_of, class_of, interface_named, default_interface, marked_item, marked}
+use Rattle.oa_typelib.specs.Libraries.{same, name_of, guid_of, as_interface, as_class, has_interface, if_entered}
+use Rattle.oa_typelib.specs.Libraries.{interface_of, class_of, interface_named, default_interface, marked_item, marked}
 use Rattle.oa_typelib.specs.declared.fault.CheckError.TheVariants.{TextTooLong}
 use Rattle.oa_typelib.specs.Breaches.{text_breach}
 use Rattle.oa_idl.specs.Values.{InterfaceValue, CoclassValue}

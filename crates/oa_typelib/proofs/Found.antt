@@ -1,5 +1,6 @@
 -- What is found among declarations that calls can be bound to.
-use Rattle.std.proofs.Common.{◌≡◌, ◌≤◌, refl, ap, ◌∙◌, map, ℕ, zero, suc, ◌-◌, length, take, ℤ, Bool, true, false, cond, if◌then◌else◌, find, List, [], ◌∷◌, Option, Some, None, IfSome, IfOk, Result, Ok, Err, slice_get, arith}
+use Rattle.std.proofs.Common.{◌≡◌, ◌≤◌, refl, ap, ◌∙◌, map, ℕ, zero, suc, ◌-◌, length, take, ℤ, Bool, true, false, cond}
+use Rattle.std.proofs.Common.{if◌then◌else◌, find, List, [], ◌∷◌, Option, Some, None, IfSome, IfOk, Result, Ok, Err, slice_get, arith}
 use Rattle.std.proofs.lemmas.List.{length-take, length-map, take-map}
 use Rattle.std.specs.List.{AllByRecursion, filter}
 use Rattle.std.specs.Option.{option_map, option_and_then, option_or}
@@ -17,7 +18,8 @@ use Rattle.oa_typelib.specs.DeclarationValues.{DeclarationValue}
 use Rattle.oa_typelib.specs.Declarations.{declarations, is_put, own_parameters, type_of_value}
 use Rattle.oa_typelib.specs.Defaults.{default_value}
 use Rattle.oa_typelib.specs.Libraries.{as_interface}
-use Rattle.oa_typelib.specs.Members.{forms_with, form_for, main_form, property_of, kind_asked, has_form, is_method, method_fault, if_formed, property_answer, answer, lets, member_in, property_in, property_with}
+use Rattle.oa_typelib.specs.Members.{forms_with, form_for, main_form, property_of, kind_asked, has_form, is_method, method_fault}
+use Rattle.oa_typelib.specs.Members.{if_formed, property_answer, answer, lets, member_in, property_in, property_with}
 use Rattle.oa_typelib.specs.MemberValues.{MemberValue}
 use Rattle.oa_typelib.specs.Typed.{IsDeclarable, IsTypedDeclaration}
 use Rattle.oa_typelib.specs.declared.access.Access.{Access}

@@ -1,5 +1,7 @@
 -- The keys of a list, each once, with the places at which it stands.
-use Rattle.std.proofs.Common.{◌≡◌, ◌<◌, ◌+◌, ℕ, zero, suc, Bool, true, false, cond, not, ◌||◌, List, [], ◌∷◌, ◌++◌, length, map, fold, find, position, slice_get, Option, None, Some, is_some, refl, sym, ap, ◌∙◌, true≢false, nat_lt, take, get_or, ◌≤◌, if◌then◌else◌, arith}
+use Rattle.std.proofs.Common.{◌≡◌, ◌<◌, ◌+◌, ℕ, zero, suc, Bool, true, false, cond, not, ◌||◌, List, [], ◌∷◌}
+use Rattle.std.proofs.Common.{◌++◌, length, map, fold, find, position, slice_get, Option, None, Some, is_some}
+use Rattle.std.proofs.Common.{refl, sym, ap, ◌∙◌, true≢false, nat_lt, take, get_or, ◌≤◌, if◌then◌else◌, arith}
 use Rattle.std.proofs.lemmas.Bool.Decides.{nat_tests}
 use Rattle.std.proofs.lemmas.List.{append-nil, map-append, take_more}
 use Rattle.std.proofs.lemmas.List.Sums.{fold-append}

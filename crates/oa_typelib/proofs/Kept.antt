@@ -1,5 +1,6 @@
 -- Loops that keep some of a list.
-use Rattle.std.proofs.Common.{◌≡◌, ◌<◌, ◌+◌, ℕ, suc, Bool, true, false, cond, List, [], ◌∷◌, ◌++◌, length, map, take, drop, get_or, slice_get, Option, None, Some, is_some, refl, ap, ◌∙◌, if◌then◌else◌, length-append}
+use Rattle.std.proofs.Common.{◌≡◌, ◌<◌, ◌+◌, ℕ, suc, Bool, true, false, cond, List, [], ◌∷◌, ◌++◌, length, map, take, drop}
+use Rattle.std.proofs.Common.{get_or, slice_get, Option, None, Some, is_some, refl, ap, ◌∙◌, if◌then◌else◌, length-append}
 use Rattle.std.proofs.Math.Seq.{drop-cons}
 use Rattle.std.proofs.lemmas.List.{append-nil, take_more, map-append, append_assoc}
 use Rattle.std.proofs.lemmas.List.Elements.{filter_map-append}
@@ -21,10 +22,6 @@ module _ {X Y : Type 0} (f : X → Option Y) (xs : List X) (i : ℕ) (x : X) (h 
 
   pub count_more : (y : Y) → f x ≡ Some y → length (filter_map f (take (i + 1) xs)) ≡ length (filter_map f (take i xs)) + 1
   count_more y some = ap length (one_more y some) ∙ length-append (filter_map f (take i xs)) (y ∷ [])
-
-kept_step : {X Y : Type 0} (f : X → Option Y) (o : Option Y) (x : X) (xs : List X) (ys : List Y) → length xs ≡ length ys → length (cond (is_some o) (x ∷ xs) xs) ≡ length (cons_option o ys)
-kept_step f None x xs ys h = h
-kept_step f (Some y) x xs ys h = ap (λ n. suc n) h
 
 module _ {X Y : Type 0} (f : X → Option Y) (xs : List X) (i : ℕ) (x : X) (h : i < length xs) (is : x ≡ get_or xs i x) where
   -- the next one that is kept, where there is one at this place

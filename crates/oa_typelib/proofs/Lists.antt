@@ -1,5 +1,7 @@
 -- Searches in lists by keys.
-use Rattle.std.proofs.Common.{◌≡◌, ◌<◌, ◌+◌, ℕ, zero, suc, Bool, true, false, cond, not, ◌||◌, List, [], ◌∷◌, ◌++◌, length, map, find, position, slice_get, Option, None, Some, refl, sym, ap, ◌∙◌, true≢false, if◌then◌else◌, nat_lt, arith, append_assoc, length-append}
+use Rattle.std.proofs.Common.{◌≡◌, ◌<◌, ◌+◌, ℕ, zero, suc, Bool, true, false, cond, not, ◌||◌, List, [], ◌∷◌}
+use Rattle.std.proofs.Common.{◌++◌, length, map, find, position, slice_get, Option, None, Some, refl, sym}
+use Rattle.std.proofs.Common.{ap, ◌∙◌, true≢false, if◌then◌else◌, nat_lt, arith, append_assoc, length-append}
 use Rattle.std.proofs.lemmas.List.{append-nil, map-append}
 use Rattle.std.proofs.lemmas.Bool.Decides.{nat_tests}
 use Rattle.std.proofs.lemmas.List.Folds.{find_at}

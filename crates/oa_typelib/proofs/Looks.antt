@@ -1,5 +1,6 @@
 -- What the index of an interface finds.
-use Rattle.std.proofs.Common.{◌≡◌, ◌-◌, ◌++◌, ◌∷◌, [], zero, suc, length, arith, append_assoc, if◌then◌else◌, Option, Some, None, is_some, ℕ, ℤ, Bool, true, false, List, Bor, Vec, Global, map, fold, position, slice_get, refl, sym, ap, ◌∙◌}
+use Rattle.std.proofs.Common.{◌≡◌, ◌-◌, ◌++◌, ◌∷◌, [], zero, suc, length, arith, append_assoc, if◌then◌else◌, Option, Some, None, is_some}
+use Rattle.std.proofs.Common.{ℕ, ℤ, Bool, true, false, List, Bor, Vec, Global, map, fold, position, slice_get, refl, sym, ap, ◌∙◌}
 use Rattle.std.proofs.lemmas.Cmp.{int_eq_equiv, nat_list_eq_equiv}
 use Rattle.std.proofs.lemmas.Option.{slice_get-map}
 use Rattle.std.specs.Option.{option_map, option_and_then}
@@ -15,7 +16,8 @@ use Rattle.oa_idl.specs.declared.parts.Entry.{Entry}
 use Rattle.oa_typelib.specs.DeclarationValues.{DeclarationValue}
 use Rattle.oa_typelib.specs.Declarations.{declarations}
 use Rattle.oa_typelib.specs.DescriptionValues.ContentDescription.{OfCoclass}
-use Rattle.oa_typelib.specs.Descriptions.{first_names, put_last, members_described, entry_at, entry_description, interfaces_of, classes_of, interface_description, class_description, description_at}
+use Rattle.oa_typelib.specs.Descriptions.{first_names, put_last, members_described, entry_at, entry_description}
+use Rattle.oa_typelib.specs.Descriptions.{interfaces_of, classes_of, interface_description, class_description, description_at}
 use Rattle.oa_typelib.specs.Groups.{GroupsValue, distinct, groups_of, places_of, places_in}
 use Rattle.oa_typelib.specs.IndexValues.{MembersValue, IndexValue}
 use Rattle.oa_typelib.specs.Indexes.{grouped, defaults_of, enters, first_in, entry_in, class_in}

@@ -1,5 +1,7 @@
 -- A look-up by name answers what the name names, and that alone.
-use Rattle.std.proofs.Common.{◌≡◌, ◌-◌, ◌<◌, ◌≤◌, ℕ, ℤ, pos, zero, suc, Bool, true, false, cond, not, ◌&&◌, ◌||◌, if◌then◌else◌, List, [], ◌∷◌, ◌++◌, length, map, take, find, position, slice_get, nat_lt, Option, None, Some, refl, sym, ap, subst, ◌∙◌, true≢false, arith}
+use Rattle.std.proofs.Common.{◌≡◌, ◌-◌, ◌<◌, ◌≤◌, ℕ, ℤ, pos, zero, suc, Bool, true, false, cond, not, ◌&&◌, ◌||◌}
+use Rattle.std.proofs.Common.{if◌then◌else◌, List, [], ◌∷◌, ◌++◌, length, map, take, find, position, slice_get}
+use Rattle.std.proofs.Common.{nat_lt, Option, None, Some, refl, sym, ap, subst, ◌∙◌, true≢false, arith}
 use Rattle.std.proofs.lemmas.Bool.{and_parts}
 use Rattle.std.proofs.lemmas.Bool.Decides.{Decides-int_eq, nat_tests}
 use Rattle.std.proofs.lemmas.Cmp.{nat_list_eq_equiv}
@@ -17,7 +19,9 @@ use Rattle.oa_idl.specs.declared.items.Item.{Item}
 use Rattle.oa_idl.specs.declared.items.Item.TheVariants.{Interface, Coclass}
 use Rattle.oa_typelib.specs.Agreement.{same_type, same_result, same_default, is_optional, same_parameter, agree}
 use Rattle.oa_typelib.specs.Bindable.{IsSound, AreSound, IsSoundItem}
-use Rattle.oa_typelib.specs.Breaches.{repeated_name, clashes, declared_breach, item_breach, inner_breach, name_breach, id_breach, guid_breach, key_breaches, tree_breach, text_breach, interface_breach, form_breaches, in_interface, broken_by, first_broken, disagrees}
+use Rattle.oa_typelib.specs.Breaches.{repeated_name, clashes, declared_breach, item_breach, inner_breach, name_breach}
+use Rattle.oa_typelib.specs.Breaches.{id_breach, guid_breach, key_breaches, tree_breach, text_breach, interface_breach}
+use Rattle.oa_typelib.specs.Breaches.{form_breaches, in_interface, broken_by, first_broken, disagrees}
 use Rattle.oa_typelib.specs.Checked.{IsChecked}
 use Rattle.oa_typelib.specs.DeclarationValues.{DeclarationValue}
 use Rattle.oa_typelib.specs.Declarations.{declarations, is_put, own_parameters, type_of_value}

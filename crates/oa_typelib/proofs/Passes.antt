@@ -1,5 +1,7 @@
 -- Passes over a list that stop at the first breach.
-use Rattle.std.proofs.Common.{◌≡◌, ◌<◌, ◌≤◌, ◌+◌, ℕ, Bool, true, false, List, [], ◌∷◌, ◌++◌, length, map, take, drop, get_or, slice_get, position, Option, None, Some, Bor, Vec, Global, Result, Ok, Err, refl, sym, ap, subst, ◌∙◌, arith, add-one, is_some, if◌then◌else◌, IsErr, true≢false, option_copied}
+use Rattle.std.proofs.Common.{◌≡◌, ◌<◌, ◌≤◌, ◌+◌, ℕ, Bool, true, false, List, [], ◌∷◌, ◌++◌, length, map, take, drop}
+use Rattle.std.proofs.Common.{get_or, slice_get, position, Option, None, Some, Bor, Vec, Global, Result, Ok, Err, refl, sym}
+use Rattle.std.proofs.Common.{ap, subst, ◌∙◌, arith, add-one, is_some, if◌then◌else◌, IsErr, true≢false, option_copied}
 use Rattle.std.proofs.Math.Seq.{drop-cons}
 use Rattle.std.proofs.Math.ListN.{drop_of_length-le}
 use Rattle.std.proofs.lemmas.List.{take_more, take_all, map-append}
@@ -9,7 +11,8 @@ use Rattle.std.specs.Result.{IsErrAnd}
 use Rattle.oa_model.specs.Folding.{folded_name}
 use Rattle.oa_idl.specs.declared.items.Item.{Item}
 use Rattle.oa_typelib.specs.declared.fault.CheckError.{CheckError}
-use Rattle.oa_typelib.specs.declared.fault.CheckError.TheVariants.{DuplicateName, DuplicateId, DuplicateGuid, UnknownInterface, GetPutDisagree, ArrayParameter, BadDefault, TextTooLong, Memory}
+use Rattle.oa_typelib.specs.declared.fault.CheckError.TheVariants.{DuplicateName, DuplicateId, DuplicateGuid, UnknownInterface}
+use Rattle.oa_typelib.specs.declared.fault.CheckError.TheVariants.{GetPutDisagree, ArrayParameter, BadDefault, TextTooLong, Memory}
 use Rattle.oa_typelib.specs.declared.repeats.Distinct.{Distinct}
 use Rattle.oa_typelib.specs.declared.repeats.Distinct.TheVariants.{All, Repeat}
 use Rattle.oa_typelib.specs.Keys.{Tells, repeat_of}

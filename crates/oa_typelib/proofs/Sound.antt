@@ -1,5 +1,6 @@
 -- What follows of a checked tree: calls can be bound to each of its properties.
-use Rattle.std.proofs.Common.{ℕ, ◌≡◌, ◌≤◌, ◌++◌, refl, sym, subst, ap, ◌∙◌, Bool, true, false, cond, not, if◌then◌else◌, find, length, List, [], ◌∷◌, map, Option, Some, None, IfSome, IsSome, is_some, arith}
+use Rattle.std.proofs.Common.{ℕ, ◌≡◌, ◌≤◌, ◌++◌, refl, sym, subst, ap, ◌∙◌, Bool, true, false, cond, not, if◌then◌else◌}
+use Rattle.std.proofs.Common.{find, length, List, [], ◌∷◌, map, Option, Some, None, IfSome, IsSome, is_some, arith}
 use Rattle.std.proofs.lemmas.Option.{none-some}
 use Rattle.std.specs.List.{AllByRecursion}
 use Rattle.std.specs.Option.{option_map, option_and_then, option_or}
@@ -18,10 +19,13 @@ use Rattle.oa_idl.specs.declared.items.Item.{Item}
 use Rattle.oa_idl.specs.declared.items.Item.TheVariants.{Interface, Coclass}
 use Rattle.oa_idl.specs.declared.stop.TreeLimit.TheVariants as limits
 use Rattle.oa_typelib.specs.Bindable.{IsOne, AreScalars, HasGoodDefault, IsSound, AreSound, IsSoundItem}
-use Rattle.oa_typelib.specs.Breaches.{first_breach, tree_breach, text_breach, key_breaches, interface_breach, form_breaches, form_breach, array_breach, default_breach, in_interface, array_in, named_first, is_array, is_bad, bad_default_in, if_optional}
+use Rattle.oa_typelib.specs.Breaches.{first_breach, tree_breach, text_breach, key_breaches, interface_breach}
+use Rattle.oa_typelib.specs.Breaches.{form_breaches, form_breach, array_breach, default_breach, in_interface}
+use Rattle.oa_typelib.specs.Breaches.{array_in, named_first, is_array, is_bad, bad_default_in, if_optional}
 use Rattle.oa_typelib.specs.Checked.{IsChecked}
 use Rattle.oa_typelib.specs.DeclarationValues.{DeclarationValue}
-use Rattle.oa_typelib.specs.Declarations.{declarations, of_property, of_method, kind_of_method, is_form, own_parameters, new_value, type_of_value}
+use Rattle.oa_typelib.specs.Declarations.{declarations, of_property, of_method, kind_of_method}
+use Rattle.oa_typelib.specs.Declarations.{is_form, own_parameters, new_value, type_of_value}
 use Rattle.oa_typelib.specs.Defaults.{default_of}
 use Rattle.oa_typelib.specs.Libraries.{marked_item}
 use Rattle.oa_typelib.specs.Members.{is_method}

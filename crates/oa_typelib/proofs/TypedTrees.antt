@@ -1,5 +1,6 @@
 -- In the tree of a text each declaration has types that may be declared, also when its defaults are marked.
-use Rattle.std.proofs.Common.{◌≡◌, ◌==◌, slice_get, true≢false, refl, sym, subst, ⊎_elim, ℕ, Bool, true, false, if◌then◌else◌, List, [], ◌∷◌, ◌++◌, map, Option, Some, None, is_some, IsSome, IfSome}
+use Rattle.std.proofs.Common.{◌≡◌, ◌==◌, slice_get, true≢false, refl, sym, subst, ⊎_elim, ℕ, Bool, true, false}
+use Rattle.std.proofs.Common.{if◌then◌else◌, List, [], ◌∷◌, ◌++◌, map, Option, Some, None, is_some, IsSome, IfSome}
 use Rattle.std.proofs.lemmas.Option.{none-some}
 use Rattle.std.specs.List.{AllByRecursion}
 use Rattle.oa_model.specs.Types.{sf_type_of}
@@ -9,7 +10,8 @@ use Rattle.oa_model.specs.declared.var_type.ValueType.TheVariants.{One, Array}
 use Rattle.oa_idl.specs.declared.lexer.TokenKind.TheVariants as kinds
 use Rattle.oa_idl.specs.Forms.{Word, Form, listed, nowhere}
 use Rattle.oa_idl.specs.Words.{same_kind, type_of, type_named, if_cell}
-use Rattle.oa_idl.specs.Grammar.{value_type, property, result_type, parameter, separated, method, methods, members, entry, entry_grow, last_entry, no_entry, item, Content, element, elements, items_in, library}
+use Rattle.oa_idl.specs.Grammar.{value_type, property, result_type, parameter, separated, method, methods, members, entry}
+use Rattle.oa_idl.specs.Grammar.{entry_grow, last_entry, no_entry, item, Content, element, elements, items_in, library}
 use Rattle.oa_idl.specs.Grammar.Content.{Import, OfItem}
 use Rattle.oa_idl.specs.Trees.{TreeValue}
 use Rattle.oa_idl.specs.MethodValues.{MethodValue}

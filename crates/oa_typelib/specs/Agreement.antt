@@ -35,8 +35,12 @@ is_optional p = p.is_optional || is_some p.default
 
 -- the same name, A to Z folded, type, flags and default
 unfoldable pub same_parameter : Parameter → Parameter → Bool
-same_parameter p q = same_name p.name q.name && same_type p.value_type q.value_type && beq p.is_in q.is_in && beq (is_optional p) (is_optional q) && same_default p.default q.default
+same_parameter p q =
+    same_name p.name q.name && same_type p.value_type q.value_type && beq p.is_in q.is_in && beq (is_optional p) (is_optional q)
+    && same_default p.default q.default
 
 -- the same id, type of what the property holds, and parameters, without the new value of a put
 unfoldable pub agree : DeclarationValue → DeclarationValue → Bool
-agree d e = int_eq d.id e.id && same_result (type_of_value d) (type_of_value e) && pointwise same_parameter (own_parameters d) (own_parameters e)
+agree d e =
+    int_eq d.id e.id && same_result (type_of_value d) (type_of_value e)
+    && pointwise same_parameter (own_parameters d) (own_parameters e)

@@ -1,6 +1,7 @@
 -- What `check` refuses (this project's choice): the first breach of a tree. The kinds follow in one order over the whole tree, and within
 -- a kind the breach counts whose later item stands first in the text. That item is named.
-use Rattle.std.specs.Prelude.{◌≡◌, ℕ, Bool, true, false, not, ◌&&◌, nat_le, if◌then◌else◌, List, [], ◌∷◌, length, Option, Some, None, Result, Ok, Err, map, find, is_some}
+use Rattle.std.specs.Prelude.{◌≡◌, ℕ, Bool, true, false, not, ◌&&◌, nat_le, if◌then◌else◌, List, []}
+use Rattle.std.specs.Prelude.{◌∷◌, length, Option, Some, None, Result, Ok, Err, map, find, is_some}
 use Rattle.std.specs.List.{list_any}
 use Rattle.std.specs.Option.{option_map, option_and_then, option_or}
 use Rattle.std.specs.Ordering.{int_eq}
@@ -22,7 +23,8 @@ use Rattle.oa_typelib.specs.Defaults.{default_of}
 use Rattle.oa_typelib.specs.Libraries.{same, same_name, name_of, guid_of, interface_named, marked}
 use Rattle.oa_typelib.specs.Repeats.{first_repeat, first_answer, first_after}
 use Rattle.oa_typelib.specs.declared.fault.CheckError.{CheckError}
-use Rattle.oa_typelib.specs.declared.fault.CheckError.TheVariants.{DuplicateName, DuplicateId, DuplicateGuid, UnknownInterface, GetPutDisagree, ArrayParameter, BadDefault, TextTooLong, Memory}
+use Rattle.oa_typelib.specs.declared.fault.CheckError.TheVariants.{DuplicateName, DuplicateId, DuplicateGuid, UnknownInterface}
+use Rattle.oa_typelib.specs.declared.fault.CheckError.TheVariants.{GetPutDisagree, ArrayParameter, BadDefault, TextTooLong, Memory}
 
 -- ---- names
 
@@ -45,7 +47,12 @@ inner_breach (Coclass c) = repeated_name (map (λ (e : Entry). e.interface) c.en
 
 -- an item's own name, else the first name inside it
 abbrev pub item_breach : List Item → Item → Option (List ℕ)
-item_breach before item = if list_any (λ (other : Item). same_name (name_of item) (name_of other)) before then Some (name_of item) else inner_breach item
+item_breach before item =
+    if list_any (λ (other : Item). same_name (name_of item) (name_of other)) before then Some (name_of item) else inner_breach item
+
+-- the same by the folded names of the items before
+abbrev pub repeated_in : List (List ℕ) → Item → Option (List ℕ)
+repeated_in seen item = if list_any (same (folded_name (name_of item))) seen then Some (name_of item) else inner_breach item
 
 abbrev pub name_breach : List Item → Option (List ℕ)
 name_breach items = first_after item_breach [] items
@@ -122,7 +129,9 @@ abbrev pub if_optional : Parameter → Option (List ℕ)
 if_optional p = if is_optional p then Some p.name else None
 
 abbrev pub bad_default_in : DeclarationValue → Option (List ℕ)
-bad_default_in d = option_or (named_first (λ (p : Parameter). is_bad p.value_type p.default) (own_parameters d)) (option_and_then if_optional (new_value d))
+bad_default_in d =
+    option_or (named_first (λ (p : Parameter). is_bad p.value_type p.default) (own_parameters d))
+    (option_and_then if_optional (new_value d))
 
 abbrev pub default_breach : List Item → Option (List ℕ)
 default_breach items = first_answer (in_interface (first_answer bad_default_in)) items

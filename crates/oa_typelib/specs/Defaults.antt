@@ -1,5 +1,6 @@
 -- The value of a parameter's default, by the parameter's type (this project's choice).
-use Rattle.std.specs.Prelude.{ℕ, ℤ, pos, negsuc, Bool, true, false, nat_lt, nat_le, ◌*ℤ◌, ◌^◌, unsigned_abs, if◌then◌else◌, List, [], ◌∷◌, length, Option, Some, None}
+use Rattle.std.specs.Prelude.{ℕ, ℤ, pos, negsuc, Bool, true, false, nat_lt, nat_le, ◌*ℤ◌, ◌^◌}
+use Rattle.std.specs.Prelude.{unsigned_abs, if◌then◌else◌, List, [], ◌∷◌, length, Option, Some, None}
 use Rattle.std.specs.Int.{is_negative}
 use Rattle.std.specs.Option.{option_map, option_and_then}
 use Rattle.oa_model.specs.declared.var_type.VarType.{VarType}
@@ -25,7 +26,10 @@ whole bound (negsuc n) = if nat_lt n bound then Some (negsuc n) else None
 
 -- a whole number of fewer than 97 bits, with scale 0; zero is positive
 abbrev pub decimal_from : ℤ → Option DecimalValue
-decimal_from z = if nat_lt (unsigned_abs z) (2 ^ 96) then Some (record { negative = is_negative z; scale = 0; magnitude = unsigned_abs z }) else None
+decimal_from z =
+    if nat_lt (unsigned_abs z) (2 ^ 96)
+    then Some (record { negative = is_negative z; scale = 0; magnitude = unsigned_abs z })
+    else None
 
 -- a number as a value of a type
 unfoldable pub number_as : VarType → ℤ → Option Scalar

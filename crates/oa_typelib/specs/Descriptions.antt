@@ -18,16 +18,19 @@ use Rattle.oa_typelib.specs.Members.{forms_named}
 
 -- a parameter, with the value of its default
 abbrev pub parameter_description : Parameter → ParameterDescription
-parameter_description p = record { value_type = p.value_type; is_in = p.is_in; is_optional = is_optional p; name = p.name; default = default_value p }
+parameter_description p =
+    record { value_type = p.value_type; is_in = p.is_in; is_optional = is_optional p; name = p.name; default = default_value p }
 
 -- a declaration as it is written, with the new value of a put among its parameters
 abbrev pub member_description : DeclarationValue → MemberDescription
-member_description d = record { id = d.id; kind = d.kind; value_type = d.value_type; name = d.name; parameters = map parameter_description d.parameters }
+member_description d =
+    record { id = d.id; kind = d.kind; value_type = d.value_type; name = d.name; parameters = map parameter_description d.parameters }
 
 -- the names of a list that are equal to none before them, A to Z folded
 unfoldable pub first_names : List (List ℕ) → List (List ℕ) → List (List ℕ)
 first_names before [] = []
-first_names before (name ∷ names) = if list_any (same_name name) before then first_names before names else name ∷ first_names (before ++ name ∷ []) names
+first_names before (name ∷ names) =
+    if list_any (same_name name) before then first_names before names else name ∷ first_names (before ++ name ∷ []) names
 
 -- the names of an interface's members, each as it first stands
 abbrev pub member_names : InterfaceValue → List (List ℕ)
@@ -55,13 +58,17 @@ abbrev pub entry_at : Bool → ℕ → Option EntryDescription
 entry_at is_default n = if nat_lt n 4294967296 then Some (record { is_default = is_default; interface = n }) else None
 
 abbrev pub entry_description : List InterfaceValue → Entry → Option EntryDescription
-entry_description interfaces e = option_and_then (entry_at e.is_default) (position (λ (i : InterfaceValue). same_name e.interface i.name) interfaces)
+entry_description interfaces e =
+    option_and_then (entry_at e.is_default) (position (λ (i : InterfaceValue). same_name e.interface i.name) interfaces)
 
 abbrev pub class_description : List InterfaceValue → CoclassValue → DescriptionValue
-class_description interfaces c = record { guid = c.guid; name = c.name; content = OfCoclass (filter_map (entry_description interfaces) c.entries) }
+class_description interfaces c =
+    record { guid = c.guid; name = c.name; content = OfCoclass (filter_map (entry_description interfaces) c.entries) }
 
 abbrev pub descriptions : TreeValue → List DescriptionValue
-descriptions tree = map interface_description (interfaces_of tree.items) ++ map (class_description (interfaces_of tree.items)) (classes_of tree.items)
+descriptions tree =
+    map interface_description (interfaces_of tree.items)
+    ++ map (class_description (interfaces_of tree.items)) (classes_of tree.items)
 
 -- the description at an index
 abbrev pub description_at : TreeValue → ℕ → Option DescriptionValue

@@ -22,10 +22,15 @@ use Rattle.oa_typelib.specs.Groups.{GroupsValue, groups_of, places_in}
 use Rattle.oa_typelib.specs.IndexValues.{MembersValue, IndexValue}
 use Rattle.oa_typelib.specs.Libraries.{same, name_of, guid_of}
 
--- the place of a coclass's default interface in a list of folded names
+-- the place of the interface of the default entry in a list of folded names
+abbrev pub default_among : List (List ℕ) → List Entry → Option ℕ
+default_among names entries =
+    option_and_then (λ (e : Entry). position (same (folded_name e.interface)) names) (find (λ e. e.is_default) entries)
+
+-- the place of a coclass's default interface
 abbrev pub default_in : List (List ℕ) → Item → Option ℕ
 default_in names (Interface i) = None
-default_in names (Coclass c) = option_and_then (λ (e : Entry). position (same (folded_name e.interface)) names) (find (λ e. e.is_default) c.entries)
+default_in names (Coclass c) = default_among names c.entries
 
 -- the items' names, as the checks keep them
 abbrev pub folded_names : List Item → List (List ℕ)
@@ -37,7 +42,12 @@ defaults_of d = map default_value d.parameters
 
 -- the declarations by their names, folded, and by their DISPIDs, and their defaults
 abbrev pub grouped : List DeclarationValue → MembersValue
-grouped ds = record { by_name = groups_of same (map (λ (d : DeclarationValue). folded_name d.name) ds); by_id = groups_of int_eq (map (λ (d : DeclarationValue). d.id) ds); defaults = map defaults_of ds }
+grouped ds =
+    record {
+      by_name = groups_of same (map (λ (d : DeclarationValue). folded_name d.name) ds);
+      by_id = groups_of int_eq (map (λ (d : DeclarationValue). d.id) ds);
+      defaults = map defaults_of ds;
+    }
 
 abbrev pub members_in : Item → MembersValue
 members_in (Interface i) = grouped (declarations i)
@@ -62,7 +72,12 @@ flag_at rows class place = flag_of (slice_get rows class) place
 
 -- the members of each item, the interfaces by their names, folded, and which items each coclass names
 abbrev pub index_of : TreeValue → IndexValue
-index_of tree = record { members = map members_in tree.items; entered = map (entered_in (folded_names tree.items)) tree.items; interfaces = groups_of same (map (λ (i : InterfaceValue). folded_name i.name) (interfaces_of tree.items)) }
+index_of tree =
+    record {
+      members = map members_in tree.items;
+      entered = map (entered_in (folded_names tree.items)) tree.items;
+      interfaces = groups_of same (map (λ (i : InterfaceValue). folded_name i.name) (interfaces_of tree.items));
+    }
 
 -- one of the two parts of a member's declarations: those that are puts, or those that are not
 abbrev pub is_put_or_not : Bool → DeclarationKind → Bool
@@ -80,4 +95,8 @@ abbrev pub class_in : GroupsValue (List ℕ) → CoclassValue → DescriptionVal
 class_in groups c = record { guid = c.guid; name = c.name; content = OfCoclass (filter_map (entry_in groups) c.entries) }
 
 abbrev pub IsIndexed : TreeValue → List (List ℕ) → IndexValue → List (Option ℕ) → List ℕ → Type 0
-IsIndexed tree guids index defaults text = (guids ≡ map guid_of tree.items) × (index ≡ index_of tree) × (defaults ≡ map (default_in (folded_names tree.items)) tree.items) × (text ≡ canonical tree)
+IsIndexed tree guids index defaults text =
+    (guids ≡ map guid_of tree.items)
+    × (index ≡ index_of tree)
+    × (defaults ≡ map (default_in (folded_names tree.items)) tree.items)
+    × (text ≡ canonical tree)

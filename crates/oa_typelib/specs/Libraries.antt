@@ -65,7 +65,8 @@ if_entered class i = if has_interface class i then Some i else None
 -- The interface that a GUID selects for a coclass (this project's choice): the zero GUID stands for the default interface; another GUID for
 -- the interface that has it, where the coclass has that interface.
 abbrev pub selected : TreeValue → CoclassValue → List ℕ → Option InterfaceValue
-selected tree class guid = if is_nil_bytes guid then default_interface tree.items class else option_and_then (if_entered class) (interface_of tree guid)
+selected tree class guid =
+    if is_nil_bytes guid then default_interface tree.items class else option_and_then (if_entered class) (interface_of tree guid)
 
 -- the same by the coclass's GUID
 abbrev pub selected_in : TreeValue → List ℕ → List ℕ → Option InterfaceValue

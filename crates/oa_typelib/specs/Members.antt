@@ -1,6 +1,7 @@
 -- The members of an interface, and the form of one that a call asks for. A member is the declarations of one DISPID and of one name:
 -- one declaration, or a get and a put.
-use Rattle.std.specs.Prelude.{ℕ, ℤ, Bool, true, false, not, ◌&&◌, nat_eq, if◌then◌else◌, List, Option, Some, None, Result, Ok, Err, find, slice_get, is_some, bit_and}
+use Rattle.std.specs.Prelude.{ℕ, ℤ, Bool, true, false, not, ◌&&◌, nat_eq, if◌then◌else◌, List}
+use Rattle.std.specs.Prelude.{Option, Some, None, Result, Ok, Err, find, slice_get, is_some, bit_and}
 use Rattle.std.specs.List.{filter}
 use Rattle.std.specs.Option.{option_map, option_or}
 use Rattle.std.specs.Ordering.{int_eq}
@@ -50,7 +51,15 @@ main_form forms = option_or (form_for kinds.Get forms) (slice_get forms 0)
 
 -- A property, by its declarations and the one that speaks for it.
 abbrev pub property_of : List DeclarationValue → DeclarationValue → ValueType → MemberValue
-property_of forms d t = record { id = d.id; name = d.name; value_type = t; parameters = own_parameters d; has_get = is_some (form_for kinds.Get forms); has_put = is_some (form_for kinds.Put forms) }
+property_of forms d t =
+    record {
+      id = d.id;
+      name = d.name;
+      value_type = t;
+      parameters = own_parameters d;
+      has_get = is_some (form_for kinds.Get forms);
+      has_put = is_some (form_for kinds.Put forms);
+    }
 
 -- A call's flags (MS-OAUT section 3.1.4.4): DISPATCH_METHOD, DISPATCH_PROPERTYGET and DISPATCH_PROPERTYPUT.
 abbrev pub asks_method : ℕ → Bool
@@ -89,7 +98,10 @@ property_answer (Some m) access = if_formed m (kind_asked access)
 -- what the member of these declarations answers, by the one that speaks for it; a property holds values of some type
 abbrev pub answer : Option DeclarationValue → List DeclarationValue → Access → Result (MemberValue × Kind) MemberFault
 answer None forms access = Err MemberNotFound
-answer (Some d) forms access = if is_method d.kind then Err (method_fault access) else property_answer (option_map (property_of forms d) (type_of_value d)) access
+answer (Some d) forms access =
+    if is_method d.kind
+    then Err (method_fault access)
+    else property_answer (option_map (property_of forms d) (type_of_value d)) access
 
 -- the property of these declarations, whatever form of it a call would ask for; None of a method
 abbrev pub property_with : Option DeclarationValue → List DeclarationValue → Option MemberValue

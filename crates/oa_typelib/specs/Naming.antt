@@ -1,10 +1,11 @@
 -- What a name names in an interface, said without a search (MS-OAUT section 3.1.4.3).
-use Rattle.std.specs.Prelude.{◌≡◌, ℕ, ℤ, pos, true, List, Some, slice_get}
+use Rattle.std.specs.Prelude.{◌≡◌, ◌↔◌, ◌∷◌, ℕ, suc, ℤ, pos, true, List, Some, slice_get}
 use Rattle.oa_idl.specs.Values.{InterfaceValue}
 use Rattle.oa_idl.specs.declared.parts.Parameter.{Parameter}
 use Rattle.oa_typelib.specs.DeclarationValues.{DeclarationValue}
 use Rattle.oa_typelib.specs.Declarations.{declarations, own_parameters}
 use Rattle.oa_typelib.specs.Libraries.{same_name}
+use Rattle.oa_typelib.specs.Names.{named_in}
 
 -- an interface declares something of this name, A to Z folded
 pub record Declares (i : InterfaceValue) (name : List ℕ) (d : DeclarationValue) : Type 0 where
@@ -27,3 +28,16 @@ pub record IsParameter (i : InterfaceValue) (member name : List ℕ) (id : ℤ) 
   pub there : slice_get (own_parameters declaration) place ≡ Some parameter
   pub named : same_name name parameter.name ≡ true
   pub has : id ≡ pos place
+
+-- The first of the names that are asked has a DISPID exactly where it is that of a member, which has it.
+abbrev pub NamesMembers : InterfaceValue → Type 0
+NamesMembers i =
+    (name : List ℕ) (names : List (List ℕ)) (id : ℤ)
+    → (slice_get (named_in i (name ∷ names)) 0 ≡ Some (Some id)) ↔ IsMember i name id
+
+-- Each other name has a DISPID exactly where it is that of a parameter of that member, whose place it is.
+abbrev pub NamesParameters : InterfaceValue → Type 0
+NamesParameters i =
+    (member : List ℕ) (names : List (List ℕ)) (n : ℕ) (name : List ℕ) (id : ℤ)
+    → slice_get names n ≡ Some name
+    → (slice_get (named_in i (member ∷ names)) (suc n) ≡ Some (Some id)) ↔ IsParameter i member name id

@@ -1,4 +1,4 @@
-// What a call asks of a member, and why there is none.
+//! What a call asks of a member, and why there is none.
 ghost use Rattle.std.specs.Prelude.{◌≡◌};
 ghost use Rattle.oa_typelib.specs.Members.{is_method, kind_asked, lets, method_fault};
 

@@ -1,4 +1,4 @@
-// When the get and the put of a property agree.
+//! When the get and the put of a property agree.
 ghost use Rattle.std.specs.Prelude.{◌≡◌};
 ghost use Rattle.std.specs.Cmp.Lexicographic.{pointwise};
 ghost use Rattle.oa_typelib.specs.Agreement.{same_type, same_result, same_literal, same_default, is_optional, same_parameter, agree};

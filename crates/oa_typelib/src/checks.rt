@@ -1,14 +1,17 @@
-// The passes of `check`, one for each kind of breach.
-ghost use Rattle.std.specs.Prelude.{◌≡◌, ◌++◌, ◌∷◌, [], IfOk, Some, if◌then◌else◌, is_some, map};
-ghost use Rattle.std.specs.List.{list_any};
+//! The passes of `check`, one for each kind of breach.
+ghost use Rattle.std.specs.Prelude.{◌≡◌, ◌++◌, ◌∷◌, [], IfOk, is_some, map};
 ghost use Rattle.std.specs.Option.{option_map};
 ghost use Rattle.oa_model.specs.Folding.{folded_name};
-ghost use Rattle.oa_typelib.specs.Breaches.{Refuses, repeated_name, declared_breach, inner_breach, name_breach, id_breach, guid_breach, unknown_name, entry_breach, interface_breach, form_breach, array_breach, default_breach, form_breaches, key_breaches, tree_breach};
+ghost use Rattle.oa_typelib.specs.Breaches.{Refuses, repeated_in, repeated_name, declared_breach, inner_breach, name_breach, id_breach};
+ghost use Rattle.oa_typelib.specs.Breaches.{guid_breach, unknown_name, entry_breach, interface_breach, form_breach};
+ghost use Rattle.oa_typelib.specs.Breaches.{array_breach, default_breach, form_breaches, key_breaches, tree_breach};
 ghost use Rattle.oa_typelib.specs.Declarations.{declarations};
-ghost use Rattle.oa_typelib.specs.Libraries.{same, name_of, guid_of, interface_named};
+ghost use Rattle.oa_typelib.specs.Indexes.{folded_names};
+ghost use Rattle.oa_typelib.specs.Libraries.{name_of, guid_of, interface_named};
 ghost use Rattle.oa_typelib.specs.Repeats.{first_answer, first_after};
-ghost use Rattle.oa_typelib.specs.Taken.{takes_reading, takes_setting, names_taken, is_taken};
-ghost use Rattle.oa_typelib.specs.declared.fault.CheckError.TheVariants.{DuplicateName, DuplicateId, DuplicateGuid, UnknownInterface, GetPutDisagree, ArrayParameter, BadDefault};
+ghost use Rattle.oa_typelib.specs.Taken.{repeated_by, takes_reading, takes_setting, with_taken};
+ghost use Rattle.oa_typelib.specs.declared.fault.CheckError.TheVariants.{DuplicateName, DuplicateId, DuplicateGuid, UnknownInterface};
+ghost use Rattle.oa_typelib.specs.declared.fault.CheckError.TheVariants.{GetPutDisagree, ArrayParameter, BadDefault};
 
 use crate::declaration::{Declaration, declarations};
 use crate::fault::{CheckError, WrittenName};
@@ -97,7 +100,9 @@ fn admit_declaration(
     taken: &mut Taken,
     declaration: &Declaration<'_>,
 ) -> Result<(), CheckError>
-    ensures refuses { Refuses (option_map DuplicateName (if is_taken taken.old.reading taken.old.setting declaration.now then Some declaration.now.name else repeated_name (map (λ p. p.name) declaration.now.parameters))) (λ _. (taken.new.reading ≡ taken.old.reading ++ names_taken takes_reading (declaration.now ∷ [])) × (taken.new.setting ≡ taken.old.setting ++ names_taken takes_setting (declaration.now ∷ []))) result }
+    ensures refuses { Refuses (option_map DuplicateName (repeated_by taken.old.reading taken.old.setting declaration.now))
+        (λ _. (taken.new.reading ≡ with_taken takes_reading declaration.now taken.old.reading)
+        × (taken.new.setting ≡ with_taken takes_setting declaration.now taken.old.setting)) result }
 {
     if !taken.take(alloc, declaration)? {
         return Err(CheckError::DuplicateName(WrittenName::copy(alloc, declaration.name)?));
@@ -141,7 +146,8 @@ fn check_inner_names(alloc: Global, item: &Item) -> Result<(), CheckError>
 
 /// Adds an item's name to those of the items before it.
 fn admit(alloc: Global, seen: &mut Names, item: &Item) -> Result<(), CheckError>
-    ensures refuses { Refuses (option_map DuplicateName (if list_any (same (folded_name (name_of item.now))) seen.old then Some (name_of item.now) else inner_breach item.now)) (λ _. seen.new ≡ seen.old ++ folded_name (name_of item.now) ∷ []) result }
+    ensures refuses { Refuses (option_map DuplicateName (repeated_in seen.old item.now))
+        (λ _. seen.new ≡ seen.old ++ folded_name (name_of item.now) ∷ []) result }
 {
     let name = item_name(item);
     if !seen.insert(folded(alloc, name)?)? {
@@ -152,7 +158,7 @@ fn admit(alloc: Global, seen: &mut Names, item: &Item) -> Result<(), CheckError>
 
 /// The items' names, which differ, as do the names inside each.
 pub(crate) fn check_names(alloc: Global, items: &[Item]) -> Result<Names, CheckError>
-    ensures { Refuses (option_map DuplicateName (name_breach items.now)) (λ names. names ≡ map (λ i. folded_name (name_of i)) items.now) result }
+    ensures { Refuses (option_map DuplicateName (name_breach items.now)) (λ names. names ≡ folded_names items.now) result }
 {
     let mut seen = Names::new(alloc);
     for item in items {
@@ -203,7 +209,7 @@ fn is_interface(
     items: &[Item],
     name: &Name,
 ) -> Result<bool, AllocError>
-    requires { names.now ≡ map (λ i. folded_name (name_of i)) items.now }
+    requires { names.now ≡ folded_names items.now }
     ensures { IfOk result (λ b. b ≡ is_some (interface_named items.now name.now)) }
 {
     let Some(place) = names.place(folded(alloc, name)?.as_slice()) else {
@@ -218,7 +224,7 @@ fn check_entries(
     items: &[Item],
     entries: &[Entry],
 ) -> Result<(), CheckError>
-    requires { names.now ≡ map (λ i. folded_name (name_of i)) items.now }
+    requires { names.now ≡ folded_names items.now }
     ensures { Refuses (option_map UnknownInterface (first_answer (unknown_name items.now) entries.now)) (λ _. Unit {0}) result }
 {
     for entry in entries {
@@ -230,7 +236,7 @@ fn check_entries(
 }
 
 fn check_item(alloc: Global, names: &Names, items: &[Item], item: &Item) -> Result<(), CheckError>
-    requires { names.now ≡ map (λ i. folded_name (name_of i)) items.now }
+    requires { names.now ≡ folded_names items.now }
     ensures { Refuses (option_map UnknownInterface (entry_breach items.now item.now)) (λ _. Unit {0}) result }
 {
     match item {
@@ -245,7 +251,7 @@ pub(crate) fn check_interfaces(
     names: &Names,
     items: &[Item],
 ) -> Result<(), CheckError>
-    requires { names.now ≡ map (λ i. folded_name (name_of i)) items.now }
+    requires { names.now ≡ folded_names items.now }
     ensures { Refuses (option_map UnknownInterface (interface_breach items.now)) (λ _. Unit {0}) result }
 {
     for item in items {
@@ -303,7 +309,8 @@ pub(crate) struct Checked {
 
 /// Names, DISPIDs and GUIDs.
 fn check_keys(alloc: Global, tree: &Tree) -> Result<Checked, CheckError>
-    ensures { Refuses (key_breaches tree.now) (λ c. (c.names ≡ map (λ i. folded_name (name_of i)) tree.now.items) × (c.guids ≡ map guid_of tree.now.items)) result }
+    ensures { Refuses (key_breaches tree.now)
+        (λ c. (c.names ≡ folded_names tree.now.items) × (c.guids ≡ map guid_of tree.now.items)) result }
 {
     let items = items_of(tree);
     let names = check_names(alloc, items)?;
@@ -314,7 +321,8 @@ fn check_keys(alloc: Global, tree: &Tree) -> Result<Checked, CheckError>
 
 /// All checks of a tree but that of its text's length, in their order.
 pub(crate) fn check_tree(alloc: Global, tree: &Tree) -> Result<Checked, CheckError>
-    ensures { Refuses (tree_breach tree.now) (λ c. (c.names ≡ map (λ i. folded_name (name_of i)) tree.now.items) × (c.guids ≡ map guid_of tree.now.items)) result }
+    ensures { Refuses (tree_breach tree.now)
+        (λ c. (c.names ≡ folded_names tree.now.items) × (c.guids ≡ map guid_of tree.now.items)) result }
 {
     let checked = check_keys(alloc, tree)?;
     let items = items_of(tree);

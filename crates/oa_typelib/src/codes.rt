@@ -1,4 +1,4 @@
-// The codes of replies with the library's refusals.
+//! The codes of replies with the library's refusals.
 ghost use Rattle.std.specs.Prelude.{◌≡◌};
 ghost use Rattle.oa_typelib.specs.MemberCodes.{code_of, describe_code};
 

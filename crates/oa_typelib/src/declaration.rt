@@ -1,6 +1,7 @@
-// What an interface declares.
-ghost use Rattle.std.specs.Prelude.{◌≡◌, ◌++◌, IfOk, OnOk, map, option_copied, slice_get};
-ghost use Rattle.oa_typelib.specs.Declarations.{kind_of_property, kind_of_method, of_property, of_method, declarations, is_put, is_form, own_parameters, new_value, type_of_value};
+//! What an interface declares.
+ghost use Rattle.std.specs.Prelude.{◌≡◌, ◌++◌, IfOk, OnOk, map, option_copied};
+ghost use Rattle.oa_typelib.specs.Declarations.{kind_of_property, kind_of_method, of_property, of_method, declarations};
+ghost use Rattle.oa_typelib.specs.Declarations.{is_put, is_form, own_parameters, new_value, type_of_value};
 ghost use Rattle.oa_typelib.specs.Defaults.{default_value};
 ghost use Rattle.oa_typelib.specs.Indexes.{defaults_of};
 

@@ -1,6 +1,7 @@
-// The defaults of parameters.
+//! The defaults of parameters.
 ghost use Rattle.std.specs.Prelude.{◌≡◌, ◌*ℤ◌, pos, IfOk, is_some};
-ghost use Rattle.oa_typelib.specs.Defaults.{natural, whole, decimal_from, number_as, wide, holds_texts, text_as, holds_truths, truth_as, default_of, default_value};
+ghost use Rattle.oa_typelib.specs.Defaults.{natural, whole, decimal_from, number_as, wide, holds_texts};
+ghost use Rattle.oa_typelib.specs.Defaults.{text_as, holds_truths, default_of, default_value};
 
 use oa_bstr::{Bstr, BstrError};
 use oa_idl::{Characters, Literal, Parameter};

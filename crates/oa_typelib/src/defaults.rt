@@ -1,10 +1,9 @@
-// The default interfaces of coclasses.
+//! The default interfaces of coclasses.
 ghost use Rattle.std.specs.Prelude.{◌≡◌, IfOk, map, find, position, option_copied};
 ghost use Rattle.std.specs.List.{list_any};
-ghost use Rattle.std.specs.Option.{option_and_then};
 ghost use Rattle.oa_model.specs.Folding.{folded_name};
 ghost use Rattle.oa_typelib.specs.Libraries.{same, marked_entries, marked_item, marked};
-ghost use Rattle.oa_typelib.specs.Indexes.{default_in};
+ghost use Rattle.oa_typelib.specs.Indexes.{default_among, default_in};
 
 use crate::names::folded;
 use crate::sets::Names;
@@ -76,7 +75,7 @@ fn place_named(alloc: Global, names: &Names, name: &Name) -> Result<Option<usize
 }
 
 fn entry_place(alloc: Global, names: &Names, entries: &[Entry]) -> Result<Option<usize>, AllocError>
-    ensures { IfOk result (λ place. place ≡ option_and_then (λ e. position (same (folded_name e.interface)) names.now) (find (λ e. e.is_default) entries.now)) }
+    ensures { IfOk result (λ place. place ≡ default_among names.now entries.now) }
 {
     match default_entry(entries) {
         Some(entry) => place_named(alloc, names, &entry.interface),

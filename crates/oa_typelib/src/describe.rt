@@ -1,11 +1,12 @@
-// Descriptions of interfaces and coclasses.
-ghost use Rattle.std.specs.Prelude.{◌≡◌, ◌++◌, if◌then◌else◌, Some, None, is_some, IfOk, OnOk, map, length, option_copied, slice_get};
+//! Descriptions of interfaces and coclasses.
+ghost use Rattle.std.specs.Prelude.{◌≡◌, ◌++◌, if◌then◌else◌, Some, None, IfOk, OnOk, map, length, option_copied, slice_get};
 ghost use Rattle.std.specs.List.{filter, filter_map};
 ghost use Rattle.std.specs.Option.{option_and_then};
 ghost use Rattle.oa_typelib.specs.Declarations.{declarations};
 ghost use Rattle.oa_typelib.specs.Defaults.{default_value};
 ghost use Rattle.oa_typelib.specs.Indexes.{class_in, entry_in, is_put_or_not};
-ghost use Rattle.oa_typelib.specs.Descriptions.{classes_of, entry_at, interface_description, interfaces_of, member_description, members_described, parameter_description, put_last};
+ghost use Rattle.oa_typelib.specs.Descriptions.{classes_of, entry_at, interface_description, interfaces_of};
+ghost use Rattle.oa_typelib.specs.Descriptions.{member_description, members_described, parameter_description, put_last};
 ghost use Rattle.oa_typelib.specs.Libraries.{as_interface};
 
 use crate::agreement::is_optional;
@@ -89,7 +90,8 @@ fn is_put_or_not(kind: DeclarationKind, puts: bool) -> bool
 
 /// The declaration at a place where it is a put, or where it is not.
 fn form_at<'a>(interface: &Dispinterface<'a>, place: usize, puts: bool) -> Option<Form<'a>>
-    ensures { result ≡ option_and_then (λ d. if is_put_or_not puts d.kind then Some d else None) (slice_get (declarations interface.now) place) }
+    ensures { result ≡ option_and_then (λ d. if is_put_or_not puts d.kind then Some d else None)
+        (slice_get (declarations interface.now) place) }
 {
     let form = interface.form(place)?;
     if is_put_or_not(form.declaration.kind, puts) {
@@ -107,7 +109,8 @@ fn add_forms<'a>(
     places: &[usize],
     puts: bool,
 ) -> Result<(), AllocError>
-    ensures { OnOk result (members.new.items ≡ members.old.items ++ map member_description (filter (λ d. is_put_or_not puts d.kind) (filter_map (slice_get (declarations interface.now)) places.now))) }
+    ensures { OnOk result (members.new.items ≡ members.old.items ++ map member_description
+        (filter (λ d. is_put_or_not puts d.kind) (filter_map (slice_get (declarations interface.now)) places.now))) }
 {
     for place in places {
         if let Some(form) = form_at(interface, *place, puts) {
@@ -124,7 +127,8 @@ fn add_member<'a>(
     interface: &Dispinterface<'a>,
     places: &[usize],
 ) -> Result<(), AllocError>
-    ensures { OnOk result (members.new.items ≡ members.old.items ++ map member_description (put_last (filter_map (slice_get (declarations interface.now)) places.now))) }
+    ensures { OnOk result (members.new.items ≡ members.old.items ++ map member_description
+        (put_last (filter_map (slice_get (declarations interface.now)) places.now))) }
 {
     add_forms(alloc, members, interface, places, false)?;
     add_forms(alloc, members, interface, places, true)
@@ -213,7 +217,8 @@ pub(crate) fn class_description<'a>(
 
 /// The place of an interface among the items, by its index among the interfaces.
 pub(crate) fn nth_interface(items: &[Item], index: usize) -> Option<usize>
-    ensures { option_and_then (λ place. option_and_then as_interface (slice_get items.now place)) result ≡ slice_get (interfaces_of items.now) index }
+    ensures { option_and_then (λ place. option_and_then as_interface (slice_get items.now place)) result
+        ≡ slice_get (interfaces_of items.now) index }
 {
     let mut left = index;
     'items: for place in 0..items.len() {

@@ -1,4 +1,4 @@
-// Descriptions of interfaces and coclasses: their parts.
+//! Descriptions of interfaces and coclasses: their parts.
 ghost use Rattle.std.specs.Prelude.{◌≡◌};
 ghost use Rattle.oa_typelib.specs.declared.described.DescribeError.TheVariants.{Memory};
 
@@ -31,7 +31,13 @@ impl<'a> Model for DescribedParameter<'a> {
 
     ghost Value = { ParameterDescription };
 
-    ghost view = { λ p. record { value_type = p.value_type; is_in = p.is_in; is_optional = p.is_optional; name = p.name.now; default = option_copied p.default } };
+    ghost view = { λ p. record {
+      value_type = p.value_type;
+      is_in = p.is_in;
+      is_optional = p.is_optional;
+      name = p.name.now;
+      default = option_copied p.default;
+    } };
 }
 
 /// A declaration of an interface: a property of `properties:`, or a method, a get or a put of `methods:`.
@@ -54,7 +60,13 @@ impl<'a> Model for DescribedMember<'a> {
 
     ghost Value = { MemberDescription };
 
-    ghost view = { λ m. record { id = m.id; kind = m.kind; value_type = m.value_type; name = m.name.now; parameters = m.parameters.items } };
+    ghost view = { λ m. record {
+      id = m.id;
+      kind = m.kind;
+      value_type = m.value_type;
+      name = m.name.now;
+      parameters = m.parameters.items;
+    } };
 }
 
 /// An entry of a coclass.

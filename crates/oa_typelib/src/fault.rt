@@ -1,4 +1,4 @@
-// Why a tree is no library.
+//! Why a tree is no library.
 ghost use Rattle.std.specs.Prelude.{◌≡◌, IfOk};
 ghost use Rattle.oa_typelib.specs.declared.fault.CheckError.TheVariants.{Memory};
 

@@ -1,4 +1,4 @@
-// The declarations of a member.
+//! The declarations of a member.
 ghost use Rattle.std.specs.Prelude.{◌≡◌, is_some, map, slice_get};
 ghost use Rattle.std.specs.List.{filter_map};
 ghost use Rattle.oa_typelib.specs.Declarations.{declarations, own_parameters};
@@ -95,7 +95,7 @@ fn form_at<'a>(interface: &Dispinterface<'a>, places: &[usize], kind: Kind) -> O
     }
 }
 
-// Whether some declaration lets a call read a value, or set it. Looks at no more of a declaration than its kind.
+/// Whether some declaration lets a call read a value, or set it. Looks at no more of a declaration than its kind.
 fn any_lets(interface: &Dispinterface<'_>, places: &[usize], kind: Kind) -> bool
     ensures { result ≡ is_some (form_for kind (filter_map (slice_get (declarations interface.now)) places.now)) }
 {

@@ -1,18 +1,19 @@
 //! Laws over the definitions alone.
-ghost use Rattle.std.specs.Prelude.{◌≡◌, ◌↔◌, ◌∷◌, ℕ, suc, ℤ, List, Some, slice_get};
+ghost use Rattle.std.specs.Prelude.{◌≡◌, ℕ, Some, slice_get};
 ghost use Rattle.oa_idl.specs.Trees.{TreeValue};
 ghost use Rattle.oa_idl.specs.Values.{InterfaceValue};
 ghost use Rattle.oa_idl.specs.declared.items.Item.TheVariants.{Interface};
 ghost use Rattle.oa_typelib.specs.Checked.{IsChecked};
-ghost use Rattle.oa_typelib.specs.Names.{named_in};
-ghost use Rattle.oa_typelib.specs.Naming.{IsMember, IsParameter};
+ghost use Rattle.oa_typelib.specs.Naming.{NamesMembers, NamesParameters};
 
 /// In an interface of a library the first of the names that are asked has a DISPID exactly where it is that of a member, which has it.
 pub fn names_of_members()
-    ensures { (t : TreeValue) (place : ℕ) (i : InterfaceValue) → IsChecked t → slice_get t.items place ≡ Some (Interface i) → (name : List ℕ) (names : List (List ℕ)) (id : ℤ) → (slice_get (named_in i (name ∷ names)) 0 ≡ Some (Some id)) ↔ IsMember i name id }
+    ensures { (t : TreeValue) (place : ℕ) (i : InterfaceValue) → IsChecked t
+        → slice_get t.items place ≡ Some (Interface i) → NamesMembers i }
 {}
 
 /// Each other name has a DISPID exactly where it is that of a parameter of that member, whose place it is.
 pub fn names_of_parameters()
-    ensures { (t : TreeValue) (place : ℕ) (i : InterfaceValue) → IsChecked t → slice_get t.items place ≡ Some (Interface i) → (member : List ℕ) (names : List (List ℕ)) (n : ℕ) (name : List ℕ) (id : ℤ) → slice_get names n ≡ Some name → (slice_get (named_in i (member ∷ names)) (suc n) ≡ Some (Some id)) ↔ IsParameter i member name id }
+    ensures { (t : TreeValue) (place : ℕ) (i : InterfaceValue) → IsChecked t
+        → slice_get t.items place ≡ Some (Interface i) → NamesParameters i }
 {}

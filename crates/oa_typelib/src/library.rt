@@ -1,4 +1,4 @@
-// Libraries.
+//! Libraries.
 ghost use Rattle.std.specs.Prelude.{◌≡◌, true, List, ℕ, IfOk, IsSome, nat_le, length, map, position, option_copied, slice_get};
 ghost use Rattle.oa_idl.specs.Canonical.{canonical};
 ghost use Rattle.std.specs.Option.{option_and_then, option_map};
@@ -9,7 +9,8 @@ ghost use Rattle.oa_typelib.specs.Checked.{IsChecked, IsWhole};
 ghost use Rattle.uuid.specs.Parts.{is_nil_bytes};
 ghost use Rattle.oa_typelib.specs.Contents.{Describes};
 ghost use Rattle.oa_typelib.specs.Descriptions.{description_at, interfaces_of};
-ghost use Rattle.oa_typelib.specs.Libraries.{as_class, as_interface, same, guid_of, class_of, if_entered, interface_of, default_interface, selected_in, marked};
+ghost use Rattle.oa_typelib.specs.Libraries.{as_class, as_interface, same, guid_of, class_of, if_entered};
+ghost use Rattle.oa_typelib.specs.Libraries.{interface_of, default_interface, selected_in, marked};
 ghost use Rattle.oa_typelib.specs.Indexes.{default_in, entered_in, flag_at, folded_names, members_in};
 ghost use Rattle.oa_typelib.specs.IsLibrary.{IsLibrary};
 ghost use Rattle.oa_typelib.specs.Typed.{IsOfText};
@@ -28,7 +29,7 @@ use crate::sets::Guids;
 use oa_idl::laws::marked_is_read;
 use oa_idl::{Coclass, Item, Tree, print};
 use oa_model::MAX_LIBRARY_BYTES;
-use std::alloc::{AllocError, Global};
+use std::alloc::Global;
 use std::marker::Model;
 use uuid::Uuid;
 
@@ -58,7 +59,8 @@ impl Model for Library {
 
     ghost view = { λ l. l.tree };
 
-    ghost invariant = { λ l. IsIndexed l.tree l.guids l.index l.defaults.items l.text.items × IsTyped l.tree × IsTree l.text.items l.tree × IsChecked l.tree };
+    ghost invariant = { λ l. IsIndexed l.tree l.guids l.index l.defaults.items l.text.items
+        × IsTyped l.tree × IsTree l.text.items l.tree × IsChecked l.tree };
 }
 
 /// The library that a tree stands for, which is that of some text, as one from `parse` is. An Err names the first breach of the checks:
@@ -189,7 +191,9 @@ impl Library {
 
     /// The interface at a place where an entry of the coclass at a place names it.
     fn entered_at(&self, class: usize, place: usize) -> Option<Dispinterface<'_>>
-        ensures { result ≡ option_and_then (λ c. option_and_then (if_entered c) (option_and_then as_interface (slice_get self.now.items place))) (option_and_then as_class (slice_get self.now.items class)) }
+        ensures { result ≡ option_and_then
+            (λ c. option_and_then (if_entered c) (option_and_then as_interface (slice_get self.now.items place)))
+            (option_and_then as_class (slice_get self.now.items class)) }
     {
         let found = self.interface_at(place)?;
         if self.enters(class, place) {
@@ -209,7 +213,8 @@ impl Library {
     /// The interface with a GUID where one of the entries of the coclass with a GUID names it. The zero GUID stands for no other interface
     /// than the one whose own GUID it is. None where there is no such coclass or interface.
     pub fn entered(&self, class: &Uuid, interface: &Uuid) -> Option<Dispinterface<'_>>
-        ensures { result ≡ option_and_then (λ c. option_and_then (if_entered c) (interface_of self.now interface.now)) (class_of self.now class.now) }
+        ensures { result ≡ option_and_then (λ c. option_and_then (if_entered c) (interface_of self.now interface.now))
+            (class_of self.now class.now) }
     {
         let class = self.place(class)?;
         let place = self.place(interface)?;
@@ -217,8 +222,8 @@ impl Library {
     }
 
     /// The interface that a GUID selects for the coclass with a GUID. The zero GUID stands for the coclass's default interface, which each
-    /// coclass has; an interface whose own GUID is zero is reached only so. Any other stands for the interface that has it, where one of the
-    /// coclass's entries names that interface. None where there is no such coclass or interface.
+    /// coclass has; an interface whose own GUID is zero is reached only so. Any other stands for the interface that has it, where one of
+    /// the coclass's entries names that interface. None where there is no such coclass or interface.
     pub fn select(&self, class: &Uuid, interface: &Uuid) -> Option<Dispinterface<'_>>
         ensures selected { result ≡ selected_in self.now class.now interface.now }
         ensures default { is_nil_bytes interface.now ≡ true → IsSome (class_of self.now class.now) → IsSome result }

@@ -1,4 +1,4 @@
-// Members as a call sees them.
+//! Members as a call sees them.
 ghost use Rattle.std.specs.Prelude.{◌≡◌, map, option_copied, slice_get};
 ghost use Rattle.std.specs.Option.{option_and_then, option_map};
 ghost use Rattle.oa_typelib.specs.Declarations.{type_of_value};
@@ -38,7 +38,14 @@ impl<'a> Model for Member<'a> {
 
     ghost Value = { MemberValue };
 
-    ghost view = { λ m. record { id = m.id; name = m.name.now; value_type = m.value_type; parameters = m.parameters.now; has_get = m.has_get; has_put = m.has_put } };
+    ghost view = { λ m. record {
+      id = m.id;
+      name = m.name.now;
+      value_type = m.value_type;
+      parameters = m.parameters.now;
+      has_get = m.has_get;
+      has_put = m.has_put;
+    } };
 
     ghost invariant = { λ m. m.defaults.now ≡ map default_value m.parameters.now };
 }
@@ -61,7 +68,7 @@ impl<'a> Member<'a> {
     }
 
     /// Whether it has the form.
-    pub fn has(&self, kind: Kind) -> bool
+    pub(crate) fn has(&self, kind: Kind) -> bool
         ensures { result ≡ has_form self.now kind }
     {
         match kind {

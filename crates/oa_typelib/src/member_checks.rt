@@ -1,4 +1,4 @@
-// The checks of an interface's declarations that are made on one after another.
+//! The checks of an interface's declarations that are made on one after another.
 ghost use Rattle.std.specs.Prelude.{◌≡◌, [], IfOk, map, find, option_copied};
 ghost use Rattle.std.specs.Option.{option_map, option_and_then};
 ghost use Rattle.oa_model.specs.Folding.{folded_name};

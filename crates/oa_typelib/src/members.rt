@@ -1,4 +1,4 @@
-// The members of an interface: its declarations by their names and by their DISPIDs.
+//! The members of an interface: its declarations by their names and by their DISPIDs.
 ghost use Rattle.std.specs.Prelude.{◌≡◌, [], true, List, ℕ, IfOk, IfSome, OnOk, map, position, slice_get, is_some, option_copied};
 ghost use Rattle.std.specs.List.{filter, position_or_len};
 ghost use Rattle.std.specs.Option.{option_map};
@@ -50,7 +50,8 @@ impl NameGroups {
     /// Adds a place to the group of a name, or to a new one behind all.
     fn add(&mut self, alloc: Global, name: Vec<u16>, place: usize) -> Result<(), AllocError>
         ensures keys { OnOk result (self.new.keys ≡ insert_key same self.old.keys name.items) }
-        ensures places { OnOk result (self.new.places ≡ with_place (position_or_len (same name.items) self.old.keys) place self.old.places) }
+        ensures places { OnOk result
+            (self.new.places ≡ with_place (position_or_len (same name.items) self.old.keys) place self.old.places) }
     {
         match self.groups.get_mut(&name) {
             Some(places) => places.push(place)?,

@@ -1,4 +1,4 @@
-// DISPIDs by names.
+//! DISPIDs by names.
 ghost use Rattle.std.specs.Prelude.{◌≡◌, ◌++◌, IfOk, OnOk, is_some, map, position, None, Some};
 ghost use Rattle.std.specs.List.{list_all};
 ghost use Rattle.oa_model.specs.Folding.{folded, folded_name};

@@ -1,4 +1,4 @@
-// Items by their places.
+//! Items by their places.
 ghost use Rattle.std.specs.Prelude.{◌≡◌, option_copied, slice_get};
 ghost use Rattle.std.specs.Option.{option_and_then};
 ghost use Rattle.oa_typelib.specs.Libraries.{as_interface, as_class};

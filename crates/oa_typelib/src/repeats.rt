@@ -1,4 +1,4 @@
-// Lists whose keys have to differ.
+//! Lists whose keys have to differ.
 ghost use Rattle.std.specs.Prelude.{◌≡◌, [], IfOk};
 ghost use Rattle.oa_typelib.specs.Keys.{Tells, repeat_of};
 ghost use Rattle.oa_typelib.specs.Repeats.{places_before};

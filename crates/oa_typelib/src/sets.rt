@@ -1,5 +1,5 @@
-// Names and GUIDs by their places in a list.
-ghost use Rattle.std.specs.Prelude.{◌≡◌, ◌++◌, ◌∷◌, [], not, OnOk, IfOk, position};
+//! Names and GUIDs by their places in a list.
+ghost use Rattle.std.specs.Prelude.{◌≡◌, [], not, OnOk, IfOk, position};
 ghost use Rattle.std.specs.List.{list_any};
 ghost use Rattle.indexmap.specs.IndexSet.{insert_key};
 ghost use Rattle.oa_typelib.specs.Libraries.{same};

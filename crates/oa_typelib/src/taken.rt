@@ -1,6 +1,6 @@
-// The names that the declarations of an interface take.
-ghost use Rattle.std.specs.Prelude.{◌≡◌, ◌++◌, ◌∷◌, [], true, not, IfOk};
-ghost use Rattle.oa_typelib.specs.Taken.{takes_reading, takes_setting, names_taken, is_taken};
+//! The names that the declarations of an interface take.
+ghost use Rattle.std.specs.Prelude.{◌≡◌, [], true, not, IfOk};
+ghost use Rattle.oa_typelib.specs.Taken.{is_taken, takes_reading, takes_setting, with_taken};
 
 use crate::declaration::{Declaration, DeclarationKind};
 use crate::names::folded;
@@ -44,8 +44,8 @@ impl Taken {
         declaration: &Declaration<'_>,
     ) -> Result<bool, AllocError>
         ensures free { IfOk result (λ free. free ≡ not (is_taken self.old.reading self.old.setting declaration.now)) }
-        ensures reading { IfOk result (λ free. free ≡ true → self.new.reading ≡ self.old.reading ++ names_taken takes_reading (declaration.now ∷ [])) }
-        ensures setting { IfOk result (λ free. free ≡ true → self.new.setting ≡ self.old.setting ++ names_taken takes_setting (declaration.now ∷ [])) }
+        ensures reading { IfOk result (λ free. free ≡ true → self.new.reading ≡ with_taken takes_reading declaration.now self.old.reading) }
+        ensures setting { IfOk result (λ free. free ≡ true → self.new.setting ≡ with_taken takes_setting declaration.now self.old.setting) }
     {
         if takes_reading(declaration.kind)
             && !self.reading.insert(folded(alloc, declaration.name)?)?

@@ -1,4 +1,4 @@
-// What takes memory, with enough of it: checks and their refusals, look-ups of names, descriptions with defaults.
+//! What takes memory, with enough of it: checks and their refusals, look-ups of names, descriptions with defaults.
 use crate::{Content, Library, check};
 use oa_idl::parse;
 use std::alloc::Global;

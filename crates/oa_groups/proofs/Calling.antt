@@ -1,13 +1,12 @@
 -- How a session goes on.
-use Rattle.std.proofs.Common.{rules, ◌≡◌, inl, inr, ⊎_elim, ℕ, suc, ◌+◌, ◌<◌, ◌≤◌, nat_le, if◌then◌else◌, Some, slice_get, drop, Bool, true, false, List, [], ◌∷◌, ◌++◌, length, refl, sym, ◌∙◌, ap, subst, arith, length-append, append_assoc}
+use Rattle.std.proofs.Common.{rules, ◌≡◌, inl, inr, ⊎_elim, ℕ, suc, ◌+◌, ◌<◌, ◌≤◌, nat_le, if◌then◌else◌, Some, slice_get, drop, Bool, true}
+use Rattle.std.proofs.Common.{false, List, [], ◌∷◌, ◌++◌, length, refl, sym, ◌∙◌, ap, subst, arith, length-append, append_assoc}
 use Rattle.std.proofs.lemmas.List.{append-nil}
 use Rattle.oa_disk.specs.declared.disk.Disk.{Ghosts}
-use Rattle.oa_disk.specs.Disk.{LeavesOnly}
 use Rattle.oa_store.specs.Stores.{IsStore}
 use Rattle.oa_store.specs.declared.store.Store.{Store}
-use Rattle.oa_keeper.specs.Kept.{AllHold}
 use Rattle.oa_groups.specs.Groups.{joined}
-use Rattle.oa_groups.specs.History.{IsStopped, Session}
+use Rattle.oa_groups.specs.Laws.{OpeningBegins, StopIsLink}
 use Rattle.oa_groups.specs.Runs.{IsAfter, IsRun, Run}
 use Rattle.oa_groups.specs.Served.{IsServed}
 use Rattle.oa_groups.specs.Sessions.{by_then, Call, Calls, IsCalled, IsSession, Sitting}
@@ -84,8 +83,7 @@ module _ {S R : Type 0} (t : Turns S R) where
   )
 
   -- A session begins with an opening, at each moment of which the images are those of before.
-  pub session_opened : {D : Type 0} {g : Ghosts D} (start : D) (now : Store D g) (library : List ℕ) (first : S) → now.library.items ≡ library
-      → LeavesOnly g.moment g.image_since start now.disk (λ c. IsStore c library (t.held first)) → AllHold now (t.held first) → Sitting t start now library first first []
+  pub session_opened : {D : Type 0} {g : Ghosts D} → OpeningBegins t g
   session_opened {D} {g} start now library first same calls all = record {
     session = record {
       groups = [];
@@ -157,9 +155,7 @@ module _ {S R : Type 0} (t : Turns S R) where
       by (m0 ∷ rest) size below = come_all m rest (λ j k is. below (suc j) k is) ∙ omega (arith, size)
 
   -- as a link of the history of a store
-  pub session_left : {D : Type 0} (g : Ghosts D) (old new : D) (library : List ℕ) (first : S) (calls : List (Call R)) (last : S) (session : IsSession t g.moment g.image_since old new library first calls last) (m : ℕ) (c : List ℕ)
-      → g.moment old ≤ m → ((k : ℕ) → k ≤ m → g.image_since new k c)
-      → (link : Session R) × (link.calls ≡ calls) × (link.groups ≡ session.groups) × IsStopped t g library first link (g.contents old) c × IsAfter t link.count library first link.groups c
+  pub session_left : {D : Type 0} (g : Ghosts D) → StopIsLink t g
   session_left g old new library first calls last session m c later since = (
     record { calls = calls; groups = session.groups; count = by_then m (drop 1 session.moments) },
     refl,

@@ -1,5 +1,6 @@
 -- Lists of requests, their events and their groups.
-use Rattle.std.proofs.Common.{rules, ◌≡◌, ◌⊎◌, inl, inr, ℕ, ◌<◌, Bool, true, false, if◌then◌else◌, List, [], ◌∷◌, ◌++◌, length, Result, Ok, Err, refl, sym, ◌∙◌, ap, subst, arith, append_assoc}
+use Rattle.std.proofs.Common.{◌≡◌, ◌⊎◌, inl, inr, ℕ, ◌<◌, Bool, true, false, if◌then◌else◌, List, [], ◌∷◌, ◌++◌, length, Result, Ok}
+use Rattle.std.proofs.Common.{Err, refl, sym, ◌∙◌, ap, subst, arith, append_assoc}
 use Rattle.std.proofs.lemmas.List.{append-nil}
 use Rattle.std.specs.List.{AllByRecursion, flat_map}
 use Rattle.oa_image.specs.Events.{event}
@@ -9,7 +10,7 @@ use Rattle.oa_table.specs.Tables.{TableValue}
 use Rattle.oa_table.specs.declared.event.Event.{Event}
 use Rattle.oa_table.specs.declared.fault.TableFault.{TableFault}
 use Rattle.oa_groups.specs.Going.{IsCut, IsGroup, IsEnd}
-use Rattle.oa_groups.specs.Groups.{events_in, fills, is_full, rest_of, cut, groups_of, joined}
+use Rattle.oa_groups.specs.Groups.{events_in, is_full, rest_of, cut, groups_of, joined}
 use Rattle.oa_groups.specs.Runs.{Run}
 use Rattle.oa_groups.specs.Simple.{no_event}
 use Rattle.oa_groups.specs.Turns.{Entry, Turns}
@@ -121,11 +122,6 @@ module _ {R : Type 0} where
 
   pub ends_after : (size : ℕ) (groups : List (List (Entry R))) (held : List (Entry R)) → IsGroup size groups held → IsEnd size (groups ++ held ∷ []) []
   ends_after size groups held is = ap (λ (l : List (Entry R)). groups_of size l) (append-nil (joined (groups ++ held ∷ [])) ∙ joined_push groups held) ∙ is ∙ sym (append-nil (groups ++ held ∷ []))
-
--- a group that is not full has few bytes
-pub small_bytes : (size count bytes : ℕ) → fills size count bytes ≡ false → bytes < 524288
-unfolding fills
-small_bytes size count bytes small = search (small, rules)
 
 pub either : (b : Bool) → (b ≡ false) ⊎ (b ≡ true)
 either false = inl refl

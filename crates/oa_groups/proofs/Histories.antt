@@ -4,6 +4,7 @@ use Rattle.oa_disk.specs.declared.disk.Disk.{Ghosts}
 use Rattle.oa_store.specs.Stores.{IsStore}
 use Rattle.oa_groups.specs.Groups.{joined}
 use Rattle.oa_groups.specs.History.{IsStopped, Session, Keeps, KeepsEach, RunEach, Sessions, accepted, accepted_each}
+use Rattle.oa_groups.specs.Laws.{HistoryKeepsAnswered, OthersAreRun}
 use Rattle.oa_groups.specs.Runs.{IsAfter, Run}
 use Rattle.oa_groups.specs.Sessions.{by_then}
 use Rattle.oa_groups.specs.Turns.{Entry, Turns}
@@ -11,7 +12,7 @@ use Rattle.oa_groups.proofs.Calling.{session_stopped}
 
 module _ {S R : Type 0} (t : Turns S R) where
   -- A request that was not done leaves no trace: the others alone are a run too, with the same replies.
-  pub no_trace : (old : S) (entries : List (Entry R)) (new : S) → Run t old entries new → Run t old (accepted t entries) new
+  pub no_trace : OthersAreRun t
   no_trace old [] new run = run
   no_trace old (asked ∷ entries) new run = by_cases (t.is_done asked.reply) refl (no_trace run.0 entries new run.2)
     where
@@ -48,7 +49,6 @@ module _ {S R : Type 0} (t : Turns S R) where
         )
 
     -- Wherever sessions are stopped, each opened on what the stop of the one before has left.
-    pub headline : (library : List ℕ) (state : S) (old : List ℕ) (sessions : List (Session R)) (new : List ℕ) → Sessions t g library state old sessions new → IsStore old library (t.held state)
-        → (kept : List (List (Entry R))) × (last : S) × KeepsEach sessions kept × RunEach t state kept last × RunEach t state (accepted_each t kept) last × IsStore new library (t.held last)
+    pub headline : HistoryKeepsAnswered t g
     headline library state old sessions new all is =
         let runs = runs_each library state old sessions new all is in (runs.0, runs.1, runs.2, runs.3, each_no_trace state runs.0 runs.1 runs.3, runs.4)

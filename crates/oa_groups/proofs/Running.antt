@@ -1,5 +1,6 @@
 -- The moments of a run of groups.
-use Rattle.std.proofs.Common.{◌≡◌, ◌⊎◌, inl, inr, ⊎_elim, ℕ, zero, suc, ◌+◌, ◌<◌, ◌≤◌, List, [], ◌∷◌, ◌++◌, length, Some, slice_get, refl, sym, ◌∙◌, ap, subst, arith, length-append, append_assoc}
+use Rattle.std.proofs.Common.{◌≡◌, ◌⊎◌, inl, inr, ⊎_elim, ℕ, zero, suc, ◌+◌, ◌<◌, ◌≤◌, List, [], ◌∷◌, ◌++◌, length, Some, slice_get, refl}
+use Rattle.std.proofs.Common.{sym, ◌∙◌, ap, subst, arith, length-append, append_assoc}
 use Rattle.std.proofs.lemmas.List.{append-nil}
 use Rattle.oa_disk.specs.Disk.{LeavesOnly}
 use Rattle.oa_store.specs.Stores.{IsStore}
@@ -47,9 +48,6 @@ rises_join from (x ∷ xs) y ys rises below le more = (rises.0, rises_join x xs 
 rises_lower : (from lower : ℕ) (moments : List ℕ) → lower ≤ from → Rises from moments → Rises lower moments
 rises_lower from lower [] le rises = rises
 rises_lower from lower (m ∷ moments) le rises = ((omega (arith, le, rises.0)), rises.1)
-
-some_same : (a b : ℕ) → Some a ≡ Some b → b ≡ a
-some_same a b e = cc
 
 module _ {S R : Type 0} (t : Turns S R) where
   -- the same of more groups
@@ -188,38 +186,3 @@ module _ {S R : Type 0} (t : Turns S R) where
         early : (j k : ℕ) → slice_get moments j ≡ Some k → (c : List ℕ) → image_since mid k c ⊎ IsAfter t 0 library state more c → IsAfter t j library first (groups ++ more) c
         early j k there c (inl past) = after_more j library first groups more c (run.images j k there c past)
         early j k there c (inr now) = after_fewer (length groups + 0) j library first (groups ++ more) c (omega (arith, get_below moments j k there, run.one_each)) (after_behind 0 library first groups state more c stands now)
-
-  -- calls that a session begins with, before it has a state
-  pub run_behind : {D : Type 0} (moment : D → ℕ) (image_since : D → ℕ → List ℕ → Type 0) (library : List ℕ) (first : S) (start mid new : D) (groups : List (List (Entry R))) (count : ℕ) (moments : List ℕ) (P : List ℕ → Type 0)
-      → LeavesOnly moment image_since start mid P → ((c : List ℕ) → P c → IsAfter t 0 library first groups c) → IsRun t moment image_since mid new library first groups count moments
-      → (x : List ℕ) × IsRun t moment image_since start new library first groups count x
-  run_behind moment image_since library first start mid new groups count [] P calls has run = absurd (none_there run.start)
-    where
-      none_there : slice_get [] 0 ≡ Some (moment mid) → ⊥
-      none_there e = absurd (cc)
-  run_behind moment image_since library first start mid new groups count (m ∷ moments) P calls has run = (
-    moment start ∷ moments,
-    record {
-      start = refl;
-      rises = ((omega arith), rises_lower m (moment start) moments (omega (arith, calls.later, run.rises.0)) run.rises.1);
-      one_each = run.one_each;
-      past = past_each;
-      images = images_each;
-      before = λ m c le since. ⊎_elim (λ past. ⊎_elim (λ older. inl older) (λ now. inr (has c now)) (calls.before m c le past)) (λ now. inr now) (run.before m c (omega (arith, le, calls.later)) since);
-    },
-  )
-    where
-      past_each : (j k : ℕ) → slice_get (moment start ∷ moments) j ≡ Some k → k ≤ moment new
-      past_each zero k is = omega (arith, some_same (moment start) k is, calls.later, run.past 0 _ run.start)
-      past_each (suc j) k is = run.past (suc j) k is
-
-      at_first : (c : List ℕ) → image_since new (moment start) c → IsAfter t 0 library first groups c
-      at_first c since = ⊎_elim (λ past. has c (calls.each c past)) (λ now. now) (run.before (moment start) c calls.later since)
-
-      images_each : (j k : ℕ) → slice_get (moment start ∷ moments) j ≡ Some k → (c : List ℕ) → image_since new k c → IsAfter t j library first groups c
-      images_each zero k is c since = at_first c (subst (λ (m : ℕ). image_since new m c) (some_same (moment start) k is) since)
-      images_each (suc j) k is c since = run.images (suc j) k is c since
-
-  -- of whatever comes, nothing stands yet
-  pub nothing_yet : (library : List ℕ) (first : S) (groups : List (List (Entry R))) (c : List ℕ) → IsStore c library (t.held first) → IsAfter t 0 library first groups c
-  nothing_yet library first groups c holds = record { done = []; later = groups; groups_are = refl; enough = omega arith; state = first; run = refl; holds = holds }

@@ -1,5 +1,6 @@
 -- How a server at work goes on.
-use Rattle.std.proofs.Common.{◌≡◌, ◌≢◌, ◌⊎◌, inl, inr, ℕ, ◌+◌, ◌-◌, ◌^◌, ◌<◌, Bool, true, false, true≢false, IsTrue, List, [], ◌∷◌, ◌++◌, length, map, refl, sym, ◌∙◌, ap, subst, arith, length-append, append_assoc}
+use Rattle.std.proofs.Common.{◌≡◌, ◌≢◌, ◌⊎◌, inl, inr, ℕ, ◌+◌, ◌-◌, ◌^◌, ◌<◌, Bool, true, false, true≢false, IsTrue, List, [], ◌∷◌, ◌++◌}
+use Rattle.std.proofs.Common.{length, map, refl, sym, ◌∙◌, ap, subst, arith, length-append, append_assoc}
 use Rattle.std.proofs.lemmas.List.{append-nil, map-append, length-map}
 use Rattle.oa_disk.specs.declared.disk.Disk.{Ghosts}
 use Rattle.oa_journal.specs.Replays.{Replays}
@@ -14,7 +15,8 @@ use Rattle.oa_groups.specs.Groups.{IsWhole, events_in, fills, groups_of, is_full
 use Rattle.oa_groups.specs.Runs.{AllQuiet, IsAfter, IsRun, Run}
 use Rattle.oa_groups.specs.Served.{Goes, IsServed}
 use Rattle.oa_groups.specs.Turns.{Entry, Turns, body_of, entry, reply_of}
-use Rattle.oa_groups.proofs.Entries.{cut_ends, cut_holds, cut_last, cut_one, either, ends_after, events_push, full_group, group_ends, joined_push, run_append, run_replays}
+use Rattle.oa_groups.proofs.Entries.{cut_ends, cut_holds, cut_last, cut_one, either, ends_after, events_push, full_group, group_ends}
+use Rattle.oa_groups.proofs.Entries.{joined_push, run_append, run_replays}
 use Rattle.oa_groups.proofs.Running.{after_all, after_fewer, after_more, run_more, run_on, run_started}
 
 -- no call of the device

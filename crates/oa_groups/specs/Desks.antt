@@ -20,6 +20,29 @@ pub record Desk (S R D : Type 0) (g : Ghosts D) : Type 0 where
 abbrev pub CallsFor : {D : Type 0} {g : Ghosts D} → Store D g → Store D g → List ℕ → Bool → Type 0
 CallsFor old new event starved = (new.disk ≡ old.disk) ⊎ ((0 < length event) ⊎ (starved ≡ true))
 
+-- Images hold this table: what is held of the state where no event is in hand, and while some are, what they held before the first.
+abbrev pub IsCommitted : List ℕ → TableValue → TableValue → Type 0
+IsCommitted events held committed = length events ≡ 0 → held ≡ committed
+
+-- A stop at any moment of a call leaves what was committed before it.
+abbrev pub LeavesCommitted : {D : Type 0} {g : Ghosts D} → List ℕ → TableValue → Store D g → Store D g → Type 0
+LeavesCommitted events held old new =
+    (committed : TableValue) → IsCommitted events held committed → AllHold old committed → LeavesTable old new committed
+
+-- After the call each image holds what was committed before it.
+abbrev pub KeepsCommitted : {D : Type 0} {g : Ghosts D} → List ℕ → TableValue → Store D g → Store D g → Type 0
+KeepsCommitted events held old new =
+    (committed : TableValue) → IsCommitted events held committed → AllHold old committed → AllHold new committed
+
+-- A stop at any moment of a commit leaves what was committed before it, or what is held of the state with the events in hand.
+abbrev pub LeavesGroupOrNot : {D : Type 0} {g : Ghosts D} → List ℕ → TableValue → Store D g → Store D g → Type 0
+LeavesGroupOrNot events held old new =
+    (committed : TableValue) → Replays events committed held → AllHold old committed → LeavesEither old new committed held
+
+-- After the commit each image holds the latter.
+abbrev pub CommitsGroup : {D : Type 0} {g : Ghosts D} → List ℕ → TableValue → Store D g → Store D g → Type 0
+CommitsGroup events held old new = (committed : TableValue) → Replays events committed held → AllHold old committed → AllHold new held
+
 -- One request is answered by a turn, and its reply and its event are held. The images go on to hold what they held, which is
 -- what is held of the state while no event is in hand.
 pub record IsHeld {S R D : Type 0} {g : Ghosts D} (t : Turns S R) (asked : Entry R) (old new : Desk S R D g) : Type 0 where
@@ -28,8 +51,8 @@ pub record IsHeld {S R D : Type 0} {g : Ghosts D} (t : Turns S R) (asked : Entry
   pub events : new.events ≡ old.events ++ asked.event
   pub going : new.store.stopped ≡ false
   pub calls : CallsFor old.store new.store asked.event (t.is_starved asked.reply)
-  pub any_moment : (committed : TableValue) → (length old.events ≡ 0 → t.held old.state ≡ committed) → AllHold old.store committed → LeavesTable old.store new.store committed
-  pub each : (committed : TableValue) → (length old.events ≡ 0 → t.held old.state ≡ committed) → AllHold old.store committed → AllHold new.store committed
+  pub any_moment : LeavesCommitted old.events (t.held old.state) old.store new.store
+  pub each : KeepsCommitted old.events (t.held old.state) old.store new.store
   pub goes : Goes old.store new.store
 
 -- The group in hand ends, and its replies are told: as they are, or, where it could not be committed, taken back.
@@ -38,12 +61,12 @@ pub record IsSettled {S R D : Type 0} {g : Ghosts D} (t : Turns S R) (told : Lis
   pub well : new.store.stopped ≡ false → (told ≡ old.pending) × (new.pending ≡ []) × (new.events ≡ [])
   pub broken : new.store.stopped ≡ true → told ≡ map t.withdrawn old.pending
   pub quiet : length old.events ≡ 0 → new.store.disk ≡ old.store.disk
-  pub any_moment : (committed : TableValue) → Replays old.events committed (t.held old.state) → AllHold old.store committed → LeavesEither old.store new.store committed (t.held old.state)
-  pub each : new.store.stopped ≡ false → (committed : TableValue) → Replays old.events committed (t.held old.state) → AllHold old.store committed → AllHold new.store (t.held old.state)
+  pub any_moment : LeavesGroupOrNot old.events (t.held old.state) old.store new.store
+  pub each : new.store.stopped ≡ false → CommitsGroup old.events (t.held old.state) old.store new.store
   pub goes : Goes old.store new.store
 
--- The checkpoint before a request's event failed: it is the first event of the group, which ends with this request, and is taken back. A turn
--- without an event that changes nothing that images hold stands for the request.
+-- The checkpoint before a request's event failed: it is the first event of the group, which ends with this request, and is taken
+-- back. A turn without an event that changes nothing that images hold stands for the request.
 pub record IsFailed {S R D : Type 0} {g : Ghosts D} (t : Turns S R) (body : List ℕ) (told : List R) (old new : Desk S R D g) : Type 0 where
   pub reply : R
   pub event : List ℕ
@@ -53,7 +76,7 @@ pub record IsFailed {S R D : Type 0} {g : Ghosts D} (t : Turns S R) (body : List
   pub same : t.held new.state ≡ t.held old.state
   pub told_are : told ≡ map t.withdrawn old.pending ++ t.faulted body ∷ []
   pub stopped : new.store.stopped ≡ true
-  pub any_moment : (committed : TableValue) → (length old.events ≡ 0 → t.held old.state ≡ committed) → AllHold old.store committed → LeavesTable old.store new.store committed
+  pub any_moment : LeavesCommitted old.events (t.held old.state) old.store new.store
   pub goes : Goes old.store new.store
 
 -- After a fault nothing is done.
@@ -65,7 +88,8 @@ pub record IsOver {S R D : Type 0} {g : Ghosts D} (old new : Desk S R D g) : Typ
   pub goes : Goes old.store new.store
 
 -- the request is held, and the group goes on
-pub record IsKeptBack {S R D : Type 0} {g : Ghosts D} (t : Turns S R) (size : ℕ) (body : List ℕ) (told : List R) (old new : Desk S R D g) : Type 0 where
+pub record IsKeptBack {S R D : Type 0} {g : Ghosts D} (t : Turns S R) (size : ℕ) (body : List ℕ) (told : List R)
+    (old new : Desk S R D g) : Type 0 where
   pub was : old.store.stopped ≡ false
   pub reply : R
   pub event : List ℕ
@@ -74,7 +98,8 @@ pub record IsKeptBack {S R D : Type 0} {g : Ghosts D} (t : Turns S R) (size : �
   pub nothing : told ≡ []
 
 -- it is held, and that fills the group, which ends
-pub record IsFilled {S R D : Type 0} {g : Ghosts D} (t : Turns S R) (size : ℕ) (body : List ℕ) (told : List R) (old new : Desk S R D g) : Type 0 where
+pub record IsFilled {S R D : Type 0} {g : Ghosts D} (t : Turns S R) (size : ℕ) (body : List ℕ) (told : List R)
+    (old new : Desk S R D g) : Type 0 where
   pub was : old.store.stopped ≡ false
   pub reply : R
   pub event : List ℕ
@@ -95,7 +120,9 @@ pub record IsTooLate {S R D : Type 0} {g : Ghosts D} (t : Turns S R) (body : Lis
 
 -- One request is taken, and these replies are handed out.
 abbrev pub IsTaken : {S R D : Type 0} {g : Ghosts D} → Turns S R → ℕ → List ℕ → List R → Desk S R D g → Desk S R D g → Type 0
-IsTaken t size body told old new = IsKeptBack t size body told old new ⊎ (IsFilled t size body told old new ⊎ (IsFaulted t body told old new ⊎ IsTooLate t body told old new))
+IsTaken t size body told old new =
+    IsKeptBack t size body told old new
+    ⊎ (IsFilled t size body told old new ⊎ (IsFaulted t body told old new ⊎ IsTooLate t body told old new))
 
 -- nothing was in hand
 pub record IsIdle {S R D : Type 0} {g : Ghosts D} (told : List R) (old new : Desk S R D g) : Type 0 where

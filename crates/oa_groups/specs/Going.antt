@@ -4,7 +4,7 @@ use Rattle.oa_disk.specs.declared.disk.Disk.{Ghosts}
 use Rattle.oa_keeper.specs.Kept.{AllHold}
 use Rattle.oa_groups.specs.Desks.{Desk}
 use Rattle.oa_groups.specs.Groups.{IsWhole, cut, events_in, groups_of, joined, rest_of}
-use Rattle.oa_groups.specs.Runs.{AllQuiet, Run, IsRun}
+use Rattle.oa_groups.specs.Runs.{AllQuiet, HasMoments, Run}
 use Rattle.oa_groups.specs.Served.{Goes}
 use Rattle.oa_groups.specs.Turns.{Entry, Turns, body_of, reply_of}
 
@@ -21,7 +21,8 @@ abbrev pub IsEnd : {R : Type 0} → ℕ → List (List (Entry R)) → List (Entr
 IsEnd size groups held = groups_of size (joined groups ++ held) ≡ groups ++ rest_of held
 
 -- Some whole groups were answered, and the requests in hand are held. C says how the requests are cut.
-pub record Going {S R D : Type 0} {g : Ghosts D} (t : Turns S R) (C : List (List (Entry R)) → List (Entry R) → Type 0) (start now : Desk S R D g) (bodies : List (List ℕ)) (out : List R) : Type 0 where
+pub record Going {S R D : Type 0} {g : Ghosts D} (t : Turns S R) (C : List (List (Entry R)) → List (Entry R) → Type 0)
+    (start now : Desk S R D g) (bodies : List (List ℕ)) (out : List R) : Type 0 where
   pub groups : List (List (Entry R))
   pub held : List (Entry R)
   pub committed : S
@@ -34,11 +35,11 @@ pub record Going {S R D : Type 0} {g : Ghosts D} (t : Turns S R) (C : List (List
   pub runs : Run t committed held now.state
   pub quiet : AllQuiet t (joined groups ++ held) → now.store.disk ≡ start.store.disk
   pub all : AllHold start.store (t.held start.state) → AllHold now.store (t.held committed)
-  pub moments : AllHold start.store (t.held start.state)
-      → (moments : List ℕ) × IsRun t g.moment g.image_since start.store.disk now.store.disk start.store.library.items start.state groups (length groups) moments
+  pub moments : HasMoments t start.store now.store start.state groups (length groups)
 
 -- A call of the device failed, in the group behind those that were answered. C says why it ends where it does, and what came behind it.
-pub record Faulted {S R D : Type 0} {g : Ghosts D} (t : Turns S R) (size : ℕ) (C : List (Entry R) → List (List ℕ) → Type 0) (start now : Desk S R D g) (bodies : List (List ℕ)) (replies : List R) : Type 0 where
+pub record Faulted {S R D : Type 0} {g : Ghosts D} (t : Turns S R) (size : ℕ) (C : List (Entry R) → List (List ℕ) → Type 0)
+    (start now : Desk S R D g) (bodies : List (List ℕ)) (replies : List R) : Type 0 where
   pub groups : List (List (Entry R))
   pub group : List (Entry R)
   pub others : List (List ℕ)
@@ -47,11 +48,11 @@ pub record Faulted {S R D : Type 0} {g : Ghosts D} (t : Turns S R) (size : ℕ) 
   pub bodies_are : bodies ≡ map body_of (joined groups ++ group) ++ others
   pub replies_are : replies ≡ map reply_of (joined groups) ++ (map (λ asked. t.faulted asked.body) group ++ map t.failed others)
   pub run : Run t start.state (joined groups ++ group) now.state
-  pub moments : AllHold start.store (t.held start.state)
-      → (moments : List ℕ) × IsRun t g.moment g.image_since start.store.disk now.store.disk start.store.library.items start.state (groups ++ group ∷ []) (length groups) moments
+  pub moments : HasMoments t start.store now.store start.state (groups ++ group ∷ []) (length groups)
 
 -- These bodies were taken since the start, and these replies handed out.
-pub record Underway {S R D : Type 0} {g : Ghosts D} (t : Turns S R) (size : ℕ) (start now : Desk S R D g) (bodies : List (List ℕ)) (out : List R) : Type 0 where
+pub record Underway {S R D : Type 0} {g : Ghosts D} (t : Turns S R) (size : ℕ) (start now : Desk S R D g) (bodies : List (List ℕ))
+    (out : List R) : Type 0 where
   pub going : now.store.stopped ≡ false → Going t (IsCut size) start now bodies out
   pub broken : now.store.stopped ≡ true → Faulted t size (λ group others. IsWhole size group) start now bodies out
   pub goes : Goes start.store now.store

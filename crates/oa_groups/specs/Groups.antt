@@ -26,7 +26,8 @@ rest_of (asked ∷ held) = (asked ∷ held) ∷ []
 -- Requests are held until the group is full, or the input ends.
 abbrev pub cut : {R : Type 0} → ℕ → List (Entry R) → List (Entry R) → List (List (Entry R))
 cut size held [] = rest_of held
-cut size held (asked ∷ entries) = if is_full size (held ++ asked ∷ []) then (held ++ asked ∷ []) ∷ cut size [] entries else cut size (held ++ asked ∷ []) entries
+cut size held (asked ∷ entries) =
+    if is_full size (held ++ asked ∷ []) then (held ++ asked ∷ []) ∷ cut size [] entries else cut size (held ++ asked ∷ []) entries
 
 abbrev pub groups_of : {R : Type 0} → ℕ → List (Entry R) → List (List (Entry R))
 groups_of size entries = cut size [] entries

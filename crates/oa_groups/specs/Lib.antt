@@ -2,6 +2,7 @@ pub mod Desks
 pub mod Going
 pub mod Groups
 pub mod History
+pub mod Laws
 pub mod Runs
 pub mod Served
 pub mod Sessions

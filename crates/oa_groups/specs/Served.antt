@@ -1,15 +1,17 @@
 -- What a call answers that takes a list of requests, and what a stop at any moment of it leaves.
-use Rattle.std.specs.Prelude.{◌≡◌, ◌⊎◌, ℕ, ◌-◌, ◌^◌, ◌<◌, ◌≤◌, true, false, List, [], ◌∷◌, ◌++◌, length, map}
+use Rattle.std.specs.Prelude.{◌≡◌, ◌⊎◌, ℕ, ◌≤◌, true, false, List, [], ◌∷◌, ◌++◌, length, map}
+use Rattle.oa_disk.specs.Disk.{HasCounted}
 use Rattle.oa_disk.specs.declared.disk.Disk.{Ghosts}
 use Rattle.oa_store.specs.declared.store.Store.{Store}
 use Rattle.oa_keeper.specs.Kept.{AllHold}
 use Rattle.oa_groups.specs.Groups.{IsWhole, groups_of, joined}
-use Rattle.oa_groups.specs.Runs.{AllQuiet, Run, IsRun}
+use Rattle.oa_groups.specs.Runs.{AllQuiet, HasMoments, Run}
 use Rattle.oa_groups.specs.Turns.{Entry, Turns, body_of, reply_of}
 
 -- The replies to these bodies are those of a run, group for group. Where a call of the device failed, the run goes to the end
 -- of that group, all of which is answered by that; what comes behind it is not looked at.
-pub record Served {S R : Type 0} (t : Turns S R) (size : ℕ) (first : S) (bodies : List (List ℕ)) (replies : List R) (last : S) (groups faulted : List (List (Entry R))) (others : List (List ℕ)) : Type 0 where
+pub record Served {S R : Type 0} (t : Turns S R) (size : ℕ) (first : S) (bodies : List (List ℕ)) (replies : List R) (last : S)
+    (groups faulted : List (List (Entry R))) (others : List (List ℕ)) : Type 0 where
   pub bodies_are : bodies ≡ map body_of (joined (groups ++ faulted)) ++ others
   pub run : Run t first (joined (groups ++ faulted)) last
   pub groups_are : groups_of size (joined (groups ++ faulted)) ≡ groups ++ faulted
@@ -23,13 +25,14 @@ pub record Goes {D : Type 0} {g : Ghosts D} (old new : Store D g) : Type 0 where
   pub honest : g.is_honest new.disk ≡ g.is_honest old.disk
   pub failures : g.failures_of old.disk ≤ g.failures_of new.disk
   -- it stops only where a call has failed, and then for good
-  pub stops : old.stopped ≡ false → new.stopped ≡ true → g.failures_of new.disk < 2 ^ 64 - 1 → g.failures_of old.disk < g.failures_of new.disk
+  pub stops : old.stopped ≡ false → new.stopped ≡ true → HasCounted (g.failures_of old.disk) (g.failures_of new.disk)
   pub stays : old.stopped ≡ true → (new.stopped ≡ true) × (new.disk ≡ old.disk)
   -- no failed call goes untold
   pub unfailed : new.stopped ≡ false → g.failures_of new.disk ≡ g.failures_of old.disk
 
 -- A call on a store that has not stopped: its replies are served, and there are the moments of its groups.
-pub record IsServed {S R D : Type 0} {g : Ghosts D} (t : Turns S R) (size : ℕ) (old new : Store D g) (before after : S) (bodies : List (List ℕ)) (replies : List R) : Type 0 where
+pub record IsServed {S R D : Type 0} {g : Ghosts D} (t : Turns S R) (size : ℕ) (old new : Store D g) (before after : S)
+    (bodies : List (List ℕ)) (replies : List R) : Type 0 where
   pub groups : List (List (Entry R))
   -- the group in which the device failed
   pub faulted : List (List (Entry R))
@@ -39,7 +42,7 @@ pub record IsServed {S R D : Type 0} {g : Ghosts D} (t : Turns S R) (size : ℕ)
   pub fault : new.stopped ≡ true → length faulted ≡ 1
   -- requests that make no event make no call of the device
   pub quiet : new.stopped ≡ false → AllQuiet t (joined groups) → new.disk ≡ old.disk
-  pub moments : AllHold old (t.held before) → (moments : List ℕ) × IsRun t g.moment g.image_since old.disk new.disk old.library.items before (groups ++ faulted) (length groups) moments
+  pub moments : HasMoments t old new before (groups ++ faulted) (length groups)
   -- and the next call may begin
   pub all : new.stopped ≡ false → AllHold old (t.held before) → AllHold new (t.held after)
   pub goes : Goes old new

@@ -24,7 +24,9 @@ IsSimple asked old new = Changes asked old new ⊎ Refuses asked old new
 
 pub replays : (asked : Entry Bool) (old new : TableValue) → IsSimple asked old new → Replays asked.event old new
 replays asked old new (inl one) = subst (λ (l : List ℕ). Replays l old new) (sym one.event) one.makes
-replays asked old new (inr one) = subst (λ (l : List ℕ). Replays l old new) (sym one.event) (subst (λ (t : TableValue). Replays [] old t) (sym one.same) (no_event old))
+replays asked old new (inr one) =
+    let same = subst (λ (t : TableValue). Replays [] old t) (sym one.same) (no_event old) in
+    subst (λ (l : List ℕ). Replays l old new) (sym one.event) same
 
 pub leaves : (asked : Entry Bool) (old new : TableValue) → IsSimple asked old new → asked.reply ≡ false → new ≡ old
 leaves asked old new (inl one) is = absurd (true≢false (sym one.told ∙ is))

@@ -8,13 +8,6 @@ abbrev pub with_front : {Y : Type 0} → List Y → Result (List Y) BindFault �
 with_front front rest = rest >>= λ ys. Ok (front ++ ys)
 
 module _ {X Y : Type 0} (answer : ℕ → X → Result Y BindFault) where
-  pub each_starts : (xs : List X) → with_front [] (each_at answer 0 xs) ≡ each_at answer 0 xs
-  each_starts xs = by (each_at answer 0 xs)
-    where
-      by : (r : Result (List Y) BindFault) → with_front [] r ≡ r
-      by (Ok ys) = refl
-      by (Err fault) = refl
-
   regroup : (front : List Y) (y : Y) (r : Result (List Y) BindFault) → with_front front (r >>= λ ys. Ok (y ∷ ys)) ≡ with_front (front ++ y ∷ []) r
   regroup front y (Ok ys) = ap Ok (sym (simp append_assoc))
   regroup front y (Err fault) = refl

@@ -1,5 +1,6 @@
 -- Which argument of a call is given for which DISPID (MS-OAUT section 3.1.4.4).
-use Rattle.std.specs.Prelude.{◌≡◌, ◌≢◌, ◌<◌, ℕ, ◌-◌, ◌==◌, ℤ, pos, negsuc, unsigned_abs, nat_lt, Bool, false, if◌then◌else◌, List, length, Option, Some, None, slice_get, get_or}
+use Rattle.std.specs.Prelude.{◌≡◌, ◌≢◌, ◌<◌, ℕ, ◌-◌, ◌==◌, ℤ, pos, negsuc, unsigned_abs, nat_lt, Bool}
+use Rattle.std.specs.Prelude.{false, if◌then◌else◌, List, length, Option, Some, None, slice_get, get_or}
 use Rattle.std.specs.List.{position_from}
 use Rattle.std.specs.Ordering.{int_eq}
 use Rattle.oa_variant.specs.declared.scalar.Scalar.TheVariants as scalars
@@ -11,6 +12,10 @@ use Rattle.oa_variant.specs.declared.variant.Variant.TheVariants.{One}
 pub record Given : Type 0 where
   pub named : List ℤ
   pub arguments : List Variant
+
+-- the arguments of a call, by the two lists
+abbrev pub call_of : List ℤ → List Variant → Given
+call_of named arguments = record { named = named; arguments = arguments }
 
 -- the DISPID of a put's new value (DISPID_PROPERTYPUT, MS-OAUT section 2.2.32.1)
 abbrev pub new_value_id : ℤ
@@ -38,7 +43,10 @@ is_parameter n (negsuc other) = false
 -- The index of the argument that is given for a DISPID, of so many arguments: of the one by position, else of the first with that name.
 -- That these are the triples, each once, are the laws `argument_is_given` and `each_argument_counts`.
 unfoldable pub index_of : List ℤ → ℕ → ℤ → Option ℕ
-index_of named count id = if is_parameter (by_position named count) id then Some (count - 1 - unsigned_abs id) else position_from (λ n. int_eq n id) 0 named
+index_of named count id =
+    if is_parameter (by_position named count) id
+    then Some (count - 1 - unsigned_abs id)
+    else position_from (λ n. int_eq n id) 0 named
 
 -- the argument at an index, where there is one
 abbrev pub at : Option ℕ → List Variant → Option Variant
@@ -64,4 +72,6 @@ argument_for call place = argument_at (index_of call.named (length call.argument
 
 -- the arguments that are given for none of the first n parameters stay
 abbrev pub Stay : List ℤ → List Variant → List Variant → ℕ → Type 0
-Stay named old new n = (j : ℕ) → ((place : ℕ) → place < n → index_of named (length old) (pos place) ≢ Some j) → slice_get new j ≡ slice_get old j
+Stay named old new n =
+    (j : ℕ) → ((place : ℕ) → place < n → index_of named (length old) (pos place) ≢ Some j)
+    → slice_get new j ≡ slice_get old j

@@ -5,6 +5,7 @@ ghost use Rattle.oa_typelib.specs.Bindable.{IsBindable};
 ghost use Rattle.oa_typelib.specs.Defaults.{default_value};
 ghost use Rattle.oa_variant.specs.Variants.{HasZero};
 ghost use Rattle.oa_bind.specs.Bindings.{bound, bound_to};
+ghost use Rattle.oa_bind.specs.Given.{call_of};
 ghost use Rattle.oa_bind.specs.Refusals.{Answers};
 
 use crate::names::{check_complete, check_names};
@@ -63,7 +64,7 @@ fn bind_parts(
     requires few { length parameters.now ≤ 16 }
     requires zero { HasZero declared }
     requires named { length named.now ≤ max_arguments }
-    ensures { Answers (λ c. c) (bound parameters.now declared kind (record { named = named.now; arguments = arguments.items })) result }
+    ensures { Answers (λ c. c) (bound parameters.now declared kind (call_of named.now arguments.items)) result }
 {
     check_names(parameters, kind, named, arguments.len())?;
     check_complete(parameters, named, arguments.as_slice())?;

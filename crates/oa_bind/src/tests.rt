@@ -1,4 +1,4 @@
-// What takes memory, with enough of it. What each call is bound to is shown by the cases of the program, a row each.
+//! What takes memory, with enough of it. What each call is bound to is shown by the cases of the program, a row each.
 use crate::{Call, bind};
 use oa_idl::parse;
 use oa_typelib::{Kind, check};

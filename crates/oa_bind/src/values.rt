@@ -4,7 +4,7 @@ ghost use Rattle.oa_coerce.specs.Answers.{coerced};
 ghost use Rattle.oa_typelib.specs.Defaults.{default_value};
 ghost use Rattle.oa_variant.specs.Variants.{HasZero};
 ghost use Rattle.oa_bind.specs.Bindings.{missing_value, new_value, parameter_value, scalar_type, told, value_by, without_default};
-ghost use Rattle.oa_bind.specs.Given.{Stay, index_of};
+ghost use Rattle.oa_bind.specs.Given.{Stay, call_of, index_of};
 ghost use Rattle.oa_bind.specs.Refusals.{Answers, each_at};
 
 use crate::BindFault;
@@ -79,8 +79,9 @@ fn value(
     requires place { place < 16 }
     requires named { length named.now ≤ length arguments.old.items }
     requires few { length arguments.old.items ≤ 17 }
-    ensures value { Answers (λ s. s) (parameter_value (record { named = named.now; arguments = arguments.old.items }) place parameter.now) result }
-    ensures others { (j : ℕ) → index_of named.now (length arguments.old.items) (pos place) ≢ Some j → slice_get arguments.new.items j ≡ slice_get arguments.old.items j }
+    ensures value { Answers (λ s. s) (parameter_value (call_of named.now arguments.old.items) place parameter.now) result }
+    ensures others { (j : ℕ) → index_of named.now (length arguments.old.items) (pos place) ≢ Some j
+        → slice_get arguments.new.items j ≡ slice_get arguments.old.items j }
     ensures len { length arguments.new.items ≡ length arguments.old.items }
 {
     let Some(i) = index_of(named, arguments.len(), place as i32) else {
@@ -105,7 +106,7 @@ pub(crate) fn key(
     requires short { length parameters.now ≤ 16 }
     requires named { length named.now ≤ length arguments.old.items }
     requires few { length arguments.old.items ≤ 17 }
-    ensures key { Answers (λ v. v.items) (each_at (parameter_value (record { named = named.now; arguments = arguments.old.items })) 0 parameters.now) result }
+    ensures key { Answers (λ v. v.items) (each_at (parameter_value (call_of named.now arguments.old.items)) 0 parameters.now) result }
     ensures others { OnOk result (Stay named.now arguments.old.items arguments.new.items (length parameters.now)) }
     ensures len { length arguments.new.items ≡ length arguments.old.items }
 {
@@ -158,7 +159,7 @@ pub(crate) fn new_value(
     requires zero { HasZero declared }
     requires named { length named.now ≤ length arguments.old.items }
     requires few { length arguments.old.items ≤ 17 }
-    ensures { Answers (λ v. v) (new_value (record { named = named.now; arguments = arguments.old.items }) declared kind) result }
+    ensures { Answers (λ v. v) (new_value (call_of named.now arguments.old.items) declared kind) result }
 {
     match kind {
         Kind::Get => Ok(None),

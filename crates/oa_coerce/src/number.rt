@@ -1,4 +1,4 @@
-// Numbers, and their rounding to units.
+//! Numbers, and their rounding to units.
 ghost use Rattle.std.specs.Prelude.{◌≡◌, ◌≤◌, ◌<◌, ◌^◌, unsigned_abs, IfSome, IsNone, IsTrue};
 ghost use Rattle.oa_variant.specs.Keys.{number_of};
 ghost use Rattle.oa_variant.specs.Scalars.{type_of, IsScalar};
@@ -10,13 +10,13 @@ use oa_variant::Scalar;
 
 /// The number count / 10^scale.
 #[derive(Clone, Copy)]
-pub struct Number {
-    pub count: i128,
-    pub scale: u8,
+pub(crate) struct Number {
+    pub(crate) count: i128,
+    pub(crate) scale: u8,
 }
 
 /// The number of a scalar: -1 for true, and 0 where there is none.
-pub fn number_in(value: &Scalar) -> Number
+pub(crate) fn number_in(value: &Scalar) -> Number
     ensures value { result ≡ number_in value.now }
     ensures scale { result.scale ≤ 28 }
     ensures count { unsigned_abs result.count < 2 ^ 96 }
@@ -44,7 +44,7 @@ pub fn number_in(value: &Scalar) -> Number
     Number { count, scale }
 }
 
-// The whole number nearest to whole / unit; of two that are equally near the even one.
+/// The whole number nearest to whole / unit; of two that are equally near the even one.
 fn nearest_whole(whole: u128, unit: u128) -> u128
     requires unit { (0 < unit) × (unit < 2 ^ 100) }
     requires whole { whole < 2 ^ 120 }
@@ -61,7 +61,7 @@ fn nearest_whole(whole: u128, unit: u128) -> u128
 }
 
 /// The count of units of 1 / 10^places that is nearest to a number; of two that are equally near the even one.
-pub fn nearest(number: Number, places: u8) -> i128
+pub(crate) fn nearest(number: Number, places: u8) -> i128
     requires scale { number.scale ≤ 28 }
     requires count { unsigned_abs number.count < 2 ^ 96 }
     requires places { places ≤ 4 }
@@ -74,7 +74,7 @@ pub fn nearest(number: Number, places: u8) -> i128
 }
 
 /// The scalar of an integer type, or of CY, whose count of units this is; None where the type has no such scalar.
-pub fn with_count(to: VarType, count: i128) -> Option<Scalar>
+pub(crate) fn with_count(to: VarType, count: i128) -> Option<Scalar>
     requires { IsTrue (counts_units to) }
     ensures some { IfSome result (λ made. (type_of made ≡ to) × (number_of made ≡ count)) }
     ensures none { IsNone result → (made : AScalar) → IsScalar made → type_of made ≡ to → number_of made ≡ count → ⊥ }

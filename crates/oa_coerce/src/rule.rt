@@ -1,4 +1,4 @@
-// The rule that two types pick.
+//! The rule that two types pick.
 ghost use Rattle.std.specs.Prelude.{◌≡◌, ◌≤◌};
 ghost use Rattle.oa_coerce.specs.Numbers.{counts_units, places_of};
 ghost use Rattle.oa_coerce.specs.Coercions.{rule_for};
@@ -7,7 +7,7 @@ use oa_model::VarType;
 
 /// What a value becomes.
 #[derive(Clone, Copy, PartialEq, Eq)]
-pub enum Rule {
+pub(crate) enum Rule {
     /// Itself.
     Unchanged,
     /// The zero of the type.
@@ -23,14 +23,14 @@ pub enum Rule {
 }
 
 /// Whether the values of a type are whole counts of one unit: those of the integer types and of CY.
-pub fn counts_units(one: VarType) -> bool
+pub(crate) fn counts_units(one: VarType) -> bool
     ensures { result ≡ counts_units one }
 {
     one.is_integer() || one == VarType::Cy
 }
 
 /// How many decimal places that unit has.
-pub fn places(one: VarType) -> u8
+pub(crate) fn places(one: VarType) -> u8
     ensures value { result ≡ places_of one }
     ensures few { result ≤ 4 }
 {
@@ -38,7 +38,7 @@ pub fn places(one: VarType) -> u8
 }
 
 /// The rule by which a scalar of one type becomes one of another.
-pub fn rule_for(from: VarType, to: VarType) -> Rule
+pub(crate) fn rule_for(from: VarType, to: VarType) -> Rule
     ensures { result ≡ rule_for from to }
 {
     if to == VarType::Variant || from == to {

@@ -1,4 +1,4 @@
-// What takes memory, with enough of it. What each value becomes is shown by the cases of the program, a row each.
+//! What takes memory, with enough of it. What each value becomes is shown by the cases of the program, a row each.
 use crate::{CoerceFault, coerce};
 use oa_model::{ValueType, VarType};
 use oa_variant::{Scalar, Variant};

@@ -23,7 +23,7 @@ pub fn coerce_scalar(value: Scalar, to: VarType) -> Result<Scalar, (Scalar, Coer
     scalar_by_rule(value, to)
 }
 
-// The same against the relation alone.
+/// The same against the relation alone.
 fn scalar_by_rule(value: Scalar, to: VarType) -> Result<Scalar, (Scalar, CoerceFault)>
     ensures made { IfOk result (λ made. CoercesScalar value to made) }
     ensures refused { IfErr result (λ e. (e.0 ≡ value) × RefusesScalar value to e.1) }
@@ -62,7 +62,7 @@ pub fn coerce(
     value_by_rule(alloc, value, declared)
 }
 
-// The same against the relation alone.
+/// The same against the relation alone.
 fn value_by_rule(
     alloc: Global,
     value: Variant,

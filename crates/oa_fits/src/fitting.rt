@@ -1,4 +1,4 @@
-// Whether a table is one that a library can have.
+//! Whether a table is one that a library can have.
 ghost use Rattle.std.specs.Prelude.{◌≡◌};
 ghost use Rattle.oa_fits.specs.Fits.{cell_fits, fits, key_fits, object_fits};
 ghost use Rattle.oa_variant.specs.declared.variant.Variant.TheVariants.{One};

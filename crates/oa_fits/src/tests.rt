@@ -1,4 +1,4 @@
-// Tables that a library can have, and others, as a table.
+//! Tables that a library can have, and others, as a table.
 ghost use Rattle.std.specs.Prelude.{◌≡◌, IfSome};
 ghost use Rattle.oa_table.specs.Elements.{locks_of};
 

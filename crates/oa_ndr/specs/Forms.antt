@@ -44,14 +44,6 @@ pub record Unit_is (n x : ℕ) (place : ℕ) (bytes : List ℕ) : Type 0 where
 abbrev pub unit : ℕ → ℕ → Form
 unit n x = Unit_is n x
 
--- n bytes at any place, the lowest first, which stand for the number x
-pub record Packed_is (n x : ℕ) (place : ℕ) (bytes : List ℕ) : Type 0 where
-  pub len : length bytes ≡ n
-  pub value : little_number n bytes ≡ x
-
-abbrev pub packed : ℕ → ℕ → Form
-packed n x = Packed_is n x
-
 -- these very bytes
 abbrev pub exactly : List ℕ → Form
 exactly text place bytes = bytes ≡ text

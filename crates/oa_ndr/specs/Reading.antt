@@ -68,12 +68,6 @@ unit_at n = do
   slot ← slot_at n
   give (little_number n slot)
 
--- the number that the next n bytes stand for, at any place
-unfoldable pub packed_at : ℕ → Reading ℕ
-packed_at n = do
-  text ← bytes_at n
-  give (little_number n text)
-
 -- whether the referent there is set
 unfoldable pub referent_at : Reading Bool
 referent_at = do

@@ -39,10 +39,6 @@ put_unit n x out = put_slot n (little_bytes n x) out
 abbrev pub put_bytes : List ℕ → List ℕ → List ℕ
 put_bytes text out = out ++ text
 
--- the number x in n bytes, the lowest first, at any place
-abbrev pub put_packed : ℕ → ℕ → List ℕ → List ℕ
-put_packed n x out = out ++ little_bytes n x
-
 -- a pointer that is set is written as 0x00020000 (this project's choice)
 abbrev pub put_referent : Bool → List ℕ → List ℕ
 put_referent is_set out = put_unit 4 (if is_set then 131072 else 0) out

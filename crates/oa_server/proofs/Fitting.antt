@@ -1,5 +1,6 @@
 -- A turn leaves a table that its library can have.
-use Rattle.std.proofs.Common.{rules, ◌≡◌, ℕ, Bool, true, false, List, [], ◌∷◌, Option, Some, None, Result, Ok, Err, IfOk, IfSome, is_some, inl, inr, refl, sym, ap, subst, ◌∙◌}
+use Rattle.std.proofs.Common.{rules, ◌≡◌, ℕ, Bool, true, false, List, [], ◌∷◌, Option, Some, None, Result, Ok, Err, IfOk, IfSome, is_some}
+use Rattle.std.proofs.Common.{inl, inr, refl, sym, ap, subst, ◌∙◌}
 use Rattle.std.specs.Prelude.{if◌then◌else◌, not}
 use Rattle.std.specs.Option.{option_and_then}
 use Rattle.std.proofs.lemmas.Bool.{and_from}
@@ -19,7 +20,8 @@ use Rattle.oa_variant.specs.declared.variant.Variant.{Variant}
 use Rattle.oa_typelib.specs.Bindable.{AreSound, IsBindable, IsSoundItem}
 use Rattle.oa_typelib.specs.Checked.{IsChecked}
 use Rattle.oa_typelib.specs.Declarations.{declarations}
-use Rattle.oa_typelib.specs.Libraries.{as_interface, class_of, guid_of, has_interface, if_entered, interface_of, item_with, same, selected_in}
+use Rattle.oa_typelib.specs.Libraries.{as_interface, class_of, guid_of, has_interface, if_entered, interface_of, item_with, same}
+use Rattle.oa_typelib.specs.Libraries.{selected_in}
 use Rattle.oa_typelib.specs.MemberValues.{MemberValue}
 use Rattle.oa_typelib.specs.Members.{member_in, property_in}
 use Rattle.oa_typelib.specs.declared.access.Access.{Access}
@@ -89,10 +91,6 @@ member_is (Err f) x h = absurd cc
 call_is : (r : Result CallValue BindFault) (x : CallValue) → call_found r ≡ Ok x → r ≡ Ok x
 call_is (Ok y) x h = cc
 call_is (Err f) x h = absurd cc
-
-refused_is : {A : Type 0} (r : Result A TableFault) (x : A) → as_refused r ≡ Ok x → r ≡ Ok x
-refused_is (Ok y) x h = cc
-refused_is (Err f) x h = absurd cc
 
 -- ---- the interface
 item_sound : (o : Option Item) (i : InterfaceValue) → option_and_then as_interface o ≡ Some i → IfSome o IsSoundItem → AreSound (declarations i)

@@ -1,11 +1,9 @@
 -- What an opening finds is the state that was kept.
-use Rattle.std.proofs.Common.{◌≡◌, ℕ, IsTrue, List, [], ◌∷◌, Option, Some, None, Result, Ok, Err, inl, inr, refl, sym, ap, ◌∙◌}
+use Rattle.std.proofs.Common.{◌≡◌, ℕ, List, [], ◌∷◌, Option, Some, None, Result, Ok, Err, inl, inr, refl, sym, ap, ◌∙◌}
 use Rattle.oa_disk.specs.declared.disk.Disk.{Ghosts}
-use Rattle.oa_disk.specs.Disk.{NothingPending}
 use Rattle.oa_disk.specs.Moments.{weakened}
 use Rattle.oa_groups.specs.Groups.{joined}
-use Rattle.oa_groups.specs.Runs.{IsAfter, Run}
-use Rattle.oa_groups.specs.Sessions.{Sitting}
+use Rattle.oa_groups.specs.Runs.{Run}
 use Rattle.oa_groups.specs.Turns.{Entry}
 use Rattle.oa_groups.proofs.Calling.{session_opened}
 use Rattle.oa_idl.specs.Canonical.{canonical}
@@ -13,15 +11,14 @@ use Rattle.oa_idl.specs.Trees.{TreeValue}
 use Rattle.oa_record.specs.Replies.{ReplyValue}
 use Rattle.oa_store.specs.OneStore.{one_store}
 use Rattle.oa_store.specs.Stores.{IsStore}
-use Rattle.oa_store.specs.declared.store.Store.{Store}
 use Rattle.oa_table.specs.declared.event.Event.{Event}
 use Rattle.oa_table.specs.declared.fault.TableFault.{TableFault}
-use Rattle.oa_table.specs.Tables.{TableValue, unlocked_table}
+use Rattle.oa_table.specs.Tables.{TableValue}
 use Rattle.oa_server.specs.declared.decision.LockChange.{LockChange}
 use Rattle.oa_server.specs.Decisions.{Outcome, after_event, after_locks, after_outcome, with_table}
-use Rattle.oa_server.specs.Openings.{IsOpened}
-use Rattle.oa_server.specs.Requests.{held_of, opened, requests}
-use Rattle.oa_server.specs.States.{State}
+use Rattle.oa_server.specs.Laws.{FoundIsKept, OpenedBegins}
+use Rattle.oa_server.specs.Requests.{held_of, requests}
+use Rattle.oa_server.specs.States.{State, state_of}
 use Rattle.oa_server.specs.Steps.{outcome}
 use Rattle.oa_server.specs.Turns.{Turn}
 
@@ -56,17 +53,15 @@ unfolding library_of
 run_library old new [] run = ap library_of (sym run)
 run_library old new (asked ∷ entries) run = run_library run.0 new entries run.2 ∙ turn_library old run.0 asked.body asked.reply run.1.turn
 
-pub found_again : (library : TreeValue) (first : State) (count : ℕ) (groups : List (List (Entry ReplyValue))) (image : List ℕ) (table : TableValue) → first.library ≡ library
-    → (after : IsAfter requests count (canonical library) first groups image) → IsStore image (canonical library) table → unlocked_table table ≡ table → opened after.state ≡ record { library = library; table = table }
+pub found_again : FoundIsKept
 found_again library first count groups image table is after holds unlocked =
     let same = one_store image (canonical library) (canonical library) (held_of after.state) table after.holds holds in rw (run_library first after.state (joined after.done) after.run ∙ is, same.table_same) refl
 
 -- an opening of a disk of which a crash leaves its contents alone begins a session
-pub session_begun : {D : Type 0} {g : Ghosts D} (disk : D) (library : TreeValue) (store : Store D g) (table : TableValue) → IsOpened g disk library store table → IsTrue (g.is_honest store.disk) → NothingPending g.contents g.image disk
-    → Sitting requests disk store (canonical library) (record { library = library; table = table }) (record { library = library; table = table }) []
+pub session_begun : {D : Type 0} {g : Ghosts D} → OpenedBegins g
 session_begun {D} {g} disk library store table opened honest alone =
     let found = opened.found honest in
-    let first : State = record { library = library; table = table } in
+    let first = state_of library table in
     let holds : IsStore (g.contents disk) (canonical library) (held_of first) = rw found.unlocked found.contents in
     session_opened requests {g = g} disk store (canonical library) first opened.text
     (weakened g.moment g.image_since disk store.disk (g.image disk) (λ c. IsStore c (canonical library) (held_of first)) found.reads.moments (λ c is. rw (alone c is) holds))

@@ -1,9 +1,9 @@
 -- What an opening answers, where each image is a store of one of two tables.
-use Rattle.std.proofs.Common.{◌≡◌, ◌⊎◌, ⊎_elim, ℕ, List, length, inl, inr, sym, subst, arith}
+use Rattle.std.proofs.Common.{◌≡◌, ◌⊎◌, ⊎_elim, ℕ, List, inl, inr, sym, subst}
 use Rattle.oa_idl.specs.Canonical.{canonical}
 use Rattle.oa_idl.specs.Trees.{TreeValue}
 use Rattle.oa_store.specs.OneStore.{one_store}
-use Rattle.oa_store.specs.Stores.{IsForeign, IsStore}
+use Rattle.oa_store.specs.Stores.{IsStore}
 use Rattle.oa_table.specs.Tables.{TableValue}
 use Rattle.oa_server.specs.Openings.{CanServe, EachEither, HoldsEither}
 
@@ -26,9 +26,6 @@ module _ (image : List ℕ → Type 0) (library : TreeValue) (before after : Tab
   -- and what no store of the library may be said of is none of them
   pub is_some_store : ((table : TableValue) → IsStore c (canonical library) table → ⊥) → ⊥
   is_some_store none = ⊎_elim (λ first. none before first) (λ second. none after second) (h.each c is)
-
-pub is_formatted : (size : ℕ) (contents library : List ℕ) (table : TableValue) → length contents ≡ size → IsStore contents library table → IsForeign size contents → ⊥
-is_formatted size contents library table long is foreign = ⊎_elim (λ lt. absurd (omega (arith, lt, long, is.2.head.size))) (λ none. none is.2.head.formatted) foreign
 
 -- the text is the library's canonical one
 module _ (library : TreeValue) (text : List ℕ) (table : TableValue) (contents : List ℕ) (is : text ≡ canonical library) where

@@ -1,5 +1,6 @@
 -- No step answers a code that tells of the device.
-use Rattle.std.proofs.Common.{◌≡◌, inl, inr, ℕ, ◌+◌, Bool, true, false, if◌then◌else◌, List, [], ◌∷◌, Option, Some, None, Result, Ok, Err, refl, sym, ap, ◌∙◌}
+use Rattle.std.proofs.Common.{◌≡◌, inl, inr, ℕ, ◌+◌, Bool, true, false, if◌then◌else◌, List, [], ◌∷◌, Option, Some, None, Result, Ok, Err}
+use Rattle.std.proofs.Common.{refl, sym, ap, ◌∙◌}
 use Rattle.std.specs.Prelude.{ℤ, nat_lt, ⊤, length}
 use Rattle.oa_model.specs.Limits.{max_event_bytes, max_table_bytes}
 use Rattle.oa_array.specs.Arrays.{ArrayValue}
@@ -53,7 +54,9 @@ use Rattle.oa_coerce.specs.Answers.{coerced, coerced_scalar}
 use Rattle.oa_idl.specs.declared.parts.Parameter.{Parameter}
 use Rattle.oa_image.specs.Events.{event_image}
 use Rattle.oa_image.specs.Tables.{table_image}
-use Rattle.oa_model.specs.Codes.{disp_e_badindex, disp_e_badparamcount, disp_e_paramnotfound, disp_e_paramnotoptional, disp_e_unknowninterface, disp_e_unknownname, e_invalidarg, e_nointerface, e_unexpected, regdb_e_classnotreg, rpc_e_disconnected, s_ok, stg_e_mediumfull}
+use Rattle.oa_model.specs.Codes.{disp_e_badindex, disp_e_badparamcount, disp_e_paramnotfound, disp_e_paramnotoptional}
+use Rattle.oa_model.specs.Codes.{disp_e_unknowninterface, disp_e_unknownname, e_invalidarg, e_nointerface, e_unexpected}
+use Rattle.oa_model.specs.Codes.{regdb_e_classnotreg, rpc_e_disconnected, s_ok, stg_e_mediumfull}
 use Rattle.oa_record.specs.Asks.{tag_at}
 use Rattle.oa_table.specs.Tables.{class_in, object_at}
 use Rattle.oa_typelib.specs.Libraries.{class_of, selected_in}

@@ -10,6 +10,7 @@ use Rattle.oa_record.specs.Replies.{ReplyValue}
 use Rattle.oa_store.specs.declared.store.Store.{Store}
 use Rattle.oa_server.specs.declared.storage.Storage.{Storage}
 use Rattle.oa_server.specs.declared.storage.Storage.TheVariants.{Disk, Memory}
+use Rattle.oa_server.specs.Laws.{PartsGoOn}
 use Rattle.oa_server.specs.Requests.{requests}
 use Rattle.oa_server.specs.States.{State}
 use Rattle.oa_server.specs.Storages.{Serves}
@@ -59,6 +60,5 @@ module _ {D : Type 0} {g : Ghosts D} where
       subst (λ (l : List (Call ReplyValue)). Sitting requests start new library first after l) (append_assoc calls (call ∷ []) (calls_of size parts))
       (parts_at start is.0 new library first is.1 after (calls ++ call ∷ []) size parts (one_more start mid is.0 library first last is.1 calls size part sits is.2.serves here there) is.3 going)
 
-  pub parts_go_on : (start : D) (mid new : Store D g) (library : List ℕ) (first last after : State) (calls : List (Call ReplyValue)) (size : ℕ) (parts : List Part) → Sitting requests start mid library first last calls
-      → Parts size (Disk mid) (Disk new) last parts after → new.stopped ≡ false → Sitting requests start new library first after (calls ++ calls_of size parts)
+  pub parts_go_on : PartsGoOn g
   parts_go_on start mid new library first last after calls size parts sits is going = parts_at start (Disk mid) new library first last after calls size parts sits is going

@@ -1,6 +1,5 @@
 -- The turn of a body, but for a planned change.
-use Rattle.std.proofs.Common.{◌≡◌, inl, inr, ℕ, true, List, None, Result, Ok, refl, sym, ap, ◌∙◌}
-use Rattle.oa_model.specs.Codes.{e_outofmemory}
+use Rattle.std.proofs.Common.{◌≡◌, inl, ℕ, List, Result, Ok, refl, sym, ap, ◌∙◌}
 use Rattle.oa_record.specs.declared.request.Request.{Request}
 use Rattle.oa_record.specs.Asks.{Asks, tag_at}
 use Rattle.oa_record.specs.Replies.{ReplyValue}
@@ -14,12 +13,12 @@ use Rattle.oa_server.specs.declared.refusal.Refusal.{Refusal}
 use Rattle.oa_server.specs.Decisions.{after_outcome, outcome_of}
 use Rattle.oa_server.specs.Plans.{Plans, PlansChange}
 use Rattle.oa_server.specs.States.{State}
-use Rattle.oa_server.specs.Steps.{decided, refusal, reply_with, takes_memory}
+use Rattle.oa_server.specs.Steps.{decided, reply_with}
 use Rattle.oa_server.specs.Turns.{Turn}
 
 module _ (old : State) (body : List ℕ) (request : Request) (asked : Asks body request) where
   -- what is decided is done
-  pub steps : (due : Result Decision Refusal) (reply : ReplyValue) (new : State) → decided old request ≡ due → reply ≡ reply_with (tag_at body) (outcome_of old due) → new ≡ after_outcome old (outcome_of old due)
+  steps : (due : Result Decision Refusal) (reply : ReplyValue) (new : State) → decided old request ≡ due → reply ≡ reply_with (tag_at body) (outcome_of old due) → new ≡ after_outcome old (outcome_of old due)
       → Turn old body reply new
   steps due reply new is told leaves = inl (record {
     request = request;
@@ -27,9 +26,6 @@ module _ (old : State) (body : List ℕ) (request : Request) (asked : Asks body 
     answers = told ∙ ap (λ d. reply_with (tag_at body) (outcome_of old d)) (sym is);
     leaves = leaves ∙ ap (λ d. after_outcome old (outcome_of old d)) (sym is);
   })
-
-  pub starves : (reply : ReplyValue) (new : State) → takes_memory old request ≡ true → reply ≡ refusal (tag_at body) e_outofmemory None → new ≡ old → Turn old body reply new
-  starves reply new takes told same = inr (inr (inr (record { may = inr (record { request = request; asked = asked; takes = takes }); answers = told; leaves = same })))
 
 -- a change that was decided
 pub change_planned : (old : State) (body : List ℕ) (request : Request) (event : Event) (fields : List ℕ) (plan : Plan) → Asks body request → decided old request ≡ Ok (Change event fields) → BringsNoLocks event

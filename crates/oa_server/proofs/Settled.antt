@@ -1,5 +1,6 @@
 -- A group in hand, and its end.
-use Rattle.std.proofs.Common.{rules, ◌≡◌, ◌⊎◌, inl, inr, ℕ, ◌-◌, ◌^◌, ◌<◌, ◌≤◌, ◌++◌, true, false, true≢false, List, [], ◌∷◌, length, map, refl, sym, ap, ◌∙◌, arith, length-append}
+use Rattle.std.proofs.Common.{rules, ◌≡◌, ◌⊎◌, inl, inr, ℕ, ◌-◌, ◌^◌, ◌<◌, ◌≤◌, ◌++◌, true, false, true≢false, List, [], ◌∷◌, length, map}
+use Rattle.std.proofs.Common.{refl, sym, ap, ◌∙◌, arith, length-append}
 use Rattle.oa_disk.specs.declared.disk.Disk.{Ghosts}
 use Rattle.oa_groups.specs.Desks.{CallsFor, IsHeld, IsSettled}
 use Rattle.oa_groups.specs.Groups.{fills}

@@ -1,5 +1,6 @@
 -- What a session of a server over streams has served.
-use Rattle.std.proofs.Common.{◌≡◌, ◌⊎◌, inl, inr, ◌<◌, ◌≤◌, ℕ, ◌+◌, IsTrue, true, false, true≢false, List, [], ◌∷◌, ◌++◌, length, map, refl, sym, ap, ◌∙◌, subst, arith, append_assoc, length-append}
+use Rattle.std.proofs.Common.{◌≡◌, ◌⊎◌, inl, inr, ◌<◌, ◌≤◌, ℕ, ◌+◌, IsTrue, true, false, true≢false, List, [], ◌∷◌, ◌++◌, length, map, refl}
+use Rattle.std.proofs.Common.{sym, ap, ◌∙◌, subst, arith, append_assoc, length-append}
 use Rattle.std.specs.Bool.{⊤}
 use Rattle.std.specs.Vec.{vec_capacity}
 use Rattle.std.proofs.lemmas.List.{append-nil, length_push, map-append}
@@ -25,7 +26,8 @@ use Rattle.oa_server.specs.Hands.{desk}
 use Rattle.oa_server.specs.Requests.{requests}
 use Rattle.oa_server.specs.States.{State}
 use Rattle.oa_server.specs.Storages.{Serves, disk_of}
-use Rattle.oa_server.specs.Talks.{Ended, EndsBefore, EndsGroup, HandIsReady, InParts, IsGroup, Part, Parts, ServesSession, Taken, any_end, any_turn, at_last, bodies_of, ended_written, handed_of, silent, taken_written}
+use Rattle.oa_server.specs.Talks.{Ended, EndsBefore, EndsGroup, HandIsReady, InParts, IsGroup, Part, Parts, ServesSession, Taken, any_end}
+use Rattle.oa_server.specs.Talks.{any_turn, at_last, bodies_of, ended_written, handed_of, silent, taken_written}
 use Rattle.oa_server.specs.Turns.{Run}
 use Rattle.oa_server.proofs.Grouping.{Holding, group_faulted, group_filled, holds_more, holds_none, rest_ends}
 use Rattle.oa_server.proofs.Late.{late_ended, late_more, late_none}

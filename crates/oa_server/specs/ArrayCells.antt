@@ -1,5 +1,5 @@
--- What a request on the array in a cell acts on. It is refused in one order, whatever it asks (this project's choice), each time by the code of the
--- fault:
+-- What a request on the array in a cell acts on. It is refused in one order, whatever it asks (this project's choice), each time by the
+-- code of the fault:
 --   1. the cell holds no array;
 --   2. the index list does not lie in the bounds (GETELEM, PUTELEM);
 --   3. the new value does not become an element (PUTELEM);

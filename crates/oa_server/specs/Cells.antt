@@ -30,7 +30,8 @@ abbrev pub member_found : Result (MemberValue × Kind) MemberFault → Result (M
 member_found (Ok found) = Ok found
 member_found (Err fault) = refused (code_of fault)
 
--- the form that arguments are bound in: that of the member which an INVOKE's flags ask for, and else, whatever form the member must have, a get
+-- the form that arguments are bound in: that of the member which an INVOKE's flags ask for, and else, whatever form the member must
+-- have, a get
 abbrev pub bound_as : Access → Kind → Kind
 bound_as (accesses.Flags flags) form = form
 bound_as accesses.Get form = forms.Get

@@ -23,7 +23,8 @@ abbrev pub relocked : LockChange → TableValue → Result TableValue TableFault
 relocked (Lock name) table = with_lock name table
 relocked (Unlock name) table = without_lock name table
 
--- The change that is made, and what the reply tells. An event changes what images hold; a change of locks is none of it and ends with the session.
+-- The change that is made, and what the reply tells. An event changes what images hold; a change of locks is none of it and ends with
+-- the session.
 pub record Outcome : Type 0 where
   pub event : Option Event
   pub locks : Option LockChange

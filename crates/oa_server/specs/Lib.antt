@@ -29,3 +29,4 @@ pub mod Hands
 pub mod Answers
 pub mod Storages
 pub mod Talks
+pub mod Laws

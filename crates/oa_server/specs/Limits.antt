@@ -1,5 +1,5 @@
--- The limits on what a change makes. (This project's choice: a group of one event and a table have to fit a bank of a store, and a server in memory refuses what one over a
--- store refuses.)
+-- The limits on what a change makes. (This project's choice: a group of one event and a table have to fit a bank of a store, and a
+-- server in memory refuses what one over a store refuses.)
 use Rattle.std.specs.Prelude.{◌≡◌, ◌⊎◌, ◌≤◌, nat_lt, if◌then◌else◌, length, true, Option, Some, None, Result, Ok, Err, IsOk}
 use Rattle.oa_model.specs.Limits.{max_event_bytes, max_table_bytes}
 use Rattle.oa_image.specs.Events.{event_image}

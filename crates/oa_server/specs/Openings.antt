@@ -5,13 +5,14 @@ use Rattle.oa_disk.specs.declared.disk.Disk.{Ghosts}
 use Rattle.oa_fits.specs.Fits.{fits}
 use Rattle.oa_idl.specs.Canonical.{canonical}
 use Rattle.oa_idl.specs.Trees.{TreeValue}
+use Rattle.oa_keeper.specs.Kept.{EachIs}
 use Rattle.oa_image.specs.Tables.{is_numbered, table_image}
 use Rattle.oa_store.specs.declared.fault.OpenFault.{OpenFault}
 use Rattle.oa_store.specs.declared.fault.OpenFault.TheVariants.{Damaged}
 use Rattle.oa_store.specs.declared.store.Store.{Store}
 use Rattle.oa_store.specs.Faults.{IsCaused, IsEarly, IsRefusal, Says}
 use Rattle.oa_store.specs.Reads.{WritesNothing}
-use Rattle.oa_store.specs.Stores.{IsForeign, IsStore, IsStoreAt}
+use Rattle.oa_store.specs.Stores.{IsForeign, IsStore}
 use Rattle.oa_table.specs.Tables.{TableValue, unlocked_table}
 use Rattle.oa_typelib.specs.Checked.{IsChecked}
 use Rattle.oa_server.specs.States.{State}
@@ -37,6 +38,15 @@ pub record HoldsEither (image : List ℕ → Type 0) (library : TreeValue) (befo
   pub first : CanServe library before
   pub second : CanServe library after
 
+-- where a stop has left one of two tables, the table is one of them
+abbrev pub IsOneOf : (List ℕ → Type 0) → TreeValue → TableValue → Type 0
+IsOneOf image library table =
+    (before after : TableValue) → EachEither image library before after → (table ≡ before) ⊎ (table ≡ after)
+
+-- no stop has left one of two tables with which a server can begin
+abbrev pub IsNoneOfTwo : (List ℕ → Type 0) → TreeValue → Type 0
+IsNoneOfTwo image library = (before after : TableValue) → HoldsEither image library before after → ⊥
+
 -- the contents are a store of the library and of a table with which no server of it begins
 pub record IsUnfit (library : TreeValue) (contents : List ℕ) (fault : OpenFault) : Type 0 where
   pub told : fault ≡ Damaged 0
@@ -44,16 +54,15 @@ pub record IsUnfit (library : TreeValue) (contents : List ℕ) (fault : OpenFaul
   pub holds : IsStore contents (canonical library) table
   pub cannot : CanServe library table → ⊥
 
--- What an opening has found on an honest disk. It writes nothing; at the end each image is a store of the table, which has no locks, and the
--- contents were one at the start.
+-- What an opening has found on an honest disk. It writes nothing; at the end each image is a store of the table, which has no locks, and
+-- the contents were one at the start.
 pub record IsFound {D : Type 0} (g : Ghosts D) (disk : D) (library : TreeValue) (store : Store D g) (table : TableValue) : Type 0 where
   pub honest : IsTrue (g.is_honest disk)
   pub reads : WritesNothing g.image g.moment g.image_since disk store.disk
-  pub each : (c : List ℕ) → g.image store.disk c → IsStoreAt store.chosen store.bank.gate store.library.items table c
+  pub each : EachIs (g.image store.disk) store.chosen store.bank.gate store.library.items table
   pub contents : IsStore (g.contents disk) (canonical library) table
   pub unlocked : unlocked_table table ≡ table
-  -- where a stop has left one of two tables, it is one of them
-  pub one : (before after : TableValue) → EachEither (g.image disk) library before after → (table ≡ before) ⊎ (table ≡ after)
+  pub one : IsOneOf (g.image disk) library table
   pub formatted : IsForeign (g.size_of disk) (g.contents disk) → ⊥
 
 -- a store of the library was opened on the disk, with a table
@@ -74,7 +83,7 @@ pub record IsTold {D : Type 0} (g : Ghosts D) (disk back : D) (library : TreeVal
   -- a disk that is too small or not formatted is found to be that before memory is taken
   pub early : IsForeign (g.size_of disk) (g.contents disk) → IsEarly fault
   -- where a stop has left one of two tables, only memory or the device can be wanting
-  pub late : IsRefusal fault → (before after : TableValue) → HoldsEither (g.image disk) library before after → ⊥
+  pub late : IsRefusal fault → IsNoneOfTwo (g.image disk) library
 
 -- nothing was opened, and the disk is handed back
 pub record IsNotOpened {D : Type 0} (g : Ghosts D) (disk back : D) (library : TreeValue) (fault : OpenFault) : Type 0 where

@@ -48,8 +48,10 @@ Plans old body new (Change planned) = IsPlanned old body planned × BringsNoLock
 
 -- a change that was decided is refused, or to be made
 abbrev pub PlansChange : State → ℕ → Event → List ℕ → Plan → Type 0
-PlansChange state tag event fields (Answered reply) = (code : HResult) × (allowed event state.table ≡ Err code) × (reply ≡ refusal tag code None)
-PlansChange state tag event fields (Change planned) = (planned ≡ record { tag = tag; event = event; fields = fields }) × IsOk (allowed event state.table)
+PlansChange state tag event fields (Answered reply) =
+    (code : HResult) × (allowed event state.table ≡ Err code) × (reply ≡ refusal tag code None)
+PlansChange state tag event fields (Change planned) =
+    (planned ≡ record { tag = tag; event = event; fields = fields }) × IsOk (allowed event state.table)
 
 -- what was answered made no event
 abbrev pub HasNoEvent : State → List ℕ → Plan → Type 0

@@ -1,5 +1,6 @@
 -- A reply other than S_OK leaves no trace.
-use Rattle.std.proofs.Common.{◌≡◌, ℕ, ◌==◌, Bool, true, false, List, [], ◌∷◌, Result, Ok, Err, refl, sym, ap, ◌∙◌, subst, inl, inr, true≢false}
+use Rattle.std.proofs.Common.{◌≡◌, ℕ, ◌==◌, Bool, true, false, List, [], ◌∷◌, Result, Ok, Err, refl, sym, ap, ◌∙◌, subst, inl, inr}
+use Rattle.std.proofs.Common.{true≢false}
 use Rattle.std.specs.Prelude.{◌&&◌, not, if◌then◌else◌}
 use Rattle.std.proofs.lemmas.Bool.Decides.{eqb_tells}
 use Rattle.oa_model.specs.declared.hresult.HResult.{HResult}
@@ -37,17 +38,20 @@ quiet_leaves : (state : State) (o : Outcome) → IsQuiet o → after_outcome sta
 quiet_leaves state o h = rw (h.0, h.1) refl
 
 -- its outcome changes nothing
-pub quiet_step : (state : State) (tag : ℕ) (request : Request) → ((reply_of state tag request).code.0 ≡ 0 → ⊥) → IsQuiet (outcome state request)
+pub quiet_step : (state : State) (tag : ℕ) (request : Request) → ((reply_of state tag request).code.0 ≡ 0 → ⊥)
+    → IsQuiet (outcome state request)
 quiet_step state tag request n = quiet_outcome state (decided state request) n
 
 pub quiet_turn : (old new : State) (body : List ℕ) (reply : ReplyValue) → Turn old body reply new → (reply.code.0 ≡ 0 → ⊥) → new ≡ old
 quiet_turn old new body reply (inl s) n =
-    s.leaves ∙ quiet_leaves old (outcome old s.request) (quiet_step old (tag_at body) s.request (λ e. n (ap (λ (r : ReplyValue). r.code.0) s.answers ∙ e)))
+    let quiet = quiet_step old (tag_at body) s.request (λ e. n (ap (λ (r : ReplyValue). r.code.0) s.answers ∙ e)) in
+    s.leaves ∙ quiet_leaves old (outcome old s.request) quiet
 quiet_turn old new body reply (inr (inl s)) n = s.leaves
 quiet_turn old new body reply (inr (inr (inl s))) n = s.leaves
 quiet_turn old new body reply (inr (inr (inr s))) n = s.leaves
 
-pub quiet_run : (old new : State) (bodies : List (List ℕ)) (replies : List ReplyValue) → Run old bodies replies new → Run old (done_bodies bodies replies) (done_replies replies) new
+pub quiet_run : (old new : State) (bodies : List (List ℕ)) (replies : List ReplyValue) → Run old bodies replies new
+    → Run old (done_bodies bodies replies) (done_replies replies) new
 quiet_run old new [] [] r = r
 quiet_run old new [] (y ∷ ys) r = absurd r
 quiet_run old new (x ∷ xs) [] r = absurd r
@@ -59,8 +63,8 @@ quiet_run old new (x ∷ xs) (y ∷ ys) r =
     ]
 
 -- any of these turns may be left out
-pub quiet_choice : (old new : State) (choices : List Bool) (bodies : List (List ℕ)) (replies : List ReplyValue) → Run old bodies replies new
-    → Run old (kept_bodies choices bodies replies) (kept_replies choices replies) new
+pub quiet_choice : (old new : State) (choices : List Bool) (bodies : List (List ℕ)) (replies : List ReplyValue)
+    → Run old bodies replies new → Run old (kept_bodies choices bodies replies) (kept_replies choices replies) new
 quiet_choice old new [] bodies replies r = r
 quiet_choice old new (chosen ∷ choices) [] [] r = r
 quiet_choice old new (chosen ∷ choices) [] (y ∷ ys) r = absurd r
@@ -68,7 +72,8 @@ quiet_choice old new (chosen ∷ choices) (x ∷ xs) [] r = absurd r
 quiet_choice old new (chosen ∷ choices) (x ∷ xs) (y ∷ ys) r = by chosen (y.code.0 == 0) refl (quiet_choice r.0 new choices xs ys r.2)
   where
     by : (chosen success : Bool) → (y.code.0 == 0) ≡ success → Run r.0 (kept_bodies choices xs ys) (kept_replies choices ys) new
-        → Run old (if chosen && not success then kept_bodies choices xs ys else x ∷ kept_bodies choices xs ys) (if chosen && not success then kept_replies choices ys else y ∷ kept_replies choices ys) new
+        → Run old (if chosen && not success then kept_bodies choices xs ys else x ∷ kept_bodies choices xs ys)
+        (if chosen && not success then kept_replies choices ys else y ∷ kept_replies choices ys) new
     by true true is rest = (r.0, r.1, rest)
     by false success is rest = (r.0, r.1, rest)
     by true false is rest =

@@ -21,11 +21,6 @@ abbrev pub disk_of : {D : Type 0} {g : Ghosts D} → Storage D g → D
 disk_of (Memory disk) = disk
 disk_of (Disk store) = store.disk
 
--- the library that the store has
-abbrev pub HasText : {D : Type 0} {g : Ghosts D} → Storage D g → List ℕ → Type 0
-HasText (Memory disk) text = ⊤
-HasText (Disk store) text = store.library.items ≡ text
-
 -- One body is answered: by a turn in memory, where no call of the disk is made, or over a store.
 abbrev pub Answers : {D : Type 0} {g : Ghosts D} → Storage D g → Storage D g → State → List ℕ → ReplyValue → State → Type 0
 Answers (Memory old) (Memory new) before body reply after = (new ≡ old) × Turn before body reply after
@@ -33,9 +28,10 @@ Answers (Disk old) (Disk new) before body reply after = IsAnswered old new befor
 Answers (Memory old) (Disk new) before body reply after = ⊥
 Answers (Disk old) (Memory new) before body reply after = ⊥
 
--- Bodies are answered in groups of a size: by a run in memory; over a store by a run with its moments, up to a fault of the device; after a fault all
--- are answered that.
-pub record ServesStore {D : Type 0} {g : Ghosts D} (size : ℕ) (old new : Store D g) (before : State) (bodies : List (List ℕ)) (replies : List ReplyValue) (after : State) : Type 0 where
+-- Bodies are answered in groups of a size: by a run in memory; over a store by a run with its moments, up to a fault of the device;
+-- after a fault all are answered that.
+pub record ServesStore {D : Type 0} {g : Ghosts D} (size : ℕ) (old new : Store D g) (before : State) (bodies : List (List ℕ))
+    (replies : List ReplyValue) (after : State) : Type 0 where
   pub served : old.stopped ≡ false → IsServed requests size old new before after bodies replies
   pub late : old.stopped ≡ true → IsLate old new before after bodies replies
 

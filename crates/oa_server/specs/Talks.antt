@@ -1,5 +1,5 @@
 -- Sessions of a server over streams, in memory and over a store.
-use Rattle.std.specs.Prelude.{◌≡◌, ◌<◌, ◌≤◌, ℕ, false, true, List, [], ◌∷◌, ◌++◌, length, map, vec_capacity, Result, ⊤}
+use Rattle.std.specs.Prelude.{◌≡◌, ◌<◌, ◌≤◌, ℕ, false, true, List, [], ◌∷◌, ◌++◌, length, map, Result, ⊤}
 use Rattle.oa_disk.specs.declared.disk.Disk.{Ghosts}
 use Rattle.oa_frame.specs.Framings.{Frames}
 use Rattle.oa_frame.specs.Sessions.{Session, joined, spelled_all}
@@ -18,37 +18,41 @@ use Rattle.oa_server.specs.declared.clerk.Clerk.{Clerk}
 use Rattle.oa_server.specs.declared.hand.Hand.{Hand}
 use Rattle.oa_server.specs.declared.storage.Storage.{Storage}
 use Rattle.oa_server.specs.declared.storage.Storage.TheVariants.{Disk, Memory}
-use Rattle.oa_server.specs.Hands.{IsReady, desk}
+use Rattle.oa_server.specs.Hands.{CanTake, desk_of}
 use Rattle.oa_server.specs.Requests.{requests}
-use Rattle.oa_server.specs.Serving.{none_held, turn_written}
+use Rattle.oa_server.specs.Serving.{last_written, none_held, turn_written}
 use Rattle.oa_server.specs.States.{State}
 use Rattle.oa_server.specs.Storages.{Serves}
 
 -- the hand can take one request more
 abbrev pub HandIsReady : {D : Type 0} {g : Ghosts D} → Storage D g → Hand → Type 0
 HandIsReady (Memory disk) hand = ⊤
-HandIsReady (Disk store) hand = IsReady store hand.size (vec_capacity hand.replies) hand.replies.items hand.frame
+HandIsReady (Disk store) hand = CanTake store hand
 
 -- One body is taken into the group in hand, and these replies are handed out.
-abbrev pub TakenIn : {D : Type 0} {g : Ghosts D} → Storage D g → State → Hand → List ℕ → List ReplyValue → Storage D g → State → Hand → Type 0
-TakenIn (Disk old) before hand body told (Disk new) after hand' = IsTaken requests hand.size body told (desk old before hand.replies.items hand.frame) (desk new after hand'.replies.items hand'.frame)
+abbrev pub TakenIn : {D : Type 0} {g : Ghosts D} → Storage D g → State → Hand → List ℕ → List ReplyValue
+    → Storage D g → State → Hand → Type 0
+TakenIn (Disk old) before hand body told (Disk new) after hand' =
+    IsTaken requests hand.size body told (desk_of old before hand) (desk_of new after hand')
 TakenIn (Disk old) before hand body told (Memory new) after hand' = ⊥
 TakenIn (Memory old) before hand body told new after hand' = ⊥
 
 abbrev pub EndedIn : {D : Type 0} {g : Ghosts D} → Storage D g → State → Hand → List ReplyValue → Storage D g → State → Hand → Type 0
-EndedIn (Disk old) before hand told (Disk new) after hand' = IsEnded requests told (desk old before hand.replies.items hand.frame) (desk new after hand'.replies.items hand'.frame)
+EndedIn (Disk old) before hand told (Disk new) after hand' = IsEnded requests told (desk_of old before hand) (desk_of new after hand')
 EndedIn (Disk old) before hand told (Memory new) after hand' = ⊥
 EndedIn (Memory old) before hand told new after hand' = ⊥
 
 -- the same, with the bytes of the replies, which have no length before them
-pub record IsTakenOver {D : Type 0} {g : Ghosts D} (old : Storage D g) (before : State) (hand : Hand) (body : List ℕ) (replies : List (List ℕ)) (new : Storage D g) (after : State) (hand' : Hand) : Type 0 where
+pub record IsTakenOver {D : Type 0} {g : Ghosts D} (old : Storage D g) (before : State) (hand : Hand) (body : List ℕ)
+    (replies : List (List ℕ)) (new : Storage D g) (after : State) (hand' : Hand) : Type 0 where
   pub told : List ReplyValue
   pub are : replies ≡ map reply_record told
   pub size : hand'.size ≡ hand.size
   pub ready : HandIsReady new hand'
   pub taken : TakenIn old before hand body told new after hand'
 
-pub record IsEndedOver {D : Type 0} {g : Ghosts D} (old : Storage D g) (before : State) (hand : Hand) (replies : List (List ℕ)) (new : Storage D g) (after : State) (hand' : Hand) : Type 0 where
+pub record IsEndedOver {D : Type 0} {g : Ghosts D} (old : Storage D g) (before : State) (hand : Hand)
+    (replies : List (List ℕ)) (new : Storage D g) (after : State) (hand' : Hand) : Type 0 where
   pub told : List ReplyValue
   pub are : replies ≡ map reply_record told
   pub ended : EndedIn old before hand told new after hand'
@@ -74,24 +78,26 @@ abbrev pub ended_written : {D : Type 0} {g : Ghosts D} → Clerk D g → List (L
 ended_written old replies new = Ended old.storage old.host old.hand replies new.storage new.host new.hand
 
 -- what is handed out was put on a writer, or the writer failed in it
-pub record PutsTaken {D : Type 0} {g : Ghosts D} (f : Frames) (old : Storage D g) (before : State) (hand : Hand) (body : List ℕ) (new : Storage D g) (after : State) (hand' : Hand)
-    (result : Result (Unit {0}) Unwritten) (out out' : Output) : Type 0 where
+pub record PutsTaken {D : Type 0} {g : Ghosts D} (f : Frames) (old : Storage D g) (before : State) (hand : Hand) (body : List ℕ)
+    (new : Storage D g) (after : State) (hand' : Hand) (result : Result (Unit {0}) Unwritten) (out out' : Output) : Type 0 where
   pub replies : List (List ℕ)
   pub turned : Taken old before hand body replies new after hand'
   pub put : Puts result out out' (spelled_all f.spelled replies)
 
-pub record PutsAlone (f : Frames) (before : State) (body : List ℕ) (after : State) (result : Result (Unit {0}) Unwritten) (out out' : Output) : Type 0 where
+pub record PutsAlone (f : Frames) (before : State) (body : List ℕ) (after : State)
+    (result : Result (Unit {0}) Unwritten) (out out' : Output) : Type 0 where
   pub replies : List (List ℕ)
   pub turned : turn_written before body replies after
   pub put : Puts result out out' (spelled_all f.spelled replies)
 
-pub record PutsEnded {D : Type 0} {g : Ghosts D} (f : Frames) (old : Storage D g) (before : State) (hand : Hand) (new : Storage D g) (after : State) (hand' : Hand)
-    (result : Result (Unit {0}) Unwritten) (out out' : Output) : Type 0 where
+pub record PutsEnded {D : Type 0} {g : Ghosts D} (f : Frames) (old : Storage D g) (before : State) (hand : Hand)
+    (new : Storage D g) (after : State) (hand' : Hand) (result : Result (Unit {0}) Unwritten) (out out' : Output) : Type 0 where
   pub held : List (List ℕ)
   pub ended : Ended old before hand held new after hand'
   pub put : Puts result out out' (spelled_all f.spelled held)
 
-pub record LeavesEnded {D : Type 0} {g : Ghosts D} (old : Storage D g) (before : State) (hand : Hand) (new : Storage D g) (after : State) (hand' : Hand) : Type 0 where
+pub record LeavesEnded {D : Type 0} {g : Ghosts D} (old : Storage D g) (before : State) (hand : Hand)
+    (new : Storage D g) (after : State) (hand' : Hand) : Type 0 where
   pub held : List (List ℕ)
   pub ended : Ended old before hand held new after hand'
 
@@ -125,8 +131,10 @@ abbrev pub handed_of : List Part → List (List (List ℕ))
 handed_of [] = []
 handed_of (part ∷ parts) = at_last part.bodies (map reply_record part.told) ++ handed_of parts
 
--- The last of these bodies ends a group: it fills it, or the checkpoint before the group's first event has failed. Before it no group is whole.
-pub record IsGroup {D : Type 0} {g : Ghosts D} (size : ℕ) (new : Store D g) (before : State) (bodies : List (List ℕ)) (told : List ReplyValue) (after : State) : Type 0 where
+-- The last of these bodies ends a group: it fills it, or the checkpoint before the group's first event has failed. Before it no group
+-- is whole.
+pub record IsGroup {D : Type 0} {g : Ghosts D} (size : ℕ) (new : Store D g) (before : State) (bodies : List (List ℕ))
+    (told : List ReplyValue) (after : State) : Type 0 where
   pub group : List (Entry ReplyValue)
   pub bodies_are : bodies ≡ map body_of group
   pub run : Run requests before group after
@@ -135,7 +143,8 @@ pub record IsGroup {D : Type 0} {g : Ghosts D} (size : ℕ) (new : Store D g) (b
   pub whole : new.stopped ≡ false → (is_full size group ≡ true) × (told ≡ map reply_of group)
 
 -- These bodies are no group yet: another request could have come to them.
-pub record IsRest {D : Type 0} {g : Ghosts D} (size : ℕ) (new : Store D g) (before : State) (bodies : List (List ℕ)) (told : List ReplyValue) (after : State) : Type 0 where
+pub record IsRest {D : Type 0} {g : Ghosts D} (size : ℕ) (new : Store D g) (before : State) (bodies : List (List ℕ))
+    (told : List ReplyValue) (after : State) : Type 0 where
   pub held : List (Entry ReplyValue)
   pub bodies_are : bodies ≡ map body_of held
   pub run : Run requests before held after
@@ -143,19 +152,24 @@ pub record IsRest {D : Type 0} {g : Ghosts D} (size : ℕ) (new : Store D g) (be
   pub told_are : new.stopped ≡ false → told ≡ map reply_of held
 
 -- So one group over a store; in memory, and after a fault of the device, one body.
-abbrev pub EndsGroup : {D : Type 0} {g : Ghosts D} → ℕ → Storage D g → Storage D g → State → List (List ℕ) → List ReplyValue → State → Type 0
-EndsGroup size (Disk old) (Disk new) before bodies told after = (old.stopped ≡ false → IsGroup size new before bodies told after) × (old.stopped ≡ true → length bodies ≡ 1)
+abbrev pub EndsGroup : {D : Type 0} {g : Ghosts D} → ℕ → Storage D g → Storage D g → State → List (List ℕ) → List ReplyValue
+    → State → Type 0
+EndsGroup size (Disk old) (Disk new) before bodies told after =
+    (old.stopped ≡ false → IsGroup size new before bodies told after) × (old.stopped ≡ true → length bodies ≡ 1)
 EndsGroup size (Disk old) (Memory new) before bodies told after = ⊥
 EndsGroup size (Memory old) new before bodies told after = length bodies ≡ 1
 
 -- So over a store; in memory, and after a fault of the device, none is in hand.
-abbrev pub EndsBefore : {D : Type 0} {g : Ghosts D} → ℕ → Storage D g → Storage D g → State → List (List ℕ) → List ReplyValue → State → Type 0
-EndsBefore size (Disk old) (Disk new) before bodies told after = (old.stopped ≡ false → IsRest size new before bodies told after) × (old.stopped ≡ true → bodies ≡ [])
+abbrev pub EndsBefore : {D : Type 0} {g : Ghosts D} → ℕ → Storage D g → Storage D g → State → List (List ℕ) → List ReplyValue
+    → State → Type 0
+EndsBefore size (Disk old) (Disk new) before bodies told after =
+    (old.stopped ≡ false → IsRest size new before bodies told after) × (old.stopped ≡ true → bodies ≡ [])
 EndsBefore size (Disk old) (Memory new) before bodies told after = ⊥
 EndsBefore size (Memory old) new before bodies told after = bodies ≡ []
 
 -- A part is a call of its own, of so many bodies at most, and one group.
-pub record IsPart {D : Type 0} {g : Ghosts D} (size : ℕ) (old new : Storage D g) (before : State) (part : Part) (after : State) : Type 0 where
+pub record IsPart {D : Type 0} {g : Ghosts D} (size : ℕ) (old new : Storage D g) (before : State) (part : Part)
+    (after : State) : Type 0 where
   pub few : length part.bodies ≤ size
   pub ends : EndsGroup size old new before part.bodies part.told after
   pub serves : Serves size old new before part.bodies part.told after
@@ -163,16 +177,19 @@ pub record IsPart {D : Type 0} {g : Ghosts D} (size : ℕ) (old new : Storage D 
 -- Each part begins where the one before has ended.
 abbrev pub Parts : {D : Type 0} {g : Ghosts D} → ℕ → Storage D g → Storage D g → State → List Part → State → Type 0
 Parts size old new before [] after = (new ≡ old) × (after ≡ before)
-Parts {D} {g} size old new before (part ∷ parts) after = (mid : Storage D g) × (state : State) × IsPart size old mid before part state × Parts size mid new state parts after
+Parts {D} {g} size old new before (part ∷ parts) after =
+    (mid : Storage D g) × (state : State) × IsPart size old mid before part state × Parts size mid new state parts after
 
 -- the calls that the parts are
 abbrev pub calls_of : ℕ → List Part → List (Call ReplyValue)
 calls_of size [] = []
 calls_of size (part ∷ parts) = record { size = size; bodies = part.bodies; replies = part.told } ∷ calls_of size parts
 
--- The bodies of a session part by part: the replies of each, one group, are handed out at its last body, that is, before the next one is read, and are
--- those of a call that is over by then. What is in hand at the end is no group yet; it is a call too, whose replies are handed out then.
-pub record InParts {D : Type 0} {g : Ghosts D} (size : ℕ) (old new : Storage D g) (before after : State) (bodies : List (List ℕ)) (handed : List (List (List ℕ))) (held : List (List ℕ)) : Type 0 where
+-- The bodies of a session part by part: the replies of each, one group, are handed out at its last body, that is, before the next one
+-- is read, and are those of a call that is over by then. What is in hand at the end is no group yet; it is a call too, whose replies are
+-- handed out then.
+pub record InParts {D : Type 0} {g : Ghosts D} (size : ℕ) (old new : Storage D g) (before after : State) (bodies : List (List ℕ))
+    (handed : List (List (List ℕ))) (held : List (List ℕ)) : Type 0 where
   pub parts : List Part
   pub in_hand : List (List ℕ)
   pub told : List ReplyValue
@@ -186,10 +203,22 @@ pub record InParts {D : Type 0} {g : Ghosts D} (size : ℕ) (old new : Storage D
   pub rest : EndsBefore size mid new state in_hand told after
   pub ends : Serves size mid new state in_hand told after
 
--- A whole session: what was read and written, and that these replies are what serving the bodies that were read in groups of this size makes.
-pub record ServesSession {D : Type 0} {g : Ghosts D} (f : Frames) (last : List ℕ) (input input' : Input) (out out' : Output) (size : ℕ) (old new : Storage D g) (before after : State) (served : Served) : Type 0 where
+-- A whole session: what was read and written, and that these replies are what serving the bodies that were read in groups of this size
+-- makes.
+pub record ServesSession {D : Type 0} {g : Ghosts D} (f : Frames) (last : List ℕ) (input input' : Input) (out out' : Output)
+    (size : ℕ) (old new : Storage D g) (before after : State) (served : Served) : Type 0 where
   pub io : Session f any_turn any_end last input input' out out' tt tt served
   pub told : List ReplyValue
   pub replies_are : joined io.handed ++ io.held ≡ map reply_record told
   pub serves : Serves size old new before io.bodies told after
   pub in_parts : InParts size old new before after io.bodies io.handed io.held
+
+-- the same of a server
+abbrev pub HasTalked : {D : Type 0} {g : Ghosts D} → Frames → Input → Input → Output → Output → ℕ → Clerk D g → Clerk D g → Served → Type 0
+HasTalked f input input' out out' size old new served =
+    ServesSession f last_written input input' out out' size old.storage new.storage old.host new.host served
+
+-- in memory each reply is handed out at its body
+abbrev pub HasTalkedInMemory : Frames → Input → Input → Output → Output → State → State → Served → Type 0
+HasTalkedInMemory f input input' out out' old new served =
+    Session f turn_written none_held last_written input input' out out' old new served

@@ -29,4 +29,5 @@ kept_bodies (chosen ∷ choices) (body ∷ bodies) (reply ∷ replies) =
 abbrev pub kept_replies : List Bool → List ReplyValue → List ReplyValue
 kept_replies [] replies = replies
 kept_replies (chosen ∷ choices) [] = []
-kept_replies (chosen ∷ choices) (reply ∷ replies) = if leaves_out chosen reply then kept_replies choices replies else reply ∷ kept_replies choices replies
+kept_replies (chosen ∷ choices) (reply ∷ replies) =
+    if leaves_out chosen reply then kept_replies choices replies else reply ∷ kept_replies choices replies

@@ -41,7 +41,8 @@ pub record LacksMemory (old : State) (body : List ℕ) (reply : ReplyValue) (new
 
 -- one turn
 abbrev pub Turn : State → List ℕ → ReplyValue → State → Type 0
-Turn old body reply new = Steps old body reply new ⊎ (RefusesStub old body reply new ⊎ (RefusesType old body reply new ⊎ LacksMemory old body reply new))
+Turn old body reply new =
+    Steps old body reply new ⊎ (RefusesStub old body reply new ⊎ (RefusesType old body reply new ⊎ LacksMemory old body reply new))
 
 -- one turn after another
 abbrev pub Run : State → List (List ℕ) → List ReplyValue → State → Type 0

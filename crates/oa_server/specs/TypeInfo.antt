@@ -15,4 +15,5 @@ unfoldable pub description_of : State → ℕ → Option DescriptionValue
 description_of state index = description_at state.library index
 
 abbrev pub information : State → ℕ → Result Decision Refusal
-information state index = known disp_e_badindex (description_of state index) >>= λ description. Ok (Answer s_ok (description_field description))
+information state index =
+    known disp_e_badindex (description_of state index) >>= λ description. Ok (Answer s_ok (description_field description))

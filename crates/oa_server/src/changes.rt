@@ -1,11 +1,12 @@
 //! The ways in which a table changes.
 ghost use Rattle.std.specs.Prelude.{◌≡◌, ◌-◌, ◌<◌, ◌≤◌, ◌++◌, IsErrOf, IsOk, Ok, OnErr, OnOk, false, length, true};
 ghost use Rattle.oa_model.specs.Limits.{max_event_bytes};
+ghost use Rattle.oa_groups.specs.Desks.{KeepsCommitted, LeavesCommitted};
 ghost use Rattle.oa_groups.specs.Served.{Goes};
 ghost use Rattle.oa_image.specs.Events.{event_image};
 ghost use Rattle.oa_journal.specs.Bank.{bank_bytes};
 ghost use Rattle.oa_journal.specs.Replays.{Replays};
-ghost use Rattle.oa_keeper.specs.Kept.{AllHold, HasRoom, LeavesTable};
+ghost use Rattle.oa_keeper.specs.Kept.{HasRoom};
 ghost use Rattle.oa_keeper.specs.declared.fault.KeepFault.{KeepFault};
 ghost use Rattle.oa_server.specs.Decisions.{MakesTable, RelocksTable};
 ghost use Rattle.oa_server.specs.Limits.{ChangesTable, IsSound, allowed, within_limits};
@@ -128,8 +129,8 @@ pub(crate) fn hold_change<D: Disk>(
     ensures first { IsErrOf result KeepFault.Write → length frame.old ≡ 0 }
     ensures event { OnOk result (frame.new ≡ frame.old ++ event_image event) }
     ensures same { OnErr result (frame.new ≡ frame.old) }
-    ensures any_moment { (committed : TableValue) → (length frame.old ≡ 0 → unlocked_table table.old ≡ committed) → AllHold store.old committed → LeavesTable store.old store.new committed }
-    ensures each { store.new.stopped ≡ false → (committed : TableValue) → (length frame.old ≡ 0 → unlocked_table table.old ≡ committed) → AllHold store.old committed → AllHold store.new committed }
+    ensures any_moment { LeavesCommitted frame.old (unlocked_table table.old) store.old store.new }
+    ensures each { store.new.stopped ≡ false → KeepsCommitted frame.old (unlocked_table table.old) store.old store.new }
     // No checkpoint is made that is not due.
     ensures undue { 1572869 ≤ bank_bytes - store.old.bank.gate → store.new.disk ≡ store.old.disk }
     ensures room { store.new.stopped ≡ false → HasRoom frame.new store.new }

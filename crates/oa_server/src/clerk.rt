@@ -64,7 +64,8 @@ pub(crate) fn run_with<D: Disk>(
     group: usize,
 ) -> Result<Vec<Reply>, AllocError>
     requires positive { 1 ≤ group }
-    ensures serves { IfOk result (λ replies. Serves group storage.old storage.new host.old (map (λ b. b.items) bodies.now) replies.items host.new) }
+    ensures serves { IfOk result (λ replies. Serves group storage.old storage.new host.old (map (λ b. b.items) bodies.now) replies.items
+        host.new) }
     ensures memory { InMemory storage.old → IfOk result (λ replies. Run host.old (map (λ b. b.items) bodies.now) replies.items host.new) }
     ensures err { OnErr result ((storage.new ≡ storage.old) × (host.new ≡ host.old)) }
 {

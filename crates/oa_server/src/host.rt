@@ -1,16 +1,18 @@
 //! A library and a table in memory, and one turn after another.
-ghost use Rattle.std.specs.Prelude.{◌≡◌, ◌⊎◌, ◌-◌, ◌<◌, ◌≤◌, List, ℕ, [], map, length, true, false, IsOk, IfOk, OnOk, OnErr};
+ghost use Rattle.std.specs.Prelude.{◌≡◌, ◌-◌, ◌≤◌, List, ℕ, [], map, length, true, false, IsOk, IfOk, OnOk, OnErr};
 ghost use Rattle.oa_groups.specs.Served.{Goes};
 ghost use Rattle.oa_journal.specs.Bank.{bank_bytes};
-ghost use Rattle.oa_keeper.specs.Kept.{AllHold, HasRoom, LeavesTable};
+ghost use Rattle.oa_groups.specs.Desks.{KeepsCommitted, LeavesCommitted};
+ghost use Rattle.oa_keeper.specs.Kept.{HasRoom};
 ghost use Rattle.oa_server.specs.Decisions.{ChangesNoLocks, Decides, after_outcome, relocked, relocking};
 ghost use Rattle.oa_server.specs.Limits.{IsSound, allowed};
 ghost use Rattle.oa_server.specs.Plans.{Drafts, HasNoEvent, HoldsSame, IsDrafted, IsPlanned, Plans, PlansChange};
-ghost use Rattle.oa_server.specs.Requests.{HasTurn, IsHeldBack, held_of, is_starved};
+ghost use Rattle.oa_server.specs.Hands.{CallsForEvent};
+ghost use Rattle.oa_server.specs.Requests.{HasTurn, IsHeldBack, held_of};
 ghost use Rattle.oa_server.specs.Steps.{decided, reply_with, takes_memory};
 ghost use Rattle.oa_server.specs.Turns.{Run, Turn};
 ghost use Rattle.oa_table.specs.Events.{BringsNoLocks};
-ghost use Rattle.oa_table.specs.Tables.{TableValue, first_table};
+ghost use Rattle.oa_table.specs.Tables.{first_table};
 
 use crate::changes::{change, change_locks, hold_change};
 use crate::decision::{Decision, LockChange, Undecided};
@@ -137,8 +139,8 @@ impl Host {
         }
     }
 
-    /// One turn over a store. Its event is added to those in hand; before the first of them a checkpoint is made, where one is due. At `Err` the
-    /// checkpoint failed.
+    /// One turn over a store. Its event is added to those in hand; before the first of them a checkpoint is made, where one is due. At
+    /// `Err` the checkpoint failed.
     pub(crate) fn turn_held<D: Disk>(
         &mut self,
         store: &mut Store<D>,
@@ -152,9 +154,9 @@ impl Host {
         ensures same { OnErr result (frame.new ≡ frame.old) }
         ensures first { OnErr result (length frame.old ≡ 0) }
         // The device is called for an event alone, or for one that would have been but for memory.
-        ensures calls { IfOk result (λ reply. (store.new.disk ≡ store.old.disk) ⊎ ((length frame.old < length frame.new) ⊎ (is_starved reply ≡ true))) }
-        ensures any_moment { (committed : TableValue) → (length frame.old ≡ 0 → held_of self.old ≡ committed) → AllHold store.old committed → LeavesTable store.old store.new committed }
-        ensures each { store.new.stopped ≡ false → (committed : TableValue) → (length frame.old ≡ 0 → held_of self.old ≡ committed) → AllHold store.old committed → AllHold store.new committed }
+        ensures calls { IfOk result (CallsForEvent store.old store.new frame.old frame.new) }
+        ensures any_moment { LeavesCommitted frame.old (held_of self.old) store.old store.new }
+        ensures each { store.new.stopped ≡ false → KeepsCommitted frame.old (held_of self.old) store.old store.new }
         // No checkpoint is made that is not due.
         ensures undue { 1572869 ≤ bank_bytes - store.old.bank.gate → store.new.disk ≡ store.old.disk }
         ensures room { store.new.stopped ≡ false → HasRoom frame.new store.new }
@@ -179,14 +181,15 @@ impl Host {
         requires allowed { IsOk (allowed planned.event self.old.table) }
         requires goes_on { store.old.stopped ≡ false }
         requires room { HasRoom frame.old store.old }
-        ensures turn { IfOk result (λ reply. (body : List ℕ) → IsPlanned self.old body planned → IsHeldBack body reply frame.old frame.new self.old self.new) }
+        ensures turn { IfOk result (λ reply. (body : List ℕ) → IsPlanned self.old body planned
+            → IsHeldBack body reply frame.old frame.new self.old self.new) }
         ensures failed { OnErr result ((body : List ℕ) → IsPlanned self.old body planned → HasTurn body self.old self.new) }
         ensures same { OnErr result (frame.new ≡ frame.old) }
         ensures first { OnErr result (length frame.old ≡ 0) }
         // The device is called for an event alone, or for one that would have been but for memory.
-        ensures calls { IfOk result (λ reply. (store.new.disk ≡ store.old.disk) ⊎ ((length frame.old < length frame.new) ⊎ (is_starved reply ≡ true))) }
-        ensures any_moment { (committed : TableValue) → (length frame.old ≡ 0 → held_of self.old ≡ committed) → AllHold store.old committed → LeavesTable store.old store.new committed }
-        ensures each { store.new.stopped ≡ false → (committed : TableValue) → (length frame.old ≡ 0 → held_of self.old ≡ committed) → AllHold store.old committed → AllHold store.new committed }
+        ensures calls { IfOk result (CallsForEvent store.old store.new frame.old frame.new) }
+        ensures any_moment { LeavesCommitted frame.old (held_of self.old) store.old store.new }
+        ensures each { store.new.stopped ≡ false → KeepsCommitted frame.old (held_of self.old) store.old store.new }
         // No checkpoint is made that is not due.
         ensures undue { 1572869 ≤ bank_bytes - store.old.bank.gate → store.new.disk ≡ store.old.disk }
         ensures room { store.new.stopped ≡ false → HasRoom frame.new store.new }

@@ -4,7 +4,7 @@ ghost use Rattle.oa_groups.specs.Desks.{IsEnded, IsSettled, IsTaken};
 ghost use Rattle.oa_groups.specs.Served.{IsServed};
 ghost use Rattle.oa_keeper.specs.Kept.{HasRoom};
 ghost use Rattle.oa_server.specs.Answers.{IsAnswered, IsLate};
-ghost use Rattle.oa_server.specs.Hands.{HandsOut, IsReady, desk};
+ghost use Rattle.oa_server.specs.Hands.{CanTake, CanTakeCleared, HandsOut, cleared_desk, desk_of};
 ghost use Rattle.oa_server.specs.Requests.{requests};
 
 use crate::hand::{Hand, withdraw};
@@ -16,8 +16,8 @@ use oa_record::{Reply, tag_of};
 use oa_store::Store;
 use std::alloc::AllocError;
 
-/// Answers one body: a group of one, whose frame is its own. After a fault of the device the answer is that the store has failed, and nothing is
-/// done.
+/// Answers one body: a group of one, whose frame is its own. After a fault of the device the answer is that the store has failed, and
+/// nothing is done.
 pub(crate) fn answer_over<D: Disk>(host: &mut Host, store: &mut Store<D>, body: &[u8]) -> Reply
     ensures { IsAnswered store.old store.new host.old host.new body.now result }
 {
@@ -49,7 +49,8 @@ fn settle<D: Disk>(host: &Host, store: &mut Store<D>, hand: &mut Hand)
     requires goes_on { store.old.stopped ≡ false }
     requires room { HasRoom hand.old.frame store.old }
     requires few { length hand.old.frame ≤ 1572863 }
-    ensures settled { IsSettled requests hand.new.replies.items (desk store.old host.now hand.old.replies.items hand.old.frame) (desk store.new host.now [] hand.new.frame) }
+    ensures settled { IsSettled requests hand.new.replies.items (desk_of store.old host.now hand.old)
+        (cleared_desk store.new host.now hand.new) }
     ensures frame { hand.new.frame ≡ [] }
     ensures len { length hand.new.replies.items ≡ length hand.old.replies.items }
     ensures places { vec_capacity hand.new.replies ≡ vec_capacity hand.old.replies }
@@ -67,11 +68,13 @@ pub(crate) fn take<D: Disk>(
     hand: &mut Hand,
     body: &[u8],
 ) -> bool
-    requires ready { IsReady store.old hand.old.size (vec_capacity hand.old.replies) hand.old.replies.items hand.old.frame }
-    ensures held { result ≡ false → IsTaken requests hand.old.size body.now [] (desk store.old host.old hand.old.replies.items hand.old.frame) (desk store.new host.new hand.new.replies.items hand.new.frame) }
-    ensures told { result ≡ true → IsTaken requests hand.old.size body.now hand.new.replies.items (desk store.old host.old hand.old.replies.items hand.old.frame) (desk store.new host.new [] hand.new.frame) }
-    ensures ready { result ≡ false → IsReady store.new hand.new.size (vec_capacity hand.new.replies) hand.new.replies.items hand.new.frame }
-    ensures cleared { result ≡ true → IsReady store.new hand.new.size (vec_capacity hand.new.replies) [] hand.new.frame }
+    requires ready { CanTake store.old hand.old }
+    ensures held { result ≡ false
+        → IsTaken requests hand.old.size body.now [] (desk_of store.old host.old hand.old) (desk_of store.new host.new hand.new) }
+    ensures told { result ≡ true → IsTaken requests hand.old.size body.now hand.new.replies.items (desk_of store.old host.old hand.old)
+        (cleared_desk store.new host.new hand.new) }
+    ensures ready { result ≡ false → CanTake store.new hand.new }
+    ensures cleared { result ≡ true → CanTakeCleared store.new hand.new }
     ensures one { length hand.new.replies.items ≡ length hand.old.replies.items + 1 }
     ensures size { hand.new.size ≡ hand.old.size }
 {
@@ -105,9 +108,10 @@ pub(crate) fn take<D: Disk>(
 
 /// The input has ended: what is in hand is a group, whose replies are to be handed out.
 pub(crate) fn finish<D: Disk>(host: &Host, store: &mut Store<D>, hand: &mut Hand)
-    requires ready { IsReady store.old hand.old.size (vec_capacity hand.old.replies) hand.old.replies.items hand.old.frame }
-    ensures ended { IsEnded requests hand.new.replies.items (desk store.old host.now hand.old.replies.items hand.old.frame) (desk store.new host.now [] hand.new.frame) }
-    ensures cleared { IsReady store.new hand.new.size (vec_capacity hand.new.replies) [] hand.new.frame }
+    requires ready { CanTake store.old hand.old }
+    ensures ended { IsEnded requests hand.new.replies.items (desk_of store.old host.now hand.old)
+        (cleared_desk store.new host.now hand.new) }
+    ensures cleared { CanTakeCleared store.new hand.new }
     ensures len { length hand.new.replies.items ≡ length hand.old.replies.items }
     ensures size { hand.new.size ≡ hand.old.size }
 {
@@ -125,10 +129,11 @@ fn take_on<D: Disk>(
     body: &[u8],
     out: &mut Vec<Reply>,
 )
-    requires ready { IsReady store.old hand.old.size (vec_capacity hand.old.replies) hand.old.replies.items hand.old.frame }
+    requires ready { CanTake store.old hand.old }
     requires places { length out.old.items + length hand.old.replies.items < vec_capacity out.old }
-    ensures taken { HandsOut (λ told. IsTaken requests hand.old.size body.now told (desk store.old host.old hand.old.replies.items hand.old.frame) (desk store.new host.new hand.new.replies.items hand.new.frame)) out.old.items out.new.items }
-    ensures ready { IsReady store.new hand.new.size (vec_capacity hand.new.replies) hand.new.replies.items hand.new.frame }
+    ensures taken { HandsOut (λ told. IsTaken requests hand.old.size body.now told (desk_of store.old host.old hand.old)
+        (desk_of store.new host.new hand.new)) out.old.items out.new.items }
+    ensures ready { CanTake store.new hand.new }
     ensures one { length out.new.items + length hand.new.replies.items ≡ length out.old.items + length hand.old.replies.items + 1 }
     ensures places { vec_capacity out.old ≤ vec_capacity out.new }
     ensures size { hand.new.size ≡ hand.old.size }
@@ -140,9 +145,10 @@ fn take_on<D: Disk>(
 
 /// The input has ended: the replies in hand are handed out too.
 fn finish_on<D: Disk>(host: &Host, store: &mut Store<D>, hand: &mut Hand, out: &mut Vec<Reply>)
-    requires ready { IsReady store.old hand.old.size (vec_capacity hand.old.replies) hand.old.replies.items hand.old.frame }
+    requires ready { CanTake store.old hand.old }
     requires places { length out.old.items + length hand.old.replies.items ≤ vec_capacity out.old }
-    ensures ended { HandsOut (λ told. IsEnded requests told (desk store.old host.now hand.old.replies.items hand.old.frame) (desk store.new host.now hand.new.replies.items hand.new.frame)) out.old.items out.new.items }
+    ensures ended { HandsOut (λ told. IsEnded requests told (desk_of store.old host.now hand.old) (desk_of store.new host.now hand.new))
+        out.old.items out.new.items }
 {
     finish(host, store, hand);
     hand_out(&mut hand.replies, out);
@@ -167,8 +173,10 @@ pub(crate) fn run_over<D: Disk>(
     group: usize,
 ) -> Result<Vec<Reply>, AllocError>
     requires positive { 1 ≤ group }
-    ensures served { store.old.stopped ≡ false → IfOk result (λ replies. IsServed requests group store.old store.new host.old host.new (map (λ b. b.items) bodies.now) replies.items) }
-    ensures late { store.old.stopped ≡ true → IfOk result (λ replies. IsLate store.old store.new host.old host.new (map (λ b. b.items) bodies.now) replies.items) }
+    ensures served { store.old.stopped ≡ false → IfOk result (λ replies. IsServed requests group store.old store.new host.old host.new
+        (map (λ b. b.items) bodies.now) replies.items) }
+    ensures late { store.old.stopped ≡ true → IfOk result (λ replies. IsLate store.old store.new host.old host.new
+        (map (λ b. b.items) bodies.now) replies.items) }
     ensures err { OnErr result ((store.new ≡ store.old) × (host.new ≡ host.old)) }
 {
     let alloc = host.allocator();

@@ -33,8 +33,8 @@ pub(crate) fn is_surely_within(table: &Table, event: &Event) -> bool
     event_len(event) <= MAX_EVENT_BYTES && table.most_after(event) <= MAX_TABLE_BYTES
 }
 
-/// Whether the image of the table has too many bytes after an event that applies. Where even the most that it can have are few, they are not
-/// counted.
+/// Whether the image of the table has too many bytes after an event that applies. Where even the most that it can have are few, they are
+/// not counted.
 fn is_too_large(table: &Table, event: &Event) -> bool
     ensures { (new : TableValue) → applied event.now table.now ≡ Ok new → result ≡ nat_lt 14680064 (length (table_image new)) }
 {

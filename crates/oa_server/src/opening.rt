@@ -1,14 +1,15 @@
 // Opening a store with a library: its table has to be one of that library.
-ghost use Rattle.std.specs.Prelude.{◌≡◌, ◌↔◌, ◌⊎◌, ◌≤◌, List, ℕ, Some, IsTrue, false, length, true, IfOk, IfErr};
+ghost use Rattle.std.specs.Prelude.{◌≡◌, ◌↔◌, ◌⊎◌, ◌≤◌, Some, IsTrue, false, length, true, IfOk, IfErr};
 ghost use Rattle.oa_model.specs.Limits.{max_library_bytes, max_table_bytes};
 ghost use Rattle.oa_idl.specs.Canonical.{canonical};
 ghost use Rattle.oa_image.specs.Tables.{is_numbered, table_image};
-ghost use Rattle.oa_server.specs.Openings.{CanServe, EachEither, HoldsEither, IsNotOpened, IsOpened, IsUnfit};
+ghost use Rattle.oa_keeper.specs.Kept.{EachIs};
+ghost use Rattle.oa_server.specs.Openings.{CanServe, IsNoneOfTwo, IsNotOpened, IsOneOf, IsOpened, IsUnfit};
 ghost use Rattle.oa_server.specs.Storages.{OverStore};
 ghost use Rattle.oa_store.specs.Faults.{IsCaused, IsEarly, IsRefusal, Says};
 ghost use Rattle.oa_store.specs.Reads.{WritesNothing};
-ghost use Rattle.oa_store.specs.Stores.{IsForeign, IsStore, IsStoreAt};
-ghost use Rattle.oa_table.specs.Tables.{TableValue, unlocked_table};
+ghost use Rattle.oa_store.specs.Stores.{IsForeign, IsStore};
+ghost use Rattle.oa_table.specs.Tables.{unlocked_table};
 
 use crate::Server;
 use oa_disk::Disk;
@@ -51,16 +52,18 @@ pub(crate) fn open_store<D: Disk>(
     library: &Library,
 ) -> Result<(Store<D>, Table), (D, OpenFault)>
     // Each image at the end is a store of the answered table, and so are the contents at the start.
-    ensures found { IfOk result (λ r. IsTrue (D.is_honest r.0.disk) → (c : List ℕ) → D.image r.0.disk c → IsStoreAt r.0.chosen r.0.bank.gate (canonical library.now) r.1 c) }
+    ensures found { IfOk result (λ r. IsTrue (D.is_honest r.0.disk)
+        → EachIs (D.image r.0.disk) r.0.chosen r.0.bank.gate (canonical library.now) r.1) }
     ensures contents { IfOk result (λ r. IsTrue (D.is_honest r.0.disk) → IsStore (D.contents disk) (canonical library.now) r.1) }
     ensures unlocked { IfOk result (λ r. IsTrue (D.is_honest r.0.disk) → unlocked_table r.1 ≡ r.1) }
     ensures serves { IfOk result (λ r. CanServe library.now r.1) }
     ensures starts { IfOk result (λ r. (r.0.stopped ≡ false) × (r.0.library.items ≡ canonical library.now) × (is_numbered r.1 ≡ true)) }
     // Where a stop has left one of two tables, that one is answered, and no refusal says that there is none.
-    ensures either { IfOk result (λ r. IsTrue (D.is_honest r.0.disk) → (before after : TableValue) → EachEither (D.image disk) library.now before after → (r.1 ≡ before) ⊎ (r.1 ≡ after)) }
-    ensures refused { IfErr result (λ e. IsRefusal e.1 → IsTrue (D.is_honest e.0) → (before after : TableValue) → HoldsEither (D.image disk) library.now before after → ⊥) }
+    ensures either { IfOk result (λ r. IsTrue (D.is_honest r.0.disk) → IsOneOf (D.image disk) library.now r.1) }
+    ensures refused { IfErr result (λ e. IsRefusal e.1 → IsTrue (D.is_honest e.0) → IsNoneOfTwo (D.image disk) library.now) }
     // A refusal is true of the contents at the start.
-    ensures says { IfErr result (λ e. IsTrue (D.is_honest e.0) → Says (Some (canonical library.now)) (D.size_of disk) (D.contents disk) e.1 ⊎ IsUnfit library.now (D.contents disk) e.1) }
+    ensures says { IfErr result (λ e. IsTrue (D.is_honest e.0)
+        → Says (Some (canonical library.now)) (D.size_of disk) (D.contents disk) e.1 ⊎ IsUnfit library.now (D.contents disk) e.1) }
     // A disk that is too small or not formatted is found to be that before memory is taken.
     ensures early { IfErr result (λ e. IsTrue (D.is_honest e.0) → IsForeign (D.size_of disk) (D.contents disk) → IsEarly e.1) }
     ensures foreign { IfOk result (λ r. IsTrue (D.is_honest r.0.disk) → IsForeign (D.size_of disk) (D.contents disk) → ⊥) }
@@ -86,12 +89,13 @@ pub(crate) fn open_store<D: Disk>(
 }
 
 impl<D: Disk> Server<D> {
-    /// Opens the store of this library that is on the disk, and serves its table. It writes nothing, and begins with a sync. A refusal hands the
-    /// disk back; it is Damaged(0) also where the library cannot have the table, or a bank has no room for its image. Locks end with a session: the
-    /// table has none.
+    /// Opens the store of this library that is on the disk, and serves its table. It writes nothing, and begins with a sync. A refusal
+    /// hands the disk back; it is Damaged(0) also where the library cannot have the table, or a bank has no room for its image. Locks end
+    /// with a session: the table has none.
     pub fn open(alloc: Global, disk: D, library: Library) -> Result<Server<D>, (D, OpenFault)>
         ensures library { IfOk result (λ server. server.clerk.host.library ≡ library) }
-        ensures opened { IfOk result (λ server. OverStore server.clerk.storage (λ store. IsOpened D.Disk disk library store server.clerk.host.table)) }
+        ensures opened { IfOk result (λ server. OverStore server.clerk.storage
+            (λ store. IsOpened D.Disk disk library store server.clerk.host.table)) }
         ensures refused { IfErr result (λ e. IsNotOpened D.Disk disk e.0 library e.1) }
     {
         match open_store(alloc, disk, &library) {

@@ -64,8 +64,8 @@ impl<D: Disk> Server<D> {
         clerk.into_disk()
     }
 
-    /// Answers one body: over a store a group of one, which is committed before this returns. Want of memory is told in the reply, which then leaves
-    /// the server as it was.
+    /// Answers one body: over a store a group of one, which is committed before this returns. Want of memory is told in the reply, which
+    /// then leaves the server as it was.
     pub fn answer(&mut self, body: &[u8]) -> Reply
         ensures answers { Answers self.old.clerk.storage self.new.clerk.storage self.old.clerk.host body.now result self.new.clerk.host }
         ensures memory { InMemory self.old.clerk.storage → Turn self.old.clerk.host body.now result self.new.clerk.host }
@@ -73,13 +73,15 @@ impl<D: Disk> Server<D> {
         answer_with(&mut self.clerk.host, &mut self.clerk.storage, body)
     }
 
-    /// Answers bodies in turn. `group` is from 1 to 1,024: the changes of so many requests are committed together, and their replies stand behind that.
-    /// In memory it makes no difference. Err only where memory is refused before anything was done.
+    /// Answers bodies in turn. `group` is from 1 to 1,024: the changes of so many requests are committed together, and their replies stand
+    /// behind that. In memory it makes no difference. Err only where memory is refused before anything was done.
     pub fn run(&mut self, bodies: &[Vec<u8>], group: usize) -> Result<Vec<Reply>, AllocError>
         requires positive { 1 ≤ group }
         requires small { group ≤ max_group }
-        ensures serves { IfOk result (λ replies. Serves group self.old.clerk.storage self.new.clerk.storage self.old.clerk.host (map (λ b. b.items) bodies.now) replies.items self.new.clerk.host) }
-        ensures memory { InMemory self.old.clerk.storage → IfOk result (λ replies. Run self.old.clerk.host (map (λ b. b.items) bodies.now) replies.items self.new.clerk.host) }
+        ensures serves { IfOk result (λ replies. Serves group self.old.clerk.storage self.new.clerk.storage self.old.clerk.host
+            (map (λ b. b.items) bodies.now) replies.items self.new.clerk.host) }
+        ensures memory { InMemory self.old.clerk.storage
+            → IfOk result (λ replies. Run self.old.clerk.host (map (λ b. b.items) bodies.now) replies.items self.new.clerk.host) }
         ensures err { OnErr result ((self.new.clerk.storage ≡ self.old.clerk.storage) × (self.new.clerk.host ≡ self.old.clerk.host)) }
     {
         run_with(&mut self.clerk.host, &mut self.clerk.storage, bodies, group)

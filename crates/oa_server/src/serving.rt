@@ -4,10 +4,10 @@ ghost use Rattle.oa_model.specs.Limits.{max_group};
 ghost use Rattle.oa_stream.specs.Ahead.{ahead};
 ghost use Rattle.oa_stream.specs.Sink.{Puts};
 ghost use Rattle.oa_frame.specs.Framings.{frames, hex_lines, records};
-ghost use Rattle.oa_frame.specs.Sessions.{Session, spelled_all};
+ghost use Rattle.oa_frame.specs.Sessions.{spelled_all};
 ghost use Rattle.oa_record.specs.Replies.{reply_record};
-ghost use Rattle.oa_server.specs.Serving.{last_written, none_held, turn_written};
-ghost use Rattle.oa_server.specs.Talks.{HandIsReady, LeavesEnded, PutsAlone, PutsEnded, PutsTaken, ServesSession, TakesBodies, ended_written, taken_written};
+ghost use Rattle.oa_server.specs.Talks.{HandIsReady, HasTalked, HasTalkedInMemory, LeavesEnded, PutsAlone, PutsEnded, PutsTaken};
+ghost use Rattle.oa_server.specs.Talks.{TakesBodies, ended_written, taken_written};
 ghost use Rattle.oa_server.specs.Storages.{InMemory};
 ghost use Rattle.oa_server.specs.declared.storage.Storage.TheVariants.{Disk as ADisk};
 
@@ -63,7 +63,8 @@ impl<D: Disk> Responder for Clerk<D> {
     }
 }
 
-/// Answers one body. In memory its reply is written; over a store it is held until its group ends, and then all replies of the group are written.
+/// Answers one body. In memory its reply is written; over a store it is held until its group ends, and then all replies of the group are
+/// written.
 fn respond_with<D: Disk, W: Sink>(
     host: &mut Host,
     storage: &mut Storage<D>,
@@ -74,7 +75,8 @@ fn respond_with<D: Disk, W: Sink>(
 ) -> Result<(), Unwritten>
     requires ready { HandIsReady storage.old hand.old }
     requires unbroken { (W.out writer.old).broken ≡ false }
-    ensures taken { PutsTaken (frames framing) storage.old host.old hand.old body.now storage.new host.new hand.new result (W.out writer.old) (W.out writer.new) }
+    ensures taken { PutsTaken (frames framing) storage.old host.old hand.old body.now storage.new host.new hand.new result
+        (W.out writer.old) (W.out writer.new) }
     ensures ready { HandIsReady storage.new hand.new }
 {
     match storage {
@@ -109,7 +111,8 @@ fn respond_over<D: Disk, W: Sink>(
     requires ready { HandIsReady (ADisk store.old) hand.old }
     requires unbroken { (W.out writer.old).broken ≡ false }
     ensures ready { HandIsReady (ADisk store.new) hand.new }
-    ensures taken { PutsTaken (frames framing) (ADisk store.old) host.old hand.old body.now (ADisk store.new) host.new hand.new result (W.out writer.old) (W.out writer.new) }
+    ensures taken { PutsTaken (frames framing) (ADisk store.old) host.old hand.old body.now (ADisk store.new) host.new hand.new result
+        (W.out writer.old) (W.out writer.new) }
 {
     if !take(host, store, hand, body) {
         return Ok(());
@@ -129,7 +132,8 @@ fn finish_with<D: Disk, W: Sink>(
 ) -> Result<(), Unwritten>
     requires ready { HandIsReady storage.old hand.old }
     requires unbroken { (W.out writer.old).broken ≡ false }
-    ensures ended { PutsEnded (frames framing) storage.old host.now hand.old storage.new host.now hand.new result (W.out writer.old) (W.out writer.new) }
+    ensures ended { PutsEnded (frames framing) storage.old host.now hand.old storage.new host.now hand.new result
+        (W.out writer.old) (W.out writer.new) }
 {
     match storage {
         Storage::Memory(_) => Ok(()),
@@ -147,7 +151,8 @@ fn finish_over<D: Disk, W: Sink>(
 ) -> Result<(), Unwritten>
     requires ready { HandIsReady (ADisk store.old) hand.old }
     requires unbroken { (W.out writer.old).broken ≡ false }
-    ensures ended { PutsEnded (frames framing) (ADisk store.old) host.now hand.old (ADisk store.new) host.now hand.new result (W.out writer.old) (W.out writer.new) }
+    ensures ended { PutsEnded (frames framing) (ADisk store.old) host.now hand.old (ADisk store.new) host.now hand.new result
+        (W.out writer.old) (W.out writer.new) }
 {
     finish(host, store, hand);
     let put = put_replies(framing, writer, &hand.replies);
@@ -191,10 +196,10 @@ fn put_replies<W: Sink>(
 }
 
 impl<D: Disk> Server<D> {
-    /// Answers the bodies of a reader, a line of hexadecimal digits each, by lines on a writer. `group` is from 1 to 1,024: over a store the changes
-    /// of so many requests are committed together, and their replies are written behind that; in memory each reply is written before the next
-    /// line is read. At the end what is in hand is committed and its replies are written. All replies that are written are handed on before each
-    /// wait for more input. Err only where memory is refused before anything was read.
+    /// Answers the bodies of a reader, a line of hexadecimal digits each, by lines on a writer. `group` is from 1 to 1,024: over a store
+    /// the changes of so many requests are committed together, and their replies are written behind that; in memory each reply is written
+    /// before the next line is read. At the end what is in hand is committed and its replies are written. All replies that are written are
+    /// handed on before each wait for more input. Err only where memory is refused before anything was read.
     pub fn serve_hex<R: Source + Drop, W: Sink>(
         &mut self,
         reader: &mut Ahead<R>,
@@ -205,10 +210,10 @@ impl<D: Disk> Server<D> {
         requires small { group ≤ max_group }
         requires unbroken { (ahead R.input reader.old).faulted ≡ false }
         requires unbroken_writer { (W.out writer.old).broken ≡ false }
-        ensures session { IfOk result (λ served. ServesSession hex_lines last_written (ahead R.input reader.old) (ahead R.input reader.new) (W.out writer.old) (W.out writer.new)
-            group self.old.clerk.storage self.new.clerk.storage self.old.clerk.host self.new.clerk.host served) }
-        ensures memory { InMemory self.old.clerk.storage → IfOk result (λ served. Session hex_lines turn_written none_held last_written (ahead R.input reader.old) (ahead R.input reader.new)
-            (W.out writer.old) (W.out writer.new) self.old.clerk.host self.new.clerk.host served) }
+        ensures session { IfOk result (HasTalked hex_lines (ahead R.input reader.old) (ahead R.input reader.new)
+            (W.out writer.old) (W.out writer.new) group self.old.clerk self.new.clerk) }
+        ensures memory { InMemory self.old.clerk.storage → IfOk result (HasTalkedInMemory hex_lines (ahead R.input reader.old)
+            (ahead R.input reader.new) (W.out writer.old) (W.out writer.new) self.old.clerk.host self.new.clerk.host) }
         ensures input { OnErr result (ahead R.input reader.new ≡ ahead R.input reader.old) }
         ensures output { OnErr result (W.out writer.new ≡ W.out writer.old) }
         ensures state { OnErr result (self.new ≡ self.old) }
@@ -227,10 +232,10 @@ impl<D: Disk> Server<D> {
         requires small { group ≤ max_group }
         requires unbroken { (ahead R.input reader.old).faulted ≡ false }
         requires unbroken_writer { (W.out writer.old).broken ≡ false }
-        ensures session { IfOk result (λ served. ServesSession records last_written (ahead R.input reader.old) (ahead R.input reader.new) (W.out writer.old) (W.out writer.new)
-            group self.old.clerk.storage self.new.clerk.storage self.old.clerk.host self.new.clerk.host served) }
-        ensures memory { InMemory self.old.clerk.storage → IfOk result (λ served. Session records turn_written none_held last_written (ahead R.input reader.old) (ahead R.input reader.new)
-            (W.out writer.old) (W.out writer.new) self.old.clerk.host self.new.clerk.host served) }
+        ensures session { IfOk result (HasTalked records (ahead R.input reader.old) (ahead R.input reader.new)
+            (W.out writer.old) (W.out writer.new) group self.old.clerk self.new.clerk) }
+        ensures memory { InMemory self.old.clerk.storage → IfOk result (HasTalkedInMemory records (ahead R.input reader.old)
+            (ahead R.input reader.new) (W.out writer.old) (W.out writer.new) self.old.clerk.host self.new.clerk.host) }
         ensures input { OnErr result (ahead R.input reader.new ≡ ahead R.input reader.old) }
         ensures output { OnErr result (W.out writer.new ≡ W.out writer.old) }
         ensures state { OnErr result (self.new ≡ self.old) }
@@ -250,10 +255,10 @@ fn session_with<D: Disk, R: Source + Drop, W: Sink>(
     requires positive { 1 ≤ group }
     requires unbroken { (ahead R.input reader.old).faulted ≡ false }
     requires unbroken_writer { (W.out writer.old).broken ≡ false }
-    ensures session { IfOk result (λ served. ServesSession (frames framing) last_written (ahead R.input reader.old) (ahead R.input reader.new) (W.out writer.old) (W.out writer.new)
-        group clerk.old.storage clerk.new.storage clerk.old.host clerk.new.host served) }
-    ensures memory { InMemory clerk.old.storage → IfOk result (λ served. Session (frames framing) turn_written none_held last_written (ahead R.input reader.old) (ahead R.input reader.new)
-        (W.out writer.old) (W.out writer.new) clerk.old.host clerk.new.host served) }
+    ensures session { IfOk result (HasTalked (frames framing) (ahead R.input reader.old) (ahead R.input reader.new)
+        (W.out writer.old) (W.out writer.new) group clerk.old clerk.new) }
+    ensures memory { InMemory clerk.old.storage → IfOk result (HasTalkedInMemory (frames framing) (ahead R.input reader.old)
+        (ahead R.input reader.new) (W.out writer.old) (W.out writer.new) clerk.old.host clerk.new.host) }
     ensures input { OnErr result (ahead R.input reader.new ≡ ahead R.input reader.old) }
     ensures output { OnErr result (W.out writer.new ≡ W.out writer.old) }
     ensures state { OnErr result (clerk.new ≡ clerk.old) }

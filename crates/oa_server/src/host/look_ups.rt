@@ -46,7 +46,8 @@ impl Host {
     /// The object of a number.
     pub(super) fn find_object(&self, number: u32) -> Result<&LiveObject, Refusal>
         ensures live { IfOk result (λ object. object_at number self.now.table ≡ Some object.now) }
-        ensures refused { IfErr result (λ refusal. (object_at number self.now.table ≡ None) × (refusal ≡ record { code = rpc_e_disconnected; index = None })) }
+        ensures refused { IfErr result (λ refusal. (object_at number self.now.table ≡ None)
+            × (refusal ≡ record { code = rpc_e_disconnected; index = None })) }
     {
         match self.table.object(number) {
             Some(object) => Ok(object),
@@ -76,7 +77,8 @@ impl Host {
         interface: &Uuid,
         riid: &Uuid,
     ) -> Result<Dispinterface<'_>, Refusal>
-        ensures { (number : ℕ) → object_at number self.now.table ≡ Some object.now → result ≡ interface_found self.now number interface.now riid.now }
+        ensures { (number : ℕ) → object_at number self.now.table ≡ Some object.now
+            → result ≡ interface_found self.now number interface.now riid.now }
     {
         let Some(found) = self.library.select(&object.class(), interface) else {
             return Err(Refusal::of(HResult::E_NOINTERFACE));

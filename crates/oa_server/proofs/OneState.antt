@@ -6,7 +6,7 @@ use Rattle.oa_groups.specs.Turns.{Entry}
 use Rattle.oa_record.specs.Asks.{Asks}
 use Rattle.oa_record.specs.Replies.{ReplyValue}
 use Rattle.oa_record.specs.declared.request.Request.{Request}
-use Rattle.oa_server.specs.Quiet.{quiet_turn}
+use Rattle.oa_server.specs.NoTrace.{quiet_turn}
 use Rattle.oa_server.specs.Requests.{requests}
 use Rattle.oa_server.specs.States.{State}
 use Rattle.oa_server.specs.Steps.{after}

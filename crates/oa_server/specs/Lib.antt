@@ -23,7 +23,7 @@ pub mod Serving
 pub mod Traces
 pub mod Openings
 pub mod OwnCodes
-pub mod Quiet
+pub mod NoTrace
 pub mod Requests
 pub mod Hands
 pub mod Answers

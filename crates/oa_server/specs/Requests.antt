@@ -12,7 +12,7 @@ use Rattle.oa_record.specs.Replies.{ReplyValue}
 use Rattle.oa_record.specs.declared.request.Request.{Request}
 use Rattle.oa_table.specs.declared.event.Event.{Event}
 use Rattle.oa_table.specs.Tables.{TableValue, unlocked_table}
-use Rattle.oa_server.specs.Quiet.{quiet_turn}
+use Rattle.oa_server.specs.NoTrace.{quiet_turn}
 use Rattle.oa_server.specs.States.{State}
 use Rattle.oa_server.specs.Steps.{outcome, refusal}
 use Rattle.oa_server.specs.Turns.{Turn}

@@ -1,4 +1,4 @@
-use Rattle.oa_server.specs.Quiet.{quiet_choice, quiet_run, quiet_step, quiet_turn}
+use Rattle.oa_server.specs.NoTrace.{quiet_choice, quiet_run, quiet_step, quiet_turn}
 use Rattle.oa_server.proofs.laws.no_trace.Goals as goal
 
 pub returns : goal.returns

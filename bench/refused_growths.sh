@@ -1,5 +1,5 @@
 #!/usr/bin/env bash
-# Runs each test of the two crates of raw memory with one call of the allocator refused: its first, then its second, and so on
+# Runs each test of the two crates of raw memory, which stand in oa_value_tests, with one call of the allocator refused: its first, then its second, and so on
 # until no test calls so often. Each test has to pass each time, and to free each block that it got.
 # A line for each number; the status is 0 where all passed. The gate does not run it.
 # (rt try --test --fail-alloc N does the same for one N, and does not say whether a test calls so often.)
@@ -39,24 +39,24 @@ __attribute__((destructor)) static void tell(void) {
 }
 C
 
+(cd oa_value_tests && rt test >"$room/log" 2>&1) || { cat "$room/log"; exit 1; }
+tests=$PWD/oa_value_tests/out/oa_value_tests_tests
 status=0
-for crate in oa_cells oa_bstr; do
-    (cd "$crate" && rt test >"$room/log" 2>&1) || { cat "$room/log"; exit 1; }
-    tests=$PWD/$crate/out/${crate}_tests
+for module in cells bstr; do
     for ((n = 1, met = 1; met > 0; n++)); do
         passed=0 failed=0 met=0
-        for name in $("$tests" --list | sed -n 's/^\(tests::[a-z0-9_]*\).*/\1/p'); do
+        for name in $("$tests" --list | sed -n "s/^\\($module::[a-z0-9_]*\\).*/\\1/p"); do
             echo 0 -1 >"$room/told"
             if TOLD=$room/told REFUSE=$n LD_PRELOAD=$room/refuse.so "$tests" "$name" >"$room/log" 2>&1 && grep -q ' 0$' "$room/told"; then
                 passed=$((passed + 1))
             else
                 failed=$((failed + 1)) status=1
-                echo "$crate $name, call $n refused: $(cat "$room/log") (calls, blocks left: $(cat "$room/told"))"
+                echo "$name, call $n refused: $(cat "$room/log") (calls, blocks left: $(cat "$room/told"))"
             fi
             read -r calls _ <"$room/told"
             [ "$calls" -lt "$n" ] || met=$((met + 1))
         done
-        echo "$crate, call $n refused: $passed tests passed, $failed failed; $met of them call so often"
+        echo "$module, call $n refused: $passed tests passed, $failed failed; $met of them call so often"
     done
 done
 exit "$status"

@@ -12,6 +12,3 @@ pub use array::{SafeArray, cell_count};
 pub use cell::Cell;
 pub use fault::ArrayFault;
 pub use indices::Indices;
-
-#[cfg(test)]
-mod tests;

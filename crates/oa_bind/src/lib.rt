@@ -12,6 +12,3 @@ mod values;
 pub use binding::bind;
 pub use call::Call;
 pub use fault::BindFault;
-
-#[cfg(test)]
-mod tests;

@@ -7,6 +7,3 @@ mod error;
 
 pub use bstr::Bstr;
 pub use error::BstrError;
-
-#[cfg(test)]
-mod tests;

@@ -10,6 +10,3 @@ mod row;
 pub use cells::Cells;
 pub use partial::Partial;
 pub use row::Row;
-
-#[cfg(test)]
-mod tests;

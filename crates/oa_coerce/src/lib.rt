@@ -9,6 +9,3 @@ mod values;
 
 pub use fault::CoerceFault;
 pub use values::{coerce, coerce_scalar};
-
-#[cfg(test)]
-mod tests;

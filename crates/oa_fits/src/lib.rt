@@ -5,6 +5,3 @@ mod fitting;
 pub mod laws;
 
 pub use fitting::fits;
-
-#[cfg(test)]
-mod tests;

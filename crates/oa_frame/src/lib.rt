@@ -14,6 +14,3 @@ pub use ends::End;
 pub use framing::{Framing, Read, read_body};
 pub use session::{Responder, Served, serve};
 pub use writing::put_reply;
-
-#[cfg(test)]
-mod tests;

@@ -5,6 +5,3 @@ mod group;
 pub mod laws;
 
 pub use group::{GROUP_BYTES, is_full};
-
-#[cfg(test)]
-mod tests;

@@ -11,6 +11,3 @@ pub use event::{EventFormat, event_len, read_event, read_events, write_event};
 pub use oa_layout::ImageFault;
 pub use table::{read_table, write_table};
 pub use value::{write_key, write_value};
-
-#[cfg(test)]
-mod tests;

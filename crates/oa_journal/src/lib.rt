@@ -8,8 +8,6 @@ pub mod laws;
 mod layout;
 mod opening;
 mod reading;
-#[cfg(test)]
-mod tests;
 
 pub use bank::{AppendFault, Bank, BankFault, StartFault};
 pub use layout::{BANK_BYTES, front};

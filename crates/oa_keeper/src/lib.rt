@@ -11,6 +11,3 @@ pub use fault::{Broken, KeepFault};
 pub use frame::Frame;
 pub use keeping::{change, commit, hold, make_room};
 pub use refusal::refusal_of;
-
-#[cfg(test)]
-mod tests;

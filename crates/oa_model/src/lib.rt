@@ -28,6 +28,3 @@ pub use limits::{
     MAX_TEXT_BYTES,
 };
 pub use var_type::{ValueType, VarType};
-
-#[cfg(test)]
-mod tests;

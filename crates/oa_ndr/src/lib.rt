@@ -8,6 +8,3 @@ mod ndr_out;
 
 pub use ndr::{Ndr, Short};
 pub use ndr_out::NdrOut;
-
-#[cfg(test)]
-mod tests;

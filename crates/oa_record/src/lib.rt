@@ -26,6 +26,3 @@ pub use opcode::{Opcode, opcode_of};
 pub use reading::{read_request, tag_of};
 pub use reply::Reply;
 pub use request::{Call, CallHead, GetIds, Request};
-
-#[cfg(test)]
-mod tests;

@@ -19,14 +19,3 @@ mod storage;
 
 pub use oa_frame::{End, Served};
 pub use server::Server;
-
-#[cfg(test)]
-mod array_tests;
-#[cfg(test)]
-mod call_tests;
-#[cfg(test)]
-mod info_tests;
-#[cfg(test)]
-mod session_tests;
-#[cfg(test)]
-mod tests;

@@ -1,4 +1,4 @@
-// Opening a store with a library: its table has to be one of that library.
+//! Opening a store with a library: its table has to be one of that library.
 ghost use Rattle.std.specs.Prelude.{◌≡◌, ◌↔◌, ◌⊎◌, ◌≤◌, Some, IsTrue, false, length, true, IfOk, IfErr};
 ghost use Rattle.oa_model.specs.Limits.{max_library_bytes, max_table_bytes};
 ghost use Rattle.oa_idl.specs.Canonical.{canonical};

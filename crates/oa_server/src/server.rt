@@ -92,18 +92,3 @@ impl<D: Disk> Server<D> {
         self.clerk.host.allocator()
     }
 }
-
-#[cfg(test)]
-impl Server<NoDisk> {
-    /// A server of this library and this table.
-    pub(crate) fn over(alloc: Global, library: Library, table: Table) -> Server<NoDisk>
-        requires { IsSound table }
-        ensures state { result.clerk.host ≡ record { library = library; table = table } }
-        ensures memory { InMemory result.clerk.storage }
-    {
-        let host = Host::over(alloc, library, table);
-        Server {
-            clerk: Clerk::new(alloc, host, Storage::Memory(NoDisk::new())),
-        }
-    }
-}

@@ -8,8 +8,6 @@ mod head;
 pub mod laws;
 mod opening;
 mod store;
-#[cfg(test)]
-mod tests;
 
 pub use fault::{CheckpointFault, CommitFault, FormatFault, OpenFault};
 pub use formatting::format;

@@ -21,6 +21,3 @@ pub use interrupted::Interrupted;
 pub use outlet::Outlet;
 pub use sink::{Sink, Unwritten};
 pub use source::{Next, Source};
-
-#[cfg(test)]
-mod tests;

@@ -22,6 +22,3 @@ pub use name::CellName;
 pub use object::Object;
 pub use place::Place;
 pub use table::Table;
-
-#[cfg(test)]
-mod tests;

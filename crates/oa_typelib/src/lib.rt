@@ -33,6 +33,3 @@ pub use library::{Library, check};
 pub use member::Member;
 pub use members::Dispinterface;
 pub use names::DispIds;
-
-#[cfg(test)]
-mod tests;

@@ -9,6 +9,3 @@ mod variant;
 pub use decimal::Decimal;
 pub use scalar::Scalar;
 pub use variant::Variant;
-
-#[cfg(test)]
-mod tests;

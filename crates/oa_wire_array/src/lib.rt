@@ -14,6 +14,3 @@ pub use array_out::write_array;
 pub use fault::{ReadFault, WireFault};
 pub use scalar::{read_scalar, read_union, scalar_len, write_head, write_scalar};
 pub use text::{read_text, write_text};
-
-#[cfg(test)]
-mod tests;

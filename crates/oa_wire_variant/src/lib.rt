@@ -6,6 +6,3 @@ mod variant;
 
 pub use oa_wire_array::{ReadFault, WireFault};
 pub use variant::{read_variant, wire_len, write_variant};
-
-#[cfg(test)]
-mod tests;

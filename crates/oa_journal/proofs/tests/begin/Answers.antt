@@ -1,6 +1,0 @@
-use Rattle.std.proofs.Common.{arith}
-use Rattle.oa_journal.specs.Banks.{length-first}
-use Rattle.oa_journal.proofs.tests.begin.Goals as goal
-
-pub start-requires-clause-fits : goal.start-requires-clause-fits
-start-requires-clause-fits c = rw c.requires.first (omega (arith, c.requires.few, length-first))

@@ -1,0 +1,281 @@
+//! Texts that are read and printed, and their tokens; what is refused is shown by the cases of the program.
+use oa_idl::{ParseError, TokenKind, parse, print, tokens};
+use std::alloc::Global;
+use std::rt::HostRuntime;
+
+/// Texts that are refused: `^` stands before the token that cannot stand.
+const FAULTS: &str = r#"^library A {}
+[version(1.0)^] library A {}
+[uuid(11223344-5566-7788-99AA-BBCCDDEEFF01)] library ^é {}
+[uuid(11223344-5566-7788-99AA-BBCCDDEEFF01)] library A {^"#;
+
+/// One text behind another.
+fn joined(alloc: Global, parts: &[&str]) -> String {
+    let mut text = String::new(alloc);
+    for part in parts {
+        let _ = text.push_str(part);
+    }
+    text
+}
+
+/// Whether a row is refused at its place.
+fn is_refused(alloc: Global, row: &str) -> bool {
+    let Some((before, after)) = row.split_once('^') else {
+        return false;
+    };
+    let text = joined(alloc, &[before, after]);
+    parse(alloc, text.as_str()).err() == Some(ParseError::Syntax(before.len()))
+}
+
+/// Libraries behind their names that are read, one a line.
+const TREES: &str = r#"{}
+{};
+{/*[*/}// é
+{ importlib("stdole2.tlb"); importlib("é\""); }
+{ [uuid(11223344-5566-7788-99AA-BBCCDDEEFF02)] dispinterface A {} }
+{ [uuid(11223344-5566-7788-99AA-BBCCDDEEFF02)] dispinterface A {}; }
+{ [uuid(11223344-5566-7788-99AA-BBCCDDEEFF02)] dispinterface A { properties: } }
+{ [uuid(11223344-5566-7788-99AA-BBCCDDEEFF02)] dispinterface A { methods: }; importlib("a"); };
+{ [uuid(11223344-5566-7788-99AA-BBCCDDEEFF02)] dispinterface A { properties: methods: } }
+{ [version(70000.0x123456789012345678901234567890), uuid(11223344-5566-7788-99AA-BBCCDDEEFF02)] dispinterface A {} }
+{ [helpstring("é \" \x"), uuid(11223344-5566-7788-99AA-BBCCDDEEFF02), version(1)] coclass A { interface B; } }
+{ [uuid(11223344-5566-7788-99AA-BBCCDDEEFF02)] coclass A { interface B; [default] dispinterface B; interface B; }; }
+{ [uuid(abcdef01-5566-7788-99AA-BBCCDDEEFF02)] dispinterface A {} }
+{ [uuid(11223344-5566-7788-99AA-BBCCDDEEFF02)] dispinterface id { properties: [id(1)] long in; [id(1)] long uuid; [id(1)] long TRUE; [id(1)] long propget; } }
+{ [uuid(11223344-5566-7788-99AA-BBCCDDEEFF02)] dispinterface Long { properties: [id(1)] long LIBRARY; [id(1)] long Void; [id(1)] long default; [id(1)] long _; } }
+{ [uuid(11223344-5566-7788-99AA-BBCCDDEEFF02)] dispinterface helpstring { methods: [id(1)] void version(long readonly, long optional, BSTR defaultvalue, char propput); } }
+{ [uuid(11223344-5566-7788-99AA-BBCCDDEEFF02)] coclass safearray { interface interfaces; interface FALSE; } }"#;
+
+/// How a library begins whose name is a word in other letters.
+const NAMED: &str = "[uuid(11223344-5566-7788-99AA-BBCCDDEEFF01)] library Library ";
+
+#[test]
+fn texts_are_read_or_refused(rt: HostRuntime) {
+    for row in FAULTS.lines() {
+        assert!(rt; is_refused(rt.alloc(), row), "{row}");
+    }
+    for row in TREES.lines() {
+        let text = joined(rt.alloc(), &[NAMED, row]);
+        assert!(rt; parse(rt.alloc(), text.as_str()).is_ok(), "{row}");
+    }
+}
+
+// Parts as they are written, and as they are printed, one a line.
+
+/// The attributes of a library.
+const HEADS: &str =
+    r#"[uuid(11223344-5566-7788-99AA-BBCCDDEEFF01)]=[uuid(11223344-5566-7788-99aa-bbccddeeff01), version(0.0)]
+[version(1), uuid(abcdefAB-cdef-ABCD-efab-CDEFabcdefAB)]=[uuid(abcdefab-cdef-abcd-efab-cdefabcdefab), version(1.0)]
+[helpstring("x"), uuid(00000000-0000-0000-0000-000000000000), version(0x00FF.65535)]=[uuid(00000000-0000-0000-0000-000000000000), version(255.65535)]
+[uuid(00000000-0000-0000-0000-000000000000), version(65535.007), helpstring("")]=[uuid(00000000-0000-0000-0000-000000000000), version(65535.7)]"#;
+
+/// A property.
+const PROPERTIES: &str = r#"[id(0)] char A;=[id(0)] char A;
+[id(-0)] unsigned char A;=[id(0)] unsigned char A;
+[id(2147483647)] short A;=[id(2147483647)] short A;
+[id(-2147483648)] unsigned short A;=[id(-2147483648)] unsigned short A;
+[id(0x80000000)] long A;=[id(-2147483648)] long A;
+[id(0xfffffffe)] unsigned long A;=[id(-2)] unsigned long A;
+[id(0xFFFFFFFC)] int A;=[id(-4)] int A;
+[id(-0x2)] unsigned int A;=[id(-2)] unsigned int A;
+[id(007)] hyper A;=[id(7)] hyper A;
+[id(0x7FFFFFFF)] unsigned hyper A;=[id(2147483647)] unsigned hyper A;
+[readonly,id(1)]CURRENCY A;=[id(1), readonly] CURRENCY A;
+[helpstring("é"), readonly, id(1)] VARIANT_BOOL id;=[id(1), readonly] VARIANT_BOOL id;
+[id(1), helpstring("]")] SCODE A/**/;=[id(1)] SCODE A;
+[id(1)] DECIMAL A;=[id(1)] DECIMAL A;
+[id(1)] BSTR A;=[id(1)] BSTR A;
+[id(1)] VARIANT A;=[id(1)] VARIANT A;
+[id(1)] SAFEARRAY ( unsigned hyper ) A;=[id(1)] SAFEARRAY(unsigned hyper) A;
+[id(1)]SAFEARRAY(VARIANT)A;=[id(1)] SAFEARRAY(VARIANT) A;"#;
+
+/// A method.
+const METHODS: &str = r#"[id(1)] void A();=[id(1)] void A();
+[id(1)] SAFEARRAY(BSTR) A();=[id(1)] SAFEARRAY(BSTR) A();
+[propget, helpstring("x"), id(1)] unsigned long A();=[id(1), propget] unsigned long A();
+[propput, id(-0x10)] void A([in]long B,VARIANT C);=[id(-16), propput] void A([in] long B, VARIANT C);
+[id(1)] void A([optional, in] long in, [in] long optional);=[id(1)] void A([in, optional] long in, [in] long optional);
+[id(1)] void A([defaultvalue(-0), optional] long B);=[id(1)] void A([optional, defaultvalue(0)] long B);
+[id(1)] void A([defaultvalue(-0x1F), in] long B);=[id(1)] void A([in, defaultvalue(-31)] long B);
+[id(1)] void A([defaultvalue(0xFFFFFFFFFFFFFFFFFFFFFFFF)] long B);=[id(1)] void A([defaultvalue(79228162514264337593543950335)] long B);
+[id(1)] void A([defaultvalue(-79228162514264337593543950335)] long B);=[id(1)] void A([defaultvalue(-79228162514264337593543950335)] long B);
+[id(1)] void A([defaultvalue(TRUE)] long B, [defaultvalue(FALSE)] long C);=[id(1)] void A([defaultvalue(TRUE)] long B, [defaultvalue(FALSE)] long C);
+[id(1)] void A([defaultvalue("")] long B, [defaultvalue(" ~\"\\/*")] long C);=[id(1)] void A([defaultvalue("")] long B, [defaultvalue(" ~\"\\/*")] long C);
+[id(1)] void A(SAFEARRAY(unsigned char) B);=[id(1)] void A(SAFEARRAY(unsigned char) B);"#;
+
+/// The entry of a coclass.
+const ENTRIES: &str = r#"interface A;=dispinterface A;
+[default]interface A;=[default] dispinterface A;"#;
+
+/// Whether a text is printed so.
+fn is_printed(alloc: Global, text: &str, wanted: &str) -> bool {
+    match parse(alloc, text) {
+        Ok(tree) => print(alloc, &tree).is_ok_and(|found| found.as_slice() == wanted.as_bytes()),
+        Err(_) => false,
+    }
+}
+
+/// Whether each row's part is printed as it says, between these, and that as itself.
+fn are_printed(alloc: Global, front: &str, back: &str, wanted: [&str; 2], rows: &str) -> bool {
+    for row in rows.lines() {
+        let (part, print) = row.split_once('=').unwrap_or((row, ""));
+        let text = joined(alloc, &[front, part, back]);
+        let print = joined(alloc, &[wanted[0], print, wanted[1]]);
+        let is_so = is_printed(alloc, text.as_str(), print.as_str())
+            && is_printed(alloc, print.as_str(), print.as_str());
+        if !is_so {
+            return false;
+        }
+    }
+    true
+}
+
+/// How a text begins up to the sections of an interface and to the entries of a coclass, and how what is printed of them does.
+const INTERFACE: &str =
+    "[uuid(11223344-5566-7788-99AA-BBCCDDEEFF01)] library Demo { [uuid(11223344-5566-7788-99AA-BBCCDDEEFF02)] dispinterface DItem { properties: ";
+
+const INTERFACE_PRINTED: &str =
+    "[uuid(11223344-5566-7788-99aa-bbccddeeff01), version(0.0)]\nlibrary Demo {\n[uuid(11223344-5566-7788-99aa-bbccddeeff02)]\ndispinterface DItem {\nproperties:\n";
+
+const COCLASS: &str =
+    "[uuid(11223344-5566-7788-99AA-BBCCDDEEFF01)] library Demo { [uuid(11223344-5566-7788-99AA-BBCCDDEEFF03)] coclass Item { ";
+
+const COCLASS_PRINTED: &str =
+    "[uuid(11223344-5566-7788-99aa-bbccddeeff01), version(0.0)]\nlibrary Demo {\n[uuid(11223344-5566-7788-99aa-bbccddeeff03)]\ncoclass Item {\n";
+
+#[test]
+fn parts_are_printed(rt: HostRuntime) {
+    let alloc = rt.alloc();
+    assert!(rt;
+        are_printed(
+            alloc,
+            "",
+            " library A {}",
+            ["", "\nlibrary A {\n}\n"],
+            HEADS
+        )
+    );
+    let printed = [INTERFACE_PRINTED, "\nmethods:\n}\n}\n"];
+    assert!(rt; are_printed(alloc, INTERFACE, " } }", printed, PROPERTIES));
+    let printed = [COCLASS_PRINTED, "\n}\n}\n"];
+    assert!(rt; are_printed(alloc, COCLASS, "};}", printed, ENTRIES));
+}
+
+#[test]
+fn methods_are_printed(rt: HostRuntime) {
+    let front = joined(rt.alloc(), &[INTERFACE, "methods: "]);
+    let printed = joined(rt.alloc(), &[INTERFACE_PRINTED, "methods:\n"]);
+    let printed = [printed.as_str(), "\n}\n}\n"];
+    assert!(rt; are_printed(rt.alloc(), front.as_str(), " } }", printed, METHODS));
+    assert!(rt; is_printed(rt.alloc(), LARGE, LARGE_PRINTED));
+}
+
+/// A library with members of most kinds.
+const LARGE: &str = r#"[uuid(11223344-5566-7788-99AA-BBCCDDEEFF01), version(1.0)]
+library Demo {
+importlib("stdole2.tlb");
+[uuid(11223344-5566-7788-99AA-BBCCDDEEFF02)]
+dispinterface DItem {
+properties:
+  [id(1)] long Count;          [id(2)] BSTR Name;
+  [id(3)] CURRENCY Price;      [id(4)] DECIMAL Exact;
+  [id(5)] VARIANT_BOOL Flag;   [id(6), readonly] long Version;
+  [id(7)] VARIANT Any;         [id(8)] SAFEARRAY(short) Grid;
+methods:
+  [id(9), propget] BSTR Cell([in] long Row, [in] BSTR Key,
+    [in, optional, defaultvalue(1)] short Page);
+  [id(9), propput] void Cell([in] long Row, [in] BSTR Key,
+    [in, optional, defaultvalue(1)] short Page, [in] BSTR Value);
+  [id(10)] void Clear();
+};
+[uuid(11223344-5566-7788-99AA-BBCCDDEEFF03)]
+coclass Item {
+  [default] dispinterface DItem;
+};
+};
+"#;
+
+const LARGE_PRINTED: &str = r#"[uuid(11223344-5566-7788-99aa-bbccddeeff01), version(1.0)]
+library Demo {
+[uuid(11223344-5566-7788-99aa-bbccddeeff02)]
+dispinterface DItem {
+properties:
+[id(1)] long Count;
+[id(2)] BSTR Name;
+[id(3)] CURRENCY Price;
+[id(4)] DECIMAL Exact;
+[id(5)] VARIANT_BOOL Flag;
+[id(6), readonly] long Version;
+[id(7)] VARIANT Any;
+[id(8)] SAFEARRAY(short) Grid;
+methods:
+[id(9), propget] BSTR Cell([in] long Row, [in] BSTR Key, [in, optional, defaultvalue(1)] short Page);
+[id(9), propput] void Cell([in] long Row, [in] BSTR Key, [in, optional, defaultvalue(1)] short Page, [in] BSTR Value);
+[id(10)] void Clear();
+}
+[uuid(11223344-5566-7788-99aa-bbccddeeff03)]
+coclass Item {
+[default] dispinterface DItem;
+}
+}
+"#;
+
+/// A text, and below each of its tokens a letter for its kind, with `_` for each byte more.
+const TOKENS: &str = r#"12abc=D_N__
+0X1F=DN__
+0x1Fg=D___N
+0x 007=DN D__
+0xG0x1=DN____
+_a9/* * / **/b=N__          N
+a//b"/*=N
+[](){},;:.-=MMMMMMMMMMM
+-1.5=MDMD
+a /* b=N J___
+a /*/ b=N J____
+a "b\"=N J___
+"b\"c" d=T_____ N
+"\\""=T___J
+"/*"//"=T___
+11223344-5566-7788-99AA-BBCCDDEEFF020=G___________________________________D
+abcdefAB-cdef-ABCD-efab-CDEFabcdefABg=G___________________________________N
+11223344-5566-7788-99AA-BBCCDDEEFF0=D_______MD___MD___MD_N_MN__________
+a+ b=NJ__
+é=J_
+"é"é=T___J_"#;
+
+fn letter_of(kind: TokenKind) -> &'static str {
+    match kind {
+        TokenKind::Guid => "G",
+        TokenKind::Name => "N",
+        TokenKind::Number => "D",
+        TokenKind::Text => "T",
+        TokenKind::Mark => "M",
+        TokenKind::Junk => "J",
+        TokenKind::End => "E",
+    }
+}
+
+/// The second half of a row.
+fn marked(alloc: Global, text: &str) -> String {
+    let mut out = String::new(alloc);
+    if let Ok(found) = tokens(alloc, text) {
+        for token in found {
+            for _ in out.len()..token.start {
+                let _ = out.push_str(" ");
+            }
+            let _ = out.push_str(letter_of(token.kind));
+            for _ in out.len()..token.end {
+                let _ = out.push_str("_");
+            }
+        }
+    }
+    out
+}
+
+#[test]
+fn texts_have_tokens(rt: HostRuntime) {
+    for row in TOKENS.lines() {
+        let (text, marks) = row.split_once('=').unwrap_or((row, ""));
+        assert!(rt; marked(rt.alloc(), text).as_str() == marks, "{row}");
+    }
+}

@@ -1,0 +1,14 @@
+//! Type libraries and the tables that they allow: texts, look-ups, calls and events.
+#![tactic(auto)]
+
+#[cfg(test)]
+mod bind;
+#[cfg(test)]
+mod fits;
+#[cfg(test)]
+mod idl;
+#[cfg(test)]
+mod table;
+#[cfg(test)]
+mod typelib;
+pub mod values;

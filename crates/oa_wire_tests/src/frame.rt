@@ -1,0 +1,219 @@
+//! Sessions over readers in memory that cut and are interrupted, and over writers that fail.
+ghost use Rattle.std.specs.Prelude.{false, ⊤, ◌≡◌};
+ghost use Rattle.oa_stream.specs.Ahead.{ahead};
+
+use oa_frame::{End, Framing, Responder, laws, put_reply, serve};
+use oa_stream::{
+    Ahead, Behind, Cutting, Gathered, Inlet, Interrupted, Outlet, Sink, Source, Unwritten,
+};
+use std::alloc::{AllocError, Global};
+use std::io::{self, ErrorKind, Write};
+use std::rt::HostRuntime;
+use std::test::Fail;
+
+// Answers each body with itself.
+#[derive(Drop)]
+struct Echo;
+
+impl Responder for Echo {
+    ghost ready = { λ _. ⊤ };
+
+    ghost turn = { λ _ _ _ _. ⊤ };
+
+    ghost ends = { λ _ _ _. ⊤ };
+
+    fn respond<W: Sink>(
+        &mut self,
+        framing: Framing,
+        body: &[u8],
+        writer: &mut W,
+    ) -> Result<(), Unwritten> {
+        let count = body.len().min(1_048_576);
+        put_reply(framing, writer, &[], &body[..count])
+    }
+
+    #[tactic(auto, using(oa_frame::proofs::Spelled::puts_none))]
+    fn finish<W: Sink>(&mut self, _: Framing, _: &mut W) -> Result<(), Unwritten> {
+        Ok(())
+    }
+
+    fn abandon(&mut self) {}
+}
+
+const LAST: [u8; 2] = [0xab, 0xcd];
+
+// How many bodies were answered, and how the session ended.
+fn session<R: Source + Drop, W: Sink>(
+    alloc: Global,
+    framing: Framing,
+    reader: &mut Ahead<R>,
+    writer: &mut W,
+) -> Result<(u64, End), AllocError>
+    requires unbroken { (ahead R.input reader.old).faulted ≡ false }
+    requires unbroken_writer { (W.out writer.old).broken ≡ false }
+{
+    let mut line = Vec::with_capacity(alloc, 2_097_153)?;
+    let mut body: Vec<u8> = Vec::new(alloc);
+    body.resize(1_048_576, 0)?;
+    let served = serve(
+        &mut Echo, framing, &LAST, reader, writer, &mut line, &mut body,
+    );
+    Ok((served.requests, served.why))
+}
+
+// What a session over some bytes does, and what it wrote.
+#[derive(Drop)]
+struct Case {
+    framing: Framing,
+    bytes: &'static [u8],
+    requests: u64,
+    why: End,
+    written: &'static [u8],
+}
+
+const CASES: [Case; 9] = [
+    Case {
+        framing: Framing::HexLines,
+        bytes: b"00ff\r\n1A\n",
+        requests: 2,
+        why: End::Closed,
+        written: b"00ff\n1a\n",
+    },
+    Case {
+        framing: Framing::HexLines,
+        bytes: b"00\n1z\n22\n",
+        requests: 1,
+        why: End::BadHex(2),
+        written: b"00\n",
+    },
+    Case {
+        framing: Framing::HexLines,
+        bytes: b"00\n1a",
+        requests: 2,
+        why: End::Closed,
+        written: b"00\n1a\n",
+    },
+    Case {
+        framing: Framing::HexLines,
+        bytes: b"00\n\n1a\n",
+        requests: 1,
+        why: End::Closed,
+        written: b"00\n",
+    },
+    Case {
+        framing: Framing::Records,
+        bytes: &[2, 0, 0, 0, 7, 8, 1, 0, 0, 0, 9],
+        requests: 2,
+        why: End::Closed,
+        written: &[2, 0, 0, 0, 7, 8, 1, 0, 0, 0, 9],
+    },
+    Case {
+        framing: Framing::Records,
+        bytes: &[1, 0, 0, 0, 9, 0, 0, 0, 0, 5],
+        requests: 1,
+        why: End::Closed,
+        written: &[1, 0, 0, 0, 9],
+    },
+    Case {
+        framing: Framing::Records,
+        bytes: &[1, 0, 0, 0, 7, 8, 0, 0],
+        requests: 1,
+        why: End::Cut,
+        written: &[1, 0, 0, 0, 7, 2, 0, 0, 0, 0xab, 0xcd],
+    },
+    Case {
+        framing: Framing::Records,
+        bytes: &[3, 0, 0, 0, 7, 8],
+        requests: 0,
+        why: End::Cut,
+        written: &[2, 0, 0, 0, 0xab, 0xcd],
+    },
+    Case {
+        framing: Framing::Records,
+        bytes: &[1, 0, 16, 0, 7],
+        requests: 0,
+        why: End::TooLong,
+        written: &[2, 0, 0, 0, 0xab, 0xcd],
+    },
+];
+
+// Whether a case goes so where its bytes come in these cuts, after so many interruptions.
+fn goes(alloc: Global, case: &Case, cuts: &[usize], times: u64) -> Result<bool, AllocError> {
+    let mut reader = Ahead::new(
+        alloc,
+        Interrupted::new(Cutting::new(case.bytes, cuts), times),
+    )?;
+    let mut writer = Gathered::new(Vec::new(alloc));
+    let (requests, why) = session(alloc, case.framing, &mut reader, &mut writer)?;
+    Ok(requests == case.requests && why == case.why && writer.bytes() == case.written)
+}
+
+#[test]
+fn cuts_and_interruptions_change_nothing(rt: HostRuntime) -> Result<(), Fail> {
+    for cuts in [
+        [].as_slice(),
+        [1].as_slice(),
+        [1, 1, 1, 1, 1, 1, 1].as_slice(),
+        [3, 2].as_slice(),
+        [5].as_slice(),
+    ] {
+        for times in [0, 1, 5] {
+            for case in &CASES {
+                assert!(rt; goes(rt.alloc(), case, cuts, times)?);
+            }
+        }
+    }
+    Ok(())
+}
+
+#[test]
+fn so_many_interruptions_are_a_fault(rt: HostRuntime) -> Result<(), Fail> {
+    laws::one_line();
+    laws::one_end();
+    for (times, why) in [(4_194_303, End::Closed), (4_194_304, End::ReadFault)] {
+        for framing in [Framing::HexLines, Framing::Records] {
+            let case = Case {
+                framing,
+                bytes: b"",
+                requests: 0,
+                why,
+                written: b"",
+            };
+            assert!(rt; goes(rt.alloc(), &case, &[], times)?);
+        }
+    }
+    Ok(())
+}
+
+// A writer whose flush alone fails.
+#[derive(Drop)]
+struct Unflushed {
+    flushes: u32,
+}
+
+impl Write for Unflushed {
+    fn write(&mut self, bytes: &[u8]) -> io::Result<usize> {
+        Ok(bytes.len())
+    }
+
+    fn flush(&mut self) -> io::Result<()> {
+        self.flushes = self.flushes.saturating_add(1);
+        Err(io::Error::from(ErrorKind::Other))
+    }
+}
+
+// The end of a session over a device.
+fn over(alloc: Global, device: &mut Unflushed, bytes: &[u8]) -> Result<(u64, End), AllocError> {
+    let mut reader = Ahead::new(alloc, Inlet::new(bytes))?;
+    let mut writer = Behind::new(alloc, Outlet::new(device))?;
+    session(alloc, Framing::HexLines, &mut reader, &mut writer)
+}
+
+#[test]
+fn a_flush_that_fails_is_a_write_fault(rt: HostRuntime) -> Result<(), Fail> {
+    let mut device = Unflushed { flushes: 0 };
+    let end = over(rt.alloc(), &mut device, b"00\n")?;
+    assert_eq!(rt; end, (1, End::WriteFault));
+    assert_eq!(rt; device.flushes, 1);
+    Ok(())
+}

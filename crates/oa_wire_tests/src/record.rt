@@ -1,0 +1,83 @@
+//! Each call that takes memory, with enough of it; bytes are written as digits.
+use crate::digits::bytes_of;
+use oa_record::{
+    ids_field, number_field, put_number_field, put_object_field, put_scalar_field,
+    put_string_field, put_variant_field, read_request, scalar_field, string_field, variant_field,
+};
+use oa_variant::{Scalar, Variant};
+use std::alloc::Global;
+use std::rt::HostRuntime;
+use uuid::Uuid;
+
+/// A body of each opcode. The puts are of the I4 7, the look-up is of "cELL", "KEY" and "none".
+const BODIES: &str = "01000000 01000000 44332211665588 7799aabbccddeeff03
+08000000 02000000 07000000 09090909
+06000000 03000000 01000000 00000000 00000000000000000000000000000000 00000000000000000000000000000000 09040000 03000000 0400000000000000630045004c004c00 03000000000000004b00450059000000 04000000000000006e006f006e006500
+03000000 04000000 01000000 01000000 00000000000000000000000000000000 00000000000000000000000000000000 00000000 04000000 01000000 01000000 fdffffff00000000 1800000000000000 030000000000000003000000000000000300000007000000
+03000000 05000000 01000000 08000000 00000000000000000000000000000000 00000000000000000000000000000000 00000000 00000000 00000000 00000000 0200000000000000 ffffffff 05000000
+03000000 06000000 01000000 08000000 00000000000000000000000000000000 00000000000000000000000000000000 00000000 00000000 00000000 00000000 0100000000000000 0000000000000000 1800000000000000 030000000000000003000000000000000300000007000000
+03000000 07000000 01000000 08000000 00000000000000000000000000000000 00000000000000000000000000000000 00000000 00000000 00000000 00000000 03000000 0a000000
+03000000 08000000 01000000 08000000 00000000000000000000000000000000 00000000000000000000000000000000 00000000 00000000 00000000 00000000
+03000000 09000000 01000000 08000000 00000000000000000000000000000000 00000000000000000000000000000000 00000000 00000000 00000000 00000000
+05000000 0a000000 01000000 00000000
+09000000 0b000000";
+
+/// The field of the I4 7.
+const SEVEN: &str = "1800000000000000 030000000000000003000000000000000300000007000000";
+
+/// The string "DItem".
+const ITEM: &str = "0500000000000000 4400 4900 7400 6500 6d00 000000000000";
+
+#[test]
+fn a_body_of_each_opcode_asks(rt: HostRuntime) {
+    for row in BODIES.lines() {
+        let body = bytes_of(rt.alloc(), row);
+        assert!(rt; read_request(rt.alloc(), &body).is_ok(), "{row}");
+    }
+}
+
+/// Whether a field was made, of these bytes.
+fn is_made<E: Drop>(alloc: Global, made: Result<Vec<u8>, E>, digits: &str) -> bool {
+    match made {
+        Ok(field) => field.as_slice() == bytes_of(alloc, digits).as_slice(),
+        Err(_) => false,
+    }
+}
+
+#[test]
+fn fields_are_made(rt: HostRuntime) {
+    let seven = Scalar::I4(7);
+    let alloc = rt.alloc();
+    assert!(rt; is_made(alloc, number_field(alloc, 258), "0201000000000000"));
+    assert!(rt; is_made(alloc, scalar_field(alloc, &seven), SEVEN));
+    assert!(rt; is_made(alloc, variant_field(alloc, &Variant::One(seven)), SEVEN));
+    assert!(rt; is_made(alloc, string_field(alloc, b"DItem"), ITEM));
+    let ids = "0300000000000000 09000000 01000000 ffffffff 00000000";
+    assert!(rt; is_made(alloc, ids_field(alloc, &[9, 1, -1]), ids));
+}
+
+/// Puts a number, an object, a string, a scalar and a variant behind one another.
+fn are_put(out: &mut Vec<u8>) -> bool {
+    let class = Uuid::from_bytes_le([
+        0x44, 0x33, 0x22, 0x11, 0x66, 0x55, 0x88, 0x77, 0x99, 0xaa, 0xbb, 0xcc, 0xdd, 0xee, 0xff, 3,
+    ]);
+    put_number_field(out, 1).is_ok()
+        && put_object_field(out, 2, &class).is_ok()
+        && put_string_field(out, b"DItem").is_ok()
+        && put_scalar_field(out, &Scalar::I4(7)).is_ok()
+        && put_variant_field(out, &Variant::One(Scalar::I4(7))).is_ok()
+}
+
+/// What they put.
+const PUT: &str = "0100000000000000 0200000000000000 443322116655887799aabbccddeeff03
+0500000000000000 4400 4900 7400 6500 6d00 000000000000
+1800000000000000 030000000000000003000000000000000300000007000000
+1800000000000000 030000000000000003000000000000000300000007000000";
+
+#[test]
+fn fields_are_put(rt: HostRuntime) {
+    let mut out = Vec::new(rt.alloc());
+    assert!(rt; are_put(&mut out));
+    let want = bytes_of(rt.alloc(), PUT);
+    assert!(rt; out.as_slice() == want.as_slice());
+}

@@ -1,6 +1,6 @@
 #!/usr/bin/env bash
-# Runs each test of the two crates of raw memory, which stand in oa_value_tests, with one call of the allocator refused: its first, then its second, and so on
-# until no test calls so often. Each test has to pass each time, and to free each block that it got.
+# Runs each test of the two crates of raw memory (in oa_value_tests) with one call of the allocator refused: its first, then its
+# second, and so on until no test calls so often. Each test has to pass each time, and to free each block that it got.
 # A line for each number; the status is 0 where all passed. The gate does not run it.
 # (rt try --test --fail-alloc N does the same for one N, and does not say whether a test calls so often.)
 set -eu

@@ -3,7 +3,8 @@
 
     python3 tests/wrong_bodies.py
 
-The crate is made in a temporary folder. The last line says whether each edit got the verdict that it should.
+The crate is made in a temporary folder, and its edits are tried as anybody would try them and as the gate does (--proved). The last line says whether each got the
+verdict that it should.
 """
 import os
 import subprocess
@@ -69,15 +70,16 @@ def main():
         for name, (text, _) in EDITS.items():
             with open(f"{folder}/wrong-bodies/{name}.edit", "w", encoding="utf-8") as it:
                 it.write(f"file: src/lib.rt\n{text}")
-        ran = subprocess.run([TOOL, "--jobs", "1", *sys.argv[1:]], cwd=root, stdout=subprocess.PIPE, stderr=subprocess.STDOUT, text=True)
-    said = dict(line.partition(": ")[::2] for line in ran.stdout.splitlines())
-    wrong = [name for name, (_, want) in EDITS.items() if not said.get(f"steps/{name}", "").startswith(want)]
+        runs = [(flags, subprocess.run([TOOL, "--jobs", "1", *flags], cwd=root, stdout=subprocess.PIPE, stderr=subprocess.STDOUT, text=True)) for flags in ([], ["--proved"])]
     refused = sum(want.startswith("refused") for _, want in EDITS.values())
     last = f"{refused} refused, {len(EDITS) - refused} not"
-    if wrong or ran.returncode != 1 or ran.stdout.splitlines()[-1:] != [last]:
-        print(f"{ran.stdout}wrong-bodies: FAILED: {', '.join(wrong) or 'status or last line'}; wanted status 1 and '{last}', got {ran.returncode}")
-        return 1
-    print(f"wrong-bodies: each of {len(EDITS)} edits got its verdict")
+    for flags, ran in runs:
+        said = dict(line.partition(": ")[::2] for line in ran.stdout.splitlines())
+        wrong = [name for name, (_, want) in EDITS.items() if not said.get(f"steps/{name}", "").startswith(want)]
+        if wrong or ran.returncode != 1 or ran.stdout.splitlines()[-1:] != [last]:
+            print(f"{ran.stdout}wrong-bodies {flags}: FAILED: {', '.join(wrong) or 'status or last line'}; wanted status 1 and '{last}', got {ran.returncode}")
+            return 1
+    print(f"wrong-bodies: each of {len(EDITS)} edits got its verdict, also after a gate's proof")
     return 0
 
 

@@ -1,15 +1,13 @@
 //! Tables that a library can have, and others, as a table.
+use crate::rows::expect;
 use crate::values::value;
-use oa_array::SafeArray;
 use oa_fits::fits;
 use oa_idl::parse;
-use oa_model::{Bound, VarType};
 use oa_table::{CellName, Event, Place, Table};
 use oa_typelib::{Library, check};
-use oa_variant::{Scalar, Variant};
+use oa_variant::Scalar;
 use std::alloc::Global;
 use std::rt::HostRuntime;
-use std::test::Fail;
 use uuid::Uuid;
 
 const LIBRARY: &str = r#"[uuid(11223344-5566-7788-99aa-bbccddeeff01)] library L {
@@ -60,73 +58,117 @@ fn guid(word: &str) -> Option<Uuid> {
     })
 }
 
+fn scalar(letter: u8) -> Scalar {
+    if letter == b'i' {
+        Scalar::I4(7)
+    } else {
+        Scalar::I2(7)
+    }
+}
+
 fn key(alloc: Global, letters: &str) -> Option<Vec<Scalar>> {
     let mut key = Vec::new(alloc);
     for letter in letters.as_bytes() {
-        let scalar = if *letter == b'i' {
-            Scalar::I4(7)
-        } else {
-            Scalar::I2(7)
-        };
-        key.push(scalar).ok()?;
+        key.push(scalar(*letter)).ok()?;
     }
     Some(key)
 }
 
-fn with_objects(alloc: Global, class: Uuid) -> Option<Table> {
-    let mut table = Table::new(alloc);
-    let first = Event::Create {
-        number: 1,
-        class: guid("3")?,
-    };
-    table.apply(first).ok()?;
-    table.apply(Event::Create { number: 2, class }).ok()?;
-    Some(table)
+fn create(table: &mut Table, number: u32, class: Uuid) -> Option<()> {
+    table.apply(Event::Create { number, class }).ok()
 }
 
-/// Whether the library can have a row's table exactly where the row says so.
-fn is_so(alloc: Global, library: &Library, row: &str) -> Option<bool> {
-    let (class, row) = row.split_once('|')?;
-    let (interface, row) = row.split_once('|')?;
-    let (dispid, row) = row.split_once('|')?;
-    let (letters, row) = row.split_once('|')?;
-    let (word, answer) = row.split_once('|')?;
-    let mut table = with_objects(alloc, guid(class)?)?;
-    let key = key(alloc, letters)?;
+/// The words of a row.
+#[derive(Clone, Copy)]
+struct Row<'a> {
+    class: &'a str,
+    interface: &'a str,
+    dispid: &'a str,
+    key: &'a str,
+    value: &'a str,
+    answer: &'a str,
+}
+
+/// The words of a line; one that is missing is no word of a row.
+fn row_of(line: &str) -> Row<'_> {
+    let mut words = line.split('|');
+    Row {
+        class: words.next().unwrap_or(""),
+        interface: words.next().unwrap_or(""),
+        dispid: words.next().unwrap_or(""),
+        key: words.next().unwrap_or(""),
+        value: words.next().unwrap_or(""),
+        answer: words.next().unwrap_or(""),
+    }
+}
+
+/// The name of a row's cell.
+fn name_of(alloc: Global, row: &Row<'_>) -> Option<CellName> {
+    let interface = guid(row.interface)?;
+    let dispid = row.dispid.parse::<i32>().ok()?;
+    let key = key(alloc, row.key)?;
     if key.len() > 3 {
         return None;
     }
-    let place = Place::new(guid(interface)?, dispid.parse::<i32>().ok()?, key);
-    let name = CellName { object: 2, place };
-    let value = value(alloc, word)?;
-    table.apply(Event::Put { name, value }).ok()?;
-    Some(fits(library, &table) == (answer == "yes"))
+    let place = Place::new(interface, dispid, key);
+    Some(CellName { object: 2, place })
 }
 
-/// The first row that is not as it says, and how many are before it.
-fn first_wrong<'a>(alloc: Global, library: &Library, rows: &'a str) -> (u32, Option<&'a str>) {
-    let mut count = 0u32;
-    for row in rows.lines() {
-        if is_so(alloc, library, row) != Some(true) {
-            return (count, Some(row));
+fn put(alloc: Global, table: &mut Table, row: &Row<'_>) -> Option<()> {
+    let name = name_of(alloc, row)?;
+    let value = value(alloc, row.value)?;
+    table.apply(Event::Put { name, value }).ok()
+}
+
+/// Puts what a row has into a table without objects.
+fn fill(alloc: Global, table: &mut Table, row: &Row<'_>) -> Option<()> {
+    create(table, 1, guid("3")?)?;
+    create(table, 2, guid(row.class)?)?;
+    put(alloc, table, row)
+}
+
+/// Whether the library can have a row's table exactly where the row says so.
+fn is_so(alloc: Global, library: &Library, line: &str) -> bool {
+    let row = row_of(line);
+    let mut table = Table::new(alloc);
+    let filled = fill(alloc, &mut table, &row);
+    filled.is_some() && fits(library, &table) == (row.answer == "yes")
+}
+
+fn library(alloc: Global) -> Option<Library> {
+    let tree = parse(alloc, LIBRARY).ok()?;
+    check(alloc, tree).ok()
+}
+
+/// Whether the library can have a table without objects.
+fn is_empty_fit(alloc: Global, library: &Library) -> bool {
+    fits(library, &Table::new(alloc))
+}
+
+/// The first row that is not as it says; nothing where each is.
+fn wrong_row(alloc: Global, library: &Library) -> &'static str {
+    for row in TABLES.lines() {
+        if !is_so(alloc, library, row) {
+            return row;
         }
-        count = count.saturating_add(1);
     }
-    (count, None)
+    if is_empty_fit(alloc, library) {
+        ""
+    } else {
+        "a table without objects"
+    }
+}
+
+// (what goes with a library is proved once, in `drop`)
+fn wrong(alloc: Global) -> Option<&'static str> {
+    let library = library(alloc)?;
+    let wrong = wrong_row(alloc, &library);
+    drop(library);
+    Some(wrong)
 }
 
 #[test]
-fn tables_fit_or_do_not(rt: HostRuntime) -> Result<(), Fail> {
-    let alloc = rt.alloc();
-    let Ok(tree) = parse(alloc, LIBRARY) else {
-        assert_eq!(rt; 0, 1, "no tree");
-        return Ok(());
-    };
-    let Ok(library) = check(alloc, tree) else {
-        assert_eq!(rt; 0, 1, "no library");
-        return Ok(());
-    };
-    assert!(rt; fits(&library, &Table::new(alloc)));
-    assert_eq!(rt; first_wrong(alloc, &library, TABLES), (26, None));
-    Ok(())
+fn tables_fit_or_do_not(rt: HostRuntime) {
+    let wrong = wrong(rt.alloc()).unwrap_or("no library");
+    expect(&rt, wrong, wrong.is_empty());
 }

@@ -1,5 +1,6 @@
 //! Texts that are read and printed, and their tokens; what is refused is shown by the cases of the program.
-use oa_idl::{ParseError, TokenKind, parse, print, tokens};
+use crate::rows::expect;
+use oa_idl::{ParseError, Token, TokenKind, parse, print, tokens};
 use std::alloc::Global;
 use std::rt::HostRuntime;
 
@@ -23,8 +24,8 @@ fn is_refused(alloc: Global, row: &str) -> bool {
     let Some((before, after)) = row.split_once('^') else {
         return false;
     };
-    let text = joined(alloc, &[before, after]);
-    parse(alloc, text.as_str()).err() == Some(ParseError::Syntax(before.len()))
+    let refusal = parse(alloc, joined(alloc, &[before, after]).as_str()).err();
+    refusal == Some(ParseError::Syntax(before.len()))
 }
 
 /// Libraries behind their names that are read, one a line.
@@ -49,14 +50,18 @@ const TREES: &str = r#"{}
 /// How a library begins whose name is a word in other letters.
 const NAMED: &str = "[uuid(11223344-5566-7788-99AA-BBCCDDEEFF01)] library Library ";
 
+/// Whether a library behind its name is read.
+fn is_read(alloc: Global, row: &str) -> bool {
+    parse(alloc, joined(alloc, &[NAMED, row]).as_str()).is_ok()
+}
+
 #[test]
 fn texts_are_read_or_refused(rt: HostRuntime) {
     for row in FAULTS.lines() {
-        assert!(rt; is_refused(rt.alloc(), row), "{row}");
+        expect(&rt, row, is_refused(rt.alloc(), row));
     }
     for row in TREES.lines() {
-        let text = joined(rt.alloc(), &[NAMED, row]);
-        assert!(rt; parse(rt.alloc(), text.as_str()).is_ok(), "{row}");
+        expect(&rt, row, is_read(rt.alloc(), row));
     }
 }
 
@@ -107,27 +112,26 @@ const METHODS: &str = r#"[id(1)] void A();=[id(1)] void A();
 const ENTRIES: &str = r#"interface A;=dispinterface A;
 [default]interface A;=[default] dispinterface A;"#;
 
+fn printed(alloc: Global, text: &str) -> Option<Vec<u8>> {
+    let tree = parse(alloc, text).ok()?;
+    print(alloc, &tree).ok()
+}
+
 /// Whether a text is printed so.
 fn is_printed(alloc: Global, text: &str, wanted: &str) -> bool {
-    match parse(alloc, text) {
-        Ok(tree) => print(alloc, &tree).is_ok_and(|found| found.as_slice() == wanted.as_bytes()),
-        Err(_) => false,
+    match printed(alloc, text) {
+        Some(found) => found.as_slice() == wanted.as_bytes(),
+        None => false,
     }
 }
 
-/// Whether each row's part is printed as it says, between these, and that as itself.
-fn are_printed(alloc: Global, front: &str, back: &str, wanted: [&str; 2], rows: &str) -> bool {
-    for row in rows.lines() {
-        let (part, print) = row.split_once('=').unwrap_or((row, ""));
-        let text = joined(alloc, &[front, part, back]);
-        let print = joined(alloc, &[wanted[0], print, wanted[1]]);
-        let is_so = is_printed(alloc, text.as_str(), print.as_str())
-            && is_printed(alloc, print.as_str(), print.as_str());
-        if !is_so {
-            return false;
-        }
-    }
-    true
+/// Whether a row's part is printed as it says, between these, and that as itself.
+fn is_part_printed(alloc: Global, row: &str, text: [&str; 3], printed: [&str; 3]) -> bool {
+    let (part, print) = row.split_once('=').unwrap_or((row, ""));
+    let text = joined(alloc, &[text[0], text[1], part, text[2]]);
+    let print = joined(alloc, &[printed[0], printed[1], print, printed[2]]);
+    is_printed(alloc, text.as_str(), print.as_str())
+        && is_printed(alloc, print.as_str(), print.as_str())
 }
 
 /// How a text begins up to the sections of an interface and to the entries of a coclass, and how what is printed of them does.
@@ -145,29 +149,30 @@ const COCLASS_PRINTED: &str =
 
 #[test]
 fn parts_are_printed(rt: HostRuntime) {
-    let alloc = rt.alloc();
-    assert!(rt;
-        are_printed(
-            alloc,
-            "",
-            " library A {}",
-            ["", "\nlibrary A {\n}\n"],
-            HEADS
-        )
-    );
-    let printed = [INTERFACE_PRINTED, "\nmethods:\n}\n}\n"];
-    assert!(rt; are_printed(alloc, INTERFACE, " } }", printed, PROPERTIES));
-    let printed = [COCLASS_PRINTED, "\n}\n}\n"];
-    assert!(rt; are_printed(alloc, COCLASS, "};}", printed, ENTRIES));
+    let text = ["", "", " library A {}"];
+    let printed = ["", "", "\nlibrary A {\n}\n"];
+    for row in HEADS.lines() {
+        expect(&rt, row, is_part_printed(rt.alloc(), row, text, printed));
+    }
+    let text = [COCLASS, "", "};}"];
+    let printed = [COCLASS_PRINTED, "", "\n}\n}\n"];
+    for row in ENTRIES.lines() {
+        expect(&rt, row, is_part_printed(rt.alloc(), row, text, printed));
+    }
 }
 
 #[test]
-fn methods_are_printed(rt: HostRuntime) {
-    let front = joined(rt.alloc(), &[INTERFACE, "methods: "]);
-    let printed = joined(rt.alloc(), &[INTERFACE_PRINTED, "methods:\n"]);
-    let printed = [printed.as_str(), "\n}\n}\n"];
-    assert!(rt; are_printed(rt.alloc(), front.as_str(), " } }", printed, METHODS));
-    assert!(rt; is_printed(rt.alloc(), LARGE, LARGE_PRINTED));
+fn members_are_printed(rt: HostRuntime) {
+    let text = [INTERFACE, "", " } }"];
+    let printed = [INTERFACE_PRINTED, "", "\nmethods:\n}\n}\n"];
+    for row in PROPERTIES.lines() {
+        expect(&rt, row, is_part_printed(rt.alloc(), row, text, printed));
+    }
+    let text = [INTERFACE, "methods: ", " } }"];
+    let printed = [INTERFACE_PRINTED, "methods:\n", "\n}\n}\n"];
+    for row in METHODS.lines() {
+        expect(&rt, row, is_part_printed(rt.alloc(), row, text, printed));
+    }
 }
 
 /// A library with members of most kinds.
@@ -220,6 +225,11 @@ coclass Item {
 }
 "#;
 
+#[test]
+fn a_library_is_printed(rt: HostRuntime) {
+    assert!(rt; is_printed(rt.alloc(), LARGE, LARGE_PRINTED));
+}
+
 /// A text, and below each of its tokens a letter for its kind, with `_` for each byte more.
 const TOKENS: &str = r#"12abc=D_N__
 0X1F=DN__
@@ -255,27 +265,40 @@ fn letter_of(kind: TokenKind) -> &'static str {
     }
 }
 
+/// Puts a sign up to a length.
+fn fill(out: &mut String, sign: &str, len: usize) {
+    for _ in out.len()..len {
+        let _ = out.push_str(sign);
+    }
+}
+
+fn put_mark(out: &mut String, token: &Token) {
+    fill(out, " ", token.start);
+    let _ = out.push_str(letter_of(token.kind));
+    fill(out, "_", token.end);
+}
+
 /// The second half of a row.
 fn marked(alloc: Global, text: &str) -> String {
     let mut out = String::new(alloc);
     if let Ok(found) = tokens(alloc, text) {
-        for token in found {
-            for _ in out.len()..token.start {
-                let _ = out.push_str(" ");
-            }
-            let _ = out.push_str(letter_of(token.kind));
-            for _ in out.len()..token.end {
-                let _ = out.push_str("_");
-            }
+        for token in &found {
+            put_mark(&mut out, token);
         }
     }
     out
 }
 
+fn is_marked(alloc: Global, row: &str) -> bool {
+    match row.split_once('=') {
+        Some((text, marks)) => marked(alloc, text).as_str() == marks,
+        None => false,
+    }
+}
+
 #[test]
 fn texts_have_tokens(rt: HostRuntime) {
     for row in TOKENS.lines() {
-        let (text, marks) = row.split_once('=').unwrap_or((row, ""));
-        assert!(rt; marked(rt.alloc(), text).as_str() == marks, "{row}");
+        expect(&rt, row, is_marked(rt.alloc(), row));
     }
 }

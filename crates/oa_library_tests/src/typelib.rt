@@ -1,7 +1,9 @@
 //! What takes memory, with enough of it: checks and their refusals, look-ups of names, descriptions with defaults.
+use crate::rows::expect;
 use oa_idl::parse;
-use oa_typelib::{Content, Library, check};
+use oa_typelib::{Content, DescribedMember, Library, check};
 use std::alloc::Global;
+use std::fmt::Write;
 use std::rt::HostRuntime;
 use uuid::Uuid;
 
@@ -35,24 +37,26 @@ fn text_of(alloc: Global, sections: &str) -> String {
     text
 }
 
-/// Whether this is said of the sections behind it.
-fn is_said(alloc: Global, row: &str) -> bool {
-    let Some((wanted, sections)) = row.split_once(" | ") else {
-        return false;
-    };
-    let Ok(tree) = parse(alloc, text_of(alloc, sections).as_str()) else {
-        return false;
-    };
-    match check(alloc, tree) {
-        Ok(_) => wanted == "accepted",
-        Err(error) => format!(in alloc; "{error}").is_ok_and(|said| said.as_str() == wanted),
+/// What is said of a library of these sections.
+fn said_of(alloc: Global, sections: &str) -> Option<String> {
+    let tree = parse(alloc, text_of(alloc, sections).as_str()).ok()?;
+    match check(alloc, tree).err() {
+        None => format!(in alloc; "accepted").ok(),
+        Some(error) => format!(in alloc; "{error}").ok(),
     }
+}
+
+/// Whether this is said of the sections behind it.
+fn is_said(alloc: Global, row: &str) -> Option<bool> {
+    let (wanted, sections) = row.split_once(" | ")?;
+    let said = said_of(alloc, sections)?;
+    Some(said.as_str() == wanted)
 }
 
 #[test]
 fn sections_are_checked(rt: HostRuntime) {
     for row in SAID.lines() {
-        assert!(rt; is_said(rt.alloc(), row), "{row}");
+        expect(&rt, row, is_said(rt.alloc(), row) == Some(true));
     }
 }
 
@@ -62,22 +66,23 @@ fn library(alloc: Global) -> Option<Library> {
     check(alloc, tree).ok()
 }
 
-/// The values of the defaults that the interface at an index has.
-fn defaults_of(alloc: Global, library: &Library, index: u32) -> String {
-    let mut text = String::new(alloc);
-    let Ok(found) = library.describe(index) else {
-        return text;
-    };
-    if let Content::Interface(members) = &found.content {
-        for member in members {
-            for parameter in &member.parameters {
-                if let Ok(shown) = format!(in alloc; "{:?} ", parameter.default) {
-                    let _ = text.push_str(shown.as_str());
-                }
-            }
+/// Puts the values of the defaults of members, with a blank behind each.
+fn put_defaults(text: &mut String, members: &[DescribedMember<'_>]) {
+    for member in members {
+        for parameter in &member.parameters {
+            let _ = write!(text, "{:?} ", parameter.default);
         }
     }
-    text
+}
+
+/// The values of the defaults that the interface at an index has.
+fn defaults_of(alloc: Global, library: &Library, index: u32) -> Option<String> {
+    let mut text = String::new(alloc);
+    match &library.describe(index).ok()?.content {
+        Content::Interface(members) => put_defaults(&mut text, members),
+        Content::Coclass(_) => return None,
+    }
+    Some(text)
 }
 
 /// The UTF-16 units of a name of ASCII letters.
@@ -89,15 +94,20 @@ fn units(alloc: Global, name: &str) -> Vec<u16> {
     units
 }
 
-/// The DISPIDs of names, one behind a blank.
-fn ids_of(alloc: Global, library: &Library, names: &str) -> Option<Vec<i32>> {
+/// Names that stand behind blanks.
+fn words(alloc: Global, names: &str) -> Vec<Vec<u16>> {
     let mut words = Vec::new(alloc);
     for name in names.split(' ') {
         let _ = words.push(units(alloc, name));
     }
-    let guid = Uuid::parse_str("11223344-5566-7788-99aa-bbccddeeff02").ok()?;
+    words
+}
+
+/// The DISPIDs of names, one behind a blank.
+fn ids_of(alloc: Global, library: &Library, names: &str) -> Option<Vec<i32>> {
+    let guid = Uuid::from_u128(0x1122_3344_5566_7788_99aa_bbcc_ddee_ff02);
     let interface = library.interface(&guid)?;
-    let found = interface.dispid(words.as_slice()).ok()?;
+    let found = interface.dispid(words(alloc, names).as_slice()).ok()?;
     Some(found.ids)
 }
 
@@ -109,13 +119,29 @@ fn are_ids(alloc: Global, library: &Library, names: &str, wanted: &[i32]) -> boo
     }
 }
 
+/// Whether the defaults of the interface are these.
+fn are_defaults(alloc: Global, library: &Library, wanted: &str) -> bool {
+    match defaults_of(alloc, library, 0) {
+        Some(defaults) => defaults.as_str() == wanted,
+        None => false,
+    }
+}
+
+fn are_told(alloc: Global, library: &Library) -> (bool, bool) {
+    let are_defaults = are_defaults(alloc, library, DEFAULTS);
+    let are_ids = are_ids(alloc, library, "cELL KEY none", &[9, 1, -1]);
+    (are_defaults, are_ids)
+}
+
+/// Whether its defaults and the DISPIDs of names are told. (What goes with a library is proved once, in `drop`.)
+fn looked_up(alloc: Global) -> Option<(bool, bool)> {
+    let library = library(alloc)?;
+    let are_told = are_told(alloc, &library);
+    drop(library);
+    Some(are_told)
+}
+
 #[test]
 fn libraries_are_looked_up(rt: HostRuntime) {
-    let alloc = rt.alloc();
-    let found = library(alloc);
-    assert!(rt; found.is_some());
-    if let Some(library) = &found {
-        assert_eq!(rt; defaults_of(alloc, library, 0).as_str(), DEFAULTS);
-        assert!(rt; are_ids(alloc, library, "cELL KEY none", &[9, 1, -1]));
-    }
+    assert_eq!(rt; looked_up(rt.alloc()), Some((true, true)));
 }

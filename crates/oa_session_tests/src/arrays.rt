@@ -1,12 +1,14 @@
 //! Properties of array types over a session: each element type is read as its zero array, put and read back.
-use crate::sessions::played;
+use crate::sessions::{OtherReplies, differences, expect_none, played, server_of};
 use crate::wire::Answer::*;
 use crate::wire::Ask::*;
 use crate::wire::Cells::*;
 use crate::wire::Value::*;
 use crate::wire::*;
+use oa_disk::NoDisk;
+use oa_server::Server;
+use std::alloc::Global;
 use std::rt::HostRuntime;
-use std::test::Fail;
 
 /// A property for each element type, with the DISPIDs 1 to 14, a VARIANT and a long.
 const SHEET: &str = "[uuid(11223344-5566-7788-99AA-BBCCDDEEFF01)] library Demo {
@@ -24,24 +26,25 @@ const SHORTS: Array = Array {
     cells: Cells::Numbers(&[-32_768, 32_767, 0, -1]),
 };
 
-const CREATE: [Row; 1] = rows! {
+static CREATE: [Row; 1] = rows! {
     "an object": 1, Create(ITEM) => Number(1);
 };
 
-/// Of each element type three rows, named for it: a get of the zero array, which has one bound of count 0; a put of an array with the bounds
-/// (2, -1) and (2, 5); and a get of what was put.
+/// An element type: its name, the property that holds an array of it, and an array of four cells.
+struct ElementType {
+    name: &'static str,
+    dispid: i32,
+    array: Array,
+}
+
+/// A table of them, one a line: the name, the DISPID, the number of the type and the cells.
 macro_rules! types {
     ($($name:literal: $dispid:literal, $vt:expr, $cells:expr;)*) => {
-        [&CREATE, $(&rows! {
-            $name: 2, Get($dispid) => GivesArray(Array { vt: $vt, cells: Cells::None });
-            $name: 3, PutArray($dispid, Array { vt: $vt, cells: $cells }) => Done;
-            $name: 4, Get($dispid) => GivesArray(Array { vt: $vt, cells: $cells });
-        }),*]
+        [$(ElementType { name: $name, dispid: $dispid, array: Array { vt: $vt, cells: $cells } }),*]
     };
 }
 
-/// The names of the element types, the properties that hold arrays of them, their numbers, and four cells.
-const TYPES: [&[Row]; 15] = types! {
+static TYPES: [ElementType; 14] = types! {
     "char": 1, VT_I1, Numbers(&[-128, 127, 0, -1]);
     "unsigned char": 2, VT_UI1, Numbers(&[0, 255, 1, 2]);
     "short": 3, VT_I2, Numbers(&[-32_768, 32_767, 0, -1]);
@@ -59,7 +62,7 @@ const TYPES: [&[Row]; 15] = types! {
 };
 
 /// Puts of an array of short and of a long: into arrays of another type, a long, an array; a VARIANT takes both.
-const OTHER_TYPES: [Row; 8] = rows! {
+static OTHER_TYPES: [Row; 8] = rows! {
     "an object": 1, Create(ITEM) => Number(1);
     "short into unsigned short": 3, PutArray(4, SHORTS) => RefusedAt(TYPE_MISMATCH, 0);
     "short into VARIANT cells": 3, PutArray(14, SHORTS) => RefusedAt(TYPE_MISMATCH, 0);
@@ -70,16 +73,56 @@ const OTHER_TYPES: [Row; 8] = rows! {
     "a long into a long": 3, Put(16, I4(7)) => Done;
 };
 
-#[test]
-fn each_element_type_is_put_and_read_back(rt: HostRuntime) -> Result<(), Fail> {
-    let differences = played(rt.alloc(), SHEET, &TYPES)?;
-    assert_eq!(rt; differences.as_str(), "");
-    Ok(())
+/// A get of the zero array, which has one bound of count 0; a put of an array with the bounds (2, -1) and (2, 5); and a get of what was put.
+fn rows_of(of: &ElementType) -> [Row; 3] {
+    let zero = Array {
+        vt: of.array.vt,
+        cells: Cells::None,
+    };
+    [
+        Row {
+            name: of.name,
+            tag: 2,
+            ask: Get(of.dispid),
+            answer: GivesArray(zero),
+        },
+        Row {
+            name: of.name,
+            tag: 3,
+            ask: PutArray(of.dispid, of.array),
+            answer: Done,
+        },
+        Row {
+            name: of.name,
+            tag: 4,
+            ask: Get(of.dispid),
+            answer: GivesArray(of.array),
+        },
+    ]
+}
+
+/// The rows of all types to which one server replies otherwise.
+fn differences_of_types(alloc: Global, server: &mut Server<NoDisk>) -> OtherReplies {
+    let mut all = differences(alloc, server, &[&CREATE]);
+    for of in &TYPES {
+        all.ask_all(alloc, server, &[&rows_of(of)]);
+    }
+    all
+}
+
+fn played_types(alloc: Global) -> Option<OtherReplies> {
+    let mut server = server_of(alloc, SHEET)?;
+    let differences = differences_of_types(alloc, &mut server);
+    drop(server);
+    Some(differences)
 }
 
 #[test]
-fn an_array_of_another_type_is_refused(rt: HostRuntime) -> Result<(), Fail> {
-    let differences = played(rt.alloc(), SHEET, &[&OTHER_TYPES])?;
-    assert_eq!(rt; differences.as_str(), "");
-    Ok(())
+fn each_element_type_is_put_and_read_back(rt: HostRuntime) {
+    expect_none(&rt, played_types(rt.alloc()));
+}
+
+#[test]
+fn an_array_of_another_type_is_refused(rt: HostRuntime) {
+    expect_none(&rt, played(rt.alloc(), SHEET, &[&OTHER_TYPES]));
 }

@@ -1,12 +1,11 @@
 //! Calls with parameters and through several interfaces, as tables of requests and replies.
 use crate::information::FULL;
-use crate::sessions::played;
+use crate::sessions::{expect_none, played};
 use crate::wire::Answer::*;
 use crate::wire::Ask::*;
 use crate::wire::Value::*;
 use crate::wire::*;
 use std::rt::HostRuntime;
-use std::test::Fail;
 
 /// A library whose coclass has two interfaces with a member of one DISPID, the first of them the default one.
 const TWO: &str = r#"[uuid(11223344-5566-7788-99AA-BBCCDDEEFF01)] library Demo {
@@ -16,7 +15,7 @@ const TWO: &str = r#"[uuid(11223344-5566-7788-99AA-BBCCDDEEFF01)] library Demo {
 [uuid(11223344-5566-7788-99AA-BBCCDDEEFF03)] coclass Item { [default] dispinterface DItem; dispinterface DMore; } }"#;
 
 /// Calls of a property with the parameters `long Row`, `BSTR Key` and `short Page`, which may be left out.
-const CELLS: [Row; 11] = rows! {
+static CELLS: [Row; 11] = rows! {
     "an object": 1, Create(ITEM) => Number(1);
     "a value is put under its key, by names in any order": 2,
         Call(Invoke { dispid: 9, named: &[NEW, 1, 0], values: &[Text("x"), Text("k"), I4(5)], ..PUT }) => Done;
@@ -38,7 +37,7 @@ const CELLS: [Row; 11] = rows! {
 };
 
 /// One property of two interfaces, told by the last bytes of their GUIDs.
-const INTERFACES: [Row; 5] = rows! {
+static INTERFACES: [Row; 5] = rows! {
     "an object": 1, Create(ITEM) => Number(1);
     "a put through the first interface": 2, Call(Invoke { interface: DITEM, values: &[I4(7)], ..PUT }) => Done;
     "a get through the second": 3, Call(Invoke { interface: 4, ..GET }) => Gives(I4(0));
@@ -47,15 +46,11 @@ const INTERFACES: [Row; 5] = rows! {
 };
 
 #[test]
-fn arguments_make_a_call_or_its_first_refusal(rt: HostRuntime) -> Result<(), Fail> {
-    let differences = played(rt.alloc(), FULL, &[&CELLS])?;
-    assert_eq!(rt; differences.as_str(), "");
-    Ok(())
+fn arguments_make_a_call_or_its_first_refusal(rt: HostRuntime) {
+    expect_none(&rt, played(rt.alloc(), FULL, &[&CELLS]));
 }
 
 #[test]
-fn interfaces_of_a_coclass_have_cells_of_their_own(rt: HostRuntime) -> Result<(), Fail> {
-    let differences = played(rt.alloc(), TWO, &[&INTERFACES])?;
-    assert_eq!(rt; differences.as_str(), "");
-    Ok(())
+fn interfaces_of_a_coclass_have_cells_of_their_own(rt: HostRuntime) {
+    expect_none(&rt, played(rt.alloc(), TWO, &[&INTERFACES]));
 }

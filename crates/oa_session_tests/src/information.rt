@@ -1,11 +1,10 @@
 //! Look-ups of names, descriptions, and members by the flags of a call, as tables of requests and replies.
-use crate::sessions::played;
+use crate::sessions::{expect_none, played};
 use crate::wire::Answer::*;
 use crate::wire::Ask::*;
 use crate::wire::Value::*;
 use crate::wire::*;
 use std::rt::HostRuntime;
-use std::test::Fail;
 
 pub(crate) const FULL: &str =
     r#"[uuid(11223344-5566-7788-99AA-BBCCDDEEFF01), version(1.0)] library Demo {
@@ -35,7 +34,7 @@ const ONE: &str = r#"[uuid(11223344-5566-7788-99AA-BBCCDDEEFF01), version(1.0)] 
 [uuid(11223344-5566-7788-99AA-BBCCDDEEFF03)] coclass Item { [default] dispinterface DItem; } }"#;
 
 /// Names that are looked up, and the DISPIDs that are answered.
-const NAMED: [Row; 13] = rows! {
+static NAMED: [Row; 13] = rows! {
     "an object": 1, Create(ITEM) => Number(1);
     "a name that is not known among others, letters folded": 2, Names(&["cELL", "KEY", "none"]) => Unknown(&[9, 1, -1]);
     "without the member no name is known": 3, Names(&["none", "Key"]) => Unknown(&[-1, -1]);
@@ -54,7 +53,7 @@ const NAMED: [Row; 13] = rows! {
 };
 
 /// Bodies with too many names and with too few, and refusals in their order.
-const LOOK_UPS: [Row; 8] = rows! {
+static LOOK_UPS: [Row; 8] = rows! {
     "reserved bytes and padding may be any": 5,
         LookUp(GetIds { filler: 0xa5, names: &["Cell", "Key"], ..GET_IDS }) => Found(&[9, 1]);
     "17 names": 5, CellAndKeys(17) => Found(&[9, 1, 1, 1, 1, 1, 1, 1, 1, 1, 1, 1, 1, 1, 1, 1, 1]);
@@ -70,7 +69,7 @@ const LOOK_UPS: [Row; 8] = rows! {
 };
 
 /// Members by the flags of a call.
-const FLAGS: [Row; 17] = rows! {
+static FLAGS: [Row; 17] = rows! {
     "an object": 1, Create(ITEM) => Number(1);
     "PROPERTYGET with METHOD is a get": 2, Call(Invoke { flags: METHOD | PROPERTYGET, ..GET }) => Gives(I4(0));
     "METHOD alone of a property": 2, Call(Invoke { flags: METHOD, ..GET }) => Refused(MEMBER_NOT_FOUND);
@@ -156,7 +155,7 @@ const MIXED_BOTH: &str =
 01000000 01000000";
 
 /// The descriptions of the full library.
-const FULL_INFOS: [Row; 4] = rows! {
+static FULL_INFOS: [Row; 4] = rows! {
     "the interface": 5, TypeInfo(0) => Described(FULL_DITEM);
     "the coclass": 6, TypeInfo(1) => Described(FULL_ITEM);
     "no more": 7, TypeInfo(2) => Refused(BAD_INDEX);
@@ -164,12 +163,12 @@ const FULL_INFOS: [Row; 4] = rows! {
 };
 
 /// The description of the library with one property.
-const ONE_INFO: [Row; 1] = rows! {
+static ONE_INFO: [Row; 1] = rows! {
     "the interface": 5, TypeInfo(0) => Described(ONE_DITEM);
 };
 
 /// The descriptions of the mixed library: coclasses come after the interfaces.
-const MIXED_INFOS: [Row; 4] = rows! {
+static MIXED_INFOS: [Row; 4] = rows! {
     "the first interface": 5, TypeInfo(0) => Described(MIXED_DFIRST);
     "an interface without members": 6, TypeInfo(1) => Described(MIXED_DSECOND);
     "the coclass": 7, TypeInfo(2) => Described(MIXED_BOTH);
@@ -177,26 +176,18 @@ const MIXED_INFOS: [Row; 4] = rows! {
 };
 
 #[test]
-fn names_have_their_dispids(rt: HostRuntime) -> Result<(), Fail> {
-    let differences = played(rt.alloc(), FULL, &[&NAMED, &LOOK_UPS])?;
-    assert_eq!(rt; differences.as_str(), "");
-    Ok(())
+fn names_have_their_dispids(rt: HostRuntime) {
+    expect_none(&rt, played(rt.alloc(), FULL, &[&NAMED, &LOOK_UPS]));
 }
 
 #[test]
-fn flags_choose_the_form_of_a_member(rt: HostRuntime) -> Result<(), Fail> {
-    let differences = played(rt.alloc(), FULL, &[&FLAGS])?;
-    assert_eq!(rt; differences.as_str(), "");
-    Ok(())
+fn flags_choose_the_form_of_a_member(rt: HostRuntime) {
+    expect_none(&rt, played(rt.alloc(), FULL, &[&FLAGS]));
 }
 
 #[test]
-fn interfaces_and_coclasses_are_described(rt: HostRuntime) -> Result<(), Fail> {
-    let one = played(rt.alloc(), ONE, &[&ONE_INFO])?;
-    assert_eq!(rt; one.as_str(), "");
-    let full = played(rt.alloc(), FULL, &[&FULL_INFOS])?;
-    assert_eq!(rt; full.as_str(), "");
-    let mixed = played(rt.alloc(), MIXED, &[&MIXED_INFOS])?;
-    assert_eq!(rt; mixed.as_str(), "");
-    Ok(())
+fn interfaces_and_coclasses_are_described(rt: HostRuntime) {
+    expect_none(&rt, played(rt.alloc(), ONE, &[&ONE_INFO]));
+    expect_none(&rt, played(rt.alloc(), FULL, &[&FULL_INFOS]));
+    expect_none(&rt, played(rt.alloc(), MIXED, &[&MIXED_INFOS]));
 }

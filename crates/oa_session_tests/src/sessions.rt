@@ -1,6 +1,7 @@
 //! Sessions of a small library, as tables of requests and replies.
 ghost use Rattle.std.specs.Prelude.{◌≡◌, ◌≤◌, false};
 ghost use Rattle.oa_model.specs.Limits.{max_group};
+ghost use Rattle.oa_stream.specs.Ahead.{ahead};
 
 use crate::streams::{Halting, Refusing, Small};
 use crate::wire::Answer::*;
@@ -11,12 +12,13 @@ use oa_disk::NoDisk;
 use oa_idl::parse;
 use oa_record::Reply;
 use oa_server::{End, Served, Server};
-use oa_stream::{Ahead, Gathered, Inlet, Outlet};
+use oa_stream::{Ahead, Gathered, Inlet, Outlet, Sink, Source};
 use oa_typelib::check;
-use std::alloc::{AllocError, Global};
+use std::alloc::Global;
+use std::fmt::Write;
 use std::io::{ErrorKind, Read};
+use std::process::Abort;
 use std::rt::HostRuntime;
-use std::test::Fail;
 
 const SMALL: &str = "[uuid(11223344-5566-7788-99AA-BBCCDDEEFF01), version(1.0)] library Demo {
 [uuid(11223344-5566-7788-99AA-BBCCDDEEFF02)] dispinterface DItem { properties:
@@ -24,7 +26,7 @@ const SMALL: &str = "[uuid(11223344-5566-7788-99AA-BBCCDDEEFF01), version(1.0)] 
 [uuid(11223344-5566-7788-99AA-BBCCDDEEFF03)] coclass Item { [default] dispinterface DItem; } }";
 
 /// The worked bodies: an object is made, its property read, put and read again.
-const COUNT: [Row; 4] = rows! {
+static COUNT: [Row; 4] = rows! {
     "an object": 1, Create(ITEM) => Number(1);
     "the zero of a property": 2, Get(1) => Gives(I4(0));
     "a put": 3, Put(1, I4(7)) => Done;
@@ -32,7 +34,7 @@ const COUNT: [Row; 4] = rows! {
 };
 
 /// The last of these once more.
-const AGAIN: [Row; 1] = rows! {
+static AGAIN: [Row; 1] = rows! {
     "what was put, once more": 5, Get(1) => Gives(I4(7));
 };
 
@@ -40,7 +42,7 @@ const AGAIN: [Row; 1] = rows! {
 const ONE: u64 = 0x3ff0_0000_0000_0000;
 
 /// Each refusal, in the order of the refusals: bodies that are no request, or hold what is no value.
-const BODIES: [Row; 9] = rows! {
+static BODIES: [Row; 9] = rows! {
     "an opcode that is none": 5, Opcode(99) => Refused(BAD_STUB);
     "a body without a whole tag and opcode": 5, CreateOf(7) => Untagged;
     "a body that is cut": 5, CreateOf(23) => Refused(BAD_STUB);
@@ -57,7 +59,7 @@ const BODIES: [Row; 9] = rows! {
 };
 
 /// Objects, classes, interfaces and members.
-const MEMBERS: [Row; 12] = rows! {
+static MEMBERS: [Row; 12] = rows! {
     "no such object": 7, Call(Invoke { dispid: 99, interface: ITEM, riid: ITEM, flags: 0, ..GET }) => Refused(DISCONNECTED);
     "no such class": 7, Create(DITEM) => Refused(NOT_REGISTERED);
     "a CREATE that was refused used up no number": 7, Create(ITEM) => Number(1);
@@ -75,7 +77,7 @@ const MEMBERS: [Row; 12] = rows! {
 };
 
 /// The naming of arguments, and how many there are.
-const ARGUMENTS: [Row; 9] = rows! {
+static ARGUMENTS: [Row; 9] = rows! {
     "more names than arguments": 10, Call(PUT) => Refused(INVALID_ARG);
     "a name twice": 10, Call(Invoke { named: &[7, 7], values: &[I4(7), I4(7)], ..GET }) => Refused(INVALID_ARG);
     "a new value in a get": 10, Call(Invoke { flags: PROPERTYGET, values: &[I4(7)], ..PUT }) => Refused(INVALID_ARG);
@@ -88,7 +90,7 @@ const ARGUMENTS: [Row; 9] = rows! {
 };
 
 /// New values: nothing of all the above was put, and one property, one object and the next do not mix.
-const VALUES: [Row; 8] = rows! {
+static VALUES: [Row; 8] = rows! {
     "a number too large for a long": 12, Put(1, I8(0x8000_0000)) => RefusedAt(OVERFLOW, 0);
     "nothing of all this was put": 12, Get(1) => Gives(I4(0));
     "other flags beside PROPERTYPUT do not count": 13,
@@ -100,18 +102,15 @@ const VALUES: [Row; 8] = rows! {
     "the readonly property": 13, Get(6) => Gives(I4(0));
 };
 
-/// All of these, one table after another on one server.
-const REFUSALS: [&[Row]; 4] = [&BODIES, &MEMBERS, &ARGUMENTS, &VALUES];
-
 /// Three requests for an object.
-const CREATES: [Row; 3] = rows! {
+static CREATES: [Row; 3] = rows! {
     "the first": 1, Create(ITEM) => Number(1);
     "the second": 2, Create(ITEM) => Number(2);
     "the third": 3, Create(ITEM) => Number(3);
 };
 
 /// The last object that is made, and none after it.
-const LAST: [Row; 4] = rows! {
+static LAST: [Row; 4] = rows! {
     "the last object": 1, Create(ITEM) => Number(65_536);
     "none after it": 2, Create(ITEM) => Refused(UNEXPECTED);
     "that there is no such class goes before": 3, Create(DITEM) => Refused(NOT_REGISTERED);
@@ -119,88 +118,131 @@ const LAST: [Row; 4] = rows! {
 };
 
 /// A server of the library of a text.
-fn server_of(alloc: Global, text: &str) -> Result<Server<NoDisk>, Fail> {
-    let tree = parse(alloc, text)?;
-    Ok(Server::in_memory(alloc, check(alloc, tree)?))
+pub(crate) fn server_of(alloc: Global, text: &str) -> Option<Server<NoDisk>> {
+    let library = check(alloc, parse(alloc, text).ok()?).ok()?;
+    Some(Server::in_memory(alloc, library))
 }
 
-fn server(alloc: Global) -> Result<Server<NoDisk>, Fail> {
-    server_of(alloc, SMALL)
-}
-
-fn push_line(alloc: Global, text: &mut String, body: &[u8], end: &str) -> Result<(), AllocError> {
-    text.push_str(hex::encode(alloc, body)?.as_str())?;
-    text.push_str(end)
+fn push_line(alloc: Global, text: &mut String, body: &[u8], end: &str) {
+    if let Ok(line) = hex::encode(alloc, body) {
+        let _ = text.push_str(line.as_str());
+        let _ = text.push_str(end);
+    }
 }
 
 /// The requests of some rows as lines.
-fn asked(alloc: Global, rows: &[Row]) -> Result<String, AllocError> {
+fn asked(alloc: Global, rows: &[Row]) -> String {
     let mut text = String::new(alloc);
     for row in rows {
-        let body = row.request(alloc)?;
-        push_line(alloc, &mut text, body.as_slice(), "\r\n")?;
+        push_line(alloc, &mut text, row.request(alloc).as_slice(), "\r\n");
     }
-    Ok(text)
+    text
 }
 
 /// The replies of some rows as lines.
-fn wanted(alloc: Global, rows: &[Row]) -> Result<String, Fail> {
+fn wanted(alloc: Global, rows: &[Row]) -> String {
     let mut text = String::new(alloc);
     for row in rows {
-        let body = row.reply(alloc)?;
-        push_line(alloc, &mut text, body.as_slice(), "\n")?;
+        push_line(alloc, &mut text, row.reply(alloc).as_slice(), "\n");
     }
-    Ok(text)
+    text
 }
 
-fn bodies(alloc: Global, rows: &[Row]) -> Result<Vec<Vec<u8>>, AllocError> {
+fn bodies(alloc: Global, rows: &[Row]) -> Vec<Vec<u8>> {
     let mut bodies = Vec::new(alloc);
     for row in rows {
-        bodies.push(row.request(alloc)?)?;
+        let _ = bodies.push(row.request(alloc));
     }
-    Ok(bodies)
+    bodies
 }
 
 /// The bytes of a reply.
-fn body_of(alloc: Global, reply: &Reply) -> Result<Vec<u8>, AllocError> {
-    let mut bytes = Vec::from_slice(alloc, reply.head().as_slice())?;
-    bytes.extend_from_slice(reply.body())?;
-    Ok(bytes)
+fn body_of(alloc: Global, reply: &Reply) -> Vec<u8> {
+    let mut bytes = Vec::new(alloc);
+    let _ = bytes.extend_from_slice(reply.head().as_slice());
+    let _ = bytes.extend_from_slice(reply.body());
+    bytes
 }
 
-/// A row whose reply was another one, in words; nothing of one whose reply it was.
-fn difference(alloc: Global, row: &Row, reply: &Reply) -> Result<String, Fail> {
-    let want = row.reply(alloc)?;
-    let reply = body_of(alloc, reply)?;
-    if reply.as_slice() == want.as_slice() {
-        return Ok(String::new(alloc));
+/// How many rows had another reply than they say, and these in words, of which some are missing where memory is refused.
+#[derive(Drop)]
+pub(crate) struct OtherReplies {
+    count: u32,
+    text: String,
+}
+
+impl OtherReplies {
+    fn new(alloc: Global) -> OtherReplies {
+        OtherReplies {
+            count: 0,
+            text: String::new(alloc),
+        }
     }
-    let want = hex::encode(alloc, want.as_slice())?;
-    let reply = hex::encode(alloc, reply.as_slice())?;
-    Ok(format!(in alloc;
-        "{} (tag {}): wanted {want}, not {reply}\n",
-        row.name, row.tag
-    )?)
-}
 
-/// The rows to which `answer` replies otherwise than they say, as it is asked them one after another.
-fn differences(alloc: Global, server: &mut Server<NoDisk>, rows: &[Row]) -> Result<String, Fail> {
-    let mut text = String::new(alloc);
-    for row in rows {
-        let reply = server.answer(row.request(alloc)?.as_slice());
-        text.push_str(difference(alloc, row, &reply)?.as_str())?;
+    fn put(&mut self, alloc: Global, row: &Row, want: &[u8], reply: &[u8]) {
+        self.count = self.count.saturating_add(1);
+        let _ = write!(self.text, "{} (tag {}): wanted ", row.name, row.tag);
+        push_line(alloc, &mut self.text, want, ", not ");
+        push_line(alloc, &mut self.text, reply, "\n");
     }
-    Ok(text)
+
+    /// Puts a row if its reply was another one.
+    fn compare(&mut self, alloc: Global, row: &Row, reply: &Reply) {
+        let want = row.reply(alloc);
+        let reply = body_of(alloc, reply);
+        if reply.as_slice() != want.as_slice() {
+            self.put(alloc, row, &want, &reply);
+        }
+    }
+
+    /// Asks what a row asks.
+    fn ask(&mut self, alloc: Global, server: &mut Server<NoDisk>, row: &Row) {
+        let reply = server.answer(row.request(alloc).as_slice());
+        self.compare(alloc, row, &reply);
+    }
+
+    /// Asks `answer` the rows of some tables, one after another.
+    pub(crate) fn ask_all(
+        &mut self,
+        alloc: Global,
+        server: &mut Server<NoDisk>,
+        tables: &[&[Row]],
+    ) {
+        for rows in tables {
+            for row in *rows {
+                self.ask(alloc, server, row);
+            }
+        }
+    }
 }
 
-/// The rows of some tables to which a new server of a library replies otherwise, as they are played one after another.
-pub(crate) fn played(alloc: Global, library: &str, tables: &[&[Row]]) -> Result<String, Fail> {
+/// The rows of some tables to which `answer` replies otherwise than they say.
+pub(crate) fn differences(
+    alloc: Global,
+    server: &mut Server<NoDisk>,
+    tables: &[&[Row]],
+) -> OtherReplies {
+    let mut all = OtherReplies::new(alloc);
+    all.ask_all(alloc, server, tables);
+    all
+}
+
+// What has a server of its own calls `drop`: what goes with a server is then proved once, and not in each of them.
+
+/// The same of a new server of a library.
+pub(crate) fn played(alloc: Global, library: &str, tables: &[&[Row]]) -> Option<OtherReplies> {
     let mut server = server_of(alloc, library)?;
-    let mut text = String::new(alloc);
-    for rows in tables {
-        text.push_str(differences(alloc, &mut server, rows)?.as_str())?;
-    }
-    Ok(text)
+    let differences = differences(alloc, &mut server, tables);
+    drop(server);
+    Some(differences)
+}
+
+/// Ends a test with the rows to which was replied otherwise.
+pub(crate) fn expect_none(rt: &impl Abort, differences: Option<OtherReplies>) {
+    let Some(OtherReplies { count, text }) = differences else {
+        panic!(rt; "no server");
+    };
+    assert!(rt; count == 0, "{text}");
 }
 
 /// The rows to which `run` replies otherwise.
@@ -209,267 +251,335 @@ fn ran(
     server: &mut Server<NoDisk>,
     rows: &[Row],
     group: usize,
-) -> Result<String, Fail>
+) -> Option<OtherReplies>
     requires positive { 1 ≤ group }
     requires small { group ≤ max_group }
 {
-    let bodies = bodies(alloc, rows)?;
-    let replies = server.run(bodies.as_slice(), group)?;
-    let mut text = String::new(alloc);
-    for (row, reply) in rows.iter().zip(replies.as_slice()) {
-        text.push_str(difference(alloc, row, reply)?.as_str())?;
+    let replies = server.run(bodies(alloc, rows).as_slice(), group).ok()?;
+    Some(differences_of(alloc, rows, replies.as_slice()))
+}
+
+fn differences_of(alloc: Global, rows: &[Row], replies: &[Reply]) -> OtherReplies {
+    let mut all = OtherReplies::new(alloc);
+    for (row, reply) in rows.iter().zip(replies) {
+        all.compare(alloc, row, reply);
     }
     if replies.len() != rows.len() {
-        text.push_str("another number of replies")?;
+        all.count = u32::MAX;
     }
-    Ok(text)
+    all
 }
 
-/// How a session over these bytes went, and what it wrote.
-fn served(alloc: Global, input: &[u8], group: usize) -> Result<(Served, Vec<u8>), Fail>
+/// Where `run` replies otherwise to the four worked bodies, or `answer` to a get after them.
+fn run_and_get(alloc: Global, server: &mut Server<NoDisk>, group: usize) -> Option<OtherReplies>
     requires positive { 1 ≤ group }
     requires small { group ≤ max_group }
 {
-    let mut reader = Ahead::new(alloc, input)?;
-    let mut writer = Gathered::new(Vec::new(alloc));
-    let served = server(alloc)?.serve_hex(&mut reader, &mut writer, group)?;
-    Ok((served, Vec::from_slice(alloc, writer.bytes())?))
+    let mut all = ran(alloc, server, &COUNT, group)?;
+    all.ask_all(alloc, server, &[&AGAIN]);
+    Some(all)
 }
 
-/// Where `run` replies otherwise to the four worked bodies, and `answer` to a get after them.
-fn run_and_get(alloc: Global, group: usize) -> Result<(String, String), Fail>
+/// The same of a new server.
+fn run_anew(alloc: Global, group: usize) -> Option<OtherReplies>
     requires positive { 1 ≤ group }
     requires small { group ≤ max_group }
 {
-    let mut server = server(alloc)?;
-    let replies = ran(alloc, &mut server, &COUNT, group)?;
-    let get = differences(alloc, &mut server, &AGAIN)?;
-    Ok((replies, get))
+    let mut server = server_of(alloc, SMALL)?;
+    let differences = run_and_get(alloc, &mut server, group);
+    drop(server);
+    differences
 }
 
 // A body that always answers want of memory meets every contract: here memory is ample, and each call gives its answer.
 #[test]
-fn always_out_of_memory(rt: HostRuntime) -> Result<(), Fail> {
-    let (one, get) = run_and_get(rt.alloc(), 1)?;
-    assert_eq!(rt; one.as_str(), "");
-    assert_eq!(rt; get.as_str(), "");
-    let (three, _) = run_and_get(rt.alloc(), 3)?;
-    assert_eq!(rt; three.as_str(), "");
-    let (many, _) = run_and_get(rt.alloc(), 1024)?;
-    assert_eq!(rt; many.as_str(), "");
-    Ok(())
+fn always_out_of_memory(rt: HostRuntime) {
+    expect_none(&rt, run_anew(rt.alloc(), 1));
+    expect_none(&rt, run_anew(rt.alloc(), 3));
+    expect_none(&rt, run_anew(rt.alloc(), 1024));
+}
+
+/// How a session of lines with a new server went.
+fn talked<R: Source + Drop, W: Sink>(
+    alloc: Global,
+    reader: &mut Ahead<R>,
+    writer: &mut W,
+    group: usize,
+) -> Option<Served>
+    requires positive { 1 ≤ group }
+    requires small { group ≤ max_group }
+    requires unbroken { (ahead R.input reader.old).faulted ≡ false }
+    requires unbroken_writer { (W.out writer.old).broken ≡ false }
+{
+    let mut server = server_of(alloc, SMALL)?;
+    let served = server.serve_hex(reader, writer, group);
+    drop(server);
+    served.ok()
+}
+
+/// Whether a session over these bytes goes so, and writes these.
+fn is_served(alloc: Global, input: &[u8], group: usize, how: Served, want: &[u8]) -> bool
+    requires positive { 1 ≤ group }
+    requires small { group ≤ max_group }
+{
+    let Ok(mut reader) = Ahead::new(alloc, input) else {
+        return false;
+    };
+    let mut writer = Gathered::new(Vec::new(alloc));
+    let served = talked(alloc, &mut reader, &mut writer, group);
+    served == Some(how) && writer.bytes() == want
+}
+
+/// A session in which the input ended behind so many requests.
+fn closed(requests: u64) -> Served {
+    Served {
+        requests,
+        why: End::Closed,
+    }
+}
+
+/// Whether the four worked bodies have their replies in a session.
+fn are_answered(alloc: Global, group: usize) -> bool
+    requires positive { 1 ≤ group }
+    requires small { group ≤ max_group }
+{
+    let input = asked(alloc, &COUNT);
+    let want = wanted(alloc, &COUNT);
+    is_served(alloc, input.as_bytes(), group, closed(4), want.as_bytes())
 }
 
 #[test]
-fn always_out_of_memory_in_sessions(rt: HostRuntime) -> Result<(), Fail> {
-    let input = asked(rt.alloc(), &COUNT)?;
-    let want = wanted(rt.alloc(), &COUNT)?;
-    let (how, one) = served(rt.alloc(), input.as_bytes(), 1)?;
-    assert_eq!(rt; how.requests, 4);
-    assert_eq!(rt; how.why, End::Closed);
-    assert_eq!(rt; one.as_slice(), want.as_bytes());
-    let (_, three) = served(rt.alloc(), input.as_bytes(), 3)?;
-    assert_eq!(rt; three.as_slice(), want.as_bytes());
-    let (_, many) = served(rt.alloc(), input.as_bytes(), 1024)?;
-    assert_eq!(rt; many.as_slice(), want.as_bytes());
-    Ok(())
+fn always_out_of_memory_in_sessions(rt: HostRuntime) {
+    assert!(rt; are_answered(rt.alloc(), 1));
+    assert!(rt; are_answered(rt.alloc(), 3));
+    assert!(rt; are_answered(rt.alloc(), 1024));
+}
+
+/// Each refusal, one table after another on one server.
+fn refusals() -> [&'static [Row]; 4] {
+    [&BODIES, &MEMBERS, &ARGUMENTS, &VALUES]
 }
 
 #[test]
-fn refusals_come_in_order(rt: HostRuntime) -> Result<(), Fail> {
-    let differences = played(rt.alloc(), SMALL, &REFUSALS)?;
-    assert_eq!(rt; differences.as_str(), "");
-    Ok(())
+fn refusals_come_in_order(rt: HostRuntime) {
+    expect_none(&rt, played(rt.alloc(), SMALL, &refusals()));
 }
 
-#[test]
-fn objects_have_a_limit(rt: HostRuntime) -> Result<(), Fail> {
-    let create = CREATES[0].request(rt.alloc())?;
-    let mut server = server(rt.alloc())?;
-    for _ in 0..65_535 {
+/// The rows to which a server with so many objects replies otherwise.
+fn differences_behind(alloc: Global, server: &mut Server<NoDisk>, objects: u32) -> OtherReplies {
+    let create = CREATES[0].request(alloc);
+    for _ in 0..objects {
         server.answer(create.as_slice());
     }
-    let differences = differences(rt.alloc(), &mut server, &LAST)?;
-    assert_eq!(rt; differences.as_str(), "");
-    Ok(())
+    differences(alloc, server, &[&LAST])
+}
+
+fn played_behind(alloc: Global, objects: u32) -> Option<OtherReplies> {
+    let mut server = server_of(alloc, SMALL)?;
+    let differences = differences_behind(alloc, &mut server, objects);
+    drop(server);
+    Some(differences)
+}
+
+#[test]
+fn objects_have_a_limit(rt: HostRuntime) {
+    expect_none(&rt, played_behind(rt.alloc(), 65_535));
 }
 
 /// The reply to a body without a tag.
-const UNTAGGED: [Row; 1] = rows! {
+static UNTAGGED: [Row; 1] = rows! {
     "no body": 0, CreateOf(0) => Untagged;
 };
 
 /// The reply to a body of an opcode that is none.
-const NO_OPCODE: [Row; 1] = rows! {
+static NO_OPCODE: [Row; 1] = rows! {
     "an opcode that is none": 7, Opcode(99) => Refused(BAD_STUB);
 };
 
-/// The lines of a session, its replies, the number of requests and the end. The last line has no end.
-const ENDS: [(&str, &[Row], u64, End); 5] = [
-    ("", &[], 0, End::Closed),
-    ("\n01", &[], 0, End::Closed),
-    ("0g\n01", &[], 0, End::BadHex(1)),
-    ("01\n0\n", &UNTAGGED, 1, End::BadHex(2)),
-    ("0700000063000000", &NO_OPCODE, 1, End::Closed),
-];
+/// Whether a session over a line goes so, and has these replies. The last line has no end.
+fn ends(alloc: Global, input: &str, replies: &[Row], requests: u64, why: End) -> bool {
+    let want = wanted(alloc, replies);
+    let how = Served { requests, why };
+    is_served(alloc, input.as_bytes(), 7, how, want.as_bytes())
+}
 
 #[test]
-fn sessions_end_behind_their_replies(rt: HostRuntime) -> Result<(), Fail> {
-    for (input, replies, requests, why) in ENDS {
-        let (how, out) = served(rt.alloc(), input.as_bytes(), 7)?;
-        let want = wanted(rt.alloc(), replies)?;
-        assert_eq!(rt; how, Served { requests, why }, "{input:?}");
-        assert_eq!(rt; out.as_slice(), want.as_bytes(), "{input:?}");
-    }
-    Ok(())
+fn sessions_end_without_replies(rt: HostRuntime) {
+    let alloc = rt.alloc();
+    assert!(rt; ends(alloc, "", &[], 0, End::Closed));
+    assert!(rt; ends(alloc, "\n01", &[], 0, End::Closed));
+    assert!(rt; ends(alloc, "0g\n01", &[], 0, End::BadHex(1)));
 }
 
-/// The length before a record; none of these is too long for one.
-fn length_of(body: &[u8]) -> [u8; 4] {
-    u32::try_from(body.len()).unwrap_or(u32::MAX).to_le_bytes()
+#[test]
+fn sessions_end_behind_their_replies(rt: HostRuntime) {
+    let alloc = rt.alloc();
+    assert!(rt; ends(alloc, "01\n0\n", &UNTAGGED, 1, End::BadHex(2)));
+    assert!(rt; ends(alloc, "0700000063000000", &NO_OPCODE, 1, End::Closed));
 }
 
-/// The replies to the four worked bodies as records, and those that a cut and a length of 0 after them have.
-fn in_records(alloc: Global, more: &[u8]) -> Result<(Served, Vec<u8>), Fail> {
+/// Puts a body behind its length; none of these is too long for one.
+fn put_record(out: &mut Vec<u8>, body: &[u8]) {
+    let len = u32::try_from(body.len()).unwrap_or(u32::MAX);
+    let _ = out.extend_from_slice(&len.to_le_bytes());
+    let _ = out.extend_from_slice(body);
+}
+
+/// The requests of some rows as records, and some bytes behind them.
+fn asked_in_records(alloc: Global, rows: &[Row], more: &[u8]) -> Vec<u8> {
     let mut input = Vec::new(alloc);
-    for row in &COUNT {
-        let body = row.request(alloc)?;
-        input.extend_from_slice(&length_of(&body))?;
-        input.extend_from_slice(&body)?;
+    for row in rows {
+        put_record(&mut input, row.request(alloc).as_slice());
     }
-    input.extend_from_slice(more)?;
-    let mut reader = Ahead::new(alloc, input.as_slice())?;
+    let _ = input.extend_from_slice(more);
+    input
+}
+
+/// The replies of some tables as records.
+fn wanted_in_records(alloc: Global, tables: &[&[Row]]) -> Vec<u8> {
+    let mut want = Vec::new(alloc);
+    for rows in tables {
+        for row in *rows {
+            put_record(&mut want, row.reply(alloc).as_slice());
+        }
+    }
+    want
+}
+
+/// How a session of records with a new server went.
+fn talked_in_records(
+    alloc: Global,
+    reader: &mut Ahead<&[u8]>,
+    writer: &mut Gathered,
+) -> Option<Served>
+    requires { writer.old.broken ≡ false }
+{
+    let mut server = server_of(alloc, SMALL)?;
+    let served = server.serve(reader, writer, 1);
+    drop(server);
+    served.ok()
+}
+
+/// Whether a session over these records goes so, and writes these.
+fn is_served_in_records(alloc: Global, input: &[u8], how: Served, want: &[u8]) -> bool {
+    let Ok(mut reader) = Ahead::new(alloc, input) else {
+        return false;
+    };
     let mut writer = Gathered::new(Vec::new(alloc));
-    let served = server(alloc)?.serve(&mut reader, &mut writer, 1)?;
-    Ok((served, Vec::from_slice(alloc, writer.bytes())?))
+    let served = talked_in_records(alloc, &mut reader, &mut writer);
+    served == Some(how) && writer.bytes() == want
+}
+
+/// Whether the four worked bodies as records, and these bytes behind them, end so and have these replies.
+fn record_ends(alloc: Global, more: &[u8], replies: &[&[Row]], why: End) -> bool {
+    let input = asked_in_records(alloc, &COUNT, more);
+    let want = wanted_in_records(alloc, replies);
+    let how = Served { requests: 4, why };
+    is_served_in_records(alloc, input.as_slice(), how, want.as_slice())
 }
 
 #[test]
-fn records_have_lengths(rt: HostRuntime) -> Result<(), Fail> {
-    let mut want = Vec::new(rt.alloc());
-    for row in &COUNT {
-        let reply = row.reply(rt.alloc())?;
-        want.extend_from_slice(&length_of(&reply))?;
-        want.extend_from_slice(&reply)?;
-    }
-    for (more, why) in [
-        ([].as_slice(), End::Closed),
-        ([0, 0, 0, 0, 1].as_slice(), End::Closed),
-    ] {
-        let (how, out) = in_records(rt.alloc(), more)?;
-        assert_eq!(rt; how, Served { requests: 4, why });
-        assert_eq!(rt; out.as_slice(), want.as_slice());
-    }
-    let untagged = UNTAGGED[0].reply(rt.alloc())?;
-    want.extend_from_slice(&length_of(&untagged))?;
-    want.extend_from_slice(&untagged)?;
-    for (more, why) in [
-        ([2, 0, 0, 0, 1].as_slice(), End::Cut),
-        ([1, 0, 16, 0, 1].as_slice(), End::TooLong),
-    ] {
-        let (how, out) = in_records(rt.alloc(), more)?;
-        assert_eq!(rt; how, Served { requests: 4, why });
-        assert_eq!(rt; out.as_slice(), want.as_slice());
-    }
-    Ok(())
+fn records_have_lengths(rt: HostRuntime) {
+    let alloc = rt.alloc();
+    assert!(rt; record_ends(alloc, &[], &[&COUNT], End::Closed));
+    assert!(rt; record_ends(alloc, &[0, 0, 0, 0, 1], &[&COUNT], End::Closed));
+    assert!(rt; record_ends(alloc, &[2, 0, 0, 0, 1], &[&COUNT, &UNTAGGED], End::Cut));
+    assert!(rt; record_ends(alloc, &[1, 0, 16, 0, 1], &[&COUNT, &UNTAGGED], End::TooLong));
+}
+
+/// Whether a line of so many digits, with another one behind it, has the reply to a body without a tag.
+fn is_too_long(alloc: Global, digits: usize) -> Option<bool> {
+    let mut text = vec![in alloc; b'0'; digits].ok()?;
+    let _ = text.extend_from_slice(b"\n01\n");
+    let want = wanted(alloc, &UNTAGGED);
+    let how = Served {
+        requests: 0,
+        why: End::TooLong,
+    };
+    Some(is_served(alloc, text.as_slice(), 1, how, want.as_bytes()))
 }
 
 #[test]
-fn a_line_too_long_has_a_reply(rt: HostRuntime) -> Result<(), Fail> {
-    let mut text = vec![in rt.alloc(); b'0'; 2_097_153]?;
-    text.extend_from_slice(b"\n01\n")?;
-    let (how, out) = served(rt.alloc(), text.as_slice(), 1)?;
-    assert_eq!(rt; how.requests, 0);
-    assert_eq!(rt; how.why, End::TooLong);
-    let want = wanted(rt.alloc(), &UNTAGGED)?;
-    assert_eq!(rt; out.as_slice(), want.as_bytes());
-    Ok(())
+fn a_line_too_long_has_a_reply(rt: HostRuntime) {
+    assert!(rt; is_too_long(rt.alloc(), 2_097_153) == Some(true));
 }
 
 /// How a session over a reader of the standard library went.
-fn over<R: Read + Drop>(alloc: Global, reader: R, writer: &mut Gathered) -> Result<Served, Fail>
+fn over<R: Read + Drop>(alloc: Global, reader: R, writer: &mut Gathered) -> Option<Served>
     requires { writer.old.broken ≡ false }
 {
-    let mut reader = Ahead::new(alloc, Inlet::new(reader))?;
-    Ok(server(alloc)?.serve_hex(&mut reader, writer, 1)?)
+    let mut reader = Ahead::new(alloc, Inlet::new(reader)).ok()?;
+    talked(alloc, &mut reader, writer, 1)
 }
 
-/// How a session over a reader that always fails in this way went, how often that was called, and how much was written.
-fn refused(alloc: Global, kind: ErrorKind) -> Result<(Served, u32, usize), Fail> {
+/// Whether a session over a reader that always fails in this way ends behind so many calls of it, with nothing written.
+fn is_refused(alloc: Global, kind: ErrorKind, calls: u32) -> bool {
     let mut refusing = Refusing { kind, calls: 0 };
     let mut writer = Gathered::new(Vec::new(alloc));
-    let served = over(alloc, &mut refusing, &mut writer)?;
-    Ok((served, refusing.calls, writer.bytes().len()))
+    let served = over(alloc, &mut refusing, &mut writer);
+    let is_fault = matches!(
+        served,
+        Some(Served {
+            why: End::ReadFault,
+            ..
+        })
+    );
+    is_fault && refusing.calls == calls && writer.bytes().is_empty()
 }
 
 #[test]
-fn readers_that_never_give_a_byte_end_a_session(rt: HostRuntime) -> Result<(), Fail> {
-    let (how, calls, written) = refused(rt.alloc(), ErrorKind::Interrupted)?;
-    assert_eq!(rt; how.why, End::ReadFault);
-    assert_eq!(rt; calls, 4_194_304);
-    assert_eq!(rt; written, 0);
-    let (how, calls, written) = refused(rt.alloc(), ErrorKind::Other)?;
-    assert_eq!(rt; how.why, End::ReadFault);
-    assert_eq!(rt; calls, 1);
-    assert_eq!(rt; written, 0);
-    Ok(())
+fn readers_that_never_give_a_byte_end_a_session(rt: HostRuntime) {
+    assert!(rt; is_refused(rt.alloc(), ErrorKind::Interrupted, 4_194_304));
+    assert!(rt; is_refused(rt.alloc(), ErrorKind::Other, 1));
 }
 
-/// What a session over a reader of one byte in every second call writes for the four worked bodies.
-fn written_slowly(alloc: Global) -> Result<Vec<u8>, Fail> {
-    let input = asked(alloc, &COUNT)?;
+/// Whether a session over a reader of one byte in every second call writes these bytes.
+fn is_written_slowly(alloc: Global, input: &[u8], want: &[u8]) -> bool {
     let reader = Halting {
-        rest: input.as_bytes(),
+        rest: input,
         calls: 0,
     };
     let mut writer = Gathered::new(Vec::new(alloc));
-    over(alloc, reader, &mut writer)?;
-    Ok(Vec::from_slice(alloc, writer.bytes())?)
+    let served = over(alloc, reader, &mut writer);
+    served.is_some() && writer.bytes() == want
 }
 
 #[test]
-fn a_byte_in_every_second_call_is_enough(rt: HostRuntime) -> Result<(), Fail> {
-    let out = written_slowly(rt.alloc())?;
-    let want = wanted(rt.alloc(), &COUNT)?;
-    assert_eq!(rt; out.as_slice(), want.as_bytes());
-    Ok(())
+fn a_byte_in_every_second_call_is_enough(rt: HostRuntime) {
+    let input = asked(rt.alloc(), &COUNT);
+    let want = wanted(rt.alloc(), &COUNT);
+    assert!(rt; is_written_slowly(rt.alloc(), input.as_bytes(), want.as_bytes()));
 }
 
-/// What is left of three lines of 50 characters after a session over a writer that fails after so many calls; a reply takes 17 of them,
-/// each of at most three characters.
-fn left_by(alloc: Global, group: usize, calls: u32) -> Result<(Served, usize), Fail>
+/// Whether a session over these bytes fails behind so many requests where the writer fails after so many calls, and leaves so many bytes.
+fn is_cut(alloc: Global, input: &[u8], group: usize, calls: u32, failed: (u64, usize)) -> bool
     requires positive { 1 ≤ group }
     requires small { group ≤ max_group }
 {
-    let input = asked(alloc, &CREATES)?;
-    let mut reader = Ahead::new(alloc, input.as_bytes())?;
+    let Ok(mut reader) = Ahead::new(alloc, input) else {
+        return false;
+    };
     let taken = Vec::new(alloc);
     let mut writer = Outlet::new(Small { taken, calls });
-    let served = server(alloc)?.serve_hex(&mut reader, &mut writer, group)?;
-    Ok((served, reader.buffered().len()))
+    let served = talked(alloc, &mut reader, &mut writer, group);
+    let (requests, left) = failed;
+    let why = End::WriteFault;
+    served == Some(Served { requests, why }) && reader.buffered().len() == left
 }
 
-/// A session in which the writer failed behind so many requests.
-fn failed(requests: u64) -> Served {
-    Served {
-        requests,
-        why: End::WriteFault,
-    }
+/// The same of three lines of 50 characters; a reply takes 17 calls, each of at most three characters.
+fn fails(alloc: Global, group: usize, calls: u32, requests: u64, left: usize) -> bool
+    requires positive { 1 ≤ group }
+    requires small { group ≤ max_group }
+{
+    let input = asked(alloc, &CREATES);
+    is_cut(alloc, input.as_bytes(), group, calls, (requests, left))
 }
 
 #[test]
-fn nothing_is_read_past_a_failed_write(rt: HostRuntime) -> Result<(), Fail> {
-    let (how, left) = left_by(rt.alloc(), 1, 16)?;
-    assert_eq!(rt; how, failed(1));
-    assert_eq!(rt; left, 100);
-    let (how, left) = left_by(rt.alloc(), 1, 17)?;
-    assert_eq!(rt; how, failed(2));
-    assert_eq!(rt; left, 50);
-    let (how, left) = left_by(rt.alloc(), 3, 50)?;
-    assert_eq!(rt; how, failed(3));
-    assert_eq!(rt; left, 0);
-    let (how, left) = left_by(rt.alloc(), 1024, 0)?;
-    assert_eq!(rt; how, failed(1));
-    assert_eq!(rt; left, 100);
-    Ok(())
+fn nothing_is_read_past_a_failed_write(rt: HostRuntime) {
+    assert!(rt; fails(rt.alloc(), 1, 16, 1, 100));
+    assert!(rt; fails(rt.alloc(), 1, 17, 2, 50));
+    assert!(rt; fails(rt.alloc(), 3, 50, 3, 0));
+    assert!(rt; fails(rt.alloc(), 1024, 0, 1, 100));
 }

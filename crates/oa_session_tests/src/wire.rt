@@ -1,6 +1,5 @@
 //! Requests and replies in words, and the bytes that spell them (docs/records.md, docs/wire.md).
-use std::alloc::{AllocError, Global};
-use std::test::Fail;
+use std::alloc::Global;
 
 /// A request of a session and its answer.
 #[derive(Clone, Copy)]
@@ -262,7 +261,8 @@ fn count_of(n: usize) -> u32 {
     u32::try_from(n).unwrap_or(u32::MAX)
 }
 
-/// The bytes of a request or a reply, put one behind another, and what stands in those that are ignored.
+/// The bytes of a request or a reply, put one behind another, and what stands in those that are ignored. Where memory is refused bytes are
+/// missing, and the row is not answered as it says.
 #[derive(Drop)]
 struct Bytes {
     bytes: Vec<u8>,
@@ -277,124 +277,123 @@ impl Bytes {
         }
     }
 
-    fn many(&mut self, bytes: &[u8]) -> Result<(), AllocError> {
-        self.bytes.extend_from_slice(bytes)
+    fn many(&mut self, bytes: &[u8]) {
+        let _ = self.bytes.extend_from_slice(bytes);
     }
 
-    fn half(&mut self, n: u16) -> Result<(), AllocError> {
-        self.many(&n.to_le_bytes())
+    fn half(&mut self, n: u16) {
+        self.many(&n.to_le_bytes());
     }
 
-    fn word(&mut self, n: u32) -> Result<(), AllocError> {
-        self.many(&n.to_le_bytes())
+    fn word(&mut self, n: u32) {
+        self.many(&n.to_le_bytes());
     }
 
-    fn ids(&mut self, ids: &[i32]) -> Result<(), AllocError> {
+    fn ids(&mut self, ids: &[i32]) {
         for id in ids {
-            self.many(&id.to_le_bytes())?;
+            self.many(&id.to_le_bytes());
         }
-        self.pad()
+        self.pad();
     }
 
-    fn reserved(&mut self) -> Result<(), AllocError> {
-        self.many(&[self.filler; 4])
+    fn reserved(&mut self) {
+        self.many(&[self.filler; 4]);
     }
 
     /// Padding up to a multiple of 8 bytes.
-    fn pad(&mut self) -> Result<(), AllocError> {
+    fn pad(&mut self) {
         let gap = (8 - self.bytes.len() % 8) % 8;
-        self.many(&[self.filler; 8][..gap])
+        self.many(&[self.filler; 8][..gap]);
     }
 
-    fn guid(&mut self, last: Guid) -> Result<(), AllocError> {
+    fn guid(&mut self, last: Guid) {
         if last == 0 {
             return self.many(&[0; 16]);
         }
-        self.many(&SHARED)?;
-        self.many(&[last])
+        self.many(&SHARED);
+        self.many(&[last]);
     }
 
     /// UTF-16, of characters below 65536.
-    fn units(&mut self, text: &str) -> Result<(), AllocError> {
+    fn units(&mut self, text: &str) {
         for c in text.chars() {
-            self.many(&(c as u32).to_le_bytes()[..2])?;
+            self.many(&(c as u32).to_le_bytes()[..2]);
         }
-        Ok(())
     }
 
-    fn string(&mut self, text: &str) -> Result<(), AllocError> {
-        self.word(count_of(text.chars().count()))?;
-        self.reserved()?;
-        self.units(text)?;
-        self.pad()
+    fn string(&mut self, text: &str) {
+        self.word(count_of(text.chars().count()));
+        self.reserved();
+        self.units(text);
+        self.pad();
     }
 
     /// FLAGGED_WORD_BLOB, at a multiple of 4.
-    fn blob(&mut self, text: &[u8]) -> Result<(), AllocError> {
+    fn blob(&mut self, text: &[u8]) {
         let gap = (4 - self.bytes.len() % 4) % 4;
-        self.many(&[0; 4][..gap])?;
+        self.many(&[0; 4][..gap]);
         let units = count_of(text.len().div_ceil(2));
-        self.word(units)?;
-        self.word(count_of(text.len()))?;
-        self.word(units)?;
-        self.many(text)?;
-        self.many(&[0][..text.len() % 2])
+        self.word(units);
+        self.word(count_of(text.len()));
+        self.word(units);
+        self.many(text);
+        self.many(&[0][..text.len() % 2]);
     }
 
     /// A variant field with a wireVARIANT, given from its vt on.
-    fn field(&mut self, value: &Bytes) -> Result<(), AllocError> {
+    fn field(&mut self, value: &Bytes) {
         let len = value.bytes.len().saturating_add(8);
-        self.word(count_of(len))?;
-        self.reserved()?;
-        self.sized(value)?;
-        self.pad()
+        self.word(count_of(len));
+        self.reserved();
+        self.sized(value);
+        self.pad();
     }
 
     /// clSize and a wireVARIANT from its vt on.
-    fn sized(&mut self, value: &Bytes) -> Result<(), AllocError> {
+    fn sized(&mut self, value: &Bytes) {
         let len = value.bytes.len().saturating_add(8);
-        self.word(count_of(len.div_ceil(8)))?;
-        self.reserved()?;
-        self.many(value.bytes.as_slice())
+        self.word(count_of(len.div_ceil(8)));
+        self.reserved();
+        self.many(value.bytes.as_slice());
     }
 
     /// The vt and the discriminant.
-    fn kind(&mut self, vt: u16, discriminant: u32) -> Result<(), AllocError> {
-        self.half(vt)?;
-        self.many(&[0; 6])?;
-        self.word(discriminant)
+    fn kind(&mut self, vt: u16, discriminant: u32) {
+        self.half(vt);
+        self.many(&[0; 6]);
+        self.word(discriminant);
     }
 
-    fn plain(&mut self, vt: u16, arm: &[u8]) -> Result<(), AllocError> {
-        self.kind(vt, vt as u32)?;
-        self.many(arm)
+    fn plain(&mut self, vt: u16, arm: &[u8]) {
+        self.kind(vt, vt as u32);
+        self.many(arm);
     }
 
     /// An arm that begins at a multiple of 8.
-    fn wide(&mut self, vt: u16, arm: &[u8]) -> Result<(), AllocError> {
-        self.kind(vt, vt as u32)?;
-        self.pad()?;
-        self.many(arm)
+    fn wide(&mut self, vt: u16, arm: &[u8]) {
+        self.kind(vt, vt as u32);
+        self.pad();
+        self.many(arm);
     }
 
-    fn text(&mut self, text: &[u8]) -> Result<(), AllocError> {
-        self.plain(VT_BSTR, &REFERENT.to_le_bytes())?;
-        self.blob(text)
+    fn text(&mut self, text: &[u8]) {
+        self.plain(VT_BSTR, &REFERENT.to_le_bytes());
+        self.blob(text);
     }
 
-    fn decimal(
-        &mut self,
-        negative: bool,
-        scale: u8,
-        high: u32,
-        low: u64,
-    ) -> Result<(), AllocError> {
-        self.wide(14, &[0, 0, scale, if negative { 0x80 } else { 0 }])?;
-        self.word(high)?;
-        self.many(&low.to_le_bytes())
+    fn decimal(&mut self, negative: bool, scale: u8, high: u32, low: u64) {
+        self.wide(14, &[0, 0, scale, if negative { 0x80 } else { 0 }]);
+        self.word(high);
+        self.many(&low.to_le_bytes());
     }
 
-    fn value(&mut self, alloc: Global, value: &Value) -> Result<(), AllocError> {
+    /// An I4 whose discriminant is another type's.
+    fn unlike(&mut self, discriminant: u32, n: i32) {
+        self.kind(VT_I4, discriminant);
+        self.many(&n.to_le_bytes());
+    }
+
+    fn value(&mut self, alloc: Global, value: &Value) {
         match *value {
             Value::Empty => self.plain(0, &[]),
             Value::I2(n) => self.plain(VT_I2, &n.to_le_bytes()),
@@ -403,57 +402,54 @@ impl Bytes {
             Value::Cy(n) => self.wide(VT_CY, &n.to_le_bytes()),
             Value::Decimal(negative, scale, high, low) => self.decimal(negative, scale, high, low),
             Value::Error(code) => self.plain(10, &code.to_le_bytes()),
-            Value::Text(text) => self.text(utf16(alloc, text)?.as_slice()),
+            Value::Text(text) => self.text(utf16(alloc, text).as_slice()),
             Value::NoText => self.plain(VT_BSTR, &[0; 4]),
             Value::Odd(bytes) => self.text(bytes),
             Value::Double(bits) => self.wide(5, &bits.to_le_bytes()),
-            Value::Unlike(discriminant, n) => {
-                self.kind(VT_I4, discriminant)?;
-                self.many(&n.to_le_bytes())
-            }
-            Value::Byte => Ok(()),
+            Value::Unlike(discriminant, n) => self.unlike(discriminant, n),
+            Value::Byte => {}
         }
     }
 
     /// A variant field of a value.
-    fn variant(&mut self, alloc: Global, value: &Value) -> Result<(), AllocError> {
+    fn variant(&mut self, alloc: Global, value: &Value) {
         if let Value::Byte = value {
-            self.word(1)?;
+            self.word(1);
             return self.many(&[0; 12]);
         }
         let mut field = Bytes::new(alloc);
-        field.value(alloc, value)?;
-        self.field(&field)
+        field.value(alloc, value);
+        self.field(&field);
     }
 
     /// A variant field of an array.
-    fn array_field(&mut self, alloc: Global, array: &Array) -> Result<(), AllocError> {
+    fn array_field(&mut self, alloc: Global, array: &Array) {
         let mut field = Bytes::new(alloc);
-        field.array(alloc, array)?;
-        self.field(&field)
+        field.array(alloc, array);
+        self.field(&field);
     }
 
     /// A wireSAFEARRAY behind its two referents, from the vt on.
-    fn array(&mut self, alloc: Global, array: &Array) -> Result<(), AllocError> {
-        self.kind(0x2000 | array.vt, 0x2000)?;
-        self.word(REFERENT)?;
-        self.word(REFERENT)?;
+    fn array(&mut self, alloc: Global, array: &Array) {
+        self.kind(0x2000 | array.vt, 0x2000);
+        self.word(REFERENT);
+        self.word(REFERENT);
         let (dims, count) = match array.cells {
             Cells::None => (1u16, 0),
             _ => (2, 4),
         };
-        self.word(dims as u32)?;
-        self.half(dims)?;
-        self.layout(array.vt)?;
-        self.word(count)?;
-        self.word(REFERENT)?;
-        self.bounds(count)?;
-        self.word(count)?;
-        self.cells(alloc, array)
+        self.word(dims as u32);
+        self.half(dims);
+        self.layout(array.vt);
+        self.word(count);
+        self.word(REFERENT);
+        self.bounds(count);
+        self.word(count);
+        self.cells(alloc, array);
     }
 
     /// fFeatures, cbElements, the type of the cells and sfType.
-    fn layout(&mut self, vt: u16) -> Result<(), AllocError> {
+    fn layout(&mut self, vt: u16) {
         let (features, sf_type) = match vt {
             VT_BSTR => (0x180, 8),
             VT_VARIANT => (0x880, 0xc),
@@ -462,224 +458,247 @@ impl Bytes {
             VT_I8 | VT_UI8 | VT_CY => (0x80, 0x14),
             _ => (0x80, 3),
         };
-        self.half(features)?;
-        self.word(count_of(width(vt)))?;
-        self.half(0)?;
-        self.half(vt)?;
-        self.word(sf_type)
+        self.half(features);
+        self.word(count_of(width(vt)));
+        self.half(0);
+        self.half(vt);
+        self.word(sf_type);
     }
 
-    fn bounds(&mut self, count: u32) -> Result<(), AllocError> {
+    fn bounds(&mut self, count: u32) {
         if count == 0 {
             return self.many(&[0; 8]);
         }
-        self.word(2)?;
-        self.many(&(-1i32).to_le_bytes())?;
-        self.word(2)?;
-        self.word(5)
+        self.word(2);
+        self.many(&(-1i32).to_le_bytes());
+        self.word(2);
+        self.word(5);
     }
 
-    fn cells(&mut self, alloc: Global, array: &Array) -> Result<(), AllocError> {
+    fn cells(&mut self, alloc: Global, array: &Array) {
         match array.cells {
             Cells::Numbers(numbers) => self.numbers(width(array.vt), numbers),
             Cells::Texts(texts) => self.texts(alloc, texts),
             Cells::Variants(values) => self.variants(alloc, values),
-            Cells::None => Ok(()),
+            Cells::None => {}
         }
     }
 
-    fn numbers(&mut self, width: usize, numbers: &[i128]) -> Result<(), AllocError> {
+    fn numbers(&mut self, width: usize, numbers: &[i128]) {
         if width == 8 {
-            self.pad()?;
+            self.pad();
         }
         for n in numbers {
-            self.many(&n.to_le_bytes()[..width.min(16)])?;
+            self.many(&n.to_le_bytes()[..width.min(16)]);
         }
-        Ok(())
+    }
+
+    fn referent(&mut self, text: &Value) {
+        match text {
+            Value::NoText => self.word(0),
+            _ => self.word(REFERENT),
+        }
+    }
+
+    /// What a text's referent points to.
+    fn pointee(&mut self, alloc: Global, text: &Value) {
+        match text {
+            Value::Text(text) => self.blob(utf16(alloc, text).as_slice()),
+            Value::Odd(bytes) => self.blob(bytes),
+            _ => {}
+        }
     }
 
     /// The referents of texts, and then the texts.
-    fn texts(&mut self, alloc: Global, texts: &[Value]) -> Result<(), AllocError> {
+    fn texts(&mut self, alloc: Global, texts: &[Value]) {
         for text in texts {
-            self.word(if let Value::NoText = text {
-                0
-            } else {
-                REFERENT
-            })?;
+            self.referent(text);
         }
         for text in texts {
-            match text {
-                Value::Text(text) => self.blob(utf16(alloc, text)?.as_slice())?,
-                Value::Odd(bytes) => self.blob(bytes)?,
-                _ => {}
-            }
+            self.pointee(alloc, text);
         }
-        Ok(())
+    }
+
+    /// A cell of an array of VARIANT.
+    fn cell(&mut self, alloc: Global, value: &Value) {
+        let mut cell = Bytes::new(alloc);
+        cell.value(alloc, value);
+        self.pad();
+        self.sized(&cell);
     }
 
     /// The referents of values, and then the values.
-    fn variants(&mut self, alloc: Global, values: &[Value]) -> Result<(), AllocError> {
+    fn variants(&mut self, alloc: Global, values: &[Value]) {
         for _ in values {
-            self.word(REFERENT)?;
+            self.word(REFERENT);
         }
         for value in values {
-            self.pad()?;
-            let mut cell = Bytes::new(alloc);
-            cell.value(alloc, value)?;
-            self.sized(&cell)?;
+            self.cell(alloc, value);
         }
-        Ok(())
     }
 
     /// What a request begins with.
-    fn head(&mut self, tag: u32, opcode: u16) -> Result<(), AllocError> {
-        self.word(tag)?;
-        self.half(opcode)?;
-        self.many(&[self.filler; 2])
+    fn head(&mut self, tag: u32, opcode: u16) {
+        self.word(tag);
+        self.half(opcode);
+        self.many(&[self.filler; 2]);
     }
 
     /// A GETIDS up to its names.
-    fn look_up(&mut self, tag: u32, look_up: &GetIds, count: usize) -> Result<(), AllocError> {
+    fn look_up(&mut self, tag: u32, look_up: &GetIds, count: usize) {
         self.filler = look_up.filler;
-        self.head(tag, 3)?;
-        self.word(look_up.object)?;
-        self.reserved()?;
-        self.guid(look_up.interface)?;
-        self.guid(look_up.riid)?;
-        self.word(look_up.locale)?;
-        self.word(count_of(count))
+        self.head(tag, 3);
+        self.word(look_up.object);
+        self.reserved();
+        self.guid(look_up.interface);
+        self.guid(look_up.riid);
+        self.word(look_up.locale);
+        self.word(count_of(count));
     }
 
-    fn names(&mut self, tag: u32, look_up: &GetIds) -> Result<(), AllocError> {
-        self.look_up(tag, look_up, look_up.names.len())?;
+    fn names(&mut self, tag: u32, look_up: &GetIds) {
+        self.look_up(tag, look_up, look_up.names.len());
         for name in look_up.names {
-            self.string(name)?;
+            self.string(name);
         }
-        Ok(())
     }
 
-    fn cell_and_keys(&mut self, tag: u32, count: usize) -> Result<(), AllocError> {
-        self.look_up(tag, &GET_IDS, count)?;
-        self.string("Cell")?;
+    fn cell_and_keys(&mut self, tag: u32, count: usize) {
+        self.look_up(tag, &GET_IDS, count);
+        self.string("Cell");
         for _ in 1..count {
-            self.string("Key")?;
+            self.string("Key");
         }
-        Ok(())
     }
 
     /// An INVOKE up to its arguments.
-    fn invoke(&mut self, tag: u32, call: &Invoke, count: usize) -> Result<(), AllocError> {
-        self.head(tag, 4)?;
-        self.word(call.object)?;
-        self.many(&call.dispid.to_le_bytes())?;
-        self.guid(call.interface)?;
-        self.guid(call.riid)?;
-        self.word(0)?;
-        self.half(call.flags)?;
-        self.half(0)?;
-        self.word(count_of(count))?;
-        self.word(count_of(call.named.len()))?;
-        self.ids(call.named)
+    fn invoke(&mut self, tag: u32, call: &Invoke, count: usize) {
+        self.head(tag, 4);
+        self.word(call.object);
+        self.many(&call.dispid.to_le_bytes());
+        self.guid(call.interface);
+        self.guid(call.riid);
+        self.word(0);
+        self.half(call.flags);
+        self.half(0);
+        self.word(count_of(count));
+        self.word(count_of(call.named.len()));
+        self.ids(call.named);
     }
 
-    fn call(&mut self, alloc: Global, tag: u32, call: &Invoke) -> Result<(), AllocError> {
-        self.invoke(tag, call, call.values.len())?;
+    fn call(&mut self, alloc: Global, tag: u32, call: &Invoke) {
+        self.invoke(tag, call, call.values.len());
         for value in call.values {
-            self.variant(alloc, value)?;
+            self.variant(alloc, value);
         }
-        Ok(())
     }
 
-    fn put(
-        &mut self,
-        alloc: Global,
-        tag: u32,
-        dispid: i32,
-        value: &Value,
-    ) -> Result<(), AllocError> {
-        self.invoke(tag, &Invoke { dispid, ..PUT }, 1)?;
-        self.variant(alloc, value)
+    fn get(&mut self, tag: u32, dispid: i32) {
+        self.invoke(tag, &Invoke { dispid, ..GET }, 0);
     }
 
-    fn create(&mut self, tag: u32, coclass: Guid) -> Result<(), AllocError> {
-        self.head(tag, 1)?;
-        self.guid(coclass)
+    fn put(&mut self, alloc: Global, tag: u32, dispid: i32, value: &Value) {
+        self.invoke(tag, &Invoke { dispid, ..PUT }, 1);
+        self.variant(alloc, value);
     }
 
-    fn ask(&mut self, alloc: Global, tag: u32, ask: &Ask) -> Result<(), AllocError> {
-        match *ask {
-            Ask::Create(coclass) => self.create(tag, coclass),
-            Ask::CreateOf(len) => {
-                self.create(tag, ITEM)?;
-                self.bytes.resize(len, 0)?;
-                Ok(())
-            }
-            Ask::Opcode(opcode) => self.head(tag, opcode),
+    fn cut_put(&mut self, alloc: Global, tag: u32, dispid: i32, value: &Value) {
+        self.put(alloc, tag, dispid, value);
+        self.bytes.pop();
+    }
+
+    fn put_array(&mut self, alloc: Global, tag: u32, dispid: i32, array: &Array) {
+        self.invoke(tag, &Invoke { dispid, ..PUT }, 1);
+        self.array_field(alloc, array);
+    }
+
+    fn create(&mut self, tag: u32, coclass: Guid) {
+        self.head(tag, 1);
+        self.guid(coclass);
+    }
+
+    fn create_of(&mut self, tag: u32, len: usize) {
+        self.create(tag, ITEM);
+        let _ = self.bytes.resize(len, 0);
+    }
+
+    fn type_info(&mut self, tag: u32, index: u32) {
+        self.head(tag, 10);
+        self.word(index);
+        self.word(0);
+    }
+
+    fn ask(&mut self, alloc: Global, tag: u32, ask: &Ask) {
+        match ask {
+            Ask::Create(coclass) => self.create(tag, *coclass),
+            Ask::CreateOf(len) => self.create_of(tag, *len),
+            Ask::Opcode(opcode) => self.head(tag, *opcode),
             Ask::Names(names) => self.names(tag, &GetIds { names, ..GET_IDS }),
-            Ask::LookUp(look_up) => self.names(tag, &look_up),
-            Ask::CellAndKeys(count) => self.cell_and_keys(tag, count),
-            Ask::Get(dispid) => self.invoke(tag, &Invoke { dispid, ..GET }, 0),
-            Ask::Put(dispid, value) => self.put(alloc, tag, dispid, &value),
-            Ask::CutPut(dispid, value) => {
-                self.put(alloc, tag, dispid, &value)?;
-                self.bytes.pop();
-                Ok(())
-            }
-            Ask::PutArray(dispid, array) => {
-                self.invoke(tag, &Invoke { dispid, ..PUT }, 1)?;
-                self.array_field(alloc, &array)
-            }
-            Ask::Call(call) => self.call(alloc, tag, &call),
-            Ask::TypeInfo(index) => {
-                self.head(tag, 10)?;
-                self.word(index)?;
-                self.word(0)
-            }
+            Ask::LookUp(look_up) => self.names(tag, look_up),
+            Ask::CellAndKeys(count) => self.cell_and_keys(tag, *count),
+            Ask::Get(dispid) => self.get(tag, *dispid),
+            Ask::Put(dispid, value) => self.put(alloc, tag, *dispid, value),
+            Ask::CutPut(dispid, value) => self.cut_put(alloc, tag, *dispid, value),
+            Ask::PutArray(dispid, array) => self.put_array(alloc, tag, *dispid, array),
+            Ask::Call(call) => self.call(alloc, tag, call),
+            Ask::TypeInfo(index) => self.type_info(tag, *index),
         }
     }
 
     /// What a reply begins with.
-    fn reply(&mut self, tag: u32, code: u32, index: u32) -> Result<(), AllocError> {
-        self.word(tag)?;
-        self.word(code)?;
-        self.word(index)?;
-        self.word(0)
+    fn reply(&mut self, tag: u32, code: u32, index: u32) {
+        self.word(tag);
+        self.word(code);
+        self.word(index);
+        self.word(0);
     }
 
-    fn found(&mut self, tag: u32, code: u32, ids: &[i32]) -> Result<(), AllocError> {
-        self.reply(tag, code, NO_INDEX)?;
-        self.word(count_of(ids.len()))?;
-        self.word(0)?;
-        self.ids(ids)
+    /// What a reply without a refusal begins with.
+    fn success(&mut self, tag: u32) {
+        self.reply(tag, 0, NO_INDEX);
     }
 
-    fn answer(&mut self, alloc: Global, tag: u32, answer: &Answer) -> Result<(), Fail> {
-        match *answer {
-            Answer::Done => self.reply(tag, 0, NO_INDEX)?,
-            Answer::Number(number) => {
-                self.reply(tag, 0, NO_INDEX)?;
-                self.word(number)?;
-                self.word(0)?;
-            }
-            Answer::Gives(value) => {
-                self.reply(tag, 0, NO_INDEX)?;
-                self.variant(alloc, &value)?;
-            }
-            Answer::GivesArray(array) => {
-                self.reply(tag, 0, NO_INDEX)?;
-                self.array_field(alloc, &array)?;
-            }
-            Answer::Found(ids) => self.found(tag, 0, ids)?,
-            Answer::Unknown(ids) => self.found(tag, UNKNOWN_NAME, ids)?,
-            Answer::Described(digits) => {
-                self.reply(tag, 0, NO_INDEX)?;
-                self.many(described(alloc, digits)?.as_slice())?;
-            }
-            Answer::Refused(code) => self.reply(tag, code, NO_INDEX)?,
-            Answer::RefusedAt(code, index) => self.reply(tag, code, index)?,
-            Answer::Untagged => self.reply(0, BAD_STUB, NO_INDEX)?,
+    fn number(&mut self, tag: u32, number: u32) {
+        self.success(tag);
+        self.word(number);
+        self.word(0);
+    }
+
+    fn gives(&mut self, alloc: Global, tag: u32, value: &Value) {
+        self.success(tag);
+        self.variant(alloc, value);
+    }
+
+    fn gives_array(&mut self, alloc: Global, tag: u32, array: &Array) {
+        self.success(tag);
+        self.array_field(alloc, array);
+    }
+
+    fn described(&mut self, alloc: Global, tag: u32, digits: &str) {
+        self.success(tag);
+        self.many(bytes_of(alloc, digits).as_slice());
+    }
+
+    fn found(&mut self, tag: u32, code: u32, ids: &[i32]) {
+        self.reply(tag, code, NO_INDEX);
+        self.word(count_of(ids.len()));
+        self.word(0);
+        self.ids(ids);
+    }
+
+    fn answer(&mut self, alloc: Global, tag: u32, answer: &Answer) {
+        match answer {
+            Answer::Done => self.success(tag),
+            Answer::Number(number) => self.number(tag, *number),
+            Answer::Gives(value) => self.gives(alloc, tag, value),
+            Answer::GivesArray(array) => self.gives_array(alloc, tag, array),
+            Answer::Found(ids) => self.found(tag, 0, ids),
+            Answer::Unknown(ids) => self.found(tag, UNKNOWN_NAME, ids),
+            Answer::Described(digits) => self.described(alloc, tag, digits),
+            Answer::Refused(code) => self.reply(tag, *code, NO_INDEX),
+            Answer::RefusedAt(code, index) => self.reply(tag, *code, *index),
+            Answer::Untagged => self.reply(0, BAD_STUB, NO_INDEX),
         }
-        Ok(())
     }
 }
 
@@ -694,33 +713,35 @@ fn width(vt: u16) -> usize {
     }
 }
 
-fn utf16(alloc: Global, text: &str) -> Result<Vec<u8>, AllocError> {
+fn utf16(alloc: Global, text: &str) -> Vec<u8> {
     let mut units = Bytes::new(alloc);
-    units.units(text)?;
-    Ok(units.bytes)
+    units.units(text);
+    units.bytes
 }
 
 /// The bytes of digits among which stand blanks and ends of lines.
-fn described(alloc: Global, digits: &str) -> Result<Vec<u8>, Fail> {
-    let mut text = String::new(alloc);
+fn bytes_of(alloc: Global, digits: &str) -> Vec<u8> {
+    let mut bytes = Vec::new(alloc);
     for part in digits.split_ascii_whitespace() {
-        text.push_str(part)?;
+        if let Ok(some) = hex::decode(alloc, part) {
+            let _ = bytes.extend_from_slice(some.as_slice());
+        }
     }
-    Ok(hex::decode(alloc, text.as_str())?)
+    bytes
 }
 
 impl Row {
     /// The body of the request.
-    pub(crate) fn request(&self, alloc: Global) -> Result<Vec<u8>, AllocError> {
+    pub(crate) fn request(&self, alloc: Global) -> Vec<u8> {
         let mut bytes = Bytes::new(alloc);
-        bytes.ask(alloc, self.tag, &self.ask)?;
-        Ok(bytes.bytes)
+        bytes.ask(alloc, self.tag, &self.ask);
+        bytes.bytes
     }
 
     /// The body of the reply.
-    pub(crate) fn reply(&self, alloc: Global) -> Result<Vec<u8>, Fail> {
+    pub(crate) fn reply(&self, alloc: Global) -> Vec<u8> {
         let mut bytes = Bytes::new(alloc);
-        bytes.answer(alloc, self.tag, &self.answer)?;
-        Ok(bytes.bytes)
+        bytes.answer(alloc, self.tag, &self.answer);
+        bytes.bytes
     }
 }

@@ -2,12 +2,12 @@
 //!
 //! A call that takes memory is sent again where it was refused, after a look at what it left. So these tests also pass
 //! where one call of the allocator is refused, whichever it is: `bench/refused_growths.sh` refuses each in turn.
+use crate::asserts::assert_none;
 use oa_cells::{Cells, Partial, Row};
 use std::alloc::{AllocError, Global};
 use std::cell::Cell;
 use std::mem::size_of;
 use std::rt::HostRuntime;
-use std::test::Fail;
 
 /// A value that counts its drop. It stands at a multiple of 16.
 struct Counted<'a> {
@@ -22,7 +22,7 @@ impl Drop for Counted<'_> {
     }
 }
 
-#[derive(Clone, Copy, Debug, PartialEq, Eq)]
+#[derive(Clone, Copy, PartialEq, Eq)]
 enum Refusal {
     Memory,
     At(usize),
@@ -80,31 +80,30 @@ fn are_numbered(cells: &Cells<Counted<'_>>, len: usize) -> bool {
     cells.len() == len
 }
 
-#[test]
-fn a_refused_fill_drops_what_it_made(rt: HostRuntime) -> Result<(), Fail> {
-    for refuse in 0..4 {
+/// Whether a fill of four cells that is refused at that one (4: at none) answers so.
+fn is_told(alloc: Global, refuse: usize, drops: &Cell<usize>) -> bool {
+    match filled(alloc, 4, refuse, drops) {
+        Ok(cells) => refuse == 4 && are_numbered(&cells, 4) && drops.get() == 0,
+        Err(error) => error == Refusal::At(refuse),
+    }
+}
+
+fn first_other_fill(alloc: Global) -> Option<usize> {
+    for refuse in 0..5 {
         let drops = Cell::new(0);
-        match filled(rt.alloc(), 4, refuse, &drops) {
-            Ok(_cells) => assert!(rt; false, "not refused at {refuse}"),
-            Err(error) => assert_eq!(rt; error, Refusal::At(refuse)),
+        if !is_told(alloc, refuse, &drops) || drops.get() != refuse {
+            return Some(refuse);
         }
-        assert_eq!(rt; drops.get(), refuse);
     }
-    let drops = Cell::new(0);
-    match filled(rt.alloc(), 4, 4, &drops) {
-        Ok(cells) => {
-            assert!(rt; are_numbered(&cells, 4));
-            assert_eq!(rt; drops.get(), 0);
-            drop(cells);
-        }
-        Err(_) => assert!(rt; false, "refused"),
-    }
-    assert_eq!(rt; drops.get(), 4);
-    Ok(())
+    None
+}
+
+#[test]
+fn a_refused_fill_drops_what_it_made(rt: HostRuntime) {
+    assert_none(&rt, first_other_fill(rt.alloc()));
 }
 
 /// From 3 cells to `len`, refused at an index: the length then, the drops so far, and the drops at the end.
-#[derive(Drop)]
 struct Resize {
     len: usize,
     refuse: usize,
@@ -114,102 +113,156 @@ struct Resize {
     all: usize,
 }
 
-#[test]
-fn growth_and_shrinking_drop_each_cell_once(rt: HostRuntime) -> Result<(), Fail> {
-    let rows = [
-        Resize {
-            len: 5,
-            refuse: 9,
-            answer: Ok(()),
-            left: 5,
-            dropped: 0,
-            all: 5,
-        },
-        Resize {
-            len: 5,
-            refuse: 3,
-            answer: Err(Refusal::At(3)),
-            left: 3,
-            dropped: 0,
-            all: 3,
-        },
-        Resize {
-            len: 5,
-            refuse: 4,
-            answer: Err(Refusal::At(4)),
-            left: 3,
-            dropped: 1,
-            all: 4,
-        },
-        Resize {
-            len: 3,
-            refuse: 9,
-            answer: Ok(()),
-            left: 3,
-            dropped: 0,
-            all: 3,
-        },
-        Resize {
-            len: 1,
-            refuse: 9,
-            answer: Ok(()),
-            left: 1,
-            dropped: 2,
-            all: 3,
-        },
-        Resize {
-            len: 0,
-            refuse: 9,
-            answer: Ok(()),
-            left: 0,
-            dropped: 3,
-            all: 3,
-        },
-    ];
-    for row in rows.iter() {
+const RESIZES: [Resize; 6] = [
+    Resize {
+        len: 5,
+        refuse: 9,
+        answer: Ok(()),
+        left: 5,
+        dropped: 0,
+        all: 5,
+    },
+    Resize {
+        len: 5,
+        refuse: 3,
+        answer: Err(Refusal::At(3)),
+        left: 3,
+        dropped: 0,
+        all: 3,
+    },
+    Resize {
+        len: 5,
+        refuse: 4,
+        answer: Err(Refusal::At(4)),
+        left: 3,
+        dropped: 1,
+        all: 4,
+    },
+    Resize {
+        len: 3,
+        refuse: 9,
+        answer: Ok(()),
+        left: 3,
+        dropped: 0,
+        all: 3,
+    },
+    Resize {
+        len: 1,
+        refuse: 9,
+        answer: Ok(()),
+        left: 1,
+        dropped: 2,
+        all: 3,
+    },
+    Resize {
+        len: 0,
+        refuse: 9,
+        answer: Ok(()),
+        left: 0,
+        dropped: 3,
+        all: 3,
+    },
+];
+
+fn resize_once<'a>(
+    cells: &mut Cells<Counted<'a>>,
+    row: &Resize,
+    drops: &'a Cell<usize>,
+) -> Result<(), Refusal> {
+    cells.resized(row.len, |i| make_counted(i, row.refuse, drops))
+}
+
+/// Where memory is refused, the three cells are as they were, and none was dropped.
+fn resized<'a>(
+    cells: &mut Cells<Counted<'a>>,
+    row: &Resize,
+    drops: &'a Cell<usize>,
+) -> Result<(), Refusal> {
+    match resize_once(cells, row, drops) {
+        Err(Refusal::Memory) if are_numbered(cells, 3) && drops.get() == 0 => {
+            resize_once(cells, row, drops)
+        }
+        answer => answer,
+    }
+}
+
+/// Whether three cells become what the row says.
+fn is_resized(alloc: Global, row: &Resize, drops: &Cell<usize>) -> bool {
+    let Ok(mut cells) = filled(alloc, 3, 9, drops) else {
+        return false;
+    };
+    resized(&mut cells, row, drops) == row.answer
+        && are_numbered(&cells, row.left)
+        && drops.get() == row.dropped
+}
+
+/// The length and the refused index of the first row that goes otherwise.
+fn first_other_resize(alloc: Global) -> Option<(usize, usize)> {
+    for row in RESIZES.iter() {
         let drops = Cell::new(0);
-        if let Ok(mut cells) = filled(rt.alloc(), 3, 9, &drops) {
-            let mut answer = cells.resized(row.len, |i| make_counted(i, row.refuse, &drops));
-            if answer == Err(Refusal::Memory) {
-                assert!(rt; are_numbered(&cells, 3));
-                assert_eq!(rt; drops.get(), 0);
-                answer = cells.resized(row.len, |i| make_counted(i, row.refuse, &drops));
-            }
-            assert_eq!(rt; answer, row.answer);
-            assert!(rt; are_numbered(&cells, row.left));
-            assert_eq!(rt; drops.get(), row.dropped);
-        } else {
-            assert!(rt; false, "no memory");
+        if !is_resized(alloc, row, &drops) || drops.get() != row.all {
+            return Some((row.len, row.refuse));
         }
-        assert_eq!(rt; drops.get(), row.all);
     }
-    Ok(())
+    None
 }
 
 #[test]
-fn a_replaced_cell_is_handed_back(rt: HostRuntime) -> Result<(), Fail> {
-    let drops = Cell::new(0);
-    if let Ok(mut cells) = filled(rt.alloc(), 3, 9, &drops) {
-        if cells.len() == 3 {
-            let was = cells.replace(
-                1,
-                Counted {
-                    number: 7,
-                    drops: &drops,
-                },
-            );
-            assert_eq!(rt; was.number, 1);
-            assert_eq!(rt; cells.get(0).number, 0);
-            assert_eq!(rt; cells.get(1).number, 7);
-            assert_eq!(rt; cells.get(2).number, 2);
-        }
-        assert_eq!(rt; drops.get(), 1);
-    }
-    assert_eq!(rt; drops.get(), 4);
-    Ok(())
+fn growth_and_shrinking_drop_each_cell_once(rt: HostRuntime) {
+    assert_none(&rt, first_other_resize(rt.alloc()));
 }
 
-fn units(alloc: Global, len: usize, refuse: usize) -> Result<Cells<()>, Refusal> {
+/// The number of the second of three cells, which another cell replaces, and their numbers then.
+fn replaced<'a>(
+    cells: &mut Cells<Counted<'a>>,
+    drops: &'a Cell<usize>,
+) -> Option<(u128, [u128; 3])> {
+    if cells.len() != 3 {
+        return None;
+    }
+    let was = cells.replace(1, Counted { number: 7, drops });
+    let now = [
+        cells.get(0).number,
+        cells.get(1).number,
+        cells.get(2).number,
+    ];
+    Some((was.number, now))
+}
+
+/// Whether it is handed back, and dropped once like the others.
+fn is_replaced(alloc: Global, drops: &Cell<usize>) -> bool {
+    let Ok(mut cells) = filled(alloc, 3, 9, drops) else {
+        return false;
+    };
+    replaced(&mut cells, drops) == Some((1, [0, 7, 2])) && drops.get() == 1
+}
+
+#[test]
+fn a_replaced_cell_is_handed_back(rt: HostRuntime) {
+    let drops = Cell::new(0);
+    assert!(rt; is_replaced(rt.alloc(), &drops));
+    assert!(rt; drops.get() == 4);
+}
+
+/// New cells get that value.
+fn resize_with<T: Copy>(cells: &mut Cells<T>, len: usize, value: T) -> Result<(), AllocError> {
+    cells.resized(len, |_| Ok::<T, AllocError>(value))
+}
+
+/// Whether these cells become those. Where memory is refused, they are as before.
+fn turn_into<T: Copy + PartialEq>(
+    cells: &mut Cells<T>,
+    before: &[T],
+    value: T,
+    after: &[T],
+) -> bool {
+    let len = after.len();
+    let is_done = resize_with(cells, len, value).is_ok()
+        || cells.as_slice() == before && resize_with(cells, len, value).is_ok();
+    is_done && cells.as_slice() == after
+}
+
+fn units_once(alloc: Global, len: usize, refuse: usize) -> Result<Cells<()>, Refusal> {
     Cells::filled_by(alloc, len, |i| {
         if i == refuse {
             return Err(Refusal::At(i));
@@ -218,80 +271,86 @@ fn units(alloc: Global, len: usize, refuse: usize) -> Result<Cells<()>, Refusal>
     })
 }
 
-fn wide(alloc: Global, len: usize) -> Result<Cells<u128>, AllocError> {
+fn units(alloc: Global, len: usize, refuse: usize) -> Result<Cells<()>, Refusal> {
+    match units_once(alloc, len, refuse) {
+        Err(Refusal::Memory) => units_once(alloc, len, refuse),
+        answer => answer,
+    }
+}
+
+#[test]
+fn values_of_no_size(rt: HostRuntime) {
+    let Ok(mut cells) = units(rt.alloc(), 3, 9) else {
+        return assert!(rt; false, "no memory");
+    };
+    assert!(rt; turn_into(&mut cells, &[(); 3], (), &[(); 5]));
+    // 2 ^ 62 of them take no byte, and fit in a block
+    let refused = units(rt.alloc(), 1 << 62, 2);
+    assert!(rt; refused.err() == Some(Refusal::At(2)));
+}
+
+fn wide_once(alloc: Global, len: usize) -> Result<Cells<u128>, AllocError> {
     Cells::filled_by(alloc, len, |i| Ok::<u128, AllocError>(i as u128))
 }
 
-fn nines(alloc: Global, len: usize) -> Result<Cells<u16>, AllocError> {
+fn wide(alloc: Global, len: usize) -> Result<Cells<u128>, AllocError> {
+    match wide_once(alloc, len) {
+        Err(_) => wide_once(alloc, len),
+        answer => answer,
+    }
+}
+
+#[test]
+fn values_of_sixteen_bytes(rt: HostRuntime) {
+    let Ok(mut cells) = wide(rt.alloc(), 3) else {
+        return assert!(rt; false, "no memory");
+    };
+    assert!(rt; turn_into(&mut cells, &[0, 1, 2], 0, &[0, 1]));
+    // 2 ^ 59 of them would take 2 ^ 63 bytes
+    assert!(rt; wide(rt.alloc(), 1 << 59).is_err());
+}
+
+fn nines_once(alloc: Global, len: usize) -> Result<Cells<u16>, AllocError> {
     Cells::filled_by(alloc, len, |_| Ok::<u16, AllocError>(9))
 }
 
-#[test]
-fn values_of_no_size(rt: HostRuntime) -> Result<(), Fail> {
-    let mut cells = match units(rt.alloc(), 3, 9) {
-        Err(Refusal::Memory) => units(rt.alloc(), 3, 9)?,
-        answer => answer?,
-    };
-    if cells.resized(5, |_| Ok::<(), AllocError>(())).is_err() {
-        assert_eq!(rt; cells.len(), 3);
-        cells.resized(5, |_| Ok::<(), AllocError>(()))?;
-    }
-    assert_eq!(rt; cells.as_slice().len(), 5);
-    // 2 ^ 62 of them take no byte, and fit in a block
-    let refused = match units(rt.alloc(), 1 << 62, 2) {
-        Err(Refusal::Memory) => units(rt.alloc(), 1 << 62, 2),
+fn nines(alloc: Global, len: usize) -> Result<Cells<u16>, AllocError> {
+    match nines_once(alloc, len) {
+        Err(_) => nines_once(alloc, len),
         answer => answer,
-    };
-    assert!(rt; refused.err() == Some(Refusal::At(2)));
-    Ok(())
-}
-
-#[test]
-fn values_of_sixteen_bytes(rt: HostRuntime) -> Result<(), Fail> {
-    let mut cells = match wide(rt.alloc(), 3) {
-        Ok(cells) => cells,
-        Err(_) => wide(rt.alloc(), 3)?,
-    };
-    if cells.resized(2, |_| Ok::<u128, AllocError>(0)).is_err() {
-        assert_eq!(rt; cells.as_slice(), [0u128, 1, 2].as_slice());
-        cells.resized(2, |_| Ok::<u128, AllocError>(0))?;
     }
-    assert_eq!(rt; cells.as_slice(), [0u128, 1].as_slice());
-    // 2 ^ 59 of them would take 2 ^ 63 bytes
-    assert!(rt; wide(rt.alloc(), 1 << 59).is_err());
-    Ok(())
+}
+
+/// Whether no cells become two, and none again.
+fn come_and_go(cells: &mut Cells<u16>) -> bool {
+    cells.len() == 0 && turn_into(cells, &[], 9, &[9, 9]) && turn_into(cells, &[9, 9], 9, &[])
 }
 
 #[test]
-fn no_cells(rt: HostRuntime) -> Result<(), Fail> {
-    let mut cells = match nines(rt.alloc(), 0) {
-        Ok(cells) => cells,
-        Err(_) => nines(rt.alloc(), 0)?,
+fn no_cells(rt: HostRuntime) {
+    let Ok(mut cells) = nines(rt.alloc(), 0) else {
+        return assert!(rt; false, "no memory");
     };
-    assert_eq!(rt; cells.len(), 0);
-    for len in [2, 0] {
-        let before = cells.len();
-        if cells.resized(len, |_| Ok::<u16, AllocError>(9)).is_err() {
-            assert_eq!(rt; cells.len(), before);
-            cells.resized(len, |_| Ok::<u16, AllocError>(9))?;
-        }
-        assert_eq!(rt; cells.as_slice(), &[9u16, 9][..len]);
-    }
-    Ok(())
+    assert!(rt; come_and_go(&mut cells));
 }
 
-#[test]
-fn a_block_is_filled_in_pieces(rt: HostRuntime) -> Result<(), Fail> {
-    let mut part: Partial<u8> = match Partial::vacant(rt.alloc(), 4, 0) {
+/// Whether a block of four bytes, filled by one and by three, has them in order.
+fn is_filled_in_pieces(alloc: Global) -> Result<bool, AllocError> {
+    let mut part: Partial<u8> = match Partial::vacant(alloc, 4, 0) {
         Ok(part) => part,
-        Err(_) => Partial::vacant(rt.alloc(), 4, 0)?,
+        Err(_) => Partial::vacant(alloc, 4, 0)?,
     };
     part.extend_from_slice(&[1]);
     part.extend_from_slice(&[2, 3, 4]);
     let row = part.full();
-    assert_eq!(rt; row.first(4), [1u8, 2, 3, 4].as_slice());
+    let is_whole = row.first(4) == [1, 2, 3, 4].as_slice();
     row.free_plain(4);
-    assert_eq!(rt; size_of::<Row<u8>>(), size_of::<usize>());
-    assert_eq!(rt; size_of::<Cells<u8>>(), 2 * size_of::<usize>());
-    Ok(())
+    Ok(is_whole)
+}
+
+#[test]
+fn a_block_is_filled_in_pieces(rt: HostRuntime) {
+    assert!(rt; is_filled_in_pieces(rt.alloc()) == Ok(true));
+    assert!(rt; size_of::<Row<u8>>() == size_of::<usize>());
+    assert!(rt; size_of::<Cells<u8>>() == 2 * size_of::<usize>());
 }

@@ -4,6 +4,8 @@
 #[cfg(test)]
 mod array;
 #[cfg(test)]
+mod asserts;
+#[cfg(test)]
 mod bstr;
 #[cfg(test)]
 mod cells;
@@ -12,5 +14,7 @@ mod coerce;
 pub mod marks;
 #[cfg(test)]
 mod model;
+#[cfg(test)]
+mod shown;
 #[cfg(test)]
 mod variant;

@@ -1,9 +1,12 @@
 //! What takes memory, with enough of it; the order of keys; the size of a cell.
+ghost use Rattle.oa_variant.specs.Variants.{HasZero};
+
+use crate::shown::is_shown;
 use oa_array::Cell;
 use oa_bstr::Bstr;
 use oa_model::{ValueType, VarType};
 use oa_variant::{Decimal, Scalar, Variant};
-use std::alloc::{AllocError, Global};
+use std::alloc::Global;
 use std::cmp::Ordering;
 use std::mem::size_of;
 use std::rt::HostRuntime;
@@ -20,15 +23,22 @@ fn is_copied(alloc: Global) -> bool {
     }
 }
 
+/// Whether a copy is equal and shown so.
+fn is_copied_so(alloc: Global, value: &Variant, shown: &str) -> bool {
+    match value.copy(alloc) {
+        Ok(copy) => copy == *value && is_shown(alloc, &copy, shown),
+        Err(_) => false,
+    }
+}
+
 /// Whether the zero of a type and its copy are shown so.
-fn is_zero(alloc: Global, zero: Result<Variant, AllocError>, shown: &str) -> bool {
-    let Ok(zero) = zero else {
-        return false;
-    };
-    let Ok(copy) = zero.copy(alloc) else {
-        return false;
-    };
-    copy == zero && format!(in alloc; "{copy:?}").is_ok_and(|text| text.as_str() == shown)
+fn is_zero(alloc: Global, of: ValueType, shown: &str) -> bool
+    requires { HasZero of }
+{
+    match Variant::zero(alloc, of) {
+        Ok(zero) => is_copied_so(alloc, &zero, shown),
+        Err(_) => false,
+    }
 }
 
 /// An array's zero has one dimension without indices. A cell of an array is a scalar, of at most 24 bytes.
@@ -39,10 +49,8 @@ fn values_are_made_and_copied(rt: HostRuntime) {
     let texts =
         "Array(SafeArray { elem: Bstr, bounds: [Bound { count: 0, lower: 0 }], cells: [], locks: 0 })";
     assert!(rt; is_copied(alloc));
-    let zero = Variant::zero(alloc, ValueType::One(VarType::Decimal));
-    assert!(rt; is_zero(alloc, zero, decimal));
-    let zero = Variant::zero(alloc, ValueType::Array(VarType::Bstr));
-    assert!(rt; is_zero(alloc, zero, texts));
+    assert!(rt; is_zero(alloc, ValueType::One(VarType::Decimal), decimal));
+    assert!(rt; is_zero(alloc, ValueType::Array(VarType::Bstr), texts));
     assert!(rt; size_of::<Scalar>() <= 24);
 }
 

@@ -2,6 +2,7 @@
 ghost use Rattle.std.specs.Prelude.{false, ⊤, ◌≡◌};
 ghost use Rattle.oa_stream.specs.Ahead.{ahead};
 
+use crate::rows::expect;
 use oa_frame::{End, Framing, Responder, laws, put_reply, serve};
 use oa_stream::{
     Ahead, Behind, Cutting, Gathered, Inlet, Interrupted, Outlet, Sink, Source, Unwritten,
@@ -9,7 +10,6 @@ use oa_stream::{
 use std::alloc::{AllocError, Global};
 use std::io::{self, ErrorKind, Write};
 use std::rt::HostRuntime;
-use std::test::Fail;
 
 // Answers each body with itself.
 #[derive(Drop)]
@@ -64,6 +64,7 @@ fn session<R: Source + Drop, W: Sink>(
 // What a session over some bytes does, and what it wrote.
 #[derive(Drop)]
 struct Case {
+    name: &'static str,
     framing: Framing,
     bytes: &'static [u8],
     requests: u64,
@@ -71,8 +72,9 @@ struct Case {
     written: &'static [u8],
 }
 
-const CASES: [Case; 9] = [
+static CASES: [Case; 9] = [
     Case {
+        name: "lines, of which one ends in a carriage return",
         framing: Framing::HexLines,
         bytes: b"00ff\r\n1A\n",
         requests: 2,
@@ -80,6 +82,7 @@ const CASES: [Case; 9] = [
         written: b"00ff\n1a\n",
     },
     Case {
+        name: "a digit that is none",
         framing: Framing::HexLines,
         bytes: b"00\n1z\n22\n",
         requests: 1,
@@ -87,6 +90,7 @@ const CASES: [Case; 9] = [
         written: b"00\n",
     },
     Case {
+        name: "a last line without an end",
         framing: Framing::HexLines,
         bytes: b"00\n1a",
         requests: 2,
@@ -94,6 +98,7 @@ const CASES: [Case; 9] = [
         written: b"00\n1a\n",
     },
     Case {
+        name: "an empty line",
         framing: Framing::HexLines,
         bytes: b"00\n\n1a\n",
         requests: 1,
@@ -101,6 +106,7 @@ const CASES: [Case; 9] = [
         written: b"00\n",
     },
     Case {
+        name: "records",
         framing: Framing::Records,
         bytes: &[2, 0, 0, 0, 7, 8, 1, 0, 0, 0, 9],
         requests: 2,
@@ -108,6 +114,7 @@ const CASES: [Case; 9] = [
         written: &[2, 0, 0, 0, 7, 8, 1, 0, 0, 0, 9],
     },
     Case {
+        name: "a length of 0",
         framing: Framing::Records,
         bytes: &[1, 0, 0, 0, 9, 0, 0, 0, 0, 5],
         requests: 1,
@@ -115,6 +122,7 @@ const CASES: [Case; 9] = [
         written: &[1, 0, 0, 0, 9],
     },
     Case {
+        name: "a length that is cut",
         framing: Framing::Records,
         bytes: &[1, 0, 0, 0, 7, 8, 0, 0],
         requests: 1,
@@ -122,6 +130,7 @@ const CASES: [Case; 9] = [
         written: &[1, 0, 0, 0, 7, 2, 0, 0, 0, 0xab, 0xcd],
     },
     Case {
+        name: "a record that is cut",
         framing: Framing::Records,
         bytes: &[3, 0, 0, 0, 7, 8],
         requests: 0,
@@ -129,6 +138,7 @@ const CASES: [Case; 9] = [
         written: &[2, 0, 0, 0, 0xab, 0xcd],
     },
     Case {
+        name: "a length that is too large",
         framing: Framing::Records,
         bytes: &[1, 0, 16, 0, 7],
         requests: 0,
@@ -137,52 +147,51 @@ const CASES: [Case; 9] = [
     },
 ];
 
+static CUTS: [&[usize]; 5] = [&[], &[1], &[1, 1, 1, 1, 1, 1, 1], &[3, 2], &[5]];
+
 // Whether a case goes so where its bytes come in these cuts, after so many interruptions.
-fn goes(alloc: Global, case: &Case, cuts: &[usize], times: u64) -> Result<bool, AllocError> {
-    let mut reader = Ahead::new(
-        alloc,
-        Interrupted::new(Cutting::new(case.bytes, cuts), times),
-    )?;
+fn goes(alloc: Global, case: &Case, cuts: &[usize], times: u64) -> bool {
+    let cut = Cutting::new(case.bytes, cuts);
+    let Ok(mut reader) = Ahead::new(alloc, Interrupted::new(cut, times)) else {
+        return false;
+    };
     let mut writer = Gathered::new(Vec::new(alloc));
-    let (requests, why) = session(alloc, case.framing, &mut reader, &mut writer)?;
-    Ok(requests == case.requests && why == case.why && writer.bytes() == case.written)
+    session(alloc, case.framing, &mut reader, &mut writer) == Ok((case.requests, case.why))
+        && writer.bytes() == case.written
 }
 
 #[test]
-fn cuts_and_interruptions_change_nothing(rt: HostRuntime) -> Result<(), Fail> {
-    for cuts in [
-        [].as_slice(),
-        [1].as_slice(),
-        [1, 1, 1, 1, 1, 1, 1].as_slice(),
-        [3, 2].as_slice(),
-        [5].as_slice(),
-    ] {
+fn cuts_and_interruptions_change_nothing(rt: HostRuntime) {
+    for cuts in &CUTS {
         for times in [0, 1, 5] {
             for case in &CASES {
-                assert!(rt; goes(rt.alloc(), case, cuts, times)?);
+                expect(&rt, case.name, goes(rt.alloc(), case, cuts, times));
             }
         }
     }
-    Ok(())
+}
+
+// Whether a session without bytes ends so after so many interruptions.
+fn ends(alloc: Global, framing: Framing, times: u64, why: End) -> bool {
+    let case = Case {
+        name: "no bytes",
+        framing,
+        bytes: b"",
+        requests: 0,
+        why,
+        written: b"",
+    };
+    goes(alloc, &case, &[], times)
 }
 
 #[test]
-fn so_many_interruptions_are_a_fault(rt: HostRuntime) -> Result<(), Fail> {
+fn so_many_interruptions_are_a_fault(rt: HostRuntime) {
     laws::one_line();
     laws::one_end();
-    for (times, why) in [(4_194_303, End::Closed), (4_194_304, End::ReadFault)] {
-        for framing in [Framing::HexLines, Framing::Records] {
-            let case = Case {
-                framing,
-                bytes: b"",
-                requests: 0,
-                why,
-                written: b"",
-            };
-            assert!(rt; goes(rt.alloc(), &case, &[], times)?);
-        }
+    for framing in [Framing::HexLines, Framing::Records] {
+        assert!(rt; ends(rt.alloc(), framing, 4_194_303, End::Closed));
+        assert!(rt; ends(rt.alloc(), framing, 4_194_304, End::ReadFault));
     }
-    Ok(())
 }
 
 // A writer whose flush alone fails.
@@ -210,10 +219,8 @@ fn over(alloc: Global, device: &mut Unflushed, bytes: &[u8]) -> Result<(u64, End
 }
 
 #[test]
-fn a_flush_that_fails_is_a_write_fault(rt: HostRuntime) -> Result<(), Fail> {
+fn a_flush_that_fails_is_a_write_fault(rt: HostRuntime) {
     let mut device = Unflushed { flushes: 0 };
-    let end = over(rt.alloc(), &mut device, b"00\n")?;
-    assert_eq!(rt; end, (1, End::WriteFault));
-    assert_eq!(rt; device.flushes, 1);
-    Ok(())
+    assert!(rt; over(rt.alloc(), &mut device, b"00\n") == Ok((1, End::WriteFault)));
+    assert!(rt; device.flushes == 1);
 }

@@ -1,5 +1,6 @@
 //! Images by their bytes, written as digits: values, events, tables; and bytes that are no image.
 use crate::digits::bytes_of;
+use crate::rows::expect;
 use oa_array::Indices;
 use oa_image::{
     ImageFault, read_event, read_events, read_table, write_event, write_key, write_table,
@@ -55,11 +56,16 @@ const NO_VALUES: &str = "0b00 02
 0220 0100 01000000 00000000
 1120 0100 01000000 00000000 00 00";
 
-/// The value that the put of Count has whose image ends so.
-fn value_of(alloc: Global, digits: &str) -> Option<Variant> {
+/// The image of a put of Count whose value has these digits.
+fn put_of(alloc: Global, digits: &str) -> Vec<u8> {
     let mut image = bytes_of(alloc, PUT);
     let _ = image.extend_from_slice(bytes_of(alloc, digits).as_slice());
-    match read_event(alloc, image.as_slice()) {
+    image
+}
+
+/// The value that is put so.
+fn value_of(alloc: Global, digits: &str) -> Option<Variant> {
+    match read_event(alloc, put_of(alloc, digits).as_slice()) {
         Ok(Event::Put { value, .. }) => Some(value),
         _ => None,
     }
@@ -71,38 +77,66 @@ fn is_written(alloc: Global, value: &Variant, digits: &str) -> bool {
     write_value(value, &mut out).is_ok() && out.as_slice() == bytes_of(alloc, digits).as_slice()
 }
 
+/// Whether a value is shown so.
+fn is_shown(alloc: Global, value: &Variant, text: &str) -> bool {
+    match format!(in alloc; "{value:?}") {
+        Ok(shown) => shown.as_str() == text,
+        Err(_) => false,
+    }
+}
+
+/// Whether these digits are the image of the value that is shown so.
+fn is_image_of(alloc: Global, digits: &str, text: &str) -> bool {
+    match value_of(alloc, digits) {
+        Some(value) => is_written(alloc, &value, digits) && is_shown(alloc, &value, text),
+        None => false,
+    }
+}
+
 /// Whether a row has an image and what it is the image of.
 fn is_told(alloc: Global, row: &str) -> bool {
-    let Some((digits, text)) = row.split_once(" = ") else {
-        return false;
-    };
-    let Some(value) = value_of(alloc, digits) else {
-        return false;
-    };
-    is_written(alloc, &value, digits)
-        && format!(in alloc; "{value:?}").is_ok_and(|shown| shown.as_str() == text)
+    match row.split_once(" = ") {
+        Some((digits, text)) => is_image_of(alloc, digits, text),
+        None => false,
+    }
+}
+
+fn is_no_value(alloc: Global, digits: &str) -> bool {
+    value_of(alloc, digits).is_none()
 }
 
 #[test]
 fn values_have_their_images(rt: HostRuntime) {
     for row in VALUES.lines() {
-        assert!(rt; is_told(rt.alloc(), row), "{row}");
+        expect(&rt, row, is_told(rt.alloc(), row));
     }
     for digits in NO_VALUES.lines() {
-        assert!(rt; value_of(rt.alloc(), digits).is_none(), "{digits}");
+        expect(&rt, digits, is_no_value(rt.alloc(), digits));
     }
 }
 
-/// Whether an event is written by these digits, and read from them as an event that is written so.
-fn is_spelled(alloc: Global, event: Event, digits: &str) -> bool {
-    let image = bytes_of(alloc, digits);
+/// Whether an event is written as these bytes.
+fn is_event(alloc: Global, event: &Event, image: &[u8]) -> bool {
     let mut out = Vec::new(alloc);
-    let Ok(again) = read_event(alloc, image.as_slice()) else {
-        return false;
-    };
-    let is_written = write_event(&event, &mut out).is_ok() && out.as_slice() == image.as_slice();
-    out.clear();
-    is_written && write_event(&again, &mut out).is_ok() && out.as_slice() == image.as_slice()
+    write_event(event, &mut out).is_ok() && out.as_slice() == image
+}
+
+/// Whether what is read from these bytes is an event that is written as them.
+fn is_read_again(alloc: Global, image: &[u8]) -> bool {
+    match read_event(alloc, image) {
+        Ok(event) => is_event(alloc, &event, image),
+        Err(_) => false,
+    }
+}
+
+/// Whether an event is written as these bytes, and read from them as an event that is written so.
+fn is_image_of_event(alloc: Global, event: &Event, image: &[u8]) -> bool {
+    is_event(alloc, event, image) && is_read_again(alloc, image)
+}
+
+/// Whether these digits are the image of an event.
+fn is_spelled(alloc: Global, event: Event, digits: &str) -> bool {
+    is_image_of_event(alloc, &event, bytes_of(alloc, digits).as_slice())
 }
 
 /// The GUID 11223344-5566-7788-99AA-BBCCDDEEFF0p.
@@ -169,20 +203,22 @@ const TABLE: &str = "02000000 01000000
 443322116655887799aabbccddeeff02 01000000 0000 0300 07000000";
 
 /// Whether a table is written so.
-fn is_image(alloc: Global, table: &Table, image: &[u8]) -> bool {
+fn is_image_of_table(alloc: Global, table: &Table, digits: &str) -> bool {
     let mut out = Vec::new(alloc);
-    write_table(table, &mut out).is_ok() && out.as_slice() == image
+    write_table(table, &mut out).is_ok() && out.as_slice() == bytes_of(alloc, digits).as_slice()
+}
+
+/// Whether its next number, the coclass of its object and its cell are those of that table.
+fn is_known(alloc: Global, table: &Table) -> bool {
+    let count = property(alloc, 1);
+    let seven = Variant::One(Scalar::I4(7));
+    table.next() == 2 && table.class_of(1) == Some(guid(3)) && table.get(&count) == Some(&seven)
 }
 
 /// Whether it is that table that is read.
-fn is_read(alloc: Global, image: &[u8]) -> bool {
-    match read_table(alloc, image) {
-        Ok(table) => {
-            table.next() == 2
-                && table.class_of(1) == Some(guid(3))
-                && table.get(&property(alloc, 1)) == Some(&Variant::One(Scalar::I4(7)))
-                && is_image(alloc, &table, image)
-        }
+fn is_read(alloc: Global, digits: &str) -> bool {
+    match read_table(alloc, bytes_of(alloc, digits).as_slice()) {
+        Ok(table) => is_known(alloc, &table) && is_image_of_table(alloc, &table, digits),
         Err(_) => false,
     }
 }
@@ -193,34 +229,46 @@ const NO_TABLES: &str = "00000000 00000000
 03000000 02000000 01000000 0000000000000000000000000000000000000000 01000000 0000000000000000000000000000000000000000
 03000000 02000000 01000000 0000000000000000000000000000000000000000 03000000 0000000000000000000000000000000000000000";
 
+fn is_no_table(alloc: Global, digits: &str) -> bool {
+    read_table(alloc, bytes_of(alloc, digits).as_slice()).is_err()
+}
+
 #[test]
 fn tables_have_their_images(rt: HostRuntime) {
     let alloc = rt.alloc();
-    assert!(rt;
-        is_image(
-            alloc,
-            &Table::new(alloc),
-            bytes_of(alloc, "01000000 00000000").as_slice()
-        )
-    );
-    assert!(rt; is_read(alloc, bytes_of(alloc, TABLE).as_slice()));
+    assert!(rt; is_image_of_table(alloc, &Table::new(alloc), "01000000 00000000"));
+    assert!(rt; is_read(alloc, TABLE));
     for digits in NO_TABLES.lines() {
-        let image = bytes_of(alloc, digits);
-        assert!(rt; read_table(alloc, image.as_slice()).is_err(), "{digits}");
+        expect(&rt, digits, is_no_table(alloc, digits));
     }
+}
+
+/// How many events are in an image.
+fn count_of(alloc: Global, digits: &str) -> Option<usize> {
+    match read_events(alloc, bytes_of(alloc, digits).as_slice()) {
+        Ok(events) => Some(events.len()),
+        Err(_) => None,
+    }
+}
+
+/// Why no event is read.
+fn refusal_of(alloc: Global, digits: &str) -> Option<ImageFault> {
+    read_event(alloc, bytes_of(alloc, digits).as_slice()).err()
+}
+
+/// Whether a key is written by these digits.
+fn is_key(alloc: Global, key: &[Scalar], digits: &str) -> bool {
+    let mut out = Vec::new(alloc);
+    write_key(key, &mut out).is_ok() && out.as_slice() == bytes_of(alloc, digits).as_slice()
 }
 
 /// Two releases one behind the other, a key of two scalars, and where an event is cut.
 #[test]
 fn rows_stand_one_behind_the_other(rt: HostRuntime) {
     let alloc = rt.alloc();
-    let image = bytes_of(alloc, "02 01000000 02 02000000");
-    let events = read_events(alloc, image.as_slice());
-    assert!(rt; events.is_ok_and(|events| events.len() == 2));
-    let short = bytes_of(alloc, "03 01000000 4433221166");
-    let refused = read_event(alloc, short.as_slice());
-    assert!(rt; refused.err() == Some(ImageFault::Damaged(5)));
-    let mut out = Vec::new(alloc);
-    assert!(rt; write_key(&[Scalar::I2(7), Scalar::Bool(true)], &mut out).is_ok());
-    assert!(rt; out.as_slice() == bytes_of(alloc, "0200 0700 0b00 01").as_slice());
+    assert!(rt; count_of(alloc, "02 01000000 02 02000000") == Some(2));
+    let short = refusal_of(alloc, "03 01000000 4433221166");
+    assert!(rt; short == Some(ImageFault::Damaged(5)));
+    let key = [Scalar::I2(7), Scalar::Bool(true)];
+    assert!(rt; is_key(alloc, &key, "0200 0700 0b00 01"));
 }

@@ -11,6 +11,8 @@ mod ndr;
 #[cfg(test)]
 mod record;
 #[cfg(test)]
+mod rows;
+#[cfg(test)]
 mod stream;
 #[cfg(test)]
 mod wire_array;

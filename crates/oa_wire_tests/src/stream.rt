@@ -1,9 +1,13 @@
 //! What the standard library's answers become, and what the buffers pass on.
+ghost use Rattle.std.specs.Prelude.{false, ◌≡◌};
+
+use crate::rows::expect;
+use crate::stream::Step::{Ends, Fails, Interrupts, Moves};
 use oa_stream::{
     Ahead, Behind, Cutting, Gathered, Inlet, Interrupted, More, Next, Outlet, Sink, Source,
     Unwritten,
 };
-use std::alloc::Global;
+use std::alloc::{AllocError, Global};
 use std::io::{self, ErrorKind, Read, Write};
 use std::rt::HostRuntime;
 use std::test::Fail;
@@ -60,103 +64,182 @@ impl<'a> Write for Scripted<'a> {
     }
 }
 
-#[test]
-fn an_interrupted_read_is_no_failure(rt: HostRuntime) -> Result<(), Fail> {
-    for (step, want) in [
-        (Step::Moves, Next::Bytes(1)),
-        (Step::Ends, Next::End),
-        (Step::Interrupts, Next::Again),
-        (Step::Fails, Next::Fault),
-    ] {
-        let steps = [step];
-        let mut reader = Scripted::new(&steps);
-        let mut buffer = [0u8; 4];
-        let next = Inlet::new(&mut reader).fill(&mut buffer);
-        assert_eq!(rt; next, want);
-        assert_eq!(rt; reader.calls, 1);
-    }
-    Ok(())
+// What the reader of the standard library does, and what is told of it.
+struct Reading {
+    name: &'static str,
+    step: Step,
+    next: Next,
 }
 
-// Puts two bytes and delivers them.
-fn two_bytes(writer: &mut Scripted<'_>) -> Result<(), Unwritten> {
-    let mut outlet = Outlet::new(writer);
-    outlet.put(&[1, 2])?;
-    outlet.deliver()?;
-    outlet.deliver()
+static READINGS: [Reading; 4] = [
+    Reading {
+        name: "a byte",
+        step: Moves,
+        next: Next::Bytes(1),
+    },
+    Reading {
+        name: "the end",
+        step: Ends,
+        next: Next::End,
+    },
+    Reading {
+        name: "an interruption",
+        step: Interrupts,
+        next: Next::Again,
+    },
+    Reading {
+        name: "a failure",
+        step: Fails,
+        next: Next::Fault,
+    },
+];
+
+// What is told of one call, and how many calls it took.
+fn filled(step: Step) -> (Next, usize) {
+    let steps = [step];
+    let mut reader = Scripted::new(&steps);
+    let mut buffer = [0u8; 4];
+    let next = Inlet::new(&mut reader).fill(&mut buffer);
+    (next, reader.calls)
 }
 
 #[test]
-fn an_interrupted_write_is_made_again_and_a_failed_one_is_not(rt: HostRuntime) -> Result<(), Fail> {
-    use Step::{Ends, Fails, Interrupts, Moves};
-    // the answers, whether all went well, and the calls
-    let rows: [(&[Step], bool, usize); 8] = [
-        (&[Moves, Moves, Moves], true, 3),
-        (&[Interrupts, Moves, Interrupts, Moves, Moves], true, 5),
-        (&[Fails, Moves, Moves, Moves], false, 1),
-        (&[Moves, Fails, Moves, Moves], false, 2),
-        (&[Moves, Ends, Moves, Moves], false, 2),
-        (&[Moves, Moves, Interrupts, Moves], true, 4),
-        (&[Moves, Moves, Fails, Moves], false, 3),
-        (&[Moves, Moves, Interrupts, Fails, Moves], false, 4),
-    ];
-    for (steps, well, calls) in rows {
-        let mut writer = Scripted::new(steps);
-        let result = two_bytes(&mut writer);
-        assert_eq!(rt; result.is_ok(), well);
-        assert_eq!(rt; writer.calls, calls);
+fn an_interrupted_read_is_no_failure(rt: HostRuntime) {
+    for row in &READINGS {
+        expect(&rt, row.name, filled(row.step) == (row.next, 1));
     }
-    // nothing was written: no flush is wanting
+}
+
+// Calls of the writer of the standard library, what becomes of two bytes that are put and delivered twice, and how many calls it takes.
+struct Writing {
+    name: &'static str,
+    steps: &'static [Step],
+    result: Result<(), Unwritten>,
+    calls: usize,
+}
+
+// A table of them, one a line.
+macro_rules! writings {
+    ($($name:literal: [$($step:expr),*] => $result:expr, $calls:literal;)*) => {
+        [$(Writing { name: $name, steps: &[$($step),*], result: $result, calls: $calls }),*]
+    };
+}
+
+static WRITINGS: [Writing; 8] = writings! {
+    "two writes and a flush": [Moves, Moves, Moves] => Ok(()), 3;
+    "interrupted writes": [Interrupts, Moves, Interrupts, Moves, Moves] => Ok(()), 5;
+    "a failed write": [Fails, Moves, Moves, Moves] => Err(Unwritten), 1;
+    "a failed second write": [Moves, Fails, Moves, Moves] => Err(Unwritten), 2;
+    "a write of nothing": [Moves, Ends, Moves, Moves] => Err(Unwritten), 2;
+    "an interrupted flush": [Moves, Moves, Interrupts, Moves] => Ok(()), 4;
+    "a failed flush": [Moves, Moves, Fails, Moves] => Err(Unwritten), 3;
+    "a flush that is interrupted and fails": [Moves, Moves, Interrupts, Fails, Moves] => Err(Unwritten), 4;
+};
+
+// Puts two bytes and delivers them, and delivers nothing more.
+fn put_two<W: Sink>(writer: &mut W) -> Result<(), Unwritten>
+    requires { (W.out writer.old).broken ≡ false }
+{
+    writer.put(&[1, 2])?;
+    writer.deliver()?;
+    writer.deliver()
+}
+
+fn written(steps: &[Step]) -> (Result<(), Unwritten>, usize) {
+    let mut writer = Scripted::new(steps);
+    let result = put_two(&mut Outlet::new(&mut writer));
+    (result, writer.calls)
+}
+
+#[test]
+fn an_interrupted_write_is_made_again_and_a_failed_one_is_not(rt: HostRuntime) {
+    for row in &WRITINGS {
+        assert!(rt;
+            written(row.steps) == (row.result, row.calls),
+            "{}",
+            row.name
+        );
+    }
+}
+
+#[test]
+fn no_flush_is_wanting_where_nothing_was_written(rt: HostRuntime) {
     let mut writer = Scripted::new(&[]);
-    assert_eq!(rt; Outlet::new(&mut writer).deliver(), Ok(()));
-    assert_eq!(rt; writer.calls, 0);
-    Ok(())
+    let result = Outlet::new(&mut writer).deliver();
+    assert_eq!(rt; (result, writer.calls), (Ok(()), 0));
 }
 
 // Puts two bytes, as many zeros, and delivers them.
-fn through(alloc: Global, bytes: &mut Vec<u8>, zeros: &[u8]) -> Result<(), Fail> {
-    let mut writer = Behind::new(alloc, Outlet::new(bytes))?;
+fn put_zeros<W: Sink>(writer: &mut W, zeros: &[u8]) -> Result<(), Unwritten>
+    requires { (W.out writer.old).broken ≡ false }
+{
     writer.put(&[1, 2])?;
     writer.put(zeros)?;
-    writer.deliver()?;
-    Ok(())
+    writer.deliver()
+}
+
+// All that a buffer passes on of them.
+fn passed_on(alloc: Global, zeros: &[u8]) -> Result<Vec<u8>, Fail> {
+    let mut bytes = Vec::new(alloc);
+    put_zeros(&mut Behind::new(alloc, Outlet::new(&mut bytes))?, zeros)?;
+    Ok(bytes)
+}
+
+fn is_all_passed_on(alloc: Global, count: usize) -> Result<bool, Fail> {
+    let zeros = vec![in alloc; 0u8; count]?;
+    let bytes = passed_on(alloc, &zeros)?;
+    Ok(bytes.strip_prefix(&[1, 2]) == Some(zeros.as_slice()))
 }
 
 #[test]
 fn a_buffer_passes_on_all_that_was_put(rt: HostRuntime) -> Result<(), Fail> {
-    for count in [0usize, 1, 8189, 8190, 8191, 8192, 8193, 30_000] {
-        let zeros = vec![in rt.alloc(); 0u8; count]?;
-        let mut bytes = Vec::new(rt.alloc());
-        through(rt.alloc(), &mut bytes, &zeros)?;
-        assert_eq!(rt; bytes.len(), count + 2);
-        assert_eq!(rt; &bytes[..2], [1, 2].as_slice());
-        assert!(rt; bytes[2..].iter().all(|byte| *byte == 0));
+    for count in [0, 1, 8189, 8190, 8191, 8192, 8193, 30_000] {
+        assert!(rt; is_all_passed_on(rt.alloc(), count)?, "{count} zeros");
     }
     Ok(())
 }
 
-#[test]
-fn a_buffer_shows_what_one_call_gave(rt: HostRuntime) -> Result<(), Fail> {
-    let mut reader = Ahead::new(rt.alloc(), Cutting::new(b"abcde", &[2]))?;
-    let mut writer = Gathered::new(Vec::new(rt.alloc()));
-    assert_eq!(rt; reader.buffered().len(), 0);
-    assert_eq!(rt; reader.more(&writer), More::Some);
-    assert_eq!(rt; reader.buffered(), b"ab".as_slice());
+// Whether a buffer shows nothing, then what one call gives, and then what is left of it behind its first byte.
+fn shown(alloc: Global) -> Result<[bool; 4], AllocError> {
+    let writer = Gathered::new(Vec::new(alloc));
+    let mut reader = Ahead::new(alloc, Cutting::new(b"abcde", &[2]))?;
+    let is_empty = reader.buffered().is_empty();
+    let is_more = reader.more(&writer) == More::Some;
+    let is_two = reader.buffered() == b"ab".as_slice();
     let count = reader.buffered().len().min(1);
     reader.advance(count);
-    assert_eq!(rt; reader.buffered(), b"b".as_slice());
-    writer.put(b"xyz")?;
-    assert_eq!(rt; writer.bytes(), b"xyz".as_slice());
+    Ok([
+        is_empty,
+        is_more,
+        is_two,
+        reader.buffered() == b"b".as_slice(),
+    ])
+}
+
+#[test]
+fn a_buffer_shows_what_one_call_gave(rt: HostRuntime) -> Result<(), Fail> {
+    assert_eq!(rt; shown(rt.alloc())?, [true; 4]);
     Ok(())
 }
 
 #[test]
-fn a_reader_is_interrupted_so_many_times(rt: HostRuntime) -> Result<(), Fail> {
+fn what_is_put_is_gathered(rt: HostRuntime) {
+    let mut writer = Gathered::new(Vec::new(rt.alloc()));
+    assert!(rt; writer.put(b"xyz").is_ok());
+    assert!(rt; writer.bytes() == b"xyz".as_slice());
+}
+
+// What two calls of a reader give that is interrupted once, how many calls it counts, and what is in the buffer.
+fn interrupted_once() -> (Next, Next, u64, [u8; 4]) {
     let mut reader = Interrupted::new(b"ab".as_slice(), 1);
     let mut buffer = [0u8; 4];
-    assert_eq!(rt; reader.fill(&mut buffer), Next::Again);
-    assert_eq!(rt; reader.fill(&mut buffer), Next::Bytes(2));
-    assert_eq!(rt; reader.calls(), 2);
-    assert_eq!(rt; &buffer[..2], b"ab".as_slice());
-    Ok(())
+    let first = reader.fill(&mut buffer);
+    let second = reader.fill(&mut buffer);
+    (first, second, reader.calls(), buffer)
+}
+
+#[test]
+fn a_reader_is_interrupted_so_many_times(rt: HostRuntime) {
+    let wanted = (Next::Again, Next::Bytes(2), 2, *b"ab\0\0");
+    assert_eq!(rt; interrupted_once(), wanted);
 }

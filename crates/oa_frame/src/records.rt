@@ -1,8 +1,10 @@
 //! Bodies as records of a length and that many bytes.
-ghost use Rattle.std.specs.Prelude.{◌≡◌, ◌≤◌, ◌<◌, ◌+◌, [], false, length, take, IfSome};
+ghost use Rattle.std.specs.Prelude.{◌≡◌, ◌≤◌, ◌<◌, ◌+◌, [], ℕ, List, Option, false, length, take, IfSome};
+ghost use Rattle.std.specs.Io.KnownBytes.{Consumes};
 ghost use Rattle.oa_model.specs.Limits.{max_read_calls, max_request_bytes};
 ghost use Rattle.oa_stream.specs.Ahead.{ahead, held};
 ghost use Rattle.oa_stream.specs.Sink.{IsHandedOn};
+ghost use Rattle.oa_stream.specs.Source.{Input};
 ghost use Rattle.oa_frame.specs.Framings.{Hands, Inputs, IsRead, IsWithin, Says, is_fault, records};
 ghost use Rattle.oa_frame.specs.Paces.{Paced};
 ghost use Rattle.oa_frame.specs.Records.{Fetches, Gets, Spends, is_gone};
@@ -100,12 +102,36 @@ fn read_waiting<R: Source + Drop, W: Sink>(
     let mut head = [0u8; 4];
     let mut calls = 0u32;
     match fill_up(reader, writer, &mut head, &mut calls) {
-        Got::All => {}
-        Got::End(0) => return Read::Ends(End::Closed),
-        Got::End(_) => return Read::Ends(End::Cut),
-        Got::Fault => return Read::Ends(End::ReadFault),
+        Got::All => {
+            let n = u32::from_le_bytes(head) as usize;
+            read_content(reader, writer, body, n, calls)
+        }
+        Got::End(0) => Read::Ends(End::Closed),
+        Got::End(_) => Read::Ends(End::Cut),
+        Got::Fault => Read::Ends(End::ReadFault),
     }
-    let n = u32::from_le_bytes(head) as usize;
+}
+
+/// Reads so many bytes of a body behind their length; `calls` were made for that.
+fn read_content<R: Source + Drop, W: Sink>(
+    reader: &mut Ahead<R>,
+    writer: &W,
+    body: &mut [u8],
+    n: usize,
+    mut calls: u32,
+) -> Read
+    requires buffer { length body.now ≡ max_request_bytes }
+    requires unbroken { (ahead R.input reader.old).faulted ≡ false }
+    requires quiet { IsHandedOn (W.out writer.now) }
+    requires few { calls ≤ max_read_calls }
+    ensures len { length body.new ≡ max_request_bytes }
+    ensures within { IsWithin result }
+    ensures input { (number : ℕ) (bytes : Option (List ℕ)) (head : List ℕ) → Says head n → Consumes bytes (ahead R.input reader.old).left head
+        → Inputs records result number body.new bytes (ahead R.input reader.new).left }
+    ensures paced { (start : Input) → Spends false 4 0 calls start (ahead R.input reader.old)
+        → Paced (is_fault result) start (ahead R.input reader.new) }
+    ensures read { IsRead result }
+{
     if n == 0 {
         return Read::Ends(End::Closed);
     }

@@ -3,6 +3,7 @@ pub mod Lengths
 pub mod Whole
 mod Written
 mod Members
+mod Parts
 pub mod Numbered
 pub mod InMemory
 pub mod Unlocked

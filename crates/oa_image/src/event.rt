@@ -122,7 +122,6 @@ impl ReadImage for EventFormat {
 }
 
 impl PutImage for EventFormat {
-    #[tactic(auto, unfolding(oa_layout::specs::Formats::tagged, oa_layout::specs::Formats::next_by, oa_layout::specs::Formats::case, crate::specs::Events::create, crate::specs::Events::release, crate::specs::Events::put, crate::specs::Events::put_element, crate::specs::Events::redim, crate::specs::Events::of_kind, crate::specs::Events::event))]
     fn put(value: &Event, out: &mut Vec<u8>) -> Result<(), AllocError> {
         match value {
             Event::Create { number, class } => {
@@ -194,7 +193,6 @@ fn indices_len(index: &Indices) -> usize
 }
 
 /// How many bytes the image of an event has. Takes no memory.
-#[tactic(auto, unfolding(oa_layout::specs::Formats::tagged, oa_layout::specs::Formats::raw, oa_layout::specs::Formats::made_where, oa_layout::specs::Formats::next_by, oa_layout::specs::Formats::case, oa_layout::specs::Numbers::u8, oa_layout::specs::Numbers::u32, oa_layout::specs::Numbers::i32, oa_layout::specs::Numbers::guid, oa_layout::specs::Arrays::bound, crate::specs::Events::create, crate::specs::Events::release, crate::specs::Events::put, crate::specs::Events::put_element, crate::specs::Events::redim, crate::specs::Events::of_kind, crate::specs::Events::event))]
 pub fn event_len(event: &Event) -> usize
     ensures { result ≡ length (event_image event.now) }
 {

@@ -1,10 +1,11 @@
 -- The turns and the exits of loops that read several values.
-use Rattle.std.proofs.Common.{◌≡◌, ℕ, ◌+◌, ◌-◌, ◌<◌, ◌≤◌, false, List, [], ◌∷◌, ◌++◌, length, set, take, Option, Some, Err, arith}
-use Rattle.std.proofs.lemmas.List.{take_more_set, take_all}
+use Rattle.std.proofs.Common.{◌≡◌, ℕ, ◌+◌, ◌-◌, ◌<◌, ◌≤◌, false, List, [], ◌∷◌, ◌++◌, length, get_or, set, take, drop, Option, Some, Err, arith}
+use Rattle.std.proofs.Common.{sym, ap, ◌∙◌, append_assoc}
+use Rattle.std.proofs.lemmas.List.{append-nil, drop_more, drop_all, take_more_set, take_all}
 use Rattle.std.proofs.lemmas.Bool.{false_from_ne_true}
 use Rattle.std.specs.Global.{Vec}
 use Rattle.std.specs.Prelude.{All}
-use Rattle.std.specs.List.{AllByRecursion}
+use Rattle.std.specs.List.{AllByRecursion, flat_map}
 use Rattle.std.proofs.lemmas.List.Elements.{All-from_recursion}
 use Rattle.oa_ndr.specs.Reading.{Cursor, Reading, many}
 use Rattle.oa_ndr.proofs.Loop.{with_front, many_goes_on, many_ends, many_is_done}
@@ -23,6 +24,18 @@ pub many_err : {A : Type 0} (read : Reading A) (e : ReadFault) (front : List A) 
     → with_front front (many read (n - i) s) ≡ total → AnswersBy {A = Vec A} (λ v. v.items) (Err e) u total
 many_err read Broken front n i s t u total lt h so_far = many_ends read front n i s total lt h so_far
 many_err read Memory front n i s t u total lt h so_far = tt
+
+-- ---- values whose images are added one behind the other
+
+pub images_go_on : {A : Type 0} (image : A → List ℕ) (xs : List A) (i : ℕ) (x : A) (out new total : List ℕ) → i < length xs → x ≡ get_or xs i x
+    → new ≡ out ++ image x → out ++ flat_map image (drop i xs) ≡ total → new ++ flat_map image (drop (i + 1) xs) ≡ total
+images_go_on {A} image xs i x out new total lt is added so_far =
+    let next : drop i xs ≡ x ∷ drop (i + 1) xs = drop_more xs i x lt ∙ ap (λ (y : A). y ∷ drop (i + 1) xs) (sym is) in
+    rw added (append_assoc out (image x) (flat_map image (drop (i + 1) xs)) ∙ (rw next at so_far))
+
+pub images_end : {A : Type 0} (image : A → List ℕ) (xs : List A) (i : ℕ) (out total : List ℕ) → length xs ≤ i
+    → out ++ flat_map image (drop i xs) ≡ total → out ≡ total
+images_end image xs i out total le so_far = sym (append-nil out) ∙ (rw (drop_all i xs le) at so_far)
 
 -- ---- cells that are filled one by one
 

@@ -29,7 +29,6 @@ pub trait PutImage: ReadImage {
 }
 
 /// Reads as many values as are asked for.
-#[tactic(auto, unfolding(crate::specs::Formats::times), using(oa_ndr::proofs::Loop::many_done, oa_ndr::proofs::Loop::many_goes_on, crate::proofs::Loops::many_err))]
 pub fn read_times<F: ReadImage>(
     alloc: Global,
     count: usize,

@@ -88,7 +88,6 @@ pub(crate) fn put_i64(n: i64, out: &mut Vec<u8>) -> Result<(), AllocError>
 }
 
 /// Adds a GUID in wire order (MS-DTYP section 2.3.4.2).
-#[tactic(auto, unfolding(crate::specs::Formats::made_where, crate::specs::Formats::raw, crate::specs::Numbers::guid))]
 pub fn put_guid(id: &Uuid, out: &mut Vec<u8>) -> Result<(), AllocError>
     ensures ok { OnOk result (out.new.items ≡ out.old.items ++ numbers.guid.image id.now) }
     ensures kept { Keeps out.old.items out.new.items }

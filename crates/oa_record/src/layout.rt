@@ -18,10 +18,6 @@ ghost use Rattle.oa_record.specs.Reading.{
   indices_at,
   element_of,
   element_at,
-  put_of,
-  put_at,
-  redim_of,
-  redim_at,
   string_at,
   names_at,
   get_ids_at,
@@ -30,6 +26,7 @@ ghost use Rattle.oa_record.specs.Reading.{
   layout_at,
 };
 ghost use Rattle.oa_record.specs.Shown.{shown};
+ghost use Rattle.oa_record.specs.declared.opcode.Opcode.TheVariants as opcodes;
 
 use crate::body_parts::Parts;
 use crate::raw_call::RawCall;
@@ -71,7 +68,6 @@ fn field<'a>(r: &mut Ndr<'a>) -> Result<&'a [u8], Short>
     Ok(bytes)
 }
 
-#[tactic(auto, using(oa_ndr::proofs::Loop::many_done, oa_ndr::proofs::Loop::many_goes_on, oa_ndr::proofs::Loop::many_ends))]
 fn dispids(alloc: Global, count: u32, r: &mut Ndr<'_>) -> Result<Vec<i32>, RecordFault>
     ensures answers { Answers (λ v. v.items) result r.new (many dispid_at count r.old) }
     ensures count { IfOk result (λ v. length v.items ≡ count) }
@@ -84,7 +80,6 @@ fn dispids(alloc: Global, count: u32, r: &mut Ndr<'_>) -> Result<Vec<i32>, Recor
     Ok(all)
 }
 
-#[tactic(auto, using(oa_ndr::proofs::Loop::many_done, oa_ndr::proofs::Loop::many_goes_on, oa_ndr::proofs::Loop::many_ends, std::proofs::lemmas::List::map_push))]
 fn fields<'a>(alloc: Global, count: u32, r: &mut Ndr<'a>) -> Result<Vec<&'a [u8]>, RecordFault>
     ensures answers { Answers (λ v. map (λ x. x.now) v.items) result r.new (many field_at count r.old) }
     ensures count { IfOk result (λ v. length v.items ≡ count) }
@@ -174,17 +169,6 @@ fn bound(r: &mut Ndr<'_>) -> Result<Bound, Short>
     })
 }
 
-// A call that names an array, and its new first listed bound.
-#[tactic(auto, unfolding(oa_ndr::specs::Reading::bind, oa_ndr::specs::Reading::give, crate::specs::Reading::redim_at))]
-fn redim<'a>(alloc: Global, r: &mut Ndr<'a>) -> Result<(RawCall<'a>, Bound), RecordFault>
-    ensures { Answers (λ x. redim_of x.0 x.1) result r.new (redim_at r.old) }
-{
-    let call = call(alloc, r)?;
-    let bound = bound(r)?;
-    Ok((call, bound))
-}
-
-#[tactic(auto, using(oa_ndr::proofs::Loop::many_done, oa_ndr::proofs::Loop::many_goes_on, oa_ndr::proofs::Loop::many_ends))]
 fn units(alloc: Global, count: u32, r: &mut Ndr<'_>) -> Result<Vec<u16>, RecordFault>
     ensures { Answers (λ v. v.items) result r.new (many (unit_at 2) count r.old) }
 {
@@ -255,8 +239,36 @@ fn number(r: &mut Ndr<'_>) -> Result<u32, Short>
     Ok(number)
 }
 
-// The fields of an opcode.
+// A call that names an array, and a cell of it.
+#[tactic(auto, unfolding(oa_ndr::specs::Reading::bind, oa_ndr::specs::Reading::give, crate::specs::Reading::fields_at))]
+fn get_element<'a>(alloc: Global, r: &mut Ndr<'a>) -> Result<Parts<'a>, RecordFault>
+    ensures { Answers shown result r.new (fields_at opcodes.GetElement r.old) }
+{
+    let (call, indices) = element(alloc, r)?;
+    Ok(Parts::GetElement(call, indices))
+}
+
+// The same, and a new value.
 #[tactic(auto, unfolding(oa_ndr::specs::Reading::bind, oa_ndr::specs::Reading::give, crate::specs::Reading::fields_at, crate::specs::Reading::put_at))]
+fn put_element<'a>(alloc: Global, r: &mut Ndr<'a>) -> Result<Parts<'a>, RecordFault>
+    ensures { Answers shown result r.new (fields_at opcodes.PutElement r.old) }
+{
+    let (call, indices) = element(alloc, r)?;
+    Ok(Parts::PutElement(call, indices, field(r)?))
+}
+
+// A call that names an array, and its new first listed bound.
+#[tactic(auto, unfolding(oa_ndr::specs::Reading::bind, oa_ndr::specs::Reading::give, crate::specs::Reading::fields_at, crate::specs::Reading::redim_at))]
+fn redimension<'a>(alloc: Global, r: &mut Ndr<'a>) -> Result<Parts<'a>, RecordFault>
+    ensures { Answers shown result r.new (fields_at opcodes.Redimension r.old) }
+{
+    let call = call(alloc, r)?;
+    let bound = bound(r)?;
+    Ok(Parts::Redimension(call, bound))
+}
+
+// The fields of an opcode.
+#[tactic(auto, unfolding(oa_ndr::specs::Reading::bind, oa_ndr::specs::Reading::give, crate::specs::Reading::fields_at))]
 fn fields_of<'a>(alloc: Global, opcode: Opcode, r: &mut Ndr<'a>) -> Result<Parts<'a>, RecordFault>
     ensures answers { Answers shown result r.new (fields_at opcode r.old) }
     ensures memory { StarvesAt result opcode }
@@ -266,18 +278,9 @@ fn fields_of<'a>(alloc: Global, opcode: Opcode, r: &mut Ndr<'a>) -> Result<Parts
         Opcode::Release => Ok(Parts::Release(number(r)?)),
         Opcode::GetIds => Ok(Parts::GetIds(get_ids(alloc, r)?)),
         Opcode::Invoke => Ok(Parts::Invoke(call(alloc, r)?)),
-        Opcode::GetElement => {
-            let (call, indices) = element(alloc, r)?;
-            Ok(Parts::GetElement(call, indices))
-        }
-        Opcode::PutElement => {
-            let (call, indices) = element(alloc, r)?;
-            Ok(Parts::PutElement(call, indices, field(r)?))
-        }
-        Opcode::Redimension => {
-            let (call, bound) = redim(alloc, r)?;
-            Ok(Parts::Redimension(call, bound))
-        }
+        Opcode::GetElement => get_element(alloc, r),
+        Opcode::PutElement => put_element(alloc, r),
+        Opcode::Redimension => redimension(alloc, r),
         Opcode::Lock => Ok(Parts::Lock(call(alloc, r)?)),
         Opcode::Unlock => Ok(Parts::Unlock(call(alloc, r)?)),
         Opcode::TypeInfo => Ok(Parts::TypeInfo(number(r)?)),

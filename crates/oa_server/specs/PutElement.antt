@@ -1,5 +1,6 @@
 -- PUTELEM: an element of the array in a cell is set. (This project's choice.)
 use Rattle.std.specs.Prelude.{ℤ, List, [], Result, Ok}
+use Rattle.oa_variant.specs.declared.scalar.Scalar.{Scalar}
 use Rattle.oa_variant.specs.declared.variant.Variant.{Variant}
 use Rattle.oa_record.specs.declared.request.Call.{Call}
 use Rattle.oa_table.specs.declared.event.Event.TheVariants as events
@@ -12,6 +13,10 @@ use Rattle.oa_server.specs.ArrayCells.{as_element, element_type_in}
 use Rattle.oa_server.specs.Cells.{cell_called}
 use Rattle.oa_server.specs.Refusals.{◌>>=◌}
 use Rattle.oa_server.specs.States.{State}
+
+-- what a value becomes as the element of a cell
+abbrev pub element_for : State → List ℤ → Variant → BoundCell → Result Scalar Refusal
+element_for state index value cell = element_type_in state index cell >>= λ elem. as_element elem value
 
 abbrev pub setting : State → List ℤ → Variant → BoundCell → Result Decision Refusal
 setting state index value cell = do

@@ -38,10 +38,7 @@ impl<D: Disk> Clerk<D> {
         ensures { result ≡ disk_of self.storage }
     {
         let Clerk { storage, .. } = self;
-        match storage {
-            Storage::Memory(disk) => disk,
-            Storage::Disk(store) => store.into_disk(),
-        }
+        storage.into_disk()
     }
 }
 

@@ -46,11 +46,21 @@ mod type_info;
 mod unlock;
 
 /// A library and a table of its objects, in memory: what a server's answers depend on.
-#[derive(Drop)]
 pub(crate) struct Host {
     alloc: Global,
     library: Library,
     table: Table,
+}
+
+// Its own, so that a function that holds a host, or a server, lets go of it in one step.
+impl Drop for Host {
+    fn drop(self) {
+        let Host {
+            alloc: _alloc,
+            library: _library,
+            table: _table,
+        } = self;
+    }
 }
 
 impl Model for Host {

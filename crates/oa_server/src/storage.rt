@@ -1,4 +1,7 @@
 //! Where a server keeps its table.
+ghost use Rattle.std.specs.Prelude.{◌≡◌};
+ghost use Rattle.oa_server.specs.Storages.{disk_of};
+
 use oa_disk::Disk;
 use oa_store::Store;
 
@@ -9,4 +12,16 @@ pub(crate) enum Storage<D: Disk> {
     Memory(D),
     /// In a store, which each group of changes is committed to.
     Disk(Store<D>),
+}
+
+impl<D: Disk> Storage<D> {
+    /// The disk as it is. This makes no call.
+    pub(crate) fn into_disk(self) -> D
+        ensures { result ≡ disk_of self }
+    {
+        match self {
+            Storage::Memory(disk) => disk,
+            Storage::Disk(store) => store.into_disk(),
+        }
+    }
 }

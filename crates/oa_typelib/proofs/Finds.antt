@@ -1,11 +1,12 @@
 -- What the indexes of a library find.
 use Rattle.std.proofs.Common.{◌≡◌, ◌<◌, ◌≤◌, ◌+◌, ℕ, suc, Bool, List, [], ◌∷◌, ◌++◌, length, map, take, drop, get_or}
+use Rattle.std.proofs.Common.{IfOk, Result, Ok, Err}
 use Rattle.std.proofs.Common.{slice_get, position, find, Option, None, Some, true, false, refl, sym, ap, ◌∙◌, arith, add-one}
 use Rattle.std.proofs.Math.Seq.{drop-cons}
 use Rattle.std.proofs.Math.ListN.{set}
 use Rattle.std.proofs.lemmas.List.{take_more, take_more_set, take_all, map-append, drop-set-lt}
 use Rattle.std.proofs.lemmas.Bool.Decides.{nat_tests}
-use Rattle.std.proofs.lemmas.Option.{slice_get-map}
+use Rattle.std.proofs.lemmas.Option.{none-some, slice_get-map}
 use Rattle.std.specs.Option.{option_map, option_map_or, option_and_then, option_or, unwrap_or}
 use Rattle.oa_model.specs.Limits.{max_library_bytes}
 use Rattle.oa_model.specs.Folding.{folded_name}
@@ -18,7 +19,10 @@ use Rattle.oa_idl.specs.declared.items.Item.TheVariants.{Interface, Coclass}
 use Rattle.oa_typelib.specs.Libraries.{same, name_of, guid_of, as_interface, as_class, has_interface, if_entered}
 use Rattle.oa_typelib.specs.Libraries.{interface_of, class_of, interface_named, default_interface, marked_item, marked}
 use Rattle.oa_typelib.specs.declared.fault.CheckError.TheVariants.{TextTooLong}
-use Rattle.oa_typelib.specs.Breaches.{text_breach}
+use Rattle.oa_typelib.specs.Breaches.{Refuses, first_breach, length_breach, text_breach}
+use Rattle.oa_typelib.specs.IsLibrary.{IsLibrary}
+use Rattle.oa_typelib.specs.declared.fault.CheckError.{CheckError}
+use Rattle.oa_idl.specs.IsTree.{IsTree}
 use Rattle.oa_idl.specs.Values.{InterfaceValue, CoclassValue}
 use Rattle.oa_typelib.specs.Indexes.{default_in, folded_names, enters, entered_in, flag_at, flag_of}
 use Rattle.oa_typelib.proofs.Lists.{position_finds}
@@ -76,11 +80,16 @@ turn_writes f xs ys i x y h len before after is new =
 pub all_written : {X : Type 0} (f : X → X) (xs ys : List X) (i : ℕ) → length xs ≤ i → length ys ≡ length xs → take i ys ≡ map f (take i xs) → ys ≡ map f xs
 all_written f xs ys i h len before = sym (take_all i ys (omega (arith, h, len))) ∙ before ∙ ap (map f) (take_all i xs h)
 
--- the text's length, where it is that of the canonical text
-pub text_is : (tree : TreeValue) (bs : List ℕ) (b : Bool) → bs ≡ canonical (marked tree) → nat_le (length bs) max_library_bytes ≡ b
-    → text_breach tree ≡ (if b then None else Some TextTooLong)
+-- the length of the text of a tree whose defaults are marked
+pub length_of_marked : (tree t : TreeValue) → t ≡ marked tree → text_breach tree ≡ length_breach t
 unfolding text_breach
-text_is tree bs b is h = rw (← is, h) refl
+length_of_marked tree t is = rw is refl
+
+-- where there is no breach, the library is that of each text that stands for the tree
+pub library_of_texts : (tree : TreeValue) (r : Result TreeValue CheckError) → Refuses (first_breach tree) (λ library. library ≡ marked tree) r
+    → IfOk r (λ library. (text : List ℕ) → IsTree text tree → IsLibrary text library)
+library_of_texts tree (Ok library) h = λ text is. record { tree = tree; stands = is; unbroken = h.0; says = h.1 }
+library_of_texts tree (Err e) h = tt
 
 -- the last kind of breach, after the others
 pub breach_before : {X : Type 0} (a b : Option X) (x : X) → a ≡ Some x → option_or a b ≡ Some x
@@ -89,8 +98,15 @@ breach_before a b x is = rw is refl
 pub no_breach_before : {X : Type 0} (a b : Option X) → a ≡ None → option_or a b ≡ b
 no_breach_before a b is = rw is refl
 
-pub short_text : (bs : List ℕ) → nat_le (length bs) max_library_bytes ≡ true → length bs ≤ max_library_bytes
+short_text : (bs : List ℕ) → nat_le (length bs) max_library_bytes ≡ true → length bs ≤ max_library_bytes
 short_text bs h = grind (arith, nat_tests)
+
+pub fits_text : (t : TreeValue) → length_breach t ≡ None → length (canonical t) ≤ max_library_bytes
+fits_text t h = by (nat_le (length (canonical t)) max_library_bytes) refl h
+  where
+    by : (b : Bool) → nat_le (length (canonical t)) max_library_bytes ≡ b → (if b then None else Some TextTooLong) ≡ None → length (canonical t) ≤ max_library_bytes
+    by true is none = short_text (canonical t) is
+    by false is none = absurd (none-some TextTooLong (sym none))
 
 -- ---- the interface at a place, where an entry of a coclass names it
 pub never : (k : Option CoclassValue) → None ≡ option_and_then (λ c. option_and_then (if_entered c) None) k

@@ -1,6 +1,6 @@
 -- Loops that keep some of a list.
-use Rattle.std.proofs.Common.{◌≡◌, ◌<◌, ◌+◌, ℕ, suc, Bool, true, false, cond, List, [], ◌∷◌, ◌++◌, length, map, take, drop}
-use Rattle.std.proofs.Common.{get_or, slice_get, Option, None, Some, is_some, refl, ap, ◌∙◌, if◌then◌else◌, length-append}
+use Rattle.std.proofs.Common.{◌≡◌, ◌<◌, ◌+◌, ℕ, Bool, true, false, cond, List, [], ◌∷◌, ◌++◌, length, map, take, drop}
+use Rattle.std.proofs.Common.{get_or, slice_get, Option, None, Some, refl, ap, ◌∙◌, if◌then◌else◌, length-append}
 use Rattle.std.proofs.Math.Seq.{drop-cons}
 use Rattle.std.proofs.lemmas.List.{append-nil, take_more, map-append, append_assoc}
 use Rattle.std.proofs.lemmas.List.Elements.{filter_map-append}

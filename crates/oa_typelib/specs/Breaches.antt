@@ -141,6 +141,10 @@ default_breach items = first_answer (in_interface (first_answer bad_default_in))
 unfoldable pub text_breach : TreeValue → Option CheckError
 text_breach tree = if nat_le (length (canonical (marked tree))) max_library_bytes then None else Some TextTooLong
 
+-- the same of a tree whose defaults are marked
+abbrev pub length_breach : TreeValue → Option CheckError
+length_breach tree = if nat_le (length (canonical tree)) max_library_bytes then None else Some TextTooLong
+
 -- ---- the kinds in their order
 
 abbrev pub key_breaches : TreeValue → Option CheckError

@@ -1,6 +1,6 @@
 //! The passes of `check`, one for each kind of breach.
 ghost use Rattle.std.specs.Prelude.{◌≡◌, ◌++◌, ◌∷◌, [], IfOk, is_some, map};
-ghost use Rattle.std.specs.Option.{option_map};
+ghost use Rattle.std.specs.Option.{option_map, option_or};
 ghost use Rattle.oa_model.specs.Folding.{folded_name};
 ghost use Rattle.oa_typelib.specs.Breaches.{Refuses, repeated_in, repeated_name, declared_breach, inner_breach, name_breach, id_breach};
 ghost use Rattle.oa_typelib.specs.Breaches.{guid_breach, unknown_name, entry_breach, interface_breach, form_breach};
@@ -319,14 +319,23 @@ fn check_keys(alloc: Global, tree: &Tree) -> Result<Checked, CheckError>
     Ok(Checked { names, guids })
 }
 
+/// The entries of coclasses, the forms of properties and the parameters, after the names of all items.
+fn check_contents(alloc: Global, tree: &Tree, names: &Names) -> Result<(), CheckError>
+    requires { names.now ≡ folded_names tree.now.items }
+    ensures { Refuses (option_or (option_map UnknownInterface (interface_breach tree.now.items)) (form_breaches tree.now.items))
+        (λ _. Unit {0}) result }
+{
+    let items = items_of(tree);
+    check_interfaces(alloc, names, items)?;
+    check_form_kinds(alloc, items)
+}
+
 /// All checks of a tree but that of its text's length, in their order.
 pub(crate) fn check_tree(alloc: Global, tree: &Tree) -> Result<Checked, CheckError>
     ensures { Refuses (tree_breach tree.now)
         (λ c. (c.names ≡ folded_names tree.now.items) × (c.guids ≡ map guid_of tree.now.items)) result }
 {
     let checked = check_keys(alloc, tree)?;
-    let items = items_of(tree);
-    check_interfaces(alloc, &checked.names, items)?;
-    check_form_kinds(alloc, items)?;
+    check_contents(alloc, tree, &checked.names)?;
     Ok(checked)
 }

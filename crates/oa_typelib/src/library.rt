@@ -4,18 +4,18 @@ ghost use Rattle.oa_idl.specs.Canonical.{canonical};
 ghost use Rattle.std.specs.Option.{option_and_then, option_map};
 ghost use Rattle.oa_idl.specs.IsTree.{IsTree};
 ghost use Rattle.oa_model.specs.Limits.{max_library_bytes};
-ghost use Rattle.oa_typelib.specs.Breaches.{Refuses, first_breach};
+ghost use Rattle.oa_typelib.specs.Breaches.{Refuses, first_breach, length_breach, text_breach, tree_breach};
 ghost use Rattle.oa_typelib.specs.Checked.{IsChecked, IsWhole};
 ghost use Rattle.uuid.specs.Parts.{is_nil_bytes};
 ghost use Rattle.oa_typelib.specs.Contents.{Describes};
 ghost use Rattle.oa_typelib.specs.Descriptions.{description_at, interfaces_of};
 ghost use Rattle.oa_typelib.specs.Libraries.{as_class, as_interface, same, guid_of, class_of, if_entered};
 ghost use Rattle.oa_typelib.specs.Libraries.{interface_of, default_interface, selected_in, marked};
-ghost use Rattle.oa_typelib.specs.Indexes.{default_in, entered_in, flag_at, folded_names, members_in};
+ghost use Rattle.oa_typelib.specs.Indexes.{default_in, entered_in, flag_at, folded_names, index_of, members_in};
 ghost use Rattle.oa_typelib.specs.IsLibrary.{IsLibrary};
 ghost use Rattle.oa_typelib.specs.Typed.{IsOfText};
 
-use crate::checks::check_tree;
+use crate::checks::{Checked, check_tree};
 use crate::defaults::{find_defaults, mark};
 use crate::describe::{
     Description, class_description, count_interfaces, interface_description, nth_class,
@@ -25,7 +25,7 @@ use crate::described::DescribeError;
 use crate::fault::CheckError;
 use crate::members::{Dispinterface, Index, Members};
 use crate::places::{at, class_at, interface_at, items_of};
-use crate::sets::Guids;
+use crate::sets::{Guids, Names};
 use oa_idl::laws::marked_is_read;
 use oa_idl::{Coclass, Item, Tree, print};
 use oa_model::MAX_LIBRARY_BYTES;
@@ -34,7 +34,6 @@ use std::marker::Model;
 use uuid::Uuid;
 
 /// A type library: a tree that breaks none of the checks, with one default interface marked in each coclass.
-#[derive(Drop)]
 pub struct Library {
     alloc: Global,
     tree: Tree,
@@ -46,6 +45,20 @@ pub struct Library {
     index: Index,
     /// The place of each coclass's default interface.
     defaults: Vec<Option<usize>>,
+}
+
+// Its own, so that a function that holds a library lets go of it in one step.
+impl Drop for Library {
+    fn drop(self) {
+        let Library {
+            alloc: _alloc,
+            tree: _tree,
+            text: _text,
+            guids: _guids,
+            index: _index,
+            defaults: _defaults,
+        } = self;
+    }
 }
 
 impl Model for Library {
@@ -71,23 +84,64 @@ pub fn check(alloc: Global, tree: Tree) -> Result<Library, CheckError>
     ensures refuses { Refuses (first_breach tree) (λ library. library ≡ marked tree) result }
     ensures library { IfOk result (λ library. (text : List ℕ) → IsTree text tree → IsLibrary text library) }
 {
-    let checked = check_tree(alloc, &tree)?;
+    let Checked { names, guids } = check_tree(alloc, &tree)?;
+    library_of(alloc, tree, &names, guids)
+}
+
+/// The library of a tree that breaks none of the checks but perhaps the last, that of its text's length.
+fn library_of(alloc: Global, tree: Tree, names: &Names, guids: Guids) -> Result<Library, CheckError>
+    requires text { IsOfText tree }
+    requires unbroken { tree_breach tree ≡ None }
+    requires names { names.now ≡ folded_names tree.items }
+    requires guids { guids ≡ map guid_of tree.items }
+    ensures { Refuses (text_breach tree) (λ library. library ≡ marked tree) result }
+{
     let tree = mark(tree);
-    let defaults = find_defaults(alloc, &checked.names, items_of(&tree))?;
-    let text = print(alloc, &tree)?;
-    if !is_text(text.as_slice()) {
-        return Err(CheckError::TextTooLong);
-    }
-    let index = Index::of(alloc, &tree)?;
+    let Kept {
+        text,
+        index,
+        defaults,
+    } = kept_of(alloc, &tree, names)?;
     marked_is_read();
     Ok(Library {
         alloc,
         tree,
         text,
-        guids: checked.guids,
+        guids,
         index,
         defaults,
     })
+}
+
+/// What a library keeps beside its tree and the GUIDs.
+#[derive(Drop)]
+struct Kept {
+    text: Vec<u8>,
+    index: Index,
+    defaults: Vec<Option<usize>>,
+}
+
+/// What a library keeps of a tree whose defaults are marked, where its canonical text is short enough.
+fn kept_of(alloc: Global, tree: &Tree, names: &Names) -> Result<Kept, CheckError>
+    ensures { Refuses (length_breach tree.now) (λ kept. (kept.text.items ≡ canonical tree.now) × (kept.index ≡ index_of tree.now)
+        × (kept.defaults.items ≡ map (default_in names.now) tree.now.items)) result }
+{
+    let text = library_text(alloc, tree)?;
+    Ok(Kept {
+        text,
+        index: Index::of(alloc, tree)?,
+        defaults: find_defaults(alloc, names, items_of(tree))?,
+    })
+}
+
+fn library_text(alloc: Global, tree: &Tree) -> Result<Vec<u8>, CheckError>
+    ensures { Refuses (length_breach tree.now) (λ text. text.items ≡ canonical tree.now) result }
+{
+    let text = print(alloc, tree)?;
+    if !is_text(text.as_slice()) {
+        return Err(CheckError::TextTooLong);
+    }
+    Ok(text)
 }
 
 /// Whether a text is short enough for a library text.

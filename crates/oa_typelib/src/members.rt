@@ -31,9 +31,15 @@ use std::alloc::{AllocError, Global};
 use std::marker::Model;
 
 /// Names, folded, in the order in which they first stand in a list, each with the places at which it stands there.
-#[derive(Drop)]
 pub(crate) struct NameGroups {
     groups: IndexMap<Vec<u16>, Vec<usize>>,
+}
+
+// Its own, so that a function that holds some lets go of them in one step.
+impl Drop for NameGroups {
+    fn drop(self) {
+        let NameGroups { groups: _groups } = self;
+    }
 }
 
 impl Model for NameGroups {
@@ -102,9 +108,15 @@ impl NameGroups {
 }
 
 /// DISPIDs, in the order in which they first stand in a list, each with the places at which it stands there.
-#[derive(Drop)]
 struct IdGroups {
     groups: IndexMap<i32, Vec<usize>>,
+}
+
+// Its own, so that a function that holds some lets go of them in one step.
+impl Drop for IdGroups {
+    fn drop(self) {
+        let IdGroups { groups: _groups } = self;
+    }
 }
 
 impl Model for IdGroups {
@@ -211,13 +223,20 @@ fn names_of<'a>(
     Ok(names)
 }
 
+/// The places of declarations by their names, folded.
+fn by_name(alloc: Global, declarations: &[Declaration]) -> Result<NameGroups, AllocError>
+    ensures { IfOk result (λ g. g ≡ groups_of same (map (λ d. folded_name d.name) declarations.now)) }
+{
+    let names = names_of(alloc, declarations)?;
+    NameGroups::of(alloc, names.as_slice())
+}
+
 impl Members {
     fn grouped(alloc: Global, declarations: &[Declaration]) -> Result<Members, AllocError>
         ensures { IfOk result (λ m. m ≡ grouped declarations.now) }
     {
-        let names = names_of(alloc, declarations)?;
         Ok(Members {
-            by_name: NameGroups::of(alloc, names.as_slice())?,
+            by_name: by_name(alloc, declarations)?,
             by_id: IdGroups::of(alloc, declarations)?,
             defaults: all_values(alloc, declarations)?,
         })
@@ -269,6 +288,14 @@ fn item_keys(alloc: Global, items: &[Item]) -> Result<Vec<Vec<u16>>, AllocError>
     Ok(keys)
 }
 
+/// The places of interfaces among the interfaces by their names, folded.
+fn by_interface(alloc: Global, items: &[Item]) -> Result<NameGroups, AllocError>
+    ensures { IfOk result (λ g. g ≡ groups_of same (map (λ i. folded_name i.name) (interfaces_of items.now))) }
+{
+    let names = interface_names(alloc, items)?;
+    NameGroups::of(alloc, names.as_slice())
+}
+
 /// For each folded name whether it has a group.
 fn flags_of(alloc: Global, groups: &NameGroups, keys: &[Vec<u16>]) -> Result<Vec<bool>, AllocError>
     ensures { IfOk result (λ v. v.items ≡ map (λ k. is_some (first_in groups.now k.items)) keys.now) }
@@ -312,6 +339,14 @@ fn all_entered(
     Ok(rows)
 }
 
+/// For each coclass whether its entries name an item, by the item's place.
+fn entered_rows(alloc: Global, items: &[Item]) -> Result<Vec<Vec<bool>>, AllocError>
+    ensures { IfOk result (λ v. map (λ row. row.items) v.items ≡ map (entered_in (folded_names items.now)) items.now) }
+{
+    let keys = item_keys(alloc, items)?;
+    all_entered(alloc, items, keys.as_slice())
+}
+
 /// What a library keeps of its members and interfaces.
 #[derive(Drop)]
 pub(crate) struct Index {
@@ -337,12 +372,10 @@ impl Index {
         ensures { IfOk result (λ x. x ≡ index_of tree.now) }
     {
         let items = items_of(tree);
-        let names = interface_names(alloc, items)?;
-        let keys = item_keys(alloc, items)?;
         Ok(Index {
             members: all_members(alloc, items)?,
-            interfaces: NameGroups::of(alloc, names.as_slice())?,
-            entered: all_entered(alloc, items, keys.as_slice())?,
+            interfaces: by_interface(alloc, items)?,
+            entered: entered_rows(alloc, items)?,
         })
     }
 

@@ -10,9 +10,15 @@ use std::marker::Model;
 use uuid::Uuid;
 
 /// Names, each once.
-#[derive(Drop)]
 pub(crate) struct Names {
     keys: IndexSet<Vec<u16>>,
+}
+
+// Its own, so that a function that holds some lets go of them in one step.
+impl Drop for Names {
+    fn drop(self) {
+        let Names { keys: _keys } = self;
+    }
 }
 
 impl Model for Names {
@@ -47,9 +53,15 @@ impl Names {
 }
 
 /// The GUIDs of a library's items, in their order.
-#[derive(Drop)]
 pub(crate) struct Guids {
     keys: IndexSet<Uuid>,
+}
+
+// Its own, so that a function that holds some lets go of them in one step.
+impl Drop for Guids {
+    fn drop(self) {
+        let Guids { keys: _keys } = self;
+    }
 }
 
 impl Model for Guids {

@@ -43,7 +43,6 @@ fn bound(r: &mut Ndr<'_>) -> Result<Bound, ReadFault>
     Ok(Bound { count, lower })
 }
 
-#[tactic(auto, using(oa_ndr::proofs::Loop::many_done, oa_ndr::proofs::Loop::many_goes_on, crate::proofs::Loops::many_err))]
 fn bounds(alloc: Global, dims: u16, r: &mut Ndr<'_>) -> Result<Vec<Bound>, ReadFault>
     ensures { AnswersBy (λ v. v.items) result r.new (many bound_at dims r.old) }
 {
@@ -56,7 +55,6 @@ fn bounds(alloc: Global, dims: u16, r: &mut Ndr<'_>) -> Result<Vec<Bound>, ReadF
 }
 
 // Which referents of the cells are set.
-#[tactic(auto, using(oa_ndr::proofs::Loop::many_done, oa_ndr::proofs::Loop::many_goes_on, oa_ndr::proofs::Loop::many_ends))]
 fn flags(alloc: Global, count: u32, r: &mut Ndr<'_>) -> Result<Vec<bool>, ReadFault>
     ensures { AnswersBy (λ v. v.items) result r.new (many referent_at count r.old) }
 {

@@ -1,8 +1,9 @@
 //! The cell of a property that a call names.
-ghost use Rattle.std.specs.Prelude.{◌≡◌, ◌≤◌, length, IfOk, Some};
+ghost use Rattle.std.specs.Prelude.{◌≡◌, ◌≤◌, length, IfOk, Ok, Some};
 ghost use Rattle.oa_model.specs.Limits.{max_key_scalars};
 ghost use Rattle.oa_bind.specs.Bindings.{bound_to};
 ghost use Rattle.oa_server.specs.Cells.{Finds, bound_as, call_found, cell_called, member_found};
+ghost use Rattle.oa_server.specs.Interfaces.{interface_found};
 ghost use Rattle.oa_table.specs.Tables.{object_at};
 ghost use Rattle.oa_typelib.specs.Bindable.{IsBindable};
 ghost use Rattle.oa_typelib.specs.Members.{member_in};
@@ -55,9 +56,25 @@ impl Host {
         ensures object { IfOk result (λ cell. cell.name.object ≡ call.head.object) }
         ensures zero { IfOk result (λ cell. HasZero cell.declared) }
     {
+        let interface = self.find_interface_of(object, &call.head.interface, &call.head.riid)?;
+        self.find_cell_in(&interface, call, access)
+    }
+
+    /// The same of an interface that was found.
+    #[tactic(auto, unfolding(crate::specs::Cells::cell_called))]
+    fn find_cell_in(
+        &self,
+        interface: &Dispinterface<'_>,
+        call: Call,
+        access: Access,
+    ) -> Result<BoundCell, Undecided>
+        requires { interface_found self.now call.head.object call.head.interface call.head.riid ≡ Ok interface.now }
+        ensures cell { Finds (cell_called self.now call access) result }
+        ensures object { IfOk result (λ cell. cell.name.object ≡ call.head.object) }
+        ensures zero { IfOk result (λ cell. HasZero cell.declared) }
+    {
         let head = call.head;
-        let interface = self.find_interface_of(object, &head.interface, &head.riid)?;
-        let (member, form) = find_member(&interface, head.dispid, access)?;
+        let (member, form) = find_member(interface, head.dispid, access)?;
         let declared = member.value_type;
         let kind = bound_as(access, form);
         let bound = self.bind_call(&member, kind, call.arguments, &call.named)?;

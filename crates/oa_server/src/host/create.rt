@@ -1,7 +1,9 @@
 //! CREATE.
 ghost use Rattle.std.specs.Prelude.{◌≡◌, is_ok, IfOk};
-ghost use Rattle.oa_server.specs.Create.{class_found, creation};
+ghost use Rattle.oa_server.specs.Create.{class_found, creation, fitting};
 ghost use Rattle.oa_server.specs.Decisions.{ChangesNoLocks, Decides};
+ghost use Rattle.oa_server.specs.Limits.{allowed};
+ghost use Rattle.oa_table.specs.declared.event.Event.TheVariants.{Create as ACreate};
 
 use super::Host;
 use crate::decision::{Decision, Undecided};
@@ -21,12 +23,21 @@ impl Host {
     {
         self.find_class(&class)?;
         let number = self.table.next();
-        let event = Event::Create { number, class };
-        if let Some(code) = refusal(&self.table, &event) {
-            return Err(Undecided::Refused(Refusal::of(code)));
-        }
+        self.find_room(number, class)?;
         let fields = Fields::new(number_field(self.alloc, number)?);
+        let event = Event::Create { number, class };
         Ok(Decision::Change { event, fields })
+    }
+
+    /// Whether the table may have a new object.
+    fn find_room(&self, number: u32, class: Uuid) -> Result<(), Refusal>
+        ensures { result ≡ fitting (allowed (ACreate number class) self.now.table) }
+    {
+        let event = Event::Create { number, class };
+        match refusal(&self.table, &event) {
+            Some(code) => Err(Refusal::of(code)),
+            None => Ok(()),
+        }
     }
 
     /// Whether an object of a coclass can be made.

@@ -3,7 +3,7 @@ ghost use Rattle.std.specs.Prelude.{◌≡◌, true, IfOk};
 ghost use Rattle.std.specs.Result.{result_map_both};
 ghost use Rattle.oa_server.specs.ArrayCells.{element_in};
 ghost use Rattle.oa_server.specs.Decisions.{ChangesNoLocks, Decides};
-ghost use Rattle.oa_server.specs.GetElement.{element_got};
+ghost use Rattle.oa_server.specs.GetElement.{element_got, reading};
 
 use super::Host;
 use super::array_cell::{element_of, no_element};
@@ -24,7 +24,15 @@ impl Host {
         ensures unlocked { IfOk result ChangesNoLocks }
     {
         let cell = self.find_cell(call, Access::Get)?;
-        let element = self.element_in(&cell, indices.as_slice())?;
+        self.element_told(&cell, indices.as_slice())
+    }
+
+    /// Tells the element of a cell at an index list.
+    fn element_told(&self, cell: &BoundCell, index: &[i32]) -> Result<Decision, Undecided>
+        ensures decided { Decides (reading self.now index.now cell.now) true result }
+        ensures unlocked { IfOk result ChangesNoLocks }
+    {
+        let element = self.element_in(cell, index)?;
         let fields = Fields::new(scalar_field(self.alloc, element)?);
         let code = HResult::S_OK;
         Ok(Decision::Answer { code, fields })

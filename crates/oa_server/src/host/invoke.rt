@@ -1,7 +1,7 @@
 //! INVOKE.
-ghost use Rattle.std.specs.Prelude.{◌≡◌, true, IfOk, Some};
+ghost use Rattle.std.specs.Prelude.{◌≡◌, true, IfOk, Ok, Some};
 ghost use Rattle.oa_server.specs.Decisions.{ChangesNoLocks, Decides};
-ghost use Rattle.oa_server.specs.Invoke.{invocation, value_of};
+ghost use Rattle.oa_server.specs.Invoke.{cell_decided, invocation, value_of};
 ghost use Rattle.oa_table.specs.Tables.{object_at};
 ghost use Rattle.oa_variant.specs.Variants.{HasZero};
 
@@ -18,18 +18,29 @@ use std::alloc::AllocError;
 
 impl Host {
     /// Decides an INVOKE: a get tells the value of its cell, a put sets it.
-    #[tactic(auto, using(crate::proofs::Zeros::no_locks))]
     pub(super) fn invocation(&self, call: Call) -> Result<Decision, Undecided>
         ensures decided { Decides (invocation self.now call) true result }
         ensures unlocked { IfOk result ChangesNoLocks }
     {
         let access = Access::Flags(call.head.flags);
         let object = self.find_object(call.head.object)?;
+        let cell = self.find_cell_of(object, call, access)?;
+        self.cell_decided(object, cell)
+    }
+
+    /// What becomes of a cell that was found: it is told, or set to the new value.
+    #[tactic(auto, using(crate::proofs::Zeros::no_locks))]
+    fn cell_decided(&self, object: &LiveObject, cell: BoundCell) -> Result<Decision, Undecided>
+        requires object { object_at cell.name.object self.now.table ≡ Some object.now }
+        requires zero { HasZero cell.declared }
+        ensures decided { Decides (Ok (cell_decided self.now cell)) true result }
+        ensures unlocked { IfOk result ChangesNoLocks }
+    {
         let BoundCell {
             name,
             declared,
             value,
-        } = self.find_cell_of(object, call, access)?;
+        } = cell;
         match value {
             None => {
                 let fields = self.value_field(object, &name, declared)?;

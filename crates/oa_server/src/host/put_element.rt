@@ -2,7 +2,7 @@
 ghost use Rattle.std.specs.Prelude.{◌≡◌, true, IfOk};
 ghost use Rattle.oa_server.specs.ArrayCells.{as_element, element_type_in};
 ghost use Rattle.oa_server.specs.Decisions.{ChangesNoLocks, Decides};
-ghost use Rattle.oa_server.specs.PutElement.{element_put};
+ghost use Rattle.oa_server.specs.PutElement.{element_for, element_put};
 
 use super::Host;
 use super::array_cell::{element_type_of, no_element};
@@ -30,8 +30,7 @@ impl Host {
         ensures unlocked { IfOk result ChangesNoLocks }
     {
         let cell = self.find_cell(call, Access::Put)?;
-        let elem = self.element_type_in(&cell, indices.as_slice())?;
-        let value = as_element(elem, value)?;
+        let value = self.element_for(&cell, indices.as_slice(), value)?;
         let event = Event::PutElement {
             name: cell.name,
             index: indices,
@@ -39,6 +38,19 @@ impl Host {
         };
         let fields = Fields::none(self.alloc);
         Ok(Decision::Change { event, fields })
+    }
+
+    /// What a value becomes as the element of a cell at an index list.
+    fn element_for(
+        &self,
+        cell: &BoundCell,
+        index: &[i32],
+        value: Variant,
+    ) -> Result<Scalar, Refusal>
+        ensures { result ≡ element_for self.now index.now value cell.now }
+    {
+        let elem = self.element_type_in(cell, index)?;
+        as_element(elem, value)
     }
 
     /// The type of the element of a cell at an index list.

@@ -1,34 +1,19 @@
-use Rattle.std.proofs.Common.{◌≡◌, List, map, sym, ap, ◌∙◌}
+use Rattle.std.proofs.Common.{◌≡◌, map, ◌∙◌}
 use Rattle.std.specs.Option.{option_map, option_or}
 use Rattle.oa_model.specs.Folding.{folded_name}
-use Rattle.oa_idl.specs.declared.items.Item.{Item}
 use Rattle.oa_typelib.specs.declared.checks.Checked.{Checked}
 use Rattle.oa_typelib.specs.declared.fault.CheckError.TheVariants.{UnknownInterface}
 use Rattle.oa_typelib.specs.Breaches.{key_breaches, interface_breach, form_breaches, tree_breach}
 use Rattle.oa_typelib.specs.Libraries.{name_of, guid_of}
 use Rattle.oa_typelib.proofs.Passes.{refused, for_memory}
-use Rattle.oa_typelib.proofs.Finds.{breach_before, no_breach_before}
+use Rattle.oa_typelib.proofs.Finds.{no_breach_before}
 use Rattle.oa_typelib.proofs.checks.check_tree.Goals as goal
 
-pub returns-in_err-check_interfaces : goal.returns-in_err-check_interfaces
-returns-in_err-check_interfaces c =
+pub returns-in_err-check_contents : goal.returns-in_err-check_contents
+returns-in_err-check_contents c =
     let t = c.args.tree.now in
-    let items = c.items_of-items.ensures in
-    refused (tree_breach t) (λ (k : Checked). (k.names ≡ map (λ i. folded_name (name_of i)) t.items) × (k.guids ≡ map guid_of t.items)) c.in_err-check_interfaces.field-0.0 c.from_residual-in_err-check_interfaces.result
-    c.from_residual-in_err-check_interfaces.ensures.0 c.from_residual-in_err-check_interfaces.ensures.1
-    (for_memory c.in_err-check_interfaces.field-0.0
-    (λ h. no_breach_before (key_breaches t) (option_or (option_map UnknownInterface (interface_breach t.items)) (form_breaches t.items)) c.in_ok-checked.ensures.0
-    ∙ breach_before (option_map UnknownInterface (interface_breach t.items)) (form_breaches t.items) c.in_err-check_interfaces.field-0.0 (ap (λ (xs : List Item). option_map UnknownInterface (interface_breach xs)) (sym items) ∙ h))
-    c.in_err-check_interfaces.ensures)
-
-pub returns-in_err-check_form_kinds : goal.returns-in_err-check_form_kinds
-returns-in_err-check_form_kinds c =
-    let t = c.args.tree.now in
-    let items = c.items_of-items.ensures in
-    refused (tree_breach t) (λ (k : Checked). (k.names ≡ map (λ i. folded_name (name_of i)) t.items) × (k.guids ≡ map guid_of t.items)) c.in_err-check_form_kinds.field-0.0 c.from_residual-in_err-check_form_kinds.result
-    c.from_residual-in_err-check_form_kinds.ensures.0 c.from_residual-in_err-check_form_kinds.ensures.1
-    (for_memory c.in_err-check_form_kinds.field-0.0
-    (λ h. no_breach_before (key_breaches t) (option_or (option_map UnknownInterface (interface_breach t.items)) (form_breaches t.items)) c.in_ok-checked.ensures.0
-    ∙ no_breach_before (option_map UnknownInterface (interface_breach t.items)) (form_breaches t.items) (ap (λ (xs : List Item). option_map UnknownInterface (interface_breach xs)) (sym items) ∙ c.in_ok-check_interfaces.ensures.0)
-    ∙ ap form_breaches (sym items) ∙ h)
-    c.in_err-check_form_kinds.ensures)
+    refused (tree_breach t) (λ (k : Checked). (k.names ≡ map (λ i. folded_name (name_of i)) t.items) × (k.guids ≡ map guid_of t.items)) c.in_err-check_contents.field-0.0 c.from_residual-in_err-check_contents.result
+    c.from_residual-in_err-check_contents.ensures.0 c.from_residual-in_err-check_contents.ensures.1
+    (for_memory c.in_err-check_contents.field-0.0
+    (λ h. no_breach_before (key_breaches t) (option_or (option_map UnknownInterface (interface_breach t.items)) (form_breaches t.items)) c.in_ok-checked.ensures.0 ∙ h)
+    c.in_err-check_contents.ensures)

@@ -1,5 +1,5 @@
 #!/usr/bin/env python3
-"""The test of bin/wrong-bodies: on a crate of three functions it must tell edits that turn a meaning from one that turns none.
+"""The test of bin/wrong-bodies: on a crate of four functions it must tell edits that turn a meaning from one that turns none.
 
     python3 tests/wrong_bodies.py
 
@@ -16,7 +16,7 @@ TOOL = os.path.join(os.path.dirname(os.path.dirname(os.path.abspath(__file__))),
 SOURCE = """//! Steps and the lesser of two numbers.
 #![tactic(auto)]
 
-ghost use Rattle.std.specs.Prelude.{◌≡◌, ◌≤◌, ◌+◌};
+ghost use Rattle.std.specs.Prelude.{◌≡◌, ◌≤◌, ◌<◌, ◌+◌, IsTrue, ◌↔◌};
 
 const STEP: u8 = 2;
 
@@ -41,7 +41,13 @@ pub fn lesser(a: u8, b: u8) -> u8
     ensures first { result ≤ a }
     ensures second { result ≤ b }
 {
-    if a < b { a } else { b }
+    if is_less(a, b) { a } else { b }
+}
+
+fn is_less(a: u8, b: u8) -> bool
+    ensures { IsTrue result ↔ (a < b) }
+{
+    a < b
 }
 """
 
@@ -49,9 +55,9 @@ pub fn lesser(a: u8, b: u8) -> u8
 EDITS = {
     "a_step_too_long": ("old:     n + STEP\nnew:     n + STEP + 1\n", "refused: above: what the function ensures"),
     "one_step_alone": ("old:     above(above(n))\nnew:     above(n)\n", "refused: twice_above: what the function ensures"),
-    "the_greater": ("old:     if a < b { a } else { b }\nnew:     if a < b { b } else { a }\n", "refused: lesser: what the function ensures"),
+    "the_greater": ("old: { a } else { b }\nnew: { b } else { a }\n", "refused: lesser: what the function ensures"),
     "two_steps_by_name": ("old:     above(above(n))\nnew:     let next = above(n); above(next)\n", "NOT REFUSED: twice_above: proved with this edit"),
-    "equal_numbers_the_other_way": ("old: if a < b\nnew: if a <= b\n", "NOT REFUSED: lesser: proved with this edit"),
+    "equal_numbers_the_other_way": ("old: is_less(a, b) { a } else { b }\nnew: is_less(b, a) { b } else { a }\n", "NOT REFUSED: lesser: proved with this edit"),
     "a_longer_step": ("falls: above\nold: const STEP: u8 = 2;\nnew: const STEP: u8 = 3;\n", "refused: above: what the function ensures"),
     "a_constant_that_names_none": ("old: const STEP: u8 = 2;\nnew: const STEP: u8 = 3;\n", "not tried: its text"),
     "a_text_that_is_gone": ("old: if b < a\nnew: if a < b\n", "not tried: an 'old:' text is in src/lib.rt 0 times"),

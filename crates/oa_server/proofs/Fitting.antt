@@ -56,13 +56,14 @@ use Rattle.oa_server.specs.declared.decision.LockChange.{LockChange}
 use Rattle.oa_server.specs.declared.decision.LockChange.TheVariants.{Lock, Unlock}
 use Rattle.oa_server.specs.declared.refusal.Refusal.{Refusal}
 use Rattle.oa_server.specs.declared.host.cell.BoundCell.{BoundCell}
-use Rattle.oa_server.specs.ArrayCells.{as_element, as_refused, element_in, element_type_in, locks_in, put_in}
+use Rattle.oa_server.specs.ArrayCells.{as_refused, element_in, locks_in, put_in}
 use Rattle.oa_server.specs.Cells.{bound_as, call_found, cell_called, member_found, place_of}
 use Rattle.oa_server.specs.Create.{class_found, is_full, fitting}
 use Rattle.oa_server.specs.Decisions.{after_outcome, changed, outcome_of, relocked, relocking, with_table}
 use Rattle.oa_server.specs.Interfaces.{interface_found}
 use Rattle.oa_server.specs.Invoke.{acting}
 use Rattle.oa_server.specs.LookUps.{ids_found}
+use Rattle.oa_server.specs.PutElement.{element_for}
 use Rattle.oa_server.specs.Redimension.{resizing, zero_with}
 use Rattle.oa_server.specs.Refusals.{◌>>=◌, known, unless}
 use Rattle.oa_server.specs.States.{State}
@@ -211,7 +212,7 @@ module _ (state : State) (is : IsChecked state.library) where
   decided_brings (requests.Invoke call) = called call (accesses.Flags call.head.flags) _ (λ cell for. invoked state cell for)
   decided_brings (requests.GetElement call index) = called call accesses.Get _ (λ cell for. after_both (Brings state) (element_in state index cell) _ (λ element a. tt))
   decided_brings (requests.PutElement call index value) =
-      called call accesses.Put _ (λ cell for. after_both (Brings state) (element_type_in state index cell) _ (λ elem a. after_both (Brings state) (as_element elem value) _ (λ element b. refl)))
+      called call accesses.Put _ (λ cell for. after_both (Brings state) (element_for state index value cell) _ (λ element a. refl))
   decided_brings (requests.Redimension call bound) = called call accesses.Put _ (λ cell for. resized state cell bound (put_in state cell.name) for)
   decided_brings (requests.Lock call) = called call accesses.Get _ (λ cell for. after_both (Brings state) (locks_in state cell) _ (λ locks a. tt))
   decided_brings (requests.Unlock call) = called call accesses.Get _ (λ cell for. after_both (Brings state) (locks_in state cell) _ (λ locks a. tt))

@@ -79,6 +79,7 @@ use Rattle.oa_server.specs.Interfaces.{interface_found}
 use Rattle.oa_server.specs.Limits.{allowed, limited, within_limits}
 use Rattle.oa_server.specs.LookUps.{ids_found}
 use Rattle.oa_server.specs.OwnCodes.{is_own}
+use Rattle.oa_server.specs.PutElement.{element_for}
 use Rattle.oa_server.specs.Redimension.{resizing, zero_with}
 use Rattle.oa_server.specs.Refusals.{◌>>=◌, known, unless}
 use Rattle.oa_server.specs.States.{State}
@@ -318,8 +319,9 @@ decided_own state (requests.Invoke call) = then_decides (cell_called state call 
 decided_own state (requests.GetElement call index) = then_decides (cell_called state call accesses.Get) _ (cell_own state call accesses.Get)
     (λ cell. then_decides (array_cells.element_in state index cell) _ (element_own index (array_cells.value_in state cell.name cell.declared)) (λ element. refl))
 decided_own state (requests.PutElement call index value) = then_decides (cell_called state call accesses.Put) _ (cell_own state call accesses.Put)
-    (λ cell. then_decides (array_cells.element_type_in state index cell) _ (type_own index (array_cells.value_in state cell.name cell.declared))
-    (λ elem. then_decides (array_cells.as_element elem value) _ (as_element_own elem value) (λ element. tt)))
+    (λ cell. then_decides (element_for state index value cell) _
+    (then_own (array_cells.element_type_in state index cell) _ (type_own index (array_cells.value_in state cell.name cell.declared)) (λ elem. as_element_own elem value))
+    (λ element. tt))
 decided_own state (requests.Redimension call bound) = then_decides (cell_called state call accesses.Put) _ (cell_own state call accesses.Put) (λ cell. by cell (array_cells.put_in state cell.name))
   where
     by : (cell : BoundCell) (o : Option Variant) → OwnDecision (resizing cell.name cell.declared bound o)

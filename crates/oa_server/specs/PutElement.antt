@@ -20,8 +20,7 @@ element_for state index value cell = element_type_in state index cell >>= λ ele
 
 abbrev pub setting : State → List ℤ → Variant → BoundCell → Result Decision Refusal
 setting state index value cell = do
-  elem ← element_type_in state index cell
-  element ← as_element elem value
+  element ← element_for state index value cell
   Ok (Change (events.PutElement cell.name index element) [])
 
 -- the property's put form, with arguments as a get has them; then the new element

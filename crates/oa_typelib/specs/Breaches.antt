@@ -138,12 +138,12 @@ default_breach items = first_answer (in_interface (first_answer bad_default_in))
 
 -- ---- the canonical text of the library is a library text, so it is not too long
 
-unfoldable pub text_breach : TreeValue → Option CheckError
-text_breach tree = if nat_le (length (canonical (marked tree))) max_library_bytes then None else Some TextTooLong
-
--- the same of a tree whose defaults are marked
+-- of a tree whose defaults are marked
 abbrev pub length_breach : TreeValue → Option CheckError
 length_breach tree = if nat_le (length (canonical tree)) max_library_bytes then None else Some TextTooLong
+
+unfoldable pub text_breach : TreeValue → Option CheckError
+text_breach tree = length_breach (marked tree)
 
 -- ---- the kinds in their order
 

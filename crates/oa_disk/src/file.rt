@@ -59,8 +59,8 @@ impl FileDisk {
     }
 
     /// Takes an open file, and brings to the device what was written to it before. A file that is open for appending writes
-    /// elsewhere than it is told, so this is for files that `open` and the tests have opened.
-    pub(crate) fn over(file: File) -> io::Result<FileDisk>
+    /// elsewhere than it is told, so this is for files that `open` has opened.
+    fn over(file: File) -> io::Result<FileDisk>
         ghost held: { ℕ → ℕ }
         ensures held { IfOk result (IsHeld held) }
         ensures honest { IfOk result (λ disk. IsTrue (⟦<FileDisk as Disk>⟧.is_honest disk)) }
@@ -75,7 +75,7 @@ impl FileDisk {
     }
 
     /// A file of which this is the beginning.
-    pub(crate) fn begin(file: File, size: u64) -> FileDisk
+    fn begin(file: File, size: u64) -> FileDisk
         ghost held: { ℕ → ℕ }
         ensures size { size_of result ≡ size }
         ensures held { IsHeld held result }

@@ -12,8 +12,6 @@ mod memory;
 mod no_disk;
 mod record;
 mod switching;
-#[cfg(test)]
-mod tests;
 
 pub use call::Call;
 pub use crash::Tear;

@@ -62,49 +62,64 @@ fn end(store: &mut Store<MemoryDisk>, frame: &mut Frame) -> bool {
     commit(store, frame).is_ok()
 }
 
-/// Two objects are made under one gate, and one of them goes under another; then the disk holds what is left.
+/// Two objects are made: how long the frame is, and the next number.
+fn two_come(
+    store: &mut Store<MemoryDisk>,
+    table: &mut Table,
+    frame: &mut Frame,
+) -> Result<(usize, u32), KeepFault>
+    requires numbered { is_numbered table.old ≡ true }
+    ensures numbered { is_numbered table.new ≡ true }
+{
+    let class = Uuid::nil();
+    change(store, table, frame, Event::Create { number: 1, class })?;
+    change(store, table, frame, Event::Create { number: 2, class })?;
+    Ok((frame.len(), table.next()))
+}
+
+/// The first of them goes: how long the frame is.
+fn one_goes(
+    store: &mut Store<MemoryDisk>,
+    table: &mut Table,
+    frame: &mut Frame,
+) -> Result<usize, KeepFault>
+    requires numbered { is_numbered table.old ≡ true }
+{
+    change(store, table, frame, Event::Release { number: 1 })?;
+    Ok(frame.len())
+}
+
+/// What a disk holds: the next number, and which of the objects 1 and 2.
+fn held(alloc: Global, disk: &mut MemoryDisk) -> Result<(u32, bool, bool), OpenFault> {
+    let (_, kept) = inspect(alloc, disk)?;
+    Ok((
+        kept.next(),
+        kept.class_of(1).is_some(),
+        kept.class_of(2).is_some(),
+    ))
+}
+
+/// Whether two objects come under one gate, and one of them goes under another.
+fn come_and_go(
+    alloc: Global,
+    store: &mut Store<MemoryDisk>,
+    table: &mut Table,
+) -> Result<bool, KeepFault>
+    requires numbered { is_numbered table.old ≡ true }
+{
+    let mut frame = Frame::new(alloc);
+    let come = two_come(store, table, &mut frame)?;
+    let is_out = end(store, &mut frame) && frame.is_empty() && end(store, &mut frame);
+    let gone = one_goes(store, table, &mut frame)?;
+    Ok(is_out && end(store, &mut frame) && come == (42, 3) && gone == 5)
+}
+
 #[test]
 fn events_go_out_group_by_group(rt: HostRuntime) -> Result<(), Fail> {
-    let alloc = rt.alloc();
-    let (mut store, mut table) = made(alloc, SIZE)?;
-    let mut frame = Frame::new(alloc);
-    let class = Uuid::nil();
+    let (mut store, mut table) = made(rt.alloc(), SIZE)?;
     let none = refusal_of(&table, &Event::Release { number: 1 });
     assert_eq!(rt; none, Some(TableFault::NoObject));
-    change(
-        &mut store,
-        &mut table,
-        &mut frame,
-        Event::Create { number: 1, class },
-    )?;
-    change(
-        &mut store,
-        &mut table,
-        &mut frame,
-        Event::Create { number: 2, class },
-    )?;
-    assert_eq!(rt; (frame.len(), table.next()), (42, 3));
-    assert_eq!(rt; end(&mut store, &mut frame), true);
-    assert_eq!(rt;
-        (frame.is_empty(), end(&mut store, &mut frame)),
-        (true, true)
-    );
-    change(
-        &mut store,
-        &mut table,
-        &mut frame,
-        Event::Release { number: 1 },
-    )?;
-    assert_eq!(rt; (frame.len(), end(&mut store, &mut frame)), (5, true));
-    let mut disk = store.into_disk();
-    let (_, kept) = inspect(alloc, &mut disk)?;
-    assert_eq!(rt;
-        (
-            kept.next(),
-            kept.class_of(1).is_some(),
-            kept.class_of(2).is_some()
-        ),
-        (3, false, true)
-    );
+    assert!(rt; come_and_go(rt.alloc(), &mut store, &mut table)?);
+    assert_eq!(rt; held(rt.alloc(), &mut store.into_disk())?, (3, false, true));
     Ok(())
 }

@@ -1,7 +1,9 @@
-//! What is kept over a stop, on disks in memory: the journal, the store, and tables that a store keeps.
+//! What is kept over a stop: disks, and over those in memory the journal, the store, and tables that a store keeps.
 #![tactic(auto)]
 
 pub mod banks;
+#[cfg(test)]
+mod disk;
 #[cfg(test)]
 mod groups;
 #[cfg(test)]

@@ -1,11 +1,10 @@
-use crate::{
+use oa_disk::{
     DeviceFault, Disk, FileDisk, FuseDisk, MemoryDisk, NoDisk, Tear, flip, write_then_flip,
 };
 use std::alloc::{AllocError, Global};
-use std::fs::{self, File, OpenFile, OpenOptions, Permissions};
+use std::fs::{self, OpenFile, OpenOptions, Permissions};
 use std::io::{self, ErrorKind};
 use std::os::unix::fs::PermissionsExt;
-use std::rt::Files;
 use std::test::Fail;
 
 const SIZE: usize = 16;
@@ -48,8 +47,11 @@ const SCRIPT: [Step; 12] = [
 /// What the disk holds after the script.
 const LAST: [u8; SIZE] = [30, 2, 5, 6, 9, 10, 11, 12, 21, 22, 23, 24, 25, 26, 41, 42];
 
-/// The bytes that the script writes, one by one: the number of the call, from 1, the place, and the byte.
-const WRITTEN: [(u64, usize, u8); 24] = [
+/// A byte that a call writes: the number of the call, from 1, the place, and the byte.
+type Written = (u64, usize, u8);
+
+/// The bytes that the script writes, one by one.
+const WRITTEN: [Written; 24] = [
     (1, 0, 1),
     (1, 1, 2),
     (1, 2, 3),
@@ -165,29 +167,33 @@ fn torn_byte(before: u8, written: u8, tear: Tear, number: u64) -> u8 {
     }
 }
 
-/// The disk after a crash, made byte by byte: what was written up to the last sync that had ended, which is one of the
-/// calls 3, 6 and 10, and then what the tear makes of the bytes of the calls that had begun.
-fn image_left(moment: u64, tear: Tear) -> [u8; SIZE] {
-    let synced = match moment {
-        0..6 => 0,
-        6..12 => 3,
-        12..20 => 6,
-        _ => 10,
-    };
+/// The disk after a crash, made byte by byte: what was written up to the last sync that had ended, and then what the tear
+/// makes of the bytes of the calls that had begun.
+fn image_left(written: &[Written], synced: u64, moment: u64, tear: Tear) -> [u8; SIZE] {
     let begun = moment.div_ceil(2);
     let mut image = [0; SIZE];
     let mut number = 0u64;
-    for (call, place, written) in WRITTEN {
-        if let Some(byte) = image.get_mut(place) {
-            if call <= synced {
-                *byte = written;
-            } else if call <= begun {
-                *byte = torn_byte(*byte, written, tear, number);
+    for (call, place, value) in written {
+        if let Some(byte) = image.get_mut(*place) {
+            if *call <= synced {
+                *byte = *value;
+            } else if *call <= begun {
+                *byte = torn_byte(*byte, *value, tear, number);
                 number = number.saturating_add(1);
             }
         }
     }
     image
+}
+
+/// The script's last sync that has ended at a moment.
+fn synced_at(moment: u64) -> u64 {
+    match moment {
+        0..6 => 0,
+        6..12 => 3,
+        12..20 => 6,
+        _ => 10,
+    }
 }
 
 /// Whether the disk holds those bytes.
@@ -212,7 +218,7 @@ fn each_tear_at_each_moment(rt: HostRuntime) -> Result<(), Fail> {
     assert_eq!(rt; disk.moments(), 24);
     for moment in 0..25 {
         for tear in TEARS {
-            let wanted = image_left(moment, tear);
+            let wanted = image_left(&WRITTEN, synced_at(moment), moment, tear);
             assert!(rt;
                 leaves(&disk, moment, tear, &wanted)?,
                 "moment {moment}, {tear:?}"
@@ -246,7 +252,10 @@ const BY_HAND: [(u64, Tear, [u8; SIZE]); 5] = [
 #[test]
 fn some_images_by_hand(rt: HostRuntime) -> Result<(), Fail> {
     for (moment, tear, wanted) in BY_HAND {
-        assert_eq!(rt; image_left(moment, tear), wanted);
+        assert_eq!(rt;
+            image_left(&WRITTEN, synced_at(moment), moment, tear),
+            wanted
+        );
     }
     Ok(())
 }
@@ -323,17 +332,16 @@ fn a_disk_of_no_bytes(rt: HostRuntime) -> Result<(), Fail> {
     Ok(())
 }
 
-/// Whether a crash at that moment leaves the gate closed, or open with the bytes behind it; at the end it is open.
-fn is_before_or_after(disk: &MemoryDisk, moment: u64, tear: Tear) -> Result<bool, AllocError> {
-    if moment > disk.moments() {
-        return Ok(false);
+/// Three bytes and, behind a sync, their gate.
+const GATED: [Written; 4] = [(1, 5, 7), (1, 6, 8), (1, 7, 9), (3, 4, 1)];
+
+/// The last sync before a moment of these four calls.
+fn synced_behind(moment: u64) -> u64 {
+    match moment {
+        0..4 => 0,
+        4..8 => 2,
+        _ => 4,
     }
-    let left = disk.crash(moment, tear)?.bytes()?;
-    let is_open = left.get(4) == Some(&1);
-    let is_whole = left.get(5..8) == Some([7, 8, 9].as_slice());
-    let others = left.get(..4) == Some([0; 4].as_slice())
-        && left.get(8..) == Some([0; 8].as_slice());
-    Ok(others && (is_open && is_whole || !is_open && moment < 8))
 }
 
 #[test]
@@ -343,8 +351,9 @@ fn a_gate_is_open_once_the_bytes_are_whole(rt: HostRuntime) -> Result<(), Fail> 
     assert_eq!(rt; disk.moments(), 8);
     for moment in 0..9 {
         for tear in TEARS {
+            let wanted = image_left(&GATED, synced_behind(moment), moment, tear);
             assert!(rt;
-                is_before_or_after(&disk, moment, tear)?,
+                leaves(&disk, moment, tear, &wanted)?,
                 "moment {moment}, {tear:?}"
             );
         }
@@ -473,43 +482,5 @@ fn a_path_that_is_no_disk(rt: HostRuntime) -> Result<(), Fail> {
     let found = refusal(FileDisk::open(&rt, THERE));
     assert!(rt; found.is_none() || found == Some(ErrorKind::PermissionDenied));
     fs::remove_file(&rt, THERE)?;
-    Ok(())
-}
-
-/// A file that is open for reading alone, as `FileDisk::open` never opens one.
-fn read_only<R: Files<File = File>>(rt: &R, path: &str) -> io::Result<FileDisk> {
-    FileDisk::over(File::open(rt, path)?)
-}
-
-/// A read and a sync pass, and a write is a counted failure.
-const READ_ONLY: [Row; 4] = [
-    ((Read, 0, b"a"), Ok(()), 0),
-    ((Write, 0, &[1]), Err(DeviceFault::Write), 1),
-    ((Read, 0, b"a"), Ok(()), 1),
-    ((Sync, 0, &[]), Ok(()), 1),
-];
-
-/// A file that is taken without the first sync.
-fn unsynced<R: Files<File = File>>(rt: &R) -> io::Result<FileDisk> {
-    let file = OpenOptions::new()
-        .read(true)
-        .write(true)
-        .open(rt, UNSYNCED)?;
-    Ok(FileDisk::begin(file, 1))
-}
-
-/// Each sync is a counted failure.
-const SYNC_FAILS: [Row; 2] = [
-    ((Sync, 0, &[]), Err(DeviceFault::Write), 1),
-    ((Sync, 0, &[]), Err(DeviceFault::Write), 2),
-];
-
-#[test]
-fn an_error_of_the_system_is_answered(rt: HostRuntime) -> Result<(), Fail> {
-    fs::write(&rt, "oa_disk_read_only", b"abc".as_slice())?;
-    let disk = read_only(&rt, "oa_disk_read_only");
-    fs::remove_file(&rt, "oa_disk_read_only")?;
-    assert!(rt; meets(disk, 3, &READ_ONLY));
-    assert!(rt; meets(unsynced(&rt), 1, &SYNC_FAILS));
     Ok(())
 }

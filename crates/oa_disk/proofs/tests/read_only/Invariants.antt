@@ -1,4 +1,0 @@
-use Rattle.oa_disk.proofs.tests.read_only.Given as goal
-
-abbrev pub ghost-over : goal.ghost-over
-ghost-over g a = λ _. 0

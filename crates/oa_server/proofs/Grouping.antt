@@ -1,9 +1,9 @@
 -- The requests in hand of a session over a store, and the end of their group.
-use Rattle.std.proofs.Common.{rules, ◌≡◌, ◌⊎◌, inl, inr, ℕ, ◌≤◌, true, false, true≢false, List, [], ◌∷◌, ◌++◌, length, map, refl, sym, ap}
-use Rattle.std.proofs.Common.{◌∙◌, subst, arith}
+use Rattle.std.proofs.Common.{rules, ◌≡◌, inl, inr, ℕ, ◌≤◌, true, false, true≢false, List, [], ◌∷◌, ◌++◌, length, map, refl, sym, ap}
+use Rattle.std.proofs.Common.{◌∙◌, subst}
 use Rattle.std.proofs.lemmas.List.{append-nil, length-map, map_push, nil_from_length, same_from_push}
 use Rattle.oa_disk.specs.declared.disk.Disk.{Ghosts}
-use Rattle.oa_groups.specs.Desks.{Desk, IsEnded, IsFailed, IsHeld, IsSettled}
+use Rattle.oa_groups.specs.Desks.{Desk, IsEnded, IsHeld, IsSettled}
 use Rattle.oa_groups.specs.Groups.{events_in, fills, is_full}
 use Rattle.oa_groups.specs.Runs.{Run}
 use Rattle.oa_groups.specs.Turns.{Entry, body_of, entry, reply_of}

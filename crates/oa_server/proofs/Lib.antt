@@ -8,6 +8,7 @@ pub mod Keys
 pub mod Reached
 pub mod Bound
 pub mod Disconnected
+pub mod Found
 pub mod Fitting
 pub mod Planned
 pub mod Planning

@@ -1,5 +1,5 @@
 -- A turn that is told by this reply, and so a run that is told by these, leads to one state.
-use Rattle.std.proofs.Common.{◌≡◌, ℕ, ◌==◌, true, false, List, [], ◌∷◌, ◌++◌, inl, inr, sym, ap, ◌∙◌, subst, arith}
+use Rattle.std.proofs.Common.{◌≡◌, ℕ, List, [], ◌∷◌, ◌++◌, inl, inr, sym, ap, ◌∙◌, subst, arith}
 use Rattle.std.proofs.lemmas.Bool.Decides.{eqb_tells}
 use Rattle.oa_groups.specs.Runs.{Run}
 use Rattle.oa_groups.specs.Turns.{Entry}

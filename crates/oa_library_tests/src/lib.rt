@@ -8,6 +8,8 @@ mod fits;
 #[cfg(test)]
 mod idl;
 #[cfg(test)]
+mod libraries;
+#[cfg(test)]
 mod rows;
 #[cfg(test)]
 mod table;

@@ -10,7 +10,6 @@ use oa_table::{CellName, Event, LiveObject, Place, Table, TableFault, laws};
 use oa_variant::{Scalar, Variant};
 use std::alloc::{AllocError, Global};
 use std::rt::HostRuntime;
-use std::test::Fail;
 use uuid::Uuid;
 
 /// A change of a table. The array and the null stand in cell 8 of the object 1.
@@ -162,6 +161,16 @@ fn answer(alloc: Global, table: &mut Table, ask: &Ask) -> Answer {
     }
 }
 
+/// The first row that a table does not answer so; nothing where it answers each.
+fn wrong_row(alloc: Global, table: &mut Table, rows: &[Row]) -> &'static str {
+    for row in rows {
+        if answer(alloc, table, &row.ask) != row.answer {
+            return row.name;
+        }
+    }
+    ""
+}
+
 fn put_array(alloc: Global, table: &mut Table, bounds: &[Bound]) -> Option<()> {
     let value = Variant::Array(SafeArray::create(alloc, VarType::I2, bounds).ok()?);
     let name = cell(alloc, 1, 8);
@@ -206,13 +215,8 @@ static ELEMENTS: [Row; 15] = rows! {
 #[test]
 fn arrays_keep_their_cells_by_position(rt: HostRuntime) {
     let mut table = with_array(rt.alloc(), &GRID);
-    for row in &ELEMENTS {
-        expect(
-            &rt,
-            row.name,
-            answer(rt.alloc(), &mut table, &row.ask) == row.answer,
-        );
-    }
+    let wrong = wrong_row(rt.alloc(), &mut table, &ELEMENTS);
+    expect(&rt, wrong, wrong.is_empty());
 }
 
 static LOCKS: [Row; 13] = rows! {
@@ -234,13 +238,8 @@ static LOCKS: [Row; 13] = rows! {
 #[test]
 fn a_locked_array_stays(rt: HostRuntime) {
     let mut table = with_array(rt.alloc(), &GRID);
-    for row in &LOCKS {
-        expect(
-            &rt,
-            row.name,
-            answer(rt.alloc(), &mut table, &row.ask) == row.answer,
-        );
-    }
+    let wrong = wrong_row(rt.alloc(), &mut table, &LOCKS);
+    expect(&rt, wrong, wrong.is_empty());
 }
 
 #[test]
@@ -248,9 +247,10 @@ fn a_cell_has_65535_locks_at_most(rt: HostRuntime) {
     let mut table = with_array(rt.alloc(), &[Bound { count: 0, lower: 0 }]);
     let name = cell(rt.alloc(), 1, 8);
     for count in 1..=65_535u16 {
-        assert!(rt; table.lock(&name) == Ok(count));
+        expect(&rt, "a lock", table.lock(&name) == Ok(count));
     }
-    assert!(rt; table.lock(&name) == Err(TableFault::Array(ArrayFault::Unexpected)));
+    let unexpected = Err(TableFault::Array(ArrayFault::Unexpected));
+    expect(&rt, "a lock more", table.lock(&name) == unexpected);
 }
 
 /// A table that has one more number to give.
@@ -263,19 +263,25 @@ static LAST: [Row; 2] = rows! {
     "none after it": Change(Create(4_294_967_295)) => Err(TableFault::WrongNumber);
 };
 
-#[test]
-fn the_last_number_is_4294967294(rt: HostRuntime) -> Result<(), Fail> {
-    let mut table = last_table(rt.alloc())?;
-    for row in &LAST {
-        expect(
-            &rt,
-            row.name,
-            answer(rt.alloc(), &mut table, &row.ask) == row.answer,
-        );
+/// The first row that this table does not answer so, and its next number behind them.
+fn wrong_row_of_last(alloc: Global) -> (&'static str, u32) {
+    match last_table(alloc) {
+        Ok(mut table) => (wrong_row(alloc, &mut table, &LAST), table.next()),
+        Err(_) => ("no table", 0),
     }
-    assert!(rt; table.next() == 4_294_967_295);
-    assert!(rt; TableFault::WrongNumber.code() == HResult::E_UNEXPECTED);
-    Ok(())
+}
+
+#[test]
+fn the_last_number_is_4294967294(rt: HostRuntime) {
+    let (wrong, next) = wrong_row_of_last(rt.alloc());
+    expect(&rt, wrong, wrong.is_empty());
+    expect(&rt, "the next number", next == 4_294_967_295);
+    let code = TableFault::WrongNumber.code();
+    expect(
+        &rt,
+        "the code of a wrong number",
+        code == HResult::E_UNEXPECTED,
+    );
 }
 
 static CELLS: [Row; 9] = rows! {
@@ -338,15 +344,11 @@ fn seen(alloc: Global, table: &Table) -> Vec<u32> {
 #[test]
 fn objects_and_cells_stand_in_their_order(rt: HostRuntime) {
     let mut table = Table::new(rt.alloc());
-    for row in &CELLS {
-        expect(
-            &rt,
-            row.name,
-            answer(rt.alloc(), &mut table, &row.ask) == row.answer,
-        );
-    }
-    assert!(rt; table.len() == 2);
-    assert!(rt; seen(rt.alloc(), &table).as_slice() == [1, 3].as_slice());
+    let wrong = wrong_row(rt.alloc(), &mut table, &CELLS);
+    expect(&rt, wrong, wrong.is_empty());
+    expect(&rt, "two objects", table.len() == 2);
+    let seen = seen(rt.alloc(), &table);
+    expect(&rt, "what they have", seen.as_slice() == [1, 3].as_slice());
     laws::locks_change_no_event();
     laws::parts_in_order_stay();
 }

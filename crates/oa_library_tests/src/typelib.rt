@@ -1,4 +1,5 @@
 //! What takes memory, with enough of it: checks and their refusals, look-ups of names, descriptions with defaults.
+use crate::libraries::library;
 use crate::rows::expect;
 use oa_idl::parse;
 use oa_typelib::{Content, DescribedMember, Library, check};
@@ -47,23 +48,19 @@ fn said_of(alloc: Global, sections: &str) -> Option<String> {
 }
 
 /// Whether this is said of the sections behind it.
-fn is_said(alloc: Global, row: &str) -> Option<bool> {
-    let (wanted, sections) = row.split_once(" | ")?;
-    let said = said_of(alloc, sections)?;
-    Some(said.as_str() == wanted)
+fn is_said(alloc: Global, row: &str) -> bool {
+    let (wanted, sections) = row.split_once(" | ").unwrap_or(("", ""));
+    match said_of(alloc, sections) {
+        Some(said) => said.as_str() == wanted,
+        None => false,
+    }
 }
 
 #[test]
 fn sections_are_checked(rt: HostRuntime) {
     for row in SAID.lines() {
-        expect(&rt, row, is_said(rt.alloc(), row) == Some(true));
+        expect(&rt, row, is_said(rt.alloc(), row));
     }
-}
-
-/// The library of those sections.
-fn library(alloc: Global) -> Option<Library> {
-    let tree = parse(alloc, text_of(alloc, SECTIONS).as_str()).ok()?;
-    check(alloc, tree).ok()
 }
 
 /// Puts the values of the defaults of members, with a blank behind each.
@@ -134,14 +131,20 @@ fn are_told(alloc: Global, library: &Library) -> (bool, bool) {
 }
 
 /// Whether its defaults and the DISPIDs of names are told. (What goes with a library is proved once, in `drop`.)
-fn looked_up(alloc: Global) -> Option<(bool, bool)> {
-    let library = library(alloc)?;
-    let are_told = are_told(alloc, &library);
-    drop(library);
-    Some(are_told)
+fn looked_up(alloc: Global) -> (bool, bool) {
+    match library(alloc, text_of(alloc, SECTIONS).as_str()) {
+        Some(library) => {
+            let are_told = are_told(alloc, &library);
+            drop(library);
+            are_told
+        }
+        None => (false, false),
+    }
 }
 
 #[test]
 fn libraries_are_looked_up(rt: HostRuntime) {
-    assert_eq!(rt; looked_up(rt.alloc()), Some((true, true)));
+    let (are_defaults, are_ids) = looked_up(rt.alloc());
+    expect(&rt, "defaults", are_defaults);
+    expect(&rt, "DISPIDs", are_ids);
 }

@@ -33,6 +33,11 @@ static COUNT: [Row; 4] = rows! {
     "what was put": 4, Get(1) => Gives(I4(7));
 };
 
+/// The same as a slice.
+fn count() -> &'static [Row] {
+    &COUNT
+}
+
 /// The last of these once more.
 static AGAIN: [Row; 1] = rows! {
     "what was put, once more": 5, Get(1) => Gives(I4(7));
@@ -239,10 +244,15 @@ pub(crate) fn played(alloc: Global, library: &str, tables: &[&[Row]]) -> Option<
 
 /// Ends a test with the rows to which was replied otherwise.
 pub(crate) fn expect_none(rt: &impl Abort, differences: Option<OtherReplies>) {
-    let Some(OtherReplies { count, text }) = differences else {
-        panic!(rt; "no server");
-    };
-    assert!(rt; count == 0, "{text}");
+    match differences {
+        None => expect(rt, false, "no server"),
+        Some(all) => expect(rt, all.count == 0, all.text.as_str()),
+    }
+}
+
+/// Ends a test if something does not hold.
+fn expect(rt: &impl Abort, holds: bool, what: &str) {
+    assert!(rt; holds, "{what}");
 }
 
 /// The rows to which `run` replies otherwise.
@@ -275,7 +285,7 @@ fn run_and_get(alloc: Global, server: &mut Server<NoDisk>, group: usize) -> Opti
     requires positive { 1 ≤ group }
     requires small { group ≤ max_group }
 {
-    let mut all = ran(alloc, server, &COUNT, group)?;
+    let mut all = ran(alloc, server, count(), group)?;
     all.ask_all(alloc, server, &[&AGAIN]);
     Some(all)
 }
@@ -343,16 +353,17 @@ fn are_answered(alloc: Global, group: usize) -> bool
     requires positive { 1 ≤ group }
     requires small { group ≤ max_group }
 {
-    let input = asked(alloc, &COUNT);
-    let want = wanted(alloc, &COUNT);
+    let input = asked(alloc, count());
+    let want = wanted(alloc, count());
     is_served(alloc, input.as_bytes(), group, closed(4), want.as_bytes())
 }
 
 #[test]
 fn always_out_of_memory_in_sessions(rt: HostRuntime) {
-    assert!(rt; are_answered(rt.alloc(), 1));
-    assert!(rt; are_answered(rt.alloc(), 3));
-    assert!(rt; are_answered(rt.alloc(), 1024));
+    let alloc = rt.alloc();
+    expect(&rt, are_answered(alloc, 1), "groups of 1");
+    expect(&rt, are_answered(alloc, 3), "groups of 3");
+    expect(&rt, are_answered(alloc, 1024), "groups of 1024");
 }
 
 /// Each refusal, one table after another on one server.
@@ -406,16 +417,32 @@ fn ends(alloc: Global, input: &str, replies: &[Row], requests: u64, why: End) ->
 #[test]
 fn sessions_end_without_replies(rt: HostRuntime) {
     let alloc = rt.alloc();
-    assert!(rt; ends(alloc, "", &[], 0, End::Closed));
-    assert!(rt; ends(alloc, "\n01", &[], 0, End::Closed));
-    assert!(rt; ends(alloc, "0g\n01", &[], 0, End::BadHex(1)));
+    expect(&rt, ends(alloc, "", &[], 0, End::Closed), "no line");
+    expect(
+        &rt,
+        ends(alloc, "\n01", &[], 0, End::Closed),
+        "an empty line",
+    );
+    expect(
+        &rt,
+        ends(alloc, "0g\n01", &[], 0, End::BadHex(1)),
+        "a digit that is none",
+    );
 }
 
 #[test]
 fn sessions_end_behind_their_replies(rt: HostRuntime) {
     let alloc = rt.alloc();
-    assert!(rt; ends(alloc, "01\n0\n", &UNTAGGED, 1, End::BadHex(2)));
-    assert!(rt; ends(alloc, "0700000063000000", &NO_OPCODE, 1, End::Closed));
+    expect(
+        &rt,
+        ends(alloc, "01\n0\n", &UNTAGGED, 1, End::BadHex(2)),
+        "half a byte",
+    );
+    expect(
+        &rt,
+        ends(alloc, "0700000063000000", &NO_OPCODE, 1, End::Closed),
+        "no end of a line",
+    );
 }
 
 /// Puts a body behind its length; none of these is too long for one.
@@ -435,15 +462,11 @@ fn asked_in_records(alloc: Global, rows: &[Row], more: &[u8]) -> Vec<u8> {
     input
 }
 
-/// The replies of some tables as records.
-fn wanted_in_records(alloc: Global, tables: &[&[Row]]) -> Vec<u8> {
-    let mut want = Vec::new(alloc);
-    for rows in tables {
-        for row in *rows {
-            put_record(&mut want, row.reply(alloc).as_slice());
-        }
+/// Puts the replies of some rows as records.
+fn put_replies(alloc: Global, want: &mut Vec<u8>, rows: &[Row]) {
+    for row in rows {
+        put_record(want, row.reply(alloc).as_slice());
     }
-    want
 }
 
 /// How a session of records with a new server went.
@@ -470,10 +493,12 @@ fn is_served_in_records(alloc: Global, input: &[u8], how: Served, want: &[u8]) -
     served == Some(how) && writer.bytes() == want
 }
 
-/// Whether the four worked bodies as records, and these bytes behind them, end so and have these replies.
-fn record_ends(alloc: Global, more: &[u8], replies: &[&[Row]], why: End) -> bool {
-    let input = asked_in_records(alloc, &COUNT, more);
-    let want = wanted_in_records(alloc, replies);
+/// Whether the four worked bodies as records, and these bytes behind them, end so and have their replies and these.
+fn record_ends(alloc: Global, more: &[u8], replies: &[Row], why: End) -> bool {
+    let input = asked_in_records(alloc, count(), more);
+    let mut want = Vec::new(alloc);
+    put_replies(alloc, &mut want, count());
+    put_replies(alloc, &mut want, replies);
     let how = Served { requests: 4, why };
     is_served_in_records(alloc, input.as_slice(), how, want.as_slice())
 }
@@ -481,10 +506,26 @@ fn record_ends(alloc: Global, more: &[u8], replies: &[&[Row]], why: End) -> bool
 #[test]
 fn records_have_lengths(rt: HostRuntime) {
     let alloc = rt.alloc();
-    assert!(rt; record_ends(alloc, &[], &[&COUNT], End::Closed));
-    assert!(rt; record_ends(alloc, &[0, 0, 0, 0, 1], &[&COUNT], End::Closed));
-    assert!(rt; record_ends(alloc, &[2, 0, 0, 0, 1], &[&COUNT, &UNTAGGED], End::Cut));
-    assert!(rt; record_ends(alloc, &[1, 0, 16, 0, 1], &[&COUNT, &UNTAGGED], End::TooLong));
+    expect(
+        &rt,
+        record_ends(alloc, &[], &[], End::Closed),
+        "nothing behind the records",
+    );
+    expect(
+        &rt,
+        record_ends(alloc, &[0, 0, 0, 0, 1], &[], End::Closed),
+        "a length of 0",
+    );
+    expect(
+        &rt,
+        record_ends(alloc, &[2, 0, 0, 0, 1], &UNTAGGED, End::Cut),
+        "a record that is cut",
+    );
+    expect(
+        &rt,
+        record_ends(alloc, &[1, 0, 16, 0, 1], &UNTAGGED, End::TooLong),
+        "a length too large",
+    );
 }
 
 /// Whether a line of so many digits, with another one behind it, has the reply to a body without a tag.
@@ -501,7 +542,8 @@ fn is_too_long(alloc: Global, digits: usize) -> Option<bool> {
 
 #[test]
 fn a_line_too_long_has_a_reply(rt: HostRuntime) {
-    assert!(rt; is_too_long(rt.alloc(), 2_097_153) == Some(true));
+    let holds = is_too_long(rt.alloc(), 2_097_153);
+    expect(&rt, holds == Some(true), "a digit too many");
 }
 
 /// How a session over a reader of the standard library went.
@@ -529,8 +571,13 @@ fn is_refused(alloc: Global, kind: ErrorKind, calls: u32) -> bool {
 
 #[test]
 fn readers_that_never_give_a_byte_end_a_session(rt: HostRuntime) {
-    assert!(rt; is_refused(rt.alloc(), ErrorKind::Interrupted, 4_194_304));
-    assert!(rt; is_refused(rt.alloc(), ErrorKind::Other, 1));
+    let alloc = rt.alloc();
+    expect(
+        &rt,
+        is_refused(alloc, ErrorKind::Interrupted, 4_194_304),
+        "interrupted",
+    );
+    expect(&rt, is_refused(alloc, ErrorKind::Other, 1), "another error");
 }
 
 /// Whether a session over a reader of one byte in every second call writes these bytes.
@@ -544,11 +591,16 @@ fn is_written_slowly(alloc: Global, input: &[u8], want: &[u8]) -> bool {
     served.is_some() && writer.bytes() == want
 }
 
+/// Whether the four worked bodies have their replies in such a session.
+fn are_written_slowly(alloc: Global) -> bool {
+    let input = asked(alloc, count());
+    let want = wanted(alloc, count());
+    is_written_slowly(alloc, input.as_bytes(), want.as_bytes())
+}
+
 #[test]
 fn a_byte_in_every_second_call_is_enough(rt: HostRuntime) {
-    let input = asked(rt.alloc(), &COUNT);
-    let want = wanted(rt.alloc(), &COUNT);
-    assert!(rt; is_written_slowly(rt.alloc(), input.as_bytes(), want.as_bytes()));
+    expect(&rt, are_written_slowly(rt.alloc()), "the worked bodies");
 }
 
 /// Whether a session over these bytes fails behind so many requests where the writer fails after so many calls, and leaves so many bytes.
@@ -578,8 +630,21 @@ fn fails(alloc: Global, group: usize, calls: u32, requests: u64, left: usize) ->
 
 #[test]
 fn nothing_is_read_past_a_failed_write(rt: HostRuntime) {
-    assert!(rt; fails(rt.alloc(), 1, 16, 1, 100));
-    assert!(rt; fails(rt.alloc(), 1, 17, 2, 50));
-    assert!(rt; fails(rt.alloc(), 3, 50, 3, 0));
-    assert!(rt; fails(rt.alloc(), 1024, 0, 1, 100));
+    let alloc = rt.alloc();
+    expect(
+        &rt,
+        fails(alloc, 1, 16, 1, 100),
+        "the first reply's last call",
+    );
+    expect(
+        &rt,
+        fails(alloc, 1, 17, 2, 50),
+        "the second reply's first call",
+    );
+    expect(
+        &rt,
+        fails(alloc, 3, 50, 3, 0),
+        "the last call of a group of 3",
+    );
+    expect(&rt, fails(alloc, 1024, 0, 1, 100), "the first call");
 }

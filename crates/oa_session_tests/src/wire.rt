@@ -556,9 +556,10 @@ impl Bytes {
         self.word(count_of(count));
     }
 
-    fn names(&mut self, tag: u32, look_up: &GetIds) {
-        self.look_up(tag, look_up, look_up.names.len());
-        for name in look_up.names {
+    /// A GETIDS of these names, whose other fields are `look_up`'s.
+    fn names(&mut self, tag: u32, look_up: &GetIds, names: &[&str]) {
+        self.look_up(tag, look_up, names.len());
+        for name in names {
             self.string(name);
         }
     }
@@ -571,11 +572,11 @@ impl Bytes {
         }
     }
 
-    /// An INVOKE up to its arguments.
-    fn invoke(&mut self, tag: u32, call: &Invoke, count: usize) {
+    /// An INVOKE of a member up to its arguments, whose other fields are `call`'s.
+    fn invoke(&mut self, tag: u32, dispid: i32, call: &Invoke, count: usize) {
         self.head(tag, 4);
         self.word(call.object);
-        self.many(&call.dispid.to_le_bytes());
+        self.many(&dispid.to_le_bytes());
         self.guid(call.interface);
         self.guid(call.riid);
         self.word(0);
@@ -587,18 +588,19 @@ impl Bytes {
     }
 
     fn call(&mut self, alloc: Global, tag: u32, call: &Invoke) {
-        self.invoke(tag, call, call.values.len());
+        self.invoke(tag, call.dispid, call, call.values.len());
         for value in call.values {
             self.variant(alloc, value);
         }
     }
 
-    fn get(&mut self, tag: u32, dispid: i32) {
-        self.invoke(tag, &Invoke { dispid, ..GET }, 0);
+    /// A put up to its new value.
+    fn put_of(&mut self, tag: u32, dispid: i32) {
+        self.invoke(tag, dispid, &PUT, 1);
     }
 
     fn put(&mut self, alloc: Global, tag: u32, dispid: i32, value: &Value) {
-        self.invoke(tag, &Invoke { dispid, ..PUT }, 1);
+        self.put_of(tag, dispid);
         self.variant(alloc, value);
     }
 
@@ -608,7 +610,7 @@ impl Bytes {
     }
 
     fn put_array(&mut self, alloc: Global, tag: u32, dispid: i32, array: &Array) {
-        self.invoke(tag, &Invoke { dispid, ..PUT }, 1);
+        self.put_of(tag, dispid);
         self.array_field(alloc, array);
     }
 
@@ -633,10 +635,10 @@ impl Bytes {
             Ask::Create(coclass) => self.create(tag, *coclass),
             Ask::CreateOf(len) => self.create_of(tag, *len),
             Ask::Opcode(opcode) => self.head(tag, *opcode),
-            Ask::Names(names) => self.names(tag, &GetIds { names, ..GET_IDS }),
-            Ask::LookUp(look_up) => self.names(tag, look_up),
+            Ask::Names(names) => self.names(tag, &GET_IDS, names),
+            Ask::LookUp(look_up) => self.names(tag, look_up, look_up.names),
             Ask::CellAndKeys(count) => self.cell_and_keys(tag, *count),
-            Ask::Get(dispid) => self.get(tag, *dispid),
+            Ask::Get(dispid) => self.invoke(tag, *dispid, &GET, 0),
             Ask::Put(dispid, value) => self.put(alloc, tag, *dispid, value),
             Ask::CutPut(dispid, value) => self.cut_put(alloc, tag, *dispid, value),
             Ask::PutArray(dispid, array) => self.put_array(alloc, tag, *dispid, array),
@@ -653,51 +655,33 @@ impl Bytes {
         self.word(0);
     }
 
-    /// What a reply without a refusal begins with.
-    fn success(&mut self, tag: u32) {
-        self.reply(tag, 0, NO_INDEX);
+    /// What the reply to a body of this tag begins with.
+    fn answer(&mut self, tag: u32, answer: &Answer) {
+        match answer {
+            Answer::Unknown(_) => self.reply(tag, UNKNOWN_NAME, NO_INDEX),
+            Answer::Refused(code) => self.reply(tag, *code, NO_INDEX),
+            Answer::RefusedAt(code, index) => self.reply(tag, *code, *index),
+            Answer::Untagged => self.reply(0, BAD_STUB, NO_INDEX),
+            _ => self.reply(tag, 0, NO_INDEX),
+        }
     }
 
-    fn number(&mut self, tag: u32, number: u32) {
-        self.success(tag);
-        self.word(number);
-        self.word(0);
-    }
-
-    fn gives(&mut self, alloc: Global, tag: u32, value: &Value) {
-        self.success(tag);
-        self.variant(alloc, value);
-    }
-
-    fn gives_array(&mut self, alloc: Global, tag: u32, array: &Array) {
-        self.success(tag);
-        self.array_field(alloc, array);
-    }
-
-    fn described(&mut self, alloc: Global, tag: u32, digits: &str) {
-        self.success(tag);
-        self.many(bytes_of(alloc, digits).as_slice());
-    }
-
-    fn found(&mut self, tag: u32, code: u32, ids: &[i32]) {
-        self.reply(tag, code, NO_INDEX);
+    fn found(&mut self, ids: &[i32]) {
         self.word(count_of(ids.len()));
         self.word(0);
         self.ids(ids);
     }
 
-    fn answer(&mut self, alloc: Global, tag: u32, answer: &Answer) {
+    /// What stands behind that.
+    fn results(&mut self, alloc: Global, answer: &Answer) {
         match answer {
-            Answer::Done => self.success(tag),
-            Answer::Number(number) => self.number(tag, *number),
-            Answer::Gives(value) => self.gives(alloc, tag, value),
-            Answer::GivesArray(array) => self.gives_array(alloc, tag, array),
-            Answer::Found(ids) => self.found(tag, 0, ids),
-            Answer::Unknown(ids) => self.found(tag, UNKNOWN_NAME, ids),
-            Answer::Described(digits) => self.described(alloc, tag, digits),
-            Answer::Refused(code) => self.reply(tag, *code, NO_INDEX),
-            Answer::RefusedAt(code, index) => self.reply(tag, *code, *index),
-            Answer::Untagged => self.reply(0, BAD_STUB, NO_INDEX),
+            Answer::Number(number) => self.many(&(*number as u64).to_le_bytes()),
+            Answer::Gives(value) => self.variant(alloc, value),
+            Answer::GivesArray(array) => self.array_field(alloc, array),
+            Answer::Found(ids) => self.found(ids),
+            Answer::Unknown(ids) => self.found(ids),
+            Answer::Described(digits) => self.many(bytes_of(alloc, digits).as_slice()),
+            _ => {}
         }
     }
 }
@@ -741,7 +725,8 @@ impl Row {
     /// The body of the reply.
     pub(crate) fn reply(&self, alloc: Global) -> Vec<u8> {
         let mut bytes = Bytes::new(alloc);
-        bytes.answer(alloc, self.tag, &self.answer);
+        bytes.answer(self.tag, &self.answer);
+        bytes.results(alloc, &self.answer);
         bytes.bytes
     }
 }

@@ -186,14 +186,18 @@ fn image_left(written: &[Written], synced: u64, moment: u64, tear: Tear) -> [u8;
     image
 }
 
-/// The script's last sync that has ended at a moment.
-fn synced_at(moment: u64) -> u64 {
-    match moment {
-        0..6 => 0,
-        6..12 => 3,
-        12..20 => 6,
-        _ => 10,
+/// The moments at which the script's syncs have ended, and their calls.
+const SYNCS: [(u64, u64); 3] = [(6, 3), (12, 6), (20, 10)];
+
+/// The last of these syncs that has ended at a moment.
+fn synced_at(syncs: &[(u64, u64)], moment: u64) -> u64 {
+    let mut last = 0u64;
+    for (ended, call) in syncs {
+        if *ended <= moment {
+            last = *call;
+        }
     }
+    last
 }
 
 /// Whether the disk holds those bytes.
@@ -211,20 +215,29 @@ fn leaves(disk: &MemoryDisk, moment: u64, tear: Tear, wanted: &[u8]) -> Result<b
     holds(&left, wanted)
 }
 
+/// The first moment and tear at which a crash leaves other bytes than these writes and syncs do.
+fn first_other_image(
+    disk: &MemoryDisk,
+    written: &[Written],
+    syncs: &[(u64, u64)],
+) -> Result<Option<(u64, Tear)>, AllocError> {
+    for moment in 0..disk.moments().saturating_add(1) {
+        for tear in TEARS {
+            let wanted = image_left(written, synced_at(syncs, moment), moment, tear);
+            if !leaves(disk, moment, tear, &wanted)? {
+                return Ok(Some((moment, tear)));
+            }
+        }
+    }
+    Ok(None)
+}
+
 #[test]
 fn each_tear_at_each_moment(rt: HostRuntime) -> Result<(), Fail> {
     let mut disk = MemoryDisk::new(rt.alloc(), SIZE, SCRIPT.len(), WRITTEN.len())?;
-    assert_eq!(rt; play(&mut disk, &SCRIPT), 12);
-    assert_eq!(rt; disk.moments(), 24);
-    for moment in 0..25 {
-        for tear in TEARS {
-            let wanted = image_left(&WRITTEN, synced_at(moment), moment, tear);
-            assert!(rt;
-                leaves(&disk, moment, tear, &wanted)?,
-                "moment {moment}, {tear:?}"
-            );
-        }
-    }
+    let made = (play(&mut disk, &SCRIPT), disk.moments());
+    let other = first_other_image(&disk, &WRITTEN, &SYNCS)?;
+    assert_eq!(rt; (made, other), ((12, 24), None));
     Ok(())
 }
 
@@ -253,7 +266,7 @@ const BY_HAND: [(u64, Tear, [u8; SIZE]); 5] = [
 fn some_images_by_hand(rt: HostRuntime) -> Result<(), Fail> {
     for (moment, tear, wanted) in BY_HAND {
         assert_eq!(rt;
-            image_left(&WRITTEN, synced_at(moment), moment, tear),
+            image_left(&WRITTEN, synced_at(&SYNCS, moment), moment, tear),
             wanted
         );
     }
@@ -280,13 +293,22 @@ const PAST_THE_ROOM: [Row; 7] = [
     ((Sync, 0, &[]), Err(DeviceFault::Write), 4),
 ];
 
+/// What a disk with room for three calls and five bytes holds behind calls past it, and how many moments it has.
+fn keeps_its_room(alloc: Global) -> Result<bool, AllocError> {
+    let mut disk = MemoryDisk::new(alloc, 8, 3, 5)?;
+    let is_told = answers(&mut disk, &PAST_THE_ROOM) && disk.moments() == 6;
+    Ok(is_told && holds(&disk, &[1, 2, 3, 0, 4, 5, 0, 0])?)
+}
+
 #[test]
 fn a_call_past_the_room_is_a_counted_failure(rt: HostRuntime) -> Result<(), Fail> {
+    assert!(rt; keeps_its_room(rt.alloc())?);
+    Ok(())
+}
+
+#[test]
+fn a_crashed_disk_starts_again(rt: HostRuntime) -> Result<(), Fail> {
     assert!(rt; starts_again(rt.alloc())?);
-    let mut disk = MemoryDisk::new(rt.alloc(), 8, 3, 5)?;
-    assert!(rt; answers(&mut disk, &PAST_THE_ROOM));
-    assert!(rt; holds(&disk, &[1, 2, 3, 0, 4, 5, 0, 0])?);
-    assert_eq!(rt; disk.moments(), 6);
     Ok(())
 }
 
@@ -325,9 +347,8 @@ fn a_fuse_passes_the_calls_before_it_on(rt: HostRuntime) -> Result<(), Fail> {
 #[test]
 fn a_disk_of_no_bytes(rt: HostRuntime) -> Result<(), Fail> {
     let mut disk = NoDisk::new();
-    assert_eq!(rt; disk.read_at(0, &mut []), Ok(()));
-    assert_eq!(rt; disk.write_at(0, &[]), Ok(()));
-    assert_eq!(rt; disk.sync(), Ok(()));
+    let answers = [disk.read_at(0, &mut []), disk.write_at(0, &[]), disk.sync()];
+    assert_eq!(rt; answers, [Ok(()), Ok(()), Ok(())]);
     assert_eq!(rt; (disk.size(), disk.failures()), (0, 0));
     Ok(())
 }
@@ -335,33 +356,34 @@ fn a_disk_of_no_bytes(rt: HostRuntime) -> Result<(), Fail> {
 /// Three bytes and, behind a sync, their gate.
 const GATED: [Written; 4] = [(1, 5, 7), (1, 6, 8), (1, 7, 9), (3, 4, 1)];
 
-/// The last sync before a moment of these four calls.
-fn synced_behind(moment: u64) -> u64 {
-    match moment {
-        0..4 => 0,
-        4..8 => 2,
-        _ => 4,
-    }
-}
+/// The moments at which the syncs of these four calls have ended.
+const GATE_SYNCS: [(u64, u64); 2] = [(4, 2), (8, 4)];
 
 #[test]
 fn a_gate_is_open_once_the_bytes_are_whole(rt: HostRuntime) -> Result<(), Fail> {
     let mut disk = MemoryDisk::new(rt.alloc(), SIZE, 7, 16)?;
-    assert_eq!(rt; write_then_flip(&mut disk, 5, &[7, 8, 9], 4, 1), Ok(()));
-    assert_eq!(rt; disk.moments(), 8);
-    for moment in 0..9 {
-        for tear in TEARS {
-            let wanted = image_left(&GATED, synced_behind(moment), moment, tear);
-            assert!(rt;
-                leaves(&disk, moment, tear, &wanted)?,
-                "moment {moment}, {tear:?}"
-            );
-        }
-    }
-    assert_eq!(rt; flip(&mut disk, 4, 0), Ok(()));
-    // The room of the record is used up.
-    assert_eq!(rt; flip(&mut disk, 4, 1), Err(DeviceFault::Write));
-    assert!(rt; holds(&disk, &[0, 0, 0, 0, 0, 7, 8, 9, 0, 0, 0, 0, 0, 0, 0, 0])?);
+    let made = (
+        write_then_flip(&mut disk, 5, &[7, 8, 9], 4, 1),
+        disk.moments(),
+    );
+    let other = first_other_image(&disk, &GATED, &GATE_SYNCS)?;
+    assert_eq!(rt; (made, other), ((Ok(()), 8), None));
+    Ok(())
+}
+
+/// What a gate is answered when it is closed, and opened once the room of the record is used up, and whether the disk holds what was written before.
+fn closes(alloc: Global) -> Result<([Result<(), DeviceFault>; 3], bool), AllocError> {
+    let mut disk = MemoryDisk::new(alloc, SIZE, 7, 16)?;
+    let made = write_then_flip(&mut disk, 5, &[7, 8, 9], 4, 1);
+    let answers = [made, flip(&mut disk, 4, 0), flip(&mut disk, 4, 1)];
+    let is_kept = holds(&disk, &[0, 0, 0, 0, 0, 7, 8, 9, 0, 0, 0, 0, 0, 0, 0, 0])?;
+    Ok((answers, is_kept))
+}
+
+#[test]
+fn a_gate_is_closed_and_stays_so_without_room(rt: HostRuntime) -> Result<(), Fail> {
+    let wanted = [Ok(()), Ok(()), Err(DeviceFault::Write)];
+    assert_eq!(rt; closes(rt.alloc())?, (wanted, true));
     Ok(())
 }
 
@@ -420,15 +442,23 @@ const CUT_AT_8: [Row; 4] = [
     ((Read, 8, &[21]), Err(DeviceFault::Read), 2),
 ];
 
+/// Makes the file shorter, as another program would.
+fn cut(rt: &HostRuntime) -> io::Result<()> {
+    OpenOptions::new().write(true).open(rt, PATH)?.set_len(8)
+}
+
+/// Whether what is open stays a disk of its length while its file is made shorter.
+fn meets_when_cut(rt: &HostRuntime) -> bool {
+    let disk = FileDisk::open(rt, PATH);
+    cut(rt).is_ok() && meets(disk, 16, &CUT_AT_8)
+}
+
 #[test]
 fn a_file_keeps_what_was_synced(rt: HostRuntime) -> Result<(), Fail> {
     let _ = fs::remove_file(&rt, PATH);
-    assert!(rt; is_written(FileDisk::create(&rt, PATH, 16)));
-    assert!(rt; meets(FileDisk::open(&rt, PATH), 16, &WHOLE));
-    // A file that is made shorter by another.
-    let disk = FileDisk::open(&rt, PATH);
-    OpenOptions::new().write(true).open(&rt, PATH)?.set_len(8)?;
-    assert!(rt; meets(disk, 16, &CUT_AT_8));
+    let written = is_written(FileDisk::create(&rt, PATH, 16));
+    let whole = meets(FileDisk::open(&rt, PATH), 16, &WHOLE);
+    assert_eq!(rt; [written, whole, meets_when_cut(&rt)], [true; 3]);
     fs::remove_file(&rt, PATH)?;
     Ok(())
 }
@@ -459,28 +489,42 @@ const NOT_MADE: [(&str, u64, ErrorKind); 4] = [
     ("oa_disk_large", 1 << 63, ErrorKind::InvalidInput),
 ];
 
+/// The first of the paths that is opened, or refused otherwise.
+fn first_opened(rt: &HostRuntime) -> Option<&'static str> {
+    for (path, wanted) in NO_DISKS {
+        if refusal(FileDisk::open(rt, path)) != Some(wanted) {
+            return Some(path);
+        }
+    }
+    None
+}
+
+/// The first of the paths at which a disk is made, or refused otherwise. What could not be filled is removed again.
+fn first_made(rt: &HostRuntime) -> Option<&'static str> {
+    for (path, size, wanted) in NOT_MADE {
+        if refusal(FileDisk::create(rt, path, size)) != Some(wanted) {
+            return Some(path);
+        }
+    }
+    if refusal(FileDisk::open(rt, "oa_disk_large")) != Some(ErrorKind::NotFound) {
+        return Some("oa_disk_large");
+    }
+    None
+}
+
+/// Whether a file that is only to be read is refused. A user who may do anything opens it all the same.
+fn is_read_only(rt: &HostRuntime) -> io::Result<bool> {
+    fs::set_permissions(rt, THERE, Permissions::from_mode(0o444))?;
+    let found = refusal(FileDisk::open(rt, THERE));
+    Ok(found.is_none() || found == Some(ErrorKind::PermissionDenied))
+}
+
 #[test]
 fn a_path_that_is_no_disk(rt: HostRuntime) -> Result<(), Fail> {
     let _ = fs::remove_file(&rt, THERE);
     fs::write(&rt, THERE, b"abc".as_slice())?;
-    for (path, wanted) in NO_DISKS {
-        assert!(rt;
-            refusal(FileDisk::open(&rt, path)) == Some(wanted),
-            "{path}"
-        );
-    }
-    for (path, size, wanted) in NOT_MADE {
-        assert!(rt;
-            refusal(FileDisk::create(&rt, path, size)) == Some(wanted),
-            "{path}"
-        );
-    }
-    // What could not be filled is removed again.
-    assert!(rt; refusal(FileDisk::open(&rt, "oa_disk_large")) == Some(ErrorKind::NotFound));
-    // A user who may do anything opens a file that is only to be read all the same.
-    fs::set_permissions(&rt, THERE, Permissions::from_mode(0o444))?;
-    let found = refusal(FileDisk::open(&rt, THERE));
-    assert!(rt; found.is_none() || found == Some(ErrorKind::PermissionDenied));
+    assert_eq!(rt; (first_opened(&rt), first_made(&rt)), (None, None));
+    assert!(rt; is_read_only(&rt)?);
     fs::remove_file(&rt, THERE)?;
     Ok(())
 }

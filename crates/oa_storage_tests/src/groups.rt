@@ -16,10 +16,18 @@ const ROWS: [(usize, usize, usize, bool); 9] = [
     (1024, 1024, 0, true),
 ];
 
+/// The first row that is answered otherwise.
+fn first_other() -> Option<(usize, usize, usize)> {
+    for (size, count, bytes, ends) in ROWS {
+        if is_full(size, count, bytes) != ends {
+            return Some((size, count, bytes));
+        }
+    }
+    None
+}
+
 #[test]
 fn where_groups_end(rt: HostRuntime) -> Result<(), Fail> {
-    for (size, count, bytes, ends) in ROWS {
-        assert_eq!(rt; is_full(size, count, bytes), ends, "{size} {count} {bytes}");
-    }
+    assert_eq!(rt; first_other(), None);
     Ok(())
 }

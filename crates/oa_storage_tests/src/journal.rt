@@ -128,6 +128,11 @@ impl Tried {
         room_of(self.alloc, &mut bank, &mut disk)
     }
 
+    /// The bank as it is left in the end.
+    fn last(&self) -> Result<u32, BankFault> {
+        self.left(self.disk.moments(), Tear::Kept)
+    }
+
     /// How long its library is.
     fn library(&self) -> Result<usize, BankFault> {
         let mut disk = self.crashed(self.disk.moments(), Tear::Kept)?;
@@ -187,16 +192,20 @@ fn first_unlike(tried: &mut Tried) -> Option<usize> {
     None
 }
 
+/// The room of a bank, the answer to a create, and the room behind it.
+fn rooms_around_a_create(tried: &mut Tried) -> (u32, Result<(), AppendFault>, u32) {
+    let without = tried.bank.room();
+    let added = tried.add(&[create()]);
+    (without, added, tried.bank.room())
+}
+
 #[test]
 fn a_bank_takes_groups_as_long_as_they_fit(rt: HostRuntime) -> Result<(), Fail> {
     let Ok(mut tried) = Tried::new(rt.alloc(), 0, 16_777_216, 300, 16_800_000) else {
         return Ok(assert!(rt; false));
     };
-    assert_eq!(rt; tried.bank.room(), WITHOUT);
-    assert_eq!(rt; tried.add(&[create()]), Ok(()));
-    assert_eq!(rt; tried.bank.room(), WITH);
-    assert_eq!(rt; first_unlike(&mut tried), None);
-    assert_eq!(rt; tried.left(tried.disk.moments(), Tear::Kept), Ok(1));
+    assert_eq!(rt; rooms_around_a_create(&mut tried), (WITHOUT, Ok(()), WITH));
+    assert_eq!(rt; (first_unlike(&mut tried), tried.last()), (None, Ok(1)));
     Ok(())
 }
 
@@ -252,22 +261,29 @@ fn first_part(tried: &Tried) -> Option<(u64, Tear)> {
     None
 }
 
+/// The first of all these crashes that leaves what it should not.
+fn first_wrong(tried: &Tried) -> Option<(u64, Tear)> {
+    match first_part(tried) {
+        None => first_other(tried),
+        found => found,
+    }
+}
+
+/// Whether a bank over a disk with no call left in its record fails once, and is stopped from then on.
+fn stops(tried: &mut Tried) -> bool {
+    tried.add_text(1) == Err(AppendFault::Device(DeviceFault::Write))
+        && tried.add_text(1) == Err(AppendFault::Stopped)
+}
+
 #[test]
 fn a_group_is_there_whole_or_not_at_all(rt: HostRuntime) -> Result<(), Fail> {
     let Ok(mut tried) = Tried::new(rt.alloc(), 0, 16_777_216, 6, 400) else {
         return Ok(assert!(rt; false));
     };
-    assert_eq!(rt; tried.add(&[create()]), Ok(()));
     // a write and a sync, then a write, a sync, the gate's write and a sync
-    assert_eq!(rt; tried.disk.moments(), 12);
-    assert_eq!(rt; first_part(&tried), None);
-    assert_eq!(rt; first_other(&tried), None);
-    // No call is left in the disk's record: the bank stops.
-    assert_eq!(rt;
-        tried.add_text(1),
-        Err(AppendFault::Device(DeviceFault::Write))
-    );
-    assert_eq!(rt; tried.add_text(1), Err(AppendFault::Stopped));
+    let made = tried.add(&[create()]) == Ok(()) && tried.disk.moments() == 12;
+    assert_eq!(rt; (made, first_wrong(&tried)), (true, None));
+    assert!(rt; stops(&mut tried));
     Ok(())
 }
 
@@ -299,38 +315,47 @@ fn first_untold(tried: &Tried) -> Option<(u64, u8)> {
     None
 }
 
+/// The bank behind a group of these events, as if without room where it is refused.
+fn behind(tried: &mut Tried, events: &[Event]) -> Result<u32, BankFault> {
+    match tried.add(events) {
+        Ok(()) => tried.last(),
+        Err(_) => Ok(0),
+    }
+}
+
 #[test]
 fn damage_is_told_by_its_place(rt: HostRuntime) -> Result<(), Fail> {
     let Ok(mut tried) = Tried::new(rt.alloc(), 8192, 16_785_408, 20, 800) else {
         return Ok(assert!(rt; false));
     };
-    assert_eq!(rt; tried.add(&[create()]), Ok(()));
-    assert_eq!(rt; first_untold(&tried), None);
-    // an event that does not apply: the object 1 is there
-    assert_eq!(rt; tried.add(&[create()]), Ok(()));
-    let again = tried.left(tried.disk.moments(), Tear::Kept);
-    assert_eq!(rt; again, Err(BankFault::Damaged(8537)));
-    // the library alone is read
-    assert_eq!(rt; tried.library(), Ok(279));
+    let first = behind(&mut tried, &[create()]);
+    assert_eq!(rt; (first, first_untold(&tried)), (Ok(WITH), None));
+    // an event that does not apply: the object 1 is there; the library alone is read
+    let again = behind(&mut tried, &[create()]);
+    let read = (again, tried.library());
+    assert_eq!(rt; read, (Err(BankFault::Damaged(8537)), Ok(279)));
     Ok(())
 }
 
 /// The room behind a group of the create and a text of four bytes: 5 bytes, 21 and 37 fewer.
 const WITH_BOTH: u32 = 16_776_834;
 
+/// The bank behind a group of both.
+fn add_both(tried: &mut Tried) -> Result<u32, BankFault> {
+    let Ok(text) = put_text(tried.alloc, 4) else {
+        return Err(BankFault::Memory);
+    };
+    behind(tried, &[create(), text])
+}
+
 #[test]
 fn the_events_of_a_group_are_made_in_turn(rt: HostRuntime) -> Result<(), Fail> {
     let Ok(mut tried) = Tried::new(rt.alloc(), 8192, 16_785_408, 20, 800) else {
         return Ok(assert!(rt; false));
     };
-    let group = [create(), put_text(rt.alloc(), 4)?];
-    assert_eq!(rt; tried.add(&group), Ok(()));
-    let whole = tried.left(tried.disk.moments(), Tear::Kept);
-    assert_eq!(rt; whole, Ok(WITH_BOTH));
     // once more: the object 1 is there
-    assert_eq!(rt; tried.add(&group), Ok(()));
-    let again = tried.left(tried.disk.moments(), Tear::Kept);
-    assert_eq!(rt; again, Err(BankFault::Damaged(8574)));
+    let both = [add_both(&mut tried), add_both(&mut tried)];
+    assert_eq!(rt; both, [Ok(WITH_BOTH), Err(BankFault::Damaged(8574))]);
     laws::one_bank();
     laws::one_replay();
     laws::damage_is_no_bank();

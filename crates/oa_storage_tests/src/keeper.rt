@@ -114,12 +114,25 @@ fn come_and_go(
     Ok(is_out && end(store, &mut frame) && come == (42, 3) && gone == 5)
 }
 
+/// The disk behind a table to which two objects come, of which one goes.
+fn left(alloc: Global, size: usize) -> Result<MemoryDisk, &'static str> {
+    let Ok((mut store, mut table)) = made(alloc, size) else {
+        return Err("no store");
+    };
+    if refusal_of(&table, &Event::Release { number: 1 }) != Some(TableFault::NoObject) {
+        return Err("an object at first");
+    }
+    match come_and_go(alloc, &mut store, &mut table) {
+        Ok(true) => Ok(store.into_disk()),
+        _ => Err("no groups"),
+    }
+}
+
 #[test]
 fn events_go_out_group_by_group(rt: HostRuntime) -> Result<(), Fail> {
-    let (mut store, mut table) = made(rt.alloc(), SIZE)?;
-    let none = refusal_of(&table, &Event::Release { number: 1 });
-    assert_eq!(rt; none, Some(TableFault::NoObject));
-    assert!(rt; come_and_go(rt.alloc(), &mut store, &mut table)?);
-    assert_eq!(rt; held(rt.alloc(), &mut store.into_disk())?, (3, false, true));
+    match left(rt.alloc(), SIZE) {
+        Ok(mut disk) => assert_eq!(rt; held(rt.alloc(), &mut disk)?, (3, false, true)),
+        Err(why) => assert!(rt; false, "{why}"),
+    }
     Ok(())
 }

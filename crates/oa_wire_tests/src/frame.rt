@@ -160,12 +160,14 @@ fn goes(alloc: Global, case: &Case, cuts: &[usize], times: u64) -> bool {
         && writer.bytes() == case.written
 }
 
+static TIMES: [u64; 3] = [0, 1, 5];
+
 #[test]
 fn cuts_and_interruptions_change_nothing(rt: HostRuntime) {
     for cuts in &CUTS {
-        for times in [0, 1, 5] {
+        for times in &TIMES {
             for case in &CASES {
-                expect(&rt, case.name, goes(rt.alloc(), case, cuts, times));
+                expect(&rt, case.name, goes(rt.alloc(), case, cuts, *times));
             }
         }
     }
@@ -188,9 +190,11 @@ fn ends(alloc: Global, framing: Framing, times: u64, why: End) -> bool {
 fn so_many_interruptions_are_a_fault(rt: HostRuntime) {
     laws::one_line();
     laws::one_end();
-    for framing in [Framing::HexLines, Framing::Records] {
-        assert!(rt; ends(rt.alloc(), framing, 4_194_303, End::Closed));
-        assert!(rt; ends(rt.alloc(), framing, 4_194_304, End::ReadFault));
+    for framing in &[Framing::HexLines, Framing::Records] {
+        let is_closed = ends(rt.alloc(), *framing, 4_194_303, End::Closed);
+        expect(&rt, "one interruption fewer", is_closed);
+        let is_fault = ends(rt.alloc(), *framing, 4_194_304, End::ReadFault);
+        expect(&rt, "so many interruptions", is_fault);
     }
 }
 
@@ -221,6 +225,7 @@ fn over(alloc: Global, device: &mut Unflushed, bytes: &[u8]) -> Result<(u64, End
 #[test]
 fn a_flush_that_fails_is_a_write_fault(rt: HostRuntime) {
     let mut device = Unflushed { flushes: 0 };
-    assert!(rt; over(rt.alloc(), &mut device, b"00\n") == Ok((1, End::WriteFault)));
-    assert!(rt; device.flushes == 1);
+    let end = over(rt.alloc(), &mut device, b"00\n");
+    expect(&rt, "the end", end == Ok((1, End::WriteFault)));
+    expect(&rt, "one flush", device.flushes == 1);
 }

@@ -161,15 +161,15 @@ fn events_of_objects_have_their_images(rt: HostRuntime) {
         class: guid(3),
     };
     let image = "01 01000000 443322116655887799aabbccddeeff03";
-    assert!(rt; is_spelled(alloc, create, image));
+    expect(&rt, "a create", is_spelled(alloc, create, image));
     let release = Event::Release { number: 258 };
-    assert!(rt; is_spelled(alloc, release, "02 02010000"));
+    expect(&rt, "a release", is_spelled(alloc, release, "02 02010000"));
     let put = Event::Put {
         name: property(alloc, 1),
         value: Variant::One(Scalar::I4(7)),
     };
     let image = "03 01000000 443322116655887799aabbccddeeff02 01000000 0000 0300 07000000";
-    assert!(rt; is_spelled(alloc, put, image));
+    expect(&rt, "a put", is_spelled(alloc, put, image));
 }
 
 /// The element at [-1, 5] of the array with the DISPID 8 is the I2 6; its first bound has 3 indices from 10 on.
@@ -177,7 +177,7 @@ fn events_of_objects_have_their_images(rt: HostRuntime) {
 fn events_of_arrays_have_their_images(rt: HostRuntime) {
     let alloc = rt.alloc();
     let mut indices = Vec::new(alloc);
-    assert!(rt; indices.extend_from_slice(&[-1, 5]).is_ok());
+    let _ = indices.extend_from_slice(&[-1, 5]);
     let put_element = Event::PutElement {
         name: property(alloc, 8),
         index: Indices::new(indices),
@@ -185,7 +185,11 @@ fn events_of_arrays_have_their_images(rt: HostRuntime) {
     };
     let image =
         "04 01000000 443322116655887799aabbccddeeff02 08000000 0000 0200 ffffffff 05000000 0200 0600";
-    assert!(rt; is_spelled(alloc, put_element, image));
+    expect(
+        &rt,
+        "a put of an element",
+        is_spelled(alloc, put_element, image),
+    );
     let redim = Event::Redim {
         name: property(alloc, 8),
         bound: Bound {
@@ -194,7 +198,7 @@ fn events_of_arrays_have_their_images(rt: HostRuntime) {
         },
     };
     let image = "05 01000000 443322116655887799aabbccddeeff02 08000000 0000 03000000 0a000000";
-    assert!(rt; is_spelled(alloc, redim, image));
+    expect(&rt, "a redim", is_spelled(alloc, redim, image));
 }
 
 /// The table with the one object 1, of the coclass with the GUID 3, whose Count is 7.
@@ -236,8 +240,9 @@ fn is_no_table(alloc: Global, digits: &str) -> bool {
 #[test]
 fn tables_have_their_images(rt: HostRuntime) {
     let alloc = rt.alloc();
-    assert!(rt; is_image_of_table(alloc, &Table::new(alloc), "01000000 00000000"));
-    assert!(rt; is_read(alloc, TABLE));
+    let is_empty = is_image_of_table(alloc, &Table::new(alloc), "01000000 00000000");
+    expect(&rt, "no objects", is_empty);
+    expect(&rt, TABLE, is_read(alloc, TABLE));
     for digits in NO_TABLES.lines() {
         expect(&rt, digits, is_no_table(alloc, digits));
     }
@@ -266,9 +271,18 @@ fn is_key(alloc: Global, key: &[Scalar], digits: &str) -> bool {
 #[test]
 fn rows_stand_one_behind_the_other(rt: HostRuntime) {
     let alloc = rt.alloc();
-    assert!(rt; count_of(alloc, "02 01000000 02 02000000") == Some(2));
+    let count = count_of(alloc, "02 01000000 02 02000000");
+    expect(&rt, "two releases", count == Some(2));
     let short = refusal_of(alloc, "03 01000000 4433221166");
-    assert!(rt; short == Some(ImageFault::Damaged(5)));
+    expect(
+        &rt,
+        "an event that is cut",
+        short == Some(ImageFault::Damaged(5)),
+    );
     let key = [Scalar::I2(7), Scalar::Bool(true)];
-    assert!(rt; is_key(alloc, &key, "0200 0700 0b00 01"));
+    expect(
+        &rt,
+        "a key of two scalars",
+        is_key(alloc, &key, "0200 0700 0b00 01"),
+    );
 }

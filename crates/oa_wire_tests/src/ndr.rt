@@ -100,7 +100,7 @@ fn units_stand_at_multiples_of_their_size(rt: HostRuntime) {
     for row in &REFERENTS {
         expect(&rt, row.name, is_read(&mut ahead, row));
     }
-    assert!(rt; ahead.rest().is_empty());
+    expect(&rt, "no bytes behind them", ahead.rest().is_empty());
     for row in &BYTES {
         expect(&rt, row.name, is_read(&mut reader, row));
     }
@@ -176,8 +176,14 @@ static PARTS: [u8; 40] = [
 #[test]
 fn writer_counts_from_the_start_of_its_field(rt: HostRuntime) {
     let mut writer = begun(rt.alloc());
-    assert!(rt; cut(&mut writer) == (Ok(()), [8, 8, 1]));
-    assert!(rt; put_parts(&mut writer) == [Ok(()); 9]);
-    assert!(rt; writer.written() == PARTS.as_slice());
-    assert!(rt; writer.into_vec().strip_prefix(&[7, 7, 7]) == Some(PARTS.as_slice()));
+    expect(&rt, "a cut", cut(&mut writer) == (Ok(()), [8, 8, 1]));
+    expect(&rt, "puts", put_parts(&mut writer) == [Ok(()); 9]);
+    let parts = PARTS.as_slice();
+    expect(&rt, "their bytes", writer.written() == parts);
+    let bytes = writer.into_vec();
+    expect(
+        &rt,
+        "all bytes",
+        bytes.strip_prefix(&[7, 7, 7]) == Some(parts),
+    );
 }

@@ -45,44 +45,62 @@ fn a_body_of_each_opcode_asks(rt: HostRuntime) {
     }
 }
 
-/// Whether a field was made, of these bytes.
-fn is_made<E: Drop>(alloc: Global, made: Result<Vec<u8>, E>, digits: &str) -> bool {
-    match made {
-        Ok(field) => field.as_slice() == bytes_of(alloc, digits).as_slice(),
-        Err(_) => false,
+/// What a field is made of.
+#[derive(Clone, Copy)]
+enum Part {
+    Number,
+    Scalar,
+    Variant,
+    Text,
+    Ids,
+}
+
+/// A field of the number 258, of the I4 7 as a scalar or a variant, of "DItem", or of DISPIDs.
+fn made(alloc: Global, part: Part) -> Option<Vec<u8>> {
+    match part {
+        Part::Number => number_field(alloc, 258).ok(),
+        Part::Scalar => scalar_field(alloc, &Scalar::I4(7)).ok(),
+        Part::Variant => variant_field(alloc, &Variant::One(Scalar::I4(7))).ok(),
+        Part::Text => string_field(alloc, b"DItem").ok(),
+        Part::Ids => ids_field(alloc, &[9, 1, -1]).ok(),
     }
 }
 
+/// Whether a field is made, of these bytes.
+fn is_made(alloc: Global, part: Part, digits: &str) -> bool {
+    match made(alloc, part) {
+        Some(field) => field.as_slice() == bytes_of(alloc, digits).as_slice(),
+        None => false,
+    }
+}
+
+/// What a field is made of, and its bytes.
+struct Field {
+    name: &'static str,
+    part: Part,
+    digits: &'static str,
+}
+
+/// A table of fields, one a line.
+macro_rules! fields {
+    ($($name:literal: $part:expr => $digits:expr;)*) => {
+        [$(Field { name: $name, part: $part, digits: $digits }),*]
+    };
+}
+
+static FIELDS: [Field; 5] = fields! {
+    "a number": Part::Number => "0201000000000000";
+    "a scalar": Part::Scalar => SEVEN;
+    "a variant": Part::Variant => SEVEN;
+    "a string": Part::Text => ITEM;
+    "DISPIDs": Part::Ids => "0300000000000000 09000000 01000000 ffffffff 00000000";
+};
+
 #[test]
 fn fields_are_made(rt: HostRuntime) {
-    let seven = Scalar::I4(7);
-    let alloc = rt.alloc();
-    let ids = "0300000000000000 09000000 01000000 ffffffff 00000000";
-    expect(
-        &rt,
-        "a number",
-        is_made(alloc, number_field(alloc, 258), "0201000000000000"),
-    );
-    expect(
-        &rt,
-        "a scalar",
-        is_made(alloc, scalar_field(alloc, &seven), SEVEN),
-    );
-    expect(
-        &rt,
-        "a variant",
-        is_made(alloc, variant_field(alloc, &Variant::One(seven)), SEVEN),
-    );
-    expect(
-        &rt,
-        "a string",
-        is_made(alloc, string_field(alloc, b"DItem"), ITEM),
-    );
-    expect(
-        &rt,
-        "DISPIDs",
-        is_made(alloc, ids_field(alloc, &[9, 1, -1]), ids),
-    );
+    for row in &FIELDS {
+        expect(&rt, row.name, is_made(rt.alloc(), row.part, row.digits));
+    }
 }
 
 /// Puts a number, an object, a string, a scalar and a variant behind one another: whether each was put.
@@ -108,6 +126,7 @@ const PUT: &str = "0100000000000000 0200000000000000 443322116655887799aabbccdde
 #[test]
 fn fields_are_put(rt: HostRuntime) {
     let mut out = Vec::new(rt.alloc());
-    assert!(rt; put_fields(&mut out) == [true; 5]);
-    assert!(rt; out.as_slice() == bytes_of(rt.alloc(), PUT).as_slice());
+    expect(&rt, "puts", put_fields(&mut out) == [true; 5]);
+    let is_so = out.as_slice() == bytes_of(rt.alloc(), PUT).as_slice();
+    expect(&rt, "their bytes", is_so);
 }

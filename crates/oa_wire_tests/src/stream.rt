@@ -7,10 +7,9 @@ use oa_stream::{
     Ahead, Behind, Cutting, Gathered, Inlet, Interrupted, More, Next, Outlet, Sink, Source,
     Unwritten,
 };
-use std::alloc::{AllocError, Global};
+use std::alloc::Global;
 use std::io::{self, ErrorKind, Read, Write};
 use std::rt::HostRuntime;
-use std::test::Fail;
 
 // What one call of a reader or a writer of the standard library does.
 #[derive(Clone, Copy)]
@@ -154,11 +153,7 @@ fn written(steps: &[Step]) -> (Result<(), Unwritten>, usize) {
 #[test]
 fn an_interrupted_write_is_made_again_and_a_failed_one_is_not(rt: HostRuntime) {
     for row in &WRITINGS {
-        assert!(rt;
-            written(row.steps) == (row.result, row.calls),
-            "{}",
-            row.name
-        );
+        expect(&rt, row.name, written(row.steps) == (row.result, row.calls));
     }
 }
 
@@ -166,7 +161,8 @@ fn an_interrupted_write_is_made_again_and_a_failed_one_is_not(rt: HostRuntime) {
 fn no_flush_is_wanting_where_nothing_was_written(rt: HostRuntime) {
     let mut writer = Scripted::new(&[]);
     let result = Outlet::new(&mut writer).deliver();
-    assert_eq!(rt; (result, writer.calls), (Ok(()), 0));
+    expect(&rt, "a delivery of nothing", result == Ok(()));
+    expect(&rt, "no call", writer.calls == 0);
 }
 
 // Puts two bytes, as many zeros, and delivers them.
@@ -178,55 +174,60 @@ fn put_zeros<W: Sink>(writer: &mut W, zeros: &[u8]) -> Result<(), Unwritten>
     writer.deliver()
 }
 
-// All that a buffer passes on of them.
-fn passed_on(alloc: Global, zeros: &[u8]) -> Result<Vec<u8>, Fail> {
-    let mut bytes = Vec::new(alloc);
-    put_zeros(&mut Behind::new(alloc, Outlet::new(&mut bytes))?, zeros)?;
-    Ok(bytes)
+// Whether they were put through a buffer.
+fn put_through(alloc: Global, bytes: &mut Vec<u8>, zeros: &[u8]) -> bool {
+    match Behind::new(alloc, Outlet::new(bytes)) {
+        Ok(mut writer) => put_zeros(&mut writer, zeros).is_ok(),
+        Err(_) => false,
+    }
 }
 
-fn is_all_passed_on(alloc: Global, count: usize) -> Result<bool, Fail> {
-    let zeros = vec![in alloc; 0u8; count]?;
-    let bytes = passed_on(alloc, &zeros)?;
-    Ok(bytes.strip_prefix(&[1, 2]) == Some(zeros.as_slice()))
+// Whether a buffer passes on all of them.
+fn passes_on(alloc: Global, zeros: &[u8]) -> bool {
+    let mut bytes = Vec::new(alloc);
+    put_through(alloc, &mut bytes, zeros) && bytes.strip_prefix(&[1, 2]) == Some(zeros)
 }
+
+fn is_all_passed_on(alloc: Global, count: usize) -> bool {
+    match vec![in alloc; 0u8; count] {
+        Ok(zeros) => passes_on(alloc, &zeros),
+        Err(_) => false,
+    }
+}
+
+static COUNTS: [usize; 8] = [0, 1, 8189, 8190, 8191, 8192, 8193, 30_000];
 
 #[test]
-fn a_buffer_passes_on_all_that_was_put(rt: HostRuntime) -> Result<(), Fail> {
-    for count in [0, 1, 8189, 8190, 8191, 8192, 8193, 30_000] {
-        assert!(rt; is_all_passed_on(rt.alloc(), count)?, "{count} zeros");
+fn a_buffer_passes_on_all_that_was_put(rt: HostRuntime) {
+    for count in &COUNTS {
+        assert!(rt; is_all_passed_on(rt.alloc(), *count), "{count} zeros");
     }
-    Ok(())
 }
 
 // Whether a buffer shows nothing, then what one call gives, and then what is left of it behind its first byte.
-fn shown(alloc: Global) -> Result<[bool; 4], AllocError> {
-    let writer = Gathered::new(Vec::new(alloc));
-    let mut reader = Ahead::new(alloc, Cutting::new(b"abcde", &[2]))?;
+fn shown(alloc: Global) -> [bool; 4] {
+    let Ok(mut reader) = Ahead::new(alloc, Cutting::new(b"abcde", &[2])) else {
+        return [false; 4];
+    };
     let is_empty = reader.buffered().is_empty();
-    let is_more = reader.more(&writer) == More::Some;
+    let is_more = reader.more(&Gathered::new(Vec::new(alloc))) == More::Some;
     let is_two = reader.buffered() == b"ab".as_slice();
     let count = reader.buffered().len().min(1);
     reader.advance(count);
-    Ok([
-        is_empty,
-        is_more,
-        is_two,
-        reader.buffered() == b"b".as_slice(),
-    ])
+    let is_left = reader.buffered() == b"b".as_slice();
+    [is_empty, is_more, is_two, is_left]
 }
 
 #[test]
-fn a_buffer_shows_what_one_call_gave(rt: HostRuntime) -> Result<(), Fail> {
-    assert_eq!(rt; shown(rt.alloc())?, [true; 4]);
-    Ok(())
+fn a_buffer_shows_what_one_call_gave(rt: HostRuntime) {
+    assert_eq!(rt; shown(rt.alloc()), [true; 4]);
 }
 
 #[test]
 fn what_is_put_is_gathered(rt: HostRuntime) {
     let mut writer = Gathered::new(Vec::new(rt.alloc()));
-    assert!(rt; writer.put(b"xyz").is_ok());
-    assert!(rt; writer.bytes() == b"xyz".as_slice());
+    expect(&rt, "put", writer.put(b"xyz").is_ok());
+    expect(&rt, "gathered", writer.bytes() == b"xyz".as_slice());
 }
 
 // What two calls of a reader give that is interrupted once, how many calls it counts, and what is in the buffer.

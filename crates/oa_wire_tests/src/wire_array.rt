@@ -1,5 +1,6 @@
 //! Parts of fields as digits: what is read, and what is written again.
 use crate::digits::bytes_of;
+use crate::rows::expect;
 use oa_array::SafeArray;
 use oa_bstr::Bstr;
 use oa_model::VarType;
@@ -80,10 +81,26 @@ const ZEROS: &str =
 #[test]
 fn parts_are_read_and_written(rt: HostRuntime) {
     let alloc = rt.alloc();
-    assert!(rt; spell_text(alloc, "02000000 04000000 02000000 48006900", b"H\0i\0"));
-    assert!(rt; spell_text(alloc, "00000000 ffffffff 00000000", b""));
-    assert!(rt; spell_seven(alloc, "03000000 00000000 02000000 00000000 02000000 0700"));
-    assert!(rt; spell_array(alloc, ZEROS));
-    assert!(rt; spell_head(alloc, "03000000 00000000 0200 000000000000"));
-    assert!(rt; spell_union(alloc, "02000000 0700"));
+    expect(
+        &rt,
+        "a text",
+        spell_text(alloc, "02000000 04000000 02000000 48006900", b"H\0i\0"),
+    );
+    expect(
+        &rt,
+        "the null text",
+        spell_text(alloc, "00000000 ffffffff 00000000", b""),
+    );
+    expect(
+        &rt,
+        "a scalar",
+        spell_seven(alloc, "03000000 00000000 02000000 00000000 02000000 0700"),
+    );
+    expect(&rt, "an array", spell_array(alloc, ZEROS));
+    expect(
+        &rt,
+        "a head",
+        spell_head(alloc, "03000000 00000000 0200 000000000000"),
+    );
+    expect(&rt, "a union", spell_union(alloc, "02000000 0700"));
 }

@@ -55,20 +55,24 @@ fn play<'a>(alloc: Global) -> Result<Command<'a>, AllocError> {
         .arg(hex(alloc))
 }
 
-fn check<'a>(alloc: Global) -> Result<Command<'a>, AllocError> {
-    let place = Arg::new(alloc, "where")
+/// The place of a syntax fault.
+fn place<'a>(alloc: Global) -> Arg<'a> {
+    Arg::new(alloc, "where")
         .long("where")
         .action(ArgAction::SetTrue)
         .help(
             "After a syntax fault, write its line and column, the text of that line, and a caret under the place",
-        );
+        )
+}
+
+fn check<'a>(alloc: Global) -> Result<Command<'a>, AllocError> {
     Command::new(alloc, "check")
         .about("Checks a type library, and writes its canonical text on standard output")
         .after_help(
             "Examples:\n  oaut check examples/full.idl\n  oaut check --where - < examples/full.idl",
         )
         .arg(library_or_input(alloc))?
-        .arg(place)
+        .arg(place(alloc))
 }
 
 fn format<'a>(alloc: Global) -> Result<Command<'a>, AllocError> {
@@ -81,15 +85,19 @@ fn format<'a>(alloc: Global) -> Result<Command<'a>, AllocError> {
         .arg(library_or_input(alloc))
 }
 
-fn serve<'a>(alloc: Global) -> Result<Command<'a>, AllocError> {
-    let group = Arg::new(alloc, "group")
+/// How many requests are committed together.
+fn group<'a>(alloc: Global) -> Arg<'a> {
+    Arg::new(alloc, "group")
         .long("group")
         .value_name("N")
         .value_parser(value_parser!(u16).range(1..=1024))
         .default_value("1")
         .help(
             "Commit N requests together, from 1 to 1024, and write their replies behind that; with 1 each request is committed before its reply",
-        );
+        )
+}
+
+fn serve<'a>(alloc: Global) -> Result<Command<'a>, AllocError> {
     Command::new(alloc, "serve")
         .about(
             "Answers the requests of standard input on standard output, with objects that a store keeps",
@@ -99,7 +107,7 @@ fn serve<'a>(alloc: Global) -> Result<Command<'a>, AllocError> {
         )
         .arg(word(alloc, "STORE", "The store's file, as format made it"))?
         .arg(library(alloc))?
-        .arg(group)?
+        .arg(group(alloc))?
         .arg(hex(alloc))
 }
 

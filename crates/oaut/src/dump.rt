@@ -8,7 +8,7 @@ use oa_image::{write_key, write_value};
 use oa_store::inspect;
 use oa_stream::{Behind, Outlet, Sink, Unwritten};
 use oa_table::{LiveObject, Place, Table};
-use oa_variant::Variant;
+use oa_variant::{Scalar, Variant};
 use std::alloc::Global;
 use std::io;
 
@@ -17,12 +17,23 @@ const PIECE: usize = 32;
 
 /// Writes the objects of a store and their cells on standard output, a line each. Nothing is written of a file that is refused.
 pub(crate) fn write_dump(rt: &HostRuntime, path: &str) -> Result<(), Fault> {
-    let alloc = rt.alloc();
     let _streams = Streams::new(rt);
+    write_table(rt, &kept(rt, path)?)
+}
+
+/// The table that a store keeps.
+fn kept(rt: &HostRuntime, path: &str) -> Result<Table, Fault> {
+    let alloc = rt.alloc();
     let mut disk = found(rt, alloc, path)?;
     let (_, table) = inspect(alloc, &mut disk)?;
+    Ok(table)
+}
+
+/// Writes a table on standard output.
+fn write_table(rt: &HostRuntime, table: &Table) -> Result<(), Fault> {
+    let alloc = rt.alloc();
     let mut writer = Behind::new(alloc, Outlet::new(io::writer(rt)))?;
-    put_table(alloc, &table, &mut writer)?;
+    put_table(alloc, table, &mut writer)?;
     writer.deliver()?;
     Ok(())
 }
@@ -36,10 +47,24 @@ fn put_table<W: Sink>(alloc: Global, table: &Table, writer: &mut W) -> Result<()
     writer.put(next.as_bytes())?;
     let mut image = Vec::new(alloc);
     'objects: for (number, object) in table.objects() {
-        let head = format!(in alloc; "object {number} {}\n", object.class())?;
-        writer.put(head.as_bytes())?;
+        put_object(alloc, *number, object, writer)?;
         put_cells(alloc, object, &mut image, writer)?;
     }
+    Ok(())
+}
+
+/// The line of an object.
+fn put_object<W: Sink>(
+    alloc: Global,
+    number: u32,
+    object: &LiveObject,
+    writer: &mut W,
+) -> Result<(), Fault>
+    requires unbroken { (W.out writer.old).broken ≡ false }
+    ensures unbroken { OnOk result ((W.out writer.new).broken ≡ false) }
+{
+    let head = format!(in alloc; "object {number} {}\n", object.class())?;
+    writer.put(head.as_bytes())?;
     Ok(())
 }
 
@@ -72,12 +97,20 @@ fn put_place<W: Sink>(
 {
     let head = format!(in alloc; "cell {} {} ", place.interface(), place.dispid())?;
     writer.put(head.as_bytes())?;
-    if place.key().is_empty() {
+    put_key(place.key(), image, writer)
+}
+
+/// A key as digits.
+fn put_key<W: Sink>(key: &[Scalar], image: &mut Vec<u8>, writer: &mut W) -> Result<(), Fault>
+    requires unbroken { (W.out writer.old).broken ≡ false }
+    ensures unbroken { OnOk result ((W.out writer.new).broken ≡ false) }
+{
+    if key.is_empty() {
         writer.put(b"-")?;
         return Ok(());
     }
     image.clear();
-    write_key(place.key(), image)?;
+    write_key(key, image)?;
     put_digits(writer, image)?;
     Ok(())
 }

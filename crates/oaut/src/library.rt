@@ -29,6 +29,11 @@ pub(crate) fn read_text(rt: &HostRuntime, alloc: Global, path: &str) -> Result<S
     }
 }
 
+/// The library of a file or of standard input.
+pub(crate) fn read_library(rt: &HostRuntime, alloc: Global, path: &str) -> Result<Library, Fault> {
+    library_of(alloc, &read_text(rt, alloc, path)?)
+}
+
 /// The library that a text stands for.
 pub(crate) fn library_of(alloc: Global, text: &str) -> Result<Library, Fault> {
     Ok(check(alloc, parse(alloc, text)?)?)

@@ -22,44 +22,94 @@ impl Place {
         text: &str,
         at: usize,
     ) -> Result<Place, AllocError> {
-        let mut line = String::new(alloc);
-        let mut blank = String::new(alloc);
-        let mut number = 1u64;
-        let mut column = 1u64;
-        let mut last = ' ';
+        let mut line = Line::new(alloc);
         for (index, c) in text.char_indices() {
-            if c == '\n' || c == '\r' {
-                if at <= index {
-                    break;
-                }
-                if c == '\r' || last != '\r' {
-                    number = number.saturating_add(1);
-                }
-                column = 1;
-                line.clear();
-                blank.clear();
-            } else {
-                line.push(shown(c))?;
-                if index < at {
-                    column = column.saturating_add(1);
-                    blank.push(if c == '\t' { '\t' } else { ' ' })?;
-                }
+            if is_end(c) && at <= index {
+                break;
             }
-            last = c;
+            line.take(c, index < at)?;
         }
+        line.placed(alloc, file)
+    }
+}
+
+/// The line of a text that is being read, as far as it was read.
+#[derive(Drop)]
+struct Line {
+    /// Its characters, as they are shown.
+    shown: String,
+    /// What stands before the place, as blanks.
+    blank: String,
+    /// The line and the column, from 1 on.
+    number: u64,
+    column: u64,
+    /// The character that was read last.
+    last: char,
+}
+
+impl Line {
+    /// The first line of a text.
+    fn new(alloc: Global) -> Line {
+        Line {
+            shown: String::new(alloc),
+            blank: String::new(alloc),
+            number: 1,
+            column: 1,
+            last: ' ',
+        }
+    }
+
+    /// Reads a character, of which is said whether it stands before the place.
+    fn take(&mut self, c: char, is_before: bool) -> Result<(), AllocError> {
+        if is_end(c) {
+            self.end(c);
+        } else {
+            self.shown.push(shown(c))?;
+            if is_before {
+                self.column = self.column.saturating_add(1);
+                self.blank.push(if c == '\t' { '\t' } else { ' ' })?;
+            }
+        }
+        self.last = c;
+        Ok(())
+    }
+
+    /// Begins the next line, but between a CR and its LF.
+    fn end(&mut self, c: char) {
+        if c == '\r' || self.last != '\r' {
+            self.number = self.number.saturating_add(1);
+        }
+        self.column = 1;
+        self.shown.clear();
+        self.blank.clear();
+    }
+
+    /// The place that was reached, in a file.
+    fn placed(self, alloc: Global, file: &str) -> Result<Place, AllocError> {
         let file = shown_name(alloc, file)?;
-        let head = format!(in alloc; "{file}:{number}:{column}: ")?;
-        let mut margin = String::new(alloc);
-        for _ in head.chars() {
-            margin.push(' ')?;
-        }
-        margin.push_str(&blank)?;
+        let head = format!(in alloc; "{file}:{}:{}: ", self.number, self.column)?;
+        let blank = blanks(alloc, &head, &self.blank)?;
         Ok(Place {
             head,
-            line,
-            blank: margin,
+            line: self.shown,
+            blank,
         })
     }
+}
+
+/// Whether a character ends a line.
+fn is_end(c: char) -> bool {
+    c == '\n' || c == '\r'
+}
+
+/// Blanks as wide as what stands before a line, and those of the line.
+fn blanks(alloc: Global, head: &str, of_line: &str) -> Result<String, AllocError> {
+    let mut blanks = String::new(alloc);
+    for _ in head.chars() {
+        blanks.push(' ')?;
+    }
+    blanks.push_str(of_line)?;
+    Ok(blanks)
 }
 
 /// A character as a line shows it: a control character would move the caret.

@@ -1,6 +1,6 @@
 //! Answering requests with objects in memory.
 use crate::fault::Fault;
-use crate::library::{STANDARD_INPUT, library_of, read_text};
+use crate::library::{STANDARD_INPUT, read_library};
 use crate::session::hold;
 use oa_server::Server;
 
@@ -10,6 +10,6 @@ pub(crate) fn play(rt: &HostRuntime, path: &str, hex: bool) -> Result<(), Fault>
         return Err(Fault::TwoInputs);
     }
     let alloc = rt.alloc();
-    let mut server = Server::in_memory(alloc, library_of(alloc, &read_text(rt, alloc, path)?)?);
+    let mut server = Server::in_memory(alloc, read_library(rt, alloc, path)?);
     hold(rt, &mut server, 1, hex)
 }

@@ -27,7 +27,12 @@ pub(crate) fn hold<D: Disk + Drop>(
     } else {
         server.serve(&mut reader, &mut writer, group)?
     };
-    match served.why {
+    ended(served.why)
+}
+
+/// What the end of a session is for the program: the end of the input is what was asked for.
+fn ended(why: End) -> Result<(), Fault> {
+    match why {
         End::Closed => Ok(()),
         End::Cut => Err(Fault::Cut),
         End::TooLong => Err(Fault::TooLong),

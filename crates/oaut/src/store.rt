@@ -1,11 +1,10 @@
 //! Files that hold a store.
 use crate::fault::Fault;
-use crate::library::{library_of, read_text, unread};
+use crate::library::{read_library, unread};
 use crate::shown::shown_name;
-use crate::streams::Streams;
+use crate::streams::{Streams, write};
 use oa_disk::FileDisk;
 use oa_store::STORE_BYTES;
-use oa_stream::{Outlet, Sink};
 use std::alloc::Global;
 use std::io;
 use std::io::ErrorKind;
@@ -13,14 +12,17 @@ use std::io::ErrorKind;
 /// Makes a file the store of a library, without objects, and says so. A file that is not there is made; one that is there is used in its
 /// own length, and what it held is gone.
 pub(crate) fn format_store(rt: &HostRuntime, path: &str, library: &str) -> Result<(), Fault> {
-    let alloc = rt.alloc();
     let _streams = Streams::new(rt);
-    let library = library_of(alloc, &read_text(rt, alloc, library)?)?;
+    make_store(rt, path, library)?;
+    write(rt, b"formatted\n")
+}
+
+/// Makes a file the store of a library, without objects.
+fn make_store(rt: &HostRuntime, path: &str, library: &str) -> Result<(), Fault> {
+    let alloc = rt.alloc();
+    let library = read_library(rt, alloc, library)?;
     let mut disk = found_or_made(rt, alloc, path)?;
     oa_store::format(alloc, &mut disk, library.text())?;
-    let mut writer = Outlet::new(io::writer(rt));
-    writer.put(b"formatted\n")?;
-    writer.deliver()?;
     Ok(())
 }
 

@@ -1,5 +1,16 @@
-//! Standard streams that are closed.
+//! Standard streams: what is written on one, and what takes the place of those that are closed.
+use crate::fault::Fault;
+use oa_stream::{Outlet, Sink};
 use std::fs::File;
+use std::io;
+
+/// Writes bytes on standard output, and all of them before it answers.
+pub(crate) fn write(rt: &HostRuntime, bytes: &[u8]) -> Result<(), Fault> {
+    let mut writer = Outlet::new(io::writer(rt));
+    writer.put(bytes)?;
+    writer.deliver()?;
+    Ok(())
+}
 
 /// What takes the place of standard streams that are closed, as long as it is kept. Without it a file that is opened next would take it,
 /// and be read as the requests or written over by the replies. A folder can be neither read nor written, so a closed stream stays one that

@@ -2,24 +2,19 @@
 use crate::fault::Fault;
 use crate::library::{library_of, read_text};
 use crate::place::Place;
+use crate::streams::write;
 use oa_idl::ParseError;
-use oa_stream::{Outlet, Sink};
 use std::alloc::Global;
-use std::io;
 
 /// Writes the canonical text of a library's file on standard output. Nothing is written of a library that is refused.
 pub(crate) fn write_text(rt: &HostRuntime, path: &str, shows_place: bool) -> Result<(), Fault> {
     let alloc = rt.alloc();
     let text = read_text(rt, alloc, path)?;
-    let library = match library_of(alloc, &text) {
-        Ok(library) => library,
-        Err(fault) if shows_place => return Err(placed(alloc, path, &text, fault)),
-        Err(fault) => return Err(fault),
-    };
-    let mut writer = Outlet::new(io::writer(rt));
-    writer.put(library.text())?;
-    writer.deliver()?;
-    Ok(())
+    match library_of(alloc, &text) {
+        Ok(library) => write(rt, library.text()),
+        Err(fault) if shows_place => Err(placed(alloc, path, &text, fault)),
+        Err(fault) => Err(fault),
+    }
 }
 
 /// A fault with its place in the text, where it has one and memory is found for it.

@@ -293,7 +293,7 @@ const PAST_THE_ROOM: [Row; 7] = [
     ((Sync, 0, &[]), Err(DeviceFault::Write), 4),
 ];
 
-/// What a disk with room for three calls and five bytes holds behind calls past it, and how many moments it has.
+/// Whether a disk with room for three calls and five bytes counts what goes past it, and keeps what does not.
 fn keeps_its_room(alloc: Global) -> Result<bool, AllocError> {
     let mut disk = MemoryDisk::new(alloc, 8, 3, 5)?;
     let is_told = answers(&mut disk, &PAST_THE_ROOM) && disk.moments() == 6;

@@ -56,6 +56,8 @@ EDITS = {
     "a_step_too_long": ("old:     n + STEP\nnew:     n + STEP + 1\n", "refused: above: what the function ensures"),
     "no_step": ("old:     n + STEP\nnew:     n\n", "refused: above: what the function ensures"),
     "a_step_by_its_number": ("old:     n + STEP\nnew:     n + 2\n", "NOT REFUSED: above: proved with this edit"),
+    # (brings the text that the edits of a step look for)
+    "one_step_spelled_out": ("old:     above(above(n))\nnew:     n + STEP\n", "refused: twice_above: what the function ensures"),
     "one_step_alone": ("old:     above(above(n))\nnew:     above(n)\n", "refused: twice_above: what the function ensures"),
     "the_greater": ("old: { a } else { b }\nnew: { b } else { a }\n", "refused: lesser: what the function ensures"),
     "two_steps_by_name": ("old:     above(above(n))\nnew:     let next = above(n); above(next)\n", "NOT REFUSED: twice_above: proved with this edit"),

@@ -261,6 +261,8 @@ talk(
         puts(TEXT, HI[:24] + b"\3" + HI[25:], STUB_CODE),
         puts(TEXT, HI[:32] + b"\1" + HI[33:], STUB_CODE),
         puts(TEXT, wire.scalar(wire.BSTR, LONGEST + b"a"), STUB_CODE),
+        # numbers of no type that a value has
+        *(puts(LONG, wire.changed(wire.changed(FOUR, 8, "H", vt), 16, "I", vt), BAD_VAR_TYPE, 0) for vt in (4, 5, 7, 9, 12, 13, 15, 24, 25, 36, 0x2000, 0x4003)),
         calls(NO_MEMBER, 4, [-3], [], MEMBER_NOT_FOUND),
         puts(VERSION, FOUR, MEMBER_NOT_FOUND),
         calls(LONG, 4, [-3, 7], [FOUR], E_INVALIDARG),
@@ -317,6 +319,9 @@ for dispid, vt, cells in ARRAY_ROWS:
             puts(ANY, value),
             gets(ANY, value),
             puts(dispid, wire.zero_array(vt)),
+            gets(dispid, wire.zero_array(vt)),
+            puts(dispid, value),
+            puts(dispid, wire.scalar(wire.EMPTY)),
             gets(dispid, wire.zero_array(vt)),
         ],
     )
@@ -644,6 +649,8 @@ talk(
         element(GRID, [], code=BAD_INDEX_CODE),
         element(GRID, [0] * 16, code=BAD_INDEX_CODE),
         element(GRID, [0] * 17, code=STUB_CODE),
+        redim(GRID, 2, -1),
+        gets(GRID, SIX),
         puts_element(GRID, [-1, 5], wire.scalar(wire.I4, 40_000), OVERFLOW_CODE),
         puts_element(GRID, [-1, 8], wire.scalar(wire.I4, 40_000), BAD_INDEX_CODE),
         puts_element(GRID, [-1, 5], wire.scalar(wire.BSTR, b"a\0"), TYPE_MISMATCH),
@@ -697,6 +704,7 @@ talk(
         unlocks(GRID, 0),
         releases(1),
         of(1, COUNT_ID, None, DISCONNECTED),
+        locks(GRID, 0, DISCONNECTED),
         creates(2),
         lists(2),
     ],
@@ -796,6 +804,7 @@ talk(
         looks_up(["Clear"], [10]),
         looks_up(["none", "Key"], [-1, -1]),
         looks_up(["CELL", "row", "PAGE", "Value"], [9, 0, 2, -1]),
+        looks_up(["cELL", "KEY", "none"], [9, 1, -1]),
         looks_up(["Cell"] + ["Key"] * 16, [9] + [1] * 16),
         (lambda tag: wire.get_ids(tag, 1, ["Cell"] + ["Key"] * 17), lambda tag: wire.reply(tag, STUB_CODE)),
         (lambda tag: wire.get_ids(tag, 1, []), lambda tag: wire.reply(tag, STUB_CODE)),
@@ -838,6 +847,22 @@ talk(
         describes(2),
         describes(2**32 - 1),
     ],
+)
+OF_EACH = [
+    (wire.CY, "2", wire.scalar(wire.CY, 20_000)),
+    (wire.VARIANT, "7", wire.scalar(wire.I4, 7)),
+    (wire.DECIMAL, "-5", wire.scalar(wire.DECIMAL, (0, 0x80, 5))),
+    (wire.BSTR, '"aB"', wire.scalar(wire.BSTR, b"a\0B\0")),
+    (wire.ERROR, "0x80020004", wire.scalar(wire.ERROR, 0x8002_0004)),
+    (wire.VARIANT, "TRUE", wire.scalar(wire.BOOL, 0xFFFF)),
+    (wire.I2, "1", wire.scalar(wire.I2, 1)),
+]
+VOID, OF_WORDS = 24, {wire.CY: "CURRENCY", wire.VARIANT: "VARIANT", wire.DECIMAL: "DECIMAL", wire.BSTR: "BSTR", wire.ERROR: "SCODE", wire.I2: "short"}
+parameters = ", ".join(f"[defaultvalue({word})] {OF_WORDS[vt]} P{place}" for place, (vt, word, _) in enumerate(OF_EACH))
+talk(
+    "defaults of each kind",
+    library_with(interface(b"2", body=f"methods: [id(10)] void Clear({parameters});".encode()) + coclass(b"3")),
+    [describes(0, wire.interface(ITEM, "DItem", [wire.member(10, 1, 0, VOID, "Clear", [wire.parameter(vt, DEFAULT & ~MARKED, f"P{place}", value) for place, (vt, _, value) in enumerate(OF_EACH)])]))],
 )
 
 talk(
@@ -899,6 +924,8 @@ BOUND = b"""[uuid(11223344-5566-7788-99aa-bbccddeeff01)] library L {
 [id(10), propput] void Any([in, optional] VARIANT V, [in, optional] long N, [in] long Value);
 [id(11), propget] long Named([in, optional, defaultvalue("first")] BSTR Name, [in, defaultvalue(2)] VARIANT Rank);
 [id(11), propput] void Named([in, optional, defaultvalue("first")] BSTR Name, [in, defaultvalue(2)] VARIANT Rank, [in] long Value);
+[id(12), propget] long Both([in] long Row, [in, optional, defaultvalue("x")] BSTR Key);
+[id(12), propput] void Both([in] long Row, [in, optional, defaultvalue("x")] BSTR Key, [in] long Value);
 } [uuid(11223344-5566-7788-99aa-bbccddeeff03)] coclass C { [default] dispinterface D; } }"""
 BIND_CODES = {
     "E_INVALIDARG": E_INVALIDARG,
@@ -911,6 +938,7 @@ BIND_CODES = {
 ARGUMENTS = {
     "i": lambda rest: wire.scalar(wire.I4, int(rest)),
     "s": lambda rest: wire.scalar(wire.I2, int(rest)),
+    "c": lambda rest: wire.scalar(wire.CY, int(rest)),
     "t": lambda rest: wire.scalar(wire.BSTR, rest.encode()),
     "w": bstr,
     "n": lambda _: NO_TEXT,
@@ -1078,7 +1106,12 @@ refused("an interface that is not there", library_with(interface(b"2") + coclass
 
 def said_of(items):
     """What `oaut check` says of a library with these items."""
-    library = "[uuid(#1)] library L {" + items + "}"
+    return said_of_text("library L {" + items + "}")
+
+
+def said_of_text(text):
+    """What it says of this text behind the attributes of a library."""
+    library = "[uuid(#1)] " + text
     status, _, err = run(["check", "lib.idl"], files={"lib.idl": library.replace("#", "11223344-5566-7788-99AA-BBCCDDEEFF0").encode()})
     return "accepted" if (status, err) == (0, b"") else err.decode().removeprefix("oaut: ").rstrip("\n")
 
@@ -1115,6 +1148,35 @@ SECOND = "[uuid(11223344-5566-7788-99AA-BBCCDDEEFF02)] "
 IN_INTERFACE = IN_LIBRARY + SECOND + "dispinterface DItem { "
 IN_PARAMETERS = IN_INTERFACE + "methods: [id(1)] void A("
 IN_COCLASS = IN_LIBRARY + "[uuid(11223344-5566-7788-99AA-BBCCDDEEFF03)] coclass Item { "
+for row in rows_of("read.txt"):
+    wanted, text = row.split(" | ", 1)
+    said = said_of_text("library Library " + text)
+    tell(f"a text that is read, {text}", said == wanted, f"wanted {wanted}, got {said}")
+# parts that are printed, a row each: of each part, what stands before and behind it, and before and behind it in what is printed
+PRINTED = "[uuid(11223344-5566-7788-99aa-bbccddeeff01), version(0.0)]\nlibrary Demo {\n"
+INTERFACE_PRINTED = PRINTED + "[uuid(11223344-5566-7788-99aa-bbccddeeff02)]\ndispinterface DItem {\nproperties:\n"
+COCLASS_PRINTED = "[uuid(11223344-5566-7788-99aa-bbccddeeff03)]\ncoclass Item {\n"
+ENTERED, ENTERED_PRINTED = "", ""
+for name, last in (("A", "2"), ("B", "4")):
+    ENTERED += f"[uuid(11223344-5566-7788-99AA-BBCCDDEEFF0{last})] dispinterface {name} {{}} "
+    ENTERED_PRINTED += f"[uuid(11223344-5566-7788-99aa-bbccddeeff0{last})]\ndispinterface {name} {{\nproperties:\nmethods:\n}}\n"
+IN_ENTRIES = IN_LIBRARY + ENTERED + IN_COCLASS.removeprefix(IN_LIBRARY)
+ENTRIES_PRINTED = PRINTED + ENTERED_PRINTED + COCLASS_PRINTED
+FRAMES = {
+    "attributes": ("", " library A {}", "", "\nlibrary A {\n}\n"),
+    "property": (IN_INTERFACE + "properties: ", " } }", INTERFACE_PRINTED, "\nmethods:\n}\n}\n"),
+    "method": (IN_INTERFACE + "properties: methods: ", " } }", INTERFACE_PRINTED + "methods:\n", "\n}\n}\n"),
+    "entry before a marked one": (IN_ENTRIES, "[default] interface B; };}", ENTRIES_PRINTED, "\n[default] dispinterface B;\n}\n}\n"),
+    "only entry": (IN_ENTRIES, "};}", ENTRIES_PRINTED, "\n}\n}\n"),
+}
+for row in rows_of("printed.txt"):
+    if row.startswith("= "):
+        front, back, front_printed, back_printed = FRAMES[row[2:]]
+        continue
+    part, part_printed = row.split("=", 1)
+    printed = (front_printed + part_printed + back_printed).encode()
+    checked(f"a part that is printed, {part}", (front + part + back).encode(), 0, printed, b"")
+    checked(f"a part that is printed as it was, {part_printed}", printed, 0, printed, b"")
 for sign in "\t\x1f\x7f":
     syntax(IN_PARAMETERS, f'[defaultvalue(^"{sign}")] BSTR B); }} }}')
 LONG_NAME = "a" * 65

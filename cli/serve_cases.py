@@ -15,7 +15,7 @@ import store
 import wire
 from calls import OUT, STRACE, Calls, each_fails, held, text_held
 from oaut import REDIM, ask_call, ask_create
-from running import CREATE, CREATED, REPLIES, REQUESTS, SMALL, Talk, case, ends, fault, fill, leaves, run, run_in, short, taken, tell, text_of, within
+from running import CREATE, CREATED, REPLIES, REQUESTS, ROOT, SMALL, Talk, case, ends, fault, fill, leaves, run, run_in, short, taken, tell, text_of, within
 
 SMALL_TEXT, FULL, FULL_TEXT = text_of("small.canonical.idl"), text_of("full.idl"), text_of("full.canonical.idl")
 NEW = bytes(store.formatted(SMALL_TEXT))
@@ -210,6 +210,56 @@ for name, disk, text in (
     serves(f"{name}: {text}", REQUESTS, 3, b"", fault(text), disk, disk, "--hex")
 elsewhere = NEW[:8511] + b"\1" + struct.pack("<I", 21) + b"\1" + struct.pack("<I", 1) + bytes(16) + NEW[8511 + 26 :]
 serves("an object of a coclass that the library does not have", REQUESTS, 3, b"", fault("damaged at 0"), elsewhere, elsewhere, "--hex")
+
+# a table a row, that the library can have or not
+
+OF_TABLES = b"""[uuid(11223344-5566-7788-99aa-bbccddeeff01), version(0.0)]
+library L {
+[uuid(11223344-5566-7788-99aa-bbccddeeff02)]
+dispinterface D {
+properties:
+[id(1)] long Count;
+[id(2), readonly] VARIANT Free;
+[id(4)] SAFEARRAY(long) List;
+methods:
+[id(3)] void Run();
+[id(9), propget] short Cell([in] long Row, [in] VARIANT Key);
+[id(10), propput] void Only([in] long Row, [in] short Value);
+}
+[uuid(11223344-5566-7788-99aa-bbccddeeff04)]
+dispinterface E {
+properties:
+[id(1)] long Other;
+methods:
+}
+[uuid(11223344-5566-7788-99aa-bbccddeeff03)]
+coclass C {
+[default] dispinterface D;
+}
+}
+"""
+IMAGES = {"i": struct.pack("<Hi", 3, 7), "s": struct.pack("<Hh", 2, 7), "a": struct.pack("<HHIii", 0x2003, 1, 1, 0, 7), "b": struct.pack("<HHIih", 0x2002, 1, 1, 0, 7)}
+
+
+def guid_of(digit):
+    return bytes(16) if digit == "0" else CLASS[:15] + bytes([int(digit)])
+
+
+with open(f"{ROOT}/cli/tables.txt") as file:
+    rows = [line.rstrip("\n") for line in file if not line.startswith("#")]
+for row in rows:
+    class_, face, dispid, key, value, fits = row.split("|")
+    place = guid_of(face) + struct.pack("<iH", int(dispid), len(key)) + b"".join(IMAGES[it] for it in key)
+    events = CREATED_1 + b"\1" + struct.pack("<I", 2) + guid_of(class_) + b"\3" + struct.pack("<I", 2) + place + IMAGES[value]
+    disk = bytes(store.add(store.formatted(OF_TABLES), events))
+    serves(f"the table {row}", b"", *((0, b"", b"") if fits == "yes" else (3, b"", fault("damaged at 0"))), disk, disk, library=OF_TABLES)
+
+# the last number that an object can have
+
+last = NEW[:8503] + struct.pack("<I", 4_294_967_294) + NEW[8507:]
+left = bytes(store.add(bytearray(last), b"\1" + struct.pack("<I", 4_294_967_294) + CLASS))
+serves("the last number", (CREATE + b"\n") * 2, 0, wire.reply(1, fields=struct.pack("<II", 4_294_967_294, 0)) + wire.reply(1, 0x8000_FFFF), b"", last, left, "--hex")
+case("dump: the last number", ["dump", "it.store"], 0, b"next 4294967295\nobject 4294967294 %s\n" % store.guid_text(CLASS).encode(), b"", files={"it.store": left})
 
 # --- checkpoints
 

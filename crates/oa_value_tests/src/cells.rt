@@ -240,8 +240,7 @@ fn is_replaced(alloc: Global, drops: &Cell<usize>) -> bool {
 #[test]
 fn a_replaced_cell_is_handed_back(rt: HostRuntime) {
     let drops = Cell::new(0);
-    assert!(rt; is_replaced(rt.alloc(), &drops));
-    assert!(rt; drops.get() == 4);
+    assert!(rt; is_replaced(rt.alloc(), &drops) && drops.get() == 4);
 }
 
 /// New cells get that value.
@@ -262,76 +261,54 @@ fn turn_into<T: Copy + PartialEq>(
     is_done && cells.as_slice() == after
 }
 
-fn units_once(alloc: Global, len: usize, refuse: usize) -> Result<Cells<()>, Refusal> {
+fn made_once<T: Copy>(
+    alloc: Global,
+    len: usize,
+    refuse: usize,
+    value: T,
+) -> Result<Cells<T>, Refusal> {
     Cells::filled_by(alloc, len, |i| {
         if i == refuse {
             return Err(Refusal::At(i));
         }
-        Ok::<(), Refusal>(())
+        Ok::<T, Refusal>(value)
     })
 }
 
-fn units(alloc: Global, len: usize, refuse: usize) -> Result<Cells<()>, Refusal> {
-    match units_once(alloc, len, refuse) {
-        Err(Refusal::Memory) => units_once(alloc, len, refuse),
+/// Cells of one value, refused at one of them.
+fn made<T: Copy>(alloc: Global, len: usize, refuse: usize, value: T) -> Result<Cells<T>, Refusal> {
+    match made_once(alloc, len, refuse, value) {
+        Err(Refusal::Memory) => made_once(alloc, len, refuse, value),
         answer => answer,
     }
 }
 
-#[test]
-fn values_of_no_size(rt: HostRuntime) {
-    let Ok(mut cells) = units(rt.alloc(), 3, 9) else {
-        return assert!(rt; false, "no memory");
-    };
-    assert!(rt; turn_into(&mut cells, &[(); 3], (), &[(); 5]));
-    // 2 ^ 62 of them take no byte, and fit in a block
-    let refused = units(rt.alloc(), 1 << 62, 2);
-    assert!(rt; refused.err() == Some(Refusal::At(2)));
-}
-
-fn wide_once(alloc: Global, len: usize) -> Result<Cells<u128>, AllocError> {
-    Cells::filled_by(alloc, len, |i| Ok::<u128, AllocError>(i as u128))
-}
-
-fn wide(alloc: Global, len: usize) -> Result<Cells<u128>, AllocError> {
-    match wide_once(alloc, len) {
-        Err(_) => wide_once(alloc, len),
-        answer => answer,
+/// Whether cells of one value become more or fewer of it.
+fn become_others<T: Copy + PartialEq>(alloc: Global, value: T, before: &[T], after: &[T]) -> bool {
+    match made(alloc, before.len(), 9, value) {
+        Ok(mut cells) => turn_into(&mut cells, before, value, after),
+        Err(_) => false,
     }
 }
 
-#[test]
-fn values_of_sixteen_bytes(rt: HostRuntime) {
-    let Ok(mut cells) = wide(rt.alloc(), 3) else {
-        return assert!(rt; false, "no memory");
-    };
-    assert!(rt; turn_into(&mut cells, &[0, 1, 2], 0, &[0, 1]));
-    // 2 ^ 59 of them would take 2 ^ 63 bytes
-    assert!(rt; wide(rt.alloc(), 1 << 59).is_err());
+/// Whether cells of no size, of two bytes and of sixteen become more or fewer, and none of any.
+fn become_each(alloc: Global) -> bool {
+    become_others(alloc, (), &[(); 3], &[(); 5])
+        && become_others(alloc, 9u16, &[], &[9, 9])
+        && become_others(alloc, 9u16, &[9, 9], &[])
+        && become_others(alloc, 7u128, &[7, 7, 7], &[7, 7])
 }
 
-fn nines_once(alloc: Global, len: usize) -> Result<Cells<u16>, AllocError> {
-    Cells::filled_by(alloc, len, |_| Ok::<u16, AllocError>(9))
-}
-
-fn nines(alloc: Global, len: usize) -> Result<Cells<u16>, AllocError> {
-    match nines_once(alloc, len) {
-        Err(_) => nines_once(alloc, len),
-        answer => answer,
-    }
-}
-
-/// Whether no cells become two, and none again.
-fn come_and_go(cells: &mut Cells<u16>) -> bool {
-    cells.len() == 0 && turn_into(cells, &[], 9, &[9, 9]) && turn_into(cells, &[9, 9], 9, &[])
+/// 2 ^ 62 values of no size take no byte, and fit in a block; 2 ^ 59 of sixteen bytes would take 2 ^ 63 bytes.
+fn are_bounded(alloc: Global) -> bool {
+    made(alloc, 1 << 62, 2, ()).err() == Some(Refusal::At(2))
+        && made(alloc, 1 << 59, 2, 7u128).err() == Some(Refusal::Memory)
 }
 
 #[test]
-fn no_cells(rt: HostRuntime) {
-    let Ok(mut cells) = nines(rt.alloc(), 0) else {
-        return assert!(rt; false, "no memory");
-    };
-    assert!(rt; come_and_go(&mut cells));
+fn values_of_several_sizes(rt: HostRuntime) {
+    let alloc = rt.alloc();
+    assert!(rt; become_each(alloc) && are_bounded(alloc));
 }
 
 /// Whether a block of four bytes, filled by one and by three, has them in order.
@@ -348,9 +325,12 @@ fn is_filled_in_pieces(alloc: Global) -> Result<bool, AllocError> {
     Ok(is_whole)
 }
 
+/// Whether a row takes one word, and cells take two.
+fn are_small() -> bool {
+    size_of::<Row<u8>>() == size_of::<usize>() && size_of::<Cells<u8>>() == 2 * size_of::<usize>()
+}
+
 #[test]
 fn a_block_is_filled_in_pieces(rt: HostRuntime) {
-    assert!(rt; is_filled_in_pieces(rt.alloc()) == Ok(true));
-    assert!(rt; size_of::<Row<u8>>() == size_of::<usize>());
-    assert!(rt; size_of::<Cells<u8>>() == 2 * size_of::<usize>());
+    assert!(rt; is_filled_in_pieces(rt.alloc()) == Ok(true) && are_small());
 }

@@ -86,6 +86,11 @@ play("a line at its limit", b"0" * LINE_LIMIT + b"\n" + CREATE + b"\n", 0, STUB 
 play("a line at its limit with CR LF", b"0" * LINE_LIMIT + b"\r\n" + CREATE + b"\n", 0, STUB + b"\n" + CREATED + b"\n", b"")
 play("a line above its limit", CREATE + b"\n" + b"g" * (LINE_LIMIT + 1) + b"\n" + CREATE + b"\n", 4, CREATED + b"\n" + STUB + b"\n", b"oaut: record too long\n")
 play("a last line above its limit", b"0" * (LINE_LIMIT + 2), 4, STUB + b"\n", b"oaut: record too long\n")
+for length in (8_189, 8_190, 8_191, 8_192, 8_193, 30_000):  # a buffer of the output has 8,192 bytes; there are replies of 33 bytes, and of 49
+    stubs = next(it for it in range(49) if (length - 33 * it) % 49 == 0)
+    objects = (length - 33 * stubs) // 49
+    made = b"".join(wire.reply(1, fields=struct.pack("<II", number, 0)) for number in range(1, objects + 1))
+    play(f"replies of {length} bytes", b"00\n" * stubs + (CREATE + b"\n") * objects, 0, (STUB + b"\n") * stubs + made, b"")
 with tempfile.TemporaryDirectory() as folder:
     fault = os.open(folder, os.O_RDONLY)
     play("standard input that cannot be read", None, 1, b"", b"oaut: read fault\n", stdin=fault)
@@ -1060,6 +1065,15 @@ ff0000ff09000000 0300010002000003 03000000 07000000 = 0300000000000000 030000000
 """
 fields = [[bytes.fromhex(side) for side in row.split("=")] for row in FIELDS.split("\n") if row]
 talk("parts of fields that are ignored", FULL, [turn for given, kept in fields for turn in (puts(FULL_ANY, given), gets(FULL_ANY, kept))])
+
+talk(
+    "parts of requests that are ignored",
+    FULL,
+    [
+        (lambda tag: wire.line(tag, wire.oaut.ask_ids(1, ["cELL", "KEY", "none"], locale=0x409)), lambda tag: wire.reply(tag, UNKNOWN_NAME, fields=wire.ids([9, 1, -1]))),
+        (lambda tag: wire.line(tag, struct.pack("<HHII", wire.oaut.RELEASE, 0, 1, 0x0909_0909)), wire.reply),
+    ],
+)
 
 # --- libraries
 

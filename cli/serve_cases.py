@@ -14,7 +14,7 @@ import uuid
 import store
 import wire
 from calls import OUT, STRACE, Calls, each_fails, held, text_held
-from oaut import REDIM, ask_call, ask_create
+from oaut import PUTELEM, REDIM, ask_call, ask_create, indices_field
 from running import CREATE, CREATED, REPLIES, REQUESTS, ROOT, SMALL, Talk, case, ends, fault, fill, leaves, run, run_in, short, taken, tell, text_of, within
 
 SMALL_TEXT, FULL, FULL_TEXT = text_of("small.canonical.idl"), text_of("full.idl"), text_of("full.canonical.idl")
@@ -103,6 +103,47 @@ if 3 in GROUPS:
             session.process.stdin.close()
             tell("serve: the end of the input ends a group", (session.line(), session.status(), text_held(room)) == (wire.reply(4), 0, table(10)))
 
+# --- values and fields, a row each, in an object each: what a put and a get answer, also once the store is opened again, and the image that is kept
+
+
+def rows_of(name):
+    with open(f"{ROOT}/cli/{name}") as file:
+        return [line.rstrip("\n").split(" | ") for line in file if not line.startswith("#")]
+
+
+ANY = 7  # the VARIANT of the full library
+VALUES = {word: [bytes.fromhex(part) for part in parts] for word, *parts in rows_of("values.txt")}
+NO_VALUE = {"BADSTUB": (0x8007_06F7,), "BADVARTYPE": (0x8002_0008, 0)}
+
+
+def field_of(text):
+    """The bytes of a field of fields.txt."""
+    front, *changes = text.split(", at ")
+    field = VALUES[front][0] if front in VALUES else bytes.fromhex(front)
+    for place, digits in (change.split(" ", 1) for change in changes):
+        field = wire.changed(field, int(place), f"{len(bytes.fromhex(digits))}s", bytes.fromhex(digits))
+    return field
+
+
+FIELDS = [(word, field, word) for word, (field, _) in VALUES.items()] + [(name, field_of(text), said) for name, text, said in rows_of("fields.txt")]
+with tempfile.TemporaryDirectory() as room:
+    fill(room, {"lib.idl": FULL, "it.store": bytes(store.formatted(FULL_TEXT))})
+    gets = [wire.get(3, number, ANY) for number in range(1, len(FIELDS) + 1)]
+    asked = [CREATE + b"\n" + wire.put(2, number, ANY, field) + gets[number - 1] for number, (_, field, _) in enumerate(FIELDS, 1)]
+    first, later = (run_in(room, words("--hex"), given=b"".join(given))[1].splitlines(keepends=True) for given in (asked, gets))
+    dumped = run_in(room, ["dump", "it.store"])[1].decode(), text_held(room)
+lines = f"next {len(FIELDS) + 1}\n"
+for number, (name, _, said) in enumerate(FIELDS, 1):
+    field, image = VALUES["EMPTY" if said in NO_VALUE else said]
+    read = wire.reply(3, fields=wire.field(field))
+    wanted = [wire.reply(1, fields=struct.pack("<II", number, 0)), wire.reply(2, *NO_VALUE.get(said, ())), read, read]
+    told = first[3 * number - 3 : 3 * number] + later[number - 1 : number]
+    tell(f"serve: the field of {name}", told == wanted, f"wanted {wanted}, got {told}")
+    lines += f"object {number} {store.guid_text(CLASS)}\n"
+    if said not in NO_VALUE:
+        lines += f"cell {store.guid_text(FACE)} {ANY} - {image.hex()}\n"
+tell("serve: the images of the values", dumped == (lines, lines), [it for it in zip(dumped[0].splitlines(), lines.splitlines()) if it[0] != it[1]])
+
 # --- where a group ends
 
 TEXT_NAME = 2
@@ -120,6 +161,14 @@ def events_of(found):
 
 
 WITH_ITEM = bytes(store.add(store.formatted(FULL_TEXT), CREATED_1))
+# the element at [-1, 5] of the array becomes 6, and its first bound has 3 indices from 10 on
+ELEMENTS = [
+    ("03 01000000 443322116655887799aabbccddeeff02 08000000 0000 0220 0200 02000000 ffffffff 03000000 05000000 0100 0200 0300 0400 0500 0600", wire.put(1, 1, 8, VALUES["GRID"][0])),
+    ("04 01000000 443322116655887799aabbccddeeff02 08000000 0000 0200 ffffffff 05000000 0200 0600", wire.line(2, ask_call(PUTELEM, 1, 8, 2, (), ()) + indices_field([-1, 5]) + wire.field(wire.scalar(wire.I2, 6)))),
+    ("05 01000000 443322116655887799aabbccddeeff02 08000000 0000 03000000 0a000000", wire.line(3, ask_call(REDIM, 1, 8, 2, (), ()) + struct.pack("<Ii", 3, 10))),
+]
+left = store.add(bytearray(WITH_ITEM), *[bytes.fromhex(event) for event, _ in ELEMENTS])
+serves("the events of an array", b"".join(asked for _, asked in ELEMENTS), 0, wire.reply(1) + wire.reply(2) + wire.reply(3), b"", WITH_ITEM, left, "--hex", library=FULL)
 # of puts of texts with these lengths into groups of 4: how many events each group has, and the bytes of the first group's
 EARLY_ENDS = [
     ((262_144, 262_144, 1), [2, 1], 524_354),

@@ -163,6 +163,27 @@ for name, disk, text_ in (
     except (store.NotAStore, store.Damaged) as refusal:
         answer = str(refusal)
     tell(f"the reader on {name}", answer == text_, answer)
+
+
+def holds(what, image):
+    """A store with these bytes for the value of its object, as an event or as its snapshot, and the place of what they are part of."""
+    if what == "value":
+        return store.add(store.formatted(SMALL_TEXT), CREATED_1, b"\3" + name_of(1, 1, []) + image), 8537
+    if what == "event":
+        return store.add(store.formatted(SMALL_TEXT), image), 8511
+    front = store.HEADER.pack(b"OAUTBK01", 1, len(SMALL_TEXT), len(image), bytes(12)) + SMALL_TEXT + image + b"\0"
+    return changed(NEW, store.BANKS, *front), 8503
+
+
+with open(f"{ROOT}/cli/images.txt") as file:
+    for what, digits in [line.rstrip("\n").split(" | ") for line in file if not line.startswith("#")]:
+        disk, place = holds(what, bytes.fromhex(digits))
+        dumps(f"{what} {digits}", disk, 3, "", fault(f"damaged at {place}"))
+        try:
+            answer = store.dump(disk)
+        except store.Damaged as refusal:
+            answer = str(refusal)
+        tell(f"the reader on {what} {digits}", answer == f"damaged at {place}", answer)
 case("dump: a file that is not there", DUMP, 1, b"", fault("cannot read it.store"))
 case("dump: a folder", ["dump", "."], 1, b"", fault("cannot read ."))
 case("dump: a device", ["dump", "/dev/zero"], 1, b"", fault("cannot read /dev/zero"))

@@ -72,80 +72,24 @@ struct Case {
     written: &'static [u8],
 }
 
-static CASES: [Case; 9] = [
-    Case {
-        name: "lines, of which one ends in a carriage return",
-        framing: Framing::HexLines,
-        bytes: b"00ff\r\n1A\n",
-        requests: 2,
-        why: End::Closed,
-        written: b"00ff\n1a\n",
-    },
-    Case {
-        name: "a digit that is none",
-        framing: Framing::HexLines,
-        bytes: b"00\n1z\n22\n",
-        requests: 1,
-        why: End::BadHex(2),
-        written: b"00\n",
-    },
-    Case {
-        name: "a last line without an end",
-        framing: Framing::HexLines,
-        bytes: b"00\n1a",
-        requests: 2,
-        why: End::Closed,
-        written: b"00\n1a\n",
-    },
-    Case {
-        name: "an empty line",
-        framing: Framing::HexLines,
-        bytes: b"00\n\n1a\n",
-        requests: 1,
-        why: End::Closed,
-        written: b"00\n",
-    },
-    Case {
-        name: "records",
-        framing: Framing::Records,
-        bytes: &[2, 0, 0, 0, 7, 8, 1, 0, 0, 0, 9],
-        requests: 2,
-        why: End::Closed,
-        written: &[2, 0, 0, 0, 7, 8, 1, 0, 0, 0, 9],
-    },
-    Case {
-        name: "a length of 0",
-        framing: Framing::Records,
-        bytes: &[1, 0, 0, 0, 9, 0, 0, 0, 0, 5],
-        requests: 1,
-        why: End::Closed,
-        written: &[1, 0, 0, 0, 9],
-    },
-    Case {
-        name: "a length that is cut",
-        framing: Framing::Records,
-        bytes: &[1, 0, 0, 0, 7, 8, 0, 0],
-        requests: 1,
-        why: End::Cut,
-        written: &[1, 0, 0, 0, 7, 2, 0, 0, 0, 0xab, 0xcd],
-    },
-    Case {
-        name: "a record that is cut",
-        framing: Framing::Records,
-        bytes: &[3, 0, 0, 0, 7, 8],
-        requests: 0,
-        why: End::Cut,
-        written: &[2, 0, 0, 0, 0xab, 0xcd],
-    },
-    Case {
-        name: "a length that is too large",
-        framing: Framing::Records,
-        bytes: &[1, 0, 16, 0, 7],
-        requests: 0,
-        why: End::TooLong,
-        written: &[2, 0, 0, 0, 0xab, 0xcd],
-    },
-];
+// A table of them, one a line.
+macro_rules! cases {
+    ($($name:literal: $framing:ident $bytes:expr => $requests:literal, $why:expr, $written:expr;)*) => {
+        [$(Case { name: $name, framing: Framing::$framing, bytes: $bytes, requests: $requests, why: $why, written: $written }),*]
+    };
+}
+
+static CASES: [Case; 9] = cases! {
+    "lines, of which one ends in a carriage return": HexLines b"00ff\r\n1A\n" => 2, End::Closed, b"00ff\n1a\n";
+    "a digit that is none": HexLines b"00\n1z\n22\n" => 1, End::BadHex(2), b"00\n";
+    "a last line without an end": HexLines b"00\n1a" => 2, End::Closed, b"00\n1a\n";
+    "an empty line": HexLines b"00\n\n1a\n" => 1, End::Closed, b"00\n";
+    "records": Records &[2, 0, 0, 0, 7, 8, 1, 0, 0, 0, 9] => 2, End::Closed, &[2, 0, 0, 0, 7, 8, 1, 0, 0, 0, 9];
+    "a length of 0": Records &[1, 0, 0, 0, 9, 0, 0, 0, 0, 5] => 1, End::Closed, &[1, 0, 0, 0, 9];
+    "a length that is cut": Records &[1, 0, 0, 0, 7, 8, 0, 0] => 1, End::Cut, &[1, 0, 0, 0, 7, 2, 0, 0, 0, 0xab, 0xcd];
+    "a record that is cut": Records &[3, 0, 0, 0, 7, 8] => 0, End::Cut, &[2, 0, 0, 0, 0xab, 0xcd];
+    "a length that is too large": Records &[1, 0, 16, 0, 7] => 0, End::TooLong, &[2, 0, 0, 0, 0xab, 0xcd];
+};
 
 static CUTS: [&[usize]; 5] = [&[], &[1], &[1, 1, 1, 1, 1, 1, 1], &[3, 2], &[5]];
 
@@ -162,14 +106,22 @@ fn goes(alloc: Global, case: &Case, cuts: &[usize], times: u64) -> bool {
 
 static TIMES: [u64; 3] = [0, 1, 5];
 
-#[test]
-fn cuts_and_interruptions_change_nothing(rt: HostRuntime) {
+// Whether a case goes so in all cuts, after each number of interruptions.
+fn goes_always(alloc: Global, case: &Case) -> bool {
     for cuts in &CUTS {
         for times in &TIMES {
-            for case in &CASES {
-                expect(&rt, case.name, goes(rt.alloc(), case, cuts, *times));
+            if !goes(alloc, case, cuts, *times) {
+                return false;
             }
         }
+    }
+    true
+}
+
+#[test]
+fn cuts_and_interruptions_change_nothing(rt: HostRuntime) {
+    for case in &CASES {
+        expect(&rt, case.name, goes_always(rt.alloc(), case));
     }
 }
 

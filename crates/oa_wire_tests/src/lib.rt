@@ -1,7 +1,6 @@
-//! Bytes: what stands on the wire and in images, streams, frames and records.
+//! Bytes: what of the wire, of images, streams, frames and records a caller in memory alone sees. The rest is tried by the program's cases.
 #![tactic(auto)]
 
-pub mod digits;
 #[cfg(test)]
 mod frame;
 #[cfg(test)]
@@ -14,7 +13,4 @@ mod record;
 mod rows;
 #[cfg(test)]
 mod stream;
-#[cfg(test)]
-mod wire_array;
-#[cfg(test)]
-mod wire_variant;
+pub mod wire_variant;

@@ -4,8 +4,7 @@ ghost use Rattle.std.specs.Prelude.{false, ◌≡◌};
 use crate::rows::expect;
 use crate::stream::Step::{Ends, Fails, Interrupts, Moves};
 use oa_stream::{
-    Ahead, Behind, Cutting, Gathered, Inlet, Interrupted, More, Next, Outlet, Sink, Source,
-    Unwritten,
+    Ahead, Cutting, Gathered, Inlet, Interrupted, More, Next, Outlet, Sink, Source, Unwritten,
 };
 use std::alloc::Global;
 use std::io::{self, ErrorKind, Read, Write};
@@ -70,28 +69,19 @@ struct Reading {
     next: Next,
 }
 
-static READINGS: [Reading; 4] = [
-    Reading {
-        name: "a byte",
-        step: Moves,
-        next: Next::Bytes(1),
-    },
-    Reading {
-        name: "the end",
-        step: Ends,
-        next: Next::End,
-    },
-    Reading {
-        name: "an interruption",
-        step: Interrupts,
-        next: Next::Again,
-    },
-    Reading {
-        name: "a failure",
-        step: Fails,
-        next: Next::Fault,
-    },
-];
+// A table of them, one a line.
+macro_rules! readings {
+    ($($name:literal: $step:expr => $next:expr;)*) => {
+        [$(Reading { name: $name, step: $step, next: $next }),*]
+    };
+}
+
+static READINGS: [Reading; 4] = readings! {
+    "a byte": Moves => Next::Bytes(1);
+    "the end": Ends => Next::End;
+    "an interruption": Interrupts => Next::Again;
+    "a failure": Fails => Next::Fault;
+};
 
 // What is told of one call, and how many calls it took.
 fn filled(step: Step) -> (Next, usize) {
@@ -109,9 +99,10 @@ fn an_interrupted_read_is_no_failure(rt: HostRuntime) {
     }
 }
 
-// Calls of the writer of the standard library, what becomes of two bytes that are put and delivered twice, and how many calls it takes.
+// Bytes that are put and delivered twice, the calls of the writer of the standard library, what becomes of them, and how many calls it takes.
 struct Writing {
     name: &'static str,
+    bytes: &'static [u8],
     steps: &'static [Step],
     result: Result<(), Unwritten>,
     calls: usize,
@@ -119,88 +110,42 @@ struct Writing {
 
 // A table of them, one a line.
 macro_rules! writings {
-    ($($name:literal: [$($step:expr),*] => $result:expr, $calls:literal;)*) => {
-        [$(Writing { name: $name, steps: &[$($step),*], result: $result, calls: $calls }),*]
+    ($($name:literal: $bytes:expr, [$($step:expr),*] => $result:expr, $calls:literal;)*) => {
+        [$(Writing { name: $name, bytes: $bytes, steps: &[$($step),*], result: $result, calls: $calls }),*]
     };
 }
 
-static WRITINGS: [Writing; 8] = writings! {
-    "two writes and a flush": [Moves, Moves, Moves] => Ok(()), 3;
-    "interrupted writes": [Interrupts, Moves, Interrupts, Moves, Moves] => Ok(()), 5;
-    "a failed write": [Fails, Moves, Moves, Moves] => Err(Unwritten), 1;
-    "a failed second write": [Moves, Fails, Moves, Moves] => Err(Unwritten), 2;
-    "a write of nothing": [Moves, Ends, Moves, Moves] => Err(Unwritten), 2;
-    "an interrupted flush": [Moves, Moves, Interrupts, Moves] => Ok(()), 4;
-    "a failed flush": [Moves, Moves, Fails, Moves] => Err(Unwritten), 3;
-    "a flush that is interrupted and fails": [Moves, Moves, Interrupts, Fails, Moves] => Err(Unwritten), 4;
+static WRITINGS: [Writing; 9] = writings! {
+    "no flush where nothing was written": &[], [] => Ok(()), 0;
+    "two writes and a flush": &[1, 2], [Moves, Moves, Moves] => Ok(()), 3;
+    "interrupted writes": &[1, 2], [Interrupts, Moves, Interrupts, Moves, Moves] => Ok(()), 5;
+    "a failed write": &[1, 2], [Fails, Moves, Moves, Moves] => Err(Unwritten), 1;
+    "a failed second write": &[1, 2], [Moves, Fails, Moves, Moves] => Err(Unwritten), 2;
+    "a write of nothing": &[1, 2], [Moves, Ends, Moves, Moves] => Err(Unwritten), 2;
+    "an interrupted flush": &[1, 2], [Moves, Moves, Interrupts, Moves] => Ok(()), 4;
+    "a failed flush": &[1, 2], [Moves, Moves, Fails, Moves] => Err(Unwritten), 3;
+    "a flush that is interrupted and fails": &[1, 2], [Moves, Moves, Interrupts, Fails, Moves] => Err(Unwritten), 4;
 };
 
-// Puts two bytes and delivers them, and delivers nothing more.
-fn put_two<W: Sink>(writer: &mut W) -> Result<(), Unwritten>
+// Puts bytes and delivers them, and delivers nothing more.
+fn put<W: Sink>(writer: &mut W, bytes: &[u8]) -> Result<(), Unwritten>
     requires { (W.out writer.old).broken ≡ false }
 {
-    writer.put(&[1, 2])?;
+    writer.put(bytes)?;
     writer.deliver()?;
     writer.deliver()
 }
 
-fn written(steps: &[Step]) -> (Result<(), Unwritten>, usize) {
-    let mut writer = Scripted::new(steps);
-    let result = put_two(&mut Outlet::new(&mut writer));
+fn written(row: &Writing) -> (Result<(), Unwritten>, usize) {
+    let mut writer = Scripted::new(row.steps);
+    let result = put(&mut Outlet::new(&mut writer), row.bytes);
     (result, writer.calls)
 }
 
 #[test]
 fn an_interrupted_write_is_made_again_and_a_failed_one_is_not(rt: HostRuntime) {
     for row in &WRITINGS {
-        expect(&rt, row.name, written(row.steps) == (row.result, row.calls));
-    }
-}
-
-#[test]
-fn no_flush_is_wanting_where_nothing_was_written(rt: HostRuntime) {
-    let mut writer = Scripted::new(&[]);
-    let result = Outlet::new(&mut writer).deliver();
-    expect(&rt, "a delivery of nothing", result == Ok(()));
-    expect(&rt, "no call", writer.calls == 0);
-}
-
-// Puts two bytes, as many zeros, and delivers them.
-fn put_zeros<W: Sink>(writer: &mut W, zeros: &[u8]) -> Result<(), Unwritten>
-    requires { (W.out writer.old).broken ≡ false }
-{
-    writer.put(&[1, 2])?;
-    writer.put(zeros)?;
-    writer.deliver()
-}
-
-// Whether they were put through a buffer.
-fn put_through(alloc: Global, bytes: &mut Vec<u8>, zeros: &[u8]) -> bool {
-    match Behind::new(alloc, Outlet::new(bytes)) {
-        Ok(mut writer) => put_zeros(&mut writer, zeros).is_ok(),
-        Err(_) => false,
-    }
-}
-
-// Whether a buffer passes on all of them.
-fn passes_on(alloc: Global, zeros: &[u8]) -> bool {
-    let mut bytes = Vec::new(alloc);
-    put_through(alloc, &mut bytes, zeros) && bytes.strip_prefix(&[1, 2]) == Some(zeros)
-}
-
-fn is_all_passed_on(alloc: Global, count: usize) -> bool {
-    match vec![in alloc; 0u8; count] {
-        Ok(zeros) => passes_on(alloc, &zeros),
-        Err(_) => false,
-    }
-}
-
-static COUNTS: [usize; 8] = [0, 1, 8189, 8190, 8191, 8192, 8193, 30_000];
-
-#[test]
-fn a_buffer_passes_on_all_that_was_put(rt: HostRuntime) {
-    for count in &COUNTS {
-        assert!(rt; is_all_passed_on(rt.alloc(), *count), "{count} zeros");
+        expect(&rt, row.name, written(row) == (row.result, row.calls));
     }
 }
 
@@ -221,13 +166,6 @@ fn shown(alloc: Global) -> [bool; 4] {
 #[test]
 fn a_buffer_shows_what_one_call_gave(rt: HostRuntime) {
     assert_eq!(rt; shown(rt.alloc()), [true; 4]);
-}
-
-#[test]
-fn what_is_put_is_gathered(rt: HostRuntime) {
-    let mut writer = Gathered::new(Vec::new(rt.alloc()));
-    expect(&rt, "put", writer.put(b"xyz").is_ok());
-    expect(&rt, "gathered", writer.bytes() == b"xyz".as_slice());
 }
 
 // What two calls of a reader give that is interrupted once, how many calls it counts, and what is in the buffer.

@@ -76,6 +76,11 @@ for group in map(str, GROUPS):
     answer = bytes.fromhex(wire.reply(1).decode())
     stub = struct.pack("<IIIII", 16, 0, 0x8007_06F7, 0xFFFF_FFFF, 0)
     serves(f"records: and before a record that is cut, groups of {group}", record + b"\7", 4, struct.pack("<I", 16) + answer + stub, fault("record cut"), two, store.add(bytearray(two), put_of(8)), "--group", group)
+if 3 in GROUPS:
+    coming, gone = CREATED_1 + b"\1" + struct.pack("<I", 2) + CLASS, b"\2" + struct.pack("<I", 1)
+    asked = wire.release(1, 1) + (CREATE + b"\n") * 2 + wire.release(4, 1)
+    told = wire.reply(1, 0x8001_0108) + b"".join(wire.reply(1, fields=struct.pack("<II", number, 0)) for number in (1, 2)) + wire.reply(4)
+    serves("two objects come in one group, and one of them goes in the next", asked, 0, told, b"", NEW, store.add(bytearray(NEW), coming, gone), "--hex", "--group", "3")
 with open("/dev/full", "wb") as full:
     serves("the group in hand is committed where nobody takes its replies", put(1, 8), 1, None, fault("write fault"), two, store.add(bytearray(two), put_of(8)), "--hex", "--group", str(GROUPS[-1]), stdout=full)
 for fd, status, text in ((0, 1, "read fault"), (1, 1, "write fault")):
@@ -201,6 +206,25 @@ if 4 in GROUPS:
                 tell(f"serve: replies to texts of {lengths} bytes before more is sent, groups of 4: {ended}", told == ended)
                 session.process.stdin.close()
                 tell(f"serve: and all of them at the end, {lengths}", (session.line() + session.line(), session.status()) == (wire.reply(0) + wire.reply(1), 0))
+# as many requests as wait for one more, by their number alone: gets, and puts of texts whose events have 524,287 bytes
+MANY_TEXTS = [text_put(bytes(length), tag) for tag, length in enumerate((262_144, 228_384, *[0] * 1_021))]
+tell("serve: the bytes of the events of 1,023 texts", sum(len(event) for event, _ in MANY_TEXTS) == 524_287)
+for what, size, waiting, replies in (
+    ("gets", 3, [get(tag) for tag in range(2)], [got(tag, 0) for tag in range(2)]),
+    ("gets", 1_024, [get(tag) for tag in range(1_023)], [got(tag, 0) for tag in range(1_023)]),
+    ("texts", 1_024, [asked for _, asked in MANY_TEXTS], [wire.reply(tag) for tag in range(1_023)]),
+):
+    if size not in GROUPS:
+        continue
+    with tempfile.TemporaryDirectory() as room:
+        fill(room, {"it.store": WITH_ITEM})
+        with Talk(FULL, ("--hex", "--group", str(size)), room=room, command=("serve", "it.store")) as session:
+            session.send(b"".join(waiting))
+            early = select.select([session.process.stdout], [], [], 0.5)[0]
+            session.send(get(size))
+            wanted = b"".join(replies) + got(size, 0)
+            told = session.bytes(len(wanted))
+            tell(f"serve: {len(waiting)} {what} wait for one more, groups of {size}", (early, told) == ([], wanted), (bool(early), short(told)))
 if 3 in GROUPS:
     with tempfile.TemporaryDirectory() as room, open("/dev/full", "wb") as full:
         fill(room, {"it.store": two})
@@ -249,11 +273,16 @@ case("serve: standard input cannot hold library and requests", ["serve", "it.sto
 for name, disk, text in (
     ("a disk of zeros", bytes(store.LEAST), "not a store"),
     ("a file of 100 bytes", two[:100], "not a store"),
+    ("a first byte of 255", b"\xff" + two[1:], "not a store"),
+    ("a bank that was never written", two[:4096] + b"\1" + two[4097:], "damaged at 16785408"),
     ("another library", bytes(store.formatted(FULL_TEXT)), "library differs"),
     ("another library whose snapshot is damaged", bytes(store.formatted(FULL_TEXT)).replace(FULL_TEXT + b"\1", FULL_TEXT + b"\0"), "library differs"),
     ("a byte of the library", two[:8224] + b"\0" + two[8225:], "library differs"),
     ("a bank's first byte", two[:8192] + b"\0" + two[8193:], "damaged at 8192"),
+    ("a format 2", two[:8200] + b"\2" + two[8201:], "damaged at 8192"),
+    ("a snapshot beyond the bank", two[:8211] + b"\xff" + two[8212:], "damaged at 8192"),
     ("a snapshot", two[:8503] + bytes(4) + two[8507:], "damaged at 8503"),
+    ("a group of no bytes", two[:8512] + b"\0" + two[8513:], "damaged at 8511"),
     ("a group", two[:8516] + b"\x09" + two[8517:], "damaged at 8511"),
 ):
     serves(f"{name}: {text}", REQUESTS, 3, b"", fault(text), disk, disk, "--hex")
@@ -317,6 +346,14 @@ nearly = store.add(store.formatted(FULL_TEXT), CREATED_1, *[text_put(LONGEST)[0]
 room_left = store.BANKS + store.BANK - store.read(nearly).gate
 fills = text_put(bytes(room_left - 1_572_869 - 38))[0]
 at_limit, due = store.add(bytearray(nearly), fills), store.add(bytearray(nearly), fills + text_put(b"")[0])
+# the other bank behind a checkpoint and one group
+image = struct.pack("<III", 2, 1, 1) + CLASS + struct.pack("<I", 1) + text_put(b"")[0][5:]
+front = store.HEADER.pack(b"OAUTBK01", 1, len(FULL_TEXT), len(image), bytes(12)) + FULL_TEXT + image
+later = text_put(b"ab")[0]
+bank = front + b"\1" + struct.pack("<I", len(later)) + later + b"\0"
+settled = bytearray(due)
+settled[4096] = 1
+settled[store.BANKS + store.BANK : store.BANKS + store.BANK + len(bank)] = bank
 for name, disk, chosen in (("is not due at a room of 1,572,869 bytes", at_limit, 0), ("is due below", due, 1)):
     with tempfile.TemporaryDirectory() as room:
         fill(room, {"lib.idl": FULL, "it.store": bytes(disk)})
@@ -324,6 +361,7 @@ for name, disk, chosen in (("is not due at a room of 1,572,869 bytes", at_limit,
         found = store.read(held(room))
         tell(f"serve: a checkpoint {name}", (answer, found.chosen, len(found.groups) > 1) == ((0, wire.reply(1), b""), chosen, chosen == 0), (answer, found.chosen, store.BANKS + store.BANK - store.read(disk).gate))
         tell(f"serve: a checkpoint {name}: what is there", store.dump(held(room)) == store.dump(store.add(bytearray(at_limit), text_put(b"ab")[0])))
+        tell(f"serve: a checkpoint {name}: each byte", held(room) == (settled if chosen else store.add(bytearray(at_limit), later)))
 
 # --- the calls of the system, and a device that fails
 
@@ -477,6 +515,8 @@ else:
     length = 32 + len(FULL_TEXT) + 8 + 24 + 28 + 1
     tell("serve: a checkpoint writes the other bank from its start", pieces[0][1] == store.BANKS + store.BANK and sum(it[2] for it in pieces) == length, pieces)
     tell("serve: and syncs it, writes its number, syncs, and then the group goes into it", [it[0] for it in rest[len(pieces) :]] == ["sync", "write", "sync", *COMMIT] and rest[len(pieces) + 1] == ("write", 4096, 1), rest)
+    gate = store.BANKS + store.BANK + length - 1
+    tell("serve: a frame behind the gate of that bank, and then the gate", [it[1:] for it in rest[settles:] if it[0] == "write"] == [(gate + 1, 4 + len(event) + 1), (gate, 1)], rest)
     before, after = store.dump(due), store.dump(store.add(bytearray(at_limit), event))
 
     def checkpoint_fails(place, what, answer, room):

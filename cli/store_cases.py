@@ -94,6 +94,8 @@ dumps("both events in one group", store.add(store.formatted(SMALL_TEXT), CREATED
 dumps("a longer file", two + b"\xab" * 1_000, 0, ONE)
 dumps("what stands behind the closed gate counts for nothing", changed(two, 8575, 0, 21, 0, 0, 0, 9), 0, ONE)
 dumps("a gate of 255 is closed", changed(two, 8537, 255), 0, "next 2\nobject 1 11223344-5566-7788-99aa-bbccddeeff03\n")
+dumps("a gate of 7 is closed", changed(two, 8511, 7), 0, "next 1\n")
+dumps("a library of another first letter", changed(two, 8224, 109), 0, ONE)
 dumps("bank 1, by a selector of 255", changed(two[: store.BANKS] + two[store.BANKS + store.BANK :] + two[store.BANKS : store.BANKS + store.BANK], 4096, 255), 0, ONE)
 SORTED = [  # cells by rising place: the interface as a number of 128 bits, the DISPID, the key
     (bytes(16), 5, [], long_image(1)),
@@ -136,6 +138,17 @@ grid = name_of(2, 2, [])
 element, redim, release = b"\4" + grid + struct.pack("<HiiHh", 2, 0, 7, 2, -9), b"\5" + grid + struct.pack("<Ii", 3, 10), b"\2" + struct.pack("<I", 1)
 dumps("an element and bounds that change, and an object that goes", store.add(many, element, redim + release), 0, "next 3\nobject 2 %s\n%s" % (store.guid_text(CLASS), lines.replace(GRID, GRID_LATER)))
 
+
+def put_text(count):
+    """The event that puts a text of so many letters A into object 1."""
+    return b"\3" + name_of(1, 2, []) + text_image(b"A" * count)
+
+
+# a front of 319 bytes, a group of 26, 63 of 262,182 and one of 259,404: the closed gate is the bank's last byte
+full_bank = store.add(store.formatted(SMALL_TEXT), CREATED_1, *[put_text(262_144)] * 63, put_text(259_366))
+dumps("a bank that is full up to its last byte", full_bank, 0, "next 2\nobject 1 %s\ncell %s 2 - %s\n" % (store.guid_text(CLASS), store.guid_text(FACE), text_image(b"A" * 259_366).hex()))
+CREATED_AND_PUT = CREATED_1 + put_text(4)
+
 for name, disk, text_ in (
     ("a disk of zeros", bytes(store.LEAST), "not a store"),
     ("a file of 100 bytes", two[:100], "not a store"),
@@ -152,8 +165,11 @@ for name, disk, text_ in (
     ("a snapshot that ends too early", changed(two, 8208, 7), "damaged at 8503"),
     ("a group of no bytes", changed(two, 8512, 0, 0, 0, 0), "damaged at 8511"),
     ("a group beyond the bank", changed(two, 8512, 255, 255, 255, 0), "damaged at 8511"),
+    ("a group as long as a bank", changed(two, 8512, 0, 0, 0, 1), "damaged at 8511"),
     ("an event of the kind 9", changed(two, 8516, 9), "damaged at 8511"),
     ("an event that does not apply", changed(two, 8517, 2), "damaged at 8511"),
+    ("an object that comes twice", store.add(store.formatted(SMALL_TEXT), CREATED_1, CREATED_1), "damaged at 8537"),
+    ("a group of two events that comes twice", store.add(store.formatted(SMALL_TEXT), CREATED_AND_PUT, CREATED_AND_PUT), "damaged at 8574"),
     ("a put into an object that is not there", changed(two, 8543, 2), "damaged at 8537"),
     ("a value of the type 7", changed(two, 8569, 7), "damaged at 8537"),
 ):
@@ -187,6 +203,11 @@ with open(f"{ROOT}/cli/images.txt") as file:
 case("dump: a file that is not there", DUMP, 1, b"", fault("cannot read it.store"))
 case("dump: a folder", ["dump", "."], 1, b"", fault("cannot read ."))
 case("dump: a device", ["dump", "/dev/zero"], 1, b"", fault("cannot read /dev/zero"))
+with tempfile.TemporaryDirectory() as room:
+    fill(room, {"it.store": two})
+    os.chmod(f"{room}/it.store", 0o444)
+    got = run_in(room, DUMP)
+    tell("dump: a file that is only to be read, which one who may do anything opens all the same", got in ((0, ONE.encode(), b""), (1, b"", fault("cannot read it.store"))), got)
 with open("/dev/full", "wb") as full:
     case("dump: standard output takes nothing", DUMP, 1, None, fault("write fault"), files={"it.store": two}, stdout=full)
     case("dump: standard output takes nothing of many lines", DUMP, 1, None, fault("write fault"), files={"it.store": store.add(store.formatted(SMALL_TEXT), b"".join(b"\1" + struct.pack("<I", it) + CLASS for it in range(1, 5_000)))}, stdout=full)

@@ -1,25 +1,23 @@
+//! Disks in memory, crashed at each moment, and what the other disks refuse.
+use crate::moments::begun_at;
 use oa_disk::{
     DeviceFault, Disk, FileDisk, FuseDisk, MemoryDisk, NoDisk, Tear, flip, write_then_flip,
 };
-use std::alloc::{AllocError, Global};
-use std::fs::{self, OpenFile, OpenOptions, Permissions};
+use std::alloc::Global;
+use std::fs::{self, OpenFile, OpenOptions};
 use std::io::{self, ErrorKind};
-use std::os::unix::fs::PermissionsExt;
 use std::test::Fail;
 
 const SIZE: usize = 16;
 
-#[derive(Clone, Copy, PartialEq, Eq)]
+#[derive(Clone, Copy)]
 enum Kind {
-    /// One byte.
     Read,
-    /// The whole disk.
-    ReadAll,
     Write,
     Sync,
 }
 
-use Kind::{Read, ReadAll, Sync, Write};
+use Kind::{Read, Sync, Write};
 
 /// A call, its place, and the bytes that it writes or gives.
 type Step = (Kind, u64, &'static [u8]);
@@ -33,7 +31,7 @@ const SCRIPT: [Step; 12] = [
     (Write, 4, &[9, 10, 11, 12]),
     (Sync, 0, &[]),
     (
-        ReadAll,
+        Read,
         0,
         &[1, 2, 5, 6, 9, 10, 11, 12, 0, 0, 0, 0, 0, 0, 0, 0],
     ),
@@ -90,27 +88,22 @@ const TEARS: [Tear; 9] = [
     Tear::Cut(100),
 ];
 
-/// A read that gives other bytes than wanted is answered as a failed one.
-fn told(same: bool) -> Result<(), DeviceFault> {
-    if same { Ok(()) } else { Err(DeviceFault::Read) }
-}
-
-fn gives_byte<D: Disk>(disk: &mut D, at: u64, wanted: &[u8]) -> Result<(), DeviceFault> {
-    if at >= disk.size() {
+/// Reads as many bytes as wanted. A read that gives others is answered as a failed one.
+fn gives<D: Disk>(disk: &mut D, at: u64, wanted: &[u8]) -> Result<(), DeviceFault> {
+    let size = disk.size();
+    let mut bytes = [0; SIZE];
+    let Some(part) = bytes.get_mut(..wanted.len()) else {
+        return Ok(());
+    };
+    if at > size || part.len() as u64 > size - at {
         return Ok(());
     }
-    let mut byte = [0; 1];
-    disk.read_at(at, &mut byte)?;
-    told(byte.as_slice() == wanted)
-}
-
-fn gives_all<D: Disk>(disk: &mut D, wanted: &[u8]) -> Result<(), DeviceFault> {
-    if disk.size() != 16 {
-        return Ok(());
+    disk.read_at(at, part)?;
+    if *part == *wanted {
+        Ok(())
+    } else {
+        Err(DeviceFault::Read)
     }
-    let mut all = [0; SIZE];
-    disk.read_at(0, &mut all)?;
-    told(all.as_slice() == wanted)
 }
 
 fn puts<D: Disk>(disk: &mut D, at: u64, bytes: &[u8]) -> Result<(), DeviceFault> {
@@ -125,8 +118,7 @@ fn puts<D: Disk>(disk: &mut D, at: u64, bytes: &[u8]) -> Result<(), DeviceFault>
 fn make<D: Disk>(disk: &mut D, step: Step) -> Result<(), DeviceFault> {
     let (kind, at, bytes) = step;
     match kind {
-        Read => gives_byte(disk, at, bytes),
-        ReadAll => gives_all(disk, bytes),
+        Read => gives(disk, at, bytes),
         Write => puts(disk, at, bytes),
         Sync => disk.sync(),
     }
@@ -170,7 +162,7 @@ fn torn_byte(before: u8, written: u8, tear: Tear, number: u64) -> u8 {
 /// The disk after a crash, made byte by byte: what was written up to the last sync that had ended, and then what the tear
 /// makes of the bytes of the calls that had begun.
 fn image_left(written: &[Written], synced: u64, moment: u64, tear: Tear) -> [u8; SIZE] {
-    let begun = moment.div_ceil(2);
+    let begun = begun_at(moment);
     let mut image = [0; SIZE];
     let mut number = 0u64;
     for (call, place, value) in written {
@@ -201,18 +193,22 @@ fn synced_at(syncs: &[(u64, u64)], moment: u64) -> u64 {
 }
 
 /// Whether the disk holds those bytes.
-fn holds(disk: &MemoryDisk, wanted: &[u8]) -> Result<bool, AllocError> {
-    let bytes = disk.bytes()?;
-    Ok(bytes.as_slice() == wanted)
+fn holds(disk: &MemoryDisk, wanted: &[u8]) -> bool {
+    match disk.bytes() {
+        Ok(bytes) => bytes.as_slice() == wanted,
+        Err(_) => false,
+    }
 }
 
 /// Whether the disk, crashed at that moment, holds those bytes.
-fn leaves(disk: &MemoryDisk, moment: u64, tear: Tear, wanted: &[u8]) -> Result<bool, AllocError> {
+fn leaves(disk: &MemoryDisk, moment: u64, tear: Tear, wanted: &[u8]) -> bool {
     if moment > disk.moments() {
-        return Ok(false);
+        return false;
     }
-    let left = disk.crash(moment, tear)?;
-    holds(&left, wanted)
+    match disk.crash(moment, tear) {
+        Ok(left) => holds(&left, wanted),
+        Err(_) => false,
+    }
 }
 
 /// The first moment and tear at which a crash leaves other bytes than these writes and syncs do.
@@ -220,25 +216,16 @@ fn first_other_image(
     disk: &MemoryDisk,
     written: &[Written],
     syncs: &[(u64, u64)],
-) -> Result<Option<(u64, Tear)>, AllocError> {
+) -> Option<(u64, Tear)> {
     for moment in 0..disk.moments().saturating_add(1) {
         for tear in TEARS {
             let wanted = image_left(written, synced_at(syncs, moment), moment, tear);
-            if !leaves(disk, moment, tear, &wanted)? {
-                return Ok(Some((moment, tear)));
+            if !leaves(disk, moment, tear, &wanted) {
+                return Some((moment, tear));
             }
         }
     }
-    Ok(None)
-}
-
-#[test]
-fn each_tear_at_each_moment(rt: HostRuntime) -> Result<(), Fail> {
-    let mut disk = MemoryDisk::new(rt.alloc(), SIZE, SCRIPT.len(), WRITTEN.len())?;
-    let made = (play(&mut disk, &SCRIPT), disk.moments());
-    let other = first_other_image(&disk, &WRITTEN, &SYNCS)?;
-    assert_eq!(rt; (made, other), ((12, 24), None));
-    Ok(())
+    None
 }
 
 /// Some of these images, by hand.
@@ -262,25 +249,40 @@ const BY_HAND: [(u64, Tear, [u8; SIZE]); 5] = [
     (24, Tear::Kept, LAST),
 ];
 
-#[test]
-fn some_images_by_hand(rt: HostRuntime) -> Result<(), Fail> {
+/// The first of those that a crash does not leave.
+fn first_other_by_hand(disk: &MemoryDisk) -> Option<(u64, Tear)> {
     for (moment, tear, wanted) in BY_HAND {
-        assert_eq!(rt;
-            image_left(&WRITTEN, synced_at(&SYNCS, moment), moment, tear),
-            wanted
-        );
+        if !leaves(disk, moment, tear, &wanted) {
+            return Some((moment, tear));
+        }
     }
-    Ok(())
+    None
+}
+
+/// A disk with room for the script.
+fn new(alloc: Global) -> Option<MemoryDisk> {
+    MemoryDisk::new(alloc, SIZE, SCRIPT.len(), WRITTEN.len()).ok()
+}
+
+/// The first crash of a disk that has served the script, at any moment, that leaves other bytes; None where it has not served it.
+fn torn(alloc: Global) -> Option<Option<(u64, Tear)>> {
+    let mut disk = new(alloc)?;
+    if play(&mut disk, &SCRIPT) != 12 || disk.moments() != 24 {
+        return None;
+    }
+    match first_other_image(&disk, &WRITTEN, &SYNCS) {
+        None => Some(first_other_by_hand(&disk)),
+        other => Some(other),
+    }
 }
 
 /// Whether a crashed disk has no call behind it, and room for the same calls.
-fn starts_again(alloc: Global) -> Result<bool, AllocError> {
-    let mut disk = MemoryDisk::new(alloc, SIZE, SCRIPT.len(), WRITTEN.len())?;
-    let before = disk.moments();
+fn starts_again(alloc: Global) -> Option<bool> {
+    let mut disk = new(alloc)?;
     play(&mut disk, &SCRIPT);
-    let mut left = disk.crash(before, Tear::Kept)?;
+    let mut left = disk.crash(0, Tear::Kept).ok()?;
     let fresh = left.moments() == 0 && left.failures() == 0;
-    Ok(fresh && play(&mut left, &SCRIPT) == 12 && holds(&left, &LAST)?)
+    Some(fresh && play(&mut left, &SCRIPT) == 12 && holds(&left, &LAST))
 }
 
 const PAST_THE_ROOM: [Row; 7] = [
@@ -294,62 +296,53 @@ const PAST_THE_ROOM: [Row; 7] = [
 ];
 
 /// Whether a disk with room for three calls and five bytes counts what goes past it, and keeps what does not.
-fn keeps_its_room(alloc: Global) -> Result<bool, AllocError> {
-    let mut disk = MemoryDisk::new(alloc, 8, 3, 5)?;
+fn keeps_its_room(alloc: Global) -> Option<bool> {
+    let mut disk = MemoryDisk::new(alloc, 8, 3, 5).ok()?;
     let is_told = answers(&mut disk, &PAST_THE_ROOM) && disk.moments() == 6;
-    Ok(is_told && holds(&disk, &[1, 2, 3, 0, 4, 5, 0, 0])?)
-}
-
-#[test]
-fn a_call_past_the_room_is_a_counted_failure(rt: HostRuntime) -> Result<(), Fail> {
-    assert!(rt; keeps_its_room(rt.alloc())?);
-    Ok(())
-}
-
-#[test]
-fn a_crashed_disk_starts_again(rt: HostRuntime) -> Result<(), Fail> {
-    assert!(rt; starts_again(rt.alloc())?);
-    Ok(())
+    Some(is_told && holds(&disk, &[1, 2, 3, 0, 4, 5, 0, 0]))
 }
 
 /// Whether so many of the first calls pass, each of the others fails as its kind does, and the disk within has met the
 /// first alone.
-fn blows_at(alloc: Global, first_failing: u64) -> Result<bool, AllocError> {
-    let inner = MemoryDisk::new(alloc, SIZE, SCRIPT.len(), WRITTEN.len())?;
-    let mut disk = FuseDisk::new(inner, first_failing);
+fn blows_at(alloc: Global, first_failing: u64) -> Option<bool> {
+    let mut disk = FuseDisk::new(new(alloc)?, first_failing);
     let passed = first_failing.saturating_sub(1).min(12);
     let mut good = true;
     let mut number = 0u64;
     for step in SCRIPT {
         let wanted = match step.0 {
             _ if number < passed => Ok(()),
-            Read | ReadAll => Err(DeviceFault::Read),
+            Read => Err(DeviceFault::Read),
             _ => Err(DeviceFault::Write),
         };
         good = make(&mut disk, step) == wanted && good;
         number = number.saturating_add(1);
     }
     good = disk.failures() == number - passed.min(number) && good;
-    Ok(good && disk.into_inner().moments() == passed.saturating_mul(2))
+    Some(good && disk.into_inner().moments() == passed.saturating_mul(2))
+}
+
+/// The first call from which on a fuse does otherwise.
+fn first_unblown(alloc: Global) -> Option<u64> {
+    for first_failing in 0..15 {
+        if blows_at(alloc, first_failing) != Some(true) {
+            return Some(first_failing);
+        }
+    }
+    None
+}
+
+/// Whether each call of a disk of no bytes succeeds.
+fn is_of_no_bytes() -> bool {
+    let mut disk = NoDisk::new();
+    let is_read = disk.read_at(0, &mut []).is_ok();
+    let is_written = disk.write_at(0, &[]).is_ok() && disk.sync().is_ok();
+    is_read && is_written && disk.size() == 0 && disk.failures() == 0
 }
 
 #[test]
 fn a_fuse_passes_the_calls_before_it_on(rt: HostRuntime) -> Result<(), Fail> {
-    for first_failing in 0..15 {
-        assert!(rt;
-            blows_at(rt.alloc(), first_failing)?,
-            "from call {first_failing} on"
-        );
-    }
-    Ok(())
-}
-
-#[test]
-fn a_disk_of_no_bytes(rt: HostRuntime) -> Result<(), Fail> {
-    let mut disk = NoDisk::new();
-    let answers = [disk.read_at(0, &mut []), disk.write_at(0, &[]), disk.sync()];
-    assert_eq!(rt; answers, [Ok(()), Ok(()), Ok(())]);
-    assert_eq!(rt; (disk.size(), disk.failures()), (0, 0));
+    assert_eq!(rt; (first_unblown(rt.alloc()), is_of_no_bytes()), (None, true));
     Ok(())
 }
 
@@ -359,172 +352,119 @@ const GATED: [Written; 4] = [(1, 5, 7), (1, 6, 8), (1, 7, 9), (3, 4, 1)];
 /// The moments at which the syncs of these four calls have ended.
 const GATE_SYNCS: [(u64, u64); 2] = [(4, 2), (8, 4)];
 
+/// The first crash of a disk whose gate was opened that leaves other bytes; None where the gate is not opened, then closed, then left as it is
+/// since the room of the record is used up.
+fn gated(alloc: Global) -> Option<Option<(u64, Tear)>> {
+    let mut disk = MemoryDisk::new(alloc, SIZE, 7, 16).ok()?;
+    let is_made = write_then_flip(&mut disk, 5, &[7, 8, 9], 4, 1).is_ok() && disk.moments() == 8;
+    let other = first_other_image(&disk, &GATED, &GATE_SYNCS);
+    let is_closed = flip(&mut disk, 4, 0).is_ok();
+    let is_full = flip(&mut disk, 4, 1) == Err(DeviceFault::Write);
+    let is_kept = holds(&disk, &[0, 0, 0, 0, 0, 7, 8, 9, 0, 0, 0, 0, 0, 0, 0, 0]);
+    if is_made && is_closed && is_full && is_kept {
+        Some(other)
+    } else {
+        None
+    }
+}
+
 #[test]
-fn a_gate_is_open_once_the_bytes_are_whole(rt: HostRuntime) -> Result<(), Fail> {
-    let mut disk = MemoryDisk::new(rt.alloc(), SIZE, 7, 16)?;
-    let made = (
-        write_then_flip(&mut disk, 5, &[7, 8, 9], 4, 1),
-        disk.moments(),
+fn disks_in_memory(rt: HostRuntime) -> Result<(), Fail> {
+    let crashed = (torn(rt.alloc()), gated(rt.alloc()));
+    let is_well = (keeps_its_room(rt.alloc()), starts_again(rt.alloc()));
+    assert_eq!(rt;
+        (crashed, is_well),
+        ((Some(None), Some(None)), (Some(true), Some(true)))
     );
-    let other = first_other_image(&disk, &GATED, &GATE_SYNCS)?;
-    assert_eq!(rt; (made, other), ((Ok(()), 8), None));
-    Ok(())
-}
-
-/// What a gate is answered when it is closed, and opened once the room of the record is used up, and whether the disk holds what was written before.
-fn closes(alloc: Global) -> Result<([Result<(), DeviceFault>; 3], bool), AllocError> {
-    let mut disk = MemoryDisk::new(alloc, SIZE, 7, 16)?;
-    let made = write_then_flip(&mut disk, 5, &[7, 8, 9], 4, 1);
-    let answers = [made, flip(&mut disk, 4, 0), flip(&mut disk, 4, 1)];
-    let is_kept = holds(&disk, &[0, 0, 0, 0, 0, 7, 8, 9, 0, 0, 0, 0, 0, 0, 0, 0])?;
-    Ok((answers, is_kept))
-}
-
-#[test]
-fn a_gate_is_closed_and_stays_so_without_room(rt: HostRuntime) -> Result<(), Fail> {
-    let wanted = [Ok(()), Ok(()), Err(DeviceFault::Write)];
-    assert_eq!(rt; closes(rt.alloc())?, (wanted, true));
     Ok(())
 }
 
 /// How many of so many crashes of a disk of that size leave its last byte, which was written and not brought to the device.
-fn crashes(alloc: Global, size: usize, count: u64) -> Result<u64, AllocError> {
-    let mut disk = MemoryDisk::new(alloc, size, 8, 16)?;
+fn crashes(alloc: Global, size: usize, count: u64) -> Option<u64> {
+    let mut disk = MemoryDisk::new(alloc, size, 8, 16).ok()?;
     let last = disk.size().saturating_sub(1);
     let _ = puts(&mut disk, last, &[7]);
     let mut kept = 0u64;
     for _ in 0..count {
-        let mut left = disk.crash(disk.moments(), Tear::Kept)?;
-        if gives_byte(&mut left, last, &[7]).is_ok() {
+        let mut left = disk.crash(disk.moments(), Tear::Kept).ok()?;
+        if gives(&mut left, last, &[7]).is_ok() {
             kept = kept.saturating_add(1);
         }
     }
-    Ok(kept)
+    Some(kept)
 }
 
 /// A crash costs a copy of what was written: by two copies of the disk these would take some minutes.
 #[test]
 fn thousands_of_crashes_of_a_large_disk(rt: HostRuntime) -> Result<(), Fail> {
-    assert_eq!(rt; crashes(rt.alloc(), 33_562_624, 5000)?, 5000);
+    assert_eq!(rt; crashes(rt.alloc(), 33_562_624, 5000), Some(5000));
     Ok(())
 }
-
-const PATH: &str = "./oa_disk_made";
-
-/// Whether the script and a sync pass, and no failure is counted.
-fn is_written(disk: io::Result<FileDisk>) -> bool {
-    match disk {
-        Ok(mut disk) => {
-            play(&mut disk, &SCRIPT) == 12 && disk.sync() == Ok(()) && disk.failures() == 0
-        }
-        Err(_) => false,
-    }
-}
-
-/// Whether a disk of that size was opened, and each call has its answer and its count.
-fn meets(disk: io::Result<FileDisk>, size: u64, rows: &[Row]) -> bool {
-    match disk {
-        Ok(mut disk) => disk.size() == size && answers(&mut disk, rows),
-        Err(_) => false,
-    }
-}
-
-const WHOLE: [Row; 2] = [
-    ((ReadAll, 0, &LAST), Ok(()), 0),
-    ((Sync, 0, &[]), Ok(()), 0),
-];
 
 /// What lies past the end is a counted failure.
 const CUT_AT_8: [Row; 4] = [
     ((Read, 7, &[12]), Ok(()), 0),
-    ((ReadAll, 0, &LAST), Err(DeviceFault::Read), 1),
+    ((Read, 0, &LAST), Err(DeviceFault::Read), 1),
     ((Sync, 0, &[]), Ok(()), 1),
     ((Read, 8, &[21]), Err(DeviceFault::Read), 2),
 ];
 
-/// Makes the file shorter, as another program would.
-fn cut(rt: &HostRuntime) -> io::Result<()> {
-    OpenOptions::new().write(true).open(rt, PATH)?.set_len(8)
-}
-
-/// Whether what is open stays a disk of its length while its file is made shorter.
-fn meets_when_cut(rt: &HostRuntime) -> bool {
-    let disk = FileDisk::open(rt, PATH);
-    cut(rt).is_ok() && meets(disk, 16, &CUT_AT_8)
-}
-
-#[test]
-fn a_file_keeps_what_was_synced(rt: HostRuntime) -> Result<(), Fail> {
-    let _ = fs::remove_file(&rt, PATH);
-    let written = is_written(FileDisk::create(&rt, PATH, 16));
-    let whole = meets(FileDisk::open(&rt, PATH), 16, &WHOLE);
-    assert_eq!(rt; [written, whole, meets_when_cut(&rt)], [true; 3]);
-    fs::remove_file(&rt, PATH)?;
-    Ok(())
+/// Whether what is open stays a disk of its length while its file is made shorter, as another program would.
+fn meets_when_cut(rt: &HostRuntime, path: &str) -> io::Result<bool> {
+    let mut disk = FileDisk::create(rt, path, 16)?;
+    let is_written = play(&mut disk, &SCRIPT) == 12;
+    let file = OpenOptions::new().write(true).open(rt, path)?;
+    file.set_len(8)?;
+    Ok(is_written && disk.size() == 16 && answers(&mut disk, &CUT_AT_8))
 }
 
 /// The fault of an opening.
 fn refusal(disk: io::Result<FileDisk>) -> Option<ErrorKind> {
-    disk.err().map(|error| error.kind())
+    match disk {
+        Ok(_) => None,
+        Err(error) => Some(error.kind()),
+    }
 }
 
 const THERE: &str = "oa_disk_there";
 
-const UNSYNCED: &str = "/proc/self/comm";
+const LARGE: &str = "oa_disk_large";
 
-/// The last is a regular file to which nothing can be brought: its sync is an error.
-const NO_DISKS: [(&str, ErrorKind); 6] = [
-    ("oa_disk_missing", ErrorKind::NotFound),
-    ("oa_disk_there/below", ErrorKind::NotADirectory),
-    (".", ErrorKind::IsADirectory),
-    ("/dev/null", ErrorKind::Unsupported),
-    ("a\0b", ErrorKind::InvalidInput),
-    (UNSYNCED, ErrorKind::InvalidInput),
+/// What is no disk where it is opened, and what is not made with so many bytes. /proc/self/comm is a regular file to which nothing can be
+/// brought: its sync is an error. What could not be filled is removed again.
+const NO_DISKS: [(&str, Option<u64>, ErrorKind); 11] = [
+    ("oa_disk_missing", None, ErrorKind::NotFound),
+    ("oa_disk_there/below", None, ErrorKind::NotADirectory),
+    (".", None, ErrorKind::IsADirectory),
+    ("/dev/null", None, ErrorKind::Unsupported),
+    ("a\0b", None, ErrorKind::InvalidInput),
+    ("/proc/self/comm", None, ErrorKind::InvalidInput),
+    (THERE, Some(4), ErrorKind::AlreadyExists),
+    ("oa_disk_missing/below", Some(4), ErrorKind::NotFound),
+    ("a\0b", Some(4), ErrorKind::InvalidInput),
+    (LARGE, Some(1 << 63), ErrorKind::InvalidInput),
+    (LARGE, None, ErrorKind::NotFound),
 ];
 
-const NOT_MADE: [(&str, u64, ErrorKind); 4] = [
-    (THERE, 4, ErrorKind::AlreadyExists),
-    ("oa_disk_missing/below", 4, ErrorKind::NotFound),
-    ("a\0b", 4, ErrorKind::InvalidInput),
-    ("oa_disk_large", 1 << 63, ErrorKind::InvalidInput),
-];
-
-/// The first of the paths that is opened, or refused otherwise.
-fn first_opened(rt: &HostRuntime) -> Option<&'static str> {
-    for (path, wanted) in NO_DISKS {
-        if refusal(FileDisk::open(rt, path)) != Some(wanted) {
+/// The first of the paths that is opened or made, or refused otherwise.
+fn first_disk(rt: &HostRuntime) -> Option<&'static str> {
+    for (path, size, wanted) in NO_DISKS {
+        let disk = match size {
+            Some(size) => FileDisk::create(rt, path, size),
+            None => FileDisk::open(rt, path),
+        };
+        if refusal(disk) != Some(wanted) {
             return Some(path);
         }
     }
     None
-}
-
-/// The first of the paths at which a disk is made, or refused otherwise. What could not be filled is removed again.
-fn first_made(rt: &HostRuntime) -> Option<&'static str> {
-    for (path, size, wanted) in NOT_MADE {
-        if refusal(FileDisk::create(rt, path, size)) != Some(wanted) {
-            return Some(path);
-        }
-    }
-    if refusal(FileDisk::open(rt, "oa_disk_large")) != Some(ErrorKind::NotFound) {
-        return Some("oa_disk_large");
-    }
-    None
-}
-
-/// Whether a file that is only to be read is refused. A user who may do anything opens it all the same.
-fn is_read_only(rt: &HostRuntime) -> io::Result<bool> {
-    fs::set_permissions(rt, THERE, Permissions::from_mode(0o444))?;
-    let found = refusal(FileDisk::open(rt, THERE));
-    Ok(found.is_none() || found == Some(ErrorKind::PermissionDenied))
 }
 
 #[test]
-fn a_path_that_is_no_disk(rt: HostRuntime) -> Result<(), Fail> {
+fn a_file_that_is_cut_and_paths_that_are_no_disks(rt: HostRuntime) -> Result<(), Fail> {
     let _ = fs::remove_file(&rt, THERE);
-    fs::write(&rt, THERE, b"abc".as_slice())?;
-    assert_eq!(rt; (first_opened(&rt), first_made(&rt)), (None, None));
-    assert!(rt; is_read_only(&rt)?);
+    let found = (meets_when_cut(&rt, THERE)?, first_disk(&rt));
     fs::remove_file(&rt, THERE)?;
+    assert_eq!(rt; found, (true, None));
     Ok(())
 }

@@ -1,14 +1,10 @@
-//! What is kept over a stop: disks, and over those in memory the journal, the store, and tables that a store keeps.
+//! What is kept over a stop: disks, and over those in memory the journal and the store.
 #![tactic(auto)]
 
-pub mod banks;
 #[cfg(test)]
 mod disk;
 #[cfg(test)]
-mod groups;
-#[cfg(test)]
 mod journal;
-#[cfg(test)]
-mod keeper;
+pub mod moments;
 #[cfg(test)]
 mod store;

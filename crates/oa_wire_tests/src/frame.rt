@@ -3,12 +3,13 @@ ghost use Rattle.std.specs.Prelude.{false, ⊤, ◌≡◌};
 ghost use Rattle.oa_stream.specs.Ahead.{ahead};
 
 use crate::rows::expect;
+use crate::stream::Scripted;
+use crate::stream::Step::{Fails, Moves};
 use oa_frame::{End, Framing, Responder, laws, put_reply, serve};
 use oa_stream::{
     Ahead, Behind, Cutting, Gathered, Inlet, Interrupted, Outlet, Sink, Source, Unwritten,
 };
 use std::alloc::{AllocError, Global};
-use std::io::{self, ErrorKind, Write};
 use std::rt::HostRuntime;
 
 // Answers each body with itself.
@@ -150,34 +151,19 @@ fn so_many_interruptions_are_a_fault(rt: HostRuntime) {
     }
 }
 
-// A writer whose flush alone fails.
-#[derive(Drop)]
-struct Unflushed {
-    flushes: u32,
-}
-
-impl Write for Unflushed {
-    fn write(&mut self, bytes: &[u8]) -> io::Result<usize> {
-        Ok(bytes.len())
-    }
-
-    fn flush(&mut self) -> io::Result<()> {
-        self.flushes = self.flushes.saturating_add(1);
-        Err(io::Error::from(ErrorKind::Other))
-    }
-}
-
 // The end of a session over a device.
-fn over(alloc: Global, device: &mut Unflushed, bytes: &[u8]) -> Result<(u64, End), AllocError> {
+fn over(alloc: Global, device: &mut Scripted<'_>, bytes: &[u8]) -> Result<(u64, End), AllocError> {
     let mut reader = Ahead::new(alloc, Inlet::new(bytes))?;
     let mut writer = Behind::new(alloc, Outlet::new(device))?;
     session(alloc, Framing::HexLines, &mut reader, &mut writer)
 }
 
+// Each write takes one byte of the three.
 #[test]
 fn a_flush_that_fails_is_a_write_fault(rt: HostRuntime) {
-    let mut device = Unflushed { flushes: 0 };
+    let steps = [Moves, Moves, Moves, Fails];
+    let mut device = Scripted::new(&steps);
     let end = over(rt.alloc(), &mut device, b"00\n");
     expect(&rt, "the end", end == Ok((1, End::WriteFault)));
-    expect(&rt, "one flush", device.flushes == 1);
+    expect(&rt, "three writes and a flush", device.calls == 4);
 }

@@ -12,7 +12,7 @@ use std::rt::HostRuntime;
 
 // What one call of a reader or a writer of the standard library does.
 #[derive(Clone, Copy)]
-enum Step {
+pub(crate) enum Step {
     Moves,
     Ends,
     Interrupts,
@@ -21,13 +21,13 @@ enum Step {
 
 // Its calls in turn, a flush being one of them.
 #[derive(Drop)]
-struct Scripted<'a> {
+pub(crate) struct Scripted<'a> {
     steps: &'a [Step],
-    calls: usize,
+    pub(crate) calls: usize,
 }
 
 impl<'a> Scripted<'a> {
-    fn new(steps: &'a [Step]) -> Scripted<'a> {
+    pub(crate) fn new(steps: &'a [Step]) -> Scripted<'a> {
         Scripted { steps, calls: 0 }
     }
 
@@ -165,7 +165,7 @@ fn shown(alloc: Global) -> [bool; 4] {
 
 #[test]
 fn a_buffer_shows_what_one_call_gave(rt: HostRuntime) {
-    assert_eq!(rt; shown(rt.alloc()), [true; 4]);
+    expect(&rt, "what it shows", shown(rt.alloc()) == [true; 4]);
 }
 
 // What two calls of a reader give that is interrupted once, how many calls it counts, and what is in the buffer.
@@ -180,5 +180,5 @@ fn interrupted_once() -> (Next, Next, u64, [u8; 4]) {
 #[test]
 fn a_reader_is_interrupted_so_many_times(rt: HostRuntime) {
     let wanted = (Next::Again, Next::Bytes(2), 2, *b"ab\0\0");
-    assert_eq!(rt; interrupted_once(), wanted);
+    expect(&rt, "two calls", interrupted_once() == wanted);
 }

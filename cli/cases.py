@@ -281,9 +281,12 @@ talk(
     ],
 )
 OBJECTS = 65_536
-made = run(["play", "lib.idl", "--hex"], (CREATE + b"\n") * (OBJECTS + 1), files={"lib.idl": SMALL})[1].splitlines()
+# that there is no such class goes before that there is no room
+NO_CLASS, CLASS_NOT_REGISTERED = wire.line(3, struct.pack("<HH", 1, 0) + bytes.fromhex("443322116655887799aabbccddeeff02")), 0x8004_0154
+made = run(["play", "lib.idl", "--hex"], (CREATE + b"\n") * (OBJECTS + 1) + NO_CLASS + CREATE + b"\n", files={"lib.idl": SMALL})[1].splitlines()
 wanted = [(b"00000000ffffffff00000000%08x00000000" % int.from_bytes(number.to_bytes(4, "little"), "big")) for number in range(1, OBJECTS + 1)]
-tell("an object too many", [it[8:] for it in made] == wanted + [wire.reply(1, E_UNEXPECTED)[8:-1]], made[-1:])
+refusals = [wire.reply(1, code)[8:-1] for code in (E_UNEXPECTED, CLASS_NOT_REGISTERED, E_UNEXPECTED)]
+tell("an object too many", [it[8:] for it in made] == wanted + refusals, made[-3:])
 
 # --- arrays
 
@@ -1037,6 +1040,91 @@ talk(
         looks_up(["Cell", "\u212aey"], [9, -1]),
     ],
 )
+
+# --- requests and look-ups with each of their parts, and descriptions, from tables
+
+
+def converse(name, library, turns):
+    """A session of turns, each with a tag of its own."""
+    asked, answered = (b"".join(turn[side](tag) for tag, turn in enumerate(turns, 1)) for side in (0, 1))
+    play(name, asked, 0, answered, b"", library=library)
+
+
+def guid_of(last):
+    """The GUID of the libraries with this last byte, 0 for that of zeros."""
+    return bytes.fromhex("443322116655887799aabbccddeeff%02x" % int(last)) if int(last) else bytes(16)
+
+
+CODES = {
+    **BIND_CODES,
+    "STUB": STUB_CODE,
+    "BADVARTYPE": BAD_VAR_TYPE,
+    "DISCONNECTED": DISCONNECTED,
+    "CLASSNOTREG": CLASS_NOT_REGISTERED,
+    "NOINTERFACE": NO_INTERFACE,
+    "UNKNOWNINTERFACE": UNKNOWN_INTERFACE,
+    "MEMBERNOTFOUND": MEMBER_NOT_FOUND,
+    "BADINDEX": BAD_INDEX,
+}
+VALUES_OF = {
+    "i": i4,
+    "l": lambda number: wire.scalar(wire.I8, number),
+    "u": lambda number: wire.changed(i4(number), 16, "I", 4),
+    "d": lambda _: HALF,
+    "x": lambda _: bytes(1),
+}
+
+
+def value_of(word):
+    return VALUES_OF[word[0]](int(word[1:] or 0))
+
+
+def answered_so(answer, fields_of):
+    """The reply that a row of a table says: a refusal, or the fields that its words are."""
+    word, _, index = answer.partition(" ")
+    if word in CODES:
+        return lambda tag: wire.reply(tag, CODES[word], int(index or NO_INDEX))
+    return lambda tag: wire.reply(tag, UNKNOWN_NAME if "-1" in answer.split() else 0, fields=fields_of(answer))
+
+
+def invoked(row):
+    """The turn of a row of invokes.txt."""
+    *parts, answer = row.split("|")
+    if parts[0] == "create":
+        request = struct.pack("<HH", 1, 0) + guid_of(parts[1])
+        return (lambda tag: wire.line(tag, request), answered_so(answer, lambda number: struct.pack("<II", int(number), 0)))
+    object, face, riid, dispid, flags, named, values = parts
+    fields = [value_of(word) for word in values.split()]
+    request = wire.oaut.ask_invoke(int(object), int(dispid), int(flags), [int(name) for name in named.split()], fields, guid_of(face))
+    request = wire.changed(request, 28, "16s", guid_of(riid))
+    return (lambda tag: wire.line(tag, request), answered_so(answer, lambda word: b"" if word == "done" else wire.field(value_of(word))))
+
+
+def looked_up(row):
+    """The turn of a row of lookups.txt."""
+    object, face, riid, locale, filler, names, answer = row.split("|")
+    ignored = lambda count: bytes([int(filler)]) * count
+    request = struct.pack("<H2sI4s16s16sII", 3, ignored(2), int(object), ignored(4), guid_of(face), guid_of(riid), int(locale), len(names.split(",")))
+    for name in names.split(","):
+        units = name.encode("utf-16-le")
+        request += struct.pack("<I4s", len(units) // 2, ignored(4)) + units + ignored(-len(units) % 8)
+    return (lambda tag: wire.line(tag, request), answered_so(answer, lambda found: wire.ids([int(word) for word in found.split()])))
+
+
+converse("requests with each of their parts", FULL, [invoked(row) for row in rows_of("invokes.txt")])
+talk("look-ups with each of their parts", FULL, [looked_up(row) for row in rows_of("lookups.txt")])
+described = []  # of each library its text, and the rows of its descriptions
+for row in rows_of("descriptions.txt"):
+    if row.startswith("= "):
+        described.append((row[2:].encode(), []))
+    elif row.startswith(" "):
+        described[-1][1][-1] += row
+    else:
+        described[-1][1].append(row)
+for number, (library, rows) in enumerate(described, 1):
+    split = [row.partition(" ") for row in rows]
+    turns = [describes(int(index), None if digits in CODES else bytes.fromhex(digits)) for index, _, digits in split]
+    converse(f"the descriptions of library {number}", library, turns)
 
 # --- requests that are cut, that count too many, and parts that are ignored
 

@@ -1,14 +1,6 @@
-//! Whole sessions over tables in memory: requests and replies, byte by byte.
+//! Sessions over tables in memory, as a caller of the crates sees them; what a program shows of them its cases try (`cli/`).
 #![tactic(auto)]
 
 #[cfg(test)]
-mod arrays;
-#[cfg(test)]
-mod calls;
-#[cfg(test)]
-mod information;
-#[cfg(test)]
 mod sessions;
 pub mod streams;
-#[cfg(test)]
-mod wire;

@@ -297,21 +297,21 @@ fn first_other(alloc: Global, disk: &MemoryDisk) -> Option<(u64, Tear)> {
     None
 }
 
-/// The last moment of the script over a disk that does not fail, and the first crashes that leave what they should not.
-fn stopped(alloc: Global) -> Option<(u64, Option<(u64, Tear)>, Option<(u64, Tear)>)> {
-    match played(alloc, 1000) {
-        Some((disk, WELL)) => Some((
-            disk.moments(),
-            first_loss(alloc, &disk),
-            first_other(alloc, &disk),
-        )),
-        _ => None,
+/// The first crash of a disk that has served the script, at any moment, that leaves what it should not; None where it has not served it.
+fn stopped(alloc: Global) -> Option<Option<(u64, Tear)>> {
+    let (disk, end) = played(alloc, 1000)?;
+    if end != WELL || disk.moments() != 70 {
+        return None;
+    }
+    match first_loss(alloc, &disk) {
+        None => Some(first_other(alloc, &disk)),
+        other => Some(other),
     }
 }
 
 #[test]
 fn a_stop_at_each_moment_leaves_what_was_done(rt: HostRuntime) -> Result<(), Fail> {
-    assert_eq!(rt; stopped(rt.alloc()), Some((70, None, None)));
+    assert_eq!(rt; stopped(rt.alloc()), Some(None));
     Ok(())
 }
 

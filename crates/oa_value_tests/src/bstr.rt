@@ -53,11 +53,6 @@ fn first_lost(alloc: Global) -> Option<&'static [u8]> {
     None
 }
 
-#[test]
-fn texts_are_kept_byte_by_byte(rt: HostRuntime) {
-    assert_none(&rt, first_lost(rt.alloc()));
-}
-
 /// Whether it has no bytes.
 fn is_bare(null: &Bstr) -> bool {
     null.is_null() && null.byte_len() == 0 && null.as_bytes().len() == 0
@@ -81,32 +76,19 @@ fn wrong_of_null(alloc: Global) -> Option<&'static str> {
     None
 }
 
-#[test]
-fn null_is_no_empty_text(rt: HostRuntime) {
-    assert_none(&rt, wrong_of_null(rt.alloc()));
+/// Whether a text of five bytes is printed by them, and has little-endian units, the last one with a byte of 0.
+fn is_told(alloc: Global, text: &Bstr) -> bool {
+    is_shown(alloc, text, "[52, 18, 255, 254, 86]")
+        && text.byte_len() == 5
+        && text.unit(0) == 0x1234
+        && text.unit(1) == 0xfeff
+        && text.unit(2) == 0x0056
 }
 
-/// Whether null and a text are printed so.
-fn are_printed(alloc: Global) -> bool {
-    match text(alloc, &[72, 0, 105, 0]) {
-        Ok(text) => {
-            is_shown(alloc, &text, "[72, 0, 105, 0]") && is_shown(alloc, &Bstr::null(), "null")
-        }
-        Err(_) => false,
-    }
-}
-
-/// Whether a text of five bytes has these units, little-endian, the last one with a byte of 0.
-fn has_units(text: &Bstr, units: [u16; 3]) -> bool {
-    text.byte_len() == 5
-        && text.unit(0) == units[0]
-        && text.unit(1) == units[1]
-        && text.unit(2) == units[2]
-}
-
-fn are_units(alloc: Global) -> bool {
+/// Whether such a text and null are told so.
+fn are_told(alloc: Global) -> bool {
     match text(alloc, &[0x34, 0x12, 0xff, 0xfe, 0x56]) {
-        Ok(text) => has_units(&text, [0x1234, 0xfeff, 0x0056]),
+        Ok(text) => is_told(alloc, &text) && is_shown(alloc, &Bstr::null(), "null"),
         Err(_) => false,
     }
 }
@@ -128,12 +110,10 @@ fn is_too_long(alloc: Global) -> bool {
 }
 
 #[test]
-fn texts_are_printed_read_by_units_and_bounded(rt: HostRuntime) {
+fn texts_are_kept_told_and_bounded(rt: HostRuntime) {
     let alloc = rt.alloc();
-    assert!(rt; are_printed(alloc) && are_units(alloc) && is_too_long(alloc));
-}
-
-#[test]
-fn a_text_takes_two_words(rt: HostRuntime) {
-    assert!(rt; size_of::<Bstr>() == 2 * size_of::<usize>());
+    assert_none(&rt, first_lost(alloc));
+    assert_none(&rt, wrong_of_null(alloc));
+    let is_small = size_of::<Bstr>() == 2 * size_of::<usize>();
+    assert!(rt; are_told(alloc) && is_too_long(alloc) && is_small);
 }

@@ -98,11 +98,6 @@ fn first_other_fill(alloc: Global) -> Option<usize> {
     None
 }
 
-#[test]
-fn a_refused_fill_drops_what_it_made(rt: HostRuntime) {
-    assert_none(&rt, first_other_fill(rt.alloc()));
-}
-
 /// From 3 cells to `len`, refused at an index: the length then, the drops so far, and the drops at the end.
 struct Resize {
     len: usize,
@@ -207,11 +202,6 @@ fn first_other_resize(alloc: Global) -> Option<(usize, usize)> {
     None
 }
 
-#[test]
-fn growth_and_shrinking_drop_each_cell_once(rt: HostRuntime) {
-    assert_none(&rt, first_other_resize(rt.alloc()));
-}
-
 /// The number of the second of three cells, which another cell replaces, and their numbers then.
 fn replaced<'a>(
     cells: &mut Cells<Counted<'a>>,
@@ -238,9 +228,12 @@ fn is_replaced(alloc: Global, drops: &Cell<usize>) -> bool {
 }
 
 #[test]
-fn a_replaced_cell_is_handed_back(rt: HostRuntime) {
+fn each_cell_is_dropped_once(rt: HostRuntime) {
+    let alloc = rt.alloc();
+    assert_none(&rt, first_other_fill(alloc));
+    assert_none(&rt, first_other_resize(alloc));
     let drops = Cell::new(0);
-    assert!(rt; is_replaced(rt.alloc(), &drops) && drops.get() == 4);
+    assert!(rt; is_replaced(alloc, &drops) && drops.get() == 4);
 }
 
 /// New cells get that value.
@@ -305,12 +298,6 @@ fn are_bounded(alloc: Global) -> bool {
         && made(alloc, 1 << 59, 2, 7u128).err() == Some(Refusal::Memory)
 }
 
-#[test]
-fn values_of_several_sizes(rt: HostRuntime) {
-    let alloc = rt.alloc();
-    assert!(rt; become_each(alloc) && are_bounded(alloc));
-}
-
 /// Whether a block of four bytes, filled by one and by three, has them in order.
 fn is_filled_in_pieces(alloc: Global) -> Result<bool, AllocError> {
     let mut part: Partial<u8> = match Partial::vacant(alloc, 4, 0) {
@@ -331,6 +318,8 @@ fn are_small() -> bool {
 }
 
 #[test]
-fn a_block_is_filled_in_pieces(rt: HostRuntime) {
-    assert!(rt; is_filled_in_pieces(rt.alloc()) == Ok(true) && are_small());
+fn cells_have_several_sizes(rt: HostRuntime) {
+    let alloc = rt.alloc();
+    let is_whole = is_filled_in_pieces(alloc) == Ok(true);
+    assert!(rt; become_each(alloc) && are_bounded(alloc) && is_whole && are_small());
 }

@@ -1,17 +1,13 @@
-//! Values as others see them: the words of the standards, raw cells, BSTRs, safe arrays, VARIANTs and coercions.
+//! Values as others see them, as far as no request shows them: numbers of the standards, raw cells, BSTRs, arrays and VARIANTs.
 #![tactic(auto)]
 
-#[cfg(test)]
-mod array;
+pub mod arrays;
 #[cfg(test)]
 mod asserts;
 #[cfg(test)]
 mod bstr;
 #[cfg(test)]
 mod cells;
-#[cfg(test)]
-mod coerce;
-pub mod marks;
 #[cfg(test)]
 mod model;
 #[cfg(test)]

@@ -57,21 +57,17 @@ fn first_other_fold() -> Option<u8> {
     None
 }
 
-#[test]
-fn types_are_signed_and_characters_folded(rt: HostRuntime) {
-    assert_none(&rt, first_other_type());
-    assert_none(&rt, first_other_fold());
-    laws::guid_back();
-    laws::type_back();
-    laws::number_back();
-}
-
 /// Whether 0 is a success and another code is none, and the number of an array's type is none of a type.
 fn are_numbers() -> bool {
     HResult::S_OK.is_ok() && !HResult::E_FAIL.is_ok() && VarType::from_vt(0x2003).is_none()
 }
 
 #[test]
-fn numbers_are_told_apart(rt: HostRuntime) {
+fn types_are_signed_and_characters_folded(rt: HostRuntime) {
+    assert_none(&rt, first_other_type());
+    assert_none(&rt, first_other_fold());
     assert!(rt; are_numbers());
+    laws::guid_back();
+    laws::type_back();
+    laws::number_back();
 }

@@ -1,8 +1,9 @@
-//! What takes memory, with enough of it; the size of a cell. In which order keys stand is shown by the cases of the program.
-ghost use Rattle.oa_variant.specs.Variants.{HasZero};
-
+//! What takes memory, with enough of it; what a refused value is; the size of a cell. What each value becomes, and in which order keys
+//! stand, is shown by the cases of the program.
+use crate::arrays::locked;
 use crate::shown::is_shown;
-use oa_model::{ValueType, VarType};
+use oa_coerce::coerce;
+use oa_model::{Bound, ValueType, VarType};
 use oa_variant::{Scalar, Variant};
 use std::alloc::Global;
 use std::mem::size_of;
@@ -16,27 +17,31 @@ fn is_copied_so(alloc: Global, value: &Variant, shown: &str) -> bool {
     }
 }
 
-/// Whether the zero of a type and its copy are shown so.
-fn is_zero(alloc: Global, of: ValueType, shown: &str) -> bool
-    requires { HasZero of }
-{
-    match Variant::zero(alloc, of) {
-        Ok(zero) => is_copied_so(alloc, &zero, shown),
-        Err(_) => false,
+/// Whether a copy of an array has no lock where the array has one.
+fn is_copied_without_locks(alloc: Global) -> bool {
+    let texts =
+        "Array(SafeArray { elem: Bstr, bounds: [Bound { count: 0, lower: 0 }], cells: [], locks: 0 })";
+    match locked(alloc, VarType::Bstr, &[Bound { count: 0, lower: 0 }]) {
+        Some(array) => is_copied_so(alloc, &Variant::Array(array), texts),
+        None => false,
     }
 }
 
-/// An array's zero has one dimension without indices.
-fn are_zeros(alloc: Global) -> bool {
-    let decimal = "One(Decimal(Decimal { negative: false, scale: 0, high: 0, low: 0 }))";
-    let texts =
-        "Array(SafeArray { elem: Bstr, bounds: [Bound { count: 0, lower: 0 }], cells: [], locks: 0 })";
-    is_zero(alloc, ValueType::One(VarType::Decimal), decimal)
-        && is_zero(alloc, ValueType::Array(VarType::Bstr), texts)
+/// Whether a number that is to become an array is handed back.
+fn is_handed_back(alloc: Global) -> bool {
+    let answer = coerce(
+        alloc,
+        Variant::One(Scalar::I4(7)),
+        ValueType::Array(VarType::I4),
+    );
+    is_shown(alloc, &answer, "Err((One(I4(7)), TypeMismatch))")
 }
 
 /// A cell of an array is a scalar, of at most 24 bytes.
 #[test]
-fn values_are_made_and_copied(rt: HostRuntime) {
-    assert!(rt; are_zeros(rt.alloc()) && size_of::<Scalar>() <= 24);
+fn values_are_copied_or_handed_back(rt: HostRuntime) {
+    let alloc = rt.alloc();
+    assert!(rt;
+        is_copied_without_locks(alloc) && is_handed_back(alloc) && size_of::<Scalar>() <= 24
+    );
 }

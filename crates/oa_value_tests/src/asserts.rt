@@ -8,3 +8,8 @@ pub fn assert_none<T: Debug + Drop>(rt: &impl Abort, found: Option<T>) {
         panic!(rt; "found {found:?}");
     }
 }
+
+/// Stops the test where something does not hold.
+pub fn assert_so(rt: &impl Abort, is_so: bool) {
+    assert!(rt; is_so);
+}

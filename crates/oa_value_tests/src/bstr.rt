@@ -2,7 +2,7 @@
 //!
 //! A call that takes memory is sent again where it was refused. So these tests also pass where one call of the allocator
 //! is refused, whichever it is: `bench/refused_growths.sh` refuses each in turn.
-use crate::asserts::assert_none;
+use crate::asserts::{assert_none, assert_so};
 use crate::shown::is_shown;
 use oa_bstr::{Bstr, BstrError};
 use std::alloc::{AllocError, Global};
@@ -58,22 +58,26 @@ fn is_bare(null: &Bstr) -> bool {
     null.is_null() && null.byte_len() == 0 && null.as_bytes().len() == 0
 }
 
-/// What is wrong of null, which takes no memory. (In which order texts stand is shown by the cases of the program.)
-fn wrong_of_null(alloc: Global) -> Option<&'static str> {
+/// Whether null has a copy, which takes no memory, and neither has bytes.
+fn is_copied_without_memory(alloc: Global) -> bool {
+    match Bstr::null().copy(alloc) {
+        Ok(copy) => is_bare(&copy) && is_bare(&Bstr::null()),
+        Err(_) => false,
+    }
+}
+
+/// Whether null is another than a text, and stands before it.
+fn is_behind_null(text: &Bstr) -> bool {
     let null = Bstr::null();
-    let Ok(empty) = text(alloc, &[]) else {
-        return Some("no memory");
-    };
-    let Ok(copy) = null.copy(alloc) else {
-        return Some("its copy takes memory");
-    };
-    if !is_bare(&null) || !is_bare(&copy) {
-        return Some("it has bytes");
+    null != *text && null < *text
+}
+
+/// Whether it stands before the empty text. (In which order texts stand is shown by the cases of the program.)
+fn is_before_empty(alloc: Global) -> bool {
+    match text(alloc, &[]) {
+        Ok(empty) => is_behind_null(&empty),
+        Err(_) => false,
     }
-    if null == empty || null >= empty {
-        return Some("it does not stand before the empty text");
-    }
-    None
 }
 
 /// Whether a text of five bytes is printed by them, and has little-endian units, the last one with a byte of 0.
@@ -113,7 +117,10 @@ fn is_too_long(alloc: Global) -> bool {
 fn texts_are_kept_told_and_bounded(rt: HostRuntime) {
     let alloc = rt.alloc();
     assert_none(&rt, first_lost(alloc));
-    assert_none(&rt, wrong_of_null(alloc));
+    assert_so(
+        &rt,
+        is_copied_without_memory(alloc) && is_before_empty(alloc),
+    );
     let is_small = size_of::<Bstr>() == 2 * size_of::<usize>();
-    assert!(rt; are_told(alloc) && is_too_long(alloc) && is_small);
+    assert_so(&rt, are_told(alloc) && is_too_long(alloc) && is_small);
 }

@@ -2,8 +2,8 @@
 //!
 //! A call that takes memory is sent again where it was refused, after a look at what it left. So these tests also pass
 //! where one call of the allocator is refused, whichever it is: `bench/refused_growths.sh` refuses each in turn.
-use crate::asserts::assert_none;
-use oa_cells::{Cells, Partial, Row};
+use crate::asserts::{assert_none, assert_so};
+use oa_cells::{Cells, Row};
 use std::alloc::{AllocError, Global};
 use std::cell::Cell;
 use std::mem::size_of;
@@ -233,7 +233,7 @@ fn each_cell_is_dropped_once(rt: HostRuntime) {
     assert_none(&rt, first_other_fill(alloc));
     assert_none(&rt, first_other_resize(alloc));
     let drops = Cell::new(0);
-    assert!(rt; is_replaced(alloc, &drops) && drops.get() == 4);
+    assert_so(&rt, is_replaced(alloc, &drops) && drops.get() == 4);
 }
 
 /// New cells get that value.
@@ -298,20 +298,6 @@ fn are_bounded(alloc: Global) -> bool {
         && made(alloc, 1 << 59, 2, 7u128).err() == Some(Refusal::Memory)
 }
 
-/// Whether a block of four bytes, filled by one and by three, has them in order.
-fn is_filled_in_pieces(alloc: Global) -> Result<bool, AllocError> {
-    let mut part: Partial<u8> = match Partial::vacant(alloc, 4, 0) {
-        Ok(part) => part,
-        Err(_) => Partial::vacant(alloc, 4, 0)?,
-    };
-    part.extend_from_slice(&[1]);
-    part.extend_from_slice(&[2, 3, 4]);
-    let row = part.full();
-    let is_whole = row.first(4) == [1, 2, 3, 4].as_slice();
-    row.free_plain(4);
-    Ok(is_whole)
-}
-
 /// Whether a row takes one word, and cells take two.
 fn are_small() -> bool {
     size_of::<Row<u8>>() == size_of::<usize>() && size_of::<Cells<u8>>() == 2 * size_of::<usize>()
@@ -320,6 +306,5 @@ fn are_small() -> bool {
 #[test]
 fn cells_have_several_sizes(rt: HostRuntime) {
     let alloc = rt.alloc();
-    let is_whole = is_filled_in_pieces(alloc) == Ok(true);
-    assert!(rt; become_each(alloc) && are_bounded(alloc) && is_whole && are_small());
+    assert_so(&rt, become_each(alloc) && are_bounded(alloc) && are_small());
 }

@@ -1,6 +1,7 @@
 //! What takes memory, with enough of it; what a refused value is; the size of a cell. What each value becomes, and in which order keys
 //! stand, is shown by the cases of the program.
 use crate::arrays::locked;
+use crate::asserts::assert_so;
 use crate::shown::is_shown;
 use oa_coerce::coerce;
 use oa_model::{Bound, ValueType, VarType};
@@ -41,7 +42,9 @@ fn is_handed_back(alloc: Global) -> bool {
 #[test]
 fn values_are_copied_or_handed_back(rt: HostRuntime) {
     let alloc = rt.alloc();
-    assert!(rt;
-        is_copied_without_locks(alloc) && is_handed_back(alloc) && size_of::<Scalar>() <= 24
+    let is_small = size_of::<Scalar>() <= 24;
+    assert_so(
+        &rt,
+        is_copied_without_locks(alloc) && is_handed_back(alloc) && is_small,
     );
 }

@@ -11,7 +11,7 @@ use oa_server::{End, Served, Server};
 use oa_stream::{Ahead, Gathered, Inlet, Outlet, Sink, Source};
 use oa_typelib::check;
 use std::alloc::Global;
-use std::io::{ErrorKind, Read};
+use std::io::ErrorKind;
 use std::process::Abort;
 use std::rt::HostRuntime;
 
@@ -124,12 +124,13 @@ fn bodies_are_answered(rt: HostRuntime) {
     expect(&rt, "groups of 1024", runs(alloc, 1024) == Some(true));
 }
 
-/// How a session of lines with a new server went.
+/// How a session of lines or of records with a new server went.
 fn talked<R: Source + Drop, W: Sink>(
     alloc: Global,
     reader: &mut Ahead<R>,
     writer: &mut W,
     group: usize,
+    hex: bool,
 ) -> Option<Served>
     requires positive { 1 ≤ group }
     requires small { group ≤ max_group }
@@ -137,34 +138,46 @@ fn talked<R: Source + Drop, W: Sink>(
     requires unbroken_writer { (W.out writer.old).broken ≡ false }
 {
     let mut server = small(alloc)?;
-    let served = server.serve_hex(reader, writer, group);
+    let served = if hex {
+        server.serve_hex(reader, writer, group)
+    } else {
+        server.serve(reader, writer, group)
+    };
     drop(server);
     served.ok()
 }
 
-/// Whether a session over these bytes goes so, and writes these.
-fn is_served(alloc: Global, input: &[u8], group: usize, how: Served, want: &str) -> bool
+/// How a session over a source went that writes these bytes.
+fn served<R: Source + Drop>(
+    alloc: Global,
+    source: R,
+    group: usize,
+    hex: bool,
+    want: &[u8],
+) -> Option<Served>
     requires positive { 1 ≤ group }
     requires small { group ≤ max_group }
+    requires unbroken { (R.input source).faulted ≡ false }
 {
-    let Ok(mut reader) = Ahead::new(alloc, input) else {
-        return false;
-    };
+    let mut reader = Ahead::new(alloc, source).ok()?;
     let mut writer = Gathered::new(Vec::new(alloc));
-    let served = talked(alloc, &mut reader, &mut writer, group);
-    served == Some(how) && writer.bytes() == want.as_bytes()
+    let how = talked(alloc, &mut reader, &mut writer, group, hex);
+    if writer.bytes() == want { how } else { None }
 }
+
+/// The end of a session whose input ends behind the worked bodies.
+const CLOSED: Served = Served {
+    requests: 4,
+    why: End::Closed,
+};
 
 /// Whether the worked bodies have their replies in a session.
 fn are_served(alloc: Global, group: usize) -> bool
     requires positive { 1 ≤ group }
     requires small { group ≤ max_group }
 {
-    let how = Served {
-        requests: 4,
-        why: End::Closed,
-    };
-    is_served(alloc, REQUESTS.as_bytes(), group, how, REPLIES)
+    let how = served(alloc, REQUESTS.as_bytes(), group, true, REPLIES.as_bytes());
+    how == Some(CLOSED)
 }
 
 #[test]
@@ -231,7 +244,7 @@ fn goes(alloc: Global, row: &Lines) -> bool {
         requests: row.requests,
         why: row.why,
     };
-    is_served(alloc, row.input.as_bytes(), 7, how, row.replies)
+    served(alloc, row.input.as_bytes(), 7, true, row.replies.as_bytes()) == Some(how)
 }
 
 #[test]
@@ -249,7 +262,7 @@ fn is_too_long(alloc: Global, digits: usize) -> Option<bool> {
         requests: 0,
         why: End::TooLong,
     };
-    Some(is_served(alloc, text.as_slice(), 1, how, UNTAGGED))
+    Some(served(alloc, text.as_slice(), 1, true, UNTAGGED.as_bytes()) == Some(how))
 }
 
 #[test]
@@ -273,30 +286,6 @@ fn as_records(alloc: Global, lines: &str, more: &[u8]) -> Vec<u8> {
     }
     let _ = out.extend_from_slice(more);
     out
-}
-
-/// How a session of records with a new server went.
-fn talked_in_records(
-    alloc: Global,
-    reader: &mut Ahead<&[u8]>,
-    writer: &mut Gathered,
-) -> Option<Served>
-    requires { writer.old.broken ≡ false }
-{
-    let mut server = small(alloc)?;
-    let served = server.serve(reader, writer, 1);
-    drop(server);
-    served.ok()
-}
-
-/// Whether a session over these records goes so, and writes these.
-fn is_served_in_records(alloc: Global, input: &[u8], how: Served, want: &[u8]) -> bool {
-    let Ok(mut reader) = Ahead::new(alloc, input) else {
-        return false;
-    };
-    let mut writer = Gathered::new(Vec::new(alloc));
-    let served = talked_in_records(alloc, &mut reader, &mut writer);
-    served == Some(how) && writer.bytes() == want
 }
 
 /// What comes behind the worked bodies as records, how the session ends, and what is written behind their replies.
@@ -347,7 +336,7 @@ fn goes_in_records(alloc: Global, row: &Records) -> bool {
         requests: 4,
         why: row.why,
     };
-    is_served_in_records(alloc, input.as_slice(), how, want.as_slice())
+    served(alloc, input.as_slice(), 1, false, want.as_slice()) == Some(how)
 }
 
 #[test]
@@ -357,27 +346,15 @@ fn records_have_lengths(rt: HostRuntime) {
     }
 }
 
-/// How a session over a reader of the standard library went.
-fn over<R: Read + Drop>(alloc: Global, reader: R, writer: &mut Gathered) -> Option<Served>
-    requires { writer.old.broken ≡ false }
-{
-    let mut reader = Ahead::new(alloc, Inlet::new(reader)).ok()?;
-    talked(alloc, &mut reader, writer, 1)
-}
-
 /// Whether a session over a reader that always fails in this way ends behind so many calls of it, with nothing written.
 fn is_refused(alloc: Global, kind: ErrorKind, calls: u32) -> bool {
     let mut refusing = Refusing { kind, calls: 0 };
-    let mut writer = Gathered::new(Vec::new(alloc));
-    let served = over(alloc, &mut refusing, &mut writer);
-    let is_fault = matches!(
-        served,
-        Some(Served {
-            why: End::ReadFault,
-            ..
-        })
-    );
-    is_fault && refusing.calls == calls && writer.bytes().is_empty()
+    let how = served(alloc, Inlet::new(&mut refusing), 1, true, b"");
+    let fault = Served {
+        requests: 0,
+        why: End::ReadFault,
+    };
+    how == Some(fault) && refusing.calls == calls
 }
 
 #[test]
@@ -395,9 +372,8 @@ fn are_written_slowly(alloc: Global) -> bool {
         rest: REQUESTS.as_bytes(),
         calls: 0,
     };
-    let mut writer = Gathered::new(Vec::new(alloc));
-    let served = over(alloc, reader, &mut writer);
-    served.is_some() && writer.bytes() == REPLIES.as_bytes()
+    let how = served(alloc, Inlet::new(reader), 1, true, REPLIES.as_bytes());
+    how == Some(CLOSED)
 }
 
 #[test]
@@ -416,7 +392,7 @@ fn fails(alloc: Global, group: usize, calls: u32, requests: u64, left: usize) ->
     };
     let taken = Vec::new(alloc);
     let mut writer = Outlet::new(Small { taken, calls });
-    let served = talked(alloc, &mut reader, &mut writer, group);
+    let served = talked(alloc, &mut reader, &mut writer, group, true);
     let why = End::WriteFault;
     served == Some(Served { requests, why }) && reader.buffered().len() == left
 }

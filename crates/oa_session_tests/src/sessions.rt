@@ -188,161 +188,127 @@ fn lines_are_answered(rt: HostRuntime) {
     expect(&rt, "groups of 1024", are_served(alloc, 1024));
 }
 
-/// The reply to a body without a tag.
-const UNTAGGED: &str = "00000000f7060780ffffffff00000000\n";
-
-/// A session of lines: what comes, how many requests it has and how it ends, and what is written.
-struct Lines {
+/// A session of lines or of records: what comes, how many requests it has and how it ends, and what is written.
+struct Session {
     name: &'static str,
-    input: &'static str,
+    hex: bool,
+    input: &'static [u8],
     requests: u64,
-    why: End,
-    replies: &'static str,
-}
-
-static LINES: [Lines; 5] = [
-    Lines {
-        name: "no line",
-        input: "",
-        requests: 0,
-        why: End::Closed,
-        replies: "",
-    },
-    Lines {
-        name: "an empty line",
-        input: "\n01",
-        requests: 0,
-        why: End::Closed,
-        replies: "",
-    },
-    Lines {
-        name: "a digit that is none",
-        input: "0g\n01",
-        requests: 0,
-        why: End::BadHex(1),
-        replies: "",
-    },
-    Lines {
-        name: "half a byte behind a body without a tag",
-        input: "01\n0\n",
-        requests: 1,
-        why: End::BadHex(2),
-        replies: UNTAGGED,
-    },
-    Lines {
-        name: "no end of a line, whose opcode is none",
-        input: "0700000063000000",
-        requests: 1,
-        why: End::Closed,
-        replies: "07000000f7060780ffffffff00000000\n",
-    },
-];
-
-/// Whether a session goes so.
-fn goes(alloc: Global, row: &Lines) -> bool {
-    let how = Served {
-        requests: row.requests,
-        why: row.why,
-    };
-    served(alloc, row.input.as_bytes(), 7, true, row.replies.as_bytes()) == Some(how)
-}
-
-#[test]
-fn sessions_end(rt: HostRuntime) {
-    for row in &LINES {
-        expect(&rt, row.name, goes(rt.alloc(), row));
-    }
-}
-
-/// Whether a line of so many digits, with another one behind it, has the reply to a body without a tag.
-fn is_too_long(alloc: Global, digits: usize) -> Option<bool> {
-    let mut text = vec![in alloc; b'0'; digits].ok()?;
-    let _ = text.extend_from_slice(b"\n01\n");
-    let how = Served {
-        requests: 0,
-        why: End::TooLong,
-    };
-    Some(served(alloc, text.as_slice(), 1, true, UNTAGGED.as_bytes()) == Some(how))
-}
-
-#[test]
-fn a_line_too_long_has_a_reply(rt: HostRuntime) {
-    let holds = is_too_long(rt.alloc(), 2_097_153);
-    expect(&rt, "a digit too many", holds == Some(true));
-}
-
-/// Puts a body behind its length; none of these is too long for one.
-fn put_record(out: &mut Vec<u8>, body: &[u8]) {
-    let len = u32::try_from(body.len()).unwrap_or(u32::MAX);
-    let _ = out.extend_from_slice(&len.to_le_bytes());
-    let _ = out.extend_from_slice(body);
-}
-
-/// The bodies of some lines as records, and some bytes behind them.
-fn as_records(alloc: Global, lines: &str, more: &[u8]) -> Vec<u8> {
-    let mut out = Vec::new(alloc);
-    for body in bodies(alloc, lines).as_slice() {
-        put_record(&mut out, body.as_slice());
-    }
-    let _ = out.extend_from_slice(more);
-    out
-}
-
-/// What comes behind the worked bodies as records, how the session ends, and what is written behind their replies.
-struct Records {
-    name: &'static str,
-    more: &'static [u8],
     why: End,
     replies: &'static [u8],
 }
 
-/// The reply to a body without a tag.
-const UNTAGGED_RECORD: &[u8] = &[
-    16, 0, 0, 0, 0, 0, 0, 0, 0xf7, 6, 7, 0x80, 0xff, 0xff, 0xff, 0xff, 0, 0, 0, 0,
-];
+/// A record that asks for an object, and some bytes behind it.
+macro_rules! asked {
+    ($($byte:literal),*) => {
+        &[
+            24, 0, 0, 0, 1, 0, 0, 0, 1, 0, 0, 0, 0x44, 0x33, 0x22, 0x11, 0x66, 0x55, 0x88, 0x77, 0x99, 0xaa, 0xbb, 0xcc, 0xdd, 0xee,
+            0xff, 3, $($byte),*
+        ]
+    };
+}
 
-static RECORDS: [Records; 4] = [
-    Records {
-        name: "nothing behind the records",
-        more: &[],
+/// The record of its reply, and some bytes behind it.
+macro_rules! answered {
+    ($($byte:literal),*) => {
+        &[
+            24, 0, 0, 0, 1, 0, 0, 0, 0, 0, 0, 0, 0xff, 0xff, 0xff, 0xff, 0, 0, 0, 0, 1, 0, 0, 0, 0, 0, 0, 0, $($byte),*
+        ]
+    };
+}
+
+static SESSIONS: [Session; 9] = [
+    Session {
+        name: "no line",
+        hex: true,
+        input: b"",
+        requests: 0,
         why: End::Closed,
-        replies: &[],
+        replies: b"",
     },
-    Records {
+    Session {
+        name: "an empty line",
+        hex: true,
+        input: b"\n01",
+        requests: 0,
+        why: End::Closed,
+        replies: b"",
+    },
+    Session {
+        name: "a digit that is none",
+        hex: true,
+        input: b"0g\n01",
+        requests: 0,
+        why: End::BadHex(1),
+        replies: b"",
+    },
+    Session {
+        name: "half a byte behind a body without a tag",
+        hex: true,
+        input: b"01\n0\n",
+        requests: 1,
+        why: End::BadHex(2),
+        replies: b"00000000f7060780ffffffff00000000\n",
+    },
+    Session {
+        name: "no end of a line, whose opcode is none",
+        hex: true,
+        input: b"0700000063000000",
+        requests: 1,
+        why: End::Closed,
+        replies: b"07000000f7060780ffffffff00000000\n",
+    },
+    Session {
+        name: "nothing behind a record",
+        hex: false,
+        input: asked!(),
+        requests: 1,
+        why: End::Closed,
+        replies: answered!(),
+    },
+    Session {
         name: "a length of 0",
-        more: &[0, 0, 0, 0, 1],
+        hex: false,
+        input: asked!(0, 0, 0, 0, 1),
+        requests: 1,
         why: End::Closed,
-        replies: &[],
+        replies: answered!(),
     },
-    Records {
+    Session {
         name: "a record that is cut",
-        more: &[2, 0, 0, 0, 1],
+        hex: false,
+        input: asked!(2, 0, 0, 0, 1),
+        requests: 1,
         why: End::Cut,
-        replies: UNTAGGED_RECORD,
+        replies: answered!(
+            16, 0, 0, 0, 0, 0, 0, 0, 0xf7, 6, 7, 0x80, 0xff, 0xff, 0xff, 0xff, 0, 0, 0, 0
+        ),
     },
-    Records {
+    Session {
         name: "a length too large",
-        more: &[1, 0, 16, 0, 1],
+        hex: false,
+        input: asked!(1, 0, 16, 0, 1),
+        requests: 1,
         why: End::TooLong,
-        replies: UNTAGGED_RECORD,
+        replies: answered!(
+            16, 0, 0, 0, 0, 0, 0, 0, 0xf7, 6, 7, 0x80, 0xff, 0xff, 0xff, 0xff, 0, 0, 0, 0
+        ),
     },
 ];
 
-/// Whether a session of records goes so.
-fn goes_in_records(alloc: Global, row: &Records) -> bool {
-    let input = as_records(alloc, REQUESTS, row.more);
-    let want = as_records(alloc, REPLIES, row.replies);
+/// Whether a session goes so.
+fn goes(alloc: Global, row: &Session) -> bool {
     let how = Served {
-        requests: 4,
+        requests: row.requests,
         why: row.why,
     };
-    served(alloc, input.as_slice(), 1, false, want.as_slice()) == Some(how)
+    served(alloc, row.input, 7, row.hex, row.replies) == Some(how)
 }
 
 #[test]
-fn records_have_lengths(rt: HostRuntime) {
-    for row in &RECORDS {
-        expect(&rt, row.name, goes_in_records(rt.alloc(), row));
+fn sessions_end(rt: HostRuntime) {
+    for row in &SESSIONS {
+        expect(&rt, row.name, goes(rt.alloc(), row));
     }
 }
 

@@ -1,4 +1,4 @@
-//! Values as others see them, as far as no request shows them: numbers of the standards, raw cells, BSTRs, arrays and VARIANTs.
+//! Values as others see them, their bytes, and the texts and tables that hold them, as far as no request shows them.
 #![tactic(auto)]
 
 pub mod arrays;
@@ -9,8 +9,27 @@ mod bstr;
 #[cfg(test)]
 mod cells;
 #[cfg(test)]
+mod frame;
+#[cfg(test)]
+mod idl;
+#[cfg(test)]
+mod image;
+#[cfg(test)]
 mod model;
+#[cfg(test)]
+mod ndr;
+#[cfg(test)]
+mod record;
+#[cfg(test)]
+mod rows;
 #[cfg(test)]
 mod shown;
 #[cfg(test)]
+mod stream;
+#[cfg(test)]
+mod table;
+#[cfg(test)]
+mod typelib;
+#[cfg(test)]
 mod variant;
+pub mod wire_variant;

@@ -1,9 +1,9 @@
 //! Why a table refuses an event, which no reply tells, and what is stated of tables.
 ghost use Rattle.oa_table.specs.Events.{BringsNoLocks};
 
+use crate::arrays::array;
 use crate::rows::expect;
 use crate::table::Changing::{Create, Null, PutI4, Redim, Release};
-use crate::values::array;
 use oa_array::{ArrayFault, Indices};
 use oa_model::{Bound, VarType};
 use oa_table::{CellName, Event, Place, Table, TableFault, laws};

@@ -9,7 +9,7 @@ pub fn assert_none<T: Debug + Drop>(rt: &impl Abort, found: Option<T>) {
     }
 }
 
-/// Stops the test where something does not hold.
-pub fn assert_so(rt: &impl Abort, is_so: bool) {
-    assert!(rt; is_so);
+/// Stops the test, with the name of a row or of what is tried, where it is not so.
+pub fn expect(rt: &impl Abort, name: &str, is_so: bool) {
+    assert!(rt; is_so, "{name}");
 }

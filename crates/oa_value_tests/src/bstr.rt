@@ -2,7 +2,7 @@
 //!
 //! A call that takes memory is sent again where it was refused. So these tests also pass where one call of the allocator
 //! is refused, whichever it is: `bench/refused_growths.sh` refuses each in turn.
-use crate::asserts::{assert_none, assert_so};
+use crate::asserts::{assert_none, expect};
 use crate::shown::is_shown;
 use oa_bstr::{Bstr, BstrError};
 use std::alloc::{AllocError, Global};
@@ -117,10 +117,15 @@ fn is_too_long(alloc: Global) -> bool {
 fn texts_are_kept_told_and_bounded(rt: HostRuntime) {
     let alloc = rt.alloc();
     assert_none(&rt, first_lost(alloc));
-    assert_so(
+    expect(
         &rt,
+        "null",
         is_copied_without_memory(alloc) && is_before_empty(alloc),
     );
     let is_small = size_of::<Bstr>() == 2 * size_of::<usize>();
-    assert_so(&rt, are_told(alloc) && is_too_long(alloc) && is_small);
+    expect(
+        &rt,
+        "prints and sizes",
+        are_told(alloc) && is_too_long(alloc) && is_small,
+    );
 }

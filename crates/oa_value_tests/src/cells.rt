@@ -2,7 +2,7 @@
 //!
 //! A call that takes memory is sent again where it was refused, after a look at what it left. So these tests also pass
 //! where one call of the allocator is refused, whichever it is: `bench/refused_growths.sh` refuses each in turn.
-use crate::asserts::{assert_none, assert_so};
+use crate::asserts::{assert_none, expect};
 use oa_cells::{Cells, Row};
 use std::alloc::{AllocError, Global};
 use std::cell::Cell;
@@ -233,7 +233,11 @@ fn each_cell_is_dropped_once(rt: HostRuntime) {
     assert_none(&rt, first_other_fill(alloc));
     assert_none(&rt, first_other_resize(alloc));
     let drops = Cell::new(0);
-    assert_so(&rt, is_replaced(alloc, &drops) && drops.get() == 4);
+    expect(
+        &rt,
+        "replaced",
+        is_replaced(alloc, &drops) && drops.get() == 4,
+    );
 }
 
 /// New cells get that value.
@@ -306,5 +310,9 @@ fn are_small() -> bool {
 #[test]
 fn cells_have_several_sizes(rt: HostRuntime) {
     let alloc = rt.alloc();
-    assert_so(&rt, become_each(alloc) && are_bounded(alloc) && are_small());
+    expect(
+        &rt,
+        "sizes",
+        become_each(alloc) && are_bounded(alloc) && are_small(),
+    );
 }

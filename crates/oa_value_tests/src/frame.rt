@@ -2,7 +2,7 @@
 ghost use Rattle.std.specs.Prelude.{false, ⊤, ◌≡◌};
 ghost use Rattle.oa_stream.specs.Ahead.{ahead};
 
-use crate::rows::expect;
+use crate::asserts::expect;
 use crate::stream::Scripted;
 use crate::stream::Step::{Fails, Moves};
 use oa_frame::{End, Framing, Responder, laws, put_reply, serve};

@@ -1,5 +1,5 @@
 //! The tokens of texts. What is read, refused and printed is shown by the cases of the program.
-use crate::rows::expect;
+use crate::asserts::expect;
 use oa_idl::{Token, TokenKind, tokens};
 use std::alloc::Global;
 use std::rt::HostRuntime;

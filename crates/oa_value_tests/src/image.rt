@@ -1,5 +1,5 @@
 //! Images of events that are read one by one, and how far where they are cut.
-use crate::rows::expect;
+use crate::asserts::expect;
 use oa_image::{ImageFault, read_event, write_event};
 use oa_table::Event;
 use std::alloc::Global;

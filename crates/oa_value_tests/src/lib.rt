@@ -21,8 +21,6 @@ mod ndr;
 #[cfg(test)]
 mod record;
 #[cfg(test)]
-mod rows;
-#[cfg(test)]
 mod shown;
 #[cfg(test)]
 mod stream;

@@ -1,5 +1,5 @@
 //! What no request shows of the standards' values: which types are signed, how other characters than those of names are folded.
-use crate::asserts::{assert_none, assert_so};
+use crate::asserts::{assert_none, expect};
 use oa_model::{HResult, VarType, fold, laws};
 use std::rt::HostRuntime;
 
@@ -66,7 +66,7 @@ fn are_numbers() -> bool {
 fn types_are_signed_and_characters_folded(rt: HostRuntime) {
     assert_none(&rt, first_other_type());
     assert_none(&rt, first_other_fold());
-    assert_so(&rt, are_numbers());
+    expect(&rt, "numbers", are_numbers());
     laws::guid_back();
     laws::type_back();
     laws::number_back();

@@ -1,5 +1,5 @@
 //! Where a reader is behind what is short, and a writer that begins behind other bytes.
-use crate::rows::expect;
+use crate::asserts::expect;
 use oa_ndr::{Ndr, NdrOut};
 use std::alloc::Global;
 use std::rt::HostRuntime;

@@ -1,5 +1,5 @@
 //! Fields of replies that are put behind others, and the opcode of a body.
-use crate::rows::expect;
+use crate::asserts::expect;
 use oa_record::{
     Opcode, opcode_of, put_number_field, put_object_field, put_scalar_field, put_string_field,
     put_variant_field,

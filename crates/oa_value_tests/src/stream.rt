@@ -1,7 +1,7 @@
 //! What the standard library's answers become, and what the buffers pass on.
 ghost use Rattle.std.specs.Prelude.{false, ◌≡◌};
 
-use crate::rows::expect;
+use crate::asserts::expect;
 use crate::stream::Step::{Ends, Fails, Interrupts, Moves};
 use oa_stream::{
     Ahead, Cutting, Gathered, Inlet, Interrupted, More, Next, Outlet, Sink, Source, Unwritten,

@@ -2,7 +2,7 @@
 ghost use Rattle.oa_table.specs.Events.{BringsNoLocks};
 
 use crate::arrays::array;
-use crate::rows::expect;
+use crate::asserts::expect;
 use crate::table::Changing::{Create, Null, PutI4, Redim, Release};
 use oa_array::{ArrayFault, Indices};
 use oa_model::{Bound, VarType};

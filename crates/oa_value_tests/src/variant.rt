@@ -1,7 +1,7 @@
 //! What takes memory, with enough of it; what a refused value is; the size of a cell. What each value becomes, and in which order keys
 //! stand, is shown by the cases of the program.
 use crate::arrays::locked;
-use crate::asserts::assert_so;
+use crate::asserts::expect;
 use crate::shown::is_shown;
 use oa_coerce::coerce;
 use oa_model::{Bound, ValueType, VarType};
@@ -43,8 +43,9 @@ fn is_handed_back(alloc: Global) -> bool {
 fn values_are_copied_or_handed_back(rt: HostRuntime) {
     let alloc = rt.alloc();
     let is_small = size_of::<Scalar>() <= 24;
-    assert_so(
+    expect(
         &rt,
+        "copies, refusals and sizes",
         is_copied_without_locks(alloc) && is_handed_back(alloc) && is_small,
     );
 }

@@ -31,9 +31,9 @@ pub struct FileDisk {
 impl FileDisk {
     ghost use Rattle.oa_disk.specs.File.{size_of, failures_of, record_of, IsHeld, IsZeros};
 
-    /// Opens a file that is there, as a disk of its own length, and brings to the device what was written to it before. It is
-    /// opened for reading and writing, and not for appending. Anything but a regular file is std's error `Unsupported`, and each
-    /// other refusal is the system's. There is a beginning from which all that is said of the disk is true: what the file held.
+    /// Opens a file that is there for reading and writing, and not for appending, as `over` does. There is a beginning from which all that
+    /// is said of the disk is true: what the file held. (`over` says it of each beginning: beside a path no caller can hand on a value that
+    /// only clauses name.)
     pub fn open<R: Files<File = File>>(rt: &R, path: &str) -> io::Result<FileDisk>
         ensures held { IfOk result (λ disk. (held : ℕ → ℕ) × IsHeld held disk) }
         ensures honest { IfOk result (λ disk. IsTrue (⟦<FileDisk as Disk>⟧.is_honest disk)) }
@@ -42,8 +42,8 @@ impl FileDisk {
         FileDisk::over(OpenOptions::new().read(true).write(true).open(rt, path)?)
     }
 
-    /// Makes a file of so many zeros, which takes their whole room on the device at once, and brings it there, with its name
-    /// in its folder. Where something has the name, it is std's error `AlreadyExists`; where the file cannot be filled, it is
+    /// Makes a file of so many zeros, locked as `over` says, which takes their whole room on the device at once, and brings it
+    /// there, with its name in its folder. Where something has the name, it is std's error `AlreadyExists`; where the file cannot be filled, it is
     /// removed.
     pub fn create<R: Files<File = File>>(rt: &R, path: &str, size: u64) -> io::Result<FileDisk>
         ensures zeros { IfOk result (IsZeros size) }
@@ -58,20 +58,25 @@ impl FileDisk {
         Ok(FileDisk::begin(file, size))
     }
 
-    /// Takes an open file, and brings to the device what was written to it before. A file that is open for appending writes
-    /// elsewhere than it is told, so this is for files that `open` has opened.
-    fn over(file: File) -> io::Result<FileDisk>
+    /// Takes an open file that is written where it is told, and not at its end, as a disk of its own length, and brings to the device what was
+    /// written to it before. The file is locked until the disk goes: the lock is the system's, on the descriptor that is written by, so that
+    /// it ends with the process. Where another open of the file has it, that is std's error `WouldBlock`; anything but a regular file is
+    /// `Unsupported`, and each other refusal is the system's. All that is said of the disk is true from each beginning, what the file held
+    /// among them.
+    pub fn over(file: File) -> io::Result<FileDisk>
         ghost held: { ℕ → ℕ }
         ensures held { IfOk result (IsHeld held) }
         ensures honest { IfOk result (λ disk. IsTrue (⟦<FileDisk as Disk>⟧.is_honest disk)) }
         ensures settled { IfOk result (NothingPending ⟦<FileDisk as Disk>⟧.contents ⟦<FileDisk as Disk>⟧.image) }
     {
-        let found = file.metadata()?;
-        if !found.is_file() {
+        if !file.metadata()?.is_file() {
             return Err(io::ErrorKind::Unsupported.into());
         }
+        // (the length is read under the lock, since whoever holds it may change it)
+        file.try_lock()?;
         file.sync_all()?;
-        Ok(FileDisk::begin(file, found.len()))
+        let size = file.metadata()?.len();
+        Ok(FileDisk::begin(file, size))
     }
 
     /// A file of which this is the beginning.
@@ -208,6 +213,7 @@ impl Disk for FileDisk {
 
 /// Fills a new file with so many zeros, and brings it and its name to the device.
 fn lay_down<R: Files<File = File>>(rt: &R, file: &File, path: &str, size: u64) -> io::Result<()> {
+    file.try_lock()?;
     file.set_len(size)?;
     let zeros = [0; PIECE];
     let mut at = 0;

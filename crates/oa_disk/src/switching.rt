@@ -20,6 +20,8 @@ pub fn flip<D: Disk>(disk: &mut D, at: u64, value: u8) -> Result<(), DeviceFault
     ensures honest { D.is_honest disk.new ≡ D.is_honest disk.old }
     ensures counts { Counts (D.failures_of disk.old) (D.failures_of disk.new) result }
     ensures fault { IfErr result (λ e. e ≡ DeviceFault.Write) }
+    // three calls
+    ensures calls { IsTrue (D.is_honest disk.old) → D.moment disk.new ≤ D.moment disk.old + 6 }
 {
     disk.sync()?;
     disk.write_at(at, &[value])?;
@@ -49,6 +51,8 @@ pub fn write_then_flip<D: Disk>(
     ensures honest { D.is_honest disk.new ≡ D.is_honest disk.old }
     ensures counts { Counts (D.failures_of disk.old) (D.failures_of disk.new) result }
     ensures fault { IfErr result (λ e. e ≡ DeviceFault.Write) }
+    // four calls
+    ensures calls { IsTrue (D.is_honest disk.old) → D.moment disk.new ≤ D.moment disk.old + 8 }
 {
     disk.write_at(at, bytes)?;
     flip(disk, switch, value)

@@ -8,6 +8,7 @@ ghost use Rattle.oa_table.specs.Events.{applied};
 ghost use Rattle.oa_table.specs.Locks.{with_lock, without_lock};
 ghost use Rattle.oa_table.specs.Tables.{TableValue, first_table, unlocked_table};
 ghost use Rattle.oa_typelib.specs.Checked.{IsChecked};
+ghost use Rattle.oa_typelib.specs.Keeps.{Keeps};
 ghost use Rattle.oa_typelib.specs.Libraries.{selected_in};
 ghost use Rattle.oa_typelib.specs.Members.{member_in, property_in};
 ghost use Rattle.oa_typelib.specs.declared.access.Access.{Access as AnAccess};
@@ -39,4 +40,9 @@ pub fn calls_reach_what_fits()
         → IfSome (selected_in library class guid) (λ found. entered library class found.guid ≡ Some found) }
     ensures property { (interface : InterfaceValue) (id : ℤ) (access : AnAccess)
         → IfOk (member_in interface id access) (λ found. property_in interface id ≡ Some found.0) }
+{}
+
+/// A table that a library can have is one that each library can have that keeps it.
+pub fn kept_fits()
+    ensures { (new old : TreeValue) → IsChecked new → Keeps new old → (table : TableValue) → fits old table ≡ true → fits new table ≡ true }
 {}

@@ -1,5 +1,6 @@
 pub mod HexDigits
 pub mod Spelled
+pub mod Left
 pub mod Sessions
 pub mod Splits
 pub mod Seeks

@@ -1,6 +1,6 @@
 -- A session, body by body, in any framing.
 use Rattle.std.proofs.Common.{◌≡◌, ℕ, ◌+◌, ◌≤◌, true, false, List, [], ◌∷◌, ◌++◌, Option, Some, None, length, refl, sym, ap, ◌∙◌, subst}
-use Rattle.std.proofs.Common.{inl, inr, ◌⊎◌, arith}
+use Rattle.std.proofs.Common.{inl, inr, ◌⊎◌, arith, Bool, Result, Ok, Err}
 use Rattle.std.specs.List.{sum}
 use Rattle.std.proofs.lemmas.List.{append-nil, length-append}
 use Rattle.std.proofs.lemmas.List.Elements.{All-nil, All-push}
@@ -8,7 +8,8 @@ use Rattle.std.proofs.lemmas.List.Sums.{sum_by-append}
 use Rattle.std.specs.Io.KnownBytes.{Appends, Keeps}
 use Rattle.oa_model.specs.Limits.{max_read_calls, max_records}
 use Rattle.oa_stream.specs.Source.{Input, later}
-use Rattle.oa_stream.specs.Sink.{Output, Writes, Breaks}
+use Rattle.oa_stream.specs.Sink.{Output, Writes, Breaks, Puts, Delivers}
+use Rattle.oa_stream.specs.declared.sink.Unwritten.{Unwritten}
 use Rattle.oa_stream.proofs.Stretches.{writes_nothing, writes_then, breaks_after, breaks_before, tear, lost_few}
 use Rattle.oa_frame.specs.declared.ends.End.{End}
 use Rattle.oa_frame.specs.declared.ends.End.TheVariants.{ReadFault, WriteFault}
@@ -19,7 +20,9 @@ use Rattle.std.proofs.lemmas.Bool.{false≢true}
 use Rattle.oa_frame.specs.Framings.{Frames, frames, is_read_fault}
 use Rattle.oa_frame.specs.Paces.{HasCause, Paced}
 use Rattle.oa_frame.specs.Sessions.{TurnOf, EndOf, Run, Bodies, ReadTo, spelled_all, joined, last_reply, Calls, Told, Fails, Session, Going}
-use Rattle.oa_frame.specs.Sessions.{HandsOn, Closes}
+use Rattle.oa_frame.specs.Sessions.{HandsOn, Closes, Answers, Finishes, Parts, but_last, step, step_by}
+use Rattle.oa_frame.specs.Sessions.Halt.{Between, At, Undone}
+use Rattle.oa_frame.proofs.Left.{breaks_more, but_few, gone_is, kept_less, left_more, left_push, torn_is, writes_more}
 use Rattle.oa_frame.proofs.Spelled.{spelled_append, joined_more, latest_more}
 
 run_more : {S : Type 0} (turn : TurnOf S) (old mid new : S) (bodies : List (List ℕ)) (handed : List (List (List ℕ))) (body : List ℕ) (replies : List (List ℕ))
@@ -39,11 +42,17 @@ known_more f (Some x) None c bodies body h n = absurd h
 known_more f (Some x) (Some y) None bodies body h n = absurd n
 known_more f (Some x) (Some y) (Some z) bodies body h n = bodies_more f x y z bodies body h n
 
-known_stops : (f : Frames) (a b c : Option (List ℕ)) (bodies : List (List ℕ)) (why : End) → Known (λ bytes rest. Bodies f bytes bodies rest) a b → Known (f.Stop why) b c → Known (ReadTo f (Some why) bodies) a c
+known_stops : (f : Frames) (a b c : Option (List ℕ)) (bodies : List (List ℕ)) (why : End) → Known (λ bytes rest. Bodies f bytes bodies rest) a b → Known (f.Stop why) b c → Known (ReadTo f (At why) bodies) a c
 known_stops f None b c bodies why h s = tt
 known_stops f (Some x) None c bodies why h s = absurd h
 known_stops f (Some x) (Some y) None bodies why h s = absurd s
 known_stops f (Some x) (Some y) (Some z) bodies why h s = (y, h, s)
+
+known_undone : (f : Frames) (a b c : Option (List ℕ)) (bodies : List (List ℕ)) (body : List ℕ) → Known (λ bytes rest. Bodies f bytes bodies rest) a b → Known (λ bytes rest. f.Next bytes body rest) b c → Known (ReadTo f (Undone body) bodies) a c
+known_undone f None b c bodies body h s = tt
+known_undone f (Some x) None c bodies body h s = absurd h
+known_undone f (Some x) (Some y) None bodies body h s = absurd s
+known_undone f (Some x) (Some y) (Some z) bodies body h s = (y, h, s)
 
 known_keeps : (f : Frames) (a b c : Option (List ℕ)) (bodies : List (List ℕ)) → Known (λ bytes rest. Bodies f bytes bodies rest) a b → Keeps b c → Known (λ bytes rest. Bodies f bytes bodies rest) a c
 known_keeps f None b c bodies h s = tt
@@ -87,15 +96,15 @@ calls_more requests i j k n c few clock = record {
 calls_over : (requests : ℕ) (i j k : Input) (n : ℕ) → Calls requests 0 i j → k.calls ≡ later n j.calls → Calls requests n i k
 calls_over requests i j k n c clock = record { each = c.each; one_each = c.one_each; few = c.few; clock = later_more (sum c.each) n i.calls j.calls k.calls c.clock clock }
 
-pub going_start : {S : Type 0} (f : Frames) (turn : TurnOf S) (i : Input) (o : Output) (state : S) → o.broken ≡ false → Going f turn i i o o state state 0
+pub going_start : {S : Type 0} (f : Frames) (alone : List ℕ → Bool) (turn : TurnOf S) (i : Input) (o : Output) (state : S) → o.broken ≡ false → Going f alone turn i i o o state state 0
 unfolding spelled_all joined
-going_start f turn i o state h = record { bodies = []; handed = []; run = refl; count = refl; read = known_start f i.left; calls = no_calls i; lines = writes_nothing o h }
+going_start f alone turn i o state h = record { bodies = []; handed = []; run = refl; count = refl; read = known_start f i.left; calls = no_calls i; lines = writes_nothing o h; apart = tt }
 
 -- nothing more was put
 same_lines : (a b c : Output) (xs : List ℕ) → Writes a b xs → Writes b c [] → Writes a c xs
 same_lines a b c xs p q = subst (Writes a c) (append-nil xs) (writes_then a b c xs [] p q)
 
-module _ {S : Type 0} (f : Frames) (turn : TurnOf S) (ends : EndOf S) (last : List ℕ) (i i' i'' : Input) (o o' : Output) (old mid : S) (requests : ℕ) (h : Going f turn i i' o o' old mid requests) where
+module _ {S : Type 0} (f : Frames) (alone : List ℕ → Bool) (turn : TurnOf S) (ends : EndOf S) (last : List ℕ) (i i' i'' : Input) (o o' : Output) (old mid : S) (requests : ℕ) (h : Going f alone turn i i' o o' old mid requests) where
   one_more : (body : List ℕ) → requests + 1 ≡ length (h.bodies ++ body ∷ [])
   one_more body = let e = h.count in rw (length-append h.bodies (body ∷ [])) (omega (arith, e))
 
@@ -103,32 +112,45 @@ module _ {S : Type 0} (f : Frames) (turn : TurnOf S) (ends : EndOf S) (last : Li
   more_spelled : (replies : List (List ℕ)) → spelled_all f.spelled (joined (h.handed ++ replies ∷ [])) ≡ spelled_all f.spelled (joined h.handed) ++ spelled_all f.spelled replies
   more_spelled replies = ap (spelled_all f.spelled) (joined_more h.handed replies) ∙ spelled_append f.spelled (joined h.handed) replies
 
+  more_long : (replies : List (List ℕ)) → length (spelled_all f.spelled (joined (h.handed ++ replies ∷ []))) ≡ length (spelled_all f.spelled (joined h.handed)) + length (spelled_all f.spelled replies)
+  more_long replies = ap length (more_spelled replies) ∙ length-append (spelled_all f.spelled (joined h.handed)) (spelled_all f.spelled replies)
+
   -- a body was read and answered, and the replies were put
   pub going_on : (p q : Output) (new : S) (body : List ℕ) (replies : List (List ℕ)) → Known (λ bytes rest. f.Next bytes body rest) i'.left i''.left → Paced false i' i'' → turn mid body replies new → Writes o' p []
-      → Writes p q (spelled_all f.spelled replies) → Going f turn i i'' o q old new (requests + 1)
-  going_on p q new body replies n pace t v w = record {
-    bodies = h.bodies ++ body ∷ [];
-    handed = h.handed ++ replies ∷ [];
-    run = run_more turn old mid new h.bodies h.handed body replies h.run t;
-    count = one_more body;
-    read = known_more f i.left i'.left i''.left h.bodies body h.read n;
-    calls = calls_more requests i i' i'' pace.tries h.calls pace.most pace.clock;
-    lines = subst (Writes o q) (sym (more_spelled replies)) (writes_then o p q _ _ (same_lines o o' p _ h.lines v) w);
-  }
+      → Writes p q (spelled_all f.spelled replies) → (alone body ≡ true → length q.kept + length (spelled_all f.spelled (but_last replies)) ≤ length (spelled_all f.spelled replies))
+      → Going f alone turn i i'' o q old new (requests + 1)
+  going_on p q new body replies n pace t v w own =
+      let lines : Writes o q (spelled_all f.spelled (joined (h.handed ++ replies ∷ []))) = subst (Writes o q) (sym (more_spelled replies)) (writes_then o p q _ _ (same_lines o o' p _ h.lines v) w) in
+      let long = more_long replies in
+      record {
+        bodies = h.bodies ++ body ∷ [];
+        handed = h.handed ++ replies ∷ [];
+        run = run_more turn old mid new h.bodies h.handed body replies h.run t;
+        count = one_more body;
+        read = known_more f i.left i'.left i''.left h.bodies body h.read n;
+        calls = calls_more requests i i' i'' pace.tries h.calls pace.most pace.clock;
+        lines = lines;
+        apart = left_push f alone turn old mid (length lines.gone) (length o.kept) h.bodies h.handed body replies h.run
+            (left_more f alone (length h.lines.gone) (length lines.gone) (length o.kept) h.bodies h.handed (writes_more o o' p q _ _ _ h.lines w lines (kept_less o' p v) long) h.apart)
+            (λ is. let now = own is in omega (arith, now, gone_is o q _ lines, long));
+      }
 
   -- the writer failed in them
   pub going_fails : (p q : Output) (new new' : S) (body : List ℕ) (replies held : List (List ℕ)) → Known (λ bytes rest. f.Next bytes body rest) i'.left i''.left → Paced false i' i'' → turn mid body replies new → Writes o' p []
-      → length p.kept ≤ p.back → Breaks p q (spelled_all f.spelled replies) → ends new held new' → Session f turn ends last i i'' o q old new' (record { requests = requests + 1; why = WriteFault })
-  going_fails p q new new' body replies held n pace t v keeps w e =
+      → length p.kept ≤ p.back → (w : Breaks p q (spelled_all f.spelled replies)) → (alone body ≡ true → length w.lost + length (spelled_all f.spelled (but_last replies)) ≤ length (spelled_all f.spelled replies)) → ends new held new'
+      → Session f alone turn ends last i i'' o q old new' (record { requests = requests + 1; why = WriteFault })
+  going_fails p q new new' body replies held n pace t v keeps w own e =
       let put = same_lines o o' p _ h.lines v in
       let all = ap (spelled_all f.spelled) (append-nil (joined (h.handed ++ replies ∷ []))) ∙ more_spelled replies in
       let tears = tear o p q _ _ (spelled_all f.spelled (joined (h.handed ++ replies ∷ []) ++ [])) all put w in
+      let long : length (spelled_all f.spelled (joined (h.handed ++ replies ∷ []) ++ [])) ≡ length (spelled_all f.spelled (joined h.handed)) + length (spelled_all f.spelled replies) =
+      ap length all ∙ length-append (spelled_all f.spelled (joined h.handed)) (spelled_all f.spelled replies) in
       record {
         bodies = h.bodies ++ body ∷ [];
         handed = h.handed ++ replies ∷ [];
         held = held;
         mid = new;
-        stop = None;
+        stop = Between;
         over = 0;
         run = run_more turn old mid new h.bodies h.handed body replies h.run t;
         ended = e;
@@ -139,12 +161,19 @@ module _ {S : Type 0} (f : Frames) (turn : TurnOf S) (ends : EndOf S) (last : Li
         few = omega arith;
         cause = pace.cause;
         sound = λ _. tt;
-        written = inr (record { ended = refl; torn = tears.torn; few = rw (tears.same, latest_more h.handed replies) (lost_few p q _ o.back w keeps put.back) });
+        written = inr (record {
+          ended = refl;
+          torn = tears.torn;
+          few = rw (tears.same, latest_more h.handed replies) (lost_few p q _ o.back w keeps put.back);
+          apart = left_push f alone turn old mid (length tears.torn.gone) (length o.kept) h.bodies h.handed body replies h.run
+              (left_more f alone (length h.lines.gone) (length tears.torn.gone) (length o.kept) h.bodies h.handed (breaks_more o o' p q _ _ _ h.lines w tears.torn (kept_less o' p v) long tears.same) h.apart)
+              (λ is. let now = own is in omega (arith, now, torn_is o q _ tears.torn, long, ap length tears.same));
+        });
       }
 
   -- the writer failed before a wait
   pub going_waits : (q : Output) (new : S) (held : List (List ℕ)) → Keeps i'.left i''.left → Paced false i' i'' → length o'.kept ≤ o'.back → Breaks o' q [] → ends mid held new
-      → Session f turn ends last i i'' o q old new (record { requests = requests; why = WriteFault })
+      → Session f alone turn ends last i i'' o q old new (record { requests = requests; why = WriteFault })
   going_waits q new held k pace keeps w e =
       let all = ap (spelled_all f.spelled) (append-nil (joined h.handed)) ∙ sym (append-nil (spelled_all f.spelled (joined h.handed))) in
       let tears = tear o o' q _ [] (spelled_all f.spelled (joined h.handed ++ [])) all h.lines w in
@@ -154,7 +183,7 @@ module _ {S : Type 0} (f : Frames) (turn : TurnOf S) (ends : EndOf S) (last : Li
         handed = h.handed;
         held = held;
         mid = mid;
-        stop = None;
+        stop = Between;
         over = pace.tries;
         run = h.run;
         ended = e;
@@ -165,21 +194,62 @@ module _ {S : Type 0} (f : Frames) (turn : TurnOf S) (ends : EndOf S) (last : Li
         few = pace.most;
         cause = pace.cause;
         sound = λ _. tt;
-        written = inr (record { ended = refl; torn = tears.torn; few = rw tears.same (omega (arith, lost)) });
+        written = inr (record {
+          ended = refl;
+          torn = tears.torn;
+          few = rw tears.same (omega (arith, lost));
+          apart = left_more f alone (length h.lines.gone) (length tears.torn.gone) (length o.kept) h.bodies h.handed
+              (breaks_more o o' o' q _ [] _ h.lines w tears.torn (omega arith) (ap length all ∙ length-append (spelled_all f.spelled (joined h.handed)) []) tears.same) h.apart;
+        });
       }
 
   -- the replies to all bodies and those of the end, as they stand on the writer
   end_spelled : (held : List (List ℕ)) → spelled_all f.spelled (joined h.handed ++ held) ≡ spelled_all f.spelled (joined h.handed) ++ spelled_all f.spelled held
   end_spelled held = spelled_append f.spelled (joined h.handed) held
 
+  end_long : (held : List (List ℕ)) → length (spelled_all f.spelled (joined h.handed ++ held)) ≡ length (spelled_all f.spelled (joined h.handed)) + length (spelled_all f.spelled held)
+  end_long held = ap length (end_spelled held) ∙ length-append (spelled_all f.spelled (joined h.handed)) (spelled_all f.spelled held)
+
+  -- the writer failed in what was held before a body that comes alone
+  pub going_undone : (p q : Output) (new : S) (body : List ℕ) (e : Unwritten) → Parts f alone ends (Err e) body p q mid new → Known (λ bytes rest. f.Next bytes body rest) i'.left i''.left → Paced false i' i'' → Writes o' p [] → length p.kept ≤ p.back
+      → Session f alone turn ends last i i'' o q old new (record { requests = requests; why = WriteFault })
+  going_undone p q new body e (inr together) n pace v keeps = absurd (false≢true together.fine)
+  going_undone p q new body e (inl w) n pace v keeps =
+      let put = same_lines o o' p _ h.lines v in
+      let tears = tear o p q _ _ (spelled_all f.spelled (joined h.handed ++ w.held)) (end_spelled w.held) put w.put in
+      record {
+        bodies = h.bodies;
+        handed = h.handed;
+        held = w.held;
+        mid = mid;
+        stop = Undone body;
+        over = pace.tries;
+        run = h.run;
+        ended = w.ended;
+        count = h.count;
+        read = known_undone f i.left i'.left i''.left h.bodies body h.read n;
+        can = w.is;
+        calls = calls_over requests i i' i'' pace.tries h.calls pace.clock;
+        few = pace.most;
+        cause = pace.cause;
+        sound = λ _. tt;
+        written = inr (record {
+          ended = refl;
+          torn = tears.torn;
+          few = rw tears.same (lost_few p q _ o.back w.put keeps put.back);
+          apart = left_more f alone (length h.lines.gone) (length tears.torn.gone) (length o.kept) h.bodies h.handed
+              (breaks_more o o' p q _ _ _ h.lines w.put tears.torn (kept_less o' p v) (end_long w.held) tears.same) h.apart;
+        });
+      }
+
   -- all replies have left the writer where nothing is kept back
   closing : (p q : Output) (why end : End) (held : List (List ℕ)) → Writes o' p [] → length p.kept ≤ p.back → HandsOn f.spelled why end (held ++ last_reply last end) p q
-      → Told f last why (Some end) h.handed held o q ⊎ Fails f last why (Some end) h.handed held o q
+      → Told f last why (At end) h.handed held o q ⊎ Fails f alone last why (At end) h.bodies h.handed held o q
   closing p q why end held v keeps (inl c) =
       let all = subst (Writes o q) (sym (end_spelled (held ++ last_reply last end))) (writes_then o p q _ _ (same_lines o o' p _ h.lines v) c.1) in
       let gone : all.gone ≡ o.kept ++ spelled_all f.spelled (joined h.handed ++ (held ++ last_reply last end)) = sym (append-nil all.gone) ∙ ap (λ l. all.gone ++ l) (sym c.2.nothing) ∙ sym all.whole in
       inl (record {
-        ended = ap (λ w. Some w) (sym c.0);
+        ended = ap (λ w. At w) (sym c.0);
         reached = subst (λ w. Appends o.reached q.reached (o.kept ++ spelled_all f.spelled (joined h.handed ++ (held ++ last_reply last w)))) (sym c.0) (subst (Appends o.reached q.reached) gone all.reached);
         handed_on = c.2;
         sound = c.1.sound;
@@ -187,16 +257,22 @@ module _ {S : Type 0} (f : Frames) (turn : TurnOf S) (ends : EndOf S) (last : Li
   closing p q why end held v keeps (inr c) =
       let put = same_lines o o' p _ h.lines v in
       let tears = tear o p q _ _ (spelled_all f.spelled (joined h.handed ++ (held ++ last_reply last end))) (end_spelled (held ++ last_reply last end)) put c.1 in
-      inr (record { ended = c.0; torn = tears.torn; few = rw tears.same (lost_few p q _ o.back c.1 keeps put.back) })
+      inr (record {
+        ended = c.0;
+        torn = tears.torn;
+        few = rw tears.same (lost_few p q _ o.back c.1 keeps put.back);
+        apart = left_more f alone (length h.lines.gone) (length tears.torn.gone) (length o.kept) h.bodies h.handed
+            (breaks_more o o' p q _ _ _ h.lines c.1 tears.torn (kept_less o' p v) (end_long (held ++ last_reply last end)) tears.same) h.apart;
+      })
 
   pub going_closes : (p q : Output) (new : S) (why end : End) (over : ℕ) → f.Can (requests + 1) end → Known (f.Stop end) i'.left i''.left → over ≤ max_read_calls → i''.calls ≡ later over i'.calls → HasCause (is_read_fault end) over i''.faulted ⊎ (requests ≡ max_records)
-      → (i.steady ≡ true → end ≡ ReadFault → requests ≡ max_records) → Writes o' p [] → length p.kept ≤ p.back → Closes f ends last why end p q mid new → Session f turn ends last i i'' o q old new (record { requests = requests; why = why })
+      → (i.steady ≡ true → end ≡ ReadFault → requests ≡ max_records) → Writes o' p [] → length p.kept ≤ p.back → Closes f ends last why end p q mid new → Session f alone turn ends last i i'' o q old new (record { requests = requests; why = why })
   going_closes p q new why end over can k few clock cause sound v keeps w = record {
     bodies = h.bodies;
     handed = h.handed;
     held = w.held;
     mid = mid;
-    stop = Some end;
+    stop = At end;
     over = over;
     run = h.run;
     ended = w.ended;
@@ -209,6 +285,60 @@ module _ {S : Type 0} (f : Frames) (turn : TurnOf S) (ends : EndOf S) (last : Li
     sound = sound;
     written = closing p q why end w.held v keeps w.closed;
   }
+
+-- what was done before a body, and then at it
+stepped_by : {S : Type 0} (turn : TurnOf S) (ends : EndOf S) (b : Bool) (old mid new : S) (body : List ℕ) (held own : List (List ℕ)) → b ≡ true → ends old held mid → turn mid body own new → step_by b turn ends old body (held ++ own) new
+stepped_by turn ends true old mid new body held own is e t = record { held = held; own = own; between = mid; ended = e; turned = t; are = refl }
+stepped_by turn ends false old mid new body held own is e t = absurd (false≢true is)
+
+together_by : {S : Type 0} (turn : TurnOf S) (ends : EndOf S) (b : Bool) (old new : S) (body : List ℕ) (own : List (List ℕ)) → b ≡ false → turn old body own new → step_by b turn ends old body own new
+together_by turn ends true old new body own is t = absurd (false≢true (sym is))
+together_by turn ends false old new body own is t = t
+
+-- what of the bytes that were put has not left: what is kept back, or what is lost
+abbrev pub behind : (result : Result (Unit {0}) Unwritten) (o q : Output) (bytes : List ℕ) → Puts result o q bytes → ℕ
+behind (Ok u) o q bytes w = length q.kept
+behind (Err e) o q bytes b = length b.lost
+
+-- Of the replies at a body that comes alone no more than its own are among them.
+pub record Stepped {S : Type 0} (f : Frames) (alone : List ℕ → Bool) (turn : TurnOf S) (ends : EndOf S) (result : Result (Unit {0}) Unwritten) (body : List ℕ) (o q : Output) (old new : S) : Type 0 where
+  pub answers : Answers f (step alone turn ends) result body o q old new
+  pub own : alone body ≡ true → behind result o q (spelled_all f.spelled answers.replies) answers.put + length (spelled_all f.spelled (but_last answers.replies)) ≤ length (spelled_all f.spelled answers.replies)
+
+pub stepped : {S : Type 0} (f : Frames) (alone : List ℕ → Bool) (turn : TurnOf S) (ends : EndOf S) (u : Unit {0}) (result : Result (Unit {0}) Unwritten) (body : List ℕ) (o p q : Output) (old mid new : S)
+    → ((a b c : S) (held own : List (List ℕ)) (body : List ℕ) → ends a held b → alone body ≡ true → turn b body own c → length own ≤ 1) → Parts f alone ends (Ok u) body o p old mid → Answers f turn result body p q mid new
+    → Stepped f alone turn ends result body o q old new
+stepped f alone turn ends u (Ok v) body o p q old mid new one (inl a) b =
+    let few = one old mid new a.held b.replies body a.ended a.is b.turned in
+    let long = ap length (spelled_append f.spelled a.held b.replies) ∙ length-append (spelled_all f.spelled a.held) (spelled_all f.spelled b.replies) in
+    record {
+      answers = record {
+        replies = a.held ++ b.replies;
+        turned = stepped_by turn ends (alone body) old mid new body a.held b.replies a.is a.ended b.turned;
+        put = subst (Writes o q) (sym (spelled_append f.spelled a.held b.replies)) (writes_then o p q _ _ a.put.0 b.put);
+      };
+      own = λ is. omega (arith, long, but_few f.spelled a.held b.replies few, gone_is p q _ b.put, ap length a.put.1.nothing);
+    }
+stepped f alone turn ends u (Err e) body o p q old mid new one (inl a) b =
+    let few = one old mid new a.held b.replies body a.ended a.is b.turned in
+    let long = ap length (spelled_append f.spelled a.held b.replies) ∙ length-append (spelled_all f.spelled a.held) (spelled_all f.spelled b.replies) in
+    let tears = tear o p q _ _ (spelled_all f.spelled (a.held ++ b.replies)) (spelled_append f.spelled a.held b.replies) a.put.0 b.put in
+    record {
+      answers = record {
+        replies = a.held ++ b.replies;
+        turned = stepped_by turn ends (alone body) old mid new body a.held b.replies a.is a.ended b.turned;
+        put = tears.torn;
+      };
+      own = λ is. omega (arith, long, but_few f.spelled a.held b.replies few, torn_is p q _ b.put, ap length a.put.1.nothing, ap length tears.same);
+    }
+stepped f alone turn ends u result body o p q old mid new one (inr a) b = record {
+  answers = record {
+    replies = b.replies;
+    turned = together_by turn ends (alone body) old new body b.replies a.is (subst (λ from. turn from body b.replies new) a.same b.turned);
+    put = subst (λ from. Puts result from q (spelled_all f.spelled b.replies)) a.still b.put;
+  };
+  own = λ is. absurd (false≢true (sym a.is ∙ is));
+}
 
 -- all was put and handed on, or not handed on
 pub writes_late : (a b c : Output) (xs : List ℕ) → Writes a b xs → Writes b c [] → Writes a c xs
@@ -245,3 +375,9 @@ writes_none o h = writes_nothing o h
 
 pub no_call : (n : ℕ) → n ≡ later 0 n
 no_call n = omega arith
+
+-- what was held was put before a body that comes alone, and all was handed on, or the writer failed then
+pub parted_on : {S : Type 0} (f : Frames) (alone : List ℕ → Bool) (ends : EndOf S) (u : Unit {0}) (result : Result (Unit {0}) Unwritten) (body : List ℕ) (o p q : Output) (old new : S) → alone body ≡ true → Finishes f ends (Ok u) o p old new
+    → Delivers result p q → Parts f alone ends result body o q old new
+parted_on f alone ends u (Ok v) body o p q old new is a d = inl (record { is = is; held = a.held; ended = a.ended; put = (writes_late o p q _ a.put d.0, d.1) })
+parted_on f alone ends u (Err e) body o p q old new is a d = inl (record { is = is; held = a.held; ended = a.ended; put = breaks_late o p q _ a.put d })

@@ -1,6 +1,6 @@
 -- What a session over a reader and a writer read, answered and wrote, in any framing.
-use Rattle.std.specs.Prelude.{◌≡◌, ◌⊎◌, ℕ, ◌+◌, ◌≤◌, Bool, true, false, if◌then◌else◌, List, [], ◌∷◌, ◌++◌, length, Option, Some, None}
-use Rattle.std.specs.Prelude.{Result, ⊤}
+use Rattle.std.specs.Prelude.{◌≡◌, ◌⊎◌, ℕ, ◌+◌, ◌≤◌, Bool, true, false, if◌then◌else◌, List, [], ◌∷◌, ◌++◌, length}
+use Rattle.std.specs.Prelude.{Result, Ok, Err, IsOk, ⊤}
 use Rattle.std.specs.List.{All, sum}
 use Rattle.std.specs.Io.KnownBytes.{Appends}
 use Rattle.oa_model.specs.Limits.{max_read_calls, max_records}
@@ -21,6 +21,30 @@ TurnOf S = S → List ℕ → List (List ℕ) → S → Type 0
 -- what a server does where no further body comes: the state before, the replies that were still held, the state after
 abbrev pub EndOf : Type 0 → Type 1
 EndOf S = S → List (List ℕ) → S → Type 0
+
+-- A body that comes alone: first what was held is handed out, as where no further body comes, and then the body is answered.
+pub record IsApart {S : Type 0} (turn : TurnOf S) (ends : EndOf S) (old : S) (body : List ℕ) (replies : List (List ℕ)) (new : S) : Type 0 where
+  pub held : List (List ℕ)
+  pub own : List (List ℕ)
+  pub between : S
+  pub ended : ends old held between
+  pub turned : turn between body own new
+  pub are : replies ≡ held ++ own
+
+abbrev pub step_by : {S : Type 0} → Bool → TurnOf S → EndOf S → TurnOf S
+step_by true turn ends old body replies new = IsApart turn ends old body replies new
+step_by false turn ends old body replies new = turn old body replies new
+
+-- what is done at a body, whether it comes alone or not
+abbrev pub step : {S : Type 0} → (List ℕ → Bool) → TurnOf S → EndOf S → TurnOf S
+step alone turn ends old body replies new = step_by (alone body) turn ends old body replies new
+
+-- What the reading came to behind the last body that was answered: nothing; what ended it; a body that comes alone, which was read and
+-- left undone.
+pub data Halt : Type 0 where
+  Between : Halt
+  At : End → Halt
+  Undone : List ℕ → Halt
 
 -- one body after another, with the replies that were handed out at each
 abbrev pub Run : {S : Type 0} → TurnOf S → S → List (List ℕ) → List (List (List ℕ)) → S → Type 0
@@ -44,6 +68,21 @@ unfoldable pub spelled_all : (List ℕ → List ℕ) → List (List ℕ) → Lis
 spelled_all spelled [] = []
 spelled_all spelled (reply ∷ replies) = spelled reply ++ spelled_all spelled replies
 
+-- all but the last
+abbrev pub but_last : List (List ℕ) → List (List ℕ)
+but_last [] = []
+but_last (reply ∷ []) = []
+but_last (reply ∷ (next ∷ replies)) = reply ∷ but_last (next ∷ replies)
+
+-- Of all bytes that a writer was given, `gone` have left it; `before` is how many it was given before these bodies. At each of them that comes
+-- alone, all had left that it was given before that body's own reply, which is the last of those that were handed out at it.
+abbrev pub HasLeft : Frames → (List ℕ → Bool) → ℕ → ℕ → List (List ℕ) → List (List (List ℕ)) → Type 0
+HasLeft f alone gone before [] handed = Unit {0}
+HasLeft f alone gone before (body ∷ bodies) [] = Unit {0}
+HasLeft f alone gone before (body ∷ bodies) (replies ∷ handed) =
+    (alone body ≡ true → before + length (spelled_all f.spelled (but_last replies)) ≤ gone)
+    × HasLeft f alone gone (before + length (spelled_all f.spelled replies)) bodies handed
+
 -- an end that is answered: a record that is cut or too long
 abbrev pub is_answered : End → Bool
 is_answered Closed = false
@@ -57,15 +96,17 @@ is_answered WriteFault = false
 abbrev pub last_reply : List ℕ → End → List (List ℕ)
 last_reply last why = if is_answered why then last ∷ [] else []
 
--- what the writer was given when the reading had ended: nothing where it had failed before
-abbrev pub finals : List ℕ → Option End → List (List ℕ) → List (List ℕ)
-finals last None held = []
-finals last (Some why) held = held ++ last_reply last why
+-- what the writer was given when the reading had ended, or before a body that was left undone: nothing where it had failed before
+abbrev pub finals : List ℕ → Halt → List (List ℕ) → List (List ℕ)
+finals last Between held = []
+finals last (At why) held = held ++ last_reply last why
+finals last (Undone body) held = held
 
--- the replies that the writer was given last: those of the end, or those of one body
-abbrev pub given_last : List ℕ → Option End → List (List (List ℕ)) → List (List ℕ) → List (List ℕ)
-given_last last None handed held = latest handed
-given_last last (Some why) handed held = held ++ last_reply last why
+-- the replies that the writer was given last: those of the end, those before a body that was left undone, or those of one body
+abbrev pub given_last : List ℕ → Halt → List (List (List ℕ)) → List (List ℕ) → List (List ℕ)
+given_last last Between handed held = latest handed
+given_last last (At why) handed held = held ++ last_reply last why
+given_last last (Undone body) handed held = held
 
 -- a body was answered: the replies that were handed out were put, or the writer failed in them
 pub record Answers {S : Type 0} (f : Frames) (turn : TurnOf S) (result : Result (Unit {0}) Unwritten) (body : List ℕ)
@@ -86,25 +127,52 @@ pub record Abandons {S : Type 0} (ends : EndOf S) (old new : S) : Type 0 where
   pub held : List (List ℕ)
   pub ended : ends old held new
 
+-- these bytes were put and all was handed on, or the writer failed
+abbrev pub PutsOn : Result (Unit {0}) Unwritten → Output → Output → List ℕ → Type 0
+PutsOn (Ok u) out out' bytes = Writes out out' bytes × IsHandedOn out'
+PutsOn (Err e) out out' bytes = Breaks out out' bytes
+
+-- before a body that comes alone: what was held has left, or the writer failed in it
+pub record IsParted {S : Type 0} (f : Frames) (alone : List ℕ → Bool) (ends : EndOf S) (result : Result (Unit {0}) Unwritten) (body : List ℕ)
+    (out out' : Output) (old new : S) : Type 0 where
+  pub is : alone body ≡ true
+  pub held : List (List ℕ)
+  pub ended : ends old held new
+  pub put : PutsOn result out out' (spelled_all f.spelled held)
+
+-- before any other: nothing is done
+pub record IsTogether {S : Type 0} (alone : List ℕ → Bool) (result : Result (Unit {0}) Unwritten) (body : List ℕ)
+    (out out' : Output) (old new : S) : Type 0 where
+  pub is : alone body ≡ false
+  pub fine : IsOk result
+  pub still : out' ≡ out
+  pub same : new ≡ old
+
+abbrev pub Parts : {S : Type 0} → Frames → (List ℕ → Bool) → EndOf S → Result (Unit {0}) Unwritten → List ℕ → Output → Output → S → S → Type 0
+Parts f alone ends result body out out' old new = IsParted f alone ends result body out out' old new ⊎ IsTogether alone result body out out' old new
+
 -- the bytes begin with the records of these bodies, and the rest follows them
 abbrev pub Bodies : Frames → List ℕ → List (List ℕ) → List ℕ → Type 0
 Bodies f bytes [] rest = bytes ≡ rest
 Bodies f bytes (body ∷ bodies) rest = (mid : List ℕ) × f.Next bytes body mid × Bodies f mid bodies rest
 
--- these bodies were read, and nothing more, or more up to what ended them
-abbrev pub ReadTo : Frames → Option End → List (List ℕ) → List ℕ → List ℕ → Type 0
-ReadTo f None bodies bytes rest = Bodies f bytes bodies rest
-ReadTo f (Some why) bodies bytes rest = (mid : List ℕ) × Bodies f bytes bodies mid × f.Stop why mid rest
+-- these bodies were read, and nothing more, or more up to what ended them, or to the end of one that was left undone
+abbrev pub ReadTo : Frames → Halt → List (List ℕ) → List ℕ → List ℕ → Type 0
+ReadTo f Between bodies bytes rest = Bodies f bytes bodies rest
+ReadTo f (At why) bodies bytes rest = (mid : List ℕ) × Bodies f bytes bodies mid × f.Stop why mid rest
+ReadTo f (Undone body) bodies bytes rest = (mid : List ℕ) × Bodies f bytes bodies mid × f.Next mid body rest
 
--- what can have ended the reading after so many bodies
-abbrev pub CanStop : Frames → ℕ → Option End → Type 0
-CanStop f requests None = ⊤
-CanStop f requests (Some why) = f.Can (requests + 1) why
+-- what can have ended the reading after so many bodies; none but a body that comes alone is left undone
+abbrev pub CanStop : Frames → (List ℕ → Bool) → ℕ → Halt → Type 0
+CanStop f alone requests Between = ⊤
+CanStop f alone requests (At why) = f.Can (requests + 1) why
+CanStop f alone requests (Undone body) = alone body ≡ true
 
 -- no fault of the reader ended the reading, unless the records were used up
-abbrev pub IsSound : ℕ → Option End → Type 0
-IsSound requests None = ⊤
-IsSound requests (Some why) = why ≡ ReadFault → requests ≡ max_records
+abbrev pub IsSound : ℕ → Halt → Type 0
+IsSound requests Between = ⊤
+IsSound requests (At why) = why ≡ ReadFault → requests ≡ max_records
+IsSound requests (Undone body) = ⊤
 
 -- How often the reader was called: for each body that was read, 4,194,304 times at most, and so often after the last of them.
 pub record Calls (requests over : ℕ) (old new : Input) : Type 0 where
@@ -114,50 +182,54 @@ pub record Calls (requests over : ℕ) (old new : Input) : Type 0 where
   pub clock : new.calls ≡ later (sum each + over) old.calls
 
 -- a read fault has a cause, and a reader that failed is told: it failed, or was called as often as may be, or the records were used up
-abbrev pub IsCaused : ℕ → Option End → ℕ → Bool → Type 0
-IsCaused requests None over faulted = faulted ≡ false
-IsCaused requests (Some why) over faulted = HasCause (is_read_fault why) over faulted ⊎ (requests ≡ max_records)
+abbrev pub IsCaused : ℕ → Halt → ℕ → Bool → Type 0
+IsCaused requests Between over faulted = faulted ≡ false
+IsCaused requests (Undone body) over faulted = faulted ≡ false
+IsCaused requests (At why) over faulted = HasCause (is_read_fault why) over faulted ⊎ (requests ≡ max_records)
 
 -- all replies have left the writer
-pub record Told (f : Frames) (last : List ℕ) (why : End) (stop : Option End)
+pub record Told (f : Frames) (last : List ℕ) (why : End) (stop : Halt)
     (handed : List (List (List ℕ))) (held : List (List ℕ)) (old new : Output) : Type 0 where
-  pub ended : stop ≡ Some why
+  pub ended : stop ≡ At why
   pub reached : Appends old.reached new.reached (old.kept ++ spelled_all f.spelled (joined handed ++ (held ++ last_reply last why)))
   pub handed_on : IsHandedOn new
   pub sound : new.broken ≡ false
 
 -- The writer failed: no more than a first part of these replies has left it, and it had promised no room for all of them. What is lost is
--- no more than it may keep back and the replies that it was given last: so no further body was answered once it had failed.
-pub record Fails (f : Frames) (last : List ℕ) (why : End) (stop : Option End)
+-- no more than it may keep back and the replies that it was given last: so no further body was answered once it had failed. Nor is any
+-- reply lost that was due before a body that comes alone and was answered: all of them had left the writer first.
+pub record Fails (f : Frames) (alone : List ℕ → Bool) (last : List ℕ) (why : End) (stop : Halt) (bodies : List (List ℕ))
     (handed : List (List (List ℕ))) (held : List (List ℕ)) (old new : Output) : Type 0 where
   pub ended : why ≡ WriteFault
   pub torn : Breaks old new (spelled_all f.spelled (joined handed ++ finals last stop held))
   pub few : length torn.lost ≤ old.back + length (spelled_all f.spelled (given_last last stop handed held))
+  pub apart : HasLeft f alone (length torn.gone) (length old.kept) bodies handed
 
--- A whole session: the bodies that were read, their run with the replies that were handed out at each, those that were still held at the
--- end, and what has left the writer. `stop` is what ended the reading; None where the writer failed between two bodies: then nothing past
--- the last body that was answered was taken. `over` is how often the reader was called behind the last body.
-pub record Session {S : Type 0} (f : Frames) (turn : TurnOf S) (ends : EndOf S) (last : List ℕ)
+-- A whole session: the bodies that were read and answered, their run with the replies that were handed out at each, those that were still
+-- held at the end, and what has left the writer. `stop` is what ended the reading. Between: the writer failed between two bodies, and nothing
+-- past the last body that was answered was taken. Undone: it failed in what was held before a body that comes alone; that body was taken,
+-- and nothing past it. `over` is how often the reader was called behind the last body that was answered.
+pub record Session {S : Type 0} (f : Frames) (alone : List ℕ → Bool) (turn : TurnOf S) (ends : EndOf S) (last : List ℕ)
     (input input' : Input) (out out' : Output) (old new : S) (served : Served) : Type 0 where
   pub bodies : List (List ℕ)
   pub handed : List (List (List ℕ))
   pub held : List (List ℕ)
   pub mid : S
-  pub stop : Option End
+  pub stop : Halt
   pub over : ℕ
   pub run : Run turn old bodies handed mid
   pub ended : ends mid held new
   pub count : served.requests ≡ length bodies
   pub read : Known (ReadTo f stop bodies) input.left input'.left
-  pub can : CanStop f served.requests stop
+  pub can : CanStop f alone served.requests stop
   pub calls : Calls served.requests over input input'
   pub few : over ≤ max_read_calls
   pub cause : IsCaused served.requests stop over input'.faulted
   pub sound : input.steady ≡ true → IsSound served.requests stop
-  pub written : Told f last served.why stop handed held out out' ⊎ Fails f last served.why stop handed held out out'
+  pub written : Told f last served.why stop handed held out out' ⊎ Fails f alone last served.why stop bodies handed held out out'
 
 -- the same so far
-pub record Going {S : Type 0} (f : Frames) (turn : TurnOf S) (input input' : Input)
+pub record Going {S : Type 0} (f : Frames) (alone : List ℕ → Bool) (turn : TurnOf S) (input input' : Input)
     (out out' : Output) (old now : S) (requests : ℕ) : Type 0 where
   pub bodies : List (List ℕ)
   pub handed : List (List (List ℕ))
@@ -166,6 +238,7 @@ pub record Going {S : Type 0} (f : Frames) (turn : TurnOf S) (input input' : Inp
   pub read : Known (λ bytes rest. Bodies f bytes bodies rest) input.left input'.left
   pub calls : Calls requests 0 input input'
   pub lines : Writes out out' (spelled_all f.spelled (joined handed))
+  pub apart : HasLeft f alone (length lines.gone) (length out.kept) bodies handed
 
 -- these replies were written and all was handed on, or the writer failed
 abbrev pub HandsOn : (List ℕ → List ℕ) → End → End → List (List ℕ) → Output → Output → Type 0

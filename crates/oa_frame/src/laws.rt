@@ -1,11 +1,12 @@
 //! Laws of the definitions, each the contract of a function with no work to do.
-ghost use Rattle.std.specs.Prelude.{◌≡◌, ℕ, List, length, Some};
+ghost use Rattle.std.specs.Prelude.{◌≡◌, ℕ, Bool, List, length};
 ghost use Rattle.oa_frame.specs.declared.ends.End.{End as AnEnd};
 ghost use Rattle.oa_frame.specs.declared.ends.End.TheVariants.{ReadFault};
 ghost use Rattle.oa_frame.specs.declared.framing.Framing.{Framing as AFraming};
 ghost use Rattle.oa_frame.specs.Framings.{frames};
 ghost use Rattle.oa_frame.specs.Lines.{FirstLine};
 ghost use Rattle.oa_frame.specs.Sessions.{CanStop, ReadTo};
+ghost use Rattle.oa_frame.specs.Sessions.Halt.{At};
 
 /// Bytes have one first line, and one rest after it.
 pub fn one_line()
@@ -15,10 +16,10 @@ pub fn one_line()
 
 /// Bytes hold one list of bodies and one end of it in a framing, where no fault of the reader ended the reading.
 pub fn one_end()
-    ensures { (framing : AFraming) (bytes rest rest' : List ℕ) (bodies others : List (List ℕ)) (why other : AnEnd)
-        → ReadTo (frames framing) (Some why) bodies bytes rest
-        → CanStop (frames framing) (length bodies) (Some why) → (why ≡ ReadFault → ⊥)
-        → ReadTo (frames framing) (Some other) others bytes rest'
-        → CanStop (frames framing) (length others) (Some other) → (other ≡ ReadFault → ⊥)
+    ensures { (framing : AFraming) (bytes rest rest' : List ℕ) (alone : List ℕ → Bool) (bodies others : List (List ℕ)) (why other : AnEnd)
+        → ReadTo (frames framing) (At why) bodies bytes rest
+        → CanStop (frames framing) alone (length bodies) (At why) → (why ≡ ReadFault → ⊥)
+        → ReadTo (frames framing) (At other) others bytes rest'
+        → CanStop (frames framing) alone (length others) (At other) → (other ≡ ReadFault → ⊥)
         → (bodies ≡ others) × (why ≡ other) }
 {}

@@ -1,10 +1,10 @@
 //! Sessions over a reader and a writer.
-ghost use Rattle.std.specs.Prelude.{◌≡◌, ◌+◌, ◌≤◌, ℕ, List, false, length, vec_capacity};
+ghost use Rattle.std.specs.Prelude.{◌≡◌, ◌+◌, ◌≤◌, ℕ, Bool, List, false, true, length, vec_capacity};
 ghost use Rattle.oa_model.specs.Limits.{max_request_bytes, max_line_characters};
 ghost use Rattle.oa_stream.specs.Ahead.{ahead};
-ghost use Rattle.oa_stream.specs.Sink.{Puts};
+ghost use Rattle.oa_stream.specs.Sink.{IsHandedOn, Puts};
 ghost use Rattle.oa_frame.specs.Framings.{frames};
-ghost use Rattle.oa_frame.specs.Sessions.{Abandons, Answers, Closes, Finishes, HandsOn, Session, is_answered, last_reply, spelled_all};
+ghost use Rattle.oa_frame.specs.Sessions.{Abandons, Answers, Closes, Finishes, HandsOn, Parts, Session, is_answered, last_reply, spelled_all, step};
 
 use crate::writing::put_reply;
 use crate::{End, Framing, Read, read_body};
@@ -20,8 +20,15 @@ pub trait Responder {
     /// At a body: the state before, the body, the replies that are handed out then, the state after.
     ghost turn: { Self → List ℕ → List (List ℕ) → Self → Type 0 };
 
-    /// Where no further body comes: the state before, the replies that were still held, the state after.
+    /// Where no further body comes, and before a body that comes alone: the state before, the replies that were still held, the state after.
     ghost ends: { Self → List (List ℕ) → Self → Type 0 };
+
+    /// The bodies that come alone: what is held is written and handed on before such a one is answered.
+    ghost alone: { List ℕ → Bool };
+
+    /// Whether a body comes alone.
+    fn comes_alone(&self, body: &[u8]) -> bool
+        ensures { result ≡ alone body.now };
 
     /// Answers one body, and writes the replies that are handed out at it in this framing.
     fn respond<W: Sink>(
@@ -32,32 +39,39 @@ pub trait Responder {
     ) -> Result<(), Unwritten>
         requires ready { ready self.old }
         requires unbroken { (W.out writer.old).broken ≡ false }
+        requires apart { alone body.now ≡ true → IsHandedOn (W.out writer.old) }
         ensures answers { Answers (frames framing) turn result body.now (W.out writer.old) (W.out writer.new) self.old self.new }
         ensures ready { ready self.new };
 
-    /// No further body comes: writes the replies that are still held.
+    /// No further body comes, or one that comes alone: writes the replies that are still held.
     fn finish<W: Sink>(&mut self, framing: Framing, writer: &mut W) -> Result<(), Unwritten>
         requires ready { ready self.old }
         requires unbroken { (W.out writer.old).broken ≡ false }
-        ensures { Finishes (frames framing) ends result (W.out writer.old) (W.out writer.new) self.old self.new };
+        ensures finishes { Finishes (frames framing) ends result (W.out writer.old) (W.out writer.new) self.old self.new }
+        ensures ready { ready self.new };
 
     /// No further body comes, and the writer has failed: nobody gets the replies that are still held.
     fn abandon(&mut self)
         requires ready { ready self.old }
         ensures { Abandons ends self.old self.new };
+
+    /// Behind those that were held, a body that comes alone is answered with its own reply at most.
+    ghost one_reply: { (old mid new : Self) (held own : List (List ℕ)) (body : List ℕ) → ends old held mid → alone body ≡ true
+        → turn mid body own new → length own ≤ 1 };
 }
 
 /// How a session went.
 #[derive(Clone, Copy, Debug, PartialEq, Eq)]
 pub struct Served {
-    /// How many bodies were read whole.
+    /// How many bodies were read whole and answered.
     pub requests: u64,
     /// Why it ended.
     pub why: End,
 }
 
 /// Answers the bodies of a reader on a writer, one after another. All replies that the server hands out are handed on before each wait for
-/// more input and at the end; those that it holds it is asked for when the reading has ended.
+/// more input and at the end; those that it holds it is asked for when the reading has ended, and before a body that comes alone. Where they
+/// cannot be written then, or not be handed on, that body is left undone; it is not counted.
 ///
 /// `last` is the reply to a record that is cut or too long, without a length. `line` has room for the longest line, and `body`
 /// for the longest body: no memory is taken here.
@@ -76,13 +90,22 @@ pub fn serve<S: Responder, R: Source + Drop, W: Sink>(
     requires ready { S.ready server.old }
     requires unbroken { (ahead R.input reader.old).faulted ≡ false }
     requires unbroken_writer { (W.out writer.old).broken ≡ false }
-    ensures { Session (frames framing) S.turn S.ends last.now (ahead R.input reader.old) (ahead R.input reader.new)
+    ensures { Session (frames framing) S.alone (step S.alone S.turn S.ends) S.ends last.now (ahead R.input reader.old) (ahead R.input reader.new)
         (W.out writer.old) (W.out writer.new) server.old server.new result }
 {
     let mut requests = 0u64;
     'turns: for _ in 0..u64::MAX {
         match read_body(framing, reader, writer, line, body, requests + 1) {
             Read::Body(count) => {
+                match part_before(server, framing, &body[..count], writer) {
+                    Ok(()) => {}
+                    Err(_) => {
+                        return Served {
+                            requests,
+                            why: End::WriteFault,
+                        };
+                    }
+                }
                 requests += 1;
                 match server.respond(framing, &body[..count], writer) {
                     Ok(()) => {}
@@ -110,6 +133,27 @@ pub fn serve<S: Responder, R: Source + Drop, W: Sink>(
     }
     let why = close(server, framing, last, writer, End::ReadFault);
     Served { requests, why }
+}
+
+// Writes what is held and hands all on, where this body comes alone.
+fn part_before<S: Responder, W: Sink>(
+    server: &mut S,
+    framing: Framing,
+    body: &[u8],
+    writer: &mut W,
+) -> Result<(), Unwritten>
+    requires ready { S.ready server.old }
+    requires unbroken { (W.out writer.old).broken ≡ false }
+    ensures parts { Parts (frames framing) S.alone S.ends result body.now (W.out writer.old) (W.out writer.new) server.old server.new }
+    ensures ready { S.ready server.new }
+{
+    if !server.comes_alone(body) {
+        return Ok(());
+    }
+    if let Err(fault) = server.finish(framing, writer) {
+        return Err(fault);
+    }
+    writer.deliver()
 }
 
 // Writes the reply to what is no body.

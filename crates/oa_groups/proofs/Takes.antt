@@ -4,27 +4,28 @@ use Rattle.std.proofs.Common.{length, map, refl, sym, ◌∙◌, ap, subst, arit
 use Rattle.std.proofs.lemmas.List.{append-nil, map-append, length-map}
 use Rattle.oa_disk.specs.declared.disk.Disk.{Ghosts}
 use Rattle.oa_journal.specs.Replays.{Replays}
-use Rattle.oa_store.specs.Stores.{IsStore}
+use Rattle.oa_journal.specs.declared.shape.Shape.{Shape}
+use Rattle.oa_journal.specs.declared.shape.Shape.TheVariants.{Two}
+use Rattle.oa_store.specs.Stores.{IsStoreIn}
 use Rattle.oa_store.specs.declared.store.Store.{Store}
 use Rattle.oa_table.specs.Tables.{TableValue}
-use Rattle.oa_keeper.specs.Kept.{AllHold}
 use Rattle.oa_keeper.proofs.Committed.{no_change}
-use Rattle.oa_groups.specs.Desks.{CallsFor, Desk, IsHeld, IsSettled, IsFailed, IsOver, IsTaken, IsEnded}
-use Rattle.oa_groups.specs.Going.{IsCut, IsGroup, IsEnd, Going, Faulted, Underway}
-use Rattle.oa_groups.specs.Groups.{IsWhole, events_in, fills, groups_of, is_full, joined, rest_of}
-use Rattle.oa_groups.specs.Runs.{AllQuiet, IsAfter, IsRun, Run}
+use Rattle.oa_groups.specs.Desks.{CallsFor, Desk, IsApart, IsEnded, IsFailed, IsFlushed, IsHeld, IsOver, IsReplaced, IsSettled, IsTaken}
+use Rattle.oa_groups.specs.Going.{IsCut, IsCutBefore, IsGroup, IsEnd, IsWholeBefore, Going, Faulted, Underway}
+use Rattle.oa_groups.specs.Groups.{BeginsAlone, events_in, fills, groups_of, is_full, joined, rest_of}
+use Rattle.oa_groups.specs.Runs.{AllHoldState, AllQuiet, HoldsState, IsAfter, IsQuiet, IsRun, Run}
 use Rattle.oa_groups.specs.Served.{Goes, IsServed}
 use Rattle.oa_groups.specs.Turns.{Entry, Turns, body_of, entry, reply_of}
-use Rattle.oa_groups.proofs.Entries.{cut_ends, cut_holds, cut_last, cut_one, either, ends_after, events_push, full_group, group_ends}
+use Rattle.oa_groups.proofs.Entries.{apart_group, cut_apart, cut_before, cut_ends, cut_flushed, cut_holds, cut_last, cut_one, either, ends_after, events_push, full_group, group_ends}
 use Rattle.oa_groups.proofs.Entries.{joined_push, run_append, run_replays}
 use Rattle.oa_groups.proofs.Running.{after_all, after_fewer, after_more, run_more, run_on, run_started}
 
 -- no call of the device
 pub goes_nowhere : {D : Type 0} {g : Ghosts D} (store : Store D g) → Goes store store
 goes_nowhere store = record {
-  library = refl;
   honest = refl;
   failures = omega arith;
+  shape = refl;
   stops = λ was is. absurd (true≢false (sym is ∙ was));
   stays = λ was. (was, refl);
   unfailed = λ going. refl;
@@ -33,9 +34,9 @@ goes_nowhere store = record {
 -- one call and then others
 pub goes_on : {D : Type 0} {g : Ghosts D} (old mid new : Store D g) → Goes old mid → Goes mid new → Goes old new
 goes_on {D} {g} old mid new one two = record {
-  library = two.library ∙ one.library;
   honest = two.honest ∙ one.honest;
   failures = omega (arith, one.failures, two.failures);
+  shape = two.shape ∙ one.shape;
   stops = λ was is small. by (mid.stopped) refl was is small;
   stays = λ was. let here = one.stays was in let there = two.stays here.0 in (there.0, there.1 ∙ here.1);
   unfailed = λ going. two.unfailed going ∙ one.unfailed (on mid.stopped refl going);
@@ -75,15 +76,15 @@ some_entry (asked ∷ held) some = omega arith
 module _ {S R : Type 0} (t : Turns S R) where
   quiet_front : (front back : List (Entry R)) → AllQuiet t (front ++ back) → AllQuiet t front
   quiet_front [] back quiet = tt
-  quiet_front (asked ∷ front) back quiet = (quiet.0, quiet.1, quiet_front front back quiet.2)
+  quiet_front (asked ∷ front) back quiet = (quiet.0, quiet_front front back quiet.1)
 
   quiet_back : (front back : List (Entry R)) → AllQuiet t (front ++ back) → AllQuiet t back
   quiet_back [] back quiet = quiet
-  quiet_back (asked ∷ front) back quiet = quiet_back front back quiet.2
+  quiet_back (asked ∷ front) back quiet = quiet_back front back quiet.1
 
   quiet_bytes : (entries : List (Entry R)) → AllQuiet t entries → length (events_in entries) ≡ 0
   quiet_bytes [] quiet = refl
-  quiet_bytes (asked ∷ entries) quiet = ap (λ (l : List ℕ). length (l ++ events_in entries)) quiet.0 ∙ quiet_bytes entries quiet.2
+  quiet_bytes (asked ∷ entries) quiet = ap (λ (l : List ℕ). length (l ++ events_in entries)) quiet.0.none ∙ quiet_bytes entries quiet.1
 
   run_one : (old : S) (asked : Entry R) (new : S) → t.Turn asked old new → Run t old (asked ∷ []) new
   run_one old asked new turn = (new, turn, refl)
@@ -95,19 +96,25 @@ module _ {S R : Type 0} (t : Turns S R) where
       ap (λ (r : R). r ∷ map t.withdrawn (map reply_of held)) (t.tells asked old run.0 run.1) ∙ ap (λ (l : List R). t.faulted asked.body ∷ l) (run_withdrawn run.0 held new run.2)
 
   module _ {D : Type 0} {g : Ghosts D} (only : (d : D) (c : List ℕ) → IsTrue (g.is_honest d) → g.image_since d (g.moment d) c → g.image d c) (start : Desk S R D g) where
-    abbrev library : List ℕ
-    library = start.store.library.items
-
     abbrev first : S
     first = start.state
 
     abbrev Begins : Type 0
-    Begins = AllHold start.store (t.held start.state)
+    Begins = AllHoldState t start.store start.state
 
     abbrev Moments : Desk S R D g → List (List (Entry R)) → ℕ → Type 0
-    Moments now groups count = (moments : List ℕ) × IsRun t g.moment g.image_since start.store.disk now.store.disk library first groups count moments
+    Moments now groups count = (moments : List ℕ) × IsRun t g.moment g.image_since start.store.disk now.store.disk first groups count moments
 
-    going_start : (size : ℕ) → start.pending ≡ [] → start.events ≡ [] → Going t (IsCut size) start start [] []
+    -- an image with the store's banks and library has those of the state that its disk holds
+    held_as : (store : Store D g) (state : S) → AllHoldState t store state → (held : TableValue) (c : List ℕ) → IsStoreIn store.bank.shape c store.library.items held → IsStoreIn (Two (t.bank state)) c (t.text state) held
+    held_as store state is held c one =
+        subst (λ (l : List ℕ). IsStoreIn (Two (t.bank state)) c l held) is.has (subst (λ (s : Shape). IsStoreIn s c store.library.items held) is.shape one)
+
+    -- each image of a store that holds the state
+    state_held : (store : Store D g) (state : S) → AllHoldState t store state → (c : List ℕ) → g.image store.disk c → HoldsState t state c
+    state_held store state is c image = held_as store state is (t.held state) c (store.chosen, store.bank.gate, is.all.1 c image)
+
+    going_start : (size : ℕ) → start.pending ≡ [] → start.events ≡ [] → Going t (IsCut t.alone size) start start [] []
     going_start size none empty = record {
       groups = [];
       held = [];
@@ -119,9 +126,11 @@ module _ {S R : Type 0} (t : Turns S R) where
       events_are = empty;
       stands = refl;
       runs = refl;
+      same = refl;
+      same_bank = refl;
       quiet = λ quiet. refl;
       all = λ begins. begins;
-      moments = λ begins. (_, run_started t g.moment g.image_since library first start.store.disk (λ c since. (start.store.chosen, start.store.bank.gate, begins.1 c (only start.store.disk c begins.0 since))));
+      moments = λ begins. (_, run_started t g.moment g.image_since first start.store.disk (λ c since. state_held start.store first begins c (only start.store.disk c begins.all.0 since)));
     }
 
     -- how the requests are cut may be said otherwise
@@ -138,12 +147,14 @@ module _ {S R : Type 0} (t : Turns S R) where
       events_are = was.events_are;
       stands = was.stands;
       runs = was.runs;
+      same = was.same;
+      same_bank = was.same_bank;
       quiet = was.quiet;
       all = was.all;
       moments = was.moments;
     }
 
-    module _ {C : List (List (Entry R)) → List (Entry R) → Type 0} {old : Desk S R D g} {bodies : List (List ℕ)} {out : List R} (same : old.store.library.items ≡ library) (was : Going t C start old bodies out) where
+    module _ {C : List (List (Entry R)) → List (Entry R) → Type 0} {old : Desk S R D g} {bodies : List (List ℕ)} {out : List R} (was : Going t C start old bodies out) where
       -- the events in hand make of what is committed what is held of the state
       makes : Replays old.events (t.held was.committed) (t.held old.state)
       makes = subst (λ (l : List ℕ). Replays l (t.held was.committed) (t.held old.state)) (sym was.events_are) (run_replays t was.committed was.held old.state was.runs)
@@ -151,8 +162,17 @@ module _ {S R : Type 0} (t : Turns S R) where
       none_made : length old.events ≡ 0 → t.held old.state ≡ t.held was.committed
       none_made none = sym (no_change old.events (t.held was.committed) (t.held old.state) none makes)
 
-      under : (c : List ℕ) (table : TableValue) → IsStore c old.store.library.items table → IsStore c library table
-      under c table is = subst (λ (l : List ℕ). IsStore c l table) same is
+      abbrev InBank : List ℕ → TableValue → Type 0
+      InBank c held = IsStoreIn old.store.bank.shape c old.store.library.items held
+
+      -- the library in hand is that of what is committed
+      under : Begins → (c : List ℕ) → InBank c (t.held was.committed) → HoldsState t was.committed c
+      under begins c is = held_as old.store was.committed (was.all begins) (t.held was.committed) c is
+
+      under_now : Begins → (c : List ℕ) → InBank c (t.held old.state) → HoldsState t old.state c
+      under_now begins c is =
+          subst (λ (l : List ℕ). IsStoreIn (Two (t.bank old.state)) c l (t.held old.state)) (sym was.same)
+          (subst (λ (n : ℕ). IsStoreIn (Two n) c (t.text was.committed) (t.held old.state)) (sym was.same_bank) (held_as old.store was.committed (was.all begins) (t.held old.state) c is))
 
       -- without an event nothing is called
       still : (asked : Entry R) (new : Desk S R D g) → IsHeld t asked old new → AllQuiet t ((joined was.groups ++ was.held) ++ asked ∷ []) → new.store.disk ≡ start.store.disk
@@ -163,8 +183,8 @@ module _ {S R : Type 0} (t : Turns S R) where
 
           by : CallsFor old.store new.store asked.event (t.is_starved asked.reply) → new.store.disk ≡ old.store.disk
           by (inl same) = same
-          by (inr (inl some)) = absurd (omega (arith, some, ap length own.0))
-          by (inr (inr starved)) = absurd (true≢false (sym starved ∙ own.1))
+          by (inr (inl some)) = absurd (omega (arith, some, ap length own.0.none))
+          by (inr (inr starved)) = absurd (true≢false (sym starved ∙ own.0.fed))
 
       -- a request more is held
       going_held : (C' : List (List (Entry R)) → List (Entry R) → Type 0) (asked : Entry R) (new : Desk S R D g) → C' was.groups (was.held ++ asked ∷ []) → IsHeld t asked old new → Going t C' start new (bodies ++ asked.body ∷ []) out
@@ -179,15 +199,17 @@ module _ {S R : Type 0} (t : Turns S R) where
         events_are = one.events ∙ ap (λ (l : List ℕ). l ++ asked.event) was.events_are ∙ sym (events_push was.held asked);
         stands = was.stands;
         runs = run_append t was.committed was.held old.state (asked ∷ []) new.state was.runs (run_one old.state asked new.state one.turn);
+        same = t.stays asked old.state new.state one.turn one.plain ∙ was.same;
+        same_bank = t.sized asked old.state new.state one.turn ∙ was.same_bank;
         quiet = λ quiet. still asked new one
             (subst (λ (l : List (Entry R)). AllQuiet t l) (sym (append_assoc (joined was.groups) was.held (asked ∷ []))) quiet);
-        all = λ begins. one.each (t.held was.committed) none_made (was.all begins);
+        all = λ begins. let before = was.all begins in record { shape = one.goes.shape ∙ before.shape; has = one.library ∙ before.has; all = one.each (t.held was.committed) none_made before.all };
         moments = λ begins. let before = was.moments begins in (
           before.0,
-          subst (λ (l : List (List (Entry R))). IsRun t g.moment g.image_since start.store.disk new.store.disk library first l (length was.groups) before.0) (append-nil was.groups)
-              (run_on t g.moment g.image_since library first start.store.disk old.store.disk new.store.disk was.groups [] (length was.groups) before.0 (λ c. IsStore c old.store.library.items (t.held was.committed)) before.1
-              (one.any_moment (t.held was.committed) none_made (was.all begins))
-              (λ c is. after_more t (length was.groups) library first was.groups [] c (after_all t library first was.groups was.committed c was.stands (under c (t.held was.committed) is)))),
+          subst (λ (l : List (List (Entry R))). IsRun t g.moment g.image_since start.store.disk new.store.disk first l (length was.groups) before.0) (append-nil was.groups)
+              (run_on t g.moment g.image_since first start.store.disk old.store.disk new.store.disk was.groups [] (length was.groups) before.0 (λ c. InBank c (t.held was.committed)) before.1
+              (one.any_moment (t.held was.committed) none_made (was.all begins).all)
+              (λ c is. after_more t (length was.groups) first was.groups [] c (after_all t first was.groups was.committed c was.stands (under begins c is)))),
         );
       }
 
@@ -207,20 +229,28 @@ module _ {S R : Type 0} (t : Turns S R) where
       stood = subst (λ (l : List (Entry R)). Run t first l old.state) (sym (joined_push was.groups was.held)) (run_append t first (joined was.groups) was.committed was.held old.state was.stands was.runs)
 
       abbrev Either : List ℕ → Type 0
-      Either c = IsStore c old.store.library.items (t.held was.committed) ⊎ IsStore c old.store.library.items (t.held old.state)
+      Either c = InBank c (t.held was.committed) ⊎ InBank c (t.held old.state)
 
-      has : (c : List ℕ) → Either c → IsAfter t (length was.groups) library first grown c
-      has c (inl without) = after_more t (length was.groups) library first was.groups (was.held ∷ []) c (after_all t library first was.groups was.committed c was.stands (under c (t.held was.committed) without))
-      has c (inr with_it) =
-          after_fewer t (length grown) (length was.groups) library first grown c (omega (arith, length-append was.groups (was.held ∷ []))) (after_all t library first grown old.state c stood (under c (t.held old.state) with_it))
+      has : Begins → (c : List ℕ) → Either c → IsAfter t (length was.groups) first grown c
+      has begins c (inl without) = after_more t (length was.groups) first was.groups (was.held ∷ []) c (after_all t first was.groups was.committed c was.stands (under begins c without))
+      has begins c (inr with_it) =
+          after_fewer t (length grown) (length was.groups) first grown c (omega (arith, length-append was.groups (was.held ∷ []))) (after_all t first grown old.state c stood (under_now begins c with_it))
 
       during : (told : List R) (new : Desk S R D g) → IsSettled t told old new → Begins → Moments new grown (length was.groups)
       during told new one begins =
           let before = was.moments begins in (
             before.0,
-            run_on t g.moment g.image_since library first start.store.disk old.store.disk new.store.disk was.groups (was.held ∷ []) (length was.groups) before.0 Either before.1
-                (one.any_moment (t.held was.committed) makes (was.all begins)) has,
+            run_on t g.moment g.image_since first start.store.disk old.store.disk new.store.disk was.groups (was.held ∷ []) (length was.groups) before.0 Either before.1
+                (one.any_moment (t.held was.committed) makes (was.all begins).all) (has begins),
           )
+
+      committed_now : (told : List R) (new : Desk S R D g) → new.store.stopped ≡ false → IsSettled t told old new → Begins → AllHoldState t new.store old.state
+      committed_now told new going one begins =
+          let before = was.all begins in record {
+            shape = one.goes.shape ∙ before.shape ∙ ap Two (sym was.same_bank);
+            has = one.library ∙ before.has ∙ sym was.same;
+            all = one.each going (t.held was.committed) makes before.all;
+          }
 
       -- the group in hand was committed, and its replies are handed out
       going_ends : (C' : List (List (Entry R)) → List (Entry R) → Type 0) (told : List R) (new : Desk S R D g) → new.store.stopped ≡ false → C' grown [] → IsSettled t told old new → Going t C' start new bodies (out ++ told)
@@ -238,22 +268,23 @@ module _ {S R : Type 0} (t : Turns S R) where
             events_are = well.2;
             stands = subst (λ (s : S). Run t first (joined grown) s) (sym one.state) stood;
             runs = refl;
+            same = refl;
+            same_bank = refl;
             quiet = λ quiet.
                 let before = subst (λ (l : List (Entry R)). AllQuiet t l) (append-nil (joined grown) ∙ joined_push was.groups was.held) quiet in
                 one.quiet (ap length was.events_are ∙ quiet_bytes was.held (quiet_back (joined was.groups) was.held before)) ∙ was.quiet before;
-            all = λ begins. subst (λ (s : S). AllHold new.store (t.held s)) (sym one.state) (one.each going (t.held was.committed) makes (was.all begins));
+            all = λ begins. subst (λ (s : S). AllHoldState t new.store s) (sym one.state) (committed_now told new going one begins);
             moments = λ begins.
                 let on = during told new one begins in
                 let size : length was.groups + 1 ≡ length grown = sym (length-append was.groups (was.held ∷ [])) in
-                let here = one.each going (t.held was.committed) makes (was.all begins) in
-                let more = run_more t g.moment g.image_since library first start.store.disk new.store.disk grown (length was.groups) on.0 on.1
-                (λ c since. after_fewer t (length grown) (length was.groups + 1) library first grown c (omega (arith, size)) (after_all t library first grown old.state c stood
-                (subst (λ (l : List ℕ). IsStore c l (t.held old.state)) (one.goes.library ∙ same) (new.store.chosen, new.store.bank.gate, here.1 c (only new.store.disk c here.0 since))))) in
-                (_, subst (λ (n : ℕ). IsRun t g.moment g.image_since start.store.disk new.store.disk library first grown n (on.0 ++ g.moment new.store.disk ∷ [])) size more);
+                let more = run_more t g.moment g.image_since first start.store.disk new.store.disk grown (length was.groups) on.0 on.1
+                (λ c since. after_fewer t (length grown) (length was.groups + 1) first grown c (omega (arith, size)) (after_all t first grown old.state c stood
+                (let here = committed_now told new going one begins in state_held new.store old.state here c (only new.store.disk c here.all.0 since)))) in
+                (_, subst (λ (n : ℕ). IsRun t g.moment g.image_since start.store.disk new.store.disk first grown n (on.0 ++ g.moment new.store.disk ∷ [])) size more);
           }
 
       -- it could not be committed, and its replies are taken back
-      going_breaks : (size : ℕ) (W : List (Entry R) → List (List ℕ) → Type 0) (told : List R) (new : Desk S R D g) → W was.held [] → new.store.stopped ≡ true → IsGroup size was.groups was.held → IsSettled t told old new
+      going_breaks : (size : ℕ) (W : List (Entry R) → List (List ℕ) → Type 0) (told : List R) (new : Desk S R D g) → W was.held [] → new.store.stopped ≡ true → IsGroup t.alone size was.groups was.held → IsSettled t told old new
           → Faulted t size W start new bodies (out ++ told)
       going_breaks size W told new whole stopped ends one = record {
         groups = was.groups;
@@ -270,7 +301,7 @@ module _ {S R : Type 0} (t : Turns S R) where
       }
 
       -- the checkpoint before its event failed: the group ends with this request
-      going_fails : (size : ℕ) (body : List ℕ) (told : List R) (new : Desk S R D g) → IsCut size was.groups was.held → IsFailed t body told old new → Faulted t size (λ group others. IsWhole size group) start new (bodies ++ body ∷ []) (out ++ told)
+      going_fails : (size : ℕ) (body : List ℕ) (told : List R) (new : Desk S R D g) → IsCut t.alone size was.groups was.held → IsFailed t body told old new → Faulted t size (IsWholeBefore t size) start new (bodies ++ body ∷ []) (out ++ told)
       going_fails size body told new cuts one =
           let asked : Entry R = entry body one.reply one.event in
           let group = was.held ++ asked ∷ [] in
@@ -278,8 +309,8 @@ module _ {S R : Type 0} (t : Turns S R) where
             groups = was.groups;
             group = group;
             others = [];
-            cuts = cut_one size was.groups was.held asked cuts;
-            whole = inr (joined_events was.held asked (sym (ap length was.events_are) ∙ one.first) one.none);
+            cuts = cut_one t.alone size was.groups was.held asked one.plain cuts;
+            whole = inl (inr (joined_events was.held asked (sym (ap length was.events_are) ∙ one.first) one.none));
             bodies_are = ap (λ (l : List (List ℕ)). l ++ body ∷ []) was.bodies_are ∙ sym (map-append body_of (joined was.groups ++ was.held) (asked ∷ []))
                 ∙ ap (λ (l : List (Entry R)). map body_of l) (append_assoc (joined was.groups) was.held (asked ∷ [])) ∙ sym (append-nil (map body_of (joined was.groups ++ group)));
             replies_are = ap (λ (l : List R). l ++ told) was.out_are
@@ -290,16 +321,16 @@ module _ {S R : Type 0} (t : Turns S R) where
             run = run_append t first (joined was.groups) was.committed group new.state was.stands (run_append t was.committed was.held old.state (asked ∷ []) new.state was.runs (run_one old.state asked new.state one.turn));
             moments = λ begins. let before = was.moments begins in (
               before.0,
-              run_on t g.moment g.image_since library first start.store.disk old.store.disk new.store.disk was.groups (group ∷ []) (length was.groups) before.0 (λ c. IsStore c old.store.library.items (t.held was.committed)) before.1
-                  (one.any_moment (t.held was.committed) none_made (was.all begins))
-                  (λ c is. after_more t (length was.groups) library first was.groups (group ∷ []) c (after_all t library first was.groups was.committed c was.stands (under c (t.held was.committed) is))),
+              run_on t g.moment g.image_since first start.store.disk old.store.disk new.store.disk was.groups (group ∷ []) (length was.groups) before.0 (λ c. InBank c (t.held was.committed)) before.1
+                  (one.any_moment (t.held was.committed) none_made (was.all begins).all)
+                  (λ c is. after_more t (length was.groups) first was.groups (group ∷ []) c (after_all t first was.groups was.committed c was.stands (under begins c is))),
             );
           }
 
     -- after the fault
     over_moments : (old new : Desk S R D g) (groups : List (List (Entry R))) (count : ℕ) → new.store.disk ≡ old.store.disk → (Begins → Moments old groups count) → Begins → Moments new groups count
     over_moments old new groups count same moments begins =
-        let before = moments begins in (before.0, subst (λ (d : D). IsRun t g.moment g.image_since start.store.disk d library first groups count before.0) (sym same) before.1)
+        let before = moments begins in (before.0, subst (λ (d : D). IsRun t g.moment g.image_since start.store.disk d first groups count before.0) (sym same) before.1)
 
     faulted_as : (size : ℕ) (W W' : List (Entry R) → List (List ℕ) → Type 0) → ((group : List (Entry R)) (others : List (List ℕ)) → W group others → W' group others) → (old new : Desk S R D g) (bodies : List (List ℕ)) (replies more : List R) → more ≡ replies → new.store.disk ≡ old.store.disk → new.state ≡ old.state
         → Faulted t size W start old bodies replies → Faulted t size W' start new bodies more
@@ -315,14 +346,15 @@ module _ {S R : Type 0} (t : Turns S R) where
       moments = over_moments old new (was.groups ++ was.group ∷ []) (length was.groups) disk was.moments;
     }
 
-    faulted_more : (size : ℕ) (old new : Desk S R D g) (bodies : List (List ℕ)) (replies : List R) (body : List ℕ) → IsOver old new → Faulted t size (λ group others. IsWhole size group) start old bodies replies
-        → Faulted t size (λ group others. IsWhole size group) start new (bodies ++ body ∷ []) (replies ++ t.failed body ∷ [])
-    faulted_more size old new bodies replies body over was = record {
+    faulted_more : (size : ℕ) (old new : Desk S R D g) (bodies : List (List ℕ)) (replies : List R) (body : List ℕ) → IsOver old new → (W : List (Entry R) → List (List ℕ) → Type 0)
+        → ((group : List (Entry R)) (others : List (List ℕ)) → W group others → IsWholeBefore t size group (others ++ body ∷ [])) → Faulted t size W start old bodies replies
+        → Faulted t size (IsWholeBefore t size) start new (bodies ++ body ∷ []) (replies ++ t.failed body ∷ [])
+    faulted_more size old new bodies replies body over W then was = record {
       groups = was.groups;
       group = was.group;
       others = was.others ++ body ∷ [];
       cuts = was.cuts;
-      whole = was.whole;
+      whole = then was.group was.others was.whole;
       bodies_are = ap (λ (l : List (List ℕ)). l ++ body ∷ []) was.bodies_are ∙ append_assoc (map body_of (joined was.groups ++ was.group)) was.others (body ∷ []);
       replies_are = ap (λ (l : List R). l ++ t.failed body ∷ []) was.replies_are ∙ append_assoc (map reply_of (joined was.groups)) (map (λ asked. t.faulted asked.body) was.group ++ map t.failed was.others) (t.failed body ∷ [])
           ∙ ap (λ (l : List R). map reply_of (joined was.groups) ++ l) (append_assoc (map (λ asked. t.faulted asked.body) was.group) (map t.failed was.others) (t.failed body ∷ [])
@@ -338,16 +370,179 @@ module _ {S R : Type 0} (t : Turns S R) where
       goes = goes_nowhere start.store;
     }
 
+    -- more bodies behind the fault
+    still_whole : (size : ℕ) (body : List ℕ) (group : List (Entry R)) (others : List (List ℕ)) → IsWholeBefore t size group others → IsWholeBefore t size group (others ++ body ∷ [])
+    still_whole size body group others (inl whole) = inl whole
+    still_whole size body group (next ∷ others) (inr begins) = inr begins
+    still_whole size body group [] (inr begins) = absurd begins
+
+    still_quiet : (groups : List (List (Entry R))) (asked : Entry R) → AllQuiet t (joined (groups ++ (asked ∷ []) ∷ []) ++ []) → AllQuiet t (joined groups ++ []) × IsQuiet t asked
+    still_quiet groups asked quiet =
+        let all = subst (λ (l : List (Entry R)). AllQuiet t l) (append-nil (joined (groups ++ (asked ∷ []) ∷ [])) ∙ joined_push groups (asked ∷ [])) quiet in
+        (subst (λ (l : List (Entry R)). AllQuiet t l) (sym (append-nil (joined groups))) (quiet_front (joined groups) (asked ∷ []) all), (quiet_back (joined groups) (asked ∷ []) all).0)
+
+    abbrev Idle : ℕ → List (List (Entry R)) → List (Entry R) → Type 0
+    Idle size groups held = IsCutBefore t.alone size groups held × (held ≡ [])
+
+    module _ {old : Desk S R D g} {bodies : List (List ℕ)} {out : List R} (size : ℕ) (was : Going t (Idle size) start old bodies out) where
+      -- so many groups were answered, and nothing is in hand
+      idle_run : Run t first (joined was.groups) old.state
+      idle_run = let none = was.cuts.1 in
+          subst (λ (s : S). Run t first (joined was.groups) s) (subst (λ (l : List (Entry R)). Run t was.committed l old.state) none was.runs) was.stands
+
+      module _ (asked : Entry R) (told : List R) (new : Desk S R D g) (one : IsReplaced t asked told old new) where
+        abbrev more : List (List (Entry R))
+        more = was.groups ++ (asked ∷ []) ∷ []
+
+        idle_all : Begins → AllHoldState t old.store old.state
+        idle_all begins = subst (λ (s : S). AllHoldState t old.store s) (subst (λ (l : List (Entry R)). Run t was.committed l old.state) was.cuts.1 was.runs) (was.all begins)
+
+        apart_run : Run t first (joined more) new.state
+        apart_run = subst (λ (l : List (Entry R)). Run t first l new.state) (sym (joined_push was.groups (asked ∷ [])))
+            (run_append t first (joined was.groups) old.state (asked ∷ []) new.state idle_run (run_one old.state asked new.state one.turn))
+
+        apart_has : (c : List ℕ) → HoldsState t old.state c ⊎ HoldsState t new.state c → IsAfter t (length was.groups) first more c
+        apart_has c (inl without) = after_more t (length was.groups) first was.groups ((asked ∷ []) ∷ []) c (after_all t first was.groups old.state c idle_run without)
+        apart_has c (inr with_it) = after_fewer t (length more) (length was.groups) first more c (omega (arith, length-append was.groups ((asked ∷ []) ∷ []))) (after_all t first more new.state c apart_run with_it)
+
+        apart_during : Begins → Moments new more (length was.groups)
+        apart_during begins =
+            let before = was.moments begins in (
+              before.0,
+              run_on t g.moment g.image_since first start.store.disk old.store.disk new.store.disk was.groups ((asked ∷ []) ∷ []) (length was.groups) before.0 (λ c. HoldsState t old.state c ⊎ HoldsState t new.state c) before.1
+                  (one.any_moment (idle_all begins)) apart_has,
+            )
+
+        apart_bodies : bodies ++ asked.body ∷ [] ≡ map body_of (joined more ++ [])
+        apart_bodies =
+            ap (λ (l : List (List ℕ)). l ++ asked.body ∷ []) (was.bodies_are ∙ ap (λ (l : List (Entry R)). map body_of (joined was.groups ++ l)) was.cuts.1 ∙ ap (λ (l : List (Entry R)). map body_of l) (append-nil (joined was.groups)))
+            ∙ sym (map-append body_of (joined was.groups) (asked ∷ [])) ∙ ap (λ (l : List (Entry R)). map body_of l) (sym (joined_push was.groups (asked ∷ [])) ∙ sym (append-nil (joined more)))
+
+        -- the library was replaced, or that was refused
+        going_apart : new.store.stopped ≡ false → Going t (IsCut t.alone size) start new (bodies ++ asked.body ∷ []) (out ++ told)
+        going_apart going = record {
+          groups = more;
+          held = [];
+          committed = new.state;
+          cuts = cut_apart t.alone size was.groups asked one.alone (subst (λ (l : List (Entry R)). IsCutBefore t.alone size was.groups l) was.cuts.1 was.cuts.0);
+          bodies_are = apart_bodies;
+          out_are = ap (λ (l : List R). l ++ told) was.out_are ∙ ap (λ (l : List R). map reply_of (joined was.groups) ++ l) (one.well going) ∙ sym (map-append reply_of (joined was.groups) (asked ∷ []))
+              ∙ ap (λ (l : List (Entry R)). map reply_of l) (sym (joined_push was.groups (asked ∷ [])));
+          pending_are = one.idle_still.0;
+          events_are = one.idle_still.1;
+          stands = apart_run;
+          runs = refl;
+          same = refl;
+          same_bank = refl;
+          quiet = λ quiet. let each = still_quiet was.groups asked quiet in one.quiet (each.1.kept one.alone) ∙ was.quiet (subst (λ (l : List (Entry R)). AllQuiet t (joined was.groups ++ l)) (sym was.cuts.1) each.0);
+          all = λ begins. one.each going (idle_all begins);
+          moments = λ begins.
+              let on = apart_during begins in
+              let size : length was.groups + 1 ≡ length more = sym (length-append was.groups ((asked ∷ []) ∷ [])) in
+              let here = one.each going (idle_all begins) in
+              let later = run_more t g.moment g.image_since first start.store.disk new.store.disk more (length was.groups) on.0 on.1
+              (λ c since. after_fewer t (length more) (length was.groups + 1) first more c (omega (arith, size)) (after_all t first more new.state c apart_run
+              (state_held new.store new.state here c (only new.store.disk c here.all.0 since)))) in
+              (_, subst (λ (n : ℕ). IsRun t g.moment g.image_since start.store.disk new.store.disk first more n (on.0 ++ g.moment new.store.disk ∷ [])) size later);
+        }
+
+        -- a call of the device failed in it
+        breaks_apart : new.store.stopped ≡ true → Faulted t size (IsWholeBefore t size) start new (bodies ++ asked.body ∷ []) (out ++ told)
+        breaks_apart stopped = record {
+          groups = was.groups;
+          group = asked ∷ [];
+          others = [];
+          cuts = apart_group t.alone size was.groups asked one.alone (subst (λ (l : List (Entry R)). IsCutBefore t.alone size was.groups l) was.cuts.1 was.cuts.0);
+          whole = inl (inr (append-nil asked.event ∙ one.none));
+          bodies_are = apart_bodies ∙ ap (λ (l : List (Entry R)). map body_of l) (append-nil (joined more) ∙ joined_push was.groups (asked ∷ [])) ∙ sym (append-nil (map body_of (joined was.groups ++ asked ∷ [])));
+          replies_are = ap (λ (l : List R). l ++ told) was.out_are ∙ ap (λ (l : List R). map reply_of (joined was.groups) ++ l) (one.broken stopped);
+          run = subst (λ (l : List (Entry R)). Run t first l new.state) (joined_push was.groups (asked ∷ [])) apart_run;
+          moments = apart_during;
+        }
+
+    -- nothing was in hand
+    going_idle : (size : ℕ) (old mid : Desk S R D g) (bodies : List (List ℕ)) (out : List R) → old.pending ≡ [] → (mid.pending ≡ []) × (mid.events ≡ []) → mid.store ≡ old.store → mid.state ≡ old.state
+        → Going t (IsCut t.alone size) start old bodies out → Going t (Idle size) start mid bodies out
+    going_idle size old mid bodies out none idle store state was =
+        let empty : was.held ≡ [] = no_entry was.held (sym was.pending_are ∙ none) in
+        record {
+          groups = was.groups;
+          held = was.held;
+          committed = was.committed;
+          cuts = (cut_before t.alone size was.groups was.held was.cuts, empty);
+          bodies_are = was.bodies_are;
+          out_are = was.out_are;
+          pending_are = idle.0 ∙ sym (ap (λ (l : List (Entry R)). map reply_of l) empty);
+          events_are = idle.1 ∙ sym (ap (λ (l : List (Entry R)). events_in l) empty);
+          stands = was.stands;
+          runs = subst (λ (s : S). Run t was.committed was.held s) (sym state) was.runs;
+          same = ap t.text state ∙ was.same;
+          same_bank = ap t.bank state ∙ was.same_bank;
+          quiet = λ quiet. ap (λ (s : Store D g). s.disk) store ∙ was.quiet quiet;
+          all = λ begins. subst (λ (s : Store D g). AllHoldState t s was.committed) (sym store) (was.all begins);
+          moments = λ begins. let run = was.moments begins in (
+            run.0,
+            subst (λ (s : Store D g). IsRun t g.moment g.image_since start.store.disk s.disk first was.groups (length was.groups) run.0) (sym store) run.1,
+          );
+        }
+
+    -- a request that is a group of its own, behind those that were answered
+    underway_then : (size : ℕ) (mid new : Desk S R D g) (bodies : List (List ℕ)) (body : List ℕ) (sent told : List R) → Going t (Idle size) start mid bodies sent → Goes start.store mid.store
+        → ((reply : R) × IsReplaced t (entry body reply []) told mid new) → Underway t size start new (bodies ++ body ∷ []) (sent ++ told)
+    underway_then size mid new bodies body sent told here goes due = record {
+      going = λ is. going_apart size here (entry body due.0 []) told new due.1 is;
+      broken = λ is. breaks_apart size here (entry body due.0 []) told new due.1 is;
+      goes = goes_on start.store mid.store new.store goes due.1.goes;
+    }
+
+    -- the group in hand ends before it
+    underway_apart : (size : ℕ) (old new : Desk S R D g) (bodies : List (List ℕ)) (out : List R) (body : List ℕ) (told : List R) → Underway t size start old bodies out → IsApart t body told old new
+        → Underway t size start new (bodies ++ body ∷ []) (out ++ told)
+    underway_apart size old new bodies out body told so_far apart =
+        subst (λ (l : List R). Underway t size start new (bodies ++ body ∷ []) l) (append_assoc out apart.before apart.after ∙ ap (λ (l : List R). out ++ l) (sym apart.told_are)) (by apart.flushed)
+      where
+        was : Going t (IsCut t.alone size) start old bodies out
+        was = so_far.going apart.was
+
+        by : IsFlushed t apart.before old apart.mid → Underway t size start new (bodies ++ body ∷ []) ((out ++ apart.before) ++ apart.after)
+        by (inl idle) =
+            let goes : Goes start.store apart.mid.store = subst (λ (s : Store D g). Goes start.store s) (sym idle.store) so_far.goes in
+            let due = apart.going (ap (λ (s : Store D g). s.stopped) idle.store ∙ apart.was) in
+            let sent : out ≡ out ++ apart.before = sym (ap (λ (l : List R). out ++ l) idle.nothing ∙ append-nil out) in
+            subst (λ (l : List R). Underway t size start new (bodies ++ body ∷ []) (l ++ apart.after)) sent
+            (underway_then size apart.mid new bodies body out apart.after (going_idle size old apart.mid bodies out idle.none due.1.idle idle.store idle.state was) goes due)
+        by (inr last) = on (either apart.mid.store.stopped)
+          where
+            goes : Goes start.store apart.mid.store
+            goes = goes_on start.store old.store apart.mid.store so_far.goes last.settled.goes
+
+            some : 0 < length was.held
+            some = some_entry was.held (λ none. last.some (was.pending_are ∙ none))
+
+            on : (apart.mid.store.stopped ≡ false) ⊎ (apart.mid.store.stopped ≡ true) → Underway t size start new (bodies ++ body ∷ []) ((out ++ apart.before) ++ apart.after)
+            on (inl going) =
+                underway_then size apart.mid new bodies body (out ++ apart.before) apart.after
+                (going_ends was (Idle size) apart.before apart.mid going (cut_flushed t.alone size was.groups was.held some (cut_before t.alone size was.groups was.held was.cuts), refl) last.settled) goes (apart.going going)
+            on (inr stopped) =
+                let late = apart.late stopped in
+                let fault = going_breaks was size (λ group others. others ≡ []) apart.before apart.mid refl stopped (group_ends t.alone size was.groups was.held some was.cuts) last.settled in
+                record {
+                  going = λ is. absurd (true≢false (sym late.1.is ∙ is));
+                  broken = λ is. subst (λ (l : List R). Faulted t size (IsWholeBefore t size) start new (bodies ++ body ∷ []) ((out ++ apart.before) ++ l)) (sym late.0)
+                      (faulted_more size apart.mid new bodies (out ++ apart.before) body late.1 (λ group others. others ≡ []) (λ group others none. inr (subst (λ (l : List (List ℕ)). BeginsAlone t.alone (l ++ body ∷ [])) (sym none) apart.alone)) fault);
+                  goes = goes_on start.store apart.mid.store new.store goes late.1.goes;
+                }
+
     -- one request more
     pub underway_taken : (size : ℕ) (old new : Desk S R D g) (bodies : List (List ℕ)) (out : List R) (body : List ℕ) (told : List R) → Underway t size start old bodies out → IsTaken t size body told old new
         → Underway t size start new (bodies ++ body ∷ []) (out ++ told)
     underway_taken size old new bodies out body told so_far (inl kept) =
         let was = so_far.going kept.was in
         let asked : Entry R = entry body kept.reply kept.event in
-        let full : is_full size (was.held ++ asked ∷ []) ≡ false = sym (fills_as so_far.goes.library was size asked new kept.held) ∙ kept.short in
-        let now : Going t (IsCut size) start new (bodies ++ body ∷ []) out = going_held so_far.goes.library was (IsCut size) asked new (cut_holds size was.groups was.held asked was.cuts full) kept.held in
+        let full : is_full size (was.held ++ asked ∷ []) ≡ false = sym (fills_as was size asked new kept.held) ∙ kept.short in
+        let now : Going t (IsCut t.alone size) start new (bodies ++ body ∷ []) out = going_held was (IsCut t.alone size) asked new (cut_holds t.alone size was.groups was.held asked kept.held.plain was.cuts full) kept.held in
         record {
-          going = λ is. subst (λ (l : List R). Going t (IsCut size) start new (bodies ++ body ∷ []) l) (sym (ap (λ (l : List R). out ++ l) kept.nothing ∙ append-nil out)) now;
+          going = λ is. subst (λ (l : List R). Going t (IsCut t.alone size) start new (bodies ++ body ∷ []) l) (sym (ap (λ (l : List R). out ++ l) kept.nothing ∙ append-nil out)) now;
           broken = λ is. absurd (true≢false (sym is ∙ kept.held.going));
           goes = goes_on start.store old.store new.store so_far.goes kept.held.goes;
         }
@@ -355,30 +550,31 @@ module _ {S R : Type 0} (t : Turns S R) where
         let was = so_far.going filled.was in
         let asked : Entry R = entry body filled.reply filled.event in
         let group = was.held ++ asked ∷ [] in
-        let full : is_full size group ≡ true = sym (fills_as so_far.goes.library was size asked filled.mid filled.held) ∙ filled.full in
+        let full : is_full size group ≡ true = sym (fills_as was size asked filled.mid filled.held) ∙ filled.full in
         let between = goes_on start.store old.store filled.mid.store so_far.goes filled.held.goes in
-        let here : Going t (λ groups held. IsCut size (groups ++ held ∷ []) [] × (is_full size held ≡ true)) start filled.mid (bodies ++ body ∷ []) out =
-        going_held so_far.goes.library was (λ groups held. IsCut size (groups ++ held ∷ []) [] × (is_full size held ≡ true)) asked filled.mid (cut_ends size was.groups was.held asked was.cuts full, full) filled.held in
+        let here : Going t (λ groups held. IsCut t.alone size (groups ++ held ∷ []) [] × (is_full size held ≡ true)) start filled.mid (bodies ++ body ∷ []) out =
+        going_held was (λ groups held. IsCut t.alone size (groups ++ held ∷ []) [] × (is_full size held ≡ true)) asked filled.mid (cut_ends t.alone size was.groups was.held asked filled.held.plain was.cuts full, full) filled.held in
         record {
-          going = λ is. going_ends between.library here (IsCut size) told new is here.cuts.0 filled.settled;
-          broken = λ is. going_breaks between.library here size (λ group others. IsWhole size group) told new (inl here.cuts.1) is (full_group size here.groups here.held here.cuts.0) filled.settled;
+          going = λ is. going_ends here (IsCut t.alone size) told new is here.cuts.0 filled.settled;
+          broken = λ is. going_breaks here size (IsWholeBefore t size) told new (inl (inl here.cuts.1)) is (full_group t.alone size here.groups here.held here.cuts.0) filled.settled;
           goes = goes_on start.store filled.mid.store new.store between filled.settled.goes;
         }
     underway_taken size old new bodies out body told so_far (inr (inr (inl faulted))) =
         let was = so_far.going faulted.was in
         record {
           going = λ is. absurd (true≢false (sym faulted.failed.stopped ∙ is));
-          broken = λ is. going_fails so_far.goes.library was size body told new was.cuts faulted.failed;
+          broken = λ is. going_fails was size body told new was.cuts faulted.failed;
           goes = goes_on start.store old.store new.store so_far.goes faulted.failed.goes;
         }
-    underway_taken size old new bodies out body told so_far (inr (inr (inr late))) = record {
+    underway_taken size old new bodies out body told so_far (inr (inr (inr (inr apart)))) = underway_apart size old new bodies out body told so_far apart
+    underway_taken size old new bodies out body told so_far (inr (inr (inr (inl late)))) = record {
       going = λ is. absurd (true≢false (sym late.over.is ∙ is));
-      broken = λ is. subst (λ (l : List R). Faulted t size (λ group others. IsWhole size group) start new (bodies ++ body ∷ []) (out ++ l)) (sym late.told_is) (faulted_more size old new bodies out body late.over (so_far.broken late.over.was));
+      broken = λ is. subst (λ (l : List R). Faulted t size (IsWholeBefore t size) start new (bodies ++ body ∷ []) (out ++ l)) (sym late.told_is) (faulted_more size old new bodies out body late.over (IsWholeBefore t size) (still_whole size body) (so_far.broken late.over.was));
       goes = goes_on start.store old.store new.store so_far.goes late.over.goes;
     }
 
     -- all was answered
-    served_all : (size : ℕ) (now : Desk S R D g) (bodies : List (List ℕ)) (out : List R) → now.pending ≡ [] → now.store.stopped ≡ false → Goes start.store now.store → Going t (IsEnd size) start now bodies out
+    served_all : (size : ℕ) (now : Desk S R D g) (bodies : List (List ℕ)) (out : List R) → now.pending ≡ [] → now.store.stopped ≡ false → Goes start.store now.store → Going t (IsEnd t.alone size) start now bodies out
         → IsServed t size start.store now.store first now.state bodies out
     served_all size now bodies out none going goes was =
         let empty : was.held ≡ [] = no_entry was.held (sym was.pending_are ∙ none) in
@@ -392,7 +588,7 @@ module _ {S R : Type 0} (t : Turns S R) where
           served = record {
             bodies_are = was.bodies_are ∙ ap (λ (l : List (Entry R)). map body_of l) whole ∙ sym (append-nil (map body_of (joined (was.groups ++ []))));
             run = subst (λ (l : List (Entry R)). Run t first l now.state) whole (run_append t first (joined was.groups) was.committed was.held now.state was.stands was.runs);
-            groups_are = ap (λ (l : List (Entry R)). groups_of size l) (sym whole) ∙ was.cuts ∙ ap (λ (l : List (Entry R)). was.groups ++ rest_of l) empty;
+            groups_are = ap (λ (l : List (Entry R)). groups_of t.alone size l) (sym whole) ∙ was.cuts ∙ ap (λ (l : List (Entry R)). was.groups ++ rest_of l) empty;
             whole = λ group is. absurd (no_group group is);
             replies_are = was.out_are ∙ sym (append-nil (map reply_of (joined was.groups)));
           };
@@ -401,13 +597,13 @@ module _ {S R : Type 0} (t : Turns S R) where
           quiet = λ is quiet. was.quiet (subst (λ (l : List (Entry R)). AllQuiet t l) (sym (ap (λ (l : List (Entry R)). joined was.groups ++ l) empty ∙ append-nil (joined was.groups))) quiet);
           moments = λ begins.
               let run = was.moments begins in
-              (run.0, subst (λ (l : List (List (Entry R))). IsRun t g.moment g.image_since start.store.disk now.store.disk library first l (length was.groups) run.0) (sym (append-nil was.groups)) run.1);
-          all = λ is begins. subst (λ (s : S). AllHold now.store (t.held s)) at_last (was.all begins);
+              (run.0, subst (λ (l : List (List (Entry R))). IsRun t g.moment g.image_since start.store.disk now.store.disk first l (length was.groups) run.0) (sym (append-nil was.groups)) run.1);
+          all = λ is begins. subst (λ (s : S). AllHoldState t now.store s) at_last (was.all begins);
           goes = goes;
         }
 
     -- or up to a fault
-    served_part : (size : ℕ) (now : Desk S R D g) (bodies : List (List ℕ)) (out : List R) → now.store.stopped ≡ true → Goes start.store now.store → Faulted t size (λ group others. (others ≡ []) ⊎ IsWhole size group) start now bodies out
+    served_part : (size : ℕ) (now : Desk S R D g) (bodies : List (List ℕ)) (out : List R) → now.store.stopped ≡ true → Goes start.store now.store → Faulted t size (λ group others. (others ≡ []) ⊎ IsWholeBefore t size group others) start now bodies out
         → IsServed t size start.store now.store first now.state bodies out
     served_part size now bodies out stopped goes was =
         let whole : joined (was.groups ++ was.group ∷ []) ≡ joined was.groups ++ was.group = joined_push was.groups was.group in
@@ -418,8 +614,8 @@ module _ {S R : Type 0} (t : Turns S R) where
           served = record {
             bodies_are = was.bodies_are ∙ ap (λ (l : List (Entry R)). map body_of l ++ was.others) (sym whole);
             run = subst (λ (l : List (Entry R)). Run t first l now.state) (sym whole) was.run;
-            groups_are = ap (λ (l : List (Entry R)). groups_of size l) whole ∙ was.cuts;
-            whole = λ group is. subst (λ (l : List (Entry R)). (was.others ≡ []) ⊎ IsWhole size l) (one_group was.group group is) was.whole;
+            groups_are = ap (λ (l : List (Entry R)). groups_of t.alone size l) whole ∙ was.cuts;
+            whole = λ group is. subst (λ (l : List (Entry R)). (was.others ≡ []) ⊎ IsWholeBefore t size l was.others) (one_group was.group group is) was.whole;
             replies_are = was.replies_are ∙ ap (λ (l : List (Entry R)). map reply_of (joined was.groups) ++ (map (λ asked. t.faulted asked.body) l ++ map t.failed was.others)) (sym (append-nil was.group));
           };
           well = λ is. absurd (true≢false (sym stopped ∙ is));
@@ -440,9 +636,9 @@ module _ {S R : Type 0} (t : Turns S R) where
         by : (now.store.stopped ≡ false) ⊎ (now.store.stopped ≡ true) → Ends size now bodies out
         by (inl going) =
             let was = so_far.going going in
-            let last : Going t (IsEnd size) start now bodies out = going_as was (IsEnd size) (cut_last size was.groups was.held was.cuts) in
+            let last : Going t (IsEnd t.alone size) start now bodies out = going_as was (IsEnd t.alone size) (cut_last t.alone size was.groups was.held was.cuts) in
             served_all size now bodies out none going so_far.goes last
-        by (inr stopped) = served_part size now bodies out stopped so_far.goes (faulted_as size (λ group others. IsWhole size group) (λ group others. (others ≡ []) ⊎ IsWhole size group) (λ group others is. inr is) now now bodies out out refl refl refl (so_far.broken stopped))
+        by (inr stopped) = served_part size now bodies out stopped so_far.goes (faulted_as size (IsWholeBefore t size) (λ group others. (others ≡ []) ⊎ IsWholeBefore t size group others) (λ group others is. inr is) now now bodies out out refl refl refl (so_far.broken stopped))
 
     -- the input has ended
     pub underway_ended : (size : ℕ) (old new : Desk S R D g) (bodies : List (List ℕ)) (out told : List R) → Underway t size start old bodies out → IsEnded t told old new → Ends size new bodies (out ++ told)
@@ -452,19 +648,19 @@ module _ {S R : Type 0} (t : Turns S R) where
         (subst (λ (s : Store D g). IsServed t size start.store s first old.state bodies out) (sym idle.store) (stopped_or_not size old bodies out idle.none so_far)))
     underway_ended size old new bodies out told so_far (inr (inl last)) = by (either new.store.stopped)
       where
-        was : Going t (IsCut size) start old bodies out
+        was : Going t (IsCut t.alone size) start old bodies out
         was = so_far.going last.was
 
         goes : Goes start.store new.store
         goes = goes_on start.store old.store new.store so_far.goes last.settled.goes
 
-        ends : IsGroup size was.groups was.held
-        ends = group_ends size was.groups was.held (some_entry was.held (λ none. last.some (was.pending_are ∙ none))) was.cuts
+        ends : IsGroup t.alone size was.groups was.held
+        ends = group_ends t.alone size was.groups was.held (some_entry was.held (λ none. last.some (was.pending_are ∙ none))) was.cuts
 
         by : (new.store.stopped ≡ false) ⊎ (new.store.stopped ≡ true) → Ends size new bodies (out ++ told)
         by (inl going) =
-            served_all size new bodies (out ++ told) (last.settled.well going).1 going goes (going_ends so_far.goes.library was (IsEnd size) told new going (ends_after size was.groups was.held ends) last.settled)
-        by (inr stopped) = served_part size new bodies (out ++ told) stopped goes (going_breaks so_far.goes.library was size (λ group others. (others ≡ []) ⊎ IsWhole size group) told new (inl refl) stopped ends last.settled)
+            served_all size new bodies (out ++ told) (last.settled.well going).1 going goes (going_ends was (IsEnd t.alone size) told new going (ends_after t.alone size was.groups was.held ends) last.settled)
+        by (inr stopped) = served_part size new bodies (out ++ told) stopped goes (going_breaks was size (λ group others. (others ≡ []) ⊎ IsWholeBefore t size group others) told new (inl refl) stopped ends last.settled)
     underway_ended size old new bodies out told so_far (inr (inr left)) =
         served_part size new bodies (out ++ told) left.over.is (goes_on start.store old.store new.store so_far.goes left.over.goes)
-        (faulted_as size (λ group others. IsWhole size group) (λ group others. (others ≡ []) ⊎ IsWhole size group) (λ group others is. inr is) old new bodies out (out ++ told) (ap (λ (l : List R). out ++ l) left.nothing ∙ append-nil out) left.over.disk left.over.state (so_far.broken left.over.was))
+        (faulted_as size (IsWholeBefore t size) (λ group others. (others ≡ []) ⊎ IsWholeBefore t size group others) (λ group others is. inr is) old new bodies out (out ++ told) (ap (λ (l : List R). out ++ l) left.nothing ∙ append-nil out) left.over.disk left.over.state (so_far.broken left.over.was))

@@ -1,11 +1,13 @@
 -- A server at work: its store and its state, and the group in hand.
 use Rattle.std.specs.Prelude.{◌≡◌, ◌≢◌, ◌⊎◌, ◌<◌, ℕ, Bool, true, false, List, [], ◌∷◌, ◌++◌, length, map}
+use Rattle.oa_disk.specs.Disk.{LeavesOnly}
 use Rattle.oa_disk.specs.declared.disk.Disk.{Ghosts}
 use Rattle.oa_journal.specs.Replays.{Replays}
 use Rattle.oa_store.specs.declared.store.Store.{Store}
 use Rattle.oa_table.specs.Tables.{TableValue}
 use Rattle.oa_keeper.specs.Kept.{AllHold, LeavesEither, LeavesTable}
 use Rattle.oa_groups.specs.Groups.{fills}
+use Rattle.oa_groups.specs.Runs.{AllHoldState, HoldsState}
 use Rattle.oa_groups.specs.Served.{Goes}
 use Rattle.oa_groups.specs.Turns.{Entry, Turns, entry}
 
@@ -29,6 +31,10 @@ abbrev pub LeavesCommitted : {D : Type 0} {g : Ghosts D} → List ℕ → TableV
 LeavesCommitted events held old new =
     (committed : TableValue) → IsCommitted events held committed → AllHold old committed → LeavesTable old new committed
 
+-- A stop at any moment of a call leaves an image of which this holds.
+abbrev pub LeavesState : {D : Type 0} {g : Ghosts D} → Store D g → Store D g → (List ℕ → Type 0) → Type 0
+LeavesState {D} {g} old new P = LeavesOnly g.moment g.image_since old.disk new.disk P
+
 -- After the call each image holds what was committed before it.
 abbrev pub KeepsCommitted : {D : Type 0} {g : Ghosts D} → List ℕ → TableValue → Store D g → Store D g → Type 0
 KeepsCommitted events held old new =
@@ -47,12 +53,15 @@ CommitsGroup events held old new = (committed : TableValue) → Replays events c
 -- what is held of the state while no event is in hand.
 pub record IsHeld {S R D : Type 0} {g : Ghosts D} (t : Turns S R) (asked : Entry R) (old new : Desk S R D g) : Type 0 where
   pub turn : t.Turn asked old.state new.state
+  -- it is none that is a group of its own
+  pub plain : t.alone asked.body ≡ false
   pub pending : new.pending ≡ old.pending ++ asked.reply ∷ []
   pub events : new.events ≡ old.events ++ asked.event
   pub going : new.store.stopped ≡ false
   pub calls : CallsFor old.store new.store asked.event (t.is_starved asked.reply)
   pub any_moment : LeavesCommitted old.events (t.held old.state) old.store new.store
   pub each : KeepsCommitted old.events (t.held old.state) old.store new.store
+  pub library : new.store.library.items ≡ old.store.library.items
   pub goes : Goes old.store new.store
 
 -- The group in hand ends, and its replies are told: as they are, or, where it could not be committed, taken back.
@@ -63,6 +72,7 @@ pub record IsSettled {S R D : Type 0} {g : Ghosts D} (t : Turns S R) (told : Lis
   pub quiet : length old.events ≡ 0 → new.store.disk ≡ old.store.disk
   pub any_moment : LeavesGroupOrNot old.events (t.held old.state) old.store new.store
   pub each : new.store.stopped ≡ false → CommitsGroup old.events (t.held old.state) old.store new.store
+  pub library : new.store.library.items ≡ old.store.library.items
   pub goes : Goes old.store new.store
 
 -- The checkpoint before a request's event failed: it is the first event of the group, which ends with this request, and is taken
@@ -71,6 +81,7 @@ pub record IsFailed {S R D : Type 0} {g : Ghosts D} (t : Turns S R) (body : List
   pub reply : R
   pub event : List ℕ
   pub turn : t.Turn (entry body reply event) old.state new.state
+  pub plain : t.alone body ≡ false
   pub first : length old.events ≡ 0
   pub none : event ≡ []
   pub same : t.held new.state ≡ t.held old.state
@@ -85,6 +96,24 @@ pub record IsOver {S R D : Type 0} {g : Ghosts D} (old new : Desk S R D g) : Typ
   pub is : new.store.stopped ≡ true
   pub disk : new.store.disk ≡ old.store.disk
   pub state : new.state ≡ old.state
+  pub goes : Goes old.store new.store
+
+-- A request that is a group of its own is answered, with nothing in hand. It makes no event. Where it is done, the store goes on with the
+-- library of the new state; where it is not, the device is not called. A stop at any moment of it leaves the state before or the one after.
+pub record IsReplaced {S R D : Type 0} {g : Ghosts D} (t : Turns S R) (asked : Entry R) (told : List R)
+    (old new : Desk S R D g) : Type 0 where
+  pub turn : t.Turn asked old.state new.state
+  pub alone : t.alone asked.body ≡ true
+  pub none : asked.event ≡ []
+  pub idle : (old.pending ≡ []) × (old.events ≡ [])
+  pub idle_still : (new.pending ≡ []) × (new.events ≡ [])
+  pub well : new.store.stopped ≡ false → told ≡ asked.reply ∷ []
+  pub broken : new.store.stopped ≡ true → told ≡ t.faulted asked.body ∷ []
+  -- where a call of the device fails in it, the turn is one of those that are done
+  pub doubt : new.store.stopped ≡ true → t.is_done asked.reply ≡ true
+  pub quiet : t.is_done asked.reply ≡ false → new.store.disk ≡ old.store.disk
+  pub any_moment : AllHoldState t old.store old.state → LeavesState old.store new.store (λ c. HoldsState t old.state c ⊎ HoldsState t new.state c)
+  pub each : new.store.stopped ≡ false → AllHoldState t old.store old.state → AllHoldState t new.store new.state
   pub goes : Goes old.store new.store
 
 -- the request is held, and the group goes on
@@ -118,12 +147,6 @@ pub record IsTooLate {S R D : Type 0} {g : Ghosts D} (t : Turns S R) (body : Lis
   pub over : IsOver old new
   pub told_is : told ≡ t.failed body ∷ []
 
--- One request is taken, and these replies are handed out.
-abbrev pub IsTaken : {S R D : Type 0} {g : Ghosts D} → Turns S R → ℕ → List ℕ → List R → Desk S R D g → Desk S R D g → Type 0
-IsTaken t size body told old new =
-    IsKeptBack t size body told old new
-    ⊎ (IsFilled t size body told old new ⊎ (IsFaulted t body told old new ⊎ IsTooLate t body told old new))
-
 -- nothing was in hand
 pub record IsIdle {S R D : Type 0} {g : Ghosts D} (told : List R) (old new : Desk S R D g) : Type 0 where
   pub none : old.pending ≡ []
@@ -141,6 +164,28 @@ pub record IsLast {S R D : Type 0} {g : Ghosts D} (t : Turns S R) (told : List R
 pub record IsLeft {S R D : Type 0} {g : Ghosts D} (told : List R) (old new : Desk S R D g) : Type 0 where
   pub over : IsOver old new
   pub nothing : told ≡ []
+
+-- The group in hand, if there is one, ends.
+abbrev pub IsFlushed : {S R D : Type 0} {g : Ghosts D} → Turns S R → List R → Desk S R D g → Desk S R D g → Type 0
+IsFlushed t told old new = IsIdle told old new ⊎ IsLast t told old new
+
+-- The request is a group of its own: first the group in hand ends, and then, unless that could not be committed, the request is answered.
+pub record IsApart {S R D : Type 0} {g : Ghosts D} (t : Turns S R) (body : List ℕ) (told : List R) (old new : Desk S R D g) : Type 0 where
+  pub was : old.store.stopped ≡ false
+  pub alone : t.alone body ≡ true
+  pub mid : Desk S R D g
+  pub before : List R
+  pub after : List R
+  pub told_are : told ≡ before ++ after
+  pub flushed : IsFlushed t before old mid
+  pub going : mid.store.stopped ≡ false → (reply : R) × IsReplaced t (entry body reply []) after mid new
+  pub late : mid.store.stopped ≡ true → (after ≡ t.failed body ∷ []) × IsOver mid new
+
+-- One request is taken, and these replies are handed out.
+abbrev pub IsTaken : {S R D : Type 0} {g : Ghosts D} → Turns S R → ℕ → List ℕ → List R → Desk S R D g → Desk S R D g → Type 0
+IsTaken t size body told old new =
+    IsKeptBack t size body told old new
+    ⊎ (IsFilled t size body told old new ⊎ (IsFaulted t body told old new ⊎ (IsTooLate t body told old new ⊎ IsApart t body told old new)))
 
 -- The input has ended, and these replies are handed out.
 abbrev pub IsEnded : {S R D : Type 0} {g : Ghosts D} → Turns S R → List R → Desk S R D g → Desk S R D g → Type 0

@@ -1,24 +1,30 @@
 -- What stands while requests are taken.
-use Rattle.std.specs.Prelude.{◌≡◌, ℕ, true, false, List, [], ◌∷◌, ◌++◌, length, map}
+use Rattle.std.specs.Prelude.{◌≡◌, ◌⊎◌, ℕ, Bool, true, false, List, [], ◌∷◌, ◌++◌, length, map}
 use Rattle.oa_disk.specs.declared.disk.Disk.{Ghosts}
-use Rattle.oa_keeper.specs.Kept.{AllHold}
 use Rattle.oa_groups.specs.Desks.{Desk}
-use Rattle.oa_groups.specs.Groups.{IsWhole, cut, events_in, groups_of, joined, rest_of}
-use Rattle.oa_groups.specs.Runs.{AllQuiet, HasMoments, Run}
+use Rattle.oa_groups.specs.Groups.{BeginsAlone, IsWhole, cut, events_in, groups_of, joined, rest_of}
+use Rattle.oa_groups.specs.Runs.{AllHoldState, AllQuiet, HasMoments, Run}
 use Rattle.oa_groups.specs.Served.{Goes}
 use Rattle.oa_groups.specs.Turns.{Entry, Turns, body_of, reply_of}
 
 -- Which groups are whole is known, whatever comes later.
-abbrev pub IsCut : {R : Type 0} → ℕ → List (List (Entry R)) → List (Entry R) → Type 0
-IsCut {R} size groups held = (later : List (Entry R)) → groups_of size (joined groups ++ (held ++ later)) ≡ groups ++ cut size held later
+abbrev pub IsCut : {R : Type 0} → (List ℕ → Bool) → ℕ → List (List (Entry R)) → List (Entry R) → Type 0
+IsCut {R} alone size groups held =
+    (later : List (Entry R)) → groups_of alone size (joined groups ++ (held ++ later)) ≡ groups ++ cut alone size held later
+
+-- They are where a request comes next that is a group of its own.
+abbrev pub IsCutBefore : {R : Type 0} → (List ℕ → Bool) → ℕ → List (List (Entry R)) → List (Entry R) → Type 0
+IsCutBefore {R} alone size groups held =
+    (asked : Entry R) (later : List (Entry R)) → alone asked.body ≡ true
+    → groups_of alone size (joined groups ++ (held ++ asked ∷ later)) ≡ groups ++ (rest_of held ++ (asked ∷ []) ∷ cut alone size [] later)
 
 -- The requests in hand are a group.
-abbrev pub IsGroup : {R : Type 0} → ℕ → List (List (Entry R)) → List (Entry R) → Type 0
-IsGroup size groups held = groups_of size (joined groups ++ held) ≡ groups ++ held ∷ []
+abbrev pub IsGroup : {R : Type 0} → (List ℕ → Bool) → ℕ → List (List (Entry R)) → List (Entry R) → Type 0
+IsGroup alone size groups held = groups_of alone size (joined groups ++ held) ≡ groups ++ held ∷ []
 
 -- The input ends with the requests in hand.
-abbrev pub IsEnd : {R : Type 0} → ℕ → List (List (Entry R)) → List (Entry R) → Type 0
-IsEnd size groups held = groups_of size (joined groups ++ held) ≡ groups ++ rest_of held
+abbrev pub IsEnd : {R : Type 0} → (List ℕ → Bool) → ℕ → List (List (Entry R)) → List (Entry R) → Type 0
+IsEnd alone size groups held = groups_of alone size (joined groups ++ held) ≡ groups ++ rest_of held
 
 -- Some whole groups were answered, and the requests in hand are held. C says how the requests are cut.
 pub record Going {S R D : Type 0} {g : Ghosts D} (t : Turns S R) (C : List (List (Entry R)) → List (Entry R) → Type 0)
@@ -33,8 +39,11 @@ pub record Going {S R D : Type 0} {g : Ghosts D} (t : Turns S R) (C : List (List
   pub events_are : now.events ≡ events_in held
   pub stands : Run t start.state (joined groups) committed
   pub runs : Run t committed held now.state
+  -- none of those in hand has replaced the library
+  pub same : t.text now.state ≡ t.text committed
+  pub same_bank : t.bank now.state ≡ t.bank committed
   pub quiet : AllQuiet t (joined groups ++ held) → now.store.disk ≡ start.store.disk
-  pub all : AllHold start.store (t.held start.state) → AllHold now.store (t.held committed)
+  pub all : AllHoldState t start.store start.state → AllHoldState t now.store committed
   pub moments : HasMoments t start.store now.store start.state groups (length groups)
 
 -- A call of the device failed, in the group behind those that were answered. C says why it ends where it does, and what came behind it.
@@ -43,16 +52,20 @@ pub record Faulted {S R D : Type 0} {g : Ghosts D} (t : Turns S R) (size : ℕ) 
   pub groups : List (List (Entry R))
   pub group : List (Entry R)
   pub others : List (List ℕ)
-  pub cuts : IsGroup size groups group
+  pub cuts : IsGroup t.alone size groups group
   pub whole : C group others
   pub bodies_are : bodies ≡ map body_of (joined groups ++ group) ++ others
   pub replies_are : replies ≡ map reply_of (joined groups) ++ (map (λ asked. t.faulted asked.body) group ++ map t.failed others)
   pub run : Run t start.state (joined groups ++ group) now.state
   pub moments : HasMoments t start.store now.store start.state (groups ++ group ∷ []) (length groups)
 
+-- The group of a fault is one whatever comes behind it, or ends before a request that is a group of its own.
+abbrev pub IsWholeBefore : {S R : Type 0} → Turns S R → ℕ → List (Entry R) → List (List ℕ) → Type 0
+IsWholeBefore t size group others = IsWhole size group ⊎ BeginsAlone t.alone others
+
 -- These bodies were taken since the start, and these replies handed out.
 pub record Underway {S R D : Type 0} {g : Ghosts D} (t : Turns S R) (size : ℕ) (start now : Desk S R D g) (bodies : List (List ℕ))
     (out : List R) : Type 0 where
-  pub going : now.store.stopped ≡ false → Going t (IsCut size) start now bodies out
-  pub broken : now.store.stopped ≡ true → Faulted t size (λ group others. IsWhole size group) start now bodies out
+  pub going : now.store.stopped ≡ false → Going t (IsCut t.alone size) start now bodies out
+  pub broken : now.store.stopped ≡ true → Faulted t size (IsWholeBefore t size) start now bodies out
   pub goes : Goes start.store now.store

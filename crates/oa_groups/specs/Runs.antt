@@ -1,8 +1,9 @@
 -- Runs of a server, and what the images of its disk hold at each moment of one.
-use Rattle.std.specs.Prelude.{◌≡◌, ◌⊎◌, ℕ, false, ◌+◌, ◌≤◌, List, [], ◌∷◌, ◌++◌, length, Some, slice_get}
+use Rattle.std.specs.Prelude.{◌≡◌, ◌⊎◌, ℕ, true, false, ◌+◌, ◌≤◌, List, [], ◌∷◌, ◌++◌, length, Some, slice_get}
 use Rattle.oa_disk.specs.declared.disk.Disk.{Ghosts}
 use Rattle.oa_keeper.specs.Kept.{AllHold}
-use Rattle.oa_store.specs.Stores.{IsStore}
+use Rattle.oa_journal.specs.declared.shape.Shape.TheVariants.{Two}
+use Rattle.oa_store.specs.Stores.{IsStoreIn}
 use Rattle.oa_store.specs.declared.store.Store.{Store}
 use Rattle.oa_groups.specs.Groups.{joined}
 use Rattle.oa_groups.specs.Turns.{Entry, Turns}
@@ -12,13 +13,28 @@ abbrev pub Run : {S R : Type 0} → Turns S R → S → List (Entry R) → S →
 Run t old [] new = old ≡ new
 Run {S} t old (asked ∷ entries) new = (mid : S) × t.Turn asked old mid × Run t mid entries new
 
--- none of these requests made an event, and to none memory was refused
+-- The request made no event and has not replaced the library, and memory was not refused to it.
+pub record IsQuiet {S R : Type 0} (t : Turns S R) (asked : Entry R) : Type 0 where
+  pub none : asked.event ≡ []
+  pub fed : t.is_starved asked.reply ≡ false
+  pub kept : t.alone asked.body ≡ true → t.is_done asked.reply ≡ false
+
 abbrev pub AllQuiet : {S R : Type 0} → Turns S R → List (Entry R) → Type 0
 AllQuiet t [] = Unit {0}
-AllQuiet t (asked ∷ entries) = (asked.event ≡ []) × (t.is_starved asked.reply ≡ false) × AllQuiet t entries
+AllQuiet t (asked ∷ entries) = IsQuiet t asked × AllQuiet t entries
+
+-- the image is a store of what is held of the state
+abbrev pub HoldsState : {S R : Type 0} → Turns S R → S → List ℕ → Type 0
+HoldsState t state image = IsStoreIn (Two (t.bank state)) image (t.text state) (t.held state)
+
+-- The store has banks of the state's size and the library of the state, and each image of its disk holds the state.
+pub record AllHoldState {S R D : Type 0} {g : Ghosts D} (t : Turns S R) (store : Store D g) (state : S) : Type 0 where
+  pub shape : store.bank.shape ≡ Two (t.bank state)
+  pub has : store.library.items ≡ t.text state
+  pub all : AllHold store (t.held state)
 
 -- The image is a store of what is held of the state after so many of the groups, or more.
-pub record IsAfter {S R : Type 0} (t : Turns S R) (count : ℕ) (library : List ℕ) (first : S) (groups : List (List (Entry R)))
+pub record IsAfter {S R : Type 0} (t : Turns S R) (count : ℕ) (first : S) (groups : List (List (Entry R)))
     (image : List ℕ) : Type 0 where
   pub done : List (List (Entry R))
   pub later : List (List (Entry R))
@@ -26,7 +42,7 @@ pub record IsAfter {S R : Type 0} (t : Turns S R) (count : ℕ) (library : List 
   pub enough : count ≤ length done
   pub state : S
   pub run : Run t first (joined done) state
-  pub holds : IsStore image library (t.held state)
+  pub holds : HoldsState t state image
 
 -- each is at least the one before it
 abbrev pub Rises : ℕ → List ℕ → Type 0
@@ -36,17 +52,16 @@ Rises from (m ∷ moments) = (from ≤ m) × Rises m moments
 -- The moments of a run: number 0 is its start, and then there is one for each group that was answered. Each image since
 -- moment j is a store of the state after j groups of the run, or more.
 pub record IsRun {S R D : Type 0} (t : Turns S R) (moment : D → ℕ) (image_since : D → ℕ → List ℕ → Type 0) (old new : D)
-    (library : List ℕ) (first : S) (groups : List (List (Entry R))) (count : ℕ) (moments : List ℕ) : Type 0 where
+    (first : S) (groups : List (List (Entry R))) (count : ℕ) (moments : List ℕ) : Type 0 where
   pub start : slice_get moments 0 ≡ Some (moment old)
   pub rises : Rises (moment old) moments
   pub one_each : length moments ≡ count + 1
   pub past : (j m : ℕ) → slice_get moments j ≡ Some m → m ≤ moment new
-  pub images : (j m : ℕ) → slice_get moments j ≡ Some m → (c : List ℕ) → image_since new m c → IsAfter t j library first groups c
+  pub images : (j m : ℕ) → slice_get moments j ≡ Some m → (c : List ℕ) → image_since new m c → IsAfter t j first groups c
   -- for what began earlier
-  pub before : (m : ℕ) (c : List ℕ) → m ≤ moment old → image_since new m c → image_since old m c ⊎ IsAfter t 0 library first groups c
+  pub before : (m : ℕ) (c : List ℕ) → m ≤ moment old → image_since new m c → image_since old m c ⊎ IsAfter t 0 first groups c
 
 -- Where each image holds the state at the start of a call on a store, there are moments of the run that it makes.
 abbrev pub HasMoments : {S R D : Type 0} {g : Ghosts D} → Turns S R → Store D g → Store D g → S → List (List (Entry R)) → ℕ → Type 0
 HasMoments {S} {R} {D} {g} t old new first groups count =
-    AllHold old (t.held first)
-    → (moments : List ℕ) × IsRun t g.moment g.image_since old.disk new.disk old.library.items first groups count moments
+    AllHoldState t old first → (moments : List ℕ) × IsRun t g.moment g.image_since old.disk new.disk first groups count moments

@@ -3,9 +3,8 @@ use Rattle.std.specs.Prelude.{◌≡◌, ◌⊎◌, ℕ, ◌≤◌, true, false,
 use Rattle.oa_disk.specs.Disk.{HasCounted}
 use Rattle.oa_disk.specs.declared.disk.Disk.{Ghosts}
 use Rattle.oa_store.specs.declared.store.Store.{Store}
-use Rattle.oa_keeper.specs.Kept.{AllHold}
-use Rattle.oa_groups.specs.Groups.{IsWhole, groups_of, joined}
-use Rattle.oa_groups.specs.Runs.{AllQuiet, HasMoments, Run}
+use Rattle.oa_groups.specs.Groups.{BeginsAlone, IsWhole, groups_of, joined}
+use Rattle.oa_groups.specs.Runs.{AllHoldState, AllQuiet, HasMoments, Run}
 use Rattle.oa_groups.specs.Turns.{Entry, Turns, body_of, reply_of}
 
 -- The replies to these bodies are those of a run, group for group. Where a call of the device failed, the run goes to the end
@@ -14,16 +13,16 @@ pub record Served {S R : Type 0} (t : Turns S R) (size : ℕ) (first : S) (bodie
     (groups faulted : List (List (Entry R))) (others : List (List ℕ)) : Type 0 where
   pub bodies_are : bodies ≡ map body_of (joined (groups ++ faulted)) ++ others
   pub run : Run t first (joined (groups ++ faulted)) last
-  pub groups_are : groups_of size (joined (groups ++ faulted)) ≡ groups ++ faulted
+  pub groups_are : groups_of t.alone size (joined (groups ++ faulted)) ≡ groups ++ faulted
   -- what comes behind the fault's group is none of it
-  pub whole : (group : List (Entry R)) → faulted ≡ group ∷ [] → (others ≡ []) ⊎ IsWhole size group
+  pub whole : (group : List (Entry R)) → faulted ≡ group ∷ [] → (others ≡ []) ⊎ (IsWhole size group ⊎ BeginsAlone t.alone others)
   pub replies_are : replies ≡ map reply_of (joined groups) ++ (map (λ asked. t.faulted asked.body) (joined faulted) ++ map t.failed others)
 
--- What every call says of the device.
+-- What every call says of the device, and of the store's format, which stays.
 pub record Goes {D : Type 0} {g : Ghosts D} (old new : Store D g) : Type 0 where
-  pub library : new.library.items ≡ old.library.items
   pub honest : g.is_honest new.disk ≡ g.is_honest old.disk
   pub failures : g.failures_of old.disk ≤ g.failures_of new.disk
+  pub shape : new.bank.shape ≡ old.bank.shape
   -- it stops only where a call has failed, and then for good
   pub stops : old.stopped ≡ false → new.stopped ≡ true → HasCounted (g.failures_of old.disk) (g.failures_of new.disk)
   pub stays : old.stopped ≡ true → (new.stopped ≡ true) × (new.disk ≡ old.disk)
@@ -40,9 +39,9 @@ pub record IsServed {S R D : Type 0} {g : Ghosts D} (t : Turns S R) (size : ℕ)
   pub served : Served t size before bodies replies after groups faulted others
   pub well : new.stopped ≡ false → (faulted ≡ []) × (others ≡ [])
   pub fault : new.stopped ≡ true → length faulted ≡ 1
-  -- requests that make no event make no call of the device
+  -- requests that make no event and do not replace the library make no call of the device
   pub quiet : new.stopped ≡ false → AllQuiet t (joined groups) → new.disk ≡ old.disk
   pub moments : HasMoments t old new before (groups ++ faulted) (length groups)
   -- and the next call may begin
-  pub all : new.stopped ≡ false → AllHold old (t.held before) → AllHold new (t.held after)
+  pub all : new.stopped ≡ false → AllHoldState t old before → AllHoldState t new after
   pub goes : Goes old new

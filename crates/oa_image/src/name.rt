@@ -1,19 +1,21 @@
 //! The images of names of cells.
-ghost use Rattle.std.specs.Prelude.{◌≡◌, ◌≤◌, ◌*◌, ◌++◌, OnOk, IfOk, length};
+ghost use Rattle.std.specs.Prelude.{◌≡◌, ◌≤◌, ◌*◌, IfOk, length};
 ghost use Rattle.std.specs.List.{flat_map};
-ghost use Rattle.oa_layout.specs.Answers.{Answers, AnswersBy, Keeps};
+ghost use Rattle.oa_layout.specs.Answers.{Answers, AnswersBy};
+ghost use Rattle.oa_layout.specs.Lengths.{max_scalar_bytes};
+ghost use Rattle.oa_layout.specs.Windows.{Adds};
 ghost use Rattle.oa_layout.specs.Values.{scalar as a_scalar};
 ghost use Rattle.oa_model.specs.Limits.{max_key_scalars};
 ghost use Rattle.oa_image.specs.Names as names;
 
 use oa_layout::{
-    PutImage, ReadFault, ReadImage, ScalarFormat, put_each, put_guid, put_i32, put_u16, put_u32,
-    read_guid, read_i32, read_times, read_u16, read_u32, scalar_image_len,
+    PutImage, ReadFault, ReadImage, ScalarFormat, Window, put_each, put_guid, put_i32, put_u16,
+    put_u32, read_guid, read_i32, read_times, read_u16, read_u32, scalar_image_len,
 };
 use oa_ndr::Ndr;
 use oa_table::{CellName, Place};
 use oa_variant::Scalar;
-use std::alloc::{AllocError, Global};
+use std::alloc::Global;
 
 #[tactic(auto, unfolding(oa_ndr::specs::Reading::bind, oa_ndr::specs::Reading::give, oa_layout::specs::Formats::made_where, oa_layout::specs::Formats::next_by, oa_layout::specs::Formats::counted, crate::specs::Names::key))]
 fn read_key(alloc: Global, r: &mut Ndr<'_>) -> Result<Vec<Scalar>, ReadFault>
@@ -24,14 +26,13 @@ fn read_key(alloc: Global, r: &mut Ndr<'_>) -> Result<Vec<Scalar>, ReadFault>
     read_times::<ScalarFormat>(alloc, count as usize, r)
 }
 
-#[tactic(auto, unfolding(oa_layout::specs::Formats::made_where, oa_layout::specs::Formats::next_by, oa_layout::specs::Formats::times, oa_layout::specs::Formats::counted, crate::specs::Names::key))]
-fn put_key(key: &[Scalar], out: &mut Vec<u8>) -> Result<(), AllocError>
+#[tactic(auto, unfolding(oa_layout::specs::Formats::made_where, oa_layout::specs::Formats::next_by, oa_layout::specs::Formats::times, oa_layout::specs::Formats::counted, crate::specs::Names::key), using(oa_layout::specs::Windows::added_added))]
+fn put_key(key: &[Scalar], w: &mut Window, out: &mut [u8])
     requires { length key.now ≤ max_key_scalars }
-    ensures ok { OnOk result (out.new.items ≡ out.old.items ++ names.key.image key.now) }
-    ensures kept { Keeps out.old.items out.new.items }
+    ensures { Adds (names.key.image key.now) w.old w.new out.old out.new }
 {
-    put_u16(key.len() as u16, out)?;
-    put_each::<ScalarFormat>(key, out)
+    put_u16(key.len() as u16, w, out);
+    put_each::<ScalarFormat>(key, w, out)
 }
 
 /// The format of places: the interface in wire order, the DISPID as i32, how many scalars the key has as u16, the scalars.
@@ -52,12 +53,12 @@ impl ReadImage for PlaceFormat {
 }
 
 impl PutImage for PlaceFormat {
-    #[tactic(auto, unfolding(oa_layout::specs::Formats::made_where, oa_layout::specs::Formats::next_by, crate::specs::Names::place))]
-    fn put(value: &Place, out: &mut Vec<u8>) -> Result<(), AllocError> {
+    #[tactic(auto, unfolding(oa_layout::specs::Formats::made_where, oa_layout::specs::Formats::next_by, crate::specs::Names::place), using(oa_layout::specs::Windows::added_added))]
+    fn put(value: &Place, w: &mut Window, out: &mut [u8]) {
         let key = value.key();
-        put_guid(&value.interface(), out)?;
-        put_i32(value.dispid(), out)?;
-        put_key(key, out)
+        put_guid(&value.interface(), w, out);
+        put_i32(value.dispid(), w, out);
+        put_key(key, w, out)
     }
 }
 
@@ -78,10 +79,10 @@ impl ReadImage for NameFormat {
 }
 
 impl PutImage for NameFormat {
-    #[tactic(auto, unfolding(oa_layout::specs::Formats::made_where, oa_layout::specs::Formats::next_by, crate::specs::Names::name))]
-    fn put(value: &CellName, out: &mut Vec<u8>) -> Result<(), AllocError> {
-        put_u32(value.object, out)?;
-        PlaceFormat::put(&value.place, out)
+    #[tactic(auto, unfolding(oa_layout::specs::Formats::made_where, oa_layout::specs::Formats::next_by, crate::specs::Names::name), using(oa_layout::specs::Windows::added_added))]
+    fn put(value: &CellName, w: &mut Window, out: &mut [u8]) {
+        put_u32(value.object, w, out);
+        PlaceFormat::put(&value.place, w, out)
     }
 }
 
@@ -89,7 +90,7 @@ impl PutImage for NameFormat {
 fn scalars_len(scalars: &[Scalar]) -> usize
     requires few { length scalars.now ≤ max_key_scalars }
     ensures value { result ≡ length (flat_map a_scalar.image scalars.now) }
-    ensures small { result ≤ 262150 * length scalars.now }
+    ensures small { result ≤ max_scalar_bytes * length scalars.now }
 {
     let mut len = 0;
     'scalars: for scalar in scalars {

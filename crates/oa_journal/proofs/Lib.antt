@@ -1,5 +1,7 @@
 mod Appended
 mod Applied
+mod Counted
+mod Laying
 mod Opened
 mod Sealing
 mod Slices

@@ -1,19 +1,21 @@
 //! One bank, where it stands on a disk.
-ghost use Rattle.std.specs.Prelude.{◌≡◌, ◌↔◌, ◌+◌, ◌-◌, ◌^◌, ◌<◌, ◌≤◌, List, ℕ, Bool, true, false, IsTrue, length, OnOk, IfOk, IfErr};
+ghost use Rattle.std.specs.Prelude.{◌≡◌, ◌↔◌, ◌+◌, ◌*◌, ◌-◌, ◌^◌, ◌<◌, ◌≤◌, List, ℕ, Bool, true, false, IsTrue, length, OnOk, OnErr, IfOk, IfErr};
 ghost use Rattle.std.specs.Prelude.{IsErrOf};
-ghost use Rattle.oa_disk.specs.Disk.{LeavesStep, HasCounted, Follows, Torn};
+ghost use Rattle.std.specs.Int.{div_ceil};
+ghost use Rattle.oa_disk.specs.Disk.{LeavesStep, HasCounted, Counts, Follows};
 ghost use Rattle.oa_disk.specs.declared.disk.DeviceFault.{DeviceFault};
 ghost use Rattle.oa_image.specs.Tables.{is_numbered};
 ghost use Rattle.oa_table.specs.Tables.{unlocked_table};
-ghost use Rattle.oa_journal.specs.Bank.{bank_bytes, from_place, IsBank, HasLibrary};
+ghost use Rattle.oa_journal.specs.Bank.{from_place, Apart, IsBank, HasLibrary};
 ghost use Rattle.oa_journal.specs.Banks.{first_gate};
-ghost use Rattle.oa_journal.specs.Damages.{IsDamagedHeader, IsDamagedBank};
+ghost use Rattle.oa_journal.specs.Damages.{HasNoHeader, IsDamagedBank};
 ghost use Rattle.oa_journal.specs.Reads.{OnlyReads};
 ghost use Rattle.oa_journal.specs.Replies.{IsCaused};
+ghost use Rattle.oa_journal.specs.Shapes.{body_bytes, shape_of, IsShape};
 
-use crate::BANK_BYTES;
+use crate::Shape;
 use crate::frame::{append_group, lay_out};
-use crate::layout::front;
+use crate::layout::{Front, header_bytes};
 use crate::opening::{bank_at, library_at};
 use oa_disk::{DeviceFault, Disk};
 use oa_image::laws::is_table;
@@ -35,41 +37,10 @@ pub enum AppendFault {
     Device(DeviceFault),
 }
 
-/// Why a bank was not written.
-#[derive(Clone, Copy, Debug, PartialEq, Eq, Error)]
-pub enum StartFault {
-    /// There is no memory for its first bytes.
-    #[error("out of memory")]
-    Memory,
-    /// The device has failed a call.
-    #[error("device: {0}")]
-    Device(DeviceFault),
-}
-
-impl From<AllocError> for StartFault {
-    ghost use Rattle.oa_journal.specs.declared.bank.StartFault.TheVariants.{Memory};
-
-    ghost from_gives = { λ _ e. e ≡ Memory };
-
-    fn from(_: AllocError) -> StartFault {
-        StartFault::Memory
-    }
-}
-
-impl From<DeviceFault> for StartFault {
-    ghost use Rattle.oa_journal.specs.declared.bank.StartFault.TheVariants.{Device};
-
-    ghost from_gives = { λ f e. e ≡ Device f };
-
-    fn from(fault: DeviceFault) -> StartFault {
-        StartFault::Device(fault)
-    }
-}
-
 /// Why a bank was not read.
 #[derive(Clone, Copy, Debug, PartialEq, Eq, Error)]
 pub enum BankFault {
-    /// It is no bank: the place on the disk of its header, of its snapshot or of the gate of a group, which is the first that fails.
+    /// It is no bank: the place on the disk of its head, of its snapshot or of the gate of a group, which is the first that fails.
     #[error("damaged at {0}")]
     Damaged(u64),
     /// The device has failed a call.
@@ -110,80 +81,111 @@ impl From<DeviceFault> for BankFault {
     }
 }
 
-/// A bank of 16,777,216 bytes on a disk, which its calls are given: where it stands, and where in it the closed gate stands.
+/// A bank on a disk, which its calls are given: its format, where its head and its body stand, and where in the body the closed gate
+/// stands.
 #[derive(Drop, Debug, PartialEq, Eq)]
 pub struct Bank {
-    place: u64,
+    shape: Shape,
+    head: u64,
+    body: u64,
     gate: u32,
     stopped: bool,
-    ghost inside: { gate < bank_bytes },
-    ghost on_a_disk: { place + bank_bytes < 2 ^ 63 },
+    ghost known: { IsShape shape },
+    ghost inside: { gate < body_bytes shape },
+    ghost on_a_disk: { head + 32 < 2 ^ 63 },
+    ghost body_on_a_disk: { body + body_bytes shape < 2 ^ 63 },
+    ghost apart: { Apart head body (body_bytes shape) },
 }
 
 impl Bank {
     ghost use Rattle.oa_journal.specs.declared.bank.AppendFault.{AppendFault};
     ghost use Rattle.oa_journal.specs.declared.bank.BankFault.{BankFault};
-    ghost use Rattle.oa_journal.specs.declared.bank.StartFault.{StartFault};
-    ghost use Rattle.oa_journal.specs.Append.{group_of, IsAt, IsWithOrWithout, IsWith};
+    ghost use Rattle.oa_journal.specs.Append.{group_of, IsAt, IsWithOrWithout, IsWith, TornBank};
 
-    /// The bank at that place of a disk. Until it is written or read, its room is 1: no group fits.
-    pub fn at(place: u64) -> Bank
-        requires { place + bank_bytes < 2 ^ 63 }
-        ensures { IsAt place (bank_bytes - 1) false result }
+    /// The bank whose head and whose body, of so many bytes, stand at these places of a disk; in format 1, which is read alone, the body
+    /// has 16,777,184. Until it is written or read, its room is 1: no group fits.
+    pub fn at(head: u64, body: u64, size: u32) -> Bank
+        requires known { IsShape (shape_of size) }
+        requires on_a_disk { head + 32 < 2 ^ 63 }
+        requires body_on_a_disk { body + size < 2 ^ 63 }
+        requires apart { Apart head body size }
+        ensures { IsAt (shape_of size) head body (size - 1) false result }
     {
         Bank {
-            place,
-            gate: BANK_BYTES - 1,
+            shape: Shape::of(size),
+            head,
+            body,
+            gate: size - 1,
             stopped: false,
         }
     }
 
-    /// How many bytes the bank has from its closed gate on. A group of n bytes takes n + 5 of them, and leaves one at least.
+    /// How many bytes the body has from the closed gate on. A group of n bytes takes n + 5 of them, and leaves one at least.
     pub fn room(&self) -> u32
-        ensures { result ≡ bank_bytes - self.now.gate }
+        ensures { result ≡ body_bytes self.now.shape - self.now.gate }
     {
-        BANK_BYTES - self.gate
+        self.shape.body_bytes() - self.gate
     }
 
-    /// Writes the bank of a library and a table, without groups and without locks, in one write. Until it is synced, a crash may leave any
-    /// bytes there. After `Device` the bank has stopped.
+    /// How many bytes the body has.
+    pub fn size(&self) -> u32
+        ensures { result ≡ body_bytes self.now.shape }
+    {
+        self.shape.body_bytes()
+    }
+
+    /// Writes the bank of a library and a table, without groups and without locks: its head in one write, and its body in as many bytes a
+    /// write as the buffer takes. Until it is synced, a crash may leave any bytes there. Takes no memory. After an `Err`, and only then, the
+    /// bank has stopped.
     pub fn start<D: Disk>(
         &mut self,
-        alloc: Global,
         disk: &mut D,
+        buffer: &mut [u8],
         library: &[u8],
         table: &Table,
-    ) -> Result<(), StartFault>
-        requires fits { first_gate library.now table.now < bank_bytes }
+    ) -> Result<(), DeviceFault>
+        requires some { 0 < length buffer.old }
+        requires fits { first_gate library.now table.now < body_bytes self.old.shape }
         requires numbered { is_numbered table.now ≡ true }
-        requires inside { self.old.place + bank_bytes ≤ D.size_of disk.old }
+        requires inside { self.old.head + 32 ≤ D.size_of disk.old }
+        requires body_inside { self.old.body + body_bytes self.old.shape ≤ D.size_of disk.old }
 
         ensures any_moment { IsTrue (D.is_honest disk.old)
-            → LeavesStep D.moment D.image_since D.image disk.old disk.new (Torn self.old.place bank_bytes) }
+            → LeavesStep D.moment D.image_since D.image disk.old disk.new (TornBank self.old.head self.old.body (body_bytes self.old.shape)) }
         // At `Ok` it is what a read gives.
         ensures written { OnOk result (IsTrue (D.is_honest disk.old)
-            → IsBank (from_place self.old.place (D.contents disk.new)) library.now (unlocked_table table.now)
-            (first_gate library.now table.now)) }
-        ensures others { IsTrue (D.is_honest disk.old) → Torn self.old.place bank_bytes (D.contents disk.old) (D.contents disk.new) }
-        ensures bank { OnOk result (IsAt self.old.place (first_gate library.now table.now) self.old.stopped self.new) }
+            → IsBank self.old.shape (from_place self.old.head (D.contents disk.new)) (from_place self.old.body (D.contents disk.new))
+            library.now (unlocked_table table.now) (first_gate library.now table.now)) }
+        ensures others { IsTrue (D.is_honest disk.old)
+            → TornBank self.old.head self.old.body (body_bytes self.old.shape) (D.contents disk.old) (D.contents disk.new) }
+        ensures bank { OnOk result (IsAt self.old.shape self.old.head self.old.body (first_gate library.now table.now) self.old.stopped self.new) }
+        ensures buffer { length buffer.new ≡ length buffer.old }
 
-        ensures memory { IsErrOf result StartFault.Memory → (disk.new ≡ disk.old) × (self.new ≡ self.old) }
-        ensures device { (fault : DeviceFault) → IsErrOf result (StartFault.Device fault)
-            → IsAt self.old.place self.old.gate true self.new × (fault ≡ DeviceFault.Write)
-            × HasCounted (D.failures_of disk.old) (D.failures_of disk.new) }
+        ensures stopped { OnErr result (IsAt self.old.shape self.old.head self.old.body self.old.gate true self.new) }
+        ensures fault { IfErr result (λ e. e ≡ DeviceFault.Write) }
         ensures size { D.size_of disk.new ≡ D.size_of disk.old }
         ensures honest { D.is_honest disk.new ≡ D.is_honest disk.old }
-        ensures unfailed { OnOk result (D.failures_of disk.new ≡ D.failures_of disk.old) }
-        ensures failures { D.failures_of disk.old ≤ D.failures_of disk.new }
+        ensures counts { Counts (D.failures_of disk.old) (D.failures_of disk.new) result }
+        // at most a call for the head, and one for each piece of the body that the buffer takes
+        ensures calls { IsTrue (D.is_honest disk.old) → D.moment disk.new
+            ≤ D.moment disk.old + 2 * (1 + div_ceil (1 + first_gate library.now table.now) (length buffer.old)) }
     {
         is_table(table);
-        let bytes = front(alloc, library, table)?;
-        if let Err(fault) = lay_out(disk, self.place, &bytes) {
-            self.stopped = true;
-            return Err(StartFault::Device(fault));
+        let header = header_bytes(self.shape, library.len() as u32, table.image_size() as u32);
+        let mut front = Front::new(library, table);
+        let size = self.shape.body_bytes();
+        match lay_out(
+            disk, self.head, &header, self.body, buffer, &mut front, size,
+        ) {
+            Ok(count) => {
+                self.gate = (count - 1) as u32;
+                Ok(())
+            }
+            Err(fault) => {
+                self.stopped = true;
+                Err(fault)
+            }
         }
-        self.gate = (bytes.len() - 1) as u32;
-        Ok(())
     }
 
     /// Reads the bank's library. Snapshot and groups are not looked at. After `Device` the bank has stopped.
@@ -192,17 +194,19 @@ impl Bank {
         alloc: Global,
         disk: &mut D,
     ) -> Result<Vec<u8>, BankFault>
-        requires { self.old.place + bank_bytes ≤ D.size_of disk.old }
+        requires inside { self.old.head + 32 ≤ D.size_of disk.old }
+        requires body_inside { self.old.body + body_bytes self.old.shape ≤ D.size_of disk.old }
 
         ensures found { IfOk result (λ library. IsTrue (D.is_honest disk.new)
-            → HasLibrary (from_place self.old.place (D.contents disk.old)) library.items) }
+            → HasLibrary self.old.shape (from_place self.old.head (D.contents disk.old)) (from_place self.old.body (D.contents disk.old))
+            library.items) }
         ensures bank { OnOk result (self.new ≡ self.old) }
-        // `Damaged` for the header alone.
-        ensures damaged { (at : ℕ) → IsErrOf result (BankFault.Damaged at) → (self.new ≡ self.old) × (at ≡ self.old.place)
-            × (IsTrue (D.is_honest disk.new) → IsDamagedHeader (from_place self.old.place (D.contents disk.old)) 0) }
+        // `Damaged` for the head alone.
+        ensures damaged { (at : ℕ) → IsErrOf result (BankFault.Damaged at) → (self.new ≡ self.old) × (at ≡ self.old.head)
+            × (IsTrue (D.is_honest disk.new) → HasNoHeader self.old.shape (from_place self.old.head (D.contents disk.old))) }
         ensures memory { IsErrOf result BankFault.Memory → self.new ≡ self.old }
         ensures device { (fault : DeviceFault) → IsErrOf result (BankFault.Device fault)
-            → IsAt self.old.place self.old.gate true self.new × (fault ≡ DeviceFault.Read) }
+            → IsAt self.old.shape self.old.head self.old.body self.old.gate true self.new × (fault ≡ DeviceFault.Read) }
         ensures cause { IfErr result (IsCaused (D.failures_of disk.old) (D.failures_of disk.new)) }
 
         ensures reads { IsTrue (D.is_honest disk.new) → OnlyReads D.contents D.image D.moment D.image_since disk.old disk.new }
@@ -210,8 +214,10 @@ impl Bank {
         ensures honest { IsTrue (D.is_honest disk.new) → IsTrue (D.is_honest disk.old) }
         ensures unfailed { OnOk result (D.failures_of disk.new ≡ D.failures_of disk.old) }
         ensures failures { D.failures_of disk.old ≤ D.failures_of disk.new }
+        // at most two calls
+        ensures calls { IsTrue (D.is_honest disk.new) → D.moment disk.new ≤ D.moment disk.old + 4 }
     {
-        match library_at(alloc, disk, self.place) {
+        match library_at(alloc, disk, self.shape, self.head, self.body) {
             Ok(library) => Ok(library),
             Err(fault) => {
                 self.stop_after(fault);
@@ -220,25 +226,31 @@ impl Bank {
         }
     }
 
-    /// Reads the bank: its library, and its table after its groups. From then on the bank knows where its closed gate stands. After
-    /// `Device` it has stopped.
+    /// Reads the bank: its library, and its table after its groups, through this buffer, which is given back with all its bytes. From then on
+    /// the bank knows where its closed gate stands. After `Device` it has stopped.
     pub fn read_all<D: Disk>(
         &mut self,
         alloc: Global,
         disk: &mut D,
-    ) -> Result<(Vec<u8>, Table), BankFault>
-        requires { self.old.place + bank_bytes ≤ D.size_of disk.old }
+        buffer: Vec<u8>,
+    ) -> Result<(Vec<u8>, Table, Vec<u8>), BankFault>
+        requires some { 5 ≤ length buffer.items }
+        requires inside { self.old.head + 32 ≤ D.size_of disk.old }
+        requires body_inside { self.old.body + body_bytes self.old.shape ≤ D.size_of disk.old }
 
         ensures found { IfOk result (λ r. IsTrue (D.is_honest disk.new)
-            → IsBank (from_place self.old.place (D.contents disk.old)) r.0.items r.1 self.new.gate) }
+            → IsBank self.old.shape (from_place self.old.head (D.contents disk.old)) (from_place self.old.body (D.contents disk.old))
+            r.0.items r.1 self.new.gate) }
         ensures numbered { IfOk result (λ r. is_numbered r.1 ≡ true) }
-        ensures bank { OnOk result (IsAt self.old.place self.new.gate self.old.stopped self.new) }
+        ensures unlocked { IfOk result (λ r. unlocked_table r.1 ≡ r.1) }
+        ensures buffer { IfOk result (λ r. length r.2.items ≡ length buffer.items) }
+        ensures bank { OnOk result (IsAt self.old.shape self.old.head self.old.body self.new.gate self.old.stopped self.new) }
         // `Damaged` with the place on the disk of the first part that fails.
         ensures damaged { (at : ℕ) → IsErrOf result (BankFault.Damaged at) → (self.new ≡ self.old)
-            × (IsTrue (D.is_honest disk.new) → IsDamagedBank self.old.place (D.contents disk.old) at) }
+            × (IsTrue (D.is_honest disk.new) → IsDamagedBank self.old.shape self.old.head self.old.body (D.contents disk.old) at) }
         ensures memory { IsErrOf result BankFault.Memory → self.new ≡ self.old }
         ensures device { (fault : DeviceFault) → IsErrOf result (BankFault.Device fault)
-            → IsAt self.old.place self.old.gate true self.new × (fault ≡ DeviceFault.Read) }
+            → IsAt self.old.shape self.old.head self.old.body self.old.gate true self.new × (fault ≡ DeviceFault.Read) }
         ensures cause { IfErr result (IsCaused (D.failures_of disk.old) (D.failures_of disk.new)) }
 
         ensures reads { IsTrue (D.is_honest disk.new) → OnlyReads D.contents D.image D.moment D.image_since disk.old disk.new }
@@ -246,11 +258,14 @@ impl Bank {
         ensures honest { IsTrue (D.is_honest disk.new) → IsTrue (D.is_honest disk.old) }
         ensures unfailed { OnOk result (D.failures_of disk.new ≡ D.failures_of disk.old) }
         ensures failures { D.failures_of disk.old ≤ D.failures_of disk.new }
+        // at most four calls, and one for two bytes of snapshot and groups
+        ensures calls { IfOk result (λ r. IsTrue (D.is_honest disk.new)
+            → D.moment disk.new + length r.0.items ≤ D.moment disk.old + (8 + self.new.gate)) }
     {
-        match bank_at(alloc, disk, self.place) {
-            Ok((library, table, gate)) => {
+        match bank_at(alloc, disk, self.shape, self.head, self.body, buffer) {
+            Ok((library, table, gate, buffer)) => {
                 self.gate = gate;
-                Ok((library, table))
+                Ok((library, table, buffer))
             }
             Err(fault) => {
                 self.stop_after(fault);
@@ -263,7 +278,7 @@ impl Bank {
     fn stop_after(&mut self, fault: BankFault)
         ensures same { (at : ℕ) → fault ≡ BankFault.Damaged at → self.new ≡ self.old }
         ensures memory { fault ≡ BankFault.Memory → self.new ≡ self.old }
-        ensures stopped { (why : DeviceFault) → fault ≡ BankFault.Device why → IsAt self.old.place self.old.gate true self.new }
+        ensures stopped { (why : DeviceFault) → fault ≡ BankFault.Device why → IsAt self.old.shape self.old.head self.old.body self.old.gate true self.new }
     {
         if let BankFault::Device(_) = fault {
             self.stopped = true;
@@ -275,30 +290,32 @@ impl Bank {
     /// the bank has stopped.
     pub fn append<D: Disk>(&mut self, disk: &mut D, frame: &mut [u8]) -> Result<(), AppendFault>
         requires some { 5 < length frame.old }
-        requires inside { self.old.place + bank_bytes ≤ D.size_of disk.old }
+        requires inside { self.old.body + body_bytes self.old.shape ≤ D.size_of disk.old }
 
         // A crash at any moment leaves what it might have left, with the group or without it.
         ensures any_moment { IsTrue (D.is_honest disk.old)
             → LeavesStep D.moment D.image_since D.image disk.old disk.new
-            (IsWithOrWithout self.old.place self.old.gate (group_of frame.old)) }
+            (IsWithOrWithout self.old.shape self.old.head self.old.body self.old.gate (group_of frame.old)) }
         // And at `Ok` with it.
         ensures done { OnOk result (IsTrue (D.is_honest disk.old)
-            → Follows (IsWith self.old.place self.old.gate (group_of frame.old)) (D.image disk.old) (D.image disk.new)) }
-        ensures gate { OnOk result (IsAt self.old.place (self.old.gate + length frame.old) false self.new) }
+            → Follows (IsWith self.old.shape self.old.head self.old.body self.old.gate (group_of frame.old)) (D.image disk.old) (D.image disk.new)) }
+        ensures gate { OnOk result (IsAt self.old.shape self.old.head self.old.body (self.old.gate + length frame.old) false self.new) }
         ensures kept { group_of frame.new ≡ group_of frame.old }
 
-        ensures full { IsErrOf result AppendFault.Full ↔ ((self.old.stopped ≡ false) × (bank_bytes ≤ self.old.gate + length frame.old)) }
+        ensures full { IsErrOf result AppendFault.Full ↔ ((self.old.stopped ≡ false) × (body_bytes self.old.shape ≤ self.old.gate + length frame.old)) }
         ensures full_same { IsErrOf result AppendFault.Full → (disk.new ≡ disk.old) × (self.new ≡ self.old) }
         ensures stopped { IsErrOf result AppendFault.Stopped ↔ (self.old.stopped ≡ true) }
         ensures stopped_same { IsErrOf result AppendFault.Stopped → (disk.new ≡ disk.old) × (self.new ≡ self.old) }
         ensures device { (fault : DeviceFault) → IsErrOf result (AppendFault.Device fault)
-            → IsAt self.old.place self.old.gate true self.new × (fault ≡ DeviceFault.Write)
+            → IsAt self.old.shape self.old.head self.old.body self.old.gate true self.new × (fault ≡ DeviceFault.Write)
             × HasCounted (D.failures_of disk.old) (D.failures_of disk.new) }
 
         ensures size { D.size_of disk.new ≡ D.size_of disk.old }
         ensures honest { D.is_honest disk.new ≡ D.is_honest disk.old }
         ensures unfailed { OnOk result (D.failures_of disk.new ≡ D.failures_of disk.old) }
         ensures failures { D.failures_of disk.old ≤ D.failures_of disk.new }
+        // at most four calls
+        ensures calls { IsTrue (D.is_honest disk.old) → D.moment disk.new ≤ D.moment disk.old + 8 }
     {
         if self.stopped {
             return Err(AppendFault::Stopped);
@@ -306,7 +323,7 @@ impl Bank {
         if frame.len() >= self.room() as usize {
             return Err(AppendFault::Full);
         }
-        if let Err(fault) = append_group(disk, self.place, u64::from(self.gate), frame) {
+        if let Err(fault) = append_group(disk, self.body + u64::from(self.gate), frame) {
             self.stopped = true;
             return Err(AppendFault::Device(fault));
         }

@@ -4,10 +4,13 @@
 mod bank;
 mod frame;
 mod groups;
+mod head;
 pub mod laws;
 mod layout;
 mod opening;
-mod reading;
+mod shape;
+mod window;
 
-pub use bank::{AppendFault, Bank, BankFault, StartFault};
-pub use layout::{BANK_BYTES, front};
+pub use bank::{AppendFault, Bank, BankFault};
+pub use head::{Head, read_head};
+pub use shape::{AMPLE_BYTES, DEFAULT_BANK_BYTES, RESERVED_BYTES, Shape};

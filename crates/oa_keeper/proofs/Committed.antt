@@ -9,8 +9,9 @@ use Rattle.oa_image.specs.Events.{event, event_image}
 use Rattle.oa_image.proofs.Lengths.{event_bytes}
 use Rattle.oa_image.proofs.Unlocked.{brings_none}
 use Rattle.oa_journal.specs.Replays.{Replays, applied_all}
+use Rattle.oa_journal.specs.declared.shape.Shape.{Shape}
 use Rattle.oa_store.specs.Changes.{IsCommit, IsCommitted}
-use Rattle.oa_store.specs.Stores.{IsStoreAt, IsStore}
+use Rattle.oa_store.specs.Stores.{IsStoreAt, IsStoreIn}
 use Rattle.oa_table.proofs.Unlocked.{event_follows}
 use Rattle.oa_table.specs.Events.{applied}
 use Rattle.oa_table.specs.Tables.{TableValue, unlocked_table}
@@ -18,19 +19,19 @@ use Rattle.oa_table.specs.declared.event.Event.{Event}
 use Rattle.oa_table.specs.declared.fault.TableFault.{TableFault}
 use Rattle.oa_keeper.specs.Kept.{EachIs}
 
-module _ (library : List ℕ) (before after : TableValue) (chosen gate : ℕ) (group : List ℕ) (image : List ℕ → Type 0) (makes : Replays group before after) (each : EachIs image chosen gate library before) where
+module _ (library : List ℕ) (before after : TableValue) (shape : Shape) (chosen gate : ℕ) (group : List ℕ) (image : List ℕ → Type 0) (makes : Replays group before after) (each : EachIs image shape chosen gate library before) where
   -- while a group is committed, an image holds the table with it or without it
-  pub meanwhile : (c : List ℕ) → ((d : List ℕ) × image d × IsCommit chosen gate group d c) → IsStore c library before ⊎ IsStore c library after
+  pub meanwhile : (c : List ℕ) → ((d : List ℕ) × image d × IsCommit shape chosen gate group d c) → IsStoreIn shape c library before ⊎ IsStoreIn shape c library after
   meanwhile c step = ⊎_elim (λ without. inl (chosen, gate, without)) (λ with_it. inr (chosen, gate + (5 + length group), with_it)) (step.2 library before after (each step.0 step.1) makes)
 
   -- and then the one with it
-  pub at_last : (c : List ℕ) → ((d : List ℕ) × image d × IsCommitted chosen gate group d c) → IsStoreAt chosen (gate + (5 + length group)) library after c
+  pub at_last : (c : List ℕ) → ((d : List ℕ) × image d × IsCommitted shape chosen gate group d c) → IsStoreAt shape chosen (gate + (5 + length group)) library after c
   at_last c step = step.2 library before after (each step.0 step.1) makes
 
 -- no call
-pub nothing_called : {D : Type 0} (moment : D → ℕ) (image_since : D → ℕ → List ℕ → Type 0) (disk : D) (image : List ℕ → Type 0) (chosen gate : ℕ) (library : List ℕ) (held : TableValue)
-    → ((c : List ℕ) → image_since disk (moment disk) c → image c) → EachIs image chosen gate library held → LeavesOnly moment image_since disk disk (λ c. IsStore c library held)
-nothing_called moment image_since disk image chosen gate library held only each = started moment image_since disk (λ c. IsStore c library held) (λ c left. (chosen, gate, each c (only c left)))
+pub nothing_called : {D : Type 0} (moment : D → ℕ) (image_since : D → ℕ → List ℕ → Type 0) (disk : D) (image : List ℕ → Type 0) (shape : Shape) (chosen gate : ℕ) (library : List ℕ) (held : TableValue)
+    → ((c : List ℕ) → image_since disk (moment disk) c → image c) → EachIs image shape chosen gate library held → LeavesOnly moment image_since disk disk (λ c. IsStoreIn shape c library held)
+nothing_called moment image_since disk image shape chosen gate library held only each = started moment image_since disk (λ c. IsStoreIn shape c library held) (λ c left. (chosen, gate, each c (only c left)))
 
 -- no bytes make no change
 pub no_change : (group : List ℕ) (before after : TableValue) → length group ≡ 0 → Replays group before after → before ≡ after

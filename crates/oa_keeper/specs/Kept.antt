@@ -1,36 +1,42 @@
 -- What a disk holds of a table that a store keeps: a store of its library, and of all of the table but its locks.
-use Rattle.std.specs.Prelude.{◌≡◌, ◌⊎◌, ℕ, ◌-◌, ◌<◌, ◌≤◌, IsTrue, List, length, Result, Ok, Err}
+use Rattle.std.specs.Prelude.{◌≡◌, ◌⊎◌, ℕ, ◌+◌, ◌-◌, ◌<◌, ◌≤◌, IsTrue, List, length, Result, Ok, Err}
 use Rattle.oa_disk.specs.declared.disk.Disk.{Ghosts}
 use Rattle.oa_disk.specs.Disk.{LeavesOnly}
-use Rattle.oa_journal.specs.Bank.{bank_bytes}
-use Rattle.oa_store.specs.Stores.{IsStoreAt, IsStore}
+use Rattle.oa_journal.specs.declared.shape.Shape.{Shape}
+use Rattle.oa_journal.specs.Shapes.{ample_bytes, body_bytes, reserved_bytes}
+use Rattle.oa_image.specs.Tables.{table_image}
+use Rattle.oa_store.specs.Stores.{IsStoreAt, IsStoreIn}
 use Rattle.oa_store.specs.declared.store.Store.{Store}
 use Rattle.oa_table.specs.declared.event.Event.{Event}
 use Rattle.oa_table.specs.Events.{applied}
 use Rattle.oa_table.specs.Tables.{TableValue}
 use Rattle.oa_keeper.specs.declared.fault.KeepFault.{KeepFault}
 
+-- the image of the table leaves what has to be free of a bank's body of this size
+abbrev pub FitsBank : ℕ → TableValue → Type 0
+FitsBank bank table = length (table_image table) + reserved_bytes ≤ bank
+
 -- each image is a store of this library and this table, in this bank
-abbrev pub EachIs : (List ℕ → Type 0) → ℕ → ℕ → List ℕ → TableValue → Type 0
-EachIs image chosen gate library held = (c : List ℕ) → image c → IsStoreAt chosen gate library held c
+abbrev pub EachIs : (List ℕ → Type 0) → Shape → ℕ → ℕ → List ℕ → TableValue → Type 0
+EachIs image shape chosen gate library held = (c : List ℕ) → image c → IsStoreAt shape chosen gate library held c
 
 -- its disk is honest, and each image of it holds this table
 abbrev pub AllHold : {D : Type 0} {g : Ghosts D} → Store D g → TableValue → Type 0
 AllHold {D} {g} store held =
-    IsTrue (g.is_honest store.disk) × EachIs (g.image store.disk) store.chosen store.bank.gate store.library.items held
+    IsTrue (g.is_honest store.disk) × EachIs (g.image store.disk) store.bank.shape store.chosen store.bank.gate store.library.items held
 
--- a crash at any moment of a call leaves a store of this table
+-- a crash at any moment of a call leaves a store of this table, of the format and the library of before
 abbrev pub LeavesTable : {D : Type 0} {g : Ghosts D} → Store D g → Store D g → TableValue → Type 0
-LeavesTable {D} {g} old new held = LeavesOnly g.moment g.image_since old.disk new.disk (λ c. IsStore c old.library.items held)
+LeavesTable {D} {g} old new held = LeavesOnly g.moment g.image_since old.disk new.disk (λ c. IsStoreIn old.bank.shape c old.library.items held)
 
 -- or of the one table or the other
 abbrev pub LeavesEither : {D : Type 0} {g : Ghosts D} → Store D g → Store D g → TableValue → TableValue → Type 0
 LeavesEither {D} {g} old new before after =
-    LeavesOnly g.moment g.image_since old.disk new.disk (λ c. IsStore c old.library.items before ⊎ IsStore c old.library.items after)
+    LeavesOnly g.moment g.image_since old.disk new.disk (λ c. IsStoreIn old.bank.shape c old.library.items before ⊎ IsStoreIn old.bank.shape c old.library.items after)
 
 -- Where events are in hand, the bank in use has room for the greatest group.
 abbrev pub HasRoom : {D : Type 0} {g : Ghosts D} → List ℕ → Store D g → Type 0
-HasRoom frame store = 0 < length frame → 1572869 ≤ bank_bytes - store.bank.gate
+HasRoom frame store = 0 < length frame → ample_bytes ≤ body_bytes store.bank.shape - store.bank.gate
 
 -- What a change makes of the table in memory: it is made, or nothing changes.
 abbrev pub Keeps : {U : Type 0} → Event → TableValue → TableValue → Result U KeepFault → Type 0

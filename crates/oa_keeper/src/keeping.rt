@@ -1,12 +1,11 @@
 //! Changes of a table in memory that a store keeps: their events are held, and go out under one gate.
 ghost use Rattle.std.specs.Prelude.{◌≡◌, ◌⊎◌, ◌+◌, ◌-◌, ◌^◌, ◌<◌, ◌≤◌, ◌++◌, [], true, false, length, IsErr, IsErrOf, IsOk, OnErr, OnOk};
-ghost use Rattle.oa_model.specs.Limits.{max_table_bytes};
 ghost use Rattle.oa_image.specs.Events.{event_image};
 ghost use Rattle.oa_image.specs.Tables.{is_numbered, table_image};
 ghost use Rattle.oa_journal.specs.Append.{group_of};
-ghost use Rattle.oa_journal.specs.Bank.{bank_bytes};
+ghost use Rattle.oa_journal.specs.Shapes.{ample_bytes, body_bytes};
 ghost use Rattle.oa_journal.specs.Replays.{Replays};
-ghost use Rattle.oa_keeper.specs.Kept.{AllHold, HasRoom, Keeps, LeavesEither, LeavesTable};
+ghost use Rattle.oa_keeper.specs.Kept.{AllHold, FitsBank, HasRoom, Keeps, LeavesEither, LeavesTable};
 ghost use Rattle.oa_keeper.specs.declared.fault.KeepFault.{KeepFault};
 ghost use Rattle.oa_table.specs.Events.{BringsNoLocks, applied};
 ghost use Rattle.oa_table.specs.Tables.{TableValue, unlocked_table};
@@ -26,7 +25,7 @@ pub fn make_room<D: Disk>(
 ) -> Result<(), KeepFault>
     requires goes_on { store.old.stopped ≡ false }
     requires numbered { is_numbered table.now ≡ true }
-    requires fits { length (table_image table.now) ≤ max_table_bytes }
+    requires fits { FitsBank (body_bytes store.old.bank.shape) table.now }
     requires room { HasRoom frame.now store.old }
 
     // Whatever table the images hold, which is the one in memory while no event is in hand.
@@ -36,14 +35,15 @@ pub fn make_room<D: Disk>(
         → AllHold store.old committed → AllHold store.new committed }
     ensures quiet { 0 < length frame.now → (store.new.disk ≡ store.old.disk) × IsOk result }
     // No checkpoint is made that is not due.
-    ensures undue { 1572869 ≤ bank_bytes - store.old.bank.gate → (store.new.disk ≡ store.old.disk) × IsOk result }
-    ensures room { OnOk result (1572869 ≤ bank_bytes - store.new.bank.gate) }
+    ensures undue { ample_bytes ≤ body_bytes store.old.bank.shape - store.old.bank.gate → (store.new.disk ≡ store.old.disk) × IsOk result }
+    ensures room { OnOk result (ample_bytes ≤ body_bytes store.new.bank.shape - store.new.bank.gate) }
     ensures room_kept { store.new.stopped ≡ false → HasRoom frame.now store.new }
 
     ensures going { (IsErrOf result KeepFault.Write → ⊥) → store.new.stopped ≡ false }
     ensures stops { IsErrOf result KeepFault.Write → (store.new.stopped ≡ true)
         × (D.failures_of store.new.disk < 2 ^ 64 - 1 → D.failures_of store.old.disk < D.failures_of store.new.disk) }
     ensures library { store.new.library.items ≡ store.old.library.items }
+    ensures shape { store.new.bank.shape ≡ store.old.bank.shape }
     ensures honest { D.is_honest store.new.disk ≡ D.is_honest store.old.disk }
     ensures failures { D.failures_of store.old.disk ≤ D.failures_of store.new.disk }
     // No failed call goes untold.
@@ -57,7 +57,6 @@ pub fn make_room<D: Disk>(
     }
     match store.checkpoint(table) {
         Ok(()) => Ok(()),
-        Err(CheckpointFault::Memory) => Err(KeepFault::Memory),
         Err(CheckpointFault::Device(_) | CheckpointFault::Stopped) => Err(KeepFault::Write),
     }
 }
@@ -91,7 +90,7 @@ pub fn hold<D: Disk>(
 ) -> Result<(), KeepFault>
     requires goes_on { store.old.stopped ≡ false }
     requires numbered { is_numbered table.old ≡ true }
-    requires fits { length (table_image table.old) ≤ max_table_bytes }
+    requires fits { FitsBank (body_bytes store.old.bank.shape) table.old }
     requires unlocked { BringsNoLocks event }
     requires applies { IsOk (applied event table.old) }
     requires room { HasRoom frame.old store.old }
@@ -108,13 +107,14 @@ pub fn hold<D: Disk>(
     ensures quiet { 0 < length frame.old → store.new.disk ≡ store.old.disk }
     // It is the first event of a group before which a checkpoint fails.
     ensures first { IsErrOf result KeepFault.Write → length frame.old ≡ 0 }
-    ensures undue { 1572869 ≤ bank_bytes - store.old.bank.gate → store.new.disk ≡ store.old.disk }
+    ensures undue { ample_bytes ≤ body_bytes store.old.bank.shape - store.old.bank.gate → store.new.disk ≡ store.old.disk }
     ensures room { store.new.stopped ≡ false → HasRoom frame.new store.new }
 
     ensures going { (IsErrOf result KeepFault.Write → ⊥) → store.new.stopped ≡ false }
     ensures stops { IsErrOf result KeepFault.Write → (store.new.stopped ≡ true)
         × (D.failures_of store.new.disk < 2 ^ 64 - 1 → D.failures_of store.old.disk < D.failures_of store.new.disk) }
     ensures library { store.new.library.items ≡ store.old.library.items }
+    ensures shape { store.new.bank.shape ≡ store.old.bank.shape }
     ensures honest { D.is_honest store.new.disk ≡ D.is_honest store.old.disk }
     ensures failures { D.failures_of store.old.disk ≤ D.failures_of store.new.disk }
     // No failed call goes untold.
@@ -130,7 +130,7 @@ pub fn hold<D: Disk>(
 pub fn commit<D: Disk>(store: &mut Store<D>, frame: &mut Frame) -> Result<(), Broken>
     requires goes_on { store.old.stopped ≡ false }
     requires room { HasRoom frame.old store.old }
-    requires few { length frame.old ≤ 1572863 }
+    requires few { length frame.old + 6 ≤ ample_bytes }
 
     // Whatever table the images hold, and whatever the events make of it.
     ensures any_moment { (committed now : TableValue) → Replays frame.old committed now
@@ -144,6 +144,7 @@ pub fn commit<D: Disk>(store: &mut Store<D>, frame: &mut Frame) -> Result<(), Br
     ensures stops { OnErr result ((store.new.stopped ≡ true)
         × (D.failures_of store.new.disk < 2 ^ 64 - 1 → D.failures_of store.old.disk < D.failures_of store.new.disk)) }
     ensures library { store.new.library.items ≡ store.old.library.items }
+    ensures shape { store.new.bank.shape ≡ store.old.bank.shape }
     ensures honest { D.is_honest store.new.disk ≡ D.is_honest store.old.disk }
     ensures failures { D.failures_of store.old.disk ≤ D.failures_of store.new.disk }
     // No failed call goes untold.
@@ -157,7 +158,7 @@ fn commit_bytes<D: Disk>(store: &mut Store<D>, bytes: &mut Vec<u8>) -> Result<()
     requires goes_on { store.old.stopped ≡ false }
     requires len { (length bytes.old.items ≡ 0) ⊎ (5 ≤ length bytes.old.items) }
     requires room { HasRoom (group_of bytes.old.items) store.old }
-    requires few { length bytes.old.items ≤ 1572868 }
+    requires few { length bytes.old.items + 1 ≤ ample_bytes }
     ensures any_moment { (committed now : TableValue) → Replays (group_of bytes.old.items) committed now
         → AllHold store.old committed → LeavesEither store.old store.new committed now }
     ensures each { store.new.stopped ≡ false → (committed now : TableValue) → Replays (group_of bytes.old.items) committed now
@@ -168,6 +169,7 @@ fn commit_bytes<D: Disk>(store: &mut Store<D>, bytes: &mut Vec<u8>) -> Result<()
     ensures stops { OnErr result ((store.new.stopped ≡ true)
         × (D.failures_of store.new.disk < 2 ^ 64 - 1 → D.failures_of store.old.disk < D.failures_of store.new.disk)) }
     ensures library { store.new.library.items ≡ store.old.library.items }
+    ensures shape { store.new.bank.shape ≡ store.old.bank.shape }
     ensures honest { D.is_honest store.new.disk ≡ D.is_honest store.old.disk }
     ensures failures { D.failures_of store.old.disk ≤ D.failures_of store.new.disk }
     // No failed call goes untold.

@@ -5,3 +5,6 @@ pub mod TypeNumbers
 pub mod Values
 pub mod Arrays
 pub mod Variants
+pub mod Windows
+pub mod Elements
+pub mod Lengths

@@ -1,22 +1,25 @@
 //! The images of arrays.
-ghost use Rattle.std.specs.Prelude.{◌≡◌, ◌≤◌, ◌*◌, ◌++◌, All, OnOk, IfOk, length};
+ghost use Rattle.std.specs.Prelude.{◌≡◌, ◌≤◌, ◌*◌, All, IfOk, length};
 ghost use Rattle.std.specs.List.{AllByRecursion, flat_map};
 ghost use Rattle.oa_model.specs.Limits.{max_cells};
 ghost use Rattle.oa_array.specs.Arrays.{IsShape};
 ghost use Rattle.oa_array.specs.Boxes.{box_size};
 ghost use Rattle.oa_variant.specs.Scalars.{FitsType};
-ghost use Rattle.oa_layout.specs.Answers.{Answers, AnswersBy, Keeps};
+ghost use Rattle.oa_layout.specs.Answers.{Answers, AnswersBy};
 ghost use Rattle.oa_layout.specs.Arrays as arrays;
+ghost use Rattle.oa_layout.specs.Elements.{array_head, element_image};
 ghost use Rattle.oa_layout.specs.Formats.{times};
+ghost use Rattle.oa_layout.specs.Lengths.{max_scalar_bytes};
+ghost use Rattle.oa_layout.specs.Windows.{Adds};
 
-use crate::ReadFault;
 use crate::image::{PutImage, ReadImage, put_each, read_times};
 use crate::reading::{read_i32, read_u16, read_u32};
 use crate::scalar::{ScalarFormat, content_len, put_content, read_content, scalar_image_len};
 use crate::writing::{put_i32, put_u16, put_u32};
+use crate::{ReadFault, Window};
 use oa_array::{SafeArray, cell_count};
 use oa_cells::Cells;
-use oa_model::{Bound, VarType};
+use oa_model::{Bound, ValueType, VarType};
 use oa_ndr::Ndr;
 use oa_variant::Scalar;
 use std::alloc::{AllocError, Global};
@@ -38,10 +41,10 @@ impl ReadImage for BoundFormat {
 }
 
 impl PutImage for BoundFormat {
-    #[tactic(auto, unfolding(crate::specs::Formats::made_where, crate::specs::Formats::next_by, crate::specs::Arrays::bound))]
-    fn put(value: &Bound, out: &mut Vec<u8>) -> Result<(), AllocError> {
-        put_u32(value.count, out)?;
-        put_i32(value.lower, out)
+    #[tactic(auto, unfolding(crate::specs::Formats::made_where, crate::specs::Formats::next_by, crate::specs::Arrays::bound), using(crate::specs::Windows::added_added))]
+    fn put(value: &Bound, w: &mut Window, out: &mut [u8]) {
+        put_u32(value.count, w, out);
+        put_i32(value.lower, w, out)
     }
 }
 
@@ -119,46 +122,65 @@ pub(crate) fn read_array(
 }
 
 #[tactic(auto, unfolding(crate::specs::Arrays::cell_of))]
-fn put_cell(elem: VarType, s: &Scalar, out: &mut Vec<u8>) -> Result<(), AllocError>
+fn put_cell(elem: VarType, s: &Scalar, w: &mut Window, out: &mut [u8])
     requires { FitsType s.now elem }
-    ensures ok { OnOk result (out.new.items ≡ out.old.items ++ (arrays.cell_of elem).image s.now) }
-    ensures kept { Keeps out.old.items out.new.items }
+    ensures { Adds ((arrays.cell_of elem).image s.now) w.old w.new out.old out.new }
 {
     match elem {
-        VarType::Variant => ScalarFormat::put(s, out),
-        _ => put_content(s, out),
+        VarType::Variant => ScalarFormat::put(s, w, out),
+        _ => put_content(s, w, out),
     }
 }
 
-fn put_cells(elem: VarType, cells: &[Scalar], out: &mut Vec<u8>) -> Result<(), AllocError>
+fn put_cells(elem: VarType, cells: &[Scalar], w: &mut Window, out: &mut [u8])
     requires { All (λ s. FitsType s elem) cells.now }
-    ensures ok { OnOk result (out.new.items ≡ out.old.items ++ flat_map (arrays.cell_of elem).image cells.now) }
-    ensures kept { Keeps out.old.items out.new.items }
+    ensures { Adds (flat_map (arrays.cell_of elem).image cells.now) w.old w.new out.old out.new }
 {
     'cells: for s in cells {
-        put_cell(elem, s, out)?;
+        put_cell(elem, s, w, out);
     }
-    Ok(())
 }
 
 // What stands behind the number of the type.
-#[tactic(auto, unfolding(crate::specs::Formats::made_where, crate::specs::Formats::next_by, crate::specs::Formats::coded, crate::specs::Formats::times, crate::specs::Formats::counted, crate::specs::Formats::only, crate::specs::Arrays::bounds_of, crate::specs::Arrays::array_of))]
-pub(crate) fn put_array(a: &SafeArray<Scalar>, out: &mut Vec<u8>) -> Result<(), AllocError>
-    ensures ok { OnOk result (out.new.items ≡ out.old.items ++ (arrays.array_of a.now.elem).image a.now) }
-    ensures kept { Keeps out.old.items out.new.items }
+#[tactic(auto, unfolding(crate::specs::Formats::made_where, crate::specs::Formats::next_by, crate::specs::Formats::coded, crate::specs::Formats::times, crate::specs::Formats::counted, crate::specs::Formats::only, crate::specs::Arrays::bounds_of, crate::specs::Arrays::array_of), using(crate::specs::Windows::added_added))]
+pub(crate) fn put_array(a: &SafeArray<Scalar>, w: &mut Window, out: &mut [u8])
+    ensures { Adds ((arrays.array_of a.now.elem).image a.now) w.old w.new out.old out.new }
 {
     let cells = a.cells();
     let bounds = a.bounds();
-    put_u16(bounds.len() as u16, out)?;
-    put_each::<BoundFormat>(bounds, out)?;
-    put_cells(a.elem(), cells, out)
+    put_u16(bounds.len() as u16, w, out);
+    put_each::<BoundFormat>(bounds, w, out);
+    put_cells(a.elem(), cells, w, out)
+}
+
+/// Adds a cell of an array of the type by itself.
+#[tactic(auto, unfolding(crate::specs::Elements::element_image))]
+pub fn put_element(elem: VarType, s: &Scalar, w: &mut Window, out: &mut [u8])
+    ensures { Adds (element_image elem s.now) w.old w.new out.old out.new }
+{
+    match elem {
+        VarType::Variant => ScalarFormat::put(s, w, out),
+        _ => put_content(s, w, out),
+    }
+}
+
+/// Adds what stands before the cells in the image of an array.
+#[tactic(auto, unfolding(crate::specs::Formats::made_where, crate::specs::Formats::next_by, crate::specs::Formats::coded, crate::specs::Formats::times, crate::specs::Formats::counted, crate::specs::Formats::only, crate::specs::Arrays::bounds_of, crate::specs::Variants::kind, crate::specs::Elements::array_head), using(crate::specs::Windows::added_added))]
+pub fn put_array_head(a: &SafeArray<Scalar>, w: &mut Window, out: &mut [u8])
+    ensures { Adds (array_head a.now) w.old w.new out.old out.new }
+{
+    let _cells = a.cells();
+    let bounds = a.bounds();
+    put_u16(ValueType::Array(a.elem()).vt(), w, out);
+    put_u16(bounds.len() as u16, w, out);
+    put_each::<BoundFormat>(bounds, w, out)
 }
 
 #[tactic(auto, unfolding(crate::specs::Arrays::cell_of))]
 fn cell_len(elem: VarType, s: &Scalar) -> usize
     requires { FitsType s.now elem }
     ensures value { result ≡ length ((arrays.cell_of elem).image s.now) }
-    ensures small { result ≤ 262150 }
+    ensures small { result ≤ max_scalar_bytes }
 {
     match elem {
         VarType::Variant => scalar_image_len(s),
@@ -170,7 +192,7 @@ fn cells_len(elem: VarType, cells: &[Scalar]) -> usize
     requires fits { All (λ s. FitsType s elem) cells.now }
     requires few { length cells.now ≤ max_cells }
     ensures value { result ≡ length (flat_map (arrays.cell_of elem).image cells.now) }
-    ensures small { result ≤ 262150 * length cells.now }
+    ensures small { result ≤ max_scalar_bytes * length cells.now }
 {
     let mut len = 0;
     'cells: for s in cells {

@@ -1,10 +1,11 @@
 //! The images of texts, DECIMAL and scalars.
-ghost use Rattle.std.specs.Prelude.{◌≡◌, ◌≤◌, ◌++◌, length, OnOk, IfOk};
+ghost use Rattle.std.specs.Prelude.{◌≡◌, ◌≤◌, length, IfOk};
 ghost use Rattle.oa_variant.specs.Scalars.{type_of};
-ghost use Rattle.oa_layout.specs.Answers.{Answers, Keeps};
+ghost use Rattle.oa_layout.specs.Answers.{Answers};
+ghost use Rattle.oa_layout.specs.Lengths.{max_content_bytes, max_scalar_bytes};
 ghost use Rattle.oa_layout.specs.Values as values;
+ghost use Rattle.oa_layout.specs.Windows.{Adds};
 
-use crate::ReadFault;
 use crate::image::{PutImage, ReadImage};
 use crate::reading::{
     read_bytes, read_i8, read_i16, read_i32, read_i64, read_truth, read_u8, read_u16, read_u32,
@@ -13,11 +14,12 @@ use crate::reading::{
 use crate::writing::{
     put_bytes, put_i8, put_i16, put_i32, put_i64, put_truth, put_u8, put_u16, put_u32, put_u64,
 };
+use crate::{ReadFault, Window};
 use oa_bstr::Bstr;
 use oa_model::{MAX_TEXT_BYTES, VarType};
 use oa_ndr::Ndr;
 use oa_variant::{Decimal, Scalar};
-use std::alloc::{AllocError, Global};
+use std::alloc::Global;
 
 /// What stands in place of the number of bytes of the null text.
 const NULL_TEXT: u32 = 0xFFFF_FFFF;
@@ -116,54 +118,51 @@ pub(crate) fn read_content(
     })
 }
 
-#[tactic(auto, unfolding(crate::specs::Formats::tagged, crate::specs::Formats::coded, crate::specs::Formats::raw, crate::specs::Formats::nothing, crate::specs::Formats::case, crate::specs::Values::text_header, crate::specs::Values::text_of_size, crate::specs::Values::text))]
-fn put_text(text: &Bstr, out: &mut Vec<u8>) -> Result<(), AllocError>
-    ensures ok { OnOk result (out.new.items ≡ out.old.items ++ values.text.image text.now) }
-    ensures kept { Keeps out.old.items out.new.items }
+#[tactic(auto, unfolding(crate::specs::Formats::tagged, crate::specs::Formats::coded, crate::specs::Formats::raw, crate::specs::Formats::nothing, crate::specs::Formats::case, crate::specs::Values::text_header, crate::specs::Values::text_of_size, crate::specs::Values::text), using(crate::specs::Windows::added_added))]
+fn put_text(text: &Bstr, w: &mut Window, out: &mut [u8])
+    ensures { Adds (values.text.image text.now) w.old w.new out.old out.new }
 {
     if text.is_null() {
-        return put_u32(NULL_TEXT, out);
+        return put_u32(NULL_TEXT, w, out);
     }
-    put_u32(text.byte_len(), out)?;
-    put_bytes(text.as_bytes(), out)
+    put_u32(text.byte_len(), w, out);
+    put_bytes(text.as_bytes(), w, out)
 }
 
-#[tactic(auto, unfolding(crate::specs::Formats::coded, crate::specs::Formats::next_by, crate::specs::Values::decimal))]
-fn put_decimal(d: &Decimal, out: &mut Vec<u8>) -> Result<(), AllocError>
-    ensures ok { OnOk result (out.new.items ≡ out.old.items ++ values.decimal.image d.now) }
-    ensures kept { Keeps out.old.items out.new.items }
+#[tactic(auto, unfolding(crate::specs::Formats::coded, crate::specs::Formats::next_by, crate::specs::Values::decimal), using(crate::specs::Windows::added_added))]
+fn put_decimal(d: &Decimal, w: &mut Window, out: &mut [u8])
+    ensures { Adds (values.decimal.image d.now) w.old w.new out.old out.new }
 {
     let magnitude = d.magnitude();
-    put_u8(d.scale(), out)?;
-    put_truth(d.is_negative(), out)?;
-    put_u32((magnitude / ABOVE_LOW) as u32, out)?;
-    put_u64((magnitude % ABOVE_LOW) as u64, out)
+    put_u8(d.scale(), w, out);
+    put_truth(d.is_negative(), w, out);
+    put_u32((magnitude / ABOVE_LOW) as u32, w, out);
+    put_u64((magnitude % ABOVE_LOW) as u64, w, out)
 }
 
 // What stands behind the number of the type.
-#[tactic(auto, unfolding(crate::specs::Formats::nothing, crate::specs::Formats::case, crate::specs::Values::of_type))]
-pub(crate) fn put_content(s: &Scalar, out: &mut Vec<u8>) -> Result<(), AllocError>
-    ensures ok { OnOk result (out.new.items ≡ out.old.items ++ (values.of_type (type_of s.now)).image s.now) }
-    ensures kept { Keeps out.old.items out.new.items }
+#[tactic(auto, unfolding(crate::specs::Formats::nothing, crate::specs::Formats::case, crate::specs::Values::of_type), using(crate::proofs::Adding::added_none))]
+pub(crate) fn put_content(s: &Scalar, w: &mut Window, out: &mut [u8])
+    ensures { Adds ((values.of_type (type_of s.now)).image s.now) w.old w.new out.old out.new }
 {
     match s {
-        Scalar::Empty => Ok(()),
-        Scalar::Null => Ok(()),
-        Scalar::I1(x) => put_i8(*x, out),
-        Scalar::I2(x) => put_i16(*x, out),
-        Scalar::I4(x) => put_i32(*x, out),
-        Scalar::I8(x) => put_i64(*x, out),
-        Scalar::Int(x) => put_i32(*x, out),
-        Scalar::Ui1(x) => put_u8(*x, out),
-        Scalar::Ui2(x) => put_u16(*x, out),
-        Scalar::Ui4(x) => put_u32(*x, out),
-        Scalar::Ui8(x) => put_u64(*x, out),
-        Scalar::Uint(x) => put_u32(*x, out),
-        Scalar::Cy(x) => put_i64(*x, out),
-        Scalar::Bool(x) => put_truth(*x, out),
-        Scalar::Error(x) => put_u32(*x, out),
-        Scalar::Bstr(text) => put_text(text, out),
-        Scalar::Decimal(d) => put_decimal(d, out),
+        Scalar::Empty => {}
+        Scalar::Null => {}
+        Scalar::I1(x) => put_i8(*x, w, out),
+        Scalar::I2(x) => put_i16(*x, w, out),
+        Scalar::I4(x) => put_i32(*x, w, out),
+        Scalar::I8(x) => put_i64(*x, w, out),
+        Scalar::Int(x) => put_i32(*x, w, out),
+        Scalar::Ui1(x) => put_u8(*x, w, out),
+        Scalar::Ui2(x) => put_u16(*x, w, out),
+        Scalar::Ui4(x) => put_u32(*x, w, out),
+        Scalar::Ui8(x) => put_u64(*x, w, out),
+        Scalar::Uint(x) => put_u32(*x, w, out),
+        Scalar::Cy(x) => put_i64(*x, w, out),
+        Scalar::Bool(x) => put_truth(*x, w, out),
+        Scalar::Error(x) => put_u32(*x, w, out),
+        Scalar::Bstr(text) => put_text(text, w, out),
+        Scalar::Decimal(d) => put_decimal(d, w, out),
     }
 }
 
@@ -183,17 +182,17 @@ impl ReadImage for ScalarFormat {
 }
 
 impl PutImage for ScalarFormat {
-    #[tactic(auto, unfolding(crate::specs::Formats::tagged, crate::specs::Formats::coded, crate::specs::Values::vt, crate::specs::Values::scalar))]
-    fn put(value: &Scalar, out: &mut Vec<u8>) -> Result<(), AllocError> {
-        put_u16(value.var_type().vt(), out)?;
-        put_content(value, out)
+    #[tactic(auto, unfolding(crate::specs::Formats::tagged, crate::specs::Formats::coded, crate::specs::Values::vt, crate::specs::Values::scalar), using(crate::specs::Windows::added_added))]
+    fn put(value: &Scalar, w: &mut Window, out: &mut [u8]) {
+        put_u16(value.var_type().vt(), w, out);
+        put_content(value, w, out)
     }
 }
 
 #[tactic(auto, unfolding(crate::specs::Formats::tagged, crate::specs::Formats::coded, crate::specs::Formats::raw, crate::specs::Formats::nothing, crate::specs::Formats::made_where, crate::specs::Formats::case, crate::specs::Numbers::u32, crate::specs::Values::text_header, crate::specs::Values::text_of_size, crate::specs::Values::text))]
 fn text_len(text: &Bstr) -> usize
     ensures value { result ≡ length (values.text.image text.now) }
-    ensures small { result ≤ 262148 }
+    ensures small { result ≤ max_content_bytes }
 {
     if text.is_null() {
         return 4;
@@ -205,7 +204,7 @@ fn text_len(text: &Bstr) -> usize
 #[tactic(auto, unfolding(crate::specs::Formats::coded, crate::specs::Formats::raw, crate::specs::Formats::nothing, crate::specs::Formats::made_where, crate::specs::Formats::next_by, crate::specs::Formats::case, crate::specs::Values::of_type, crate::specs::Values::decimal, crate::specs::Numbers::u8, crate::specs::Numbers::u16, crate::specs::Numbers::u32, crate::specs::Numbers::u64, crate::specs::Numbers::i8, crate::specs::Numbers::i16, crate::specs::Numbers::i32, crate::specs::Numbers::i64, crate::specs::Numbers::truth))]
 pub(crate) fn content_len(s: &Scalar) -> usize
     ensures value { result ≡ length ((values.of_type (type_of s.now)).image s.now) }
-    ensures small { result ≤ 262148 }
+    ensures small { result ≤ max_content_bytes }
 {
     match s {
         Scalar::Empty | Scalar::Null => 0,
@@ -227,11 +226,11 @@ pub(crate) fn content_len(s: &Scalar) -> usize
     }
 }
 
-/// How many bytes the image of a scalar has: at most 262,150.
+/// How many bytes the image of a scalar has: at most six more than a text.
 #[tactic(auto, unfolding(crate::specs::Formats::tagged, crate::specs::Formats::coded, crate::specs::Formats::made_where, crate::specs::Numbers::u16, crate::specs::Values::vt, crate::specs::Values::scalar))]
 pub fn scalar_image_len(s: &Scalar) -> usize
     ensures value { result ≡ length (values.scalar.image s.now) }
-    ensures small { result ≤ 262150 }
+    ensures small { result ≤ max_scalar_bytes }
 {
     2 + content_len(s)
 }

@@ -1,8 +1,8 @@
 -- Parts of replies, and their lengths.
 use Rattle.std.proofs.Common.{◌≡◌, ◌≤◌, ℕ, zero, suc, ℤ, ◌-◌, ◌*◌, ◌%◌, Bool, true, false, eqb, if◌then◌else◌, List, [], ◌∷◌, ◌++◌, Result}
-use Rattle.std.proofs.Common.{Ok, Err, OnOk, length, replicate, refl, ap, ◌∙◌, append_assoc, arith}
+use Rattle.std.proofs.Common.{Ok, Err, OnErr, OnOk, length, replicate, refl, ap, ◌∙◌, append_assoc, arith}
 use Rattle.std.proofs.lemmas.Bool.{eqb-false}
-use Rattle.std.proofs.lemmas.List.{length-append, length-replicate}
+use Rattle.std.proofs.lemmas.List.{append-nil, length-append, length-replicate}
 use Rattle.std.proofs.lemmas.List.Concat.{flat_map-cons}
 use Rattle.std.specs.List.{flat_map}
 use Rattle.oa_ndr.specs.Forms.{padding}
@@ -58,3 +58,8 @@ value_small n bytes few =
 pub field_added : {E : Type 0} (r : Result (Unit {0}) E) (old whole : List ℕ) (new : Output) (put : List ℕ → List ℕ) → whole ≡ new.before ++ new.field → OnOk r (new ≡ within put (field_after old)) → OnOk r (whole ≡ old ++ put [])
 field_added (Ok u) old whole new put is h = is ∙ ap (λ (o : Output). o.before ++ o.field) h
 field_added (Err e) old whole new put is h = tt
+
+-- and one that was not
+pub field_kept : {E : Type 0} (r : Result (Unit {0}) E) (old whole : List ℕ) (new : Output) → whole ≡ new.before ++ new.field → OnErr r (new ≡ field_after old) → OnErr r (whole ≡ old)
+field_kept (Ok u) old whole new is h = tt
+field_kept (Err e) old whole new is h = is ∙ ap (λ (o : Output). o.before ++ o.field) h ∙ append-nil old

@@ -4,4 +4,5 @@ mod Judged
 pub mod LayoutLaws
 mod Lengths
 mod Refusals
+mod Replacing
 mod Requests

@@ -5,5 +5,6 @@ pub mod Asks
 pub mod Reading
 pub mod Shown
 pub mod Judging
+pub mod Replacement
 pub mod Replies
 pub mod Faults

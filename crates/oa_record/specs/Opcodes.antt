@@ -54,6 +54,10 @@ only_listed (Some opcode) = if is_listed opcode then Some opcode else None
 abbrev pub listed_opcode : ℕ → Option Opcode
 listed_opcode n = only_listed (opcode_named n)
 
+-- The number of no request: a body with it asks for another library (Replacement), which no layout describes, since its text is borrowed.
+abbrev pub replacement_opcode : ℕ
+replacement_opcode = 12
+
 -- the number at the place of the opcode
 abbrev pub opcode_at : List ℕ → ℕ
 opcode_at body = little_number 2 (drop 4 body)

@@ -64,3 +64,7 @@ ids_field ids = number_field (length ids) ++ padded (flat_map signed_word ids)
 -- a text of ASCII characters: how many, a reserved number, the UTF-16 unit of each, padding
 abbrev pub string_field : List ℕ → List ℕ
 string_field text = number_field (length text) ++ padded (flat_map half_word text)
+
+-- what a library would lose: the GUID of its interface or coclass, the DISPID of its member, a reserved number
+abbrev pub lost_field : List ℕ → ℤ → List ℕ
+lost_field guid dispid = wire_order guid ++ (signed_word dispid ++ word 0)

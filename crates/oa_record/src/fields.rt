@@ -1,10 +1,10 @@
 //! The fields of replies. Each is made as a body of its own, or added to one that is being made.
-ghost use Rattle.std.specs.Prelude.{◌≡◌, ◌↔◌, ◌<◌, ◌≤◌, ◌+◌, ◌*◌, ◌++◌, length, replicate, IfOk, IsErrOf, OnOk};
+ghost use Rattle.std.specs.Prelude.{◌≡◌, ◌↔◌, ◌<◌, ◌≤◌, ◌+◌, ◌*◌, ◌++◌, length, replicate, take, IfOk, IsErrOf, OnErr, OnOk};
 ghost use Rattle.std.specs.List.{flat_map};
 ghost use Rattle.oa_ndr.specs.Forms.{padding};
 ghost use Rattle.oa_variant.specs.declared.variant.Variant.TheVariants.{One};
 ghost use Rattle.oa_wire_variant.specs.Canon.{canon};
-ghost use Rattle.oa_record.specs.Replies.{word, half_word, signed_word, number_field, object_field, variant_field, ids_field, string_field};
+ghost use Rattle.oa_record.specs.Replies.{word, half_word, lost_field, signed_word, number_field, object_field, variant_field, ids_field, string_field};
 ghost use Rattle.oa_record.specs.declared.fault.FieldFault.TheVariants.{TooLong};
 
 use crate::FieldFault;
@@ -35,9 +35,22 @@ fn two_words(number: u32) -> [u8; 8]
 // Adds the zeros that follow so many bytes.
 fn pad(out: &mut Vec<u8>, len: usize) -> Result<(), AllocError>
     requires { len ≤ 8589934592 }
-    ensures { OnOk result (out.new.items ≡ out.old.items ++ replicate (padding 8 len) 0) }
+    ensures ok { OnOk result (out.new.items ≡ out.old.items ++ replicate (padding 8 len) 0) }
+    ensures err { OnErr result (out.new.items ≡ out.old.items) }
 {
     out.resize(out.len() + (len.next_multiple_of(8) - len), 0)
+}
+
+// Takes back what was added behind so many bytes, where a growth was refused.
+fn undone(out: &mut Vec<u8>, len: usize, added: Result<(), AllocError>) -> Result<(), AllocError>
+    ensures same { result ≡ added }
+    ensures ok { OnOk result (out.new.items ≡ out.old.items) }
+    ensures err { OnErr result (out.new.items ≡ take len out.old.items) }
+{
+    if added.is_err() {
+        out.truncate(len);
+    }
+    added
 }
 
 /// The fields of a reply that are a number: u32 number, u32 reserved.
@@ -48,48 +61,75 @@ pub fn number_field(alloc: Global, number: u32) -> Result<Vec<u8>, AllocError>
     Vec::from_slice(alloc, &two_words(number))
 }
 
-/// Adds a number as a field: u32 number, u32 reserved.
+/// Adds a number as a field: u32 number, u32 reserved. At Err `out` is as before.
 pub fn put_number_field(out: &mut Vec<u8>, number: u32) -> Result<(), AllocError>
     ensures value { OnOk result (out.new.items ≡ out.old.items ++ number_field number) }
     ensures len { OnOk result (length out.new.items ≡ length out.old.items + 8) }
+    ensures err { OnErr result (out.new.items ≡ out.old.items) }
 {
     out.extend_from_slice(&two_words(number))
 }
 
-/// Adds an object to a list of objects: u32 number, u32 reserved, the 16 bytes of its coclass's GUID.
-pub fn put_object_field(out: &mut Vec<u8>, number: u32, class: &Uuid) -> Result<(), AllocError>
+// Adds an object.
+fn add_object(out: &mut Vec<u8>, number: u32, class: &Uuid) -> Result<(), AllocError>
     ensures value { OnOk result (out.new.items ≡ out.old.items ++ object_field number class.now) }
     ensures len { OnOk result (length out.new.items ≡ length out.old.items + 24) }
+    ensures front { OnErr result (take (length out.old.items) out.new.items ≡ out.old.items) }
 {
     put_number_field(out, number)?;
     out.extend_from_slice(&guid_to_wire(class))?;
     Ok(())
 }
 
+/// Adds an object to a list of objects: u32 number, u32 reserved, the 16 bytes of its coclass's GUID. At Err `out` is as before.
+pub fn put_object_field(out: &mut Vec<u8>, number: u32, class: &Uuid) -> Result<(), AllocError>
+    ensures value { OnOk result (out.new.items ≡ out.old.items ++ object_field number class.now) }
+    ensures len { OnOk result (length out.new.items ≡ length out.old.items + 24) }
+    ensures err { OnErr result (out.new.items ≡ out.old.items) }
+{
+    let len = out.len();
+    let added = add_object(out, number, class);
+    undone(out, len, added)
+}
+
+/// The fields of a refusal that names what a library would lose: the 16 bytes of a GUID, i32 DISPID, u32 reserved.
+pub fn lost_field(alloc: Global, guid: &Uuid, dispid: i32) -> Result<Vec<u8>, AllocError>
+    ensures value { IfOk result (λ v. v.items ≡ lost_field guid.now dispid) }
+    ensures len { IfOk result (λ v. length v.items ≡ 24) }
+{
+    let mut field = Vec::with_capacity(alloc, 24)?;
+    field.extend_from_slice(&guid_to_wire(guid))?;
+    put_number_field(&mut field, dispid.cast_unsigned())?;
+    Ok(field)
+}
+
 // Adds a value of `len` bytes as a field.
 fn add_value(out: &mut Vec<u8>, value: &Variant, len: usize) -> Result<(), AllocError>
     requires counted { len ≡ length (canon value.now) }
     requires few { len ≤ 4294967264 }
-    ensures { OnOk result (out.new.items ≡ out.old.items ++ variant_field value.now) }
+    ensures ok { OnOk result (out.new.items ≡ out.old.items ++ variant_field value.now) }
+    ensures front { OnErr result (take (length out.old.items) out.new.items ≡ out.old.items) }
 {
     out.extend_from_slice(&two_words(len as u32))?;
     write_variant(value, out)?;
     pad(out, len)
 }
 
-/// Adds a value as a field: u32 count of the value's bytes, u32 reserved, these bytes, zeros up to a multiple of 8.
+/// Adds a value as a field: u32 count of the value's bytes, u32 reserved, these bytes, zeros up to a multiple of 8. At Err `out` is as before.
 ///
-/// `TooLong` for an array above 4,294,967,264 bytes on the wire, and for nothing else. At Err a first part of the field may stand at the
-/// end of `out`.
+/// `TooLong` for an array above 4,294,967,264 bytes on the wire, and for nothing else.
 pub fn put_variant_field(out: &mut Vec<u8>, value: &Variant) -> Result<(), FieldFault>
     ensures value { OnOk result (out.new.items ≡ out.old.items ++ variant_field value.now) }
+    ensures err { OnErr result (out.new.items ≡ out.old.items) }
     ensures long { IsErrOf result TooLong ↔ (4294967264 < length (canon value.now)) }
 {
     let len = wire_len(value);
     if len > MAX_VALUE_BYTES {
         return Err(FieldFault::TooLong);
     }
-    add_value(out, value, len)?;
+    let before = out.len();
+    let added = add_value(out, value, len);
+    undone(out, before, added)?;
     Ok(())
 }
 
@@ -121,7 +161,8 @@ fn one_len(value: &Scalar) -> usize
 
 // Adds the bytes of a scalar, a field of their own.
 fn add_scalar(out: &mut Vec<u8>, value: &Scalar) -> Result<(), AllocError>
-    ensures { OnOk result (out.new.items ≡ out.old.items ++ canon (One value.now)) }
+    ensures ok { OnOk result (out.new.items ≡ out.old.items ++ canon (One value.now)) }
+    ensures err { OnErr result (out.new.items ≡ out.old.items) }
 {
     let mut field = NdrOut::new(mem::replace(out, Vec::new(*out.allocator())));
     let answer = write_scalar(&mut field, value);
@@ -129,15 +170,26 @@ fn add_scalar(out: &mut Vec<u8>, value: &Scalar) -> Result<(), AllocError>
     answer
 }
 
-/// Adds a scalar as the field of a value, from where it stands.
-pub fn put_scalar_field(out: &mut Vec<u8>, value: &Scalar) -> Result<(), AllocError>
-    ensures { OnOk result (out.new.items ≡ out.old.items ++ variant_field (One value.now)) }
+// Adds a scalar as the field of a value.
+fn add_scalar_field(out: &mut Vec<u8>, value: &Scalar) -> Result<(), AllocError>
+    ensures ok { OnOk result (out.new.items ≡ out.old.items ++ variant_field (One value.now)) }
+    ensures front { OnErr result (take (length out.old.items) out.new.items ≡ out.old.items) }
 {
     let len = one_len(value);
     out.extend_from_slice(&two_words(len as u32))?;
     add_scalar(out, value)?;
     pad(out, len)?;
     Ok(())
+}
+
+/// Adds a scalar as the field of a value, from where it stands. At Err `out` is as before.
+pub fn put_scalar_field(out: &mut Vec<u8>, value: &Scalar) -> Result<(), AllocError>
+    ensures value { OnOk result (out.new.items ≡ out.old.items ++ variant_field (One value.now)) }
+    ensures err { OnErr result (out.new.items ≡ out.old.items) }
+{
+    let len = out.len();
+    let added = add_scalar_field(out, value);
+    undone(out, len, added)
 }
 
 /// The fields of a reply that are a scalar's value.
@@ -192,7 +244,8 @@ fn unit_bytes(character: u8) -> [u8; 2]
 
 // Adds the units of a text.
 fn put_units(out: &mut Vec<u8>, text: &[u8]) -> Result<(), AllocError>
-    ensures { OnOk result (out.new.items ≡ out.old.items ++ flat_map half_word text.now) }
+    ensures ok { OnOk result (out.new.items ≡ out.old.items ++ flat_map half_word text.now) }
+    ensures front { OnErr result (take (length out.old.items) out.new.items ≡ out.old.items) }
 {
     'units: for character in text {
         out.extend_from_slice(&unit_bytes(*character))?;
@@ -200,20 +253,33 @@ fn put_units(out: &mut Vec<u8>, text: &[u8]) -> Result<(), AllocError>
     Ok(())
 }
 
-/// Adds a text of ASCII characters as a string: u32 count, u32 reserved, a UTF-16 unit for each, zeros up to a multiple of 8.
+// Adds a text as a string.
+fn add_string(out: &mut Vec<u8>, text: &[u8]) -> Result<(), AllocError>
+    requires { length text.now ≤ 4294967295 }
+    ensures ok { OnOk result (out.new.items ≡ out.old.items ++ string_field text.now) }
+    ensures front { OnErr result (take (length out.old.items) out.new.items ≡ out.old.items) }
+{
+    out.extend_from_slice(&two_words(text.len() as u32))?;
+    put_units(out, text)?;
+    pad(out, 2 * text.len())?;
+    Ok(())
+}
+
+/// Adds a text of ASCII characters as a string: u32 count, u32 reserved, a UTF-16 unit for each, zeros up to a multiple of 8. At Err `out` is
+/// as before.
 ///
-/// `TooLong` for a text of more than 4,294,967,295 characters, and for nothing else. At Err a first part of the field may stand at the end
-/// of `out`.
+/// `TooLong` for a text of more than 4,294,967,295 characters, and for nothing else.
 pub fn put_string_field(out: &mut Vec<u8>, text: &[u8]) -> Result<(), FieldFault>
     ensures value { OnOk result (out.new.items ≡ out.old.items ++ string_field text.now) }
+    ensures err { OnErr result (out.new.items ≡ out.old.items) }
     ensures long { IsErrOf result TooLong ↔ (4294967295 < length text.now) }
 {
     if text.len() > u32::MAX as usize {
         return Err(FieldFault::TooLong);
     }
-    out.extend_from_slice(&two_words(text.len() as u32))?;
-    put_units(out, text)?;
-    pad(out, 2 * text.len())?;
+    let len = out.len();
+    let added = add_string(out, text);
+    undone(out, len, added)?;
     Ok(())
 }
 

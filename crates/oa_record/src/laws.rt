@@ -1,8 +1,9 @@
 //! Laws of the definitions, each the contract of a function with no work to do.
-ghost use Rattle.std.specs.Prelude.{◌≡◌, ◌≤◌, ℕ, List, Option, Some, length};
+ghost use Rattle.std.specs.Prelude.{◌≡◌, ◌≤◌, ℕ, true, List, Option, Some, length};
 ghost use Rattle.oa_record.specs.Opcodes.{number_of, opcode_at, opcode_named};
 ghost use Rattle.oa_record.specs.declared.opcode.Opcode.{Opcode as AnOpcode};
 ghost use Rattle.oa_record.specs.declared.request.Request.{Request as ARequest};
+ghost use Rattle.oa_record.specs.Replacement.{is_replacement};
 ghost use Rattle.oa_record.specs.Asks.{Asks, IsStub, IsBadVarType, request_opcode};
 
 /// No body asks two requests.
@@ -27,6 +28,11 @@ pub fn one_refusal()
 /// The opcode of what a body asks stands in it, so that a body of under 8 bytes asks nothing.
 pub fn opcode_stands()
     ensures { (body : List ℕ) (q : ARequest) → Asks body q → (8 ≤ length body) × (opcode_at body ≡ number_of (request_opcode q)) }
+{}
+
+/// A body that asks for another library is bad stub data where a request is wanted.
+pub fn a_replacement_is_no_request()
+    ensures { (body : List ℕ) → is_replacement body ≡ true → IsStub body }
 {}
 
 /// Each opcode has a number of its own, and no other number has an opcode.

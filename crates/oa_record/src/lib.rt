@@ -11,18 +11,20 @@ mod names;
 mod opcode;
 mod raw_call;
 mod reading;
+mod replacement;
 mod reply;
 mod request;
 
 pub use arguments::{Arguments, Dispids};
 pub use fault::{FieldFault, RecordFault};
 pub use fields::{
-    MAX_FIELDS_BYTES, ids_field, number_field, put_number_field, put_object_field,
+    MAX_FIELDS_BYTES, ids_field, lost_field, number_field, put_number_field, put_object_field,
     put_scalar_field, put_string_field, put_variant_field, scalar_field, string_field,
     variant_field,
 };
 pub use names::Names;
 pub use opcode::{Opcode, opcode_of};
 pub use reading::{read_request, tag_of};
+pub use replacement::{is_replacement, replacement_text};
 pub use reply::Reply;
 pub use request::{Call, CallHead, GetIds, Request};

@@ -4,6 +4,9 @@ ghost use Rattle.oa_record.specs.Opcodes.{number_of, opcode_named, is_listed, li
 
 use byteorder::{ByteOrder, LittleEndian};
 
+/// The opcode of a body that asks for another library, which is no request (`is_replacement`).
+pub(crate) const REPLACEMENT_OPCODE: u16 = 12;
+
 /// What a body asks for, as the number at its offset 4 says (this project's choice).
 #[derive(Clone, Copy, Debug, PartialEq, Eq)]
 pub enum Opcode {
@@ -101,7 +104,8 @@ impl Opcode {
     }
 }
 
-/// The opcode that stands in a body, whether it is listed or not; None for a body under 8 bytes, and for a number that is none.
+/// The opcode of a request that stands in a body, whether it is listed or not; None for a body under 8 bytes, and for a number that is none,
+/// such as that of `is_replacement`.
 pub fn opcode_of(body: &[u8]) -> Option<Opcode>
     ensures { result ≡ opcode_in body.now }
 {

@@ -3,25 +3,32 @@ use Rattle.std.proofs.Common.{◌≡◌, ◌⊎◌, ◌<◌, inl, inr, ℕ, Bool
 use Rattle.std.proofs.Common.{◌∙◌, subst, arith}
 use Rattle.oa_disk.specs.declared.disk.Disk.{Ghosts}
 use Rattle.oa_disk.specs.Moments.{chained, weakened}
-use Rattle.oa_groups.specs.Desks.{Desk, IsSettled, IsTaken}
+use Rattle.oa_groups.specs.Desks.{Desk, IsSettled, IsTaken, LeavesState}
 use Rattle.oa_groups.specs.Groups.{fills}
 use Rattle.oa_groups.specs.Served.{Goes, IsServed}
 use Rattle.oa_groups.specs.Turns.{entry}
 use Rattle.oa_groups.proofs.Takes.{goes_on, underway_ended, underway_start, underway_taken}
 use Rattle.oa_journal.specs.Replays.{Replays}
+use Rattle.oa_groups.specs.Runs.{AllHoldState, HoldsState}
+use Rattle.oa_idl.specs.Canonical.{canonical}
 use Rattle.oa_keeper.specs.Kept.{AllHold, LeavesEither, LeavesTable}
+use Rattle.oa_record.specs.Replacement.{is_replacement}
+use Rattle.oa_server.specs.SameLibrary.{plain_library, turn_bank}
 use Rattle.oa_record.specs.Replies.{ReplyValue}
-use Rattle.oa_store.specs.Stores.{IsStore}
+use Rattle.oa_journal.specs.declared.shape.Shape.{Shape}
+use Rattle.oa_journal.specs.declared.shape.Shape.TheVariants.{Two}
+use Rattle.oa_store.specs.Stores.{IsStoreIn}
 use Rattle.oa_store.specs.declared.store.Store.{Store}
 use Rattle.oa_table.specs.Tables.{TableValue}
 use Rattle.oa_server.specs.Answers.{IsAnswered}
 use Rattle.oa_server.specs.Hands.{desk}
-use Rattle.oa_server.specs.Requests.{HasTurn, IsHeldBack, bytes_of, faulted, held_of, is_done, is_starved, requests}
+use Rattle.oa_server.specs.Requests.{HasTurn, IsHeldBack, bytes_of, faulted, held_of, is_done, is_starved, requests, text_of}
 use Rattle.oa_record.specs.Asks.{Asks}
 use Rattle.oa_record.specs.declared.request.Request.{Request}
 use Rattle.oa_server.specs.States.{State}
 use Rattle.oa_server.specs.Steps.{outcome}
-use Rattle.oa_server.specs.Turns.{Turn}
+use Rattle.oa_server.specs.Turns.{Ordinary, Turn}
+use Rattle.oa_server.proofs.Renewing.{as_held}
 use Rattle.oa_server.proofs.Settled.{called_for}
 
 -- one request is a group of one
@@ -29,7 +36,7 @@ full_one : (bytes : ℕ) → fills 1 1 bytes ≡ true
 unfolding fills
 full_one bytes = refl
 
-module _ {D : Type 0} {g : Ghosts D} (only : (d : D) (c : List ℕ) → IsTrue (g.is_honest d) → g.image_since d (g.moment d) c → g.image d c) (old mid : Store D g) (was : old.stopped ≡ false) (before after : State) (body start : List ℕ) (empty : start ≡ []) (first : Goes old mid)
+module _ {D : Type 0} {g : Ghosts D} (only : (d : D) (c : List ℕ) → IsTrue (g.is_honest d) → g.image_since d (g.moment d) c → g.image d c) (old mid : Store D g) (was : old.stopped ≡ false) (before after : State) (body start : List ℕ) (empty : start ≡ []) (first : Goes old mid) (stays : mid.library.items ≡ old.library.items) (plain : is_replacement body ≡ false)
     (leaves : (committed : TableValue) → (length start ≡ 0 → held_of before ≡ committed) → AllHold old committed → LeavesTable old mid committed) where
   abbrev at_first : Desk State ReplyValue D g
   at_first = desk old before [] start
@@ -40,25 +47,43 @@ module _ {D : Type 0} {g : Ghosts D} (only : (d : D) (c : List ℕ) → IsTrue (
       let under = underway_taken requests {g = g} only at_first 1 at_first (desk new after [] events) [] [] body (reply ∷ []) (underway_start requests {g = g} only at_first 1 was refl empty) one in
       underway_ended requests {g = g} only at_first 1 (desk new after [] events) (desk new after [] events) (body ∷ []) (reply ∷ []) [] under (inl (record { none = refl; nothing = refl; store = refl; state = refl }))
 
+  -- what images hold under the library of before
+  module _ (turned : (due : ReplyValue) × Turn before body due after) (all : AllHoldState requests old before) where
+    same_text : text_of after ≡ text_of before
+    same_text = ap canonical (plain_library before after body turned.0 turned.1 plain)
+
+    same_bank : after.bank ≡ before.bank
+    same_bank = turn_bank before after body turned.0 turned.1
+
+    either_state : (c : List ℕ) → IsStoreIn old.bank.shape c old.library.items (held_of before) ⊎ IsStoreIn old.bank.shape c old.library.items (held_of after) → HoldsState requests before c ⊎ HoldsState requests after c
+    either_state c (inl one) = inl (as_held old before all (held_of before) c one)
+    either_state c (inr one) =
+        let under = subst (λ (l : List ℕ). IsStoreIn (Two before.bank) c l (held_of after)) (sym same_text) (as_held old before all (held_of after) c one) in
+        inr (subst (λ (n : ℕ). IsStoreIn (Two n) c (text_of after) (held_of after)) (sym same_bank) under)
+
+    has_state : (new : Store D g) → new.bank.shape ≡ old.bank.shape → new.library.items ≡ old.library.items → AllHold new (held_of after) → AllHoldState requests new after
+    has_state new shape kept holds = record { shape = shape ∙ all.shape ∙ ap (λ (n : ℕ). Two n) (sym same_bank); has = kept ∙ all.has ∙ sym same_text; all = holds }
+
   -- its checkpoint failed
   pub checkpoint_failed : (reply : ReplyValue) → reply ≡ faulted body → HasTurn body before after → mid.stopped ≡ true → IsAnswered old mid before after body reply
   checkpoint_failed reply told some stopped = record {
     late = λ late. absurd (true≢false (sym late ∙ was));
     going = λ no going. absurd (true≢false (sym stopped ∙ going));
     doubt = λ no yes. (told, (some.reply, some.asked.turn));
+    replaced = λ no yes alone. absurd (true≢false (sym alone ∙ plain));
     any_moment = λ no all.
-        weakened g.moment g.image_since old.disk mid.disk (λ c. IsStore c old.library.items (held_of before)) (λ c. IsStore c old.library.items (held_of before) ⊎ IsStore c old.library.items (held_of after))
-        (leaves (held_of before) (λ none. refl) all) (λ c is. inl is);
+        weakened g.moment g.image_since old.disk mid.disk (λ c. IsStoreIn old.bank.shape c old.library.items (held_of before)) (λ c. HoldsState requests before c ⊎ HoldsState requests after c)
+        (leaves (held_of before) (λ none. refl) all.all) (λ c is. either_state (some.reply, some.asked.turn) all c (inl is));
     each = λ no going. absurd (true≢false (sym stopped ∙ going));
     goes = first;
     quiet = λ no going. absurd (true≢false (sym stopped ∙ going));
     served = λ no. alone mid reply start (inr (inr (inl (record {
       was = was;
-      failed = record { reply = some.reply; event = []; turn = some.asked; first = ap length empty; none = refl; same = some.same; told_are = ap (λ (r : ReplyValue). r ∷ []) told; stopped = stopped; any_moment = leaves; goes = first };
+      failed = record { reply = some.reply; event = []; turn = some.asked; plain = plain; first = ap length empty; none = refl; same = some.same; told_are = ap (λ (r : ReplyValue). r ∷ []) told; stopped = stopped; any_moment = leaves; goes = first };
     }))));
   }
 
-  module _ (on : mid.stopped ≡ false) (new : Store D g) (due : ReplyValue) (events : List ℕ) (turn : IsHeldBack body due start events before after) (then : Goes mid new)
+  module _ (on : mid.stopped ≡ false) (new : Store D g) (due : ReplyValue) (events : List ℕ) (turn : IsHeldBack body due start events before after) (then : Goes mid new) (stays_on : new.library.items ≡ mid.library.items)
       (holds : (committed : TableValue) → (length start ≡ 0 → held_of before ≡ committed) → AllHold old committed → AllHold mid committed)
       (either : (committed now : TableValue) → Replays events committed now → AllHold mid committed → LeavesEither mid new committed now)
       (each : new.stopped ≡ false → (committed now : TableValue) → Replays events committed now → AllHold mid committed → AllHold new now)
@@ -68,12 +93,18 @@ module _ {D : Type 0} {g : Ghosts D} (only : (d : D) (c : List ℕ) → IsTrue (
         let added : events ≡ turn.event = turn.added ∙ ap (λ (l : List ℕ). l ++ turn.event) empty in
         subst (λ (l : List ℕ). Replays l (held_of before) (held_of after)) (sym added) turn.asked.replays
 
-    meanwhile : AllHold old (held_of before) → LeavesEither old new (held_of before) (held_of after)
-    meanwhile all =
-        chained g.moment g.image_since old.disk mid.disk new.disk (λ c. IsStore c old.library.items (held_of before)) (λ c. IsStore c mid.library.items (held_of before) ⊎ IsStore c mid.library.items (held_of after))
-        (λ c. IsStore c old.library.items (held_of before) ⊎ IsStore c old.library.items (held_of after)) (leaves (held_of before) (λ none. refl) all)
+    meanwhile_table : AllHold old (held_of before) → LeavesEither old new (held_of before) (held_of after)
+    meanwhile_table all =
+        chained g.moment g.image_since old.disk mid.disk new.disk (λ c. IsStoreIn old.bank.shape c old.library.items (held_of before)) (λ c. IsStoreIn mid.bank.shape c mid.library.items (held_of before) ⊎ IsStoreIn mid.bank.shape c mid.library.items (held_of after))
+        (λ c. IsStoreIn old.bank.shape c old.library.items (held_of before) ⊎ IsStoreIn old.bank.shape c old.library.items (held_of after)) (leaves (held_of before) (λ none. refl) all)
         (either (held_of before) (held_of after) replays (holds (held_of before) (λ none. refl) all)) (λ c is. inl is)
-        (λ c is. subst (λ (l : List ℕ). IsStore c l (held_of before) ⊎ IsStore c l (held_of after)) first.library is)
+        (λ c is. subst (λ (s : Shape). IsStoreIn s c old.library.items (held_of before) ⊎ IsStoreIn s c old.library.items (held_of after)) first.shape
+        (subst (λ (l : List ℕ). IsStoreIn mid.bank.shape c l (held_of before) ⊎ IsStoreIn mid.bank.shape c l (held_of after)) stays is))
+
+    meanwhile : AllHoldState requests old before → LeavesState old new (λ c. HoldsState requests before c ⊎ HoldsState requests after c)
+    meanwhile all =
+        weakened g.moment g.image_since old.disk new.disk (λ c. IsStoreIn old.bank.shape c old.library.items (held_of before) ⊎ IsStoreIn old.bank.shape c old.library.items (held_of after)) (λ c. HoldsState requests before c ⊎ HoldsState requests after c)
+        (meanwhile_table all.all) (either_state (due, turn.asked.turn) all)
 
     -- held, and then the group of one ends
     filled : (reply : ReplyValue) → IsSettled requests (reply ∷ []) (desk mid after (due ∷ []) events) (desk new after [] []) → IsServed requests 1 old new before after (body ∷ []) (reply ∷ [])
@@ -82,18 +113,22 @@ module _ {D : Type 0} {g : Ghosts D} (only : (d : D) (c : List ℕ) → IsTrue (
       reply = due;
       event = turn.event;
       mid = desk mid after (due ∷ []) events;
-      held = record { turn = turn.asked; pending = refl; events = turn.added; going = on; calls = called_for old mid body due before after start events turn calls; any_moment = leaves; each = holds; goes = first };
+      held = record { turn = turn.asked; plain = plain; pending = refl; events = turn.added; going = on; calls = called_for old mid body due before after start events turn calls; any_moment = leaves; each = holds; library = stays; goes = first };
       full = full_one (length events);
       settled = settled;
     })))
 
     -- the body makes no event
     eventless : ((request : Request) → Asks body request → bytes_of (outcome before request).event ≡ []) → turn.event ≡ []
-    eventless none = by (is_done due) refl turn.asked.turn
+    eventless none = by (is_done due) refl (ordinary turn.asked.turn)
       where
-        by : (b : Bool) → is_done due ≡ b → Turn before body due after → turn.event ≡ []
+        ordinary : Turn before body due after → Ordinary before body due after
+        ordinary (inl one) = one.turn
+        ordinary (inr one) = absurd (true≢false (sym one.kind ∙ plain))
+
+        by : (b : Bool) → is_done due ≡ b → Ordinary before body due after → turn.event ≡ []
         by false is one = turn.asked.made.undone is
-        by true is (inl one) = turn.asked.made.done one.request one.asked is ∙ none one.request one.asked
+        by true is (inl one) = turn.asked.made.done one.request plain one.asked is ∙ none one.request one.asked
         by true is (inr (inl one)) = absurd (true≢false (sym is ∙ ap is_done one.answers))
         by true is (inr (inr (inl one))) = absurd (true≢false (sym is ∙ ap is_done one.answers))
         by true is (inr (inr (inr one))) = absurd (true≢false (sym is ∙ ap is_done one.answers))
@@ -116,6 +151,7 @@ module _ {D : Type 0} {g : Ghosts D} (only : (d : D) (c : List ℕ) → IsTrue (
       late = λ late. absurd (true≢false (sym late ∙ was));
       going = λ no going. absurd (true≢false (sym stopped ∙ going));
       doubt = λ no yes. (told, (due, turn.asked.turn));
+      replaced = λ no yes alone. absurd (true≢false (sym alone ∙ plain));
       any_moment = λ no. meanwhile;
       each = λ no going. absurd (true≢false (sym stopped ∙ going));
       goes = goes_on old mid new first then;
@@ -127,6 +163,7 @@ module _ {D : Type 0} {g : Ghosts D} (only : (d : D) (c : List ℕ) → IsTrue (
         quiet = still;
         any_moment = λ committed makes all. either committed (held_of after) makes all;
         each = λ going. absurd (true≢false (sym stopped ∙ going));
+        library = stays_on;
         goes = then;
       });
     }
@@ -137,10 +174,11 @@ module _ {D : Type 0} {g : Ghosts D} (only : (d : D) (c : List ℕ) → IsTrue (
       late = λ late. absurd (true≢false (sym late ∙ was));
       going = λ no yes. turn.asked.turn;
       doubt = λ no stopped. absurd (true≢false (sym stopped ∙ going));
+      replaced = λ no yes alone. absurd (true≢false (sym alone ∙ plain));
       any_moment = λ no. meanwhile;
-      each = λ no yes all. each yes (held_of before) (held_of after) replays (holds (held_of before) (λ none. refl) all);
+      each = λ no yes all. has_state (due, turn.asked.turn) all new (goes_on old mid new first then).shape (stays_on ∙ stays) (each yes (held_of before) (held_of after) replays (holds (held_of before) (λ none. refl) all.all));
       goes = goes_on old mid new first then;
-      quiet = λ no yes none well. silent none well;
+      quiet = λ no yes none well. silent none.none well;
       served = λ no. filled due (record {
         state = refl;
         well = λ yes. (refl, refl, refl);
@@ -148,6 +186,7 @@ module _ {D : Type 0} {g : Ghosts D} (only : (d : D) (c : List ℕ) → IsTrue (
         quiet = still;
         any_moment = λ committed makes all. either committed (held_of after) makes all;
         each = λ yes committed makes all. each yes committed (held_of after) makes all;
+        library = stays_on;
         goes = then;
       });
     }

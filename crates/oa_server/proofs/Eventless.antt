@@ -25,13 +25,13 @@ use Rattle.oa_server.specs.Steps.{decided, outcome}
 module _ (old : State) (body : List ℕ) where
   -- a reply other than S_OK
   pub undone : (reply : ReplyValue) → is_done reply ≡ false → HasEvent old body reply []
-  undone reply is = record { done = λ request asked done. absurd (true≢false (sym done ∙ is)); undone = λ none. refl }
+  undone reply is = record { done = λ request plain asked done. absurd (true≢false (sym done ∙ is)); undone = λ none. refl }
 
   module _ (one_request : (body : List ℕ) (p q : Request) → Asks body p → Asks body q → p ≡ q) (request : Request) (asked : Asks body request) where
     -- an outcome without an event
     pub eventless : (due : Result Decision Refusal) (reply : ReplyValue) → decided old request ≡ due → (outcome_of old due).event ≡ None → HasEvent old body reply []
     eventless due reply is none = record {
-      done = λ other asks done. ap bytes_of (sym none) ∙ ap (λ (d : Result Decision Refusal). bytes_of (outcome_of old d).event) (sym is) ∙ ap (λ (r : Request). bytes_of (outcome old r).event) (one_request body request other asked asks);
+      done = λ other plain asks done. ap bytes_of (sym none) ∙ ap (λ (d : Result Decision Refusal). bytes_of (outcome_of old d).event) (sym is) ∙ ap (λ (r : Request). bytes_of (outcome old r).event) (one_request body request other asked asks);
       undone = λ refused. refl;
     }
 
@@ -43,10 +43,10 @@ module _ (old : State) (body : List ℕ) where
         by (Err fault) = refl
 
     -- a change that is made
-    pub has_event : (planned : Planned) (table : TableValue) (reply : ReplyValue) → decided old request ≡ Ok (decisions.Change planned.event planned.fields) → allowed planned.event old.table ≡ Ok table → is_done reply ≡ true
+    pub has_event : (planned : Planned) (table : TableValue) (reply : ReplyValue) → decided old request ≡ Ok (decisions.Change planned.event planned.fields) → allowed old.bank planned.event old.table ≡ Ok table → is_done reply ≡ true
         → HasEvent old body reply (event_image planned.event)
     has_event planned table reply is makes told = record {
-      done = λ other asks done. ap (λ (r : Result TableValue HResult). bytes_of (changed planned.event planned.fields r).event) (sym makes) ∙ ap (λ (d : Result Decision Refusal). bytes_of (outcome_of old d).event) (sym is)
+      done = λ other plain asks done. ap (λ (r : Result TableValue HResult). bytes_of (changed planned.event planned.fields r).event) (sym makes) ∙ ap (λ (d : Result Decision Refusal). bytes_of (outcome_of old d).event) (sym is)
           ∙ ap (λ (r : Request). bytes_of (outcome old r).event) (one_request body request other asked asks);
       undone = λ refused. absurd (true≢false (sym told ∙ refused));
     }

@@ -68,7 +68,12 @@ use Rattle.oa_server.specs.Redimension.{resizing, zero_with}
 use Rattle.oa_server.specs.Refusals.{◌>>=◌, known, unless}
 use Rattle.oa_server.specs.States.{State}
 use Rattle.oa_server.specs.Steps.{decided}
-use Rattle.oa_server.specs.Turns.{Run, Turn}
+use Rattle.oa_typelib.specs.Keeps.{first_lost}
+use Rattle.oa_typelib.specs.declared.keeping.Lost.{Lost}
+use Rattle.oa_fits.proofs.KeptFits.{kept_fits}
+use Rattle.oa_typelib.proofs.Losses.{keeps_all}
+use Rattle.oa_server.specs.Replacing.{Replacement, after_replacement}
+use Rattle.oa_server.specs.Turns.{Ordinary, Run, Turn}
 use Rattle.oa_server.specs.TypeInfo.{description_of}
 use Rattle.oa_server.proofs.Bound.{FitsMember, bound_fits}
 
@@ -206,7 +211,7 @@ module _ (state : State) (is : IsChecked state.library) where
       after_both (Brings state) (cell_called state call access) next (λ cell a. let for : IsFor state cell = rw a at (cell_is_for state call access is) in each cell for)
 
   decided_brings : (request : Request) → IfOk (decided state request) (Brings state)
-  decided_brings (requests.Create class) = after_both (Brings state) (class_found state class) _ (λ u a. after_both (Brings state) (fitting (allowed (events.Create state.table.next class) state.table)) _ (λ v b. rw a at (class_known state class)))
+  decided_brings (requests.Create class) = after_both (Brings state) (class_found state class) _ (λ u a. after_both (Brings state) (fitting (allowed state.bank (events.Create state.table.next class) state.table)) _ (λ v b. rw a at (class_known state class)))
   decided_brings (requests.Release number) = refl
   decided_brings (requests.GetIds call) = after_both (Brings state) (ids_found state call) _ (λ found a. tt)
   decided_brings (requests.Invoke call) = called call (accesses.Flags call.head.flags) _ (λ cell for. invoked state cell for)
@@ -239,7 +244,7 @@ module _ (event_kept : EventKept) where
   outcome_fit : (state : State) (due : Result Decision Refusal) → fits state.library state.table ≡ true → IfOk due (Brings state) → StaysFit state (after_outcome state (outcome_of state due))
   outcome_fit state (Err r) fit brings = (refl, fit)
   outcome_fit state (Ok (Answer code fields)) fit brings = (refl, fit)
-  outcome_fit state (Ok (Change event fields)) fit brings = by (allowed event state.table)
+  outcome_fit state (Ok (Change event fields)) fit brings = by (allowed state.bank event state.table)
     where
       by : (r : Result TableValue HResult) → StaysFit state (after_outcome state (changed event fields r))
       by (Ok table) = with_fit state (applied event state.table) fit (event_kept state.library state.table event fit brings)
@@ -253,17 +258,32 @@ module _ (event_kept : EventKept) where
   stays : (old new : State) → new ≡ old → fits old.library old.table ≡ true → StaysFit old new
   stays old new e fit = rw e (refl, fit)
 
-  pub turn_fit : (old new : State) (body : List ℕ) (reply : ReplyValue) → IsChecked old.library → fits old.library old.table ≡ true → Turn old body reply new → StaysFit old new
-  turn_fit old new body reply is fit (inl s) = subst (StaysFit old) (sym s.leaves) (outcome_fit old (decided old s.request) fit (decided_brings old is s.request))
-  turn_fit old new body reply is fit (inr (inl s)) = stays old new s.leaves fit
-  turn_fit old new body reply is fit (inr (inr (inl s))) = stays old new s.leaves fit
-  turn_fit old new body reply is fit (inr (inr (inr s))) = stays old new s.leaves fit
+  ordinary_fit : (old new : State) (body : List ℕ) (reply : ReplyValue) → IsChecked old.library → fits old.library old.table ≡ true → Ordinary old body reply new → StaysFit old new
+  ordinary_fit old new body reply is fit (inl s) = subst (StaysFit old) (sym s.leaves) (outcome_fit old (decided old s.request) fit (decided_brings old is s.request))
+  ordinary_fit old new body reply is fit (inr (inl s)) = stays old new s.leaves fit
+  ordinary_fit old new body reply is fit (inr (inr (inl s))) = stays old new s.leaves fit
+  ordinary_fit old new body reply is fit (inr (inr (inr s))) = stays old new s.leaves fit
 
-  pub run_fit : (old new : State) (bodies : List (List ℕ)) (replies : List ReplyValue) → IsChecked old.library → fits old.library old.table ≡ true → Run old bodies replies new → StaysFit old new
-  run_fit old new [] [] is fit r = stays old new r fit
+  abbrev pub IsFit : State → Type 0
+  IsFit state = IsChecked state.library × (fits state.library state.table ≡ true)
+
+  replacement_fit : (old new : State) (body : List ℕ) (reply : ReplyValue) → IsChecked old.library → fits old.library old.table ≡ true → Replacement old body reply new → IsFit new
+  replacement_fit old new body reply is fit (inl s) = by (first_lost s.library old.library) refl s.leaves
+    where
+      by : (lost : Option Lost) → first_lost s.library old.library ≡ lost → new ≡ after_replacement old s.library lost → IsFit new
+      by None none leaves = let checked : IsChecked s.library = (s.asked.text, s.asked.stands.1) in subst IsFit (sym leaves) (checked, kept_fits s.library old.library checked (keeps_all s.library old.library none) old.table fit)
+      by (Some lost) some leaves = subst IsFit (sym leaves) (is, fit)
+  replacement_fit old new body reply is fit (inr (inl s)) = subst IsFit (sym s.leaves) (is, fit)
+  replacement_fit old new body reply is fit (inr (inr s)) = subst IsFit (sym s.leaves) (is, fit)
+
+  pub turn_fit : (old new : State) (body : List ℕ) (reply : ReplyValue) → IsChecked old.library → fits old.library old.table ≡ true → Turn old body reply new → IsFit new
+  turn_fit old new body reply is fit (inl s) = let here = ordinary_fit old new body reply is fit s.turn in (subst IsChecked (sym here.0) is, here.1)
+  turn_fit old new body reply is fit (inr s) = replacement_fit old new body reply is fit s.turn
+
+  pub run_fit : (old new : State) (bodies : List (List ℕ)) (replies : List ReplyValue) → IsChecked old.library → fits old.library old.table ≡ true → Run old bodies replies new → IsFit new
+  run_fit old new [] [] is fit r = subst IsFit (sym r) (is, fit)
   run_fit old new [] (y ∷ ys) is fit r = absurd r
   run_fit old new (x ∷ xs) [] is fit r = absurd r
   run_fit old new (x ∷ xs) (y ∷ ys) is fit r =
       let here = turn_fit old r.0 x y is fit r.1 in
-      let rest = run_fit r.0 new xs ys (subst IsChecked (sym here.0) is) here.1 r.2 in
-      (rest.0 ∙ here.0, rest.1)
+      run_fit r.0 new xs ys here.0 here.1 r.2

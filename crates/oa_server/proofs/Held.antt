@@ -1,5 +1,5 @@
 -- A turn over a store.
-use Rattle.std.proofs.Common.{◌≡◌, inr, ℕ, ◌≤◌, ◌++◌, List, [], length, None, Ok, refl, sym, ap, ◌∙◌, subst, arith}
+use Rattle.std.proofs.Common.{◌≡◌, inl, inr, false, ℕ, ◌≤◌, ◌++◌, List, [], length, None, Ok, refl, sym, ap, ◌∙◌, subst, arith}
 use Rattle.std.proofs.lemmas.List.{append-nil}
 use Rattle.oa_model.specs.Limits.{max_event_bytes}
 use Rattle.oa_image.specs.Events.{event_image}
@@ -15,7 +15,8 @@ use Rattle.oa_server.specs.Plans.{HoldsSame, IsPlanned}
 use Rattle.oa_server.specs.Requests.{HasEvent, HasTurn, IsHeldBack, held_of}
 use Rattle.oa_server.specs.States.{State}
 use Rattle.oa_server.specs.Steps.{refusal}
-use Rattle.oa_server.specs.Turns.{Turn}
+use Rattle.oa_record.specs.Replacement.{is_replacement}
+use Rattle.oa_server.specs.Turns.{Ordinary}
 use Rattle.oa_server.proofs.Allowed.{is_allowed}
 use Rattle.oa_server.proofs.Eventless.{has_event, undone}
 use Rattle.oa_server.proofs.Planned.{done, drafted, refused}
@@ -25,15 +26,15 @@ no_events : (before after : TableValue) → after ≡ before → Replays [] befo
 no_events before after same = subst (λ (t : TableValue). Replays [] before t) (sym same) (record { events = []; are = record { are = tt; whole = refl }; makes = refl })
 
 -- a turn that changes nothing that images hold
-pub answered : (body : List ℕ) (reply : ReplyValue) (events : List ℕ) (old new : State) → Turn old body reply new → HoldsSame old new → HasEvent old body reply [] → IsHeldBack body reply events events old new
-answered body reply events old new turn same none = record {
+pub answered : (body : List ℕ) (reply : ReplyValue) (events : List ℕ) (old new : State) → is_replacement body ≡ false → Ordinary old body reply new → HoldsSame old new → HasEvent old body reply [] → IsHeldBack body reply events events old new
+answered body reply events old new plain turn same none = record {
   event = [];
-  asked = record { turn = turn; made = none; replays = no_events (held_of old) (held_of new) same.table };
+  asked = record { turn = inl (record { kind = plain; turn = turn }); made = none; replays = no_events (held_of old) (held_of new) same.table };
   added = sym (append-nil events);
   small = omega arith;
 }
 
-module _ (one_request : (body : List ℕ) (p q : Request) → Asks body p → Asks body q → p ≡ q) (old : State) (body : List ℕ) (planned : Planned) (is : IsPlanned old body planned) where
+module _ (one_request : (body : List ℕ) (p q : Request) → Asks body p → Asks body q → p ≡ q) (old : State) (body : List ℕ) (planned : Planned) (plain : is_replacement body ≡ false) (is : IsPlanned old body planned) where
   -- a change that is made
   pub held : (new : State) (reply : ReplyValue) (events events' : List ℕ) → applied planned.event old.table ≡ Ok new.table → new ≡ record old { table = new.table }
       → reply ≡ record { tag = planned.tag; code = s_ok; index = None; body = planned.fields }
@@ -43,8 +44,8 @@ module _ (one_request : (body : List ℕ) (p q : Request) → Asks body p → As
       record {
         event = event_image planned.event;
         asked = record {
-          turn = done old body planned (drafted old body planned is) new reply (is_allowed planned.event old.table new.table is.allows at).is leaves told;
-          made = has_event old body one_request is.request is.asked planned new.table reply is.decided_is (is_allowed planned.event old.table new.table is.allows at).is (rw told refl);
+          turn = inl (record { kind = plain; turn = done old body planned (drafted old body planned is) new reply (is_allowed old.bank planned.event old.table new.table is.allows at).is leaves told });
+          made = has_event old body one_request is.request is.asked planned new.table reply is.decided_is (is_allowed old.bank planned.event old.table new.table is.allows at).is (rw told refl);
           replays = replays;
         };
         added = added;
@@ -55,7 +56,7 @@ module _ (one_request : (body : List ℕ) (p q : Request) → Asks body p → As
   pub starved : (new : State) (reply : ReplyValue) (events events' : List ℕ) → new ≡ old → events' ≡ events → reply ≡ refusal planned.tag e_outofmemory None → IsHeldBack body reply events events' old new
   starved new reply events events' same none told = record {
     event = [];
-    asked = record { turn = refused old body planned (drafted old body planned is) new reply e_outofmemory (inr (refl, is.allows)) told same; made = undone old body reply (rw told refl); replays = no_events (held_of old) (held_of new) (ap held_of same) };
+    asked = record { turn = inl (record { kind = plain; turn = refused old body planned (drafted old body planned is) new reply e_outofmemory (inr (refl, is.allows)) told same }); made = undone old body reply (rw told refl); replays = no_events (held_of old) (held_of new) (ap held_of same) };
     added = none ∙ sym (append-nil events);
     small = omega arith;
   }
@@ -64,6 +65,6 @@ module _ (one_request : (body : List ℕ) (p q : Request) → Asks body p → As
   pub has_turn : (new : State) → new ≡ old → HasTurn body old new
   has_turn new same = record {
     reply = refusal planned.tag e_outofmemory None;
-    asked = record { turn = refused old body planned (drafted old body planned is) new (refusal planned.tag e_outofmemory None) e_outofmemory (inr (refl, is.allows)) refl same; made = undone old body (refusal planned.tag e_outofmemory None) refl; replays = no_events (held_of old) (held_of new) (ap held_of same) };
+    asked = record { turn = inl (record { kind = plain; turn = refused old body planned (drafted old body planned is) new (refusal planned.tag e_outofmemory None) e_outofmemory (inr (refl, is.allows)) refl same }); made = undone old body (refusal planned.tag e_outofmemory None) refl; replays = no_events (held_of old) (held_of new) (ap held_of same) };
     same = ap held_of same;
   }

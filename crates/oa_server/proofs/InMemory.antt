@@ -4,6 +4,7 @@ use Rattle.oa_disk.specs.declared.disk.Disk.{Ghosts}
 use Rattle.oa_frame.specs.Framings.{Frames}
 use Rattle.oa_frame.specs.Sessions as sessions
 use Rattle.oa_frame.specs.declared.session.Served.{Served}
+use Rattle.oa_record.specs.Replacement.{is_replacement}
 use Rattle.oa_stream.specs.Source.{Input}
 use Rattle.oa_stream.specs.Sink.{Output}
 use Rattle.oa_server.specs.declared.clerk.Clerk.{Clerk}
@@ -44,8 +45,8 @@ module _ {D : Type 0} {g : Ghosts D} where
   run_in_memory old new (body ∷ bodies) [] here run = absurd run
 
   pub session_in_memory : (f : Frames) (last : List ℕ) (input input' : Input) (out out' : Output) (old new : Clerk D g) (served : Served) → InMemory old.storage
-      → sessions.Session f taken_written ended_written last input input' out out' old new served → sessions.Session f turn_written none_held last input input' out out' old.host new.host served
+      → sessions.Session f is_replacement taken_written ended_written last input input' out out' old new served → sessions.Session f is_replacement turn_written none_held last input input' out out' old.host new.host served
   session_in_memory f last input input' out out' old new served here is =
       let runs = run_in_memory old is.mid is.bodies is.handed here is.run in
       let ended = ended_in_memory is.mid.storage new.storage is.mid.host new.host is.mid.hand new.hand is.held runs.memory is.ended in
-      session_as taken_written turn_written ended_written none_held f last input input' out out' old new old.host is.mid.host new.host served is runs.run ended
+      session_as taken_written turn_written ended_written none_held f is_replacement last input input' out out' old new old.host is.mid.host new.host served is runs.run ended

@@ -1,68 +1,70 @@
 -- What an opening finds is the state that was kept.
-use Rattle.std.proofs.Common.{◌≡◌, ℕ, List, [], ◌∷◌, Option, Some, None, Result, Ok, Err, inl, inr, refl, sym, ap, ◌∙◌}
+use Rattle.std.proofs.Common.{◌≡◌, ℕ, List, [], ◌∷◌, Option, Some, None, inl, inr, refl, sym, subst}
 use Rattle.oa_disk.specs.declared.disk.Disk.{Ghosts}
 use Rattle.oa_disk.specs.Moments.{weakened}
 use Rattle.oa_groups.specs.Groups.{joined}
-use Rattle.oa_groups.specs.Runs.{Run}
+use Rattle.oa_groups.specs.Runs.{HoldsState, Run}
 use Rattle.oa_groups.specs.Turns.{Entry}
 use Rattle.oa_groups.proofs.Calling.{session_opened}
 use Rattle.oa_idl.specs.Canonical.{canonical}
+use Rattle.oa_idl.specs.IsTree.{IsTree}
 use Rattle.oa_idl.specs.Trees.{TreeValue}
 use Rattle.oa_record.specs.Replies.{ReplyValue}
 use Rattle.oa_store.specs.OneStore.{one_store}
-use Rattle.oa_store.specs.Stores.{IsStore}
-use Rattle.oa_table.specs.declared.event.Event.{Event}
-use Rattle.oa_table.specs.declared.fault.TableFault.{TableFault}
-use Rattle.oa_table.specs.Tables.{TableValue}
-use Rattle.oa_server.specs.declared.decision.LockChange.{LockChange}
-use Rattle.oa_server.specs.Decisions.{Outcome, after_event, after_locks, after_outcome, with_table}
+use Rattle.oa_journal.specs.Shapes.{body_bytes}
+use Rattle.oa_journal.specs.declared.shape.Shape.{Shape}
+use Rattle.oa_journal.specs.declared.shape.Shape.TheVariants.{Two}
+use Rattle.oa_store.specs.Stores.{IsStoreIn}
+use Rattle.oa_typelib.specs.Keeps.{first_lost}
+use Rattle.oa_typelib.specs.declared.keeping.Lost.{Lost}
+use Rattle.oa_server.specs.Replacing.{Replacement, after_replacement}
+use Rattle.oa_server.specs.SameLibrary.{ordinary_library}
 use Rattle.oa_server.specs.Laws.{FoundIsKept, OpenedBegins}
-use Rattle.oa_server.specs.Requests.{held_of, requests}
+use Rattle.oa_server.specs.Requests.{held_of, requests, text_of}
 use Rattle.oa_server.specs.States.{State, state_of}
-use Rattle.oa_server.specs.Steps.{outcome}
+use Rattle.oa_typelib.specs.Checked.{IsChecked}
 use Rattle.oa_server.specs.Turns.{Turn}
 
--- no turn changes the library
-table_alone : (state : State) (r : Result TableValue TableFault) → (with_table state r).library ≡ state.library
-table_alone state (Ok table) = refl
-table_alone state (Err fault) = refl
+-- the library of a turn's body, and so of a run, is one that was checked
+replacement_checked : (old new : State) (body : List ℕ) (reply : ReplyValue) → Replacement old body reply new → IsChecked old.library → IsChecked new.library
+replacement_checked old new body reply (inl s) is = by (first_lost s.library old.library) s.leaves
+  where
+    by : (lost : Option Lost) → new ≡ after_replacement old s.library lost → IsChecked new.library
+    by None leaves = subst (λ (x : State). IsChecked x.library) (sym leaves) (s.asked.text, s.asked.stands.1)
+    by (Some lost) leaves = subst (λ (x : State). IsChecked x.library) (sym leaves) is
+replacement_checked old new body reply (inr (inl s)) is = subst (λ (x : State). IsChecked x.library) (sym s.leaves) is
+replacement_checked old new body reply (inr (inr s)) is = subst (λ (x : State). IsChecked x.library) (sym s.leaves) is
 
-event_alone : (state : State) (event : Option Event) → (after_event state event).library ≡ state.library
-event_alone state None = refl
-event_alone state (Some event) = table_alone state _
+turn_checked : (old new : State) (body : List ℕ) (reply : ReplyValue) → Turn old body reply new → IsChecked old.library → IsChecked new.library
+turn_checked old new body reply (inl s) is = subst IsChecked (sym (ordinary_library old new body reply s.turn)) is
+turn_checked old new body reply (inr s) is = replacement_checked old new body reply s.turn is
 
-locks_alone : (state : State) (change : Option LockChange) → (after_locks state change).library ≡ state.library
-locks_alone state None = refl
-locks_alone state (Some change) = table_alone state _
+run_checked : (old new : State) (entries : List (Entry ReplyValue)) → Run requests old entries new → IsChecked old.library → IsChecked new.library
+run_checked old new [] run is = subst (λ (x : State). IsChecked x.library) run is
+run_checked old new (asked ∷ entries) run is = run_checked run.0 new entries run.2 (turn_checked old run.0 asked.body asked.reply run.1.turn is)
 
-outcome_alone : (state : State) (o : Outcome) → (after_outcome state o).library ≡ state.library
-outcome_alone state o = locks_alone (after_event state o.event) o.locks ∙ event_alone state o.event
+pub one_size : (m n : ℕ) → Two m ≡ Two n → m ≡ n
+one_size m n e = cc
 
-library_of : State → TreeValue
-library_of state = state.library
+-- libraries of one canonical text are one
+module _ (one_tree : (text : List ℕ) (s t : TreeValue) → IsTree text s → IsTree text t → s ≡ t) (read : (t : TreeValue) → IsChecked t → IsTree (canonical t) t) where
+  pub same_library : (a b : TreeValue) → IsChecked a → IsChecked b → canonical a ≡ canonical b → a ≡ b
+  same_library a b one two text = one_tree (canonical b) a b (subst (λ (l : List ℕ). IsTree l a) text (read a one)) (read b two)
 
-turn_library : (old new : State) (body : List ℕ) (reply : ReplyValue) → Turn old body reply new → new.library ≡ old.library
-unfolding library_of
-turn_library old new body reply (inl s) = ap library_of s.leaves ∙ outcome_alone old (outcome old s.request)
-turn_library old new body reply (inr (inl s)) = ap library_of s.leaves
-turn_library old new body reply (inr (inr (inl s))) = ap library_of s.leaves
-turn_library old new body reply (inr (inr (inr s))) = ap library_of s.leaves
-
-run_library : (old new : State) (entries : List (Entry ReplyValue)) → Run requests old entries new → new.library ≡ old.library
-unfolding library_of
-run_library old new [] run = ap library_of (sym run)
-run_library old new (asked ∷ entries) run = run_library run.0 new entries run.2 ∙ turn_library old run.0 asked.body asked.reply run.1.turn
-
-pub found_again : FoundIsKept
-found_again library first count groups image table is after holds unlocked =
-    let same = one_store image (canonical library) (canonical library) (held_of after.state) table after.holds holds in rw (run_library first after.state (joined after.done) after.run ∙ is, same.table_same) refl
+  pub found_again : FoundIsKept
+  found_again bank library first count groups image table checked begins after holds unlocked =
+      let same = one_store image (text_of after.state) (canonical library) (held_of after.state) table (Two after.state.bank, after.holds) (Two bank, holds) in
+      let size : after.state.bank ≡ bank = one_size after.state.bank bank same.shape_same in
+      let text : canonical after.state.library ≡ canonical library = same.library_same in
+      let one = same_library after.state.library library (run_checked first after.state (joined after.done) after.run begins) checked text in
+      rw (size, one, same.table_same) refl
 
 -- an opening of a disk of which a crash leaves its contents alone begins a session
 pub session_begun : {D : Type 0} {g : Ghosts D} → OpenedBegins g
 session_begun {D} {g} disk library store table opened honest alone =
     let found = opened.found honest in
-    let first = state_of library table in
-    let holds : IsStore (g.contents disk) (canonical library) (held_of first) = rw found.unlocked found.contents in
-    session_opened requests {g = g} disk store (canonical library) first opened.text
-    (weakened g.moment g.image_since disk store.disk (g.image disk) (λ c. IsStore c (canonical library) (held_of first)) found.reads.moments (λ c is. rw (alone c is) holds))
-    (honest, λ c is. rw found.unlocked (found.each c is))
+    let first = state_of (body_bytes store.bank.shape) library table in
+    let holds : HoldsState requests first (g.contents disk) = rw found.unlocked (subst (λ (s : Shape). IsStoreIn s (g.contents disk) (canonical library) table) opened.shape found.contents) in
+    session_opened requests {g = g} disk store first
+    (weakened g.moment g.image_since disk store.disk (g.image disk) (HoldsState requests first) found.reads.moments (λ c is. rw (alone c is) holds))
+    (record { shape = opened.shape; has = opened.text; all = (honest, λ c is. rw found.unlocked (found.each c is)) })

@@ -21,7 +21,8 @@ module _ {D : Type 0} {g : Ghosts D} where
   late_more start old new first before after bodies replies size body told pending pending' events events' was (inl held) = absurd (true≢false (sym was.stopped ∙ held.was))
   late_more start old new first before after bodies replies size body told pending pending' events events' was (inr (inl filled)) = absurd (true≢false (sym was.stopped ∙ filled.was))
   late_more start old new first before after bodies replies size body told pending pending' events events' was (inr (inr (inl faulted))) = absurd (true≢false (sym was.stopped ∙ faulted.was))
-  late_more start old new first before after bodies replies size body told pending pending' events events' was (inr (inr (inr late))) = record {
+  late_more start old new first before after bodies replies size body told pending pending' events events' was (inr (inr (inr (inr apart)))) = absurd (true≢false (sym was.stopped ∙ apart.was))
+  late_more start old new first before after bodies replies size body told pending pending' events events' was (inr (inr (inr (inl late)))) = record {
     told = ap (λ (l : List ReplyValue). l ++ told) was.told ∙ ap (λ (l : List ReplyValue). map failed bodies ++ l) late.told_is ∙ sym (map-append failed bodies (body ∷ []));
     state = late.over.state ∙ was.state;
     disk = late.over.disk ∙ was.disk;

@@ -1,7 +1,9 @@
-pub mod Runs
+pub mod Renewing
+mod Runs
 pub mod Named
 pub mod Zeros
-pub mod Wants
+pub mod Texts
+mod Wants
 pub mod Added
 pub mod Refused
 pub mod Keys
@@ -26,6 +28,7 @@ pub mod Put
 pub mod Retold
 pub mod InMemory
 pub mod Grouping
+pub mod Apart
 pub mod Talking
 pub mod Beginning
 pub mod Parting

@@ -1,8 +1,9 @@
 -- No step answers a code that tells of the device.
-use Rattle.std.proofs.Common.{◌≡◌, inl, inr, ℕ, ◌+◌, Bool, true, false, if◌then◌else◌, List, [], ◌∷◌, Option, Some, None, Result, Ok, Err}
+use Rattle.std.proofs.Common.{◌≡◌, ◌-◌, inl, inr, ℕ, ◌+◌, Bool, true, false, if◌then◌else◌, List, [], ◌∷◌, Option, Some, None, Result, Ok, Err}
 use Rattle.std.proofs.Common.{refl, sym, ap, ◌∙◌}
 use Rattle.std.specs.Prelude.{ℤ, nat_lt, ⊤, length}
-use Rattle.oa_model.specs.Limits.{max_event_bytes, max_table_bytes}
+use Rattle.oa_journal.specs.Shapes.{reserved_bytes}
+use Rattle.oa_model.specs.Limits.{max_event_bytes}
 use Rattle.oa_array.specs.Arrays.{ArrayValue}
 use Rattle.oa_array.specs.Faults.{code_of as array_code}
 use Rattle.oa_array.specs.declared.fault.ArrayFault.{ArrayFault}
@@ -84,7 +85,10 @@ use Rattle.oa_server.specs.Redimension.{resizing, zero_with}
 use Rattle.oa_server.specs.Refusals.{◌>>=◌, known, unless}
 use Rattle.oa_server.specs.States.{State}
 use Rattle.oa_server.specs.Steps.{decided, reply_of}
-use Rattle.oa_server.specs.Turns.{Turn}
+use Rattle.oa_typelib.specs.Keeps.{first_lost}
+use Rattle.oa_typelib.specs.declared.keeping.Lost.{Lost}
+use Rattle.oa_server.specs.Replacing.{Replacement, replacement_reply}
+use Rattle.oa_server.specs.Turns.{Ordinary, Turn}
 
 -- a refusal's code is own
 abbrev Own : {A : Type 0} → Result A Refusal → Type 0
@@ -270,9 +274,9 @@ refused_own (Ok x) = tt
 refused_own (Err fault) = table_own fault
 
 -- what an event is refused for
-limits_own : (event : Event) (new : TableValue) → (code : HResult) → within_limits event new ≡ Err code → is_own code ≡ true
-limits_own event new code is = by (nat_lt max_event_bytes (length (event_image event)))
-    (nat_lt max_table_bytes (length (table_image new))) is
+limits_own : (bank : ℕ) (event : Event) (new : TableValue) → (code : HResult) → within_limits bank event new ≡ Err code → is_own code ≡ true
+limits_own bank event new code is = by (nat_lt max_event_bytes (length (event_image event)))
+    (nat_lt (bank - reserved_bytes) (length (table_image new))) is
   where
     same : (a b : HResult) → err a ≡ err b → a ≡ b
     same a b e = cc
@@ -282,14 +286,14 @@ limits_own event new code is = by (nat_lt max_event_bytes (length (event_image e
     by false true is = ap is_own (sym (same stg_e_mediumfull code is))
     by false false is = absurd cc
 
-allowed_own : (event : Event) (table : TableValue) (code : HResult) → allowed event table ≡ Err code → is_own code ≡ true
-allowed_own event table code is = by (applied event table) is
+allowed_own : (bank : ℕ) (event : Event) (table : TableValue) (code : HResult) → allowed bank event table ≡ Err code → is_own code ≡ true
+allowed_own bank event table code is = by (applied event table) is
   where
     same : (a b : HResult) → err a ≡ err b → a ≡ b
     same a b e = cc
 
-    by : (due : Result TableValue TableFault) → limited event due ≡ Err code → is_own code ≡ true
-    by (Ok new) is = limits_own event new code is
+    by : (due : Result TableValue TableFault) → limited bank event due ≡ Err code → is_own code ≡ true
+    by (Ok new) is = limits_own bank event new code is
     by (Err fault) is = ap is_own (sym (same (table_code fault) code is)) ∙ table_own fault
 
 ids_own : (state : State) (call : GetIds) → Own (ids_found state call)
@@ -300,11 +304,11 @@ ids_own state call = then_own (interface_found state call.object call.interface 
 decided_own : (state : State) (request : Request) → OwnDecision (decided state request)
 decided_own state (requests.Create class) =
     then_decides (class_found state class) _ (then_own (known regdb_e_classnotreg (class_of state.library class)) _ (known_own regdb_e_classnotreg (class_of state.library class) refl) (λ _. unless_own e_unexpected (is_full state.table) refl))
-    (λ _. then_decides (fitting (allowed (events.Create state.table.next class) state.table)) _ (fits (allowed (events.Create state.table.next class) state.table) refl) (λ _. tt))
+    (λ _. then_decides (fitting (allowed state.bank (events.Create state.table.next class) state.table)) _ (fits (allowed state.bank (events.Create state.table.next class) state.table) refl) (λ _. tt))
   where
-    fits : (due : Result TableValue HResult) → allowed (events.Create state.table.next class) state.table ≡ due → Own (fitting due)
+    fits : (due : Result TableValue HResult) → allowed state.bank (events.Create state.table.next class) state.table ≡ due → Own (fitting due)
     fits (Ok table) is = tt
-    fits (Err code) is = allowed_own (events.Create state.table.next class) state.table code is
+    fits (Err code) is = allowed_own state.bank (events.Create state.table.next class) state.table code is
 decided_own state (requests.Release number) = tt
 decided_own state (requests.GetIds call) = then_decides (ids_found state call) _ (ids_own state call) (λ ids. told ids.all_known)
   where
@@ -337,11 +341,11 @@ decided_own state requests.Objects = refl
 outcome_own : (state : State) (due : Result Decision Refusal) → OwnDecision due → is_own (outcome_of state due).code ≡ true
 outcome_own state (Err r) own = own
 outcome_own state (Ok (Answer code fields)) own = own
-outcome_own state (Ok (Change event fields)) own = by (allowed event state.table) refl
+outcome_own state (Ok (Change event fields)) own = by (allowed state.bank event state.table) refl
   where
-    by : (due : Result TableValue HResult) → allowed event state.table ≡ due → is_own (changed event fields due).code ≡ true
+    by : (due : Result TableValue HResult) → allowed state.bank event state.table ≡ due → is_own (changed event fields due).code ≡ true
     by (Ok table) is = refl
-    by (Err code) is = allowed_own event state.table code is
+    by (Err code) is = allowed_own state.bank event state.table code is
 outcome_own state (Ok (Relock change fields)) own = by (relocked change state.table)
   where
     by : (due : Result TableValue TableFault) → is_own (relocking change fields due).code ≡ true
@@ -351,8 +355,21 @@ outcome_own state (Ok (Relock change fields)) own = by (relocked change state.ta
 pub step_own : (state : State) (tag : ℕ) (request : Request) → is_own (reply_of state tag request).code ≡ true
 step_own state tag request = outcome_own state (decided state request) (decided_own state request)
 
+ordinary_own : (old : State) (body : List ℕ) (reply : ReplyValue) (new : State) → Ordinary old body reply new → is_own reply.code ≡ true
+ordinary_own old body reply new (inl it) = ap (λ (r : ReplyValue). is_own r.code) it.answers ∙ step_own old (tag_at body) it.request
+ordinary_own old body reply new (inr (inl it)) = ap (λ (r : ReplyValue). is_own r.code) it.answers
+ordinary_own old body reply new (inr (inr (inl it))) = ap (λ (r : ReplyValue). is_own r.code) it.answers
+ordinary_own old body reply new (inr (inr (inr it))) = ap (λ (r : ReplyValue). is_own r.code) it.answers
+
+lost_own : (tag : ℕ) (lost : Option Lost) → is_own (replacement_reply tag lost).code ≡ true
+lost_own tag None = refl
+lost_own tag (Some lost) = refl
+
+replacement_own : (old : State) (body : List ℕ) (reply : ReplyValue) (new : State) → Replacement old body reply new → is_own reply.code ≡ true
+replacement_own old body reply new (inl it) = ap (λ (r : ReplyValue). is_own r.code) it.answers ∙ lost_own (tag_at body) (first_lost it.library old.library)
+replacement_own old body reply new (inr (inl it)) = ap (λ (r : ReplyValue). is_own r.code) it.answers
+replacement_own old body reply new (inr (inr it)) = ap (λ (r : ReplyValue). is_own r.code) it.answers
+
 pub turn_own : (old : State) (body : List ℕ) (reply : ReplyValue) (new : State) → Turn old body reply new → is_own reply.code ≡ true
-turn_own old body reply new (inl it) = ap (λ (r : ReplyValue). is_own r.code) it.answers ∙ step_own old (tag_at body) it.request
-turn_own old body reply new (inr (inl it)) = ap (λ (r : ReplyValue). is_own r.code) it.answers
-turn_own old body reply new (inr (inr (inl it))) = ap (λ (r : ReplyValue). is_own r.code) it.answers
-turn_own old body reply new (inr (inr (inr it))) = ap (λ (r : ReplyValue). is_own r.code) it.answers
+turn_own old body reply new (inl it) = ordinary_own old body reply new it.turn
+turn_own old body reply new (inr it) = replacement_own old body reply new it.turn

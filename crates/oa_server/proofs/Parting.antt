@@ -24,9 +24,9 @@ module _ {D : Type 0} {g : Ghosts D} where
   IsGoing (Memory disk) = ⊤
   IsGoing (Disk store) = store.stopped ≡ false
 
-  abbrev SitsAt : D → Storage D g → List ℕ → State → State → List (Call ReplyValue) → Type 0
-  SitsAt start (Memory disk) library first last calls = ⊥
-  SitsAt start (Disk store) library first last calls = Sitting requests start store library first last calls
+  abbrev SitsAt : D → Storage D g → State → State → List (Call ReplyValue) → Type 0
+  SitsAt start (Memory disk) first last calls = ⊥
+  SitsAt start (Disk store) first last calls = Sitting requests start store first last calls
 
   went_before : (size : ℕ) (store : Store D g) (there : Storage D g) (before after : State) (part : Part) → (store.stopped ≡ false) ⊎ (store.stopped ≡ true) → Serves size (Disk store) there before part.bodies part.told after
       → IsGoing there → store.stopped ≡ false
@@ -41,24 +41,24 @@ module _ {D : Type 0} {g : Ghosts D} where
   goes_before size (Disk store) new state after (part ∷ parts) is going =
       went_before size store is.0 state is.1 part (either store.stopped) is.2.serves (goes_before size is.0 new is.1 after parts is.3 going)
 
-  one_more : (start : D) (mid : Store D g) (there : Storage D g) (library : List ℕ) (first last after : State) (calls : List (Call ReplyValue)) (size : ℕ) (part : Part) → Sitting requests start mid library first last calls
-      → Serves size (Disk mid) there last part.bodies part.told after → mid.stopped ≡ false → IsGoing there → SitsAt start there library first after (calls ++ record { size = size; bodies = part.bodies; replies = part.told } ∷ [])
-  one_more start mid (Memory disk) library first last after calls size part sits serves was going = absurd serves
-  one_more start mid (Disk new) library first last after calls size part sits serves was going =
-      session_goes_on requests {g = g} start mid new library first last after calls (record { size = size; bodies = part.bodies; replies = part.told }) sits (serves.served was) going
+  one_more : (start : D) (mid : Store D g) (there : Storage D g) (first last after : State) (calls : List (Call ReplyValue)) (size : ℕ) (part : Part) → Sitting requests start mid first last calls
+      → Serves size (Disk mid) there last part.bodies part.told after → mid.stopped ≡ false → IsGoing there → SitsAt start there first after (calls ++ record { size = size; bodies = part.bodies; replies = part.told } ∷ [])
+  one_more start mid (Memory disk) first last after calls size part sits serves was going = absurd serves
+  one_more start mid (Disk new) first last after calls size part sits serves was going =
+      session_goes_on requests {g = g} start mid new first last after calls (record { size = size; bodies = part.bodies; replies = part.told }) sits (serves.served was) going
 
-  parts_at : (start : D) (there : Storage D g) (new : Store D g) (library : List ℕ) (first last after : State) (calls : List (Call ReplyValue)) (size : ℕ) (parts : List Part) → SitsAt start there library first last calls
-      → Parts size there (Disk new) last parts after → new.stopped ≡ false → Sitting requests start new library first after (calls ++ calls_of size parts)
-  parts_at start (Memory disk) new library first last after calls size parts sits is going = absurd sits
-  parts_at start (Disk mid) new library first last after calls size [] sits is going =
-      subst (λ (s : Store D g). Sitting requests start s library first after (calls ++ [])) (sym (same_store new mid is.0))
-      (subst (λ (s : State). Sitting requests start mid library first s (calls ++ [])) (sym is.1) (subst (λ (l : List (Call ReplyValue)). Sitting requests start mid library first last l) (sym (append-nil calls)) sits))
-  parts_at start (Disk mid) new library first last after calls size (part ∷ parts) sits is going =
+  parts_at : (start : D) (there : Storage D g) (new : Store D g) (first last after : State) (calls : List (Call ReplyValue)) (size : ℕ) (parts : List Part) → SitsAt start there first last calls
+      → Parts size there (Disk new) last parts after → new.stopped ≡ false → Sitting requests start new first after (calls ++ calls_of size parts)
+  parts_at start (Memory disk) new first last after calls size parts sits is going = absurd sits
+  parts_at start (Disk mid) new first last after calls size [] sits is going =
+      subst (λ (s : Store D g). Sitting requests start s first after (calls ++ [])) (sym (same_store new mid is.0))
+      (subst (λ (s : State). Sitting requests start mid first s (calls ++ [])) (sym is.1) (subst (λ (l : List (Call ReplyValue)). Sitting requests start mid first last l) (sym (append-nil calls)) sits))
+  parts_at start (Disk mid) new first last after calls size (part ∷ parts) sits is going =
       let call : Call ReplyValue = record { size = size; bodies = part.bodies; replies = part.told } in
       let there = goes_before size is.0 new is.1 after parts is.3 going in
       let here = went_before size mid is.0 last is.1 part (either mid.stopped) is.2.serves there in
-      subst (λ (l : List (Call ReplyValue)). Sitting requests start new library first after l) (append_assoc calls (call ∷ []) (calls_of size parts))
-      (parts_at start is.0 new library first is.1 after (calls ++ call ∷ []) size parts (one_more start mid is.0 library first last is.1 calls size part sits is.2.serves here there) is.3 going)
+      subst (λ (l : List (Call ReplyValue)). Sitting requests start new first after l) (append_assoc calls (call ∷ []) (calls_of size parts))
+      (parts_at start is.0 new first is.1 after (calls ++ call ∷ []) size parts (one_more start mid is.0 first last is.1 calls size part sits is.2.serves here there) is.3 going)
 
   pub parts_go_on : PartsGoOn g
-  parts_go_on start mid new library first last after calls size parts sits is going = parts_at start (Disk mid) new library first last after calls size parts sits is going
+  parts_go_on start mid new first last after calls size parts sits is going = parts_at start (Disk mid) new first last after calls size parts sits is going

@@ -8,7 +8,7 @@ use Rattle.oa_server.specs.Limits.{allowed}
 use Rattle.oa_server.specs.Plans.{IsDrafted, IsPlanned}
 use Rattle.oa_server.specs.States.{State}
 use Rattle.oa_server.specs.Steps.{refusal}
-use Rattle.oa_server.specs.Turns.{Turn}
+use Rattle.oa_server.specs.Turns.{Ordinary}
 use Rattle.oa_server.proofs.Allowed.{is_made}
 use Rattle.oa_server.proofs.Wants.{wants}
 
@@ -16,14 +16,14 @@ pub drafted : (old : State) (body : List ℕ) (planned : Planned) → IsPlanned 
 drafted old body planned is = record { request = is.request; asked = is.asked; tag = is.tag; decided_is = is.decided_is }
 
 module _ (old : State) (body : List ℕ) (planned : Planned) (is : IsDrafted old body planned) where
-  pub done : (new : State) (reply : ReplyValue) → allowed planned.event old.table ≡ Ok new.table → new ≡ record old { table = new.table }
-      → reply ≡ record { tag = planned.tag; code = s_ok; index = None; body = planned.fields } → Turn old body reply new
+  pub done : (new : State) (reply : ReplyValue) → allowed old.bank planned.event old.table ≡ Ok new.table → new ≡ record old { table = new.table }
+      → reply ≡ record { tag = planned.tag; code = s_ok; index = None; body = planned.fields } → Ordinary old body reply new
   done new reply made leaves told =
-      let at = (is_made planned.event old.table new.table made).applies in
+      let at = (is_made old.bank planned.event old.table new.table made).applies in
       inl (record { request = is.request; asked = is.asked; answers = told ∙ rw (is.decided_is, is.tag, made) refl; leaves = leaves ∙ rw (is.decided_is, made, at) refl })
 
-  pub refused : (new : State) (reply : ReplyValue) (code : HResult) → (allowed planned.event old.table ≡ Err code) ⊎ ((code ≡ e_outofmemory) × IsOk (allowed planned.event old.table))
-      → reply ≡ refusal planned.tag code None → new ≡ old → Turn old body reply new
+  pub refused : (new : State) (reply : ReplyValue) (code : HResult) → (allowed old.bank planned.event old.table ≡ Err code) ⊎ ((code ≡ e_outofmemory) × IsOk (allowed old.bank planned.event old.table))
+      → reply ≡ refusal planned.tag code None → new ≡ old → Ordinary old body reply new
   refused new reply code (inl why) told same =
       inl (record { request = is.request; asked = is.asked; answers = told ∙ rw (is.decided_is, is.tag, why) refl; leaves = same ∙ rw (is.decided_is, why) refl })
   refused new reply code (inr lacks) told same = inr (inr (inr (record {

@@ -14,12 +14,12 @@ use Rattle.oa_server.specs.Decisions.{after_outcome, outcome_of}
 use Rattle.oa_server.specs.Plans.{Plans, PlansChange}
 use Rattle.oa_server.specs.States.{State}
 use Rattle.oa_server.specs.Steps.{decided, reply_with}
-use Rattle.oa_server.specs.Turns.{Turn}
+use Rattle.oa_server.specs.Turns.{Ordinary}
 
 module _ (old : State) (body : List ℕ) (request : Request) (asked : Asks body request) where
   -- what is decided is done
   steps : (due : Result Decision Refusal) (reply : ReplyValue) (new : State) → decided old request ≡ due → reply ≡ reply_with (tag_at body) (outcome_of old due) → new ≡ after_outcome old (outcome_of old due)
-      → Turn old body reply new
+      → Ordinary old body reply new
   steps due reply new is told leaves = inl (record {
     request = request;
     asked = asked;

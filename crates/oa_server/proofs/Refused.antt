@@ -14,10 +14,10 @@ use Rattle.oa_server.specs.declared.refusal.Refusal.{Refusal}
 use Rattle.oa_server.specs.Decisions.{after_outcome, relocked, relocking}
 use Rattle.oa_server.specs.States.{State}
 use Rattle.oa_server.specs.Steps.{decided, refusal, reply_with, takes_memory}
-use Rattle.oa_server.specs.Turns.{Turn}
+use Rattle.oa_server.specs.Turns.{Ordinary}
 
 pub refused_turn : (old new : State) (body : List ℕ) (reply : ReplyValue) (fault : RecordFault) → IsRequest body (Err fault)
-    → reply ≡ refusal (tag_at body) (code_of fault) (index_told fault) → new ≡ old → Turn old body reply new
+    → reply ≡ refusal (tag_at body) (code_of fault) (index_told fault) → new ≡ old → Ordinary old body reply new
 refused_turn old new body reply Stub why is same = inr (inl (record { why = why; answers = is; leaves = same }))
 refused_turn old new body reply (BadVarType i) why is same = inr (inr (inl (record { index = i; why = why; answers = is; leaves = same })))
 refused_turn old new body reply Memory why is same = inr (inr (inr (record { may = inl why; answers = is; leaves = same })))
@@ -25,16 +25,16 @@ refused_turn old new body reply Memory why is same = inr (inr (inr (record { may
 -- A request that makes no event is answered, or memory was wanted: a turn, too.
 module _ (old : State) (body : List ℕ) (request : Request) (asked : Asks body request) (reply : ReplyValue) where
   pub told : (code : HResult) (fields : List ℕ) → decided old request ≡ Ok (Answer code fields)
-      → reply ≡ record { tag = tag_at body; code = code; index = None; body = fields } → Turn old body reply old
+      → reply ≡ record { tag = tag_at body; code = code; index = None; body = fields } → Ordinary old body reply old
   told code fields is says = inl (record { request = request; asked = asked; answers = says ∙ rw is refl; leaves = rw is refl })
 
-  pub told_why : (why : Refusal) → decided old request ≡ Err why → reply ≡ refusal (tag_at body) why.code why.index → Turn old body reply old
+  pub told_why : (why : Refusal) → decided old request ≡ Err why → reply ≡ refusal (tag_at body) why.code why.index → Ordinary old body reply old
   told_why why is says = inl (record { request = request; asked = asked; answers = says ∙ rw is refl; leaves = rw is refl })
 
   pub relocks : (new : State) (change : LockChange) (fields : List ℕ) → decided old request ≡ Ok (Relock change fields)
       → reply ≡ reply_with (tag_at body) (relocking change fields (relocked change old.table))
-      → new ≡ after_outcome old (relocking change fields (relocked change old.table)) → Turn old body reply new
+      → new ≡ after_outcome old (relocking change fields (relocked change old.table)) → Ordinary old body reply new
   relocks new change fields is says leaves = inl (record { request = request; asked = asked; answers = says ∙ rw is refl; leaves = leaves ∙ rw is refl })
 
-  pub lacks : takes_memory old request ≡ true → reply ≡ refusal (tag_at body) e_outofmemory None → Turn old body reply old
+  pub lacks : takes_memory old request ≡ true → reply ≡ refusal (tag_at body) e_outofmemory None → Ordinary old body reply old
   lacks takes says = inr (inr (inr (record { may = inr (record { request = request; asked = asked; takes = takes }); answers = says; leaves = refl })))

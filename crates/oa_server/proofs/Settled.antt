@@ -8,6 +8,7 @@ use Rattle.oa_groups.specs.Served.{Goes}
 use Rattle.oa_groups.specs.Turns.{entry}
 use Rattle.oa_journal.specs.Replays.{Replays}
 use Rattle.oa_keeper.specs.Kept.{AllHold, LeavesEither, LeavesTable}
+use Rattle.oa_record.specs.Replacement.{is_replacement}
 use Rattle.oa_record.specs.Replies.{ReplyValue}
 use Rattle.oa_store.specs.declared.store.Store.{Store}
 use Rattle.oa_table.specs.Tables.{TableValue}
@@ -22,13 +23,13 @@ few_held size count bytes small = search rules
 
 module _ {D : Type 0} {g : Ghosts D} (old new : Store D g) (was : old.stopped ≡ false) where
   -- what a call says of the device
-  pub goes : new.library.items ≡ old.library.items → g.is_honest new.disk ≡ g.is_honest old.disk → g.failures_of old.disk ≤ g.failures_of new.disk
+  pub goes : g.is_honest new.disk ≡ g.is_honest old.disk → g.failures_of old.disk ≤ g.failures_of new.disk → new.bank.shape ≡ old.bank.shape
       → (new.stopped ≡ true → g.failures_of new.disk < 2 ^ 64 - 1 → g.failures_of old.disk < g.failures_of new.disk)
       → (new.stopped ≡ false → g.failures_of new.disk ≡ g.failures_of old.disk) → Goes old new
-  goes library honest failures stops unfailed =
-      record { library = library; honest = honest; failures = failures; stops = λ going. stops; stays = λ stopped. absurd (true≢false (sym stopped ∙ was)); unfailed = unfailed }
+  goes honest failures shape stops unfailed =
+      record { honest = honest; failures = failures; shape = shape; stops = λ going. stops; stays = λ stopped. absurd (true≢false (sym stopped ∙ was)); unfailed = unfailed }
 
-  module _ (state : State) (pending : List ReplyValue) (events events' : List ℕ) (says : Goes old new)
+  module _ (state : State) (pending : List ReplyValue) (events events' : List ℕ) (says : Goes old new) (library : new.library.items ≡ old.library.items)
       (any_moment : (committed now : TableValue) → Replays events committed now → AllHold old committed → LeavesEither old new committed now)
       (each : new.stopped ≡ false → (committed now : TableValue) → Replays events committed now → AllHold old committed → AllHold new now) (quiet : length events ≡ 0 → new.disk ≡ old.disk) where
     -- the group is committed
@@ -40,6 +41,7 @@ module _ {D : Type 0} {g : Ghosts D} (old new : Store D g) (was : old.stopped �
       quiet = quiet;
       any_moment = λ committed replays all. any_moment committed (held_of state) replays all;
       each = λ goes_on committed replays all. each goes_on committed (held_of state) replays all;
+      library = library;
       goes = says;
     }
 
@@ -52,6 +54,7 @@ module _ {D : Type 0} {g : Ghosts D} (old new : Store D g) (was : old.stopped �
       quiet = quiet;
       any_moment = λ committed replays all. any_moment committed (held_of state) replays all;
       each = λ goes_on committed replays all. each goes_on committed (held_of state) replays all;
+      library = library;
       goes = says;
     }
 
@@ -80,14 +83,16 @@ pub held_one : {D : Type 0} {g : Ghosts D} (old new : Store D g) (body : List �
     (turn : IsHeldBack body reply events events' before after) → pending' ≡ pending ++ reply ∷ [] → new.stopped ≡ false
     → ((committed : TableValue) → (length events ≡ 0 → held_of before ≡ committed) → AllHold old committed → LeavesTable old new committed)
     → ((committed : TableValue) → (length events ≡ 0 → held_of before ≡ committed) → AllHold old committed → AllHold new committed)
-    → (new.disk ≡ old.disk) ⊎ ((length events < length events') ⊎ (is_starved reply ≡ true)) → Goes old new → IsHeld requests (entry body reply turn.event) (desk old before pending events) (desk new after pending' events')
-held_one old new body reply before after pending pending' events events' turn more going any_moment each calls says = record {
+    → (new.disk ≡ old.disk) ⊎ ((length events < length events') ⊎ (is_starved reply ≡ true)) → Goes old new → is_replacement body ≡ false → new.library.items ≡ old.library.items → IsHeld requests (entry body reply turn.event) (desk old before pending events) (desk new after pending' events')
+held_one old new body reply before after pending pending' events events' turn more going any_moment each calls says plain library = record {
   turn = turn.asked;
+  plain = plain;
   pending = more;
   events = turn.added;
   going = going;
   calls = called_for old new body reply before after events events' turn calls;
   any_moment = any_moment;
   each = each;
+  library = library;
   goes = says;
 }

@@ -13,6 +13,7 @@ use Rattle.oa_groups.specs.Going.{Underway}
 use Rattle.oa_groups.specs.Served.{IsServed}
 use Rattle.oa_groups.proofs.Entries.{either}
 use Rattle.oa_groups.proofs.Takes.{underway_ended, underway_start, underway_taken}
+use Rattle.oa_record.specs.Replacement.{is_replacement}
 use Rattle.oa_record.specs.Replies.{ReplyValue, reply_record}
 use Rattle.oa_store.specs.declared.store.Store.{Store}
 use Rattle.oa_stream.specs.Source.{Input}
@@ -26,7 +27,7 @@ use Rattle.oa_server.specs.Hands.{desk}
 use Rattle.oa_server.specs.Requests.{requests}
 use Rattle.oa_server.specs.States.{State}
 use Rattle.oa_server.specs.Storages.{Serves, disk_of}
-use Rattle.oa_server.specs.Talks.{Ended, EndsBefore, EndsGroup, HandIsReady, InParts, IsGroup, Part, Parts, ServesSession, Taken, any_end}
+use Rattle.oa_server.specs.Talks.{Ended, EndsApart, EndsBefore, EndsGroup, HandIsReady, InParts, IsGroup, Part, Parts, ServesSession, Taken, any_end}
 use Rattle.oa_server.specs.Talks.{any_turn, at_last, bodies_of, ended_written, handed_of, silent, taken_written}
 use Rattle.oa_server.specs.Turns.{Run}
 use Rattle.oa_server.proofs.Grouping.{Holding, group_faulted, group_filled, holds_more, holds_none, rest_ends}
@@ -252,7 +253,7 @@ module _ {D : Type 0} {g : Ghosts D} (only : (d : D) (c : List ℕ) → IsTrue (
         alone : start.stopped ≡ true → length (bodies ++ body ∷ []) ≡ 1
         alone stopped = length_push bodies body ∙ ap (λ (l : List (List ℕ)). length l + 1) (was.short.1 stopped)
 
-        ends : hand'.replies.items ≡ [] → (new.stopped ≡ false → hand'.frame ≡ []) → (start.stopped ≡ false → IsGroup size new first (bodies ++ body ∷ []) is.told after) → Steps (Disk start) first (Disk new) after hand' (bodies ++ body ∷ []) replies
+        ends : hand'.replies.items ≡ [] → (new.stopped ≡ false → hand'.frame ≡ []) → (start.stopped ≡ false → IsGroup size new first (bodies ++ body ∷ []) is.told after ⊎ EndsApart (bodies ++ body ∷ [])) → Steps (Disk start) first (Disk new) after hand' (bodies ++ body ∷ []) replies
         ends none empty group = inr (record {
           told = is.told;
           are = is.are;
@@ -285,14 +286,19 @@ module _ {D : Type 0} {g : Ghosts D} (only : (d : D) (c : List ℕ) → IsTrue (
           };
         })
         by (inr (inl filled)) = ends (none (either new.stopped)) (λ going. (filled.settled.well going).2)
-            (λ going. group_filled size first old before hand.replies.items hand.frame bodies (was.short.0 going) body filled.reply filled.event filled.mid now is.told filled.held filled.full filled.settled)
+            (λ going. inl (group_filled size first old before hand.replies.items hand.frame bodies (was.short.0 going) body filled.reply filled.event filled.mid now is.told filled.held filled.full filled.settled))
           where
             none : (new.stopped ≡ false) ⊎ (new.stopped ≡ true) → hand'.replies.items ≡ []
             none (inl going) = (filled.settled.well going).1
             none (inr stopped) = is.ready.late stopped
         by (inr (inr (inl faulted))) = ends (is.ready.late faulted.failed.stopped) (λ going. absurd (true≢false (sym faulted.failed.stopped ∙ going)))
-            (λ going. group_faulted size first old before hand.replies.items hand.frame bodies (was.short.0 going) body faulted.failed.reply faulted.failed.event now is.told faulted.failed.turn faulted.failed.first faulted.failed.none faulted.failed.stopped)
-        by (inr (inr (inr too_late))) = ends (is.ready.late too_late.over.is) (λ going. absurd (true≢false (sym too_late.over.is ∙ going)))
+            (λ going. inl (group_faulted size first old before hand.replies.items hand.frame bodies (was.short.0 going) body faulted.failed.reply faulted.failed.event now is.told faulted.failed.turn faulted.failed.first faulted.failed.none faulted.failed.stopped))
+        by (inr (inr (inr (inr apart)))) = ends (on (either apart.mid.store.stopped)).0 (λ going. (on (either apart.mid.store.stopped)).1 going) (λ going. inr (record { front = bodies; last = body; are = refl; alone = apart.alone }))
+          where
+            on : (apart.mid.store.stopped ≡ false) ⊎ (apart.mid.store.stopped ≡ true) → (hand'.replies.items ≡ []) × (new.stopped ≡ false → hand'.frame ≡ [])
+            on (inl going) = let one = (apart.going going).1 in (one.idle_still.0, λ here. one.idle_still.1)
+            on (inr stopped) = let over = (apart.late stopped).1 in (is.ready.late over.is, λ here. absurd (true≢false (sym over.is ∙ here)))
+        by (inr (inr (inr (inl too_late)))) = ends (is.ready.late too_late.over.is) (λ going. absurd (true≢false (sym too_late.over.is ∙ going)))
             (λ going. absurd (true≢false (sym too_late.over.was ∙ (was.short.0 going).going)))
 
     record InPartsSoFar (start : Storage D g) (first : State) (now : Clerk D g) (bodies : List (List ℕ)) (handed : List (List (List ℕ))) : Type 0 where
@@ -398,12 +404,12 @@ module _ {D : Type 0} {g : Ghosts D} (only : (d : D) (c : List ℕ) → IsTrue (
 
   -- the whole session
   pub serves_session : (f : Frames) (last : List ℕ) (input input' : Input) (out out' : Output) (old new : Clerk D g) (served : Served) → 1 ≤ size → old.hand.replies.items ≡ [] → old.hand.frame ≡ []
-      → SoFar size old.storage old.host old.storage old.host old.hand [] [] → sessions.Session f taken_written ended_written last input input' out out' old new served → ServesSession f last input input' out out' size old.storage new.storage old.host new.host served
+      → SoFar size old.storage old.host old.storage old.host old.hand [] [] → sessions.Session f is_replacement taken_written ended_written last input input' out out' old new served → ServesSession f last input input' out out' size old.storage new.storage old.host new.host served
   serves_session f last input input' out out' old new served some none empty begin is =
       let runs = went old.storage old.host old is.mid [] is.bodies [] is.handed begin is.run in
       let ends = ended_at old.storage is.mid.storage new.storage old.host is.mid.host new.host is.mid.hand new.hand is.bodies runs.told is.held runs.so_far is.ended in
       record {
-        io = session_as taken_written any_turn ended_written any_end f last input input' out out' old new tt tt tt served is (any_run old is.mid is.bodies is.handed is.run) tt;
+        io = session_as taken_written any_turn ended_written any_end f is_replacement last input input' out out' old new tt tt tt served is (any_run old is.mid is.bodies is.handed is.run) tt;
         told = runs.told ++ ends.told;
         replies_are = ap (λ (l : List (List ℕ)). l ++ is.held) runs.are ∙ ap (λ (l : List (List ℕ)). map reply_record runs.told ++ l) ends.are ∙ sym (map-append reply_record runs.told ends.told);
         serves = ends.serves;

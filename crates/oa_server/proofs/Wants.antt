@@ -12,16 +12,16 @@ use Rattle.oa_server.specs.States.{State}
 use Rattle.oa_server.specs.Steps.{decided, takes_memory}
 
 -- whether what is decided applies; true where nothing changes
-abbrev applies : TableValue → Result Decision Refusal → Bool
-applies table (Err r) = true
-applies table (Ok (Answer code fields)) = true
-applies table (Ok (Change event fields)) = is_ok (allowed event table)
-applies table (Ok (Relock change fields)) = true
+abbrev applies : ℕ → TableValue → Result Decision Refusal → Bool
+applies bank table (Err r) = true
+applies bank table (Ok (Answer code fields)) = true
+applies bank table (Ok (Change event fields)) = is_ok (allowed bank event table)
+applies bank table (Ok (Relock change fields)) = true
 
-pub wants : (state : State) (request : Request) (event : Event) (fields : List ℕ) → decided state request ≡ Ok (Change event fields) → IsOk (allowed event state.table)
+pub wants : (state : State) (request : Request) (event : Event) (fields : List ℕ) → decided state request ≡ Ok (Change event fields) → IsOk (allowed state.bank event state.table)
     → takes_memory state request ≡ true
 wants state (requests.Create class) event fields h ok = ap is_ok h
-wants state (requests.Release number) event fields h ok = ap (applies state.table) h ∙ ok
+wants state (requests.Release number) event fields h ok = ap (applies state.bank state.table) h ∙ ok
 wants state (requests.GetIds call) event fields h ok = refl
 wants state (requests.Invoke call) event fields h ok = refl
 wants state (requests.GetElement call indices) event fields h ok = refl

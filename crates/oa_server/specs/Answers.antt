@@ -1,20 +1,25 @@
 -- What one body is answered over a store, and what a stop at any moment of that leaves.
-use Rattle.std.specs.Prelude.{◌≡◌, ℕ, true, false, List, [], ◌∷◌, map}
+use Rattle.std.specs.Prelude.{◌≡◌, ◌⊎◌, ℕ, true, false, List, [], ◌∷◌, map}
 use Rattle.oa_disk.specs.declared.disk.Disk.{Ghosts}
 use Rattle.oa_groups.specs.Served.{Goes, IsServed}
-use Rattle.oa_keeper.specs.Kept.{AllHold, LeavesEither}
+use Rattle.oa_groups.specs.Desks.{IsReplaced, LeavesState}
+use Rattle.oa_groups.specs.Runs.{AllHoldState, HoldsState}
+use Rattle.oa_groups.specs.Turns.{entry}
+use Rattle.oa_server.specs.Hands.{desk}
 use Rattle.oa_record.specs.Asks.{Asks}
+use Rattle.oa_record.specs.Replacement.{is_replacement}
 use Rattle.oa_record.specs.Replies.{ReplyValue}
 use Rattle.oa_record.specs.declared.request.Request.{Request}
 use Rattle.oa_store.specs.declared.store.Store.{Store}
-use Rattle.oa_server.specs.Requests.{bytes_of, failed, faulted, held_of, is_starved, requests}
+use Rattle.oa_server.specs.Requests.{bytes_of, failed, faulted, is_done, is_starved, requests}
 use Rattle.oa_server.specs.States.{State}
 use Rattle.oa_server.specs.Steps.{outcome}
 use Rattle.oa_server.specs.Turns.{Turn}
 
--- whatever the body asks, no event comes of it
-abbrev pub MakesNoEvent : State → List ℕ → Type 0
-MakesNoEvent state body = (request : Request) → Asks body request → bytes_of (outcome state request).event ≡ []
+-- whatever the body asks, no event comes of it, and no other library
+pub record MakesNoEvent (state : State) (body : List ℕ) (reply : ReplyValue) : Type 0 where
+  pub none : (request : Request) → Asks body request → bytes_of (outcome state request).event ≡ []
+  pub kept : is_replacement body ≡ true → is_done reply ≡ false
 
 -- After a fault of the device a body is answered that the store has failed, and nothing is done. Before one it is answered by a turn,
 -- or a call of the device fails in it: then the reply says that, and the state is the one after some turn of the body.
@@ -23,16 +28,30 @@ pub record IsAnswered {D : Type 0} {g : Ghosts D} (old new : Store D g) (before 
   pub late : old.stopped ≡ true → (reply ≡ failed body) × (after ≡ before) × (new.disk ≡ old.disk) × (new.stopped ≡ true)
   pub going : old.stopped ≡ false → new.stopped ≡ false → Turn before body reply after
   pub doubt : old.stopped ≡ false → new.stopped ≡ true → (reply ≡ faulted body) × ((due : ReplyValue) × Turn before body due after)
-  -- at every moment each image holds the table before or the one after
-  pub any_moment : old.stopped ≡ false → AllHold old (held_of before) → LeavesEither old new (held_of before) (held_of after)
-  -- and without a fault, at the end, the one after
-  pub each : old.stopped ≡ false → new.stopped ≡ false → AllHold old (held_of before) → AllHold new (held_of after)
+  -- where it fails in a replacement, that is one which is done: the state is the one with the other library
+  pub replaced : old.stopped ≡ false → new.stopped ≡ true → is_replacement body ≡ true
+      → (due : ReplyValue) × Turn before body due after × (is_done due ≡ true)
+  -- at every moment each image holds the library and the table before, or those after
+  pub any_moment : old.stopped ≡ false → AllHoldState requests old before
+      → LeavesState old new (λ c. HoldsState requests before c ⊎ HoldsState requests after c)
+  -- and without a fault, at the end, those after
+  pub each : old.stopped ≡ false → new.stopped ≡ false → AllHoldState requests old before → AllHoldState requests new after
   pub goes : Goes old new
-  -- A body that makes no event makes no call of the device. (Where memory is refused to one that would make an event, a checkpoint may
-  -- have come first.)
-  pub quiet : old.stopped ≡ false → new.stopped ≡ false → MakesNoEvent before body → is_starved reply ≡ false → new.disk ≡ old.disk
+  -- A body that makes no event and replaces no library makes no call of the device. (Where memory is refused to one that would make an
+  -- event, a checkpoint may have come first.)
+  pub quiet : old.stopped ≡ false → new.stopped ≡ false → MakesNoEvent before body reply → is_starved reply ≡ false → new.disk ≡ old.disk
   -- it is a group of one, with its moments
   pub served : old.stopped ≡ false → IsServed requests 1 old new before after (body ∷ []) (reply ∷ [])
+
+-- A body that asks for another library is answered, with nothing in hand: as a group of its own.
+pub record IsRenewed {D : Type 0} {g : Ghosts D} (old new : Store D g) (before after : State) (body : List ℕ) (reply : ReplyValue) : Type 0 where
+  pub due : ReplyValue
+  pub replaced : IsReplaced requests (entry body due []) (reply ∷ []) (desk old before [] []) (desk new after [] [])
+
+abbrev pub IsRenewedOrLate : {D : Type 0} {g : Ghosts D} → Store D g → Store D g → State → State → List ℕ → ReplyValue → Type 0
+IsRenewedOrLate old new before after body reply =
+    (old.stopped ≡ false → IsRenewed old new before after body reply)
+    × (old.stopped ≡ true → (reply ≡ failed body) × (new ≡ old) × (after ≡ before))
 
 -- The device has failed before: all bodies are answered that, and nothing is done.
 pub record IsLate {D : Type 0} {g : Ghosts D} (old new : Store D g) (before after : State) (bodies : List (List ℕ))

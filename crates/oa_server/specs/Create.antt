@@ -30,5 +30,5 @@ fitting (Err code) = refused code
 -- it gets the next number, which the reply tells
 abbrev pub creation : State → List ℕ → Result Decision Refusal
 creation state class =
-    class_found state class >>= λ _. fitting (allowed (Create state.table.next class) state.table)
+    class_found state class >>= λ _. fitting (allowed state.bank (Create state.table.next class) state.table)
     >>= λ _. Ok (Change (Create state.table.next class) (number_field state.table.next))

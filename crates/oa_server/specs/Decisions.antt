@@ -52,7 +52,7 @@ relocking change fields (Err fault) = refused_outcome (record { code = code_of f
 abbrev pub outcome_of : State → Result Decision Refusal → Outcome
 outcome_of state (Err r) = refused_outcome r
 outcome_of state (Ok (Answer code fields)) = record { event = None; locks = None; code = code; index = None; fields = fields }
-outcome_of state (Ok (Change event fields)) = changed event fields (allowed event state.table)
+outcome_of state (Ok (Change event fields)) = changed event fields (allowed state.bank event state.table)
 outcome_of state (Ok (Relock change fields)) = relocking change fields (relocked change state.table)
 
 -- the state after a change

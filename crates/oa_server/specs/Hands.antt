@@ -2,6 +2,7 @@
 use Rattle.std.specs.Prelude.{◌≡◌, ◌⊎◌, ◌<◌, ◌≤◌, ◌++◌, ℕ, true, false, List, [], length, vec_capacity}
 use Rattle.oa_disk.specs.declared.disk.Disk.{Ghosts}
 use Rattle.oa_groups.specs.Desks.{Desk}
+use Rattle.oa_journal.specs.Shapes.{body_bytes}
 use Rattle.oa_keeper.specs.Kept.{HasRoom}
 use Rattle.oa_record.specs.Replies.{ReplyValue}
 use Rattle.oa_store.specs.declared.store.Store.{Store}
@@ -19,6 +20,10 @@ desk_of store state hand = desk store state hand.replies.items hand.frame
 
 abbrev pub cleared_desk : {D : Type 0} {g : Ghosts D} → Store D g → State → Hand → Desk State ReplyValue D g
 cleared_desk store state hand = desk store state [] hand.frame
+
+-- the state is one over the store's banks
+abbrev pub HasBanks : {D : Type 0} {g : Ghosts D} → Store D g → State → Type 0
+HasBanks store state = body_bytes store.bank.shape ≡ state.bank
 
 -- One request more can be taken: there are places for a group's replies, and a group that goes on is not full. After a fault nothing
 -- is held.

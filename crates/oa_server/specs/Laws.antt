@@ -8,9 +8,12 @@ use Rattle.oa_groups.specs.Turns.{Entry}
 use Rattle.oa_idl.specs.Canonical.{canonical}
 use Rattle.oa_idl.specs.Trees.{TreeValue}
 use Rattle.oa_record.specs.Replies.{ReplyValue}
-use Rattle.oa_store.specs.Stores.{IsStore}
+use Rattle.oa_journal.specs.declared.shape.Shape.TheVariants.{Two}
+use Rattle.oa_journal.specs.Shapes.{body_bytes}
+use Rattle.oa_store.specs.Stores.{IsStoreIn}
 use Rattle.oa_store.specs.declared.store.Store.{Store}
 use Rattle.oa_table.specs.Tables.{TableValue, unlocked_table}
+use Rattle.oa_typelib.specs.Checked.{IsChecked}
 use Rattle.oa_server.specs.Openings.{IsOpened}
 use Rattle.oa_server.specs.Requests.{opened, requests}
 use Rattle.oa_server.specs.States.{State, state_of}
@@ -22,18 +25,19 @@ abbrev pub OpenedBegins : {D : Type 0} → Ghosts D → Type 0
 OpenedBegins {D} g =
     (disk : D) (library : TreeValue) (store : Store D g) (table : TableValue) → IsOpened g disk library store table
     → IsTrue (g.is_honest store.disk) → NothingPending g.contents g.image disk
-    → Sitting requests disk store (canonical library) (state_of library table) (state_of library table) []
+    → Sitting requests disk store (state_of (body_bytes store.bank.shape) library table) (state_of (body_bytes store.bank.shape) library table) []
 
--- What an opening finds in an image that a stop may leave is the state that the image holds, without locks.
+-- What an opening finds in an image that a stop may leave is the state that the image holds, without locks: its banks, its library and its
+-- table.
 abbrev pub FoundIsKept : Type 0
 FoundIsKept =
-    (library : TreeValue) (first : State) (count : ℕ) (groups : List (List (Entry ReplyValue))) (image : List ℕ) (table : TableValue)
-    → first.library ≡ library → (after : IsAfter requests count (canonical library) first groups image)
-    → IsStore image (canonical library) table → unlocked_table table ≡ table → opened after.state ≡ state_of library table
+    (bank : ℕ) (library : TreeValue) (first : State) (count : ℕ) (groups : List (List (Entry ReplyValue))) (image : List ℕ) (table : TableValue)
+    → IsChecked library → IsChecked first.library → (after : IsAfter requests count first groups image)
+    → IsStoreIn (Two bank) image (canonical library) table → unlocked_table table ≡ table → opened after.state ≡ state_of bank library table
 
 -- The parts of a session over streams go on with a session over the store, call by call.
 abbrev pub PartsGoOn : {D : Type 0} → Ghosts D → Type 0
 PartsGoOn {D} g =
-    (start : D) (mid new : Store D g) (library : List ℕ) (first last after : State) (calls : List (Call ReplyValue)) (size : ℕ)
-    (parts : List Part) → Sitting requests start mid library first last calls → Parts size (Disk mid) (Disk new) last parts after
-    → new.stopped ≡ false → Sitting requests start new library first after (calls ++ calls_of size parts)
+    (start : D) (mid new : Store D g) (first last after : State) (calls : List (Call ReplyValue)) (size : ℕ)
+    (parts : List Part) → Sitting requests start mid first last calls → Parts size (Disk mid) (Disk new) last parts after
+    → new.stopped ≡ false → Sitting requests start new first after (calls ++ calls_of size parts)

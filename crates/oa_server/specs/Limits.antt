@@ -1,7 +1,9 @@
--- The limits on what a change makes. (This project's choice: a group of one event and a table have to fit a bank of a store, and a
--- server in memory refuses what one over a store refuses.)
-use Rattle.std.specs.Prelude.{◌≡◌, ◌⊎◌, ◌≤◌, nat_lt, if◌then◌else◌, length, true, Option, Some, None, Result, Ok, Err, IsOk}
-use Rattle.oa_model.specs.Limits.{max_event_bytes, max_table_bytes}
+-- The limits on what a change makes. (This project's choice: a table has to leave so much of a bank's body that a group of one event fits
+-- behind it, and a server in memory refuses what one over a store refuses.)
+use Rattle.std.specs.Prelude.{◌≡◌, ◌⊎◌, ◌-◌, ℕ, nat_lt, if◌then◌else◌, length, true, Option, Some, None, Result, Ok, Err, IsOk}
+use Rattle.oa_journal.specs.Shapes.{reserved_bytes}
+use Rattle.oa_keeper.specs.Kept.{FitsBank}
+use Rattle.oa_model.specs.Limits.{max_event_bytes}
 use Rattle.oa_image.specs.Events.{event_image}
 use Rattle.oa_image.specs.Tables.{is_numbered, table_image}
 use Rattle.oa_model.specs.declared.hresult.HResult.{HResult}
@@ -12,20 +14,24 @@ use Rattle.oa_table.specs.Events.{applied}
 use Rattle.oa_table.specs.Faults.{code_of}
 use Rattle.oa_table.specs.Tables.{TableValue}
 
--- the image of the event, and then that of the table after it
-abbrev pub within_limits : Event → TableValue → Result TableValue HResult
-within_limits event new =
+-- the image of the event, and then that of the table after it, in a bank of this size
+abbrev pub within_limits : ℕ → Event → TableValue → Result TableValue HResult
+within_limits bank event new =
     if nat_lt max_event_bytes (length (event_image event)) then Err e_invalidarg
-    else if nat_lt max_table_bytes (length (table_image new)) then Err stg_e_mediumfull
+    else if nat_lt (bank - reserved_bytes) (length (table_image new)) then Err stg_e_mediumfull
     else Ok new
 
-abbrev pub limited : Event → Result TableValue TableFault → Result TableValue HResult
-limited event (Ok new) = within_limits event new
-limited event (Err fault) = Err (code_of fault)
+-- the table after the event, where it applies, is within them
+abbrev pub StaysWithin : ℕ → Event → TableValue → Type 0
+StaysWithin bank event old = (new : TableValue) → applied event old ≡ Ok new → within_limits bank event new ≡ Ok new
+
+abbrev pub limited : ℕ → Event → Result TableValue TableFault → Result TableValue HResult
+limited bank event (Ok new) = within_limits bank event new
+limited bank event (Err fault) = Err (code_of fault)
 
 -- the table after an event, or why there is none: the table refuses it, or a limit does
-abbrev pub allowed : Event → TableValue → Result TableValue HResult
-allowed event table = limited event (applied event table)
+abbrev pub allowed : ℕ → Event → TableValue → Result TableValue HResult
+allowed bank event table = limited bank event (applied event table)
 
 -- the reason, or none where the event is allowed
 abbrev pub Refuses : {T : Type 0} → Result T HResult → Option HResult → Type 0
@@ -33,11 +39,11 @@ Refuses due None = IsOk due
 Refuses due (Some code) = due ≡ Err code
 
 -- A change is made where it is allowed; else the reason is told, or that memory was wanted, and nothing changes.
-abbrev pub ChangesTable : Event → TableValue → TableValue → Result (Unit {0}) HResult → Type 0
-ChangesTable event old new (Ok u) = allowed event old ≡ Ok new
-ChangesTable event old new (Err code) = (new ≡ old) × ((allowed event old ≡ Err code) ⊎ ((code ≡ e_outofmemory) × IsOk (allowed event old)))
+abbrev pub ChangesTable : ℕ → Event → TableValue → TableValue → Result (Unit {0}) HResult → Type 0
+ChangesTable bank event old new (Ok u) = allowed bank event old ≡ Ok new
+ChangesTable bank event old new (Err code) = (new ≡ old) × ((allowed bank event old ≡ Err code) ⊎ ((code ≡ e_outofmemory) × IsOk (allowed bank event old)))
 
--- What a server's table always is: its objects have numbers from 1 to below the next one, and its image is within the limit.
-pub record IsSound (table : TableValue) : Type 0 where
+-- What a server's table always is: its objects have numbers from 1 to below the next one, and its image leaves what has to be free of a bank of this size.
+pub record IsSound (bank : ℕ) (table : TableValue) : Type 0 where
   pub numbered : is_numbered table ≡ true
-  pub small : length (table_image table) ≤ max_table_bytes
+  pub small : FitsBank bank table

@@ -1,5 +1,5 @@
 -- A reply other than S_OK leaves no trace.
-use Rattle.std.proofs.Common.{◌≡◌, ℕ, ◌==◌, Bool, true, false, List, [], ◌∷◌, Result, Ok, Err, refl, sym, ap, ◌∙◌, subst, inl, inr}
+use Rattle.std.proofs.Common.{◌≡◌, ℕ, ◌==◌, Bool, true, false, List, [], ◌∷◌, Option, Some, None, Result, Ok, Err, refl, sym, ap, ◌∙◌, subst, inl, inr}
 use Rattle.std.proofs.Common.{true≢false}
 use Rattle.std.specs.Prelude.{◌&&◌, not, if◌then◌else◌}
 use Rattle.std.proofs.lemmas.Bool.Decides.{eqb_tells}
@@ -16,13 +16,16 @@ use Rattle.oa_server.specs.Decisions.{IsQuiet, Outcome, after_outcome, changed, 
 use Rattle.oa_server.specs.Limits.{allowed}
 use Rattle.oa_server.specs.States.{State}
 use Rattle.oa_server.specs.Steps.{decided, outcome, reply_of}
-use Rattle.oa_server.specs.Turns.{Turn, Run}
+use Rattle.oa_typelib.specs.Keeps.{first_lost}
+use Rattle.oa_typelib.specs.declared.keeping.Lost.{Lost}
+use Rattle.oa_server.specs.Replacing.{Replacement, after_replacement, replacement_reply}
+use Rattle.oa_server.specs.Turns.{Ordinary, Turn, Run}
 use Rattle.oa_server.specs.Traces.{done_bodies, done_replies, kept_bodies, kept_replies}
 
 quiet_outcome : (state : State) (due : Result Decision Refusal) → ((outcome_of state due).code.0 ≡ 0 → ⊥) → IsQuiet (outcome_of state due)
 quiet_outcome state (Err r) n = (refl, refl)
 quiet_outcome state (Ok (Answer code fields)) n = (refl, refl)
-quiet_outcome state (Ok (Change event fields)) n = by (allowed event state.table) n
+quiet_outcome state (Ok (Change event fields)) n = by (allowed state.bank event state.table) n
   where
     by : (due : Result TableValue HResult) → ((changed event fields due).code.0 ≡ 0 → ⊥) → IsQuiet (changed event fields due)
     by (Ok table) m = absurd (m refl)
@@ -42,13 +45,27 @@ pub quiet_step : (state : State) (tag : ℕ) (request : Request) → ((reply_of 
     → IsQuiet (outcome state request)
 quiet_step state tag request n = quiet_outcome state (decided state request) n
 
-pub quiet_turn : (old new : State) (body : List ℕ) (reply : ReplyValue) → Turn old body reply new → (reply.code.0 ≡ 0 → ⊥) → new ≡ old
-quiet_turn old new body reply (inl s) n =
+quiet_ordinary : (old new : State) (body : List ℕ) (reply : ReplyValue) → Ordinary old body reply new → (reply.code.0 ≡ 0 → ⊥) → new ≡ old
+quiet_ordinary old new body reply (inl s) n =
     let quiet = quiet_step old (tag_at body) s.request (λ e. n (ap (λ (r : ReplyValue). r.code.0) s.answers ∙ e)) in
     s.leaves ∙ quiet_leaves old (outcome old s.request) quiet
-quiet_turn old new body reply (inr (inl s)) n = s.leaves
-quiet_turn old new body reply (inr (inr (inl s))) n = s.leaves
-quiet_turn old new body reply (inr (inr (inr s))) n = s.leaves
+quiet_ordinary old new body reply (inr (inl s)) n = s.leaves
+quiet_ordinary old new body reply (inr (inr (inl s))) n = s.leaves
+quiet_ordinary old new body reply (inr (inr (inr s))) n = s.leaves
+
+-- a library that would lose something replaces none
+quiet_replacement : (old new : State) (body : List ℕ) (reply : ReplyValue) → Replacement old body reply new → (reply.code.0 ≡ 0 → ⊥) → new ≡ old
+quiet_replacement old new body reply (inl s) n = by (first_lost s.library old.library) s.answers s.leaves
+  where
+    by : (lost : Option Lost) → reply ≡ replacement_reply (tag_at body) lost → new ≡ after_replacement old s.library lost → new ≡ old
+    by None told leaves = absurd (n (ap (λ (r : ReplyValue). r.code.0) told))
+    by (Some lost) told leaves = leaves
+quiet_replacement old new body reply (inr (inl s)) n = s.leaves
+quiet_replacement old new body reply (inr (inr s)) n = s.leaves
+
+pub quiet_turn : (old new : State) (body : List ℕ) (reply : ReplyValue) → Turn old body reply new → (reply.code.0 ≡ 0 → ⊥) → new ≡ old
+quiet_turn old new body reply (inl s) n = quiet_ordinary old new body reply s.turn n
+quiet_turn old new body reply (inr s) n = quiet_replacement old new body reply s.turn n
 
 pub quiet_run : (old new : State) (bodies : List (List ℕ)) (replies : List ReplyValue) → Run old bodies replies new
     → Run old (done_bodies bodies replies) (done_replies replies) new

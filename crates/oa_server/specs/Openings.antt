@@ -1,74 +1,90 @@
 -- With which tables a server begins, and what opening a disk answers.
-use Rattle.std.specs.Prelude.{◌≡◌, ◌⊎◌, ◌≤◌, ℕ, List, length, Some, IsTrue, false, true}
-use Rattle.oa_model.specs.Limits.{max_table_bytes}
+use Rattle.std.specs.Prelude.{◌≡◌, ◌≢◌, ◌⊎◌, ℕ, List, Some, IsTrue, false, true}
 use Rattle.oa_disk.specs.declared.disk.Disk.{Ghosts}
 use Rattle.oa_fits.specs.Fits.{fits}
+use Rattle.oa_groups.specs.Runs.{HoldsState}
 use Rattle.oa_idl.specs.Canonical.{canonical}
 use Rattle.oa_idl.specs.Trees.{TreeValue}
-use Rattle.oa_keeper.specs.Kept.{EachIs}
-use Rattle.oa_image.specs.Tables.{is_numbered, table_image}
+use Rattle.oa_keeper.specs.Kept.{EachIs, FitsBank}
+use Rattle.oa_image.specs.Tables.{is_numbered}
+use Rattle.oa_journal.specs.declared.shape.Shape.TheVariants.{Two}
+use Rattle.oa_journal.specs.Shapes.{body_bytes}
 use Rattle.oa_store.specs.declared.fault.OpenFault.{OpenFault}
-use Rattle.oa_store.specs.declared.fault.OpenFault.TheVariants.{Damaged}
+use Rattle.oa_store.specs.declared.fault.OpenFault.TheVariants.{Damaged, LibraryDiffers}
 use Rattle.oa_store.specs.declared.store.Store.{Store}
 use Rattle.oa_store.specs.Faults.{IsCaused, IsEarly, IsRefusal, Says}
 use Rattle.oa_store.specs.Reads.{WritesNothing}
-use Rattle.oa_store.specs.Stores.{IsForeign, IsStore}
+use Rattle.oa_store.specs.Stores.{IsForeign, IsStoreIn}
 use Rattle.oa_table.specs.Tables.{TableValue, unlocked_table}
 use Rattle.oa_typelib.specs.Checked.{IsChecked}
+use Rattle.oa_server.specs.Requests.{held_of, requests}
 use Rattle.oa_server.specs.States.{State}
 
--- the library can have the table, and a bank has room for its image
-pub record CanServe (library : TreeValue) (table : TableValue) : Type 0 where
+-- the library can have the table, and its image leaves what has to be free of a bank of this size
+pub record CanServe (bank : ℕ) (library : TreeValue) (table : TableValue) : Type 0 where
   pub fit : fits library table ≡ true
-  pub small : length (table_image table) ≤ max_table_bytes
+  pub small : FitsBank bank table
 
 -- a server can begin with this state: its library is one that was checked, and can have its table, whose objects are numbered
 pub record CanBegin (state : State) : Type 0 where
   pub checked : IsChecked state.library
-  pub serves : CanServe state.library state.table
+  pub serves : CanServe state.bank state.library state.table
   pub numbered : is_numbered state.table ≡ true
 
--- each image is a store of the library and of the one table or the other
-abbrev pub EachEither : (List ℕ → Type 0) → TreeValue → TableValue → TableValue → Type 0
-EachEither image library before after = (c : List ℕ) → image c → IsStore c (canonical library) before ⊎ IsStore c (canonical library) after
+-- ---- one of two states, as a stop leaves them
 
--- and a server can begin with both
-pub record HoldsEither (image : List ℕ → Type 0) (library : TreeValue) (before after : TableValue) : Type 0 where
-  pub each : EachEither image library before after
-  pub first : CanServe library before
-  pub second : CanServe library after
+-- each image holds the one state or the other
+abbrev pub EachOneOf : (List ℕ → Type 0) → State → State → Type 0
+EachOneOf image one two = (c : List ℕ) → image c → HoldsState requests one c ⊎ HoldsState requests two c
 
--- where a stop has left one of two tables, the table is one of them
-abbrev pub IsOneOf : (List ℕ → Type 0) → TreeValue → TableValue → Type 0
-IsOneOf image library table =
-    (before after : TableValue) → EachEither image library before after → (table ≡ before) ⊎ (table ≡ after)
+-- what was found is what an image holds of the state
+pub record Finds (bank : ℕ) (library : TreeValue) (table : TableValue) (state : State) : Type 0 where
+  pub bank_is : bank ≡ state.bank
+  pub text : canonical library ≡ canonical state.library
+  pub table_is : table ≡ held_of state
 
--- no stop has left one of two tables with which a server can begin
-abbrev pub IsNoneOfTwo : (List ℕ → Type 0) → TreeValue → Type 0
-IsNoneOfTwo image library = (before after : TableValue) → HoldsEither image library before after → ⊥
+-- where a stop has left one of two states, it is the one or the other
+abbrev pub FindsOneOf : (List ℕ → Type 0) → ℕ → TreeValue → TableValue → Type 0
+FindsOneOf image bank library table =
+    (one two : State) → EachOneOf image one two → Finds bank library table one ⊎ Finds bank library table two
+
+-- the contents hold a state of another library than this
+abbrev pub HoldsOther : List ℕ → TreeValue → State → Type 0
+HoldsOther contents library state = HoldsState requests state contents × (canonical state.library ≢ canonical library)
+
+-- Where a stop has left one of two states with which a server can begin, what is refused is the library: the contents hold that of
+-- another one.
+abbrev pub RefusesOneOf : (List ℕ → Type 0) → List ℕ → TreeValue → OpenFault → Type 0
+RefusesOneOf image contents library fault =
+    (one two : State) → EachOneOf image one two → CanBegin one → CanBegin two
+    → (fault ≡ LibraryDiffers) × (HoldsOther contents library one ⊎ HoldsOther contents library two)
+
+-- ---- what an opening answers
 
 -- the contents are a store of the library and of a table with which no server of it begins
 pub record IsUnfit (library : TreeValue) (contents : List ℕ) (fault : OpenFault) : Type 0 where
   pub told : fault ≡ Damaged 0
+  pub bank : ℕ
   pub table : TableValue
-  pub holds : IsStore contents (canonical library) table
-  pub cannot : CanServe library table → ⊥
+  pub holds : IsStoreIn (Two bank) contents (canonical library) table
+  pub cannot : CanServe bank library table → ⊥
 
 -- What an opening has found on an honest disk. It writes nothing; at the end each image is a store of the table, which has no locks, and
 -- the contents were one at the start.
 pub record IsFound {D : Type 0} (g : Ghosts D) (disk : D) (library : TreeValue) (store : Store D g) (table : TableValue) : Type 0 where
   pub honest : IsTrue (g.is_honest disk)
   pub reads : WritesNothing g.image g.moment g.image_since disk store.disk
-  pub each : EachIs (g.image store.disk) store.chosen store.bank.gate store.library.items table
-  pub contents : IsStore (g.contents disk) (canonical library) table
+  pub each : EachIs (g.image store.disk) store.bank.shape store.chosen store.bank.gate store.library.items table
+  pub contents : IsStoreIn store.bank.shape (g.contents disk) (canonical library) table
   pub unlocked : unlocked_table table ≡ table
-  pub one : IsOneOf (g.image disk) library table
+  pub one : FindsOneOf (g.image disk) (body_bytes store.bank.shape) library table
   pub formatted : IsForeign (g.size_of disk) (g.contents disk) → ⊥
 
 -- a store of the library was opened on the disk, with a table
 pub record IsOpened {D : Type 0} (g : Ghosts D) (disk : D) (library : TreeValue) (store : Store D g) (table : TableValue) : Type 0 where
-  pub serves : CanServe library table
+  pub serves : CanServe (body_bytes store.bank.shape) library table
   pub numbered : is_numbered table ≡ true
+  pub shape : store.bank.shape ≡ Two (body_bytes store.bank.shape)
   pub text : store.library.items ≡ canonical library
   pub goes_on : store.stopped ≡ false
   pub size : g.size_of store.disk ≡ g.size_of disk
@@ -82,8 +98,10 @@ pub record IsTold {D : Type 0} (g : Ghosts D) (disk back : D) (library : TreeVal
   pub says : Says (Some (canonical library)) (g.size_of disk) (g.contents disk) fault ⊎ IsUnfit library (g.contents disk) fault
   -- a disk that is too small or not formatted is found to be that before memory is taken
   pub early : IsForeign (g.size_of disk) (g.contents disk) → IsEarly fault
-  -- where a stop has left one of two tables, only memory or the device can be wanting
-  pub late : IsRefusal fault → IsNoneOfTwo (g.image disk) library
+  -- where the contents hold another library, that is told, unless memory or the device is wanting
+  pub differs : (state : State) → HoldsOther (g.contents disk) library state → IsRefusal fault → fault ≡ LibraryDiffers
+  -- where a stop has left one of two states, nothing else is
+  pub late : IsRefusal fault → RefusesOneOf (g.image disk) (g.contents disk) library fault
 
 -- nothing was opened, and the disk is handed back
 pub record IsNotOpened {D : Type 0} (g : Ghosts D) (disk back : D) (library : TreeValue) (fault : OpenFault) : Type 0 where

@@ -14,7 +14,7 @@ use Rattle.oa_server.specs.Limits.{allowed}
 use Rattle.oa_server.specs.Requests.{HasEvent}
 use Rattle.oa_server.specs.States.{State}
 use Rattle.oa_server.specs.Steps.{decided, refusal}
-use Rattle.oa_server.specs.Turns.{Turn}
+use Rattle.oa_server.specs.Turns.{Ordinary}
 
 -- the body asks a request of which this change is decided
 pub record IsDrafted (state : State) (body : List ℕ) (planned : Planned) : Type 0 where
@@ -29,7 +29,7 @@ pub record IsPlanned (state : State) (body : List ℕ) (planned : Planned) : Typ
   pub asked : Asks body request
   pub tag : planned.tag ≡ tag_at body
   pub decided_is : decided state request ≡ Ok (decisions.Change planned.event planned.fields)
-  pub allows : IsOk (allowed planned.event state.table)
+  pub allows : IsOk (allowed state.bank planned.event state.table)
 
 -- what images hold of a state, and its library, are the same
 pub record HoldsSame (old new : State) : Type 0 where
@@ -38,20 +38,20 @@ pub record HoldsSame (old new : State) : Type 0 where
 
 -- the turn was taken, and changed nothing that images hold; or a change was decided
 abbrev pub Drafts : State → List ℕ → State → Plan → Type 0
-Drafts old body new (Answered reply) = Turn old body reply new × HoldsSame old new
+Drafts old body new (Answered reply) = Ordinary old body reply new × HoldsSame old new
 Drafts old body new (Change planned) = IsDrafted old body planned × BringsNoLocks planned.event × (new ≡ old)
 
 -- the turn was taken, and changed nothing that images hold; or a change is to be made
 abbrev pub Plans : State → List ℕ → State → Plan → Type 0
-Plans old body new (Answered reply) = Turn old body reply new × HoldsSame old new
+Plans old body new (Answered reply) = Ordinary old body reply new × HoldsSame old new
 Plans old body new (Change planned) = IsPlanned old body planned × BringsNoLocks planned.event × (new ≡ old)
 
 -- a change that was decided is refused, or to be made
 abbrev pub PlansChange : State → ℕ → Event → List ℕ → Plan → Type 0
 PlansChange state tag event fields (Answered reply) =
-    (code : HResult) × (allowed event state.table ≡ Err code) × (reply ≡ refusal tag code None)
+    (code : HResult) × (allowed state.bank event state.table ≡ Err code) × (reply ≡ refusal tag code None)
 PlansChange state tag event fields (Change planned) =
-    (planned ≡ record { tag = tag; event = event; fields = fields }) × IsOk (allowed event state.table)
+    (planned ≡ record { tag = tag; event = event; fields = fields }) × IsOk (allowed state.bank event state.table)
 
 -- what was answered made no event
 abbrev pub HasNoEvent : State → List ℕ → Plan → Type 0

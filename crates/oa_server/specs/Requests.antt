@@ -1,6 +1,6 @@
 -- The requests of a server, as the theory of groups sees them.
 use Rattle.std.specs.Prelude.{◌≡◌, ℕ, ◌==◌, ◌≤◌, ◌++◌, Bool, false, true, List, [], length, Option, Some, None}
-use Rattle.std.proofs.Common.{ap, inl, inr, sym, ◌∙◌, true≢false}
+use Rattle.std.proofs.Common.{ap, inl, inr, refl, sym, ◌∙◌, true≢false}
 use Rattle.oa_model.specs.Limits.{max_event_bytes}
 use Rattle.oa_groups.specs.Turns.{Entry, Turns, entry}
 use Rattle.oa_journal.specs.Replays.{Replays}
@@ -8,6 +8,8 @@ use Rattle.oa_keeper.proofs.Relocked.{unlocked_twice}
 use Rattle.oa_model.specs.Codes.{e_fail, e_outofmemory, stg_e_writefault}
 use Rattle.oa_image.specs.Events.{event_image}
 use Rattle.oa_record.specs.Asks.{Asks, tag_at}
+use Rattle.oa_idl.specs.Canonical.{canonical}
+use Rattle.oa_record.specs.Replacement.{is_replacement}
 use Rattle.oa_record.specs.Replies.{ReplyValue}
 use Rattle.oa_record.specs.declared.request.Request.{Request}
 use Rattle.oa_table.specs.declared.event.Event.{Event}
@@ -15,7 +17,11 @@ use Rattle.oa_table.specs.Tables.{TableValue, unlocked_table}
 use Rattle.oa_server.specs.NoTrace.{quiet_turn}
 use Rattle.oa_server.specs.States.{State}
 use Rattle.oa_server.specs.Steps.{outcome, refusal}
-use Rattle.oa_server.specs.Turns.{Turn}
+use Rattle.oa_typelib.specs.Keeps.{first_lost}
+use Rattle.oa_typelib.specs.declared.keeping.Lost.{Lost}
+use Rattle.oa_server.specs.Replacing.{Replacement, replacement_reply}
+use Rattle.oa_server.specs.SameLibrary.{plain_library, turn_bank}
+use Rattle.oa_server.specs.Turns.{Ordinary, Turn}
 
 -- what images hold of a state: its table without locks
 abbrev pub held_of : State → TableValue
@@ -35,7 +41,8 @@ bytes_of (Some event) = event_image event
 
 -- the bytes of the event that a body made, and no others: none where its reply is not S_OK
 pub record HasEvent (old : State) (body : List ℕ) (reply : ReplyValue) (event : List ℕ) : Type 0 where
-  pub done : (request : Request) → Asks body request → is_done reply ≡ true → event ≡ bytes_of (outcome old request).event
+  pub done : (request : Request) → is_replacement body ≡ false → Asks body request → is_done reply ≡ true
+      → event ≡ bytes_of (outcome old request).event
   pub undone : is_done reply ≡ false → event ≡ []
 
 -- A turn, with the bytes of the event that it made: they make of what images hold before it what they hold after it.
@@ -73,18 +80,38 @@ abbrev pub opened : State → State
 opened state = record state { table = unlocked_table state.table }
 
 -- a reply has its body's tag
+ordinary_tag : (old new : State) (body : List ℕ) (reply : ReplyValue) → Ordinary old body reply new → reply.tag ≡ tag_at body
+ordinary_tag old new body reply (inl s) = ap (λ (r : ReplyValue). r.tag) s.answers
+ordinary_tag old new body reply (inr (inl s)) = ap (λ (r : ReplyValue). r.tag) s.answers
+ordinary_tag old new body reply (inr (inr (inl s))) = ap (λ (r : ReplyValue). r.tag) s.answers
+ordinary_tag old new body reply (inr (inr (inr s))) = ap (λ (r : ReplyValue). r.tag) s.answers
+
+replacement_tag : (tag : ℕ) (lost : Option Lost) → (replacement_reply tag lost).tag ≡ tag
+replacement_tag tag None = refl
+replacement_tag tag (Some lost) = refl
+
 pub turn_tag : (old new : State) (body : List ℕ) (reply : ReplyValue) → Turn old body reply new → reply.tag ≡ tag_at body
-turn_tag old new body reply (inl s) = ap (λ (r : ReplyValue). r.tag) s.answers
-turn_tag old new body reply (inr (inl s)) = ap (λ (r : ReplyValue). r.tag) s.answers
-turn_tag old new body reply (inr (inr (inl s))) = ap (λ (r : ReplyValue). r.tag) s.answers
-turn_tag old new body reply (inr (inr (inr s))) = ap (λ (r : ReplyValue). r.tag) s.answers
+turn_tag old new body reply (inl s) = ordinary_tag old new body reply s.turn
+turn_tag old new body reply (inr s) = by s.turn
+  where
+    by : Replacement old body reply new → reply.tag ≡ tag_at body
+    by (inl one) = ap (λ (r : ReplyValue). r.tag) one.answers ∙ replacement_tag (tag_at body) (first_lost one.library old.library)
+    by (inr (inl one)) = ap (λ (r : ReplyValue). r.tag) one.answers
+    by (inr (inr one)) = ap (λ (r : ReplyValue). r.tag) one.answers
 
 pub not_done : (reply : ReplyValue) → is_done reply ≡ false → reply.code.0 ≡ 0 → ⊥
 not_done reply is e = true≢false (ap (λ (n : ℕ). n == 0) (sym e) ∙ is)
 
+-- the text of a state's library
+abbrev pub text_of : State → List ℕ
+text_of state = canonical state.library
+
 abbrev pub requests : Turns State ReplyValue
 requests = record {
+  bank = λ state. state.bank;
+  text = text_of;
   held = held_of;
+  alone = is_replacement;
   Turn = IsAsked;
   faulted = faulted;
   failed = failed;
@@ -92,7 +119,9 @@ requests = record {
   is_done = is_done;
   is_starved = is_starved;
   opened = opened;
-  reopens = λ state. unlocked_twice state.table;
+  reopens = λ state. (unlocked_twice state.table, refl, refl);
+  sized = λ asked old new one. turn_bank old new asked.body asked.reply one.turn;
+  stays = λ asked old new one plain. ap canonical (plain_library old new asked.body asked.reply one.turn plain);
   replays = λ asked old new one. one.replays;
   tells = λ asked old new one. ap (λ (tag : ℕ). refusal tag stg_e_writefault None) (turn_tag old new asked.body asked.reply one.turn);
   leaves = λ asked old new one is. quiet_turn old new asked.body asked.reply one.turn (not_done asked.reply is);

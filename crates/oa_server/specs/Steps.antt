@@ -58,7 +58,7 @@ after state request = after_outcome state (outcome state request)
 -- whether want of memory may be answered: not in place of a refused CREATE or RELEASE
 abbrev pub takes_memory : State → Request → Bool
 takes_memory state (requests.Create class) = is_ok (creation state class)
-takes_memory state (requests.Release number) = is_ok (allowed (Release number) state.table)
+takes_memory state (requests.Release number) = is_ok (allowed state.bank (Release number) state.table)
 takes_memory state (requests.GetIds call) = true
 takes_memory state (requests.Invoke call) = true
 takes_memory state (requests.GetElement call indices) = true

@@ -2,6 +2,7 @@
 use Rattle.std.specs.Prelude.{◌≡◌, ℕ, false, true, List, ⊤}
 use Rattle.oa_disk.specs.declared.disk.Disk.{Ghosts}
 use Rattle.oa_groups.specs.Served.{IsServed}
+use Rattle.oa_journal.specs.Shapes.{body_bytes, default_bank_bytes}
 use Rattle.oa_store.specs.declared.store.Store.{Store}
 use Rattle.oa_record.specs.Replies.{ReplyValue}
 use Rattle.oa_server.specs.declared.storage.Storage.{Storage}
@@ -20,6 +21,11 @@ InMemory (Disk store) = ⊥
 abbrev pub disk_of : {D : Type 0} {g : Ghosts D} → Storage D g → D
 disk_of (Memory disk) = disk
 disk_of (Disk store) = store.disk
+
+-- how many bytes the body of a bank has that the table has to fit
+abbrev pub bank_of : {D : Type 0} {g : Ghosts D} → Storage D g → ℕ
+bank_of (Memory disk) = default_bank_bytes
+bank_of (Disk store) = body_bytes store.bank.shape
 
 -- One body is answered: by a turn in memory, where no call of the disk is made, or over a store.
 abbrev pub Answers : {D : Type 0} {g : Ghosts D} → Storage D g → Storage D g → State → List ℕ → ReplyValue → State → Type 0

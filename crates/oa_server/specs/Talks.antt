@@ -1,5 +1,5 @@
 -- Sessions of a server over streams, in memory and over a store.
-use Rattle.std.specs.Prelude.{◌≡◌, ◌<◌, ◌≤◌, ℕ, false, true, List, [], ◌∷◌, ◌++◌, length, map, Result, ⊤}
+use Rattle.std.specs.Prelude.{◌≡◌, ◌⊎◌, ◌<◌, ◌≤◌, ℕ, false, true, List, [], ◌∷◌, ◌++◌, length, map, Result, ⊤}
 use Rattle.oa_disk.specs.declared.disk.Disk.{Ghosts}
 use Rattle.oa_frame.specs.Framings.{Frames}
 use Rattle.oa_frame.specs.Sessions.{Session, joined, spelled_all}
@@ -9,6 +9,7 @@ use Rattle.oa_groups.specs.Groups.{IsWhole, is_full}
 use Rattle.oa_groups.specs.Runs.{Run}
 use Rattle.oa_groups.specs.Sessions.{Call}
 use Rattle.oa_groups.specs.Turns.{Entry, body_of, reply_of}
+use Rattle.oa_record.specs.Replacement.{is_replacement}
 use Rattle.oa_record.specs.Replies.{ReplyValue, reply_record}
 use Rattle.oa_stream.specs.Sink.{Output, Puts}
 use Rattle.oa_stream.specs.Source.{Input}
@@ -55,6 +56,8 @@ pub record IsEndedOver {D : Type 0} {g : Ghosts D} (old : Storage D g) (before :
     (replies : List (List ℕ)) (new : Storage D g) (after : State) (hand' : Hand) : Type 0 where
   pub told : List ReplyValue
   pub are : replies ≡ map reply_record told
+  pub size : hand'.size ≡ hand.size
+  pub none : hand'.replies.items ≡ []
   pub ended : EndedIn old before hand told new after hand'
 
 -- In memory every body has one reply, handed out at that body. Over a store the group in hand takes it.
@@ -151,11 +154,18 @@ pub record IsRest {D : Type 0} {g : Ghosts D} (size : ℕ) (new : Store D g) (be
   pub short : is_full size held ≡ false
   pub told_are : new.stopped ≡ false → told ≡ map reply_of held
 
+-- The last of these bodies is a group of its own, and ends the group before it, whose replies are handed out at it too.
+pub record EndsApart (bodies : List (List ℕ)) : Type 0 where
+  pub front : List (List ℕ)
+  pub last : List ℕ
+  pub are : bodies ≡ front ++ last ∷ []
+  pub alone : is_replacement last ≡ true
+
 -- So one group over a store; in memory, and after a fault of the device, one body.
 abbrev pub EndsGroup : {D : Type 0} {g : Ghosts D} → ℕ → Storage D g → Storage D g → State → List (List ℕ) → List ReplyValue
     → State → Type 0
 EndsGroup size (Disk old) (Disk new) before bodies told after =
-    (old.stopped ≡ false → IsGroup size new before bodies told after) × (old.stopped ≡ true → length bodies ≡ 1)
+    (old.stopped ≡ false → IsGroup size new before bodies told after ⊎ EndsApart bodies) × (old.stopped ≡ true → length bodies ≡ 1)
 EndsGroup size (Disk old) (Memory new) before bodies told after = ⊥
 EndsGroup size (Memory old) new before bodies told after = length bodies ≡ 1
 
@@ -203,11 +213,11 @@ pub record InParts {D : Type 0} {g : Ghosts D} (size : ℕ) (old new : Storage D
   pub rest : EndsBefore size mid new state in_hand told after
   pub ends : Serves size mid new state in_hand told after
 
--- A whole session: what was read and written, and that these replies are what serving the bodies that were read in groups of this size
--- makes.
+-- A whole session: what was read and written, and that these replies are what serving the bodies that were read and answered in groups of
+-- this size makes. Where the writer failed before a body that is a group of its own, that body is none of them.
 pub record ServesSession {D : Type 0} {g : Ghosts D} (f : Frames) (last : List ℕ) (input input' : Input) (out out' : Output)
     (size : ℕ) (old new : Storage D g) (before after : State) (served : Served) : Type 0 where
-  pub io : Session f any_turn any_end last input input' out out' tt tt served
+  pub io : Session f is_replacement any_turn any_end last input input' out out' tt tt served
   pub told : List ReplyValue
   pub replies_are : joined io.handed ++ io.held ≡ map reply_record told
   pub serves : Serves size old new before io.bodies told after
@@ -221,4 +231,4 @@ HasTalked f input input' out out' size old new served =
 -- in memory each reply is handed out at its body
 abbrev pub HasTalkedInMemory : Frames → Input → Input → Output → Output → State → State → Served → Type 0
 HasTalkedInMemory f input input' out out' old new served =
-    Session f turn_written none_held last_written input input' out out' old new served
+    Session f is_replacement turn_written none_held last_written input input' out out' old new served

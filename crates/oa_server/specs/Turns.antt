@@ -1,9 +1,11 @@
 -- Turns of a server, and runs of turns.
-use Rattle.std.specs.Prelude.{◌≡◌, ◌⊎◌, ℕ, true, List, [], ◌∷◌, Option, None}
+use Rattle.std.specs.Prelude.{◌≡◌, ◌⊎◌, ℕ, true, false, List, [], ◌∷◌, Option, None}
 use Rattle.oa_model.specs.Codes.{bad_stub_data, disp_e_badvartype, e_outofmemory}
 use Rattle.oa_record.specs.declared.request.Request.{Request}
 use Rattle.oa_record.specs.Asks.{Asks, IsBadVarType, IsStub, MayStarve, tag_at}
 use Rattle.oa_record.specs.Replies.{ReplyValue}
+use Rattle.oa_record.specs.Replacement.{is_replacement}
+use Rattle.oa_server.specs.Replacing.{Replacement}
 use Rattle.oa_server.specs.States.{State}
 use Rattle.oa_server.specs.Steps.{after, refusal, reply_of, takes_memory}
 
@@ -39,10 +41,23 @@ pub record LacksMemory (old : State) (body : List ℕ) (reply : ReplyValue) (new
   pub answers : reply ≡ refusal (tag_at body) e_outofmemory None
   pub leaves : new ≡ old
 
+-- one turn of a body with another opcode than 12
+abbrev pub Ordinary : State → List ℕ → ReplyValue → State → Type 0
+Ordinary old body reply new =
+    Steps old body reply new ⊎ (RefusesStub old body reply new ⊎ (RefusesType old body reply new ⊎ LacksMemory old body reply new))
+
+pub record IsOrdinary (old : State) (body : List ℕ) (reply : ReplyValue) (new : State) : Type 0 where
+  pub kind : is_replacement body ≡ false
+  pub turn : Ordinary old body reply new
+
+-- one turn of a body with that opcode
+pub record IsRenewal (old : State) (body : List ℕ) (reply : ReplyValue) (new : State) : Type 0 where
+  pub kind : is_replacement body ≡ true
+  pub turn : Replacement old body reply new
+
 -- one turn
 abbrev pub Turn : State → List ℕ → ReplyValue → State → Type 0
-Turn old body reply new =
-    Steps old body reply new ⊎ (RefusesStub old body reply new ⊎ (RefusesType old body reply new ⊎ LacksMemory old body reply new))
+Turn old body reply new = IsOrdinary old body reply new ⊎ IsRenewal old body reply new
 
 -- one turn after another
 abbrev pub Run : State → List (List ℕ) → List ReplyValue → State → Type 0

@@ -1,15 +1,15 @@
 //! The ways in which a table changes.
-ghost use Rattle.std.specs.Prelude.{◌≡◌, ◌-◌, ◌<◌, ◌≤◌, ◌++◌, IsErrOf, IsOk, Ok, OnErr, OnOk, false, length, true};
+ghost use Rattle.std.specs.Prelude.{◌≡◌, ◌-◌, ◌<◌, ◌≤◌, ◌++◌, ℕ, IsErrOf, IsOk, Ok, OnErr, OnOk, false, length, true};
 ghost use Rattle.oa_model.specs.Limits.{max_event_bytes};
 ghost use Rattle.oa_groups.specs.Desks.{KeepsCommitted, LeavesCommitted};
 ghost use Rattle.oa_groups.specs.Served.{Goes};
 ghost use Rattle.oa_image.specs.Events.{event_image};
-ghost use Rattle.oa_journal.specs.Bank.{bank_bytes};
+ghost use Rattle.oa_journal.specs.Shapes.{ample_bytes, body_bytes};
 ghost use Rattle.oa_journal.specs.Replays.{Replays};
 ghost use Rattle.oa_keeper.specs.Kept.{HasRoom};
 ghost use Rattle.oa_keeper.specs.declared.fault.KeepFault.{KeepFault};
 ghost use Rattle.oa_server.specs.Decisions.{MakesTable, RelocksTable};
-ghost use Rattle.oa_server.specs.Limits.{ChangesTable, IsSound, allowed, within_limits};
+ghost use Rattle.oa_server.specs.Limits.{ChangesTable, IsSound, StaysWithin, allowed};
 ghost use Rattle.oa_server.specs.declared.decision.LockChange.TheVariants.{Lock as ALock, Unlock as AnUnlock};
 ghost use Rattle.oa_table.specs.Events.{BringsNoLocks, applied};
 ghost use Rattle.oa_table.specs.Tables.{TableValue, unlocked_table};
@@ -27,10 +27,8 @@ use std::alloc::AllocError;
 /// Makes a change that is allowed. Err only where memory is refused; then nothing changes.
 pub(crate) fn apply(table: &mut Table, event: Event) -> Result<(), AllocError>
     requires unlocked { BringsNoLocks event }
-    requires allowed { IsOk (allowed event table.old) }
-    requires sound { IsSound table.old }
     ensures change { MakesTable event table.old table.new result }
-    ensures sound { IsSound table.new }
+    ensures sound { (bank : ℕ) → IsOk (allowed bank event table.old) → IsSound bank table.old → IsSound bank table.new }
 {
     if let Err(_) = table.apply(event) {
         return Err(AllocError);
@@ -39,17 +37,17 @@ pub(crate) fn apply(table: &mut Table, event: Event) -> Result<(), AllocError>
 }
 
 /// Makes a change where it is allowed. Err tells why it is not, or that no memory was found; then nothing changes.
-pub(crate) fn change(table: &mut Table, event: Event) -> Result<(), HResult>
+pub(crate) fn change(bank: u32, table: &mut Table, event: Event) -> Result<(), HResult>
     requires unlocked { BringsNoLocks event }
-    requires sound { IsSound table.old }
-    ensures change { ChangesTable event table.old table.new result }
-    ensures sound { IsSound table.new }
+    requires sound { IsSound bank table.old }
+    ensures change { ChangesTable bank event table.old table.new result }
+    ensures sound { IsSound bank table.new }
 {
     // Far from the limits, as most changes are, the table alone tells whether the event applies, as it makes the change.
-    if is_surely_within(table, &event) {
+    if is_surely_within(bank, table, &event) {
         return change_within(table, event);
     }
-    if let Some(code) = refusal(table, &event) {
+    if let Some(code) = refusal(bank, table, &event) {
         return Err(code);
     }
     match apply(table, event) {
@@ -61,10 +59,8 @@ pub(crate) fn change(table: &mut Table, event: Event) -> Result<(), HResult>
 /// The same of one that is within the limits, where it applies.
 fn change_within(table: &mut Table, event: Event) -> Result<(), HResult>
     requires unlocked { BringsNoLocks event }
-    requires sound { IsSound table.old }
-    requires within { (new : TableValue) → applied event table.old ≡ Ok new → within_limits event new ≡ Ok new }
-    ensures change { ChangesTable event table.old table.new result }
-    ensures sound { IsSound table.new }
+    ensures change { (bank : ℕ) → StaysWithin bank event table.old → ChangesTable bank event table.old table.new result }
+    ensures sound { (bank : ℕ) → StaysWithin bank event table.old → IsSound bank table.old → IsSound bank table.new }
 {
     if let Err((_, fault)) = table.apply(event) {
         return Err(fault.code());
@@ -74,10 +70,9 @@ fn change_within(table: &mut Table, event: Event) -> Result<(), HResult>
 
 /// Changes the locks of an array. Takes no memory.
 pub(crate) fn change_locks(table: &mut Table, change: LockChange) -> Result<(), TableFault>
-    requires sound { IsSound table.old }
     ensures change { RelocksTable change table.old table.new result }
     ensures same { unlocked_table table.new ≡ unlocked_table table.old }
-    ensures sound { IsSound table.new }
+    ensures sound { (bank : ℕ) → IsSound bank table.old → IsSound bank table.new }
 {
     match change {
         LockChange::Lock(name) => lock(table, name),
@@ -86,10 +81,9 @@ pub(crate) fn change_locks(table: &mut Table, change: LockChange) -> Result<(), 
 }
 
 fn lock(table: &mut Table, name: CellName) -> Result<(), TableFault>
-    requires sound { IsSound table.old }
     ensures change { RelocksTable (ALock name) table.old table.new result }
     ensures same { unlocked_table table.new ≡ unlocked_table table.old }
-    ensures sound { IsSound table.new }
+    ensures sound { (bank : ℕ) → IsSound bank table.old → IsSound bank table.new }
 {
     match table.lock(&name) {
         Ok(_) => Ok(()),
@@ -98,10 +92,9 @@ fn lock(table: &mut Table, name: CellName) -> Result<(), TableFault>
 }
 
 fn unlock(table: &mut Table, name: CellName) -> Result<(), TableFault>
-    requires sound { IsSound table.old }
     ensures change { RelocksTable (AnUnlock name) table.old table.new result }
     ensures same { unlocked_table table.new ≡ unlocked_table table.old }
-    ensures sound { IsSound table.new }
+    ensures sound { (bank : ℕ) → IsSound bank table.old → IsSound bank table.new }
 {
     match table.unlock(&name) {
         Ok(_) => Ok(()),
@@ -117,12 +110,12 @@ pub(crate) fn hold_change<D: Disk>(
     event: Event,
 ) -> Result<(), KeepFault>
     requires unlocked { BringsNoLocks event }
-    requires allowed { IsOk (allowed event table.old) }
-    requires sound { IsSound table.old }
+    requires allowed { IsOk (allowed (body_bytes store.old.bank.shape) event table.old) }
+    requires sound { IsSound (body_bytes store.old.bank.shape) table.old }
     requires goes_on { store.old.stopped ≡ false }
     requires room { HasRoom frame.old store.old }
     ensures change { MakesTable event table.old table.new result }
-    ensures sound { IsSound table.new }
+    ensures sound { IsSound (body_bytes store.old.bank.shape) table.new }
     ensures replays { OnOk result (Replays (event_image event) (unlocked_table table.old) (unlocked_table table.new)) }
     ensures small { OnOk result (length (event_image event) ≤ max_event_bytes) }
     ensures some { OnOk result (0 < length (event_image event)) }
@@ -132,11 +125,13 @@ pub(crate) fn hold_change<D: Disk>(
     ensures any_moment { LeavesCommitted frame.old (unlocked_table table.old) store.old store.new }
     ensures each { store.new.stopped ≡ false → KeepsCommitted frame.old (unlocked_table table.old) store.old store.new }
     // No checkpoint is made that is not due.
-    ensures undue { 1572869 ≤ bank_bytes - store.old.bank.gate → store.new.disk ≡ store.old.disk }
+    ensures undue { ample_bytes ≤ body_bytes store.old.bank.shape - store.old.bank.gate → store.new.disk ≡ store.old.disk }
     ensures room { store.new.stopped ≡ false → HasRoom frame.new store.new }
     ensures going { (IsErrOf result KeepFault.Write → ⊥) → store.new.stopped ≡ false }
     ensures stops { IsErrOf result KeepFault.Write → store.new.stopped ≡ true }
     ensures goes { Goes store.old store.new }
+    ensures library { store.new.library.items ≡ store.old.library.items }
+    ensures shape { store.new.bank.shape ≡ store.old.bank.shape }
 {
     is_event(&event);
     match hold(store, table, frame, event) {

@@ -1,6 +1,6 @@
 //! A server at work.
 ghost use Rattle.std.specs.Prelude.{◌≡◌, ◌≤◌, map, IfOk, OnErr, false, true};
-ghost use Rattle.oa_server.specs.Storages.{Answers, InMemory, Serves, disk_of};
+ghost use Rattle.oa_server.specs.Storages.{Answers, InMemory, Serves, bank_of, disk_of};
 ghost use Rattle.oa_server.specs.Turns.{Run, Turn};
 
 use crate::hand::Hand;
@@ -18,11 +18,13 @@ pub(crate) struct Clerk<D: Disk> {
     pub storage: Storage<D>,
     /// The group in hand of a session over a store.
     pub hand: Hand,
+    ghost banks: { bank_of storage ≡ host.bank },
 }
 
 impl<D: Disk> Clerk<D> {
     /// A server of these parts.
     pub(crate) fn new(alloc: Global, host: Host, storage: Storage<D>) -> Clerk<D>
+        requires banks { bank_of storage ≡ host.bank }
         ensures host { result.host ≡ host }
         ensures storage { result.storage ≡ storage }
     {
@@ -44,8 +46,10 @@ impl<D: Disk> Clerk<D> {
 
 /// Answers one body.
 pub(crate) fn answer_with<D: Disk>(host: &mut Host, storage: &mut Storage<D>, body: &[u8]) -> Reply
+    requires banks { bank_of storage.old ≡ host.old.bank }
     ensures answers { Answers storage.old storage.new host.old body.now result host.new }
     ensures memory { InMemory storage.old → Turn host.old body.now result host.new }
+    ensures banks { bank_of storage.new ≡ host.new.bank }
 {
     match storage {
         Storage::Memory(_) => host.turn(body),
@@ -61,10 +65,12 @@ pub(crate) fn run_with<D: Disk>(
     group: usize,
 ) -> Result<Vec<Reply>, AllocError>
     requires positive { 1 ≤ group }
+    requires banks { bank_of storage.old ≡ host.old.bank }
     ensures serves { IfOk result (λ replies. Serves group storage.old storage.new host.old (map (λ b. b.items) bodies.now) replies.items
         host.new) }
     ensures memory { InMemory storage.old → IfOk result (λ replies. Run host.old (map (λ b. b.items) bodies.now) replies.items host.new) }
     ensures err { OnErr result ((storage.new ≡ storage.old) × (host.new ≡ host.old)) }
+    ensures banks { bank_of storage.new ≡ host.new.bank }
 {
     match storage {
         Storage::Memory(_) => host.run(bodies),

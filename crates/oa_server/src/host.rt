@@ -1,16 +1,17 @@
 //! A library and a table in memory, and one turn after another.
 ghost use Rattle.std.specs.Prelude.{◌≡◌, ◌-◌, ◌≤◌, List, ℕ, [], map, length, true, false, IsOk, IfOk, OnOk, OnErr};
 ghost use Rattle.oa_groups.specs.Served.{Goes};
-ghost use Rattle.oa_journal.specs.Bank.{bank_bytes};
+ghost use Rattle.oa_journal.specs.Shapes.{ample_bytes, body_bytes, default_bank_bytes};
 ghost use Rattle.oa_groups.specs.Desks.{KeepsCommitted, LeavesCommitted};
 ghost use Rattle.oa_keeper.specs.Kept.{HasRoom};
 ghost use Rattle.oa_server.specs.Decisions.{ChangesNoLocks, Decides, after_outcome, relocked, relocking};
 ghost use Rattle.oa_server.specs.Limits.{IsSound, allowed};
 ghost use Rattle.oa_server.specs.Plans.{Drafts, HasNoEvent, HoldsSame, IsDrafted, IsPlanned, Plans, PlansChange};
-ghost use Rattle.oa_server.specs.Hands.{CallsForEvent};
+ghost use Rattle.oa_server.specs.Hands.{CallsForEvent, HasBanks};
 ghost use Rattle.oa_server.specs.Requests.{HasTurn, IsHeldBack, held_of};
 ghost use Rattle.oa_server.specs.Steps.{decided, reply_with, takes_memory};
-ghost use Rattle.oa_server.specs.Turns.{Run, Turn};
+ghost use Rattle.oa_server.specs.Turns.{Ordinary, Run, Turn};
+ghost use Rattle.oa_record.specs.Replacement.{is_replacement};
 ghost use Rattle.oa_table.specs.Events.{BringsNoLocks};
 ghost use Rattle.oa_table.specs.Tables.{first_table};
 
@@ -21,10 +22,11 @@ use crate::limits::refusal;
 use crate::plan::{Plan, Planned};
 use crate::refusal::Refusal;
 use oa_disk::Disk;
+use oa_journal::DEFAULT_BANK_BYTES;
 use oa_keeper::{Broken, Frame, KeepFault};
 use oa_model::HResult;
 use oa_record::laws::one_request;
-use oa_record::{Reply, Request, read_request, tag_of};
+use oa_record::{Reply, Request, is_replacement, read_request, tag_of};
 use oa_store::Store;
 use oa_table::{Event, Table};
 use oa_typelib::Library;
@@ -42,12 +44,15 @@ mod look_ups;
 mod put_element;
 mod redimension;
 mod release;
+mod renewal;
 mod type_info;
 mod unlock;
 
-/// A library and a table of its objects, in memory: what a server's answers depend on.
+/// A library and a table of its objects, in memory, and how large the table may grow: what a server's answers depend on.
 pub(crate) struct Host {
     alloc: Global,
+    /// How many bytes the body of a bank has that the table has to fit.
+    bank: u32,
     library: Library,
     table: Table,
 }
@@ -57,6 +62,7 @@ impl Drop for Host {
     fn drop(self) {
         let Host {
             alloc: _alloc,
+            bank: _bank,
             library: _library,
             table: _table,
         } = self;
@@ -69,30 +75,32 @@ impl Model for Host {
 
     ghost Value = { State };
 
-    ghost view = { λ s. record { library = s.library; table = s.table } };
+    ghost view = { λ s. record { bank = s.bank; library = s.library; table = s.table } };
 
-    ghost invariant = { λ s. IsSound s.table };
+    ghost invariant = { λ s. IsSound s.bank s.table };
 }
 
 impl Host {
-    /// A library, and the table at first.
+    /// A library, and the table at first. It refuses what one over a new store refuses.
     pub(crate) fn new(alloc: Global, library: Library) -> Host
-        ensures { result ≡ record { library = library; table = first_table } }
+        ensures { result ≡ record { bank = default_bank_bytes; library = library; table = first_table } }
     {
         Host {
             alloc,
+            bank: DEFAULT_BANK_BYTES,
             library,
             table: Table::new(alloc),
         }
     }
 
-    /// A library, and a table that was made before.
-    pub(crate) fn over(alloc: Global, library: Library, table: Table) -> Host
-        requires { IsSound table }
-        ensures { result ≡ record { library = library; table = table } }
+    /// A library, and a table that was made before, over banks of this size.
+    pub(crate) fn over(alloc: Global, bank: u32, library: Library, table: Table) -> Host
+        requires { IsSound bank table }
+        ensures { result ≡ record { bank = bank; library = library; table = table } }
     {
         Host {
             alloc,
+            bank,
             library,
             table,
         }
@@ -100,7 +108,18 @@ impl Host {
 
     /// One turn. Want of memory is told in the reply, which then leaves all as it was.
     pub(crate) fn turn(&mut self, body: &[u8]) -> Reply
-        ensures { Turn self.old body.now result self.new }
+        ensures turn { Turn self.old body.now result self.new }
+        ensures bank { self.new.bank ≡ self.old.bank }
+    {
+        if is_replacement(body) {
+            return self.renew(body);
+        }
+        self.ordinary_turn(body)
+    }
+
+    /// One turn of a body with another opcode than 12.
+    fn ordinary_turn(&mut self, body: &[u8]) -> Reply
+        ensures { Ordinary self.old body.now result self.new }
     {
         match self.draft(body) {
             Plan::Answered(reply) => reply,
@@ -157,8 +176,10 @@ impl Host {
         frame: &mut Frame,
         body: &[u8],
     ) -> Result<Reply, Broken>
+        requires plain { is_replacement body.now ≡ false }
         requires goes_on { store.old.stopped ≡ false }
         requires room { HasRoom frame.old store.old }
+        requires banks { HasBanks store.old self.old }
         ensures turn { IfOk result (λ reply. IsHeldBack body.now reply frame.old frame.new self.old self.new) }
         ensures failed { OnErr result (HasTurn body.now self.old self.new) }
         ensures same { OnErr result (frame.new ≡ frame.old) }
@@ -168,11 +189,13 @@ impl Host {
         ensures any_moment { LeavesCommitted frame.old (held_of self.old) store.old store.new }
         ensures each { store.new.stopped ≡ false → KeepsCommitted frame.old (held_of self.old) store.old store.new }
         // No checkpoint is made that is not due.
-        ensures undue { 1572869 ≤ bank_bytes - store.old.bank.gate → store.new.disk ≡ store.old.disk }
+        ensures undue { ample_bytes ≤ body_bytes store.old.bank.shape - store.old.bank.gate → store.new.disk ≡ store.old.disk }
         ensures room { store.new.stopped ≡ false → HasRoom frame.new store.new }
         ensures going { OnOk result (store.new.stopped ≡ false) }
         ensures stops { OnErr result (store.new.stopped ≡ true) }
         ensures goes { Goes store.old store.new }
+        ensures library { store.new.library.items ≡ store.old.library.items }
+        ensures banks { HasBanks store.new self.new }
     {
         match self.plan(body) {
             Plan::Answered(reply) => Ok(reply),
@@ -188,12 +211,13 @@ impl Host {
         planned: Planned,
     ) -> Result<Reply, Broken>
         requires unlocked { BringsNoLocks planned.event }
-        requires allowed { IsOk (allowed planned.event self.old.table) }
+        requires allowed { IsOk (allowed self.old.bank planned.event self.old.table) }
         requires goes_on { store.old.stopped ≡ false }
         requires room { HasRoom frame.old store.old }
-        ensures turn { IfOk result (λ reply. (body : List ℕ) → IsPlanned self.old body planned
+        requires banks { HasBanks store.old self.old }
+        ensures turn { IfOk result (λ reply. (body : List ℕ) → is_replacement body ≡ false → IsPlanned self.old body planned
             → IsHeldBack body reply frame.old frame.new self.old self.new) }
-        ensures failed { OnErr result ((body : List ℕ) → IsPlanned self.old body planned → HasTurn body self.old self.new) }
+        ensures failed { OnErr result ((body : List ℕ) → is_replacement body ≡ false → IsPlanned self.old body planned → HasTurn body self.old self.new) }
         ensures same { OnErr result (frame.new ≡ frame.old) }
         ensures first { OnErr result (length frame.old ≡ 0) }
         // The device is called for an event alone, or for one that would have been but for memory.
@@ -201,11 +225,13 @@ impl Host {
         ensures any_moment { LeavesCommitted frame.old (held_of self.old) store.old store.new }
         ensures each { store.new.stopped ≡ false → KeepsCommitted frame.old (held_of self.old) store.old store.new }
         // No checkpoint is made that is not due.
-        ensures undue { 1572869 ≤ bank_bytes - store.old.bank.gate → store.new.disk ≡ store.old.disk }
+        ensures undue { ample_bytes ≤ body_bytes store.old.bank.shape - store.old.bank.gate → store.new.disk ≡ store.old.disk }
         ensures room { store.new.stopped ≡ false → HasRoom frame.new store.new }
         ensures going { OnOk result (store.new.stopped ≡ false) }
         ensures stops { OnErr result (store.new.stopped ≡ true) }
         ensures goes { Goes store.old store.new }
+        ensures library { store.new.library.items ≡ store.old.library.items }
+        ensures banks { HasBanks store.new self.new }
     {
         one_request();
         let Planned { tag, event, fields } = planned;
@@ -222,7 +248,7 @@ impl Host {
     fn plan_change(&self, tag: u32, event: Event, fields: Fields) -> Plan
         ensures { PlansChange self.now tag event fields result }
     {
-        match refusal(&self.table, &event) {
+        match refusal(self.bank, &self.table, &event) {
             Some(code) => Plan::Answered(Reply::bare(self.alloc, tag, code, None)),
             None => Plan::Change(Planned { tag, event, fields }),
         }
@@ -231,10 +257,10 @@ impl Host {
     /// Makes a change in memory, and tells it, or why it is refused.
     fn make(&mut self, planned: Planned) -> Reply
         requires { BringsNoLocks planned.event }
-        ensures { (body : List ℕ) → IsDrafted self.old body planned → Turn self.old body result self.new }
+        ensures { (body : List ℕ) → IsDrafted self.old body planned → Ordinary self.old body result self.new }
     {
         let Planned { tag, event, fields } = planned;
-        if let Err(code) = change(&mut self.table, event) {
+        if let Err(code) = change(self.bank, &mut self.table, event) {
             return Reply::bare(self.alloc, tag, code, None);
         }
         Reply::new(tag, HResult::S_OK, None, fields.into_vec())
@@ -243,6 +269,7 @@ impl Host {
     /// One turn after another. Err only where memory is refused before anything was done.
     pub(crate) fn run(&mut self, bodies: &[Vec<u8>]) -> Result<Vec<Reply>, AllocError>
         ensures run { IfOk result (λ replies. Run self.old (map (λ b. b.items) bodies.now) replies.items self.new) }
+        ensures bank { self.new.bank ≡ self.old.bank }
         ensures err { OnErr result (self.new ≡ self.old) }
     {
         let mut replies = Vec::with_capacity(self.alloc, bodies.len())?;

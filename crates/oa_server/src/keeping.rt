@@ -2,9 +2,11 @@
 ghost use Rattle.std.specs.Prelude.{◌≡◌, ◌≤◌, ◌<◌, ◌+◌, ◌++◌, [], IfOk, OnErr, false, length, map, true, vec_capacity};
 ghost use Rattle.oa_groups.specs.Desks.{IsEnded, IsSettled, IsTaken};
 ghost use Rattle.oa_groups.specs.Served.{IsServed};
+ghost use Rattle.oa_journal.specs.Shapes.{ample_bytes};
 ghost use Rattle.oa_keeper.specs.Kept.{HasRoom};
-ghost use Rattle.oa_server.specs.Answers.{IsAnswered, IsLate};
-ghost use Rattle.oa_server.specs.Hands.{CanTake, CanTakeCleared, HandsOut, cleared_desk, desk_of};
+ghost use Rattle.oa_record.specs.Replacement.{is_replacement};
+ghost use Rattle.oa_server.specs.Answers.{IsAnswered, IsLate, IsRenewed, IsRenewedOrLate};
+ghost use Rattle.oa_server.specs.Hands.{CanTake, CanTakeCleared, HandsOut, HasBanks, cleared_desk, desk_of};
 ghost use Rattle.oa_server.specs.Requests.{requests};
 
 use crate::hand::{Hand, withdraw};
@@ -12,17 +14,22 @@ use crate::host::Host;
 use oa_disk::Disk;
 use oa_keeper::{Broken, Frame, commit};
 use oa_model::HResult;
-use oa_record::{Reply, tag_of};
+use oa_record::{Reply, is_replacement, tag_of};
 use oa_store::Store;
 use std::alloc::AllocError;
 
 /// Answers one body: a group of one, whose frame is its own. After a fault of the device the answer is that the store has failed, and
 /// nothing is done.
 pub(crate) fn answer_over<D: Disk>(host: &mut Host, store: &mut Store<D>, body: &[u8]) -> Reply
-    ensures { IsAnswered store.old store.new host.old host.new body.now result }
+    requires banks { HasBanks store.old host.old }
+    ensures answered { IsAnswered store.old store.new host.old host.new body.now result }
+    ensures banks { HasBanks store.new host.new }
 {
     if store.has_stopped() {
         return Reply::bare(host.allocator(), tag_of(body), HResult::E_FAIL, None);
+    }
+    if is_replacement(body) {
+        return renewed_over(host, store, body);
     }
     let mut frame = Frame::new(host.allocator());
     let Ok(reply) = host.turn_held(store, &mut frame, body) else {
@@ -44,14 +51,34 @@ pub(crate) fn answer_over<D: Disk>(host: &mut Host, store: &mut Store<D>, body: 
     reply
 }
 
+/// Answers one body that asks for another library, which is a group of its own.
+fn renewed_over<D: Disk>(host: &mut Host, store: &mut Store<D>, body: &[u8]) -> Reply
+    requires goes_on { store.old.stopped ≡ false }
+    requires kind { is_replacement body.now ≡ true }
+    requires banks { HasBanks store.old host.old }
+    ensures renewed { IsRenewed store.old store.new host.old host.new body.now result }
+    ensures banks { HasBanks store.new host.new }
+{
+    match host.renew_over(store, body) {
+        Ok(reply) => reply,
+        Err(_) => Reply::bare(
+            host.allocator(),
+            tag_of(body),
+            HResult::STG_E_WRITEFAULT,
+            None,
+        ),
+    }
+}
+
 /// Ends the group in hand: its events go out, and its replies may be handed out, or are taken back.
 fn settle<D: Disk>(host: &Host, store: &mut Store<D>, hand: &mut Hand)
     requires goes_on { store.old.stopped ≡ false }
     requires room { HasRoom hand.old.frame store.old }
-    requires few { length hand.old.frame ≤ 1572863 }
+    requires few { length hand.old.frame + 6 ≤ ample_bytes }
     ensures settled { IsSettled requests hand.new.replies.items (desk_of store.old host.now hand.old)
         (cleared_desk store.new host.now hand.new) }
     ensures frame { hand.new.frame ≡ [] }
+    ensures shape { store.new.bank.shape ≡ store.old.bank.shape }
     ensures len { length hand.new.replies.items ≡ length hand.old.replies.items }
     ensures places { vec_capacity hand.new.replies ≡ vec_capacity hand.old.replies }
     ensures size { hand.new.size ≡ hand.old.size }
@@ -69,18 +96,24 @@ pub(crate) fn take<D: Disk>(
     body: &[u8],
 ) -> bool
     requires ready { CanTake store.old hand.old }
+    requires banks { HasBanks store.old host.old }
     ensures held { result ≡ false
         → IsTaken requests hand.old.size body.now [] (desk_of store.old host.old hand.old) (desk_of store.new host.new hand.new) }
     ensures told { result ≡ true → IsTaken requests hand.old.size body.now hand.new.replies.items (desk_of store.old host.old hand.old)
         (cleared_desk store.new host.new hand.new) }
     ensures ready { result ≡ false → CanTake store.new hand.new }
     ensures cleared { result ≡ true → CanTakeCleared store.new hand.new }
+    ensures banks { HasBanks store.new host.new }
     ensures one { length hand.new.replies.items ≡ length hand.old.replies.items + 1 }
     ensures size { hand.new.size ≡ hand.old.size }
 {
     if store.has_stopped() {
         let reply = Reply::bare(host.allocator(), tag_of(body), HResult::E_FAIL, None);
         hand.replies.push_reserved(reply);
+        return true;
+    }
+    if is_replacement(body) {
+        take_apart(host, store, hand, body);
         return true;
     }
     match host.turn_held(store, &mut hand.frame, body) {
@@ -106,12 +139,45 @@ pub(crate) fn take<D: Disk>(
     }
 }
 
+/// The same, behind the end of the group before it, which the device may have failed.
+fn renewed_or_late<D: Disk>(host: &mut Host, store: &mut Store<D>, body: &[u8]) -> Reply
+    requires kind { is_replacement body.now ≡ true }
+    requires banks { HasBanks store.old host.old }
+    ensures renewed { IsRenewedOrLate store.old store.new host.old host.new body.now result }
+    ensures banks { HasBanks store.new host.new }
+{
+    if !store.has_stopped() {
+        return renewed_over(host, store, body);
+    }
+    Reply::bare(host.allocator(), tag_of(body), HResult::E_FAIL, None)
+}
+
+/// Takes a request that is a group of its own: first the group in hand ends. All replies in hand are to be handed out then.
+fn take_apart<D: Disk>(host: &mut Host, store: &mut Store<D>, hand: &mut Hand, body: &[u8])
+    requires ready { CanTake store.old hand.old }
+    requires going { store.old.stopped ≡ false }
+    requires kind { is_replacement body.now ≡ true }
+    requires banks { HasBanks store.old host.old }
+    ensures told { IsTaken requests hand.old.size body.now hand.new.replies.items (desk_of store.old host.old hand.old)
+        (cleared_desk store.new host.new hand.new) }
+    ensures cleared { CanTakeCleared store.new hand.new }
+    ensures banks { HasBanks store.new host.new }
+    ensures one { length hand.new.replies.items ≡ length hand.old.replies.items + 1 }
+    ensures size { hand.new.size ≡ hand.old.size }
+{
+    finish(host, store, hand);
+    hand.frame = Frame::new(host.allocator());
+    let reply = renewed_or_late(host, store, body);
+    hand.replies.push_reserved(reply);
+}
+
 /// The input has ended: what is in hand is a group, whose replies are to be handed out.
 pub(crate) fn finish<D: Disk>(host: &Host, store: &mut Store<D>, hand: &mut Hand)
     requires ready { CanTake store.old hand.old }
     ensures ended { IsEnded requests hand.new.replies.items (desk_of store.old host.now hand.old)
         (cleared_desk store.new host.now hand.new) }
     ensures cleared { CanTakeCleared store.new hand.new }
+    ensures shape { store.new.bank.shape ≡ store.old.bank.shape }
     ensures len { length hand.new.replies.items ≡ length hand.old.replies.items }
     ensures size { hand.new.size ≡ hand.old.size }
 {
@@ -131,9 +197,11 @@ fn take_on<D: Disk>(
 )
     requires ready { CanTake store.old hand.old }
     requires places { length out.old.items + length hand.old.replies.items < vec_capacity out.old }
+    requires banks { HasBanks store.old host.old }
     ensures taken { HandsOut (λ told. IsTaken requests hand.old.size body.now told (desk_of store.old host.old hand.old)
         (desk_of store.new host.new hand.new)) out.old.items out.new.items }
     ensures ready { CanTake store.new hand.new }
+    ensures banks { HasBanks store.new host.new }
     ensures one { length out.new.items + length hand.new.replies.items ≡ length out.old.items + length hand.old.replies.items + 1 }
     ensures places { vec_capacity out.old ≤ vec_capacity out.new }
     ensures size { hand.new.size ≡ hand.old.size }
@@ -149,6 +217,7 @@ fn finish_on<D: Disk>(host: &Host, store: &mut Store<D>, hand: &mut Hand, out: &
     requires places { length out.old.items + length hand.old.replies.items ≤ vec_capacity out.old }
     ensures ended { HandsOut (λ told. IsEnded requests told (desk_of store.old host.now hand.old) (desk_of store.new host.now hand.new))
         out.old.items out.new.items }
+    ensures shape { store.new.bank.shape ≡ store.old.bank.shape }
 {
     finish(host, store, hand);
     hand_out(&mut hand.replies, out);
@@ -173,11 +242,13 @@ pub(crate) fn run_over<D: Disk>(
     group: usize,
 ) -> Result<Vec<Reply>, AllocError>
     requires positive { 1 ≤ group }
+    requires banks { HasBanks store.old host.old }
     ensures served { store.old.stopped ≡ false → IfOk result (λ replies. IsServed requests group store.old store.new host.old host.new
         (map (λ b. b.items) bodies.now) replies.items) }
     ensures late { store.old.stopped ≡ true → IfOk result (λ replies. IsLate store.old store.new host.old host.new
         (map (λ b. b.items) bodies.now) replies.items) }
     ensures err { OnErr result ((store.new ≡ store.old) × (host.new ≡ host.old)) }
+    ensures banks { HasBanks store.new host.new }
 {
     let alloc = host.allocator();
     let mut out = Vec::with_capacity(alloc, bodies.len())?;

@@ -1,5 +1,5 @@
 //! Laws of the definitions that turns are stated by.
-ghost use Rattle.std.specs.Prelude.{◌≡◌, ℕ, true, Bool, List, ◌++◌};
+ghost use Rattle.std.specs.Prelude.{◌≡◌, ◌↔◌, ◌≤◌, ℕ, true, Bool, List, None, ◌++◌};
 ghost use Rattle.oa_groups.specs.Laws.{CallCounts, CallGoesOn, EndCountsAll, HistoryKeepsAnswered, OpeningBegins};
 ghost use Rattle.oa_groups.specs.Laws.{OthersAreRun, StopIsLink, StopKeepsAnswered};
 ghost use Rattle.oa_groups.specs.Runs.{Run as RunOf};
@@ -17,11 +17,13 @@ ghost use Rattle.oa_server.specs.Steps.{outcome, reply_of};
 ghost use Rattle.oa_server.specs.Traces.{done_bodies, done_replies, kept_bodies, kept_replies};
 ghost use Rattle.oa_server.specs.Turns.{Run, Turn};
 ghost use Rattle.oa_idl.specs.Trees.{TreeValue};
-ghost use Rattle.oa_table.specs.Tables.{first_table};
+ghost use Rattle.oa_table.specs.Tables.{TableValue, first_table};
 ghost use Rattle.oa_typelib.specs.Checked.{IsChecked};
+ghost use Rattle.oa_typelib.specs.Keeps.{Keeps, first_lost};
 
 use oa_disk::Disk;
 use oa_fits::laws::changes_that_fit;
+use oa_idl::laws::{marked_is_read, one_tree};
 use oa_record::laws::one_request;
 
 /// A request that is answered with another code than S_OK leaves no trace: its outcome has no event and no change of locks, so its turn
@@ -37,14 +39,22 @@ pub fn no_trace()
         → Run old bodies replies new → Run old (kept_bodies choices bodies replies) (kept_replies choices replies) new }
 {}
 
-/// From a table that a library can have, a turn leaves one that it can have, and so does a run; the library stays.
+/// A table that a library can have is one that each library can have that keeps it. Locks are no part of that. A library replaces another
+/// exactly where it keeps it.
+pub fn kept_fits()
+    ensures fits { (new old : TreeValue) → IsChecked new → Keeps new old → (table : TableValue) → fits old table ≡ true
+        → fits new table ≡ true }
+    ensures keeps { (new old : TreeValue) → IsChecked new → (first_lost new old ≡ None) ↔ Keeps new old }
+{
+    oa_fits::laws::kept_fits();
+}
+
+/// From a table that a library can have, a turn leaves one that the library of then can have, and so does a run.
 pub fn fits_stays()
     ensures turn { (old new : State) (body : List ℕ) (reply : ReplyValue) → IsChecked old.library
-        → fits old.library old.table ≡ true → Turn old body reply new
-        → (new.library ≡ old.library) × (fits new.library new.table ≡ true) }
+        → fits old.library old.table ≡ true → Turn old body reply new → IsChecked new.library × (fits new.library new.table ≡ true) }
     ensures run { (old new : State) (bodies : List (List ℕ)) (replies : List ReplyValue) → IsChecked old.library
-        → fits old.library old.table ≡ true → Run old bodies replies new
-        → (new.library ≡ old.library) × (fits new.library new.table ≡ true) }
+        → fits old.library old.table ≡ true → Run old bodies replies new → IsChecked new.library × (fits new.library new.table ≡ true) }
 {
     changes_that_fit();
 }
@@ -52,12 +62,10 @@ pub fn fits_stays()
 /// What was served can be served again, whatever its sessions were and wherever they stopped: from a state with which a server can begin,
 /// each turn leaves one, and so do those of groups; an opening, with which locks end, finds one; and a new store has one.
 pub fn what_was_served_is_served_again()
-    ensures turn { (old new : State) (body : List ℕ) (reply : ReplyValue) → CanBegin old → Turn old body reply new
-        → (new.library ≡ old.library) × CanBegin new }
-    ensures groups { (old new : State) (entries : List (Entry ReplyValue)) → CanBegin old → RunOf requests old entries new
-        → (new.library ≡ old.library) × CanBegin new }
+    ensures turn { (old new : State) (body : List ℕ) (reply : ReplyValue) → CanBegin old → Turn old body reply new → CanBegin new }
+    ensures groups { (old new : State) (entries : List (Entry ReplyValue)) → CanBegin old → RunOf requests old entries new → CanBegin new }
     ensures opened { (state : State) → CanBegin state → CanBegin (opened state) }
-    ensures first { (library : TreeValue) → IsChecked library → CanBegin (state_of library first_table) }
+    ensures first { (bank : ℕ) (library : TreeValue) → IsChecked library → 5242888 ≤ bank → CanBegin (state_of bank library first_table) }
 {
     changes_that_fit();
 }
@@ -78,6 +86,7 @@ pub fn one_state()
         → RunOf requests old (front ++ back) new → RunOf requests old front mid → RunOf requests mid back new }
 {
     one_request();
+    one_tree();
 }
 
 /// The same of a run as groups hold it: the requests that were answered with S_OK alone are a run too, with the same replies and events.
@@ -99,7 +108,10 @@ pub fn headline<D: Disk>()
 pub fn an_opening_finds_what_was_kept<D: Disk>()
     ensures begins { OpenedBegins D.Disk }
     ensures kept { FoundIsKept }
-{}
+{
+    one_tree();
+    marked_is_read();
+}
 
 /// A session over a store is an opening and calls, one after another. It begins with an opening that writes nothing; each call that is
 /// served, an answer among them, goes on with it: from its start on all that was answered before it counts. Without a fault of the device

@@ -1,51 +1,56 @@
 //! Opening a store with a library: its table has to be one of that library.
 ghost use Rattle.std.specs.Prelude.{◌≡◌, ◌↔◌, ◌⊎◌, ◌≤◌, Some, IsTrue, false, length, true, IfOk, IfErr};
-ghost use Rattle.oa_model.specs.Limits.{max_library_bytes, max_table_bytes};
+ghost use Rattle.oa_model.specs.Limits.{max_library_bytes};
 ghost use Rattle.oa_idl.specs.Canonical.{canonical};
-ghost use Rattle.oa_image.specs.Tables.{is_numbered, table_image};
-ghost use Rattle.oa_keeper.specs.Kept.{EachIs};
-ghost use Rattle.oa_server.specs.Openings.{CanServe, IsNoneOfTwo, IsNotOpened, IsOneOf, IsOpened, IsUnfit};
-ghost use Rattle.oa_server.specs.Storages.{OverStore};
+ghost use Rattle.oa_image.specs.Tables.{is_numbered};
+ghost use Rattle.oa_journal.specs.Shapes.{body_bytes};
+ghost use Rattle.oa_journal.specs.declared.shape.Shape.TheVariants.{Two};
+ghost use Rattle.oa_keeper.specs.Kept.{EachIs, FitsBank};
+ghost use Rattle.oa_server.specs.Openings.{CanServe, FindsOneOf, HoldsOther, IsNotOpened, IsOpened, IsUnfit, RefusesOneOf};
+ghost use Rattle.oa_server.specs.States.{State};
+ghost use Rattle.oa_server.specs.Storages.{OverStore, bank_of};
 ghost use Rattle.oa_store.specs.Faults.{IsCaused, IsEarly, IsRefusal, Says};
 ghost use Rattle.oa_store.specs.Reads.{WritesNothing};
-ghost use Rattle.oa_store.specs.Stores.{IsForeign, IsStore};
+ghost use Rattle.oa_store.specs.Stores.{IsForeign, IsStoreIn};
+ghost use Rattle.oa_store.specs.declared.fault.OpenFault.TheVariants.{LibraryDiffers};
 ghost use Rattle.oa_table.specs.Tables.{unlocked_table};
 
 use crate::Server;
 use oa_disk::Disk;
 use oa_fits::fits;
+use oa_idl::laws::{marked_is_read, one_tree};
 use oa_image::laws::images_are_counted;
-use oa_model::MAX_TABLE_BYTES;
+use oa_journal::RESERVED_BYTES;
 use oa_store::{OpenFault, Store};
 use oa_table::Table;
 use oa_typelib::Library;
 use std::alloc::Global;
 
 /// The library's text, which is no longer than a library text may be.
-fn text_of(library: &Library) -> &[u8]
+pub(crate) fn text_of(library: &Library) -> &[u8]
     ensures text { result.now ≡ canonical library.now }
     ensures short { length result.now ≤ max_library_bytes }
 {
     library.text()
 }
 
-/// Whether a bank has room for the table's image.
-fn is_small(table: &Table) -> bool
-    ensures { IsTrue result ↔ (length (table_image table.now) ≤ max_table_bytes) }
+/// Whether the table's image leaves what has to be free of a bank of this size.
+fn is_small(bank: u32, table: &Table) -> bool
+    ensures { IsTrue result ↔ FitsBank bank table.now }
 {
     images_are_counted();
-    table.image_size() <= MAX_TABLE_BYTES
+    table.image_size().saturating_add(u64::from(RESERVED_BYTES)) <= u64::from(bank)
 }
 
-/// Whether a server of this library can begin with this table.
-fn can_serve(library: &Library, table: &Table) -> bool
-    ensures { IsTrue result ↔ CanServe library.now table.now }
+/// Whether a server of this library can begin with this table over banks of this size.
+fn can_serve(bank: u32, library: &Library, table: &Table) -> bool
+    ensures { IsTrue result ↔ CanServe bank library.now table.now }
 {
-    fits(library, table) && is_small(table)
+    fits(library, table) && is_small(bank, table)
 }
 
 /// Opens the store of this library that is on the disk. It writes nothing, and begins with a sync. A refusal hands the disk back; it is
-/// Damaged(0) also where no server of the library can begin with the table.
+/// Damaged(0) also where no server of the library can begin with the table over banks of that size.
 pub(crate) fn open_store<D: Disk>(
     alloc: Global,
     disk: D,
@@ -53,14 +58,20 @@ pub(crate) fn open_store<D: Disk>(
 ) -> Result<(Store<D>, Table), (D, OpenFault)>
     // Each image at the end is a store of the answered table, and so are the contents at the start.
     ensures found { IfOk result (λ r. IsTrue (D.is_honest r.0.disk)
-        → EachIs (D.image r.0.disk) r.0.chosen r.0.bank.gate (canonical library.now) r.1) }
-    ensures contents { IfOk result (λ r. IsTrue (D.is_honest r.0.disk) → IsStore (D.contents disk) (canonical library.now) r.1) }
+        → EachIs (D.image r.0.disk) r.0.bank.shape r.0.chosen r.0.bank.gate (canonical library.now) r.1) }
+    ensures contents { IfOk result (λ r. IsTrue (D.is_honest r.0.disk)
+        → IsStoreIn r.0.bank.shape (D.contents disk) (canonical library.now) r.1) }
+    ensures shape { IfOk result (λ r. r.0.bank.shape ≡ Two (body_bytes r.0.bank.shape)) }
     ensures unlocked { IfOk result (λ r. IsTrue (D.is_honest r.0.disk) → unlocked_table r.1 ≡ r.1) }
-    ensures serves { IfOk result (λ r. CanServe library.now r.1) }
+    ensures serves { IfOk result (λ r. CanServe (body_bytes r.0.bank.shape) library.now r.1) }
     ensures starts { IfOk result (λ r. (r.0.stopped ≡ false) × (r.0.library.items ≡ canonical library.now) × (is_numbered r.1 ≡ true)) }
-    // Where a stop has left one of two tables, that one is answered, and no refusal says that there is none.
-    ensures either { IfOk result (λ r. IsTrue (D.is_honest r.0.disk) → IsOneOf (D.image disk) library.now r.1) }
-    ensures refused { IfErr result (λ e. IsRefusal e.1 → IsTrue (D.is_honest e.0) → IsNoneOfTwo (D.image disk) library.now) }
+    // Where a stop has left one of two states, that one is answered, and no refusal says that there is none but that of another library.
+    ensures either { IfOk result (λ r. IsTrue (D.is_honest r.0.disk)
+        → FindsOneOf (D.image disk) (body_bytes r.0.bank.shape) library.now r.1) }
+    ensures refused { IfErr result (λ e. IsRefusal e.1 → IsTrue (D.is_honest e.0)
+        → RefusesOneOf (D.image disk) (D.contents disk) library.now e.1) }
+    ensures differs { IfErr result (λ e. IsTrue (D.is_honest e.0) → (state : State) → HoldsOther (D.contents disk) library.now state
+        → IsRefusal e.1 → e.1 ≡ LibraryDiffers) }
     // A refusal is true of the contents at the start.
     ensures says { IfErr result (λ e. IsTrue (D.is_honest e.0)
         → Says (Some (canonical library.now)) (D.size_of disk) (D.contents disk) e.1 ⊎ IsUnfit library.now (D.contents disk) e.1) }
@@ -76,9 +87,12 @@ pub(crate) fn open_store<D: Disk>(
     ensures unfailed { IfOk result (λ r. D.failures_of r.0.disk ≡ D.failures_of disk) }
     ensures cause { IfErr result (λ e. IsCaused (D.failures_of disk) (D.failures_of e.0) e.1) }
 {
+    one_tree();
+    marked_is_read();
+    library.is_checked();
     match Store::open(alloc, disk, text_of(library)) {
         Ok((store, table)) => {
-            if can_serve(library, &table) {
+            if can_serve(store.bank_size(), library, &table) {
                 Ok((store, table))
             } else {
                 Err((store.into_disk(), OpenFault::Damaged(0)))
@@ -94,6 +108,7 @@ impl<D: Disk> Server<D> {
     /// with a session: the table has none.
     pub fn open(alloc: Global, disk: D, library: Library) -> Result<Server<D>, (D, OpenFault)>
         ensures library { IfOk result (λ server. server.clerk.host.library ≡ library) }
+        ensures bank { IfOk result (λ server. server.clerk.host.bank ≡ bank_of server.clerk.storage) }
         ensures opened { IfOk result (λ server. OverStore server.clerk.storage
             (λ store. IsOpened D.Disk disk library store server.clerk.host.table)) }
         ensures refused { IfErr result (λ e. IsNotOpened D.Disk disk e.0 library e.1) }

@@ -2,6 +2,7 @@
 ghost use Rattle.std.specs.Prelude.{◌≡◌, ◌≤◌, map, IfOk, OnErr, false};
 ghost use Rattle.oa_model.specs.Limits.{max_group};
 ghost use Rattle.oa_idl.specs.Canonical.{canonical};
+ghost use Rattle.oa_journal.specs.Shapes.{body_bytes, default_bank_bytes};
 ghost use Rattle.oa_server.specs.Limits.{IsSound};
 ghost use Rattle.oa_server.specs.Storages.{Answers, InMemory, Serves, disk_of};
 ghost use Rattle.oa_server.specs.Turns.{Run, Turn};
@@ -27,7 +28,7 @@ pub struct Server<D: Disk> {
 impl Server<NoDisk> {
     /// A server of this library in memory, with no objects. It makes no call of a disk.
     pub fn in_memory(alloc: Global, library: Library) -> Server<NoDisk>
-        ensures state { result.clerk.host ≡ record { library = library; table = first_table } }
+        ensures state { result.clerk.host ≡ record { bank = default_bank_bytes; library = library; table = first_table } }
         ensures memory { InMemory result.clerk.storage }
     {
         let host = Host::new(alloc, library);
@@ -45,12 +46,12 @@ impl<D: Disk> Server<D> {
         table: Table,
         store: Store<D>,
     ) -> Server<D>
-        requires sound { IsSound table }
+        requires sound { IsSound (body_bytes store.bank.shape) table }
         requires text { store.library.items ≡ canonical library }
-        ensures state { result.clerk.host ≡ record { library = library; table = table } }
+        ensures state { result.clerk.host ≡ record { bank = body_bytes store.bank.shape; library = library; table = table } }
         ensures store { result.clerk.storage ≡ ADisk store }
     {
-        let host = Host::over(alloc, library, table);
+        let host = Host::over(alloc, store.bank_size(), library, table);
         Server {
             clerk: Clerk::new(alloc, host, Storage::Disk(store)),
         }

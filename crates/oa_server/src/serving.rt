@@ -1,14 +1,17 @@
 //! Sessions over streams.
-ghost use Rattle.std.specs.Prelude.{◌≡◌, ◌≤◌, IfOk, OnErr, false, length, map};
-ghost use Rattle.oa_model.specs.Limits.{max_group};
+ghost use Rattle.std.specs.Prelude.{◌≡◌, ◌+◌, ◌≤◌, [], IfOk, OnErr, false, length, map, vec_capacity};
+ghost use Rattle.oa_model.specs.Limits.{max_group, max_line_characters, max_request_bytes};
 ghost use Rattle.oa_stream.specs.Ahead.{ahead};
 ghost use Rattle.oa_stream.specs.Sink.{Puts};
 ghost use Rattle.oa_frame.specs.Framings.{frames, hex_lines, records};
 ghost use Rattle.oa_frame.specs.Sessions.{spelled_all};
+ghost use Rattle.oa_record.specs.Replacement.{is_replacement};
 ghost use Rattle.oa_record.specs.Replies.{reply_record};
 ghost use Rattle.oa_server.specs.Talks.{HandIsReady, HasTalked, HasTalkedInMemory, LeavesEnded, PutsAlone, PutsEnded, PutsTaken};
 ghost use Rattle.oa_server.specs.Talks.{TakesBodies, ended_written, taken_written};
-ghost use Rattle.oa_server.specs.Storages.{InMemory};
+ghost use Rattle.oa_server.specs.Hands.{HasBanks};
+ghost use Rattle.oa_server.specs.OneReply.{one_reply};
+ghost use Rattle.oa_server.specs.Storages.{InMemory, bank_of};
 ghost use Rattle.oa_server.specs.declared.storage.Storage.TheVariants.{Disk as ADisk};
 
 use crate::Server;
@@ -20,7 +23,7 @@ use crate::storage::Storage;
 use oa_disk::Disk;
 use oa_frame::{Framing, Responder, Served, put_reply, serve};
 use oa_model::{HResult, MAX_LINE_CHARACTERS, MAX_REQUEST_BYTES};
-use oa_record::Reply;
+use oa_record::{Reply, is_replacement};
 use oa_store::Store;
 use oa_stream::{Ahead, Sink, Source, Unwritten};
 use std::alloc::{AllocError, Global};
@@ -31,6 +34,14 @@ impl<D: Disk> Responder for Clerk<D> {
     ghost turn = { taken_written };
 
     ghost ends = { ended_written };
+
+    ghost alone = { is_replacement };
+
+    ghost one_reply = { one_reply };
+
+    fn comes_alone(&self, body: &[u8]) -> bool {
+        is_replacement(body)
+    }
 
     fn respond<W: Sink>(
         &mut self,
@@ -75,6 +86,8 @@ fn respond_with<D: Disk, W: Sink>(
 ) -> Result<(), Unwritten>
     requires ready { HandIsReady storage.old hand.old }
     requires unbroken { (W.out writer.old).broken ≡ false }
+    requires banks { bank_of storage.old ≡ host.old.bank }
+    ensures banks { bank_of storage.new ≡ host.new.bank }
     ensures taken { PutsTaken (frames framing) storage.old host.old hand.old body.now storage.new host.new hand.new result
         (W.out writer.old) (W.out writer.new) }
     ensures ready { HandIsReady storage.new hand.new }
@@ -93,7 +106,8 @@ fn respond_alone<W: Sink>(
     writer: &mut W,
 ) -> Result<(), Unwritten>
     requires unbroken { (W.out writer.old).broken ≡ false }
-    ensures { PutsAlone (frames framing) host.old body.now host.new result (W.out writer.old) (W.out writer.new) }
+    ensures alone { PutsAlone (frames framing) host.old body.now host.new result (W.out writer.old) (W.out writer.new) }
+    ensures bank { host.new.bank ≡ host.old.bank }
 {
     let reply = host.turn(body);
     put_reply(framing, writer, &reply.head(), reply.body())
@@ -110,6 +124,8 @@ fn respond_over<D: Disk, W: Sink>(
 ) -> Result<(), Unwritten>
     requires ready { HandIsReady (ADisk store.old) hand.old }
     requires unbroken { (W.out writer.old).broken ≡ false }
+    requires banks { HasBanks store.old host.old }
+    ensures banks { HasBanks store.new host.new }
     ensures ready { HandIsReady (ADisk store.new) hand.new }
     ensures taken { PutsTaken (frames framing) (ADisk store.old) host.old hand.old body.now (ADisk store.new) host.new hand.new result
         (W.out writer.old) (W.out writer.new) }
@@ -122,7 +138,8 @@ fn respond_over<D: Disk, W: Sink>(
     put
 }
 
-/// The reading has ended: over a store the group in hand is committed, and then its replies are written.
+/// The reading has ended, or a body comes that is a group of its own: over a store the group in hand is committed, and then its replies are
+/// written.
 fn finish_with<D: Disk, W: Sink>(
     host: &Host,
     storage: &mut Storage<D>,
@@ -134,6 +151,8 @@ fn finish_with<D: Disk, W: Sink>(
     requires unbroken { (W.out writer.old).broken ≡ false }
     ensures ended { PutsEnded (frames framing) storage.old host.now hand.old storage.new host.now hand.new result
         (W.out writer.old) (W.out writer.new) }
+    ensures ready { HandIsReady storage.new hand.new }
+    ensures banks { bank_of storage.new ≡ bank_of storage.old }
 {
     match storage {
         Storage::Memory(_) => Ok(()),
@@ -153,6 +172,8 @@ fn finish_over<D: Disk, W: Sink>(
     requires unbroken { (W.out writer.old).broken ≡ false }
     ensures ended { PutsEnded (frames framing) (ADisk store.old) host.now hand.old (ADisk store.new) host.now hand.new result
         (W.out writer.old) (W.out writer.new) }
+    ensures ready { HandIsReady (ADisk store.new) hand.new }
+    ensures shape { store.new.bank.shape ≡ store.old.bank.shape }
 {
     finish(host, store, hand);
     let put = put_replies(framing, writer, &hand.replies);
@@ -164,6 +185,7 @@ fn finish_over<D: Disk, W: Sink>(
 fn abandon_with<D: Disk>(host: &Host, storage: &mut Storage<D>, hand: &mut Hand)
     requires ready { HandIsReady storage.old hand.old }
     ensures ended { LeavesEnded storage.old host.now hand.old storage.new host.now hand.new }
+    ensures banks { bank_of storage.new ≡ bank_of storage.old }
 {
     match storage {
         Storage::Memory(_) => {}
@@ -175,6 +197,7 @@ fn abandon_with<D: Disk>(host: &Host, storage: &mut Storage<D>, hand: &mut Hand)
 fn abandon_over<D: Disk>(host: &Host, store: &mut Store<D>, hand: &mut Hand)
     requires ready { HandIsReady (ADisk store.old) hand.old }
     ensures ended { LeavesEnded (ADisk store.old) host.now hand.old (ADisk store.new) host.now hand.new }
+    ensures shape { store.new.bank.shape ≡ store.old.bank.shape }
 {
     finish(host, store, hand);
     hand.replies.clear();
@@ -268,10 +291,35 @@ fn session_with<D: Disk, R: Source + Drop, W: Sink>(
     let mut body = zeros(alloc, MAX_REQUEST_BYTES as usize)?;
     let hand = Hand::new(alloc, group)?;
     clerk.hand = hand;
-    let last = Reply::bare(alloc, 0, HResult::BAD_STUB_DATA, None).head();
-    let served = serve(clerk, framing, &last, reader, writer, &mut line, &mut body);
+    let served = talk(clerk, framing, reader, writer, &mut line, &mut body);
     clerk.hand = Hand::none(alloc);
     Ok(served)
+}
+
+/// The same with all its memory: a hand without a request, which has the places of a group's replies, and room for a line and a body.
+fn talk<D: Disk, R: Source + Drop, W: Sink>(
+    clerk: &mut Clerk<D>,
+    framing: Framing,
+    reader: &mut Ahead<R>,
+    writer: &mut W,
+    line: &mut Vec<u8>,
+    body: &mut [u8],
+) -> Served
+    requires positive { 1 ≤ clerk.old.hand.size }
+    requires places { clerk.old.hand.size ≤ vec_capacity clerk.old.hand.replies }
+    requires replies { clerk.old.hand.replies.items ≡ [] }
+    requires frame { clerk.old.hand.frame ≡ [] }
+    requires line { max_line_characters + 1 ≤ vec_capacity line.now }
+    requires body { length body.now ≡ max_request_bytes }
+    requires unbroken { (ahead R.input reader.old).faulted ≡ false }
+    requires unbroken_writer { (W.out writer.old).broken ≡ false }
+    ensures session { HasTalked (frames framing) (ahead R.input reader.old) (ahead R.input reader.new)
+        (W.out writer.old) (W.out writer.new) clerk.old.hand.size clerk.old clerk.new result }
+    ensures memory { InMemory clerk.old.storage → HasTalkedInMemory (frames framing) (ahead R.input reader.old) (ahead R.input reader.new)
+        (W.out writer.old) (W.out writer.new) clerk.old.host clerk.new.host result }
+{
+    let last = Reply::bare(clerk.host.allocator(), 0, HResult::BAD_STUB_DATA, None).head();
+    serve(clerk, framing, &last, reader, writer, line, body)
 }
 
 /// This many zeros.

@@ -417,6 +417,19 @@ fn meets_when_cut(rt: &HostRuntime, path: &str) -> io::Result<bool> {
     Ok(is_written && disk.size() == 16 && answers(&mut disk, &CUT_AT_8))
 }
 
+/// Whether a file is held by what is open, a new one and one that was opened, and by nothing once that has gone.
+fn is_held(rt: &HostRuntime, path: &str) -> io::Result<bool> {
+    let made = FileDisk::create(rt, path, 16)?;
+    let of_new = refusal(FileDisk::open(rt, path));
+    drop(made);
+    let opened = FileDisk::open(rt, path)?;
+    let of_opened = refusal(FileDisk::open(rt, path));
+    drop(opened);
+    let after = refusal(FileDisk::open(rt, path));
+    let held = Some(ErrorKind::WouldBlock);
+    Ok(of_new == held && of_opened == held && after.is_none())
+}
+
 /// The fault of an opening.
 fn refusal(disk: io::Result<FileDisk>) -> Option<ErrorKind> {
     match disk {
@@ -428,6 +441,8 @@ fn refusal(disk: io::Result<FileDisk>) -> Option<ErrorKind> {
 const THERE: &str = "oa_disk_there";
 
 const LARGE: &str = "oa_disk_large";
+
+const HELD: &str = "oa_disk_held";
 
 /// What is no disk where it is opened, and what is not made with so many bytes. /proc/self/comm is a regular file to which nothing can be
 /// brought: its sync is an error. What could not be filled is removed again.
@@ -457,6 +472,15 @@ fn first_disk(rt: &HostRuntime) -> Option<&'static str> {
         }
     }
     None
+}
+
+#[test]
+fn a_file_is_held_by_one(rt: HostRuntime) -> Result<(), Fail> {
+    let _ = fs::remove_file(&rt, HELD);
+    let found = is_held(&rt, HELD)?;
+    fs::remove_file(&rt, HELD)?;
+    assert!(rt; found);
+    Ok(())
 }
 
 #[test]

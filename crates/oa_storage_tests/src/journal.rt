@@ -1,29 +1,33 @@
 //! Banks on disks in memory, as a store never fills them: up to the last byte, and past a fault of the disk.
-ghost use Rattle.std.specs.Prelude.{◌≡◌, ◌+◌, ◌≤◌, length, IfOk};
+ghost use Rattle.std.specs.Prelude.{◌≡◌, ◌+◌, ◌≤◌, false, length, IfOk};
 ghost use Rattle.oa_table.specs.Tables.{first_table};
-ghost use Rattle.oa_journal.specs.Bank.{bank_bytes};
+ghost use Rattle.oa_journal.specs.Append.{IsAt};
+ghost use Rattle.oa_journal.specs.Banks.{first_gate};
+ghost use Rattle.oa_journal.specs.Shapes.{body_bytes};
+ghost use Rattle.oa_journal.specs.declared.shape.Shape.TheVariants.{Two};
 
 use oa_disk::{DeviceFault, Disk, MemoryDisk};
-use oa_journal::{AppendFault, Bank, StartFault, laws};
+use oa_journal::{AppendFault, Bank, laws};
 use oa_table::Table;
 use std::alloc::Global;
 use std::test::Fail;
 
-/// Writes the bank of a library and the table at first, at the start of a disk.
-fn begin(
-    alloc: Global,
-    disk: &mut MemoryDisk,
-    library: &[u8],
-    table: &Table,
-) -> Result<Bank, StartFault>
+/// How many bytes the bank's body has, which begins at 0; its head stands behind it.
+const BODY: u32 = 20_971_520;
+
+const DISK: usize = 20_971_552;
+
+/// Writes the bank of a library and the table at first.
+fn begin(disk: &mut MemoryDisk, library: &[u8], table: &Table) -> Result<Bank, DeviceFault>
     requires few { length library.now ≤ 300 }
     requires first { table.now ≡ first_table }
-    requires inside { bank_bytes ≤ ⟦<MemoryDisk as Disk>⟧.size_of disk.old }
-    ensures bank { IfOk result (λ bank. bank.place ≡ 0) }
+    requires inside { 20971552 ≤ ⟦<MemoryDisk as Disk>⟧.size_of disk.old }
+    ensures bank { IfOk result (IsAt (Two 20971520) 20971520 0 (first_gate library.now first_table) false) }
     ensures size { ⟦<MemoryDisk as Disk>⟧.size_of disk.new ≡ ⟦<MemoryDisk as Disk>⟧.size_of disk.old }
 {
-    let mut bank = Bank::at(0);
-    bank.start(alloc, disk, library, table)?;
+    let mut bank = Bank::at(20_971_520, 0, BODY);
+    let mut buffer = [0; 512];
+    bank.start(disk, &mut buffer, library, table)?;
     Ok(bank)
 }
 
@@ -33,16 +37,16 @@ struct Tried {
     alloc: Global,
     disk: MemoryDisk,
     bank: Bank,
-    ghost inside: { bank.place + bank_bytes ≤ ⟦<MemoryDisk as Disk>⟧.size_of disk },
+    ghost inside: { bank.body + body_bytes bank.shape ≤ ⟦<MemoryDisk as Disk>⟧.size_of disk },
 }
 
 impl Tried {
-    /// With a library of 279 bytes and the table at first, in two calls of its disk.
-    fn new(alloc: Global, calls: usize) -> Result<Tried, StartFault> {
-        let mut disk = MemoryDisk::new(alloc, 16_777_216, calls, 16_800_000)?;
-        let bank = begin(alloc, &mut disk, &[108; 279], &Table::new(alloc))?;
-        disk.sync()?;
-        Ok(Tried { alloc, disk, bank })
+    /// With a library of 279 bytes and the table at first, in three calls of its disk.
+    fn new(alloc: Global, calls: usize) -> Option<Tried> {
+        let mut disk = MemoryDisk::new(alloc, DISK, calls, 21_000_000).ok()?;
+        let bank = begin(&mut disk, &[108; 279], &Table::new(alloc)).ok()?;
+        disk.sync().ok()?;
+        Some(Tried { alloc, disk, bank })
     }
 
     /// Adds a group whose frame has so many bytes, five at least.
@@ -56,16 +60,16 @@ impl Tried {
 
 /// How long a frame is, how often it is added, what is answered, and the room behind it.
 const FRAMES: [(usize, u32, Result<(), AppendFault>, u32); 4] = [
-    (26, 1, Ok(()), 16_776_871),
-    (262_182, 63, Ok(()), 259_405),
-    (259_405, 1, Err(AppendFault::Full), 259_405),
-    (259_404, 1, Ok(()), 1),
+    (26, 1, Ok(()), 20_971_207),
+    (4_000_000, 5, Ok(()), 971_207),
+    (971_207, 1, Err(AppendFault::Full), 971_207),
+    (971_206, 1, Ok(()), 1),
 ];
 
 /// The first of these frames that is answered otherwise; None where the new bank has another room.
 fn filled(alloc: Global) -> Option<Option<usize>> {
-    let mut tried = Tried::new(alloc, 300).ok()?;
-    if tried.bank.room() != 16_776_897 {
+    let mut tried = Tried::new(alloc, 50)?;
+    if tried.bank.room() != 20_971_233 || tried.bank.size() != BODY {
         return None;
     }
     for (count, times, wanted, left) in FRAMES {
@@ -82,7 +86,7 @@ fn filled(alloc: Global) -> Option<Option<usize>> {
 
 /// Whether a bank whose disk has room for the calls of one group fails at the next one, and is stopped from then on.
 fn stops(alloc: Global) -> Option<bool> {
-    let mut tried = Tried::new(alloc, 6).ok()?;
+    let mut tried = Tried::new(alloc, 7)?;
     let is_added = tried.add(26) == Ok(());
     let has_failed = tried.add(38) == Err(AppendFault::Device(DeviceFault::Write));
     Some(is_added && has_failed && tried.add(38) == Err(AppendFault::Stopped))
@@ -91,6 +95,7 @@ fn stops(alloc: Global) -> Option<bool> {
 #[test]
 fn a_bank_takes_groups_as_long_as_they_fit(rt: HostRuntime) -> Result<(), Fail> {
     laws::one_bank();
+    laws::one_shape();
     laws::one_replay();
     laws::damage_is_no_bank();
     laws::bank_has_its_library();

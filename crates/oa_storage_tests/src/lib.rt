@@ -4,6 +4,8 @@
 #[cfg(test)]
 mod disk;
 #[cfg(test)]
+mod formats;
+#[cfg(test)]
 mod journal;
 pub mod moments;
 #[cfg(test)]

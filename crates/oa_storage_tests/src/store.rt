@@ -14,7 +14,10 @@ use std::test::Fail;
 const LIBRARY: &[u8; 7] = b"library";
 
 /// The least size of a store.
-const SIZE: usize = 33_562_624;
+const SIZE: usize = 75_505_664;
+
+/// How many bytes a bank has.
+const BANK: u32 = 20_971_520;
 
 /// The event that makes object 1, in its frame.
 const CREATE: [u8; 26] = [
@@ -81,7 +84,7 @@ fn end_of(fault: OpenFault) -> u8 {
 }
 
 fn make<D: Disk>(alloc: Global, disk: &mut D) -> u8 {
-    match format(alloc, disk, LIBRARY) {
+    match format(alloc, disk, LIBRARY, BANK) {
         Ok(()) => WELL,
         Err(FormatFault::Device(fault)) => kind_of(fault),
         Err(_) => OTHER,
@@ -105,13 +108,13 @@ fn settle<D: Disk>(store: &mut Store<D>, table: &Table) -> u8
     requires { is_numbered table.now ≡ true }
 {
     images_are_counted();
-    if table.image_size() > 14_680_064 {
+    if table.image_size() > 15_728_640 || store.bank_size() < 20_971_520 {
         return OTHER;
     }
     match store.checkpoint(table) {
         Ok(()) => WELL,
         Err(CheckpointFault::Device(fault)) => kind_of(fault),
-        Err(_) => OTHER,
+        Err(CheckpointFault::Stopped) => STOPPED,
     }
 }
 
@@ -187,7 +190,7 @@ fn played(alloc: Global, first_failing: u64) -> Option<(MemoryDisk, u8)> {
 }
 
 /// Between which moments a store is made, and an event is committed.
-const DEEDS: [(u64, u64); 4] = [(0, 14), (26, 34), (34, 42), (62, 70)];
+const DEEDS: [(u64, u64); 4] = [(0, 16), (36, 44), (44, 52), (82, 90)];
 
 /// How many of the deeds are done at that moment, and how many have begun.
 fn deeds_at(moment: u64) -> (u64, u64) {
@@ -252,7 +255,7 @@ const TEARS: [Tear; 8] = [
 
 /// The first moment at which a crash loses what was done, or leaves what had not begun. Before moment 4 the first byte of the disk is any.
 fn first_loss(alloc: Global, disk: &MemoryDisk) -> Option<(u64, Tear)> {
-    for moment in 4..71 {
+    for moment in 4..91 {
         let (done, begun) = deeds_at(moment);
         for tear in TEARS {
             let found = found_after(alloc, disk, moment, tear);
@@ -265,26 +268,28 @@ fn first_loss(alloc: Global, disk: &MemoryDisk) -> Option<(u64, Tear)> {
 }
 
 /// What some crashes leave: while the first byte is set, a group is written, its gate is written, and a checkpoint's selector.
-const LEFT: [(u64, Tear, u64); 19] = [
-    (11, Tear::Filled(0xff), 0),
-    (12, Tear::Lost, 0),
-    (12, Tear::Kept, 1),
-    (27, Tear::Filled(1), 1),
-    (30, Tear::Kept, 1),
-    (31, Tear::Lost, 1),
-    (31, Tear::Filled(7), 1),
-    (31, Tear::Filled(1), 2),
-    (32, Tear::Lost, 1),
-    (32, Tear::Kept, 2),
-    (32, Tear::Cut(0), 1),
-    (32, Tear::Cut(1), 2),
-    (33, Tear::Lost, 1),
-    (33, Tear::Kept, 2),
-    (34, Tear::Lost, 2),
-    (55, Tear::Filled(0xff), 3),
-    (59, Tear::Filled(7), 3),
-    (62, Tear::Lost, 3),
-    (67, Tear::Filled(1), 4),
+const LEFT: [(u64, Tear, u64); 21] = [
+    (13, Tear::Filled(0xff), 0),
+    (14, Tear::Lost, 0),
+    (14, Tear::Kept, 1),
+    (37, Tear::Filled(1), 1),
+    (40, Tear::Kept, 1),
+    (41, Tear::Lost, 1),
+    (41, Tear::Filled(7), 1),
+    (41, Tear::Filled(1), 2),
+    (42, Tear::Lost, 1),
+    (42, Tear::Kept, 2),
+    (42, Tear::Cut(0), 1),
+    (42, Tear::Cut(1), 2),
+    (43, Tear::Lost, 1),
+    (43, Tear::Kept, 2),
+    (44, Tear::Lost, 2),
+    (73, Tear::Filled(0xff), 3),
+    (75, Tear::Filled(0xff), 3),
+    (79, Tear::Filled(7), 3),
+    (79, Tear::Filled(0xff), 3),
+    (82, Tear::Lost, 3),
+    (87, Tear::Filled(1), 4),
 ];
 
 /// The first of these crashes that leaves something else.
@@ -300,7 +305,7 @@ fn first_other(alloc: Global, disk: &MemoryDisk) -> Option<(u64, Tear)> {
 /// The first crash of a disk that has served the script, at any moment, that leaves what it should not; None where it has not served it.
 fn stopped(alloc: Global) -> Option<Option<(u64, Tear)>> {
     let (disk, end) = played(alloc, 1000)?;
-    if end != WELL || disk.moments() != 70 {
+    if end != WELL || disk.moments() != 90 {
         return None;
     }
     match first_loss(alloc, &disk) {
@@ -316,7 +321,7 @@ fn a_stop_at_each_moment_leaves_what_was_done(rt: HostRuntime) -> Result<(), Fai
 }
 
 /// The calls of the script, R for a read, W for a write or a sync.
-const CALLS: &str = "WWWWWWWWRRRRRWWWWWWWWWRRRRRWWWWWWWW";
+const CALLS: &str = "WWWWWWWWWRRRRRRRRRWWWWWWWWWRRRRRRRRRWWWWWWWWW";
 
 /// Whether the script over a disk that fails from that call on ends there with its fault, and leaves what was done.
 fn fails_at(alloc: Global, call: u64, kind: u8) -> bool {

@@ -1,3 +1,5 @@
 mod Changed
+mod Counted
 mod LaidDown
 mod Opened
+mod Upgraded

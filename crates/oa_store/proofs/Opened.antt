@@ -1,27 +1,43 @@
 -- What an opening finds.
-use Rattle.std.proofs.Common.{◌≡◌, ⊎_elim, ◌∙◌, ℕ, List, Option, Some, length, sym, subst, arith}
+use Rattle.std.proofs.Common.{◌≡◌, inl, inr, ⊎_elim, ◌∙◌, ℕ, List, Bool, Option, Some, length, sym, subst, arith}
+use Rattle.oa_disk.specs.Disk.{Only}
+use Rattle.oa_disk.specs.declared.disk.DeviceFault.{DeviceFault}
+use Rattle.oa_disk.specs.declared.disk.DeviceFault.TheVariants as devices
 use Rattle.oa_table.specs.Tables.{TableValue}
-use Rattle.oa_journal.specs.Bank.{from_place, IsBank, HasLibrary}
-use Rattle.oa_journal.specs.Damages.{bank_library, one_library, not_damaged}
+use Rattle.oa_journal.specs.declared.shape.Shape.{Shape}
+use Rattle.oa_journal.specs.declared.shape.Shape.TheVariants.{One, Two}
+use Rattle.oa_journal.specs.Banks.{bank_header}
+use Rattle.oa_journal.specs.Unique.{one_head}
+use Rattle.oa_journal.specs.Bank.{from_place, IsBank, HasHead, HasHeader, HasLibrary}
+use Rattle.oa_journal.specs.declared.bank.Bank.{Bank}
+use Rattle.oa_journal.specs.Append.{IsAt}
+use Rattle.oa_journal.specs.Damages.{IsDamagedBank, bank_library, not_damaged, one_library}
 use Rattle.oa_store.specs.declared.fault.OpenFault.{OpenFault}
-use Rattle.oa_store.specs.declared.fault.OpenFault.TheVariants.{NotAStore, LibraryDiffers, Damaged, Device, Memory}
-use Rattle.oa_store.specs.Faults.{IsRefusal, IsLate, IfDamaged, IsDamaged, Says}
-use Rattle.oa_store.specs.Stores.{bank_place, IsFormatted, IsStore}
+use Rattle.oa_store.specs.declared.fault.OpenFault.TheVariants.{NotAStore, OldFormat, LibraryDiffers, Damaged, Device, Memory}
+use Rattle.oa_store.specs.Faults.{IsRefusal, IsLate, IfDamaged, IsDamaged, IsFailed, HasWanted, Says, Tells}
+use Rattle.oa_store.specs.Stores.{body_place, head_place, IsFormatted, IsStoreAt, IsNewStore}
 
--- what holds of the bytes from a place on holds of them under other names
-pub carried : (P : (ℕ → ℕ) → Type 0) (place to : ℕ) (was is : List ℕ) → place ≡ to → was ≡ is → P (from_place place was)
-    → P (from_place to is)
-carried P place to was is e f p = subst (λ (c : List ℕ). P (from_place to c)) f (subst (λ (k : ℕ). P (from_place k was)) e p)
+-- what holds of the bytes where a bank stands holds of them under other names
+pub carried : (P : Shape → (ℕ → ℕ) → (ℕ → ℕ) → Type 0) (bank : Bank) (shape : Shape) (head body gate : ℕ) (stopped : Bool)
+    (was is : List ℕ) → IsAt shape head body gate stopped bank → was ≡ is
+    → P bank.shape (from_place bank.head was) (from_place bank.body was) → P shape (from_place head is) (from_place body is)
+carried P bank shape head body gate stopped was is at same p =
+    subst (λ (d : List ℕ). P shape (from_place head d) (from_place body d)) same
+    (subst (λ (s : Shape). P s (from_place head was) (from_place body was)) at.shape_is
+    (subst (λ (b : ℕ). P bank.shape (from_place head was) (from_place b was)) at.body_is
+    (subst (λ (h : ℕ). P bank.shape (from_place h was) (from_place bank.body was)) at.head_is p)))
 
 -- the bank of a library that it begins with
-pub of_library : (byte : ℕ → ℕ) (library text read : List ℕ) (table : TableValue) (gate : ℕ) → text ≡ library → HasLibrary byte text
-    → IsBank byte read table gate → IsBank byte library table gate
-of_library byte library text read table gate is has bank =
-    let same = one_library byte read text (bank_library byte read table gate bank) has in
-    subst (λ (l : List ℕ). IsBank byte l table gate) (same ∙ is) bank
+pub of_library : (shape : Shape) (head body : ℕ → ℕ) (library text read : List ℕ) (table : TableValue) (gate : ℕ) → text ≡ library
+    → HasLibrary shape head body text
+    → IsBank shape head body read table gate → IsBank shape head body library table gate
+of_library shape head body library text read table gate is has bank =
+    let same = one_library shape head body read text (bank_library shape head body read table gate bank) has in
+    subst (λ (l : List ℕ). IsBank shape head body l table gate) (same ∙ is) bank
 
 pub if_damaged : (e : OpenFault) (P Q : ℕ → Type 0) → ((at : ℕ) → P at → Q at) → IfDamaged e P → IfDamaged e Q
 if_damaged NotAStore P Q f p = tt
+if_damaged OldFormat P Q f p = tt
 if_damaged LibraryDiffers P Q f p = tt
 if_damaged (Damaged place) P Q f p = f place p
 if_damaged (Device fault) P Q f p = tt
@@ -31,26 +47,88 @@ if_damaged Memory P Q f p = tt
 pub says_late : (wanted : Option (List ℕ)) (size : ℕ) (contents : List ℕ) (e : OpenFault) → IsLate e
     → IfDamaged e (IsDamaged wanted contents) → Says wanted size contents e
 says_late wanted size contents NotAStore late p = absurd late
+says_late wanted size contents OldFormat late p = absurd late
 says_late wanted size contents LibraryDiffers late p = absurd late
 says_late wanted size contents (Damaged place) late p = p
 says_late wanted size contents (Device fault) late p = tt
 says_late wanted size contents Memory late p = tt
 
--- a store's bank is the one that the selector names
-its_bank : (contents : List ℕ) (chosen : ℕ) (library : List ℕ) (table : TableValue) → IsFormatted chosen contents
-    → (is : IsStore contents library table) → IsBank (from_place (bank_place chosen) contents) library table is.1
-its_bank contents chosen library table head is =
-    subst (λ (k : ℕ). IsBank (from_place (bank_place k) contents) library table is.1) (sym is.2.head.selected ∙ head.selected) is.2.bank
+-- which call has failed
+pub read_failed : (contents : List ℕ) (before after : List ℕ → Type 0) (fault : DeviceFault) → fault ≡ devices.Read → Only contents after
+    → IsFailed contents before after fault
+read_failed contents before after fault is only = subst (λ (f : DeviceFault). IsFailed contents before after f) (sym is) only
 
--- what is refused is no store of the library that is wanted
+pub sync_failed : (contents : List ℕ) (before after : List ℕ → Type 0) (fault : DeviceFault) → fault ≡ devices.Write
+    → ((c : List ℕ) → before c → after c) → IsFailed contents before after fault
+sync_failed contents before after fault is stay = subst (λ (f : DeviceFault). IsFailed contents before after f) (sym is) stay
+
+-- once a bank is looked at, no sync fails
+pub tells_late : (contents : List ℕ) (before after : List ℕ → Type 0) (e : OpenFault) → IsLate e → Only contents after
+    → Tells contents before after e
+tells_late contents before after NotAStore late only = tt
+tells_late contents before after OldFormat late only = tt
+tells_late contents before after LibraryDiffers late only = tt
+tells_late contents before after (Damaged place) late only = tt
+tells_late contents before after (Device fault) late only = read_failed contents before after fault late only
+tells_late contents before after Memory late only = tt
+
+-- a bank whose head was found, and which is damaged, is damaged in its body
+pub spoilt : (wanted : Option (List ℕ)) (contents : List ℕ) (chosen : ℕ) (shape : Shape) (l s at : ℕ) → IsFormatted chosen contents
+    → HasHead shape (head_place chosen) contents l s
+    → HasWanted wanted shape (from_place (head_place chosen) contents) (from_place (body_place shape chosen) contents)
+    → IsDamagedBank shape (head_place chosen) (body_place shape chosen) contents at → IsDamaged wanted contents at
+spoilt wanted contents chosen shape l s at head has begins (inl none) = absurd (none.1 l s has.has)
+spoilt wanted contents chosen shape l s at head has begins (inr body) = inr (record {
+  chosen = chosen;
+  head = head;
+  shape = shape;
+  offset = body.0;
+  there = body.1;
+  damaged = body.2;
+  begins = begins;
+})
+
+-- a store's bank is the one that the selector names
+its_bank : (shape : Shape) (contents : List ℕ) (chosen number gate : ℕ) (library : List ℕ) (table : TableValue)
+    → IsFormatted chosen contents → IsStoreAt shape number gate library table contents
+    → IsStoreAt shape chosen gate library table contents
+its_bank shape contents chosen number gate library table head is =
+    subst (λ (k : ℕ). IsStoreAt shape k gate library table contents) (sym is.head.selected ∙ head.selected) is
+
+-- a head that a store's bank has, in whichever format, is that of the store
+its_shape : (shape other : Shape) (contents : List ℕ) (chosen gate l s : ℕ) (library : List ℕ) (table : TableValue)
+    → HasHeader other (from_place (head_place chosen) contents) l s
+    → IsStoreAt shape chosen gate library table contents → shape ≡ other
+its_shape shape other contents chosen gate l s library table has is =
+    let head = from_place (head_place chosen) contents in
+    (one_head head shape (length library) _ other l s (bank_header shape head (from_place (body_place shape chosen) contents) library table gate is.bank) has).shape_same
+
+-- what is refused is no store of the library that is wanted in format 2
 pub refused : (library : List ℕ) (size : ℕ) (contents : List ℕ) (e : OpenFault) → length contents ≡ size → IsRefusal e
     → Says (Some library) size contents e
-    → (table : TableValue) → IsStore contents library table → ⊥
-refused library size contents NotAStore long r says table is = ⊎_elim (λ lt. absurd (omega (arith, lt, long, is.2.head.size))) (λ none. none is.2.head.formatted) says
+    → (table : TableValue) → IsNewStore contents library table → ⊥
+refused library size contents NotAStore long r says table is = ⊎_elim (λ lt. absurd (omega (arith, lt, long, is.1.2.head.size))) (λ none. none is.1.2.head.formatted) says
+refused library size contents OldFormat long r says table is =
+    let store = its_bank (Two is.0) contents says.chosen is.1.0 is.1.1 library table says.head is.1.2 in
+    let shape : Two is.0 ≡ One = its_shape (Two is.0) One contents says.chosen is.1.1 says.library says.snapshot library table says.has.has store in
+    absurd (cc shape)
 refused library size contents LibraryDiffers long r says table is =
-    let byte = from_place (bank_place says.chosen) contents in
-    says.differs (one_library byte says.other library says.has (bank_library byte library table is.1 (its_bank contents says.chosen library table says.head is)))
-refused library size contents (Damaged place) long r says table is =
-    not_damaged (from_place (bank_place says.chosen) contents) says.offset library table is.1 says.damaged (its_bank contents says.chosen library table says.head is)
+    let store = its_bank (Two is.0) contents says.chosen is.1.0 is.1.1 library table says.head is.1.2 in
+    let shape = its_shape (Two is.0) says.shape contents says.chosen is.1.1 (length says.other) says.has.snapshot library table says.has.has store in
+    let here = subst (λ (s : Shape). IsStoreAt s says.chosen is.1.1 library table contents) shape store in
+    let head = from_place (head_place says.chosen) contents in
+    let body = from_place (body_place says.shape says.chosen) contents in
+    says.differs (one_library says.shape head body says.other library says.has (bank_library says.shape head body library table is.1.1 here.bank))
+refused library size contents (Damaged place) long r says table is = ⊎_elim
+    (λ none.
+    let store = its_bank (Two is.0) contents none.chosen is.1.0 is.1.1 library table none.head is.1.2 in
+    none.none (Two is.0) (length library) _ (record { room = store.room; has = bank_header (Two is.0) (from_place (head_place none.chosen) contents) (from_place (body_place (Two is.0) none.chosen) contents) library table is.1.1 store.bank }))
+    (λ rest.
+    let store = its_bank (Two is.0) contents rest.chosen is.1.0 is.1.1 library table rest.head is.1.2 in
+    let head = from_place (head_place rest.chosen) contents in
+    let shape = its_shape (Two is.0) rest.shape contents rest.chosen is.1.1 (length library) rest.begins.snapshot library table rest.begins.has store in
+    let here = subst (λ (s : Shape). IsStoreAt s rest.chosen is.1.1 library table contents) shape store in
+    not_damaged rest.shape head (from_place (body_place rest.shape rest.chosen) contents) rest.offset library table is.1.1 rest.damaged here.bank)
+    says
 refused library size contents (Device fault) long r says table is = absurd r
 refused library size contents Memory long r says table is = absurd r

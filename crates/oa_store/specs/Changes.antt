@@ -1,43 +1,74 @@
--- What a commit, a checkpoint and a format may leave, each from an image of before to an image of after. All are quantified over the
--- library and the table that the image of before has.
-use Rattle.std.specs.Prelude.{◌≡◌, ◌≢◌, ◌⊎◌, ℕ, ◌+◌, ◌-◌, ◌≤◌, List, length, slice_index}
-use Rattle.oa_disk.specs.Disk.{Holds, Torn}
+-- What a commit, a checkpoint, an upgrade and a format may leave, each from an image of before to an image of after. All are quantified
+-- over the library and the table that the image of before has.
+use Rattle.std.specs.Prelude.{◌≡◌, ◌≢◌, ◌⊎◌, ℕ, ◌+◌, ◌*◌, ◌-◌, ◌≤◌, List, length, slice_index}
+use Rattle.oa_disk.specs.Disk.{Torn}
 use Rattle.oa_table.specs.Tables.{TableValue, first_table}
+use Rattle.oa_journal.specs.declared.shape.Shape.{Shape}
+use Rattle.oa_journal.specs.declared.shape.Shape.TheVariants.{One, Two}
 use Rattle.oa_journal.specs.Replays.{Replays}
+use Rattle.oa_journal.specs.Bank.{from_place, IsBank}
 use Rattle.oa_journal.specs.Banks.{first_gate}
-use Rattle.oa_store.specs.Stores.{store_bytes, IsStoreAt}
+use Rattle.oa_store.specs.Stores.{body_place, head_place, IsStoreAt, IsStoreIn}
 
 -- the store of before, with the group or without it
-abbrev pub IsCommit : ℕ → ℕ → List ℕ → List ℕ → List ℕ → Type 0
-IsCommit chosen gate group old new = (library : List ℕ) (table after : TableValue) → IsStoreAt chosen gate library table old
+abbrev pub IsCommit : Shape → ℕ → ℕ → List ℕ → List ℕ → List ℕ → Type 0
+IsCommit shape chosen gate group old new = (library : List ℕ) (table after : TableValue) → IsStoreAt shape chosen gate library table old
     → Replays group table after
-    → IsStoreAt chosen gate library table new ⊎ IsStoreAt chosen (gate + (5 + length group)) library after new
+    → IsStoreAt shape chosen gate library table new ⊎ IsStoreAt shape chosen (gate + (5 + length group)) library after new
 
 -- with it
-abbrev pub IsCommitted : ℕ → ℕ → List ℕ → List ℕ → List ℕ → Type 0
-IsCommitted chosen gate group old new = (library : List ℕ) (table after : TableValue) → IsStoreAt chosen gate library table old
+abbrev pub IsCommitted : Shape → ℕ → ℕ → List ℕ → List ℕ → List ℕ → Type 0
+IsCommitted shape chosen gate group old new = (library : List ℕ) (table after : TableValue) → IsStoreAt shape chosen gate library table old
     → Replays group table after
-    → IsStoreAt chosen (gate + (5 + length group)) library after new
+    → IsStoreAt shape chosen (gate + (5 + length group)) library after new
 
--- a store of the same table, in this bank or in the other one, with its closed gate at the next place
-abbrev pub IsSwitch : ℕ → ℕ → ℕ → List ℕ → TableValue → List ℕ → List ℕ → Type 0
-IsSwitch chosen gate next library table old new = IsStoreAt chosen gate library table old
-    → IsStoreAt chosen gate library table new ⊎ IsStoreAt (1 - chosen) next library table new
+-- The store of before, in this bank, or in the other one a store of this library and this table, with its closed gate at the next place.
+-- The other bank may have another format.
+abbrev pub IsReplacement : Shape → ℕ → ℕ → Shape → ℕ → List ℕ → List ℕ → TableValue → List ℕ → List ℕ → Type 0
+IsReplacement shape chosen gate other next library text table old new = IsStoreAt shape chosen gate library table old
+    → IsStoreAt shape chosen gate library table new ⊎ IsStoreAt other (1 - chosen) next text table new
 
 -- in the other one
-abbrev pub IsSwitched : ℕ → ℕ → ℕ → List ℕ → TableValue → List ℕ → List ℕ → Type 0
-IsSwitched chosen gate next library table old new = IsStoreAt chosen gate library table old → IsStoreAt (1 - chosen) next library table new
+abbrev pub IsReplaced : Shape → ℕ → ℕ → Shape → ℕ → List ℕ → List ℕ → TableValue → List ℕ → List ℕ → Type 0
+IsReplaced shape chosen gate other next library text table old new = IsStoreAt shape chosen gate library table old
+    → IsStoreAt other (1 - chosen) next text table new
+
+-- the same of the library of before
+abbrev pub IsSwitch : Shape → ℕ → ℕ → Shape → ℕ → List ℕ → TableValue → List ℕ → List ℕ → Type 0
+IsSwitch shape chosen gate other next library table old new = IsReplacement shape chosen gate other next library library table old new
+
+abbrev pub IsSwitched : Shape → ℕ → ℕ → Shape → ℕ → List ℕ → TableValue → List ℕ → List ℕ → Type 0
+IsSwitched shape chosen gate other next library table old new = IsReplaced shape chosen gate other next library library table old new
+
+-- a bank of format 2 with bodies of this size may follow one of format 1, and one of its own format
+abbrev pub MayFollow : ℕ → Shape → Type 0
+MayFollow size shape = (shape ≡ One) ⊎ (shape ≡ Two size)
+
+-- a move to the other bank in format 2 with this library, from whichever bank it may follow
+abbrev pub IsMove : ℕ → ℕ → ℕ → List ℕ → TableValue → List ℕ → List ℕ → Type 0
+IsMove chosen size next text table old new = (shape : Shape) (gate : ℕ) (library : List ℕ) → MayFollow size shape
+    → IsReplacement shape chosen gate (Two size) next library text table old new
+
+abbrev pub IsMoved : ℕ → ℕ → ℕ → List ℕ → TableValue → List ℕ → List ℕ → Type 0
+IsMoved chosen size next text table old new = (shape : Shape) (gate : ℕ) (library : List ℕ) → MayFollow size shape
+    → IsReplaced shape chosen gate (Two size) next library text table old new
+
+-- A store of the same library and the same table, in the format of before or in format 2 with bodies of this size.
+abbrev pub IsUpgrade : ℕ → List ℕ → List ℕ → Type 0
+IsUpgrade size old new = (shape : Shape) (library : List ℕ) (table : TableValue) → IsStoreIn shape old library table
+    → IsStoreIn shape new library table ⊎ IsStoreIn (Two size) new library table
 
 -- not formatted, or a new store without objects
-abbrev pub IsNoneOrFirst : List ℕ → List ℕ → Type 0
-IsNoneOrFirst library image = (slice_index image 0 ≢ 1) ⊎ IsStoreAt 0 (first_gate library first_table) library first_table image
+abbrev pub IsNoneOrFirst : ℕ → List ℕ → List ℕ → Type 0
+IsNoneOrFirst size library image =
+    (slice_index image 0 ≢ 1) ⊎ IsStoreAt (Two size) 0 (first_gate library first_table) library first_table image
 
 -- an image of before, but for its first byte, or none that is formatted, or the first store of this library
-abbrev pub IsFormatting : (List ℕ → Type 0) → List ℕ → List ℕ → Type 0
-IsFormatting before library image = ((d : List ℕ) × before d × Torn 0 1 d image) ⊎ IsNoneOrFirst library image
+abbrev pub IsFormatting : ℕ → (List ℕ → Type 0) → List ℕ → List ℕ → Type 0
+IsFormatting size before library image = ((d : List ℕ) × before d × Torn 0 1 d image) ⊎ IsNoneOrFirst size library image
 
--- a bank's bytes in the bank of number 0, and the selector that names it
-pub record HasBank (bytes image : List ℕ) : Type 0 where
-  pub size : store_bytes ≤ length image
-  pub bank : Holds image 8192 bytes
+-- the bank of number 0, without groups, and the selector that names it
+pub record HasBank (size : ℕ) (library : List ℕ) (table : TableValue) (gate : ℕ) (image : List ℕ) : Type 0 where
+  pub size_is : 33562624 + 2 * size ≤ length image
+  pub bank : IsBank (Two size) (from_place (head_place 0) image) (from_place (body_place (Two size) 0) image) library table gate
   pub selector : slice_index image 4096 ≡ 0

@@ -1,15 +1,25 @@
 -- What the answers of an opening say.
-use Rattle.std.specs.Prelude.{◌≡◌, ◌≢◌, ◌⊎◌, ℕ, ◌+◌, List, Option, Some, None, ⊤}
-use Rattle.oa_disk.specs.Disk.{HasCounted}
-use Rattle.oa_journal.specs.Bank.{from_place, HasLibrary}
-use Rattle.oa_journal.specs.Damages.{IsDamagedAt}
+use Rattle.std.specs.Prelude.{◌≡◌, ◌≢◌, ◌⊎◌, ℕ, ◌+◌, ◌<◌, List, length, Option, Some, None, ⊤}
+use Rattle.oa_disk.specs.Disk.{HasCounted, Only}
+use Rattle.oa_disk.specs.declared.disk.DeviceFault.{DeviceFault}
+use Rattle.oa_disk.specs.declared.disk.DeviceFault.TheVariants as devices
+use Rattle.oa_image.specs.Tables.{table_image}
+use Rattle.oa_model.specs.Limits.{max_library_bytes}
+use Rattle.oa_table.specs.Tables.{TableValue}
+use Rattle.oa_journal.specs.declared.shape.Shape.{Shape}
+use Rattle.oa_journal.specs.declared.shape.Shape.TheVariants.{One, Two}
+use Rattle.oa_journal.specs.Bank.{from_place, HasHead, HasLibrary}
+use Rattle.oa_journal.specs.Damages.{IsDamagedBody, IsDamagedHead}
 use Rattle.oa_store.specs.declared.fault.OpenFault.{OpenFault}
-use Rattle.oa_store.specs.declared.fault.OpenFault.TheVariants.{NotAStore, LibraryDiffers, Damaged, Device, Memory}
-use Rattle.oa_store.specs.Stores.{bank_place, IsFormatted, IsForeign}
+use Rattle.oa_store.specs.declared.fault.OpenFault.TheVariants.{NotAStore, OldFormat, LibraryDiffers, Damaged, Device, Memory}
+use Rattle.oa_store.specs.declared.fault.UpgradeFault.{UpgradeFault}
+use Rattle.oa_store.specs.declared.fault.UpgradeFault.TheVariants as upgrades
+use Rattle.oa_store.specs.Stores.{beside_table, body_place, head_place, IsFormatted, IsForeign, IsStoreIn}
 
 -- it says what stands on the disk
 abbrev pub IsRefusal : OpenFault → Type 0
 IsRefusal NotAStore = ⊤
+IsRefusal OldFormat = ⊤
 IsRefusal LibraryDiffers = ⊤
 IsRefusal (Damaged place) = ⊤
 IsRefusal (Device fault) = ⊥
@@ -18,6 +28,7 @@ IsRefusal Memory = ⊥
 -- it is given before a bank is looked at
 abbrev pub IsEarly : OpenFault → Type 0
 IsEarly NotAStore = ⊤
+IsEarly OldFormat = ⊥
 IsEarly LibraryDiffers = ⊥
 IsEarly (Damaged place) = ⊥
 IsEarly (Device fault) = ⊤
@@ -26,14 +37,25 @@ IsEarly Memory = ⊥
 -- it is given once a bank is looked at, whatever library it has
 abbrev pub IsLate : OpenFault → Type 0
 IsLate NotAStore = ⊥
+IsLate OldFormat = ⊥
 IsLate LibraryDiffers = ⊥
 IsLate (Damaged place) = ⊤
-IsLate (Device fault) = ⊤
+IsLate (Device fault) = fault ≡ devices.Read
 IsLate Memory = ⊤
+
+-- it is given before a library is looked at
+abbrev pub IsHead : OpenFault → Type 0
+IsHead NotAStore = ⊤
+IsHead OldFormat = ⊥
+IsHead LibraryDiffers = ⊥
+IsHead (Damaged place) = ⊤
+IsHead (Device fault) = ⊤
+IsHead Memory = ⊥
 
 -- what a place has where damage is answered
 abbrev pub IfDamaged : OpenFault → (ℕ → Type 0) → Type 0
 IfDamaged NotAStore P = ⊤
+IfDamaged OldFormat P = ⊤
 IfDamaged LibraryDiffers P = ⊤
 IfDamaged (Damaged place) P = P place
 IfDamaged (Device fault) P = ⊤
@@ -42,42 +64,151 @@ IfDamaged Memory P = ⊤
 -- one that speaks of the device is given only where a call has failed, and any other where none has
 abbrev pub IsCaused : ℕ → ℕ → OpenFault → Type 0
 IsCaused before now NotAStore = now ≡ before
+IsCaused before now OldFormat = now ≡ before
 IsCaused before now LibraryDiffers = now ≡ before
 IsCaused before now (Damaged place) = now ≡ before
 IsCaused before now (Device fault) = HasCounted before now
 IsCaused before now Memory = now ≡ before
 
+-- Which kind of call failed. All that was written is on the device before the first read; where the sync that brings it there fails,
+-- nothing falls away of what a crash may leave.
+abbrev pub IsFailed : List ℕ → (List ℕ → Type 0) → (List ℕ → Type 0) → DeviceFault → Type 0
+IsFailed contents before after devices.Read = Only contents after
+IsFailed contents before after devices.Write = (c : List ℕ) → before c → after c
+
+-- what a fault of the device tells, where the disk had these contents and these images, and has these images now
+abbrev pub Tells : List ℕ → (List ℕ → Type 0) → (List ℕ → Type 0) → OpenFault → Type 0
+Tells contents before after NotAStore = ⊤
+Tells contents before after OldFormat = ⊤
+Tells contents before after LibraryDiffers = ⊤
+Tells contents before after (Damaged place) = ⊤
+Tells contents before after (Device fault) = IsFailed contents before after fault
+Tells contents before after Memory = ⊤
+
 -- Its bank begins as one of another library.
 pub record IsOther (contents library : List ℕ) : Type 0 where
   pub chosen : ℕ
   pub head : IsFormatted chosen contents
+  pub shape : Shape
   pub other : List ℕ
-  pub has : HasLibrary (from_place (bank_place chosen) contents) other
+  pub has : HasLibrary shape (from_place (head_place chosen) contents) (from_place (body_place shape chosen) contents) other
   pub differs : other ≢ library
 
 -- it has the library that is wanted, where one is
-abbrev pub HasWanted : Option (List ℕ) → (ℕ → ℕ) → Type 0
-HasWanted None byte = ⊤
-HasWanted (Some library) byte = HasLibrary byte library
+abbrev pub HasWanted : Option (List ℕ) → Shape → (ℕ → ℕ) → (ℕ → ℕ) → Type 0
+HasWanted None shape head body = ⊤
+HasWanted (Some library) shape head body = HasLibrary shape head body library
 
--- Its bank is damaged at this place of the disk. Where this is behind the library, the bank begins as one of the library that is wanted.
-pub record IsDamaged (wanted : Option (List ℕ)) (contents : List ℕ) (place : ℕ) : Type 0 where
+-- its bank has a head of format 1
+pub record IsOld (contents : List ℕ) : Type 0 where
   pub chosen : ℕ
   pub head : IsFormatted chosen contents
+  pub library : ℕ
+  pub snapshot : ℕ
+  pub has : HasHead One (head_place chosen) contents library snapshot
+
+-- its bank has no head of any format, and this is the head's place
+pub record IsBeheaded (contents : List ℕ) (place : ℕ) : Type 0 where
+  pub chosen : ℕ
+  pub head : IsFormatted chosen contents
+  pub there : place ≡ head_place chosen
+  pub none : IsDamagedHead (head_place chosen) contents
+
+-- Its bank has a head, and its body is damaged at this place of the disk. The bank begins as one of the library that is wanted.
+pub record IsSpoilt (wanted : Option (List ℕ)) (contents : List ℕ) (place : ℕ) : Type 0 where
+  pub chosen : ℕ
+  pub head : IsFormatted chosen contents
+  pub shape : Shape
   pub offset : ℕ
-  pub there : place ≡ bank_place chosen + offset
-  pub damaged : IsDamagedAt (from_place (bank_place chosen) contents) offset
-  pub behind : (offset ≡ 0) ⊎ HasWanted wanted (from_place (bank_place chosen) contents)
+  pub there : place ≡ body_place shape chosen + offset
+  pub damaged : IsDamagedBody shape (from_place (head_place chosen) contents) (from_place (body_place shape chosen) contents) offset
+  pub begins : HasWanted wanted shape (from_place (head_place chosen) contents) (from_place (body_place shape chosen) contents)
+
+abbrev pub IsDamaged : Option (List ℕ) → List ℕ → ℕ → Type 0
+IsDamaged wanted contents place = IsBeheaded contents place ⊎ IsSpoilt wanted contents place
 
 -- it has another library than the one that is wanted
 abbrev pub IsUnwanted : Option (List ℕ) → List ℕ → Type 0
 IsUnwanted None contents = ⊥
 IsUnwanted (Some library) contents = IsOther contents library
 
+-- it is in format 1, where a store of one library is wanted: any other is read in either format
+abbrev pub IsTooOld : Option (List ℕ) → List ℕ → Type 0
+IsTooOld None contents = ⊥
+IsTooOld (Some library) contents = IsOld contents
+
 -- what a refusal of a disk of this size and these contents says
 abbrev pub Says : Option (List ℕ) → ℕ → List ℕ → OpenFault → Type 0
 Says wanted size contents NotAStore = IsForeign size contents
+Says wanted size contents OldFormat = IsTooOld wanted contents
 Says wanted size contents LibraryDiffers = IsUnwanted wanted contents
 Says wanted size contents (Damaged place) = IsDamaged wanted contents place
 Says wanted size contents (Device fault) = ⊤
 Says wanted size contents Memory = ⊤
+
+-- a fault of an opening that compares no library, as one of an upgrade
+abbrev pub of_opening : OpenFault → UpgradeFault
+of_opening NotAStore = upgrades.NotAStore
+of_opening OldFormat = upgrades.Memory
+of_opening LibraryDiffers = upgrades.Memory
+of_opening (Damaged place) = upgrades.Damaged place
+of_opening (Device fault) = upgrades.Device fault
+of_opening Memory = upgrades.Memory
+
+-- its bank has a head of format 2
+pub record IsNew (contents : List ℕ) : Type 0 where
+  pub chosen : ℕ
+  pub head : IsFormatted chosen contents
+  pub size : ℕ
+  pub library : ℕ
+  pub snapshot : ℕ
+  pub has : HasHead (Two size) (head_place chosen) contents library snapshot
+
+-- a store of format 1 whose library or whose table is too large for a body of that size
+pub record IsTooLarge (bank : ℕ) (contents : List ℕ) : Type 0 where
+  pub library : List ℕ
+  pub table : TableValue
+  pub store : IsStoreIn One contents library table
+  pub large : (max_library_bytes < length library) ⊎ (bank < length (table_image table) + beside_table)
+
+-- What a refusal of an upgrade to bodies of a size says of a disk of this size and these contents. Memory is asked for once a head of
+-- format 1 is found.
+abbrev pub SaysOld : ℕ → ℕ → List ℕ → UpgradeFault → Type 0
+SaysOld bank size contents upgrades.TooSmall = ⊤
+SaysOld bank size contents upgrades.NotAStore = IsForeign size contents
+SaysOld bank size contents upgrades.AlreadyNew = IsNew contents
+SaysOld bank size contents (upgrades.Damaged place) = ((place ≡ 0) × IsTooLarge bank contents) ⊎ IsDamaged None contents place
+SaysOld bank size contents (upgrades.Device fault) = ⊤
+SaysOld bank size contents upgrades.Memory = IsOld contents
+
+-- an upgrade that is refused has written nothing, unless it tells that a write or a sync failed
+abbrev pub IsRefusedUpgrade : UpgradeFault → Type 0
+IsRefusedUpgrade upgrades.TooSmall = ⊤
+IsRefusedUpgrade upgrades.NotAStore = ⊤
+IsRefusedUpgrade upgrades.AlreadyNew = ⊤
+IsRefusedUpgrade (upgrades.Damaged place) = ⊤
+IsRefusedUpgrade (upgrades.Device fault) = fault ≡ devices.Read
+IsRefusedUpgrade upgrades.Memory = ⊤
+
+-- one that speaks of the device is given only where a call has failed, and any other where none has
+abbrev pub IsCausedUpgrade : ℕ → ℕ → UpgradeFault → Type 0
+IsCausedUpgrade before now upgrades.TooSmall = now ≡ before
+IsCausedUpgrade before now upgrades.NotAStore = now ≡ before
+IsCausedUpgrade before now upgrades.AlreadyNew = now ≡ before
+IsCausedUpgrade before now (upgrades.Damaged place) = now ≡ before
+IsCausedUpgrade before now (upgrades.Device fault) = HasCounted before now
+IsCausedUpgrade before now upgrades.Memory = now ≡ before
+
+-- Which kind of call of an upgrade failed: a write or a sync, but for the one at the start, fails only once a store of format 1 is found.
+abbrev pub IsFailedUpgrade : List ℕ → (List ℕ → Type 0) → (List ℕ → Type 0) → DeviceFault → Type 0
+IsFailedUpgrade contents before after devices.Read = Only contents after
+IsFailedUpgrade contents before after devices.Write = ((c : List ℕ) → before c → after c)
+    ⊎ ((library : List ℕ) × (table : TableValue) × IsStoreIn One contents library table)
+
+abbrev pub TellsOld : List ℕ → (List ℕ → Type 0) → (List ℕ → Type 0) → UpgradeFault → Type 0
+TellsOld contents before after upgrades.TooSmall = ⊤
+TellsOld contents before after upgrades.NotAStore = ⊤
+TellsOld contents before after upgrades.AlreadyNew = ⊤
+TellsOld contents before after (upgrades.Damaged place) = ⊤
+TellsOld contents before after (upgrades.Device fault) = IsFailedUpgrade contents before after fault
+TellsOld contents before after upgrades.Memory = ⊤

@@ -5,34 +5,60 @@ use thiserror::Error;
 /// Why a disk was not made a store.
 #[derive(Clone, Copy, Debug, PartialEq, Eq, Error)]
 pub enum FormatFault {
-    /// It has fewer bytes than a store.
+    /// It has fewer bytes than two banks of that size take.
     #[error("disk too small")]
     TooSmall,
     /// A call of the device failed. The disk holds no store now, or one that is whole.
     #[error("device: {0}")]
     Device(DeviceFault),
-    /// There is no memory for a bank's first bytes. Nothing was done.
+    /// There is no memory to write a bank's bytes from. Nothing was done.
     #[error("out of memory")]
     Memory,
 }
 
-/// Why a disk was not opened. An opening looks at the size, the first byte, the header of the bank, its library, its snapshot and its
-/// groups, and answers for the first of these that fails.
+/// Why a disk was not opened. An opening looks at the size, the first byte, the head of the bank, its format, its library, its snapshot and
+/// its groups, and answers for the first of these that fails.
 #[derive(Clone, Copy, Debug, PartialEq, Eq, Error)]
 pub enum OpenFault {
     /// It has fewer bytes than a store, or its first byte is not 1.
     #[error("not a store")]
     NotAStore,
-    /// Its header is whole, and the library behind it is another one.
+    /// It is a store of format 1, which is read alone.
+    #[error("old format")]
+    OldFormat,
+    /// Its head is whole, and its library is another one.
     #[error("library differs")]
     LibraryDiffers,
-    /// The bytes at this place of the disk are not those of a header, a table or a group.
+    /// The bytes at this place of the disk are not those of a head, a table or a group.
     #[error("damaged at {0}")]
     Damaged(u64),
     /// A call of the device failed.
     #[error("device: {0}")]
     Device(DeviceFault),
     /// There is no memory for what is read.
+    #[error("out of memory")]
+    Memory,
+}
+
+/// Why a store was not brought to format 2.
+#[derive(Clone, Copy, Debug, PartialEq, Eq, Error)]
+pub enum UpgradeFault {
+    /// It has fewer bytes than two bodies of that size take.
+    #[error("disk too small")]
+    TooSmall,
+    /// It has fewer bytes than a store, or its first byte is not 1.
+    #[error("not a store")]
+    NotAStore,
+    /// It is a store of format 2 already.
+    #[error("already format 2")]
+    AlreadyNew,
+    /// The bytes at this place of the disk are not those of a head, a table or a group; or, at 0, its table or its library is too large.
+    #[error("damaged at {0}")]
+    Damaged(u64),
+    /// A call of the device failed.
+    #[error("device: {0}")]
+    Device(DeviceFault),
+    /// There is no memory for what is read, or to write a bank's bytes from. Nothing was written.
     #[error("out of memory")]
     Memory,
 }
@@ -57,7 +83,4 @@ pub enum CheckpointFault {
     /// The device has failed a call.
     #[error("device: {0}")]
     Device(DeviceFault),
-    /// There is no memory for the table's bytes. Nothing was done.
-    #[error("out of memory")]
-    Memory,
 }

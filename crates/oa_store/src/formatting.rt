@@ -1,20 +1,24 @@
 //! Making a store.
-ghost use Rattle.std.specs.Prelude.{◌≡◌, ◌≢◌, ◌⊎◌, ◌↔◌, ◌+◌, ◌-◌, ◌^◌, ◌<◌, ◌≤◌, List, ℕ, IsTrue, length, slice_index, OnOk, IfErr};
+ghost use Rattle.std.specs.Prelude.{◌≡◌, ◌≢◌, ◌⊎◌, ◌↔◌, ◌+◌, ◌*◌, ◌-◌, ◌^◌, ◌<◌, ◌≤◌, List, ℕ, true, IsTrue, length, slice_index, OnOk, IfErr};
 ghost use Rattle.std.specs.Prelude.{IsErrOf};
+ghost use Rattle.std.specs.Int.{div_ceil};
 ghost use Rattle.oa_disk.specs.Disk.{LeavesOnly, LeavesStep, HasCounted, Counts, Torn};
 ghost use Rattle.oa_disk.specs.declared.disk.DeviceFault.{DeviceFault};
 ghost use Rattle.oa_model.specs.Limits.{max_library_bytes};
-ghost use Rattle.oa_table.specs.Tables.{first_table};
+ghost use Rattle.oa_table.specs.Tables.{first_table, unlocked_table};
+ghost use Rattle.oa_image.specs.Tables.{is_numbered};
 ghost use Rattle.oa_store.specs.declared.fault.FormatFault.{FormatFault};
-ghost use Rattle.oa_store.specs.Stores.{store_bytes, IsStoreAt};
+ghost use Rattle.oa_journal.specs.declared.shape.Shape.TheVariants.{Two};
+ghost use Rattle.oa_store.specs.Stores.{IsStoreAt};
+ghost use Rattle.oa_store.specs.Calls.{format_calls};
 ghost use Rattle.oa_store.specs.Changes.{IsFormatting, HasBank};
 ghost use Rattle.oa_journal.specs.Banks.{first_gate};
 
 use crate::FormatFault;
-use crate::head::{BANKS, SELECTOR, STORE_BYTES};
+use crate::head::{SELECTOR, buffer};
+use crate::opening::bank_of;
 use oa_disk::{DeviceFault, Disk, flip};
-use oa_image::laws::is_table;
-use oa_journal::front;
+use oa_journal::Shape;
 use oa_table::Table;
 use std::alloc::Global;
 
@@ -28,41 +32,62 @@ fn close<D: Disk>(disk: &mut D) -> Result<(), DeviceFault>
     ensures honest { D.is_honest disk.new ≡ D.is_honest disk.old }
     ensures counts { Counts (D.failures_of disk.old) (D.failures_of disk.new) result }
     ensures fault { IfErr result (λ e. e ≡ DeviceFault.Write) }
+    ensures calls { IsTrue (D.is_honest disk.old) → D.moment disk.new ≤ D.moment disk.old + 4 }
 {
     disk.write_at(0, &[0])?;
     disk.sync()
 }
 
 /// Writes a bank and the selector, and then sets the first byte to 1. Until then it is not 1 in any image.
-fn fill<D: Disk>(disk: &mut D, bytes: &[u8]) -> Result<(), DeviceFault>
-    requires big { store_bytes ≤ D.size_of disk.old }
-    requires few { length bytes.now ≤ 16777216 }
+fn fill<D: Disk>(
+    disk: &mut D,
+    buffer: &mut [u8],
+    library: &[u8],
+    table: &Table,
+    size: u32,
+) -> Result<(), DeviceFault>
+    requires some { 0 < length buffer.old }
+    requires least { 20971520 ≤ size }
+    requires most { size ≤ 1073741824 }
+    requires big { 33562624 + 2 * size ≤ D.size_of disk.old }
+    requires fits { first_gate library.now table.now < size }
+    requires numbered { is_numbered table.now ≡ true }
     ensures any_moment { IsTrue (D.is_honest disk.old) → ((c : List ℕ) → D.image disk.old c → slice_index c 0 ≡ 0)
-        → LeavesOnly D.moment D.image_since disk.old disk.new (λ c. (slice_index c 0 ≢ 1) ⊎ HasBank bytes.now c) }
+        → LeavesOnly D.moment D.image_since disk.old disk.new (λ c. (slice_index c 0 ≢ 1)
+        ⊎ HasBank size library.now (unlocked_table table.now) (first_gate library.now table.now) c) }
     ensures done { OnOk result (IsTrue (D.is_honest disk.old) → (c : List ℕ) → D.image disk.new c
-        → HasBank bytes.now c × (slice_index c 0 ≡ 1)) }
+        → HasBank size library.now (unlocked_table table.now) (first_gate library.now table.now) c × (slice_index c 0 ≡ 1)) }
     ensures size { D.size_of disk.new ≡ D.size_of disk.old }
     ensures honest { D.is_honest disk.new ≡ D.is_honest disk.old }
     ensures counts { Counts (D.failures_of disk.old) (D.failures_of disk.new) result }
     ensures fault { IfErr result (λ e. e ≡ DeviceFault.Write) }
+    ensures calls { IsTrue (D.is_honest disk.old) → D.moment disk.new
+        ≤ D.moment disk.old + 2 * (5 + div_ceil (1 + first_gate library.now table.now) (length buffer.old)) }
 {
-    disk.write_at(BANKS, bytes)?;
+    bank_of(Shape::Two(size), 0).start(disk, buffer, library, table)?;
     disk.write_at(SELECTOR, &[0])?;
     flip(disk, 0, 1)
 }
 
-/// Makes the disk a store of this library, without objects, in its own length. What it held before is gone.
+/// Makes the disk a store of this library, without objects, in its own length, with bodies of that size. What it held before is gone.
 ///
 /// Refused as `TooSmall` and for want of memory before the first call of the disk. A stop within it leaves what was there but for the
 /// first byte, or a disk that is not formatted, or the new store.
-pub fn format<D: Disk>(alloc: Global, disk: &mut D, library: &[u8]) -> Result<(), FormatFault>
-    requires { length library.now ≤ max_library_bytes }
+pub fn format<D: Disk>(
+    alloc: Global,
+    disk: &mut D,
+    library: &[u8],
+    size: u32,
+) -> Result<(), FormatFault>
+    requires short { length library.now ≤ max_library_bytes }
+    requires least { 20971520 ≤ size }
+    requires most { size ≤ 1073741824 }
 
     ensures any_moment { IsTrue (D.is_honest disk.old)
-        → LeavesOnly D.moment D.image_since disk.old disk.new (IsFormatting (D.image disk.old) library.now) }
+        → LeavesOnly D.moment D.image_since disk.old disk.new (IsFormatting size (D.image disk.old) library.now) }
     ensures done { OnOk result (IsTrue (D.is_honest disk.old) → (c : List ℕ) → D.image disk.new c
-        → IsStoreAt 0 (first_gate library.now first_table) library.now first_table c) }
-    ensures small { IsErrOf result FormatFault.TooSmall ↔ (D.size_of disk.old < store_bytes) }
+        → IsStoreAt (Two size) 0 (first_gate library.now first_table) library.now first_table c) }
+    ensures small { IsErrOf result FormatFault.TooSmall ↔ (D.size_of disk.old < 33562624 + 2 * size) }
     ensures small_same { IsErrOf result FormatFault.TooSmall → disk.new ≡ disk.old }
     ensures memory { IsErrOf result FormatFault.Memory → disk.new ≡ disk.old }
     ensures device { (fault : DeviceFault) → IsErrOf result (FormatFault.Device fault)
@@ -71,19 +96,19 @@ pub fn format<D: Disk>(alloc: Global, disk: &mut D, library: &[u8]) -> Result<()
     ensures honest { D.is_honest disk.new ≡ D.is_honest disk.old }
     ensures unfailed { OnOk result (D.failures_of disk.new ≡ D.failures_of disk.old) }
     ensures failures { D.failures_of disk.old ≤ D.failures_of disk.new }
+    ensures calls { IsTrue (D.is_honest disk.old) → D.moment disk.new ≤ D.moment disk.old + 2 * format_calls library.now }
 {
-    if disk.size() < STORE_BYTES {
+    if disk.size() < Shape::Two(size).disk_bytes() {
         return Err(FormatFault::TooSmall);
     }
-    let table = Table::new(alloc);
-    is_table(&table);
-    let Ok(bytes) = front(alloc, library, &table) else {
+    let Ok(mut buffer) = buffer(alloc) else {
         return Err(FormatFault::Memory);
     };
+    let table = Table::new(alloc);
     if let Err(fault) = close(disk) {
         return Err(FormatFault::Device(fault));
     }
-    if let Err(fault) = fill(disk, &bytes) {
+    if let Err(fault) = fill(disk, &mut buffer, library, &table, size) {
         return Err(FormatFault::Device(fault));
     }
     Ok(())

@@ -1,14 +1,21 @@
 //! The bytes before the banks: the first one, and the selector.
-ghost use Rattle.std.specs.Prelude.{◌≡◌, ◌⊎◌, ◌+◌, ◌-◌, ◌^◌, ◌<◌, ◌≤◌, ℕ, List, IsTrue, slice_index, OnOk, IfOk, IfErr, IsErrOf};
+ghost use Rattle.std.specs.Prelude.{◌≡◌, ◌⊎◌, ◌+◌, ◌-◌, ◌^◌, ◌<◌, ◌≤◌, ℕ, List, Option, IsTrue, length, vec_capacity, slice_index, OnOk, IfOk, IfErr, IsErrOf};
 ghost use Rattle.oa_disk.specs.Disk.{Counts, Only};
+ghost use Rattle.oa_disk.specs.declared.disk.DeviceFault.{DeviceFault};
+ghost use Rattle.oa_model.specs.Limits.{max_library_bytes};
 ghost use Rattle.oa_store.specs.declared.fault.OpenFault.{OpenFault};
-ghost use Rattle.oa_store.specs.Faults.{IsEarly, IsCaused};
+ghost use Rattle.oa_store.specs.Calls.{piece_bytes};
+ghost use Rattle.oa_store.specs.Faults.{IsEarly, IsHead, IsCaused, Says, Tells};
 ghost use Rattle.oa_store.specs.Reads.{WritesNothing};
-ghost use Rattle.oa_journal.specs.Bank.{bank_bytes};
-ghost use Rattle.oa_store.specs.Stores.{store_bytes, bank_place, IsFormatted, IsForeign};
+ghost use Rattle.oa_journal.specs.Bank.{HasHead};
+ghost use Rattle.oa_journal.specs.Shapes.{body_bytes, disk_bytes, IsShape};
+ghost use Rattle.oa_store.specs.Stores.{store_bytes, body_place, head_place, IsFormatted, IsForeign};
 
 use crate::OpenFault;
 use oa_disk::{DeviceFault, Disk};
+use oa_journal::{BankFault, Head, Shape, read_head};
+use oa_model::MAX_LIBRARY_BYTES;
+use std::alloc::{AllocError, Global};
 
 /// The least size of a disk that has a store.
 pub const STORE_BYTES: u64 = 33_562_624;
@@ -16,16 +23,43 @@ pub const STORE_BYTES: u64 = 33_562_624;
 /// Where the selector stands.
 pub(crate) const SELECTOR: u64 = 4096;
 
-/// Where the banks begin.
-pub(crate) const BANKS: u64 = 8192;
+/// How many bytes of a bank are written at once.
+const PIECE_BYTES: usize = 65_536;
 
-/// Where the bank of that number begins.
-pub(crate) fn place_of(bank: u8) -> u64
-    requires { bank < 2 }
-    ensures value { result ≡ bank_place bank }
-    ensures inside { result + bank_bytes ≤ store_bytes }
+fn zeros(alloc: Global, count: usize) -> Result<Vec<u8>, AllocError>
+    ensures { IfOk result (λ bytes. length bytes.items ≡ count) }
 {
-    BANKS + u64::from(bank) * 16_777_216
+    vec![in alloc; 0; count]
+}
+
+/// The buffer that banks are written from.
+pub(crate) fn buffer(alloc: Global) -> Result<Vec<u8>, AllocError>
+    ensures { IfOk result (λ bytes. length bytes.items ≡ piece_bytes) }
+{
+    zeros(alloc, PIECE_BYTES)
+}
+
+/// Where the head of the bank of that number stands, in either format.
+pub(crate) fn head_place(bank: u8) -> u64
+    requires { bank < 2 }
+    ensures value { result ≡ head_place bank }
+    ensures inside { result + 32 ≤ store_bytes }
+{
+    8192 + u64::from(bank) * 16_777_216
+}
+
+/// Where its body stands.
+pub(crate) fn body_place(shape: Shape, bank: u8) -> u64
+    requires two { bank < 2 }
+    requires known { IsShape shape }
+    ensures value { result ≡ body_place shape bank }
+    ensures inside { result + body_bytes shape ≤ disk_bytes shape }
+    ensures behind { head_place bank + 32 ≤ result }
+{
+    match shape {
+        Shape::One => 8224 + u64::from(bank) * 16_777_216,
+        Shape::Two(size) => 33_562_624 + u64::from(bank) * u64::from(size),
+    }
 }
 
 /// The byte at that place.
@@ -37,6 +71,8 @@ fn read_byte<D: Disk>(disk: &mut D, at: u64) -> Result<u8, DeviceFault>
     ensures size { D.size_of disk.new ≡ D.size_of disk.old }
     ensures honest { IsTrue (D.is_honest disk.new) → IsTrue (D.is_honest disk.old) }
     ensures counts { Counts (D.failures_of disk.old) (D.failures_of disk.new) result }
+    ensures fault { IfErr result (λ e. e ≡ DeviceFault.Read) }
+    ensures calls { IsTrue (D.is_honest disk.new) → D.moment disk.new ≤ D.moment disk.old + 2 }
 {
     let mut bytes = [0];
     disk.read_at(at, &mut bytes)?;
@@ -60,6 +96,9 @@ pub(crate) fn find_bank<D: Disk>(disk: &mut D) -> Result<u8, OpenFault>
     ensures unfailed { OnOk result (D.failures_of disk.new ≡ D.failures_of disk.old) }
     ensures failures { D.failures_of disk.old ≤ D.failures_of disk.new }
     ensures cause { IfErr result (IsCaused (D.failures_of disk.old) (D.failures_of disk.new)) }
+    ensures tells { IfErr result (λ e. IsTrue (D.is_honest disk.new) → Tells (D.contents disk.old) (D.image disk.old) (D.image disk.new) e) }
+    // at most three calls
+    ensures calls { IsTrue (D.is_honest disk.new) → D.moment disk.new ≤ D.moment disk.old + 6 }
 {
     if disk.size() < STORE_BYTES {
         return Err(OpenFault::NotAStore);
@@ -75,5 +114,100 @@ pub(crate) fn find_bank<D: Disk>(disk: &mut D) -> Result<u8, OpenFault>
     match read_byte(disk, SELECTOR) {
         Ok(selector) => Ok(selector % 2),
         Err(fault) => Err(OpenFault::Device(fault)),
+    }
+}
+
+/// The number of the bank that the selector names, and what its head tells.
+pub(crate) fn find_head<D: Disk>(disk: &mut D) -> Result<(u8, Head), OpenFault>
+    ensures found { IfOk result (λ r. IsTrue (D.is_honest disk.new) → IsFormatted r.0 (D.contents disk.old)
+        × HasHead r.1.shape (head_place r.0) (D.contents disk.old) r.1.library r.1.snapshot) }
+    ensures two { IfOk result (λ r. r.0 < 2) }
+    ensures known { IfOk result (λ r. IsShape r.1.shape) }
+    ensures room { IfOk result (λ r. disk_bytes r.1.shape ≤ D.size_of disk.old) }
+    ensures big { OnOk result (store_bytes ≤ D.size_of disk.old) }
+    ensures synced { OnOk result (IsTrue (D.is_honest disk.new) → Only (D.contents disk.old) (D.image disk.new)) }
+    ensures says { IfErr result (λ e. IsTrue (D.is_honest disk.new) → (wanted : Option (List ℕ))
+        → Says wanted (D.size_of disk.old) (D.contents disk.old) e) }
+    ensures early { IfErr result (λ e. IsTrue (D.is_honest disk.new) → IsForeign (D.size_of disk.old) (D.contents disk.old) → IsEarly e) }
+    ensures any { IfErr result IsHead }
+    ensures contents { OnOk result (IsTrue (D.is_honest disk.new) → D.contents disk.new ≡ D.contents disk.old) }
+    ensures reads { IsTrue (D.is_honest disk.new) → WritesNothing D.image D.moment D.image_since disk.old disk.new }
+    ensures size { D.size_of disk.new ≡ D.size_of disk.old }
+    ensures honest { IsTrue (D.is_honest disk.new) → IsTrue (D.is_honest disk.old) }
+    ensures unfailed { OnOk result (D.failures_of disk.new ≡ D.failures_of disk.old) }
+    ensures failures { D.failures_of disk.old ≤ D.failures_of disk.new }
+    ensures cause { IfErr result (IsCaused (D.failures_of disk.old) (D.failures_of disk.new)) }
+    ensures tells { IfErr result (λ e. IsTrue (D.is_honest disk.new) → Tells (D.contents disk.old) (D.image disk.old) (D.image disk.new) e) }
+    ensures calls { IsTrue (D.is_honest disk.new) → D.moment disk.new ≤ D.moment disk.old + 8 }
+{
+    let chosen = match find_bank(disk) {
+        Ok(chosen) => chosen,
+        Err(fault) => return Err(fault),
+    };
+    match read_head(disk, head_place(chosen)) {
+        Ok(head) => Ok((chosen, head)),
+        Err(BankFault::Damaged(place)) => Err(OpenFault::Damaged(place)),
+        Err(BankFault::Device(fault)) => Err(OpenFault::Device(fault)),
+        Err(BankFault::Memory) => Err(OpenFault::Memory),
+    }
+}
+
+/// The number of the bank that the selector names, what its head tells, and the room that a store has.
+#[derive(Drop)]
+pub(crate) struct Room {
+    pub chosen: u8,
+    pub head: Head,
+    /// What the other bank is written from.
+    pub buffer: Vec<u8>,
+    /// Nothing, with room for any library.
+    pub library: Vec<u8>,
+}
+
+/// The same, with the room of a store, which is reserved before the head is looked at.
+pub(crate) fn find_room<D: Disk>(alloc: Global, disk: &mut D) -> Result<Room, OpenFault>
+    ensures found { IfOk result (λ r. IsTrue (D.is_honest disk.new) → IsFormatted r.chosen (D.contents disk.old)
+        × HasHead r.head.shape (head_place r.chosen) (D.contents disk.old) r.head.library r.head.snapshot) }
+    ensures two { IfOk result (λ r. r.chosen < 2) }
+    ensures known { IfOk result (λ r. IsShape r.head.shape) }
+    ensures room { IfOk result (λ r. disk_bytes r.head.shape ≤ D.size_of disk.old) }
+    ensures buffer { IfOk result (λ r. length r.buffer.items ≡ piece_bytes) }
+    ensures library { IfOk result (λ r. max_library_bytes ≤ vec_capacity r.library) }
+    ensures none { IfOk result (λ r. length r.library.items ≡ 0) }
+    ensures big { OnOk result (store_bytes ≤ D.size_of disk.old) }
+    ensures synced { OnOk result (IsTrue (D.is_honest disk.new) → Only (D.contents disk.old) (D.image disk.new)) }
+    ensures says { IfErr result (λ e. IsTrue (D.is_honest disk.new) → (wanted : Option (List ℕ))
+        → Says wanted (D.size_of disk.old) (D.contents disk.old) e) }
+    ensures early { IfErr result (λ e. IsTrue (D.is_honest disk.new) → IsForeign (D.size_of disk.old) (D.contents disk.old) → IsEarly e) }
+    ensures contents { OnOk result (IsTrue (D.is_honest disk.new) → D.contents disk.new ≡ D.contents disk.old) }
+    ensures reads { IsTrue (D.is_honest disk.new) → WritesNothing D.image D.moment D.image_since disk.old disk.new }
+    ensures size { D.size_of disk.new ≡ D.size_of disk.old }
+    ensures honest { IsTrue (D.is_honest disk.new) → IsTrue (D.is_honest disk.old) }
+    ensures unfailed { OnOk result (D.failures_of disk.new ≡ D.failures_of disk.old) }
+    ensures failures { D.failures_of disk.old ≤ D.failures_of disk.new }
+    ensures cause { IfErr result (IsCaused (D.failures_of disk.old) (D.failures_of disk.new)) }
+    ensures tells { IfErr result (λ e. IsTrue (D.is_honest disk.new) → Tells (D.contents disk.old) (D.image disk.old) (D.image disk.new) e) }
+    ensures calls { IsTrue (D.is_honest disk.new) → D.moment disk.new ≤ D.moment disk.old + 8 }
+{
+    let chosen = match find_bank(disk) {
+        Ok(chosen) => chosen,
+        Err(fault) => return Err(fault),
+    };
+    let Ok(buffer) = buffer(alloc) else {
+        return Err(OpenFault::Memory);
+    };
+    let library = match Vec::with_capacity(alloc, MAX_LIBRARY_BYTES) {
+        Ok(library) => library,
+        Err(_) => return Err(OpenFault::Memory),
+    };
+    match read_head(disk, head_place(chosen)) {
+        Ok(head) => Ok(Room {
+            chosen,
+            head,
+            buffer,
+            library,
+        }),
+        Err(BankFault::Damaged(place)) => Err(OpenFault::Damaged(place)),
+        Err(BankFault::Device(fault)) => Err(OpenFault::Device(fault)),
+        Err(BankFault::Memory) => Err(OpenFault::Memory),
     }
 }

@@ -8,9 +8,12 @@ mod head;
 pub mod laws;
 mod opening;
 mod store;
+mod switching;
+mod upgrading;
 
-pub use fault::{CheckpointFault, CommitFault, FormatFault, OpenFault};
+pub use fault::{CheckpointFault, CommitFault, FormatFault, OpenFault, UpgradeFault};
 pub use formatting::format;
 pub use head::STORE_BYTES;
 pub use opening::inspect;
-pub use store::Store;
+pub use store::{AMPLE_ROOM, BESIDE_TABLE, Store};
+pub use upgrading::upgrade;

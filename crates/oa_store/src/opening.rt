@@ -1,20 +1,26 @@
 //! Reading a store.
 ghost use Rattle.std.specs.Prelude.{◌≡◌, ◌↔◌, ◌+◌, ◌-◌, ◌^◌, ◌<◌, ◌≤◌, ℕ, List, true, false, Some, None, IsTrue, OnOk, IfOk, IfErr};
-ghost use Rattle.std.specs.Prelude.{IsErrOf};
+ghost use Rattle.std.specs.Prelude.{IsErrOf, length, vec_capacity};
+ghost use Rattle.oa_model.specs.Limits.{max_library_bytes};
 ghost use Rattle.oa_disk.specs.Disk.{Only};
 ghost use Rattle.oa_image.specs.Tables.{is_numbered};
+ghost use Rattle.oa_table.specs.Tables.{unlocked_table};
 ghost use Rattle.oa_journal.specs.Append.{IsAt};
-ghost use Rattle.oa_journal.specs.Bank.{bank_bytes, from_place, IsBank, HasLibrary};
-ghost use Rattle.oa_journal.specs.Damages.{IsDamagedAt, IsDamagedBank};
+ghost use Rattle.oa_journal.specs.Bank.{from_place, HasHeader, IsBank, HasLibrary};
+ghost use Rattle.oa_journal.specs.Damages.{HasNoHeader, IsDamagedBank};
+ghost use Rattle.oa_journal.specs.Shapes.{body_bytes, disk_bytes, IsShape};
+ghost use Rattle.oa_journal.specs.declared.shape.Shape.{Shape as AShape};
+ghost use Rattle.oa_journal.specs.declared.shape.Shape.TheVariants.{Two};
 ghost use Rattle.oa_store.specs.declared.fault.OpenFault.{OpenFault};
-ghost use Rattle.oa_store.specs.Faults.{IsEarly, IsLate, IfDamaged, IsCaused, Says};
+ghost use Rattle.oa_store.specs.Calls.{piece_bytes};
+ghost use Rattle.oa_store.specs.Faults.{IsEarly, IsLate, IfDamaged, IsCaused, Says, Tells};
 ghost use Rattle.oa_store.specs.Reads.{WritesNothing};
-ghost use Rattle.oa_store.specs.Stores.{store_bytes, bank_place, IsForeign, IsStoreAt, IsStore};
+ghost use Rattle.oa_store.specs.Stores.{body_place, head_place, IsForeign, IsFormatted, IsStoreAt, IsStore};
 
 use crate::OpenFault;
-use crate::head::{find_bank, place_of};
+use crate::head::{Room, body_place, buffer, find_head, find_room, head_place};
 use oa_disk::Disk;
-use oa_journal::{Bank, BankFault};
+use oa_journal::{Bank, BankFault, Shape};
 use oa_table::Table;
 use std::alloc::Global;
 
@@ -25,6 +31,7 @@ pub(crate) struct Found {
     pub table: Table,
     pub chosen: u8,
     pub bank: Bank,
+    pub buffer: Vec<u8>,
 }
 
 fn same(one: &[u8], other: &[u8]) -> bool
@@ -33,14 +40,16 @@ fn same(one: &[u8], other: &[u8]) -> bool
     one == other
 }
 
-/// The library of a bank, from its header and its text alone.
+/// The library of a bank, from its head and its text alone.
 fn read_library<D: Disk>(alloc: Global, disk: &mut D, bank: &mut Bank) -> Result<Vec<u8>, OpenFault>
-    requires { bank.old.place + bank_bytes ≤ D.size_of disk.old }
+    requires inside { bank.old.head + 32 ≤ D.size_of disk.old }
+    requires body_inside { bank.old.body + body_bytes bank.old.shape ≤ D.size_of disk.old }
     ensures found { IfOk result (λ text. IsTrue (D.is_honest disk.new)
-        → HasLibrary (from_place bank.old.place (D.contents disk.old)) text.items) }
+        → HasLibrary bank.old.shape (from_place bank.old.head (D.contents disk.old)) (from_place bank.old.body (D.contents disk.old))
+        text.items) }
     ensures bank { OnOk result (bank.new ≡ bank.old) }
     ensures damaged { IfErr result (λ e. IsTrue (D.is_honest disk.new)
-        → IfDamaged e (λ at. (at ≡ bank.old.place) × IsDamagedAt (from_place bank.old.place (D.contents disk.old)) 0)) }
+        → IfDamaged e (λ at. (at ≡ bank.old.head) × HasNoHeader bank.old.shape (from_place bank.old.head (D.contents disk.old)))) }
     ensures late { IfErr result IsLate }
     ensures cause { IfErr result (IsCaused (D.failures_of disk.old) (D.failures_of disk.new)) }
     ensures contents { IsTrue (D.is_honest disk.new) → D.contents disk.new ≡ D.contents disk.old }
@@ -49,6 +58,7 @@ fn read_library<D: Disk>(alloc: Global, disk: &mut D, bank: &mut Bank) -> Result
     ensures honest { IsTrue (D.is_honest disk.new) → IsTrue (D.is_honest disk.old) }
     ensures unfailed { OnOk result (D.failures_of disk.new ≡ D.failures_of disk.old) }
     ensures failures { D.failures_of disk.old ≤ D.failures_of disk.new }
+    ensures calls { IsTrue (D.is_honest disk.new) → D.moment disk.new ≤ D.moment disk.old + 4 }
 {
     match bank.read_library(alloc, disk) {
         Ok(text) => Ok(text),
@@ -63,14 +73,20 @@ fn read_all<D: Disk>(
     alloc: Global,
     disk: &mut D,
     bank: &mut Bank,
-) -> Result<(Vec<u8>, Table), OpenFault>
-    requires { bank.old.place + bank_bytes ≤ D.size_of disk.old }
+    buffer: Vec<u8>,
+) -> Result<(Vec<u8>, Table, Vec<u8>), OpenFault>
+    requires some { 5 ≤ length buffer.items }
+    requires inside { bank.old.head + 32 ≤ D.size_of disk.old }
+    requires body_inside { bank.old.body + body_bytes bank.old.shape ≤ D.size_of disk.old }
     ensures found { IfOk result (λ r. IsTrue (D.is_honest disk.new)
-        → IsBank (from_place bank.old.place (D.contents disk.old)) r.0.items r.1 bank.new.gate) }
+        → IsBank bank.old.shape (from_place bank.old.head (D.contents disk.old)) (from_place bank.old.body (D.contents disk.old))
+        r.0.items r.1 bank.new.gate) }
     ensures numbered { IfOk result (λ r. is_numbered r.1 ≡ true) }
-    ensures bank { OnOk result (IsAt bank.old.place bank.new.gate bank.old.stopped bank.new) }
+    ensures unlocked { IfOk result (λ r. unlocked_table r.1 ≡ r.1) }
+    ensures buffer { IfOk result (λ r. length r.2.items ≡ length buffer.items) }
+    ensures bank { OnOk result (IsAt bank.old.shape bank.old.head bank.old.body bank.new.gate bank.old.stopped bank.new) }
     ensures damaged { IfErr result (λ e. IsTrue (D.is_honest disk.new)
-        → IfDamaged e (IsDamagedBank bank.old.place (D.contents disk.old))) }
+        → IfDamaged e (IsDamagedBank bank.old.shape bank.old.head bank.old.body (D.contents disk.old))) }
     ensures late { IfErr result IsLate }
     ensures cause { IfErr result (IsCaused (D.failures_of disk.old) (D.failures_of disk.new)) }
     ensures contents { IsTrue (D.is_honest disk.new) → D.contents disk.new ≡ D.contents disk.old }
@@ -79,8 +95,10 @@ fn read_all<D: Disk>(
     ensures honest { IsTrue (D.is_honest disk.new) → IsTrue (D.is_honest disk.old) }
     ensures unfailed { OnOk result (D.failures_of disk.new ≡ D.failures_of disk.old) }
     ensures failures { D.failures_of disk.old ≤ D.failures_of disk.new }
+    ensures calls { IfOk result (λ r. IsTrue (D.is_honest disk.new)
+        → D.moment disk.new + length r.0.items ≤ D.moment disk.old + (8 + bank.new.gate)) }
 {
-    match bank.read_all(alloc, disk) {
+    match bank.read_all(alloc, disk, buffer) {
         Ok(read) => Ok(read),
         Err(BankFault::Damaged(place)) => Err(OpenFault::Damaged(place)),
         Err(BankFault::Device(fault)) => Err(OpenFault::Device(fault)),
@@ -88,20 +106,39 @@ fn read_all<D: Disk>(
     }
 }
 
-/// The store that is on the disk, which has to be one of this library.
+/// The bank of that number in that format.
+pub(crate) fn bank_of(shape: Shape, number: u8) -> Bank
+    requires two { number < 2 }
+    requires known { IsShape shape }
+    ensures { IsAt shape (head_place number) (body_place shape number) (body_bytes shape - 1) false result }
+{
+    Bank::at(
+        head_place(number),
+        body_place(shape, number),
+        shape.body_bytes(),
+    )
+}
+
+/// The store that is on the disk, which has to be one of this library in format 2.
 pub(crate) fn find_store<D: Disk>(
     alloc: Global,
     disk: &mut D,
     library: &[u8],
 ) -> Result<Found, OpenFault>
+    requires short { length library.now ≤ max_library_bytes }
     // what the contents are a store of
     ensures found { IfOk result (λ f. IsTrue (D.is_honest disk.new)
-        → IsStoreAt f.chosen f.bank.gate library.now f.table (D.contents disk.old)) }
+        → IsStoreAt f.bank.shape f.chosen f.bank.gate library.now f.table (D.contents disk.old)) }
     ensures library { IfOk result (λ f. f.library.items ≡ library.now) }
+    // there is room for any other
+    ensures library_room { IfOk result (λ f. max_library_bytes ≤ vec_capacity f.library) }
+    ensures buffer { IfOk result (λ f. length f.buffer.items ≡ piece_bytes) }
     ensures numbered { IfOk result (λ f. is_numbered f.table ≡ true) }
-    ensures bank { IfOk result (λ f. IsAt (bank_place f.chosen) f.bank.gate false f.bank) }
+    ensures unlocked { IfOk result (λ f. unlocked_table f.table ≡ f.table) }
+    ensures bank { IfOk result (λ f. IsAt f.bank.shape (head_place f.chosen) (body_place f.bank.shape f.chosen) f.bank.gate false f.bank) }
+    ensures shape { IfOk result (λ f. (size : ℕ) × (f.bank.shape ≡ Two size)) }
     ensures two { IfOk result (λ f. f.chosen < 2) }
-    ensures big { OnOk result (store_bytes ≤ D.size_of disk.old) }
+    ensures room { IfOk result (λ f. disk_bytes f.bank.shape ≤ D.size_of disk.old) }
     // nothing is pending, and nothing was written
     ensures synced { OnOk result (IsTrue (D.is_honest disk.new) → Only (D.contents disk.old) (D.image disk.new)) }
     ensures contents { OnOk result (IsTrue (D.is_honest disk.new) → D.contents disk.new ≡ D.contents disk.old) }
@@ -113,12 +150,24 @@ pub(crate) fn find_store<D: Disk>(
     ensures honest { IsTrue (D.is_honest disk.new) → IsTrue (D.is_honest disk.old) }
     ensures unfailed { OnOk result (D.failures_of disk.new ≡ D.failures_of disk.old) }
     ensures cause { IfErr result (IsCaused (D.failures_of disk.old) (D.failures_of disk.new)) }
+    ensures tells { IfErr result (λ e. IsTrue (D.is_honest disk.new) → Tells (D.contents disk.old) (D.image disk.old) (D.image disk.new) e) }
+    ensures calls { IfOk result (λ f. IsTrue (D.is_honest disk.new)
+        → D.moment disk.new + length library.now ≤ D.moment disk.old + (20 + f.bank.gate)) }
 {
-    let chosen = match find_bank(disk) {
-        Ok(chosen) => chosen,
+    let found = match find_room(alloc, disk) {
+        Ok(found) => found,
         Err(fault) => return Err(fault),
     };
-    let mut bank = Bank::at(place_of(chosen));
+    if let Shape::One = found.head.shape {
+        return Err(OpenFault::OldFormat);
+    }
+    let Room {
+        chosen,
+        head,
+        buffer,
+        library: mut kept,
+    } = found;
+    let mut bank = bank_of(head.shape, chosen);
     let text = match read_library(alloc, disk, &mut bank) {
         Ok(text) => text,
         Err(fault) => return Err(fault),
@@ -126,38 +175,88 @@ pub(crate) fn find_store<D: Disk>(
     if !same(&text, library) {
         return Err(OpenFault::LibraryDiffers);
     }
-    match read_all(alloc, disk, &mut bank) {
-        Ok((_, table)) => Ok(Found {
-            library: text,
+    kept.extend_from_slice(library).unwrap();
+    match read_all(alloc, disk, &mut bank, buffer) {
+        Ok((_, table, buffer)) => Ok(Found {
+            library: kept,
             table,
             chosen,
             bank,
+            buffer,
         }),
         Err(fault) => Err(fault),
     }
 }
 
-/// The library and the table of the store that is on the disk, whichever library it is. It writes nothing, and begins with a sync.
+/// The library and the table of the bank of that number, whose head was found.
+pub(crate) fn look<D: Disk>(
+    alloc: Global,
+    disk: &mut D,
+    chosen: u8,
+    shape: Shape,
+    buffer: Vec<u8>,
+) -> Result<(Vec<u8>, Table, Bank, Vec<u8>), OpenFault>
+    requires some { 5 ≤ length buffer.items }
+    requires two { chosen < 2 }
+    requires known { IsShape shape }
+    requires room { disk_bytes shape ≤ D.size_of disk.old }
+    ensures found { IfOk result (λ r. IsTrue (D.is_honest disk.new)
+        → IsBank shape (from_place (head_place chosen) (D.contents disk.old)) (from_place (body_place shape chosen) (D.contents disk.old))
+        r.0.items r.1 r.2.gate) }
+    ensures numbered { IfOk result (λ r. is_numbered r.1 ≡ true) }
+    ensures unlocked { IfOk result (λ r. unlocked_table r.1 ≡ r.1) }
+    ensures buffer { IfOk result (λ r. length r.3.items ≡ length buffer.items) }
+    ensures damaged { IfErr result (λ e. IsTrue (D.is_honest disk.new)
+        → IfDamaged e (IsDamagedBank shape (head_place chosen) (body_place shape chosen) (D.contents disk.old))) }
+    ensures late { IfErr result IsLate }
+    ensures cause { IfErr result (IsCaused (D.failures_of disk.old) (D.failures_of disk.new)) }
+    ensures contents { IsTrue (D.is_honest disk.new) → D.contents disk.new ≡ D.contents disk.old }
+    ensures reads { IsTrue (D.is_honest disk.new) → WritesNothing D.image D.moment D.image_since disk.old disk.new }
+    ensures size { D.size_of disk.new ≡ D.size_of disk.old }
+    ensures honest { IsTrue (D.is_honest disk.new) → IsTrue (D.is_honest disk.old) }
+    ensures unfailed { OnOk result (D.failures_of disk.new ≡ D.failures_of disk.old) }
+    ensures failures { D.failures_of disk.old ≤ D.failures_of disk.new }
+    ensures calls { IfOk result (λ r. IsTrue (D.is_honest disk.new)
+        → D.moment disk.new + length r.0.items ≤ D.moment disk.old + (8 + r.2.gate)) }
+{
+    let mut bank = bank_of(shape, chosen);
+    match read_all(alloc, disk, &mut bank, buffer) {
+        Ok((library, table, buffer)) => Ok((library, table, bank, buffer)),
+        Err(fault) => Err(fault),
+    }
+}
+
+/// The library and the table of the store that is on the disk, whichever library it is, in either format. It writes nothing, and begins
+/// with a sync.
 pub fn inspect<D: Disk>(alloc: Global, disk: &mut D) -> Result<(Vec<u8>, Table), OpenFault>
     ensures found { IfOk result (λ r. IsTrue (D.is_honest disk.new) → (c : List ℕ) → D.image disk.new c → IsStore c r.0.items r.1) }
     ensures contents { IfOk result (λ r. IsTrue (D.is_honest disk.new) → IsStore (D.contents disk.old) r.0.items r.1) }
     ensures numbered { IfOk result (λ r. is_numbered r.1 ≡ true) }
+    ensures unlocked { IfOk result (λ r. unlocked_table r.1 ≡ r.1) }
     ensures says { IfErr result (λ e. IsTrue (D.is_honest disk.new) → Says None (D.size_of disk.old) (D.contents disk.old) e) }
     ensures early { IfErr result (λ e. IsTrue (D.is_honest disk.new) → IsForeign (D.size_of disk.old) (D.contents disk.old) → IsEarly e) }
     ensures any_library { IsErrOf result OpenFault.LibraryDiffers → ⊥ }
+    ensures any_format { IsErrOf result OpenFault.OldFormat → ⊥ }
     ensures reads { IsTrue (D.is_honest disk.new) → WritesNothing D.image D.moment D.image_since disk.old disk.new }
     ensures size { D.size_of disk.new ≡ D.size_of disk.old }
     ensures honest { IsTrue (D.is_honest disk.new) → IsTrue (D.is_honest disk.old) }
     ensures unfailed { OnOk result (D.failures_of disk.new ≡ D.failures_of disk.old) }
     ensures cause { IfErr result (IsCaused (D.failures_of disk.old) (D.failures_of disk.new)) }
+    // Read is told once all that was written is on the device, and Write where the sync at the start failed.
+    ensures tells { IfErr result (λ e. IsTrue (D.is_honest disk.new) → Tells (D.contents disk.old) (D.image disk.old) (D.image disk.new) e) }
+    // at most eight calls, and one for two bytes of snapshot and groups
+    ensures calls { IfOk result (λ r. IsTrue (D.is_honest disk.new) → (is : IsStore (D.contents disk.old) r.0.items r.1)
+        × (D.moment disk.new + length r.0.items ≤ D.moment disk.old + (16 + is.1.1))) }
 {
-    let chosen = match find_bank(disk) {
-        Ok(chosen) => chosen,
+    let (chosen, head) = match find_head(disk) {
+        Ok(found) => found,
         Err(fault) => return Err(fault),
     };
-    let mut bank = Bank::at(place_of(chosen));
-    match read_all(alloc, disk, &mut bank) {
-        Ok(read) => Ok(read),
+    let Ok(buffer) = buffer(alloc) else {
+        return Err(OpenFault::Memory);
+    };
+    match look(alloc, disk, chosen, head.shape, buffer) {
+        Ok((library, table, _, _)) => Ok((library, table)),
         Err(fault) => Err(fault),
     }
 }

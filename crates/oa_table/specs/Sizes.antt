@@ -2,6 +2,7 @@
 use Rattle.std.specs.Prelude.{◌≡◌, ◌≤◌, ◌+◌, ◌*◌, ℕ, length, Option, Some, None, Result, Ok, Err}
 use Rattle.std.specs.List.{sum_by}
 use Rattle.std.specs.Map.{values_of}
+use Rattle.oa_model.specs.Limits.{max_cells, max_dimensions, max_text_bytes}
 use Rattle.oa_model.specs.declared.var_type.VarType.{VarType}
 use Rattle.oa_model.specs.declared.var_type.VarType.TheVariants as types
 use Rattle.oa_array.specs.Arrays.{ArrayValue}
@@ -46,6 +47,18 @@ scalar_size s = 2 + content_size (type_of s) s
 unfoldable pub element_size : VarType → Scalar → ℕ
 element_size types.Variant s = scalar_size s
 element_size t s = content_size t s
+
+-- the most that a scalar has: the number of the type, and the longest text
+abbrev pub largest_scalar : ℕ
+largest_scalar = 6 + max_text_bytes
+
+-- the most that a value has, an array of the most bounds and elements; a place has no more
+abbrev pub largest_value : ℕ
+largest_value = 4 + 8 * max_dimensions + largest_scalar * max_cells
+
+-- the most that a cell has
+abbrev pub largest_cell : ℕ
+largest_cell = 2 * largest_value
 
 -- the number of the type, how many bounds there are, each with a count and a lowest index, and the elements
 unfoldable pub array_size : ArrayValue Scalar → ℕ

@@ -4,7 +4,7 @@ ghost use Rattle.std.specs.List.{sum_by};
 ghost use Rattle.oa_array.specs.Arrays.{kept_by_position};
 ghost use Rattle.oa_model.specs.Limits.{max_cells};
 ghost use Rattle.oa_table.specs.Elements.{element_put, redimensioned_value};
-ghost use Rattle.oa_table.specs.Sizes.{element_size, size_due, value_size};
+ghost use Rattle.oa_table.specs.Sizes.{element_size, largest_value, size_due, value_size};
 ghost use Rattle.oa_variant.specs.Scalars.{zero_of};
 ghost use Rattle.oa_variant.specs.declared.variant.Variant.TheVariants as variants;
 
@@ -33,7 +33,7 @@ pub(crate) fn no_difference() -> Difference
 pub(crate) fn element_difference(value: &Variant, index: &[i32], element: &Scalar) -> Difference
     ensures size { size_due value_size (element_put index.now element.now value.now) value.now + result.gone
         ≡ value_size value.now + result.come }
-    ensures small { result.come ≤ 17200000000 }
+    ensures small { result.come ≤ largest_value }
 {
     match value {
         Variant::One(_) => no_difference(),
@@ -45,7 +45,7 @@ pub(crate) fn element_difference(value: &Variant, index: &[i32], element: &Scala
 fn element_set(array: &SafeArray<Scalar>, index: &[i32], element: &Scalar) -> Difference
     ensures size { let value = variants.Array array.now in
         size_due value_size (element_put index.now element.now value) value + result.gone ≡ value_size value + result.come }
-    ensures small { result.come ≤ 17200000000 }
+    ensures small { result.come ≤ largest_value }
 {
     let elem = array.elem();
     let fits = element.fits(elem);
@@ -67,7 +67,7 @@ fn element_set(array: &SafeArray<Scalar>, index: &[i32], element: &Scalar) -> Di
 #[tactic(auto, unfolding(crate::specs::Sizes::value_size))]
 pub(crate) fn redim_difference(value: &Variant, bound: Bound) -> Difference
     ensures size { size_due value_size (redimensioned_value bound value.now) value.now + result.gone ≡ value_size value.now + result.come }
-    ensures small { result.come ≤ 17200000000 }
+    ensures small { result.come ≤ largest_value }
 {
     match value {
         Variant::One(_) => no_difference(),
@@ -79,7 +79,7 @@ pub(crate) fn redim_difference(value: &Variant, bound: Bound) -> Difference
 fn array_resized(array: &SafeArray<Scalar>, bound: Bound) -> Difference
     ensures size { let value = variants.Array array.now in
         size_due value_size (redimensioned_value bound value) value + result.gone ≡ value_size value + result.come }
-    ensures small { result.come ≤ 17200000000 }
+    ensures small { result.come ≤ largest_value }
 {
     let _cells = array.cells();
     if array.locks() > 0 {
@@ -96,7 +96,7 @@ fn elements_kept(array: &SafeArray<Scalar>, count: usize) -> Difference
     requires { count ≤ max_cells }
     ensures size { sum_by (element_size array.now.elem) (kept_by_position (zero_of array.now.elem) count array.now.cells) + result.gone
         ≡ sum_by (element_size array.now.elem) array.now.cells + result.come }
-    ensures small { result.come ≤ 17200000000 }
+    ensures small { result.come ≤ largest_value }
 {
     let elem = array.elem();
     let cells = array.cells();

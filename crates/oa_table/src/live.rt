@@ -7,7 +7,7 @@ ghost use Rattle.oa_table.specs.Elements.{element_put, locked_value, redimension
 ghost use Rattle.oa_table.specs.Objects.{any_locked, locks_of_cell, with_change, with_put};
 ghost use Rattle.oa_table.specs.Outcomes.{Counts, Does};
 ghost use Rattle.oa_table.specs.Places.{place_cmp};
-ghost use Rattle.oa_table.specs.Sizes.{object_size, size_due};
+ghost use Rattle.oa_table.specs.Sizes.{largest_cell, object_size, size_due};
 ghost use Rattle.oa_table.specs.Tables.{cell_at};
 
 use crate::difference::{Difference, element_difference, no_difference, redim_difference};
@@ -101,7 +101,7 @@ impl LiveObject {
     pub(crate) fn put_difference(&self, place: &Place, value: &Variant) -> Difference
         ensures size { size_due object_size (with_put place.now value.now self.now) self.now + result.gone
             ≡ object_size self.now + result.come }
-        ensures small { result.come ≤ 34400000000 }
+        ensures small { result.come ≤ largest_cell }
     {
         self.places_rise();
         match self.get(place) {
@@ -130,7 +130,7 @@ impl LiveObject {
     ) -> Difference
         ensures size { size_due object_size (with_change place.now (element_put index.now element.now) self.now) self.now + result.gone
             ≡ object_size self.now + result.come }
-        ensures small { result.come ≤ 34400000000 }
+        ensures small { result.come ≤ largest_cell }
     {
         match self.get(place) {
             Some(value) => element_difference(value, index, element),
@@ -142,7 +142,7 @@ impl LiveObject {
     pub(crate) fn redim_difference(&self, place: &Place, bound: Bound) -> Difference
         ensures size { size_due object_size (with_change place.now (redimensioned_value bound) self.now) self.now + result.gone
             ≡ object_size self.now + result.come }
-        ensures small { result.come ≤ 34400000000 }
+        ensures small { result.come ≤ largest_cell }
     {
         match self.get(place) {
             Some(value) => redim_difference(value, bound),
@@ -170,7 +170,7 @@ impl LiveObject {
     ) -> Result<Difference, ((Place, Variant), TableFault)>
         ensures does { Does (place, value) (with_put place value self.old) self.old self.new result }
         ensures size { IfOk result (λ change. object_size self.new + change.gone ≡ object_size self.old + change.come) }
-        ensures small { IfOk result (λ change. change.come ≤ 34400000000) }
+        ensures small { IfOk result (λ change. change.come ≤ largest_cell) }
     {
         self.places_rise();
         let Some(old) = self.cells.get_mut(&place) else {
@@ -191,7 +191,7 @@ impl LiveObject {
         requires { cell_at place self.old.cells ≡ None }
         ensures does { Does (place, value) (with_put place value self.old) self.old self.new result }
         ensures size { IfOk result (λ change. object_size self.new + change.gone ≡ object_size self.old + change.come) }
-        ensures small { IfOk result (λ change. change.come ≤ 34400000000) }
+        ensures small { IfOk result (λ change. change.come ≤ largest_cell) }
     {
         let come = place_size(&place) + value_size(&value);
         match self.cells.insert(place, value) {

@@ -10,7 +10,7 @@ ghost use Rattle.oa_table.specs.Locks.{locked_in, locks_at, with_lock, without_l
 ghost use Rattle.oa_table.specs.Objects.{with_change};
 ghost use Rattle.oa_table.specs.Outcomes.{Counts, Does};
 ghost use Rattle.oa_table.specs.Parts.{table_of};
-ghost use Rattle.oa_table.specs.Sizes.{table_size};
+ghost use Rattle.oa_table.specs.Sizes.{largest_cell, table_size};
 ghost use Rattle.oa_table.specs.Tables.{first_table, object_at};
 
 use crate::difference::Difference;
@@ -194,7 +194,7 @@ impl Objects {
     ) -> Result<Difference, (Event, TableFault)>
         ensures does { let event = Event.Put name value in Does event (applied event self.old) self.old self.new result }
         ensures size { IfOk result (λ change. table_size self.new + change.gone ≡ table_size self.old + change.come) }
-        ensures small { IfOk result (λ change. change.come ≤ 34400000000) }
+        ensures small { IfOk result (λ change. change.come ≤ largest_cell) }
     {
         let CellName { object, place } = name;
         let Some(found) = self.objects.get_mut(&object) else {

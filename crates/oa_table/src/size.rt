@@ -14,7 +14,7 @@ use oa_variant::{Scalar, Variant};
 /// The text inside, with the number of its bytes.
 fn text_size(s: &Scalar) -> u64
     ensures value { result ≡ 4 + length (bytes_of (text_of s.now)) }
-    ensures small { result ≤ 262148 }
+    ensures small { result + 2 ≤ sizes.largest_scalar }
 {
     match s {
         Scalar::Bstr(text) => 4 + text.as_bytes().len() as u64,
@@ -26,7 +26,7 @@ fn text_size(s: &Scalar) -> u64
 #[tactic(auto, unfolding(crate::specs::Sizes::content_size))]
 fn content_size(elem: VarType, s: &Scalar) -> u64
     ensures value { result ≡ sizes.content_size elem s.now }
-    ensures small { result ≤ 262148 }
+    ensures small { result + 2 ≤ sizes.largest_scalar }
 {
     match elem {
         VarType::Empty | VarType::Null | VarType::Variant => 0,
@@ -42,7 +42,7 @@ fn content_size(elem: VarType, s: &Scalar) -> u64
 #[tactic(auto, unfolding(crate::specs::Sizes::scalar_size))]
 fn scalar_size(s: &Scalar) -> u64
     ensures value { result ≡ sizes.scalar_size s.now }
-    ensures small { result ≤ 262150 }
+    ensures small { result ≤ sizes.largest_scalar }
 {
     2 + content_size(s.var_type(), s)
 }
@@ -51,7 +51,7 @@ fn scalar_size(s: &Scalar) -> u64
 #[tactic(auto, unfolding(crate::specs::Sizes::element_size))]
 pub(crate) fn element_size(elem: VarType, s: &Scalar) -> u64
     ensures value { result ≡ sizes.element_size elem s.now }
-    ensures small { result ≤ 262150 }
+    ensures small { result ≤ sizes.largest_scalar }
 {
     match elem {
         VarType::Variant => scalar_size(s),
@@ -63,7 +63,7 @@ pub(crate) fn element_size(elem: VarType, s: &Scalar) -> u64
 pub(crate) fn elements_size(elem: VarType, elements: &[Scalar]) -> u64
     requires { length elements.now ≤ max_cells }
     ensures value { result ≡ sum_by (sizes.element_size elem) elements.now }
-    ensures small { result ≤ 262150 * length elements.now }
+    ensures small { result ≤ sizes.largest_scalar * length elements.now }
 {
     let mut size = 0;
     'elements: for s in elements {
@@ -75,17 +75,17 @@ pub(crate) fn elements_size(elem: VarType, elements: &[Scalar]) -> u64
 #[tactic(auto, unfolding(crate::specs::Sizes::array_size))]
 fn array_size(array: &SafeArray<Scalar>) -> u64
     ensures value { result ≡ sizes.array_size array.now }
-    ensures small { result ≤ 17200000000 }
+    ensures small { result ≤ sizes.largest_value }
 {
     let elements = array.cells();
     4 + 8 * array.bounds().len() as u64 + elements_size(array.elem(), elements)
 }
 
-/// A value: at most 17,200,000,000.
+/// A value.
 #[tactic(auto, unfolding(crate::specs::Sizes::value_size))]
 pub(crate) fn value_size(value: &Variant) -> u64
     ensures value { result ≡ sizes.value_size value.now }
-    ensures small { result ≤ 17200000000 }
+    ensures small { result ≤ sizes.largest_value }
 {
     match value {
         Variant::One(scalar) => scalar_size(scalar),
@@ -97,7 +97,7 @@ pub(crate) fn value_size(value: &Variant) -> u64
 fn scalars_size(scalars: &[Scalar]) -> u64
     requires { length scalars.now ≤ max_key_scalars }
     ensures value { result ≡ sum_by sizes.scalar_size scalars.now }
-    ensures small { result ≤ 262150 * length scalars.now }
+    ensures small { result ≤ sizes.largest_scalar * length scalars.now }
 {
     let mut size = 0;
     'scalars: for s in scalars {
@@ -106,11 +106,11 @@ fn scalars_size(scalars: &[Scalar]) -> u64
     size
 }
 
-/// A place: at most 17,200,000,000.
+/// A place, which has no more than the largest value.
 #[tactic(auto, unfolding(crate::specs::Sizes::place_size))]
 pub(crate) fn place_size(place: &Place) -> u64
     ensures value { result ≡ sizes.place_size place.now }
-    ensures small { result ≤ 17200000000 }
+    ensures small { result ≤ sizes.largest_value }
 {
     let key = place.key();
     22 + scalars_size(key)

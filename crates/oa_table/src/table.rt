@@ -17,7 +17,7 @@ use crate::objects::Objects;
 use crate::size::{place_size, value_size};
 use crate::{CellName, Event, LiveObject, Object, TableFault};
 use oa_array::Indices;
-use oa_model::{Bound, GREATEST_OBJECT_NUMBER};
+use oa_model::{Bound, GREATEST_OBJECT_NUMBER, MAX_CELLS, MAX_DIMENSIONS, MAX_TEXT_BYTES};
 use oa_variant::{Scalar, Variant};
 use std::alloc::{AllocError, Global};
 use std::collections::btree_map::Iter;
@@ -27,8 +27,12 @@ use uuid::Uuid;
 /// The greatest size of an image whose table fits in memory. A change to more than that finds none.
 const LARGEST_IMAGE: u64 = 0x7FFF_FFFF_FFFF_FFFF;
 
-/// A put that finds no more than this before it leaves no more than `LARGEST_IMAGE`: a place and a value have at most 17,200,000,000 bytes.
-const ROOM_FOR_ANY_PUT: u64 = LARGEST_IMAGE - 34_400_000_000;
+/// The most bytes that a cell has in an image: its place, and its value, an array of the most bounds and of the longest texts.
+const LARGEST_CELL: u64 = 2
+    * (4 + 8 * MAX_DIMENSIONS as u64 + (6 + MAX_TEXT_BYTES as u64) * MAX_CELLS as u64);
+
+/// A put that finds no more than this before it leaves no more than `LARGEST_IMAGE`.
+const ROOM_FOR_ANY_PUT: u64 = LARGEST_IMAGE - LARGEST_CELL;
 
 /// The table of objects: the next number, and the live objects by their numbers. A number is never used again. How many bytes its image
 /// has is kept beside it.
@@ -258,8 +262,22 @@ impl Table {
         }
     }
 
-    /// Sets a cell, by one look-up that finds what this changes of the size too.
-    fn put(&mut self, name: CellName, value: Variant) -> Result<(), (Event, TableFault)>
+    /// `apply` of the event that makes an object: its number is the next one.
+    pub fn create(&mut self, number: u32, class: Uuid) -> Result<(), (Event, TableFault)>
+        ensures { let event = Event.Create number class in Does event (applied event self.old) self.old self.new result }
+    {
+        self.apply(Event::Create { number, class })
+    }
+
+    /// `apply` of the event that takes an object away.
+    pub fn release(&mut self, number: u32) -> Result<(), (Event, TableFault)>
+        ensures { let event = Event.Release number in Does event (applied event self.old) self.old self.new result }
+    {
+        self.apply(Event::Release { number })
+    }
+
+    /// `apply` of the event that sets a cell: one look-up finds what this changes of the size too.
+    pub fn put(&mut self, name: CellName, value: Variant) -> Result<(), (Event, TableFault)>
         requires { locks_of value ≡ 0 }
         ensures { let event = Event.Put name value in Does event (applied event self.old) self.old self.new result }
     {
@@ -273,6 +291,25 @@ impl Table {
             }
             Err(refused) => Err(refused),
         }
+    }
+
+    /// `apply` of the event that sets an element of the array in a cell.
+    pub fn put_element(
+        &mut self,
+        name: CellName,
+        index: Indices,
+        value: Scalar,
+    ) -> Result<(), (Event, TableFault)>
+        ensures { let event = Event.PutElement name index value in Does event (applied event self.old) self.old self.new result }
+    {
+        self.apply(Event::PutElement { name, index, value })
+    }
+
+    /// `apply` of the event that gives the array in a cell another first bound.
+    pub fn redim(&mut self, name: CellName, bound: Bound) -> Result<(), (Event, TableFault)>
+        ensures { let event = Event.Redim name bound in Does event (applied event self.old) self.old self.new result }
+    {
+        self.apply(Event::Redim { name, bound })
     }
 
     /// Makes a change whose size is counted before.

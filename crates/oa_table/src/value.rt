@@ -4,7 +4,7 @@ ghost use Rattle.oa_variant.specs.declared.variant.Variant.TheVariants as varian
 ghost use Rattle.oa_table.specs.Elements.{element_put, locked_value, locks_of, of_array, redimensioned_value, released_value};
 ghost use Rattle.oa_table.specs.Elements.{replaced_value};
 ghost use Rattle.oa_table.specs.Outcomes.{Counts, Does};
-ghost use Rattle.oa_table.specs.Sizes.{value_size};
+ghost use Rattle.oa_table.specs.Sizes.{largest_value, value_size};
 
 use crate::TableFault;
 use crate::difference::Difference;
@@ -32,7 +32,7 @@ pub(crate) fn replace(
     ensures does { Does value (replaced_value value old.old) old.old old.new result }
     ensures gone { IfOk result (λ change. change.gone ≡ value_size old.old) }
     ensures come { IfOk result (λ change. change.come ≡ value_size old.new) }
-    ensures small { IfOk result (λ change. change.come ≤ 17200000000) }
+    ensures small { IfOk result (λ change. change.come ≤ largest_value) }
 {
     if locks_of(old) != 0 {
         return Err((value, TableFault::Array(ArrayFault::IsLocked)));

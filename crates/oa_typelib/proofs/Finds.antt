@@ -37,7 +37,7 @@ default_of_class : (items : List Item) (o : Option Entry) → option_and_then (�
 default_of_class items None = refl
 default_of_class items (Some e) = interface_by_place items (folded_names items) e.interface refl
 
-default_of_item : (items : List Item) (o : Option Item) → option_and_then (default_interface items) (option_and_then as_class o) ≡ option_and_then as_interface (option_and_then (slice_get items) (option_and_then (default_in (folded_names items)) o))
+pub default_of_item : (items : List Item) (o : Option Item) → option_and_then (default_interface items) (option_and_then as_class o) ≡ option_and_then as_interface (option_and_then (slice_get items) (option_and_then (default_in (folded_names items)) o))
 default_of_item items None = refl
 default_of_item items (Some (Interface i)) = refl
 default_of_item items (Some (Coclass c)) = default_of_class items (find (λ e. e.is_default) c.entries)

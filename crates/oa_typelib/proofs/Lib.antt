@@ -5,13 +5,16 @@ pub mod Found
 pub mod Groups
 pub mod Kept
 pub mod Lists
+pub mod Losses
 pub mod Looks
 pub mod Named
 pub mod Naming
 pub mod Passes
 pub mod Rules
+pub mod Same
 pub mod Sound
 pub mod TakenNames
+pub mod TextReads
 pub mod TypedTrees
 pub mod Units
 pub mod Walks

@@ -1,6 +1,6 @@
 -- A look-up by name answers what the name names, and that alone.
 use Rattle.std.proofs.Common.{◌≡◌, ◌-◌, ◌<◌, ◌≤◌, ℕ, ℤ, pos, zero, suc, Bool, true, false, cond, not, ◌&&◌, ◌||◌}
-use Rattle.std.proofs.Common.{if◌then◌else◌, List, [], ◌∷◌, ◌++◌, length, map, take, find, position, slice_get}
+use Rattle.std.proofs.Common.{if◌then◌else◌, List, [], ◌∷◌, ◌++◌, length, map, take, position, slice_get}
 use Rattle.std.proofs.Common.{nat_lt, Option, None, Some, refl, sym, ap, subst, ◌∙◌, true≢false, arith}
 use Rattle.std.proofs.lemmas.Bool.{and_parts}
 use Rattle.std.proofs.lemmas.Bool.Decides.{Decides-int_eq, nat_tests}
@@ -25,6 +25,7 @@ use Rattle.oa_typelib.specs.Breaches.{form_breaches, in_interface, broken_by, fi
 use Rattle.oa_typelib.specs.Checked.{IsChecked}
 use Rattle.oa_typelib.specs.DeclarationValues.{DeclarationValue}
 use Rattle.oa_typelib.specs.Declarations.{declarations, is_put, own_parameters, type_of_value}
+use Rattle.oa_typelib.specs.Keeps.{Has}
 use Rattle.oa_typelib.specs.Libraries.{same, same_name, name_of, marked_item}
 use Rattle.oa_typelib.specs.Members.{form_for, forms_named, lets, main_form}
 use Rattle.oa_typelib.specs.Names.{ids_in, named_in, parameter_named, place_as_id}
@@ -34,20 +35,15 @@ use Rattle.oa_typelib.specs.declared.access.Kind.TheVariants as kinds
 use Rattle.oa_typelib.specs.declared.fault.CheckError.TheVariants.{DuplicateName, DuplicateId, DuplicateGuid, UnknownInterface}
 use Rattle.oa_typelib.proofs.Groups.{position_step}
 use Rattle.oa_typelib.proofs.Rules.{agree_equiv}
+use Rattle.oa_typelib.proofs.Same.{found_at, inside}
 use Rattle.oa_typelib.proofs.Sound.{neither, unmapped, none_of, breaks_none, tree_sound}
 
 -- ---- lists and what stands at their places
 
-inside : {X : Type 0} (x y : X) → Some x ≡ Some y → x ≡ y
-inside x y e = cc
-
-abbrev At : {X : Type 0} → List X → X → Type 0
-At xs x = (n : ℕ) × (slice_get xs n ≡ Some x)
-
-abbrev Passing : {X : Type 0} → (X → Bool) → List X → X → Type 0
+abbrev pub Passing : {X : Type 0} → (X → Bool) → List X → X → Type 0
 Passing test xs x = (n : ℕ) × (slice_get xs n ≡ Some x) × (test x ≡ true)
 
-in_filter : {X : Type 0} (test : X → Bool) (xs : List X) (n : ℕ) (x : X) → slice_get (filter test xs) n ≡ Some x → Passing test xs x
+pub in_filter : {X : Type 0} (test : X → Bool) (xs : List X) (n : ℕ) (x : X) → slice_get (filter test xs) n ≡ Some x → Passing test xs x
 in_filter {X = X} test [] n x e = absurd cc
 in_filter {X = X} test (y ∷ ys) n x e = by (test y) refl n (λ m h. in_filter test ys m x h) e
   where
@@ -59,22 +55,14 @@ in_filter {X = X} test (y ∷ ys) n x e = by (test y) refl n (λ m h. in_filter 
     by true is (suc n) rest h = later (rest n h)
     by false is n rest h = later (rest n h)
 
-filtered : {X : Type 0} (test : X → Bool) (xs : List X) (m : ℕ) (x : X) → slice_get xs m ≡ Some x → test x ≡ true → At (filter test xs) x
+pub filtered : {X : Type 0} (test : X → Bool) (xs : List X) (m : ℕ) (x : X) → slice_get xs m ≡ Some x → test x ≡ true → Has (filter test xs) x
 filtered {X = X} test [] m x e is = absurd cc
 filtered {X = X} test (y ∷ ys) zero x e is = let first : test y ≡ true = ap test (inside y x e) ∙ is in (zero, rw first e)
 filtered {X = X} test (y ∷ ys) (suc m) x e is = by (test y) (filtered test ys m x e is)
   where
-    by : (b : Bool) → At (filter test ys) x → At (cond b (y ∷ filter test ys) (filter test ys)) x
+    by : (b : Bool) → Has (filter test ys) x → Has (cond b (y ∷ filter test ys) (filter test ys)) x
     by true h = (suc h.0, h.1)
     by false h = h
-
-find_in : {X : Type 0} (test : X → Bool) (xs : List X) (x : X) → find test xs ≡ Some x → At xs x
-find_in {X = X} test [] x e = absurd cc
-find_in {X = X} test (y ∷ ys) x e = by (test y) (λ h. find_in test ys x h) e
-  where
-    by : (b : Bool) → (find test ys ≡ Some x → At ys x) → cond b (Some y) (find test ys) ≡ Some x → At (y ∷ ys) x
-    by true rest h = (zero, h)
-    by false rest h = let r = rest h in (suc r.0, r.1)
 
 either_false : (a b : Bool) → (a || b) ≡ false → (a ≡ false) × (b ≡ false)
 either_false true b e = absurd (true≢false e)
@@ -134,52 +122,65 @@ pointwise_at {X = X} eq (z ∷ xs) [] e n x h = absurd (true≢false (sym e))
 pointwise_at {X = X} eq (z ∷ xs) (y ∷ ys) e zero x h = (y, refl, ap (λ (w : X). eq w y) (sym (inside z x h)) ∙ (and_parts (eq z y) (pointwise eq xs ys) e).0)
 pointwise_at {X = X} eq (z ∷ xs) (y ∷ ys) e (suc n) x h = pointwise_at eq xs ys (and_parts (eq z y) (pointwise eq xs ys) e).1 n x h
 
--- ---- declarations of one name agree
+-- ---- tests and names
 
-unless : {Y : Type 0} (b : Bool) (y : Y) (o : Option Y) → (if b then Some y else o) ≡ None → (b ≡ false) × (o ≡ None)
+pub unless : {Y : Type 0} (b : Bool) (y : Y) (o : Option Y) → (if b then Some y else o) ≡ None → (b ≡ false) × (o ≡ None)
 unless true y o e = absurd cc
 unless false y o e = (refl, e)
 
-unnot : (b : Bool) → not b ≡ false → b ≡ true
+pub unnot : (b : Bool) → not b ≡ false → b ≡ true
 unnot true e = refl
 unnot false e = absurd (true≢false e)
 
-name_symm : (a b : List ℕ) → same_name a b ≡ same_name b a
+pub name_symm : (a b : List ℕ) → same_name a b ≡ same_name b a
 name_symm a b = nat_list_eq_equiv.symm (folded_name a) (folded_name b)
 
 -- two that a name is equal to are equal
 name_both : (a b c : List ℕ) → same_name a b ≡ true → same_name a c ≡ true → same_name b c ≡ true
 name_both a b c e f = sym (nat_list_eq_equiv.congr (folded_name a) (folded_name b) (folded_name c) e) ∙ f
 
-apart_before : (breaks : DeclarationValue → DeclarationValue → Bool) (before xs : List DeclarationValue) → first_after (broken_by breaks) before xs ≡ None → (n m : ℕ) (d e : DeclarationValue) → slice_get xs n ≡ Some d → slice_get before m ≡ Some e → breaks d e ≡ false
-unfolding first_after
-apart_before breaks before [] none n m d e at there = absurd cc
-apart_before breaks before (x ∷ xs) none zero m d e at there =
-    let h = neither (broken_by breaks before x) (first_after (broken_by breaks) (before ++ x ∷ []) xs) none in
-    subst (λ (y : DeclarationValue). breaks y e ≡ false) (inside x d at) (none_any (breaks x) before (unless (list_any (breaks x) before) x.name None h.0).0 m e there)
-apart_before breaks before (x ∷ xs) none (suc n) m d e at there =
-    let h = neither (broken_by breaks before x) (first_after (broken_by breaks) (before ++ x ∷ []) xs) none in
-    apart_before breaks (before ++ x ∷ []) xs h.1 n m d e at (front_at before (x ∷ []) m e there)
+-- ---- declarations that break no rule with one before them, in any order
+
+module _ {Y : Type 0} (f : List DeclarationValue → DeclarationValue → Option Y) (breaks : DeclarationValue → DeclarationValue → Bool) (R : DeclarationValue → DeclarationValue → Type 0)
+    (each : (before : List DeclarationValue) (d : DeclarationValue) → f before d ≡ None → list_any (breaks d) before ≡ false)
+    (from : (d e : DeclarationValue) → breaks d e ≡ false → R d e) where
+  apart : (before xs : List DeclarationValue) → first_after f before xs ≡ None → (n m : ℕ) (d e : DeclarationValue) → slice_get xs n ≡ Some d → slice_get before m ≡ Some e → R d e
+  unfolding first_after
+  apart before [] none n m d e at there = absurd cc
+  apart before (x ∷ xs) none zero m d e at there =
+      let h = neither (f before x) (first_after f (before ++ x ∷ []) xs) none in
+      subst (λ (y : DeclarationValue). R y e) (inside x d at) (from x e (none_any (breaks x) before (each before x h.0) m e there))
+  apart before (x ∷ xs) none (suc n) m d e at there =
+      let h = neither (f before x) (first_after f (before ++ x ∷ []) xs) none in
+      apart (before ++ x ∷ []) xs h.1 n m d e at (front_at before (x ∷ []) m e there)
+
+  pub any_two : ((d : DeclarationValue) → R d d) → ((d e : DeclarationValue) → R d e → R e d) → (before xs : List DeclarationValue) → first_after f before xs ≡ None → (m n : ℕ) (d e : DeclarationValue)
+      → slice_get xs m ≡ Some d → slice_get xs n ≡ Some e → R d e
+  unfolding first_after
+  any_two itself symm before [] none m n d e at there = absurd cc
+  any_two itself symm before (x ∷ xs) none zero zero d e at there = subst (λ (y : DeclarationValue). R d y) (inside d e (sym at ∙ there)) (itself d)
+  any_two itself symm before (x ∷ xs) none zero (suc n) d e at there =
+      let h = neither (f before x) (first_after f (before ++ x ∷ []) xs) none in
+      symm e d (apart (before ++ x ∷ []) xs h.1 n (length before) e d there (end_at before x ∙ at))
+  any_two itself symm before (x ∷ xs) none (suc m) zero d e at there =
+      let h = neither (f before x) (first_after f (before ++ x ∷ []) xs) none in
+      apart (before ++ x ∷ []) xs h.1 m (length before) d e at (end_at before x ∙ there)
+  any_two itself symm before (x ∷ xs) none (suc m) (suc n) d e at there =
+      let h = neither (f before x) (first_after f (before ++ x ∷ []) xs) none in
+      any_two itself symm (before ++ x ∷ []) xs h.1 m n d e at there
+
+-- ---- declarations of one name agree
 
 agreeing : (d e : DeclarationValue) → disagrees d e ≡ false → same_name d.name e.name ≡ true → agree d e ≡ true
 agreeing d e apart is = unnot (agree d e) (subst (λ (b : Bool). (b && not (agree d e)) ≡ false) is apart)
 
-abbrev Agreeing : List DeclarationValue → Type 0
+abbrev pub Agreeing : List DeclarationValue → Type 0
 Agreeing xs = (m n : ℕ) (d e : DeclarationValue) → slice_get xs m ≡ Some d → slice_get xs n ≡ Some e → same_name d.name e.name ≡ true → agree d e ≡ true
 
-all_agree : (before xs : List DeclarationValue) → first_after (broken_by disagrees) before xs ≡ None → Agreeing xs
-unfolding first_after
-all_agree before [] none m n d e at there is = absurd cc
-all_agree before (x ∷ xs) none zero zero d e at there is = subst (λ (y : DeclarationValue). agree d y ≡ true) (inside d e (sym at ∙ there)) (agree_equiv.refl d)
-all_agree before (x ∷ xs) none zero (suc n) d e at there is =
-    let h = neither (broken_by disagrees before x) (first_after (broken_by disagrees) (before ++ x ∷ []) xs) none in
-    agree_equiv.symm d e ∙ agreeing e d (apart_before disagrees (before ++ x ∷ []) xs h.1 n (length before) e d there (end_at before x ∙ at)) (name_symm e.name d.name ∙ is)
-all_agree before (x ∷ xs) none (suc m) zero d e at there is =
-    let h = neither (broken_by disagrees before x) (first_after (broken_by disagrees) (before ++ x ∷ []) xs) none in
-    agreeing d e (apart_before disagrees (before ++ x ∷ []) xs h.1 m (length before) d e at (end_at before x ∙ there)) is
-all_agree before (x ∷ xs) none (suc m) (suc n) d e at there is =
-    let h = neither (broken_by disagrees before x) (first_after (broken_by disagrees) (before ++ x ∷ []) xs) none in
-    all_agree (before ++ x ∷ []) xs h.1 m n d e at there is
+all_agree : (xs : List DeclarationValue) → first_after (broken_by disagrees) [] xs ≡ None → Agreeing xs
+all_agree xs none =
+    any_two (broken_by disagrees) disagrees (λ d e. same_name d.name e.name ≡ true → agree d e ≡ true) (λ before x h. (unless (list_any (disagrees x) before) x.name None h).0) agreeing
+    (λ d _. agree_equiv.refl d) (λ d e r k. agree_equiv.symm e d ∙ r (name_symm d.name e.name ∙ k)) [] xs none
 
 same_id : (d e : DeclarationValue) → agree d e ≡ true → d.id ≡ e.id
 unfolding agree
@@ -238,17 +239,17 @@ pub record Names_well (i : InterfaceValue) : Type 0 where
   pub once : (n : ℕ) (d : DeclarationValue) → slice_get (declarations i) n ≡ Some d → repeated_name (map name_of_parameter d.parameters) ≡ None
   pub sound : AreSound (declarations i)
 
-no_repeats : (xs : List Item) → name_breach xs ≡ None → (n : ℕ) (i : InterfaceValue) → slice_get xs n ≡ Some (Interface i) → first_after declared_breach [] (declarations i) ≡ None
+pub no_repeats : (xs : List Item) → name_breach xs ≡ None → (n : ℕ) (i : InterfaceValue) → slice_get xs n ≡ Some (Interface i) → first_after declared_breach [] (declarations i) ≡ None
 no_repeats xs none n i at =
     let one = none_after item_breach [] xs none n (Interface i) at in
     (unless (list_any (λ (other : Item). same_name (name_of (Interface i)) (name_of other)) one.0) (name_of (Interface i)) (inner_breach (Interface i)) one.1).1
 
-no_name_breach : (t : TreeValue) → tree_breach t ≡ None → name_breach t.items ≡ None
+pub no_name_breach : (t : TreeValue) → tree_breach t ≡ None → name_breach t.items ≡ None
 no_name_breach t e =
     let keys = neither (key_breaches t) (option_or (option_map UnknownInterface (interface_breach t.items)) (form_breaches t.items)) e in
     unmapped DuplicateName (name_breach t.items) (neither (option_map DuplicateName (name_breach t.items)) (option_or (option_map DuplicateId (id_breach t.items)) (option_map DuplicateGuid (guid_breach t.guid t.items))) keys.0).0
 
-unmarked : (o : Option Item) (i : InterfaceValue) → option_map marked_item o ≡ Some (Interface i) → o ≡ Some (Interface i)
+pub unmarked : (o : Option Item) (i : InterfaceValue) → option_map marked_item o ≡ Some (Interface i) → o ≡ Some (Interface i)
 unmarked None i e = absurd cc
 unmarked (Some (Interface j)) i e = e
 unmarked (Some (Coclass c)) i e = absurd cc
@@ -259,21 +260,21 @@ names_well t n i is at =
     let there : slice_get w.items n ≡ Some (Interface i) = unmarked (slice_get w.items n) i (sym (slice_get-map marked_item w.items n) ∙ ap (λ (u : TreeValue). slice_get u.items n) (sym is.1.says) ∙ at) in
     let none = neither (tree_breach w) (text_breach w) is.1.unbroken in
     record {
-      agree = all_agree [] (declarations i) (all_at (λ x. in_interface (first_broken disagrees) x ≡ None) w.items (none_of (in_interface (first_broken disagrees)) w.items (breaks_none w is.1.unbroken).3) n (Interface i) there);
+      agree = all_agree (declarations i) (all_at (λ x. in_interface (first_broken disagrees) x ≡ None) w.items (none_of (in_interface (first_broken disagrees)) w.items (breaks_none w is.1.unbroken).3) n (Interface i) there);
       once = λ m d here. (let one = none_after declared_breach [] (declarations i) (no_repeats w.items (no_name_breach w none.0) n i there) m d here in (unless (list_any (clashes d) one.0) d.name (repeated_name (map name_of_parameter d.parameters)) one.1).1);
       sound = all_at IsSoundItem t.items (tree_sound t is) n (Interface i) at;
     }
 
 -- ---- the declaration that speaks for a member
 
-main_in : (forms : List DeclarationValue) (d : DeclarationValue) → main_form forms ≡ Some d → At forms d
+pub main_in : (forms : List DeclarationValue) (d : DeclarationValue) → main_form forms ≡ Some d → Has forms d
 main_in forms d e = by (form_for kinds.Get forms) refl e
   where
-    by : (o : Option DeclarationValue) → form_for kinds.Get forms ≡ o → option_or o (slice_get forms 0) ≡ Some d → At forms d
+    by : (o : Option DeclarationValue) → form_for kinds.Get forms ≡ o → option_or o (slice_get forms 0) ≡ Some d → Has forms d
     by None is h = (0, h)
-    by (Some c) is h = find_in (λ (d : DeclarationValue). lets kinds.Get d.kind) forms d (is ∙ h)
+    by (Some c) is h = let r = found_at (λ (d : DeclarationValue). lets kinds.Get d.kind) forms d (is ∙ h) in (r.0, r.1)
 
-some_main : (forms : List DeclarationValue) (n : ℕ) (d : DeclarationValue) → slice_get forms n ≡ Some d → main_form forms ≡ None → ⊥
+pub some_main : (forms : List DeclarationValue) (n : ℕ) (d : DeclarationValue) → slice_get forms n ≡ Some d → main_form forms ≡ None → ⊥
 some_main [] n d at none = absurd cc
 some_main (c ∷ forms) n d at none = let z = (neither (form_for kinds.Get (c ∷ forms)) (Some c) none).1 in absurd cc
 

@@ -12,8 +12,10 @@ pub mod Groups
 pub mod IndexValues
 pub mod Indexes
 pub mod IsLibrary
+pub mod Keeps
 pub mod Keys
 pub mod Libraries
+pub mod LibraryTexts
 pub mod MemberChecks
 pub mod MemberValues
 pub mod Members

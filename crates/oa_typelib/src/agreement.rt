@@ -21,7 +21,7 @@ fn same_type(a: ValueType, b: ValueType) -> bool
     a.vt() == b.vt()
 }
 
-fn same_result(a: Option<ValueType>, b: Option<ValueType>) -> bool
+pub(crate) fn same_result(a: Option<ValueType>, b: Option<ValueType>) -> bool
     ensures { result ≡ same_result a b }
 {
     match (a, b) {
@@ -70,7 +70,7 @@ fn same_parameter(a: &Parameter, b: &Parameter) -> bool
         && same_default(&a.default, &b.default)
 }
 
-fn same_parameters(a: &[Parameter], b: &[Parameter]) -> bool
+pub(crate) fn same_parameters(a: &[Parameter], b: &[Parameter]) -> bool
     ensures { result ≡ pointwise same_parameter a.now b.now }
 {
     if a.len() != b.len() {

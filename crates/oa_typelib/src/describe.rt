@@ -89,7 +89,11 @@ fn is_put_or_not(kind: DeclarationKind, puts: bool) -> bool
 }
 
 /// The declaration at a place where it is a put, or where it is not.
-fn form_at<'a>(interface: &Dispinterface<'a>, place: usize, puts: bool) -> Option<Form<'a>>
+pub(crate) fn form_at<'a>(
+    interface: &Dispinterface<'a>,
+    place: usize,
+    puts: bool,
+) -> Option<Form<'a>>
     ensures { result ≡ option_and_then (λ d. if is_put_or_not puts d.kind then Some d else None)
         (slice_get (declarations interface.now) place) }
 {

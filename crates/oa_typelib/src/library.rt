@@ -188,7 +188,7 @@ impl Library {
         self.guids.place(guid)
     }
 
-    fn items(&self) -> &[Item]
+    pub(crate) fn items(&self) -> &[Item]
         ensures { result.now ≡ self.now.items }
     {
         items_of(&self.tree)
@@ -202,7 +202,7 @@ impl Library {
     }
 
     /// The interface at a place.
-    fn interface_at(&self, place: usize) -> Option<Dispinterface<'_>>
+    pub(crate) fn interface_at(&self, place: usize) -> Option<Dispinterface<'_>>
         ensures { result ≡ option_and_then as_interface (slice_get self.now.items place) }
     {
         self.is_whole();
@@ -212,7 +212,7 @@ impl Library {
     }
 
     /// The place of the default interface of the coclass at a place.
-    fn default_at(&self, place: usize) -> Option<usize>
+    pub(crate) fn default_at(&self, place: usize) -> Option<usize>
         ensures { result ≡ option_and_then (default_in (folded_names self.now.items)) (slice_get self.now.items place) }
     {
         *at(self.defaults.as_slice(), place)?
@@ -235,7 +235,7 @@ impl Library {
     }
 
     /// The default interface of the coclass with a GUID.
-    fn default_interface(&self, class: &Uuid) -> Option<Dispinterface<'_>>
+    pub(crate) fn default_interface(&self, class: &Uuid) -> Option<Dispinterface<'_>>
         ensures { result ≡ option_and_then (default_interface self.now.items) (class_of self.now class.now) }
     {
         let place = self.place(class)?;
@@ -244,7 +244,7 @@ impl Library {
     }
 
     /// The interface at a place where an entry of the coclass at a place names it.
-    fn entered_at(&self, class: usize, place: usize) -> Option<Dispinterface<'_>>
+    pub(crate) fn entered_at(&self, class: usize, place: usize) -> Option<Dispinterface<'_>>
         ensures { result ≡ option_and_then
             (λ c. option_and_then (if_entered c) (option_and_then as_interface (slice_get self.now.items place)))
             (option_and_then as_class (slice_get self.now.items class)) }

@@ -1,6 +1,6 @@
 //! The members of an interface: its declarations by their names and by their DISPIDs.
 ghost use Rattle.std.specs.Prelude.{◌≡◌, [], true, List, ℕ, IfOk, IfSome, OnOk, map, position, slice_get, is_some, option_copied};
-ghost use Rattle.std.specs.List.{filter, position_or_len};
+ghost use Rattle.std.specs.List.{filter, filter_map, position_or_len};
 ghost use Rattle.std.specs.Option.{option_map};
 ghost use Rattle.std.specs.Ordering.{int_eq};
 ghost use Rattle.indexmap.specs.IndexSet.{insert_key};
@@ -496,6 +496,14 @@ impl<'a> Dispinterface<'a> {
     {
         let members: &'a Members = self.members;
         Forms::at(self.again(), members.by_id.places(id))
+    }
+
+    /// The places of the declarations with a DISPID.
+    pub(crate) fn places_with(&self, id: i32) -> &'a [usize]
+        ensures { filter_map (slice_get (declarations self.now)) result.now ≡ forms_with id self.now }
+    {
+        let members: &'a Members = self.members;
+        members.by_id.places(id)
     }
 
     /// The declarations with a name, which is folded.

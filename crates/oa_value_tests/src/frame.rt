@@ -1,5 +1,5 @@
 //! Sessions over readers in memory that cut and are interrupted, and over writers that fail.
-ghost use Rattle.std.specs.Prelude.{false, ⊤, ◌≡◌};
+ghost use Rattle.std.specs.Prelude.{false, length, nat_eq, ⊤, ◌≡◌, ◌≤◌};
 ghost use Rattle.oa_stream.specs.Ahead.{ahead};
 
 use crate::asserts::expect;
@@ -12,16 +12,24 @@ use oa_stream::{
 use std::alloc::{AllocError, Global};
 use std::rt::HostRuntime;
 
-// Answers each body with itself.
+// Answers each body with itself. Those of three bytes come alone.
 #[derive(Drop)]
 struct Echo;
 
 impl Responder for Echo {
     ghost ready = { λ _. ⊤ };
 
-    ghost turn = { λ _ _ _ _. ⊤ };
+    ghost turn = { λ _ _ replies _. length replies ≤ 1 };
 
     ghost ends = { λ _ _ _. ⊤ };
+
+    ghost alone = { λ body. nat_eq (length body) 3 };
+
+    ghost one_reply = { λ _ _ _ _ _ _ _ _ few. few };
+
+    fn comes_alone(&self, body: &[u8]) -> bool {
+        body.len() == 3
+    }
 
     fn respond<W: Sink>(
         &mut self,
@@ -166,4 +174,20 @@ fn a_flush_that_fails_is_a_write_fault(rt: HostRuntime) {
     let end = over(rt.alloc(), &mut device, b"00\n");
     expect(&rt, "the end", end == Ok((1, End::WriteFault)));
     expect(&rt, "three writes and a flush", device.calls == 4);
+}
+
+// The reply to the first body is handed on before the second is answered, which comes alone: three writes of a byte each, and a flush.
+#[test]
+fn a_body_that_comes_alone_is_left_undone(rt: HostRuntime) {
+    let bytes = b"00\n010203\n04\n";
+    let fails = [Moves, Moves, Moves, Fails];
+    let mut device = Scripted::new(&fails);
+    let end = over(rt.alloc(), &mut device, bytes);
+    expect(&rt, "undone", end == Ok((1, End::WriteFault)));
+    expect(&rt, "nothing is written behind that", device.calls == 4);
+    let moves = [Moves; 15];
+    let mut device = Scripted::new(&moves);
+    let end = over(rt.alloc(), &mut device, bytes);
+    expect(&rt, "done", end == Ok((3, End::Closed)));
+    expect(&rt, "two times all is handed on", device.calls == 15);
 }

@@ -11,8 +11,6 @@ mod cells;
 #[cfg(test)]
 mod frame;
 #[cfg(test)]
-mod idl;
-#[cfg(test)]
 mod image;
 #[cfg(test)]
 mod model;

@@ -1,13 +1,13 @@
-//! Why a table refuses an event, which no reply tells, and what is stated of tables.
+//! Why a table refuses an event, as far as no reply tells, and what is stated of tables. What a lock refuses is shown by the cases of the program.
 ghost use Rattle.oa_table.specs.Events.{BringsNoLocks};
 
 use crate::arrays::array;
 use crate::asserts::expect;
-use crate::table::Changing::{Create, Null, PutI4, Redim, Release};
+use crate::table::Changing::{Create, PutI4, Redim, Release};
 use oa_array::{ArrayFault, Indices};
 use oa_model::{Bound, VarType};
 use oa_table::{CellName, Event, Place, Table, TableFault, laws};
-use oa_variant::{Scalar, Variant};
+use oa_variant::Scalar;
 use std::alloc::Global;
 use std::rt::HostRuntime;
 use uuid::Uuid;
@@ -17,8 +17,6 @@ use uuid::Uuid;
 enum Changing {
     Create(u32),
     Release(u32),
-    /// A null in the place of the array.
-    Null,
     /// An I4 at an index of the array.
     PutI4([i32; 2]),
     /// Another first bound of the array in a cell.
@@ -31,8 +29,6 @@ struct Row {
     change: Changing,
     fault: TableFault,
 }
-
-const LOCKED: TableFault = TableFault::Array(ArrayFault::IsLocked);
 
 static REFUSED: [Row; 5] = [
     Row {
@@ -59,24 +55,6 @@ static REFUSED: [Row; 5] = [
         name: "another type",
         change: PutI4([0, 7]),
         fault: TableFault::Array(ArrayFault::TypeMismatch),
-    },
-];
-
-static REFUSED_FOR_A_LOCK: [Row; 3] = [
-    Row {
-        name: "another bound",
-        change: Redim(8),
-        fault: LOCKED,
-    },
-    Row {
-        name: "another value",
-        change: Null,
-        fault: LOCKED,
-    },
-    Row {
-        name: "the object goes",
-        change: Release(1),
-        fault: LOCKED,
     },
 ];
 
@@ -108,10 +86,6 @@ fn event(alloc: Global, change: &Changing) -> Event
             class: Uuid::nil(),
         },
         Release(number) => Event::Release { number },
-        Null => Event::Put {
-            name: cell(alloc, 8),
-            value: Variant::One(Scalar::Null),
-        },
         PutI4(index) => put_element(alloc, index),
         Redim(dispid) => Event::Redim {
             name: cell(alloc, dispid),
@@ -151,17 +125,12 @@ fn put_array(alloc: Global, table: &mut Table) -> Option<()> {
     table.apply(Event::Put { name, value }).ok()
 }
 
-/// The first row that a table of this kind does not answer so, its array first without a lock and then with one.
+/// The first row that a table with an array does not answer so.
 fn wrong(alloc: Global) -> &'static str {
     let mut table = Table::new(alloc);
     let _ = table.apply(event(alloc, &Create(1)));
     let _ = put_array(alloc, &mut table);
-    let wrong = wrong_row(alloc, &mut table, &REFUSED);
-    if !wrong.is_empty() {
-        return wrong;
-    }
-    let _ = table.lock(&cell(alloc, 8));
-    wrong_row(alloc, &mut table, &REFUSED_FOR_A_LOCK)
+    wrong_row(alloc, &mut table, &REFUSED)
 }
 
 #[test]

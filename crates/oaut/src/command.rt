@@ -1,5 +1,6 @@
 //! The command line.
 use crate::fault::Fault;
+use crate::store::{LEAST_BANK, MOST_BANK};
 use clap::{Arg, ArgAction, Command, value_parser};
 use std::alloc::{AllocError, Global};
 use std::env;
@@ -79,10 +80,35 @@ fn format<'a>(alloc: Global) -> Result<Command<'a>, AllocError> {
     Command::new(alloc, "format")
         .about("Makes a file the store of a type library, without objects")
         .after_help(
-            "A file that is not there is made, with 33,562,624 bytes, which is all that a store will ever take. One that is there begins anew, in its own length: the objects that it held are gone.\n\nExample:\n  oaut format items.store examples/small.idl",
+            "A file that is not there is made, with 33,562,624 bytes and twice B, which is all that a store will ever take. One that is there begins anew, in its own length: the objects that it held are gone.\n\nExample:\n  oaut format items.store examples/small.idl",
         )
         .arg(word(alloc, "STORE", "The store's file"))?
-        .arg(library_or_input(alloc))
+        .arg(library_or_input(alloc))?
+        .arg(bank(alloc))
+}
+
+fn upgrade<'a>(alloc: Global) -> Result<Command<'a>, AllocError> {
+    Command::new(alloc, "upgrade")
+        .about(
+            "Brings a store of format 1 to format 2, which this program serves, with what it holds",
+        )
+        .after_help(
+            "A file that is too short is lengthened to 33,562,624 bytes and twice B. A stop at any moment leaves the store in the old format or in the new one, and the same command goes on from there. There is no way back.\n\nExample:\n  oaut upgrade items.store",
+        )
+        .arg(word(alloc, "STORE", "The store's file"))?
+        .arg(bank(alloc))
+}
+
+/// How large a bank is.
+fn bank<'a>(alloc: Global) -> Arg<'a> {
+    Arg::new(alloc, "bank")
+        .long("bank")
+        .value_name("B")
+        .value_parser(value_parser!(u32).range(i64::from(LEAST_BANK)..=i64::from(MOST_BANK)))
+        .default_value("20971520")
+        .help(
+            "Give each of the store's two banks B bytes, from 20971520 to 1073741824; the objects may take 5242880 fewer as an image",
+        )
 }
 
 /// How many requests are committed together.
@@ -115,9 +141,18 @@ fn dump<'a>(alloc: Global) -> Result<Command<'a>, AllocError> {
     Command::new(alloc, "dump")
         .about("Writes the objects of a store and their cells on standard output, one line each")
         .after_help(
-            "The lines: next NUMBER, and of each object: object NUMBER CLASS, cell INTERFACE DISPID KEY VALUE. KEY and VALUE are images in hexadecimal digits, - is a key of no scalars. Nothing of the store is changed.\n\nExample:\n  oaut dump items.store",
+            "The lines: next NUMBER, and of each object: object NUMBER CLASS, cell INTERFACE DISPID KEY VALUE. KEY and VALUE are images in hexadecimal digits, - is a key of no scalars. Nothing of the store is changed, and it may be of either format.\n\nExamples:\n  oaut dump items.store\n  oaut dump items.store --library > items.idl",
         )
-        .arg(word(alloc, "STORE", "The store's file"))
+        .arg(word(alloc, "STORE", "The store's file"))?
+        .arg(kept_library(alloc))
+}
+
+/// The library of a store in the place of its objects.
+fn kept_library<'a>(alloc: Global) -> Arg<'a> {
+    Arg::new(alloc, "library")
+        .long("library")
+        .action(ArgAction::SetTrue)
+        .help("Write the canonical text of the store's library alone")
 }
 
 /// A command with one more subcommand.
@@ -141,6 +176,7 @@ pub(crate) fn command<'a>(alloc: Global) -> Result<Command<'a>, AllocError> {
     let command = with(command, play(alloc))?;
     let command = with(command, serve(alloc))?;
     let command = with(command, format(alloc))?;
+    let command = with(command, upgrade(alloc))?;
     let command = with(command, dump(alloc))?;
     with(command, check(alloc))
 }

@@ -3,7 +3,7 @@ ghost use Rattle.std.specs.Prelude.{◌≡◌, ◌≤◌, false, length, OnOk};
 
 use crate::fault::Fault;
 use crate::store::found;
-use crate::streams::Streams;
+use crate::streams::{Streams, write};
 use oa_image::{write_key, write_value};
 use oa_store::inspect;
 use oa_stream::{Behind, Outlet, Sink, Unwritten};
@@ -15,18 +15,22 @@ use std::io;
 /// How many bytes are turned into digits at a time.
 const PIECE: usize = 32;
 
-/// Writes the objects of a store and their cells on standard output, a line each. Nothing is written of a file that is refused.
-pub(crate) fn write_dump(rt: &HostRuntime, path: &str) -> Result<(), Fault> {
+/// Writes the objects of a store and their cells on standard output, a line each, or the bytes of its library in their place. Nothing is
+/// written of a file that is refused.
+pub(crate) fn write_dump(rt: &HostRuntime, path: &str, library: bool) -> Result<(), Fault> {
     let _streams = Streams::new(rt);
-    write_table(rt, &kept(rt, path)?)
+    let (text, table) = kept(rt, path)?;
+    if library {
+        return write(rt, &text);
+    }
+    write_table(rt, &table)
 }
 
-/// The table that a store keeps.
-fn kept(rt: &HostRuntime, path: &str) -> Result<Table, Fault> {
+/// The library and the table that a store keeps.
+fn kept(rt: &HostRuntime, path: &str) -> Result<(Vec<u8>, Table), Fault> {
     let alloc = rt.alloc();
     let mut disk = found(rt, alloc, path)?;
-    let (_, table) = inspect(alloc, &mut disk)?;
-    Ok(table)
+    Ok(inspect(alloc, &mut disk)?)
 }
 
 /// Writes a table on standard output.

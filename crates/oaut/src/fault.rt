@@ -2,7 +2,7 @@
 use crate::place::Place;
 use oa_disk::DeviceFault;
 use oa_idl::ParseError;
-use oa_store::{FormatFault, OpenFault};
+use oa_store::{FormatFault, OpenFault, UpgradeFault};
 use oa_stream::Unwritten;
 use oa_typelib::CheckError;
 use std::alloc::{AllocError, AllocFailed};
@@ -19,6 +19,8 @@ pub(crate) enum Fault {
     CannotRead(String),
     #[error("cannot write {0}")]
     CannotWrite(String),
+    #[error("cannot read {0}\n{0}: in use by another process")]
+    InUse(String),
     #[error("library is not UTF-8")]
     NotUtf8,
     #[error("{0}")]
@@ -31,6 +33,10 @@ pub(crate) enum Fault {
     TooSmall,
     #[error("not a store")]
     NotAStore,
+    #[error("old format")]
+    OldFormat,
+    #[error("already format 2")]
+    AlreadyNew,
     #[error("library differs")]
     LibraryDiffers,
     #[error("damaged at {0}")]
@@ -61,6 +67,7 @@ impl Fault {
         match self {
             Fault::CannotRead(_)
             | Fault::CannotWrite(_)
+            | Fault::InUse(_)
             | Fault::DeviceWrite
             | Fault::DeviceRead
             | Fault::Read
@@ -73,7 +80,12 @@ impl Fault {
             | Fault::Parse(_)
             | Fault::At(..)
             | Fault::Check(_) => 2,
-            Fault::TooSmall | Fault::NotAStore | Fault::LibraryDiffers | Fault::Damaged(_) => 3,
+            Fault::TooSmall
+            | Fault::NotAStore
+            | Fault::OldFormat
+            | Fault::AlreadyNew
+            | Fault::LibraryDiffers
+            | Fault::Damaged(_) => 3,
             Fault::Cut | Fault::TooLong | Fault::BadHex(_) => 4,
         }
     }
@@ -132,10 +144,24 @@ impl From<OpenFault> for Fault {
     fn from(e: OpenFault) -> Fault {
         match e {
             OpenFault::NotAStore => Fault::NotAStore,
+            OpenFault::OldFormat => Fault::OldFormat,
             OpenFault::LibraryDiffers => Fault::LibraryDiffers,
             OpenFault::Damaged(place) => Fault::Damaged(place),
             OpenFault::Device(fault) => Fault::from(fault),
             OpenFault::Memory => Fault::Memory,
+        }
+    }
+}
+
+impl From<UpgradeFault> for Fault {
+    fn from(e: UpgradeFault) -> Fault {
+        match e {
+            UpgradeFault::TooSmall => Fault::TooSmall,
+            UpgradeFault::NotAStore => Fault::NotAStore,
+            UpgradeFault::AlreadyNew => Fault::AlreadyNew,
+            UpgradeFault::Damaged(place) => Fault::Damaged(place),
+            UpgradeFault::Device(fault) => Fault::from(fault),
+            UpgradeFault::Memory => Fault::Memory,
         }
     }
 }

@@ -13,8 +13,10 @@ mod shown;
 mod store;
 mod streams;
 mod text;
+mod upgrade;
 
 use crate::fault::Fault;
+use crate::store::LEAST_BANK;
 use clap::ArgMatches;
 use clap::error::ErrorKind;
 use std::process::ExitCode;
@@ -69,6 +71,9 @@ fn act(rt: &HostRuntime, name: &str, arguments: &ArgMatches) -> Result<(), Fault
     if name == "format" {
         return formats(rt, arguments);
     }
+    if name == "upgrade" {
+        return upgrades(rt, arguments);
+    }
     if name == "dump" {
         return dumps(rt, arguments);
     }
@@ -98,11 +103,24 @@ fn formats(rt: &HostRuntime, arguments: &ArgMatches) -> Result<(), Fault> {
         rt,
         arguments.get_str("STORE").unwrap_or(""),
         arguments.get_str("LIB").unwrap_or(""),
+        arguments.get_one::<u32>("bank").unwrap_or(LEAST_BANK),
+    )
+}
+
+fn upgrades(rt: &HostRuntime, arguments: &ArgMatches) -> Result<(), Fault> {
+    upgrade::upgrade_store(
+        rt,
+        arguments.get_str("STORE").unwrap_or(""),
+        arguments.get_one::<u32>("bank").unwrap_or(LEAST_BANK),
     )
 }
 
 fn dumps(rt: &HostRuntime, arguments: &ArgMatches) -> Result<(), Fault> {
-    dump::write_dump(rt, arguments.get_str("STORE").unwrap_or(""))
+    dump::write_dump(
+        rt,
+        arguments.get_str("STORE").unwrap_or(""),
+        arguments.get_flag("library"),
+    )
 }
 
 fn checks(rt: &HostRuntime, arguments: &ArgMatches) -> Result<(), Fault> {

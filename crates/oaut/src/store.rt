@@ -1,4 +1,6 @@
 //! Files that hold a store.
+ghost use Rattle.std.specs.Prelude.{◌≤◌};
+
 use crate::fault::Fault;
 use crate::library::{read_library, unread};
 use crate::shown::shown_name;
@@ -6,48 +8,103 @@ use crate::streams::{Streams, write};
 use oa_disk::FileDisk;
 use oa_store::STORE_BYTES;
 use std::alloc::Global;
+use std::fs::OpenOptions;
 use std::io;
 use std::io::ErrorKind;
 
-/// Makes a file the store of a library, without objects, and says so. A file that is not there is made; one that is there is used in its
-/// own length, and what it held is gone.
-pub(crate) fn format_store(rt: &HostRuntime, path: &str, library: &str) -> Result<(), Fault> {
+/// The least and the greatest number of bytes that a bank of a store can have.
+pub(crate) const LEAST_BANK: u32 = 20_971_520;
+
+pub(crate) const MOST_BANK: u32 = 1_073_741_824;
+
+/// How many bytes a store takes whose banks have so many.
+pub(crate) fn store_bytes(bank: u32) -> u64 {
+    STORE_BYTES + 2 * u64::from(bank)
+}
+
+/// Makes a file the store of a library, without objects, with banks of so many bytes, and says so. A file that is not there is made; one
+/// that is there is used in its own length, and what it held is gone.
+pub(crate) fn format_store(
+    rt: &HostRuntime,
+    path: &str,
+    library: &str,
+    bank: u32,
+) -> Result<(), Fault> {
     let _streams = Streams::new(rt);
-    make_store(rt, path, library)?;
+    make_store(rt, path, library, bank.clamp(LEAST_BANK, MOST_BANK))?;
     write(rt, b"formatted\n")
 }
 
 /// Makes a file the store of a library, without objects.
-fn make_store(rt: &HostRuntime, path: &str, library: &str) -> Result<(), Fault> {
+fn make_store(rt: &HostRuntime, path: &str, library: &str, bank: u32) -> Result<(), Fault>
+    requires least { 20971520 ≤ bank }
+    requires most { bank ≤ 1073741824 }
+{
     let alloc = rt.alloc();
     let library = read_library(rt, alloc, library)?;
-    let mut disk = found_or_made(rt, alloc, path)?;
-    oa_store::format(alloc, &mut disk, library.text())?;
+    let mut disk = found_or_made(rt, alloc, path, store_bytes(bank))?;
+    oa_store::format(alloc, &mut disk, library.text(), bank)?;
     Ok(())
 }
 
-/// The file of a store that is there.
+/// The file of a store that is there. No other process has it from then on, until the disk goes.
 pub(crate) fn found(rt: &HostRuntime, alloc: Global, path: &str) -> Result<FileDisk, Fault> {
-    match FileDisk::open(rt, path) {
+    match opened(rt, path) {
         Ok(disk) => Ok(disk),
-        Err(error) => Err(unread(alloc, &error, path)),
+        Err(error) => Err(unopened(alloc, &error, path)),
     }
 }
 
-/// The file of a store, made where it is not there.
-fn found_or_made(rt: &HostRuntime, alloc: Global, path: &str) -> Result<FileDisk, Fault> {
-    match FileDisk::open(rt, path) {
+/// A file as a disk, from whatever beginning it has.
+fn opened(rt: &HostRuntime, path: &str) -> io::Result<FileDisk> {
+    FileDisk::over(OpenOptions::new().read(true).write(true).open(rt, path)?)
+}
+
+/// The file of a store, made with so many bytes where it is not there.
+fn found_or_made(
+    rt: &HostRuntime,
+    alloc: Global,
+    path: &str,
+    size: u64,
+) -> Result<FileDisk, Fault> {
+    match opened(rt, path) {
         Ok(disk) => Ok(disk),
-        Err(error) if error.kind() == ErrorKind::NotFound => made(rt, alloc, path),
-        Err(error) => Err(unread(alloc, &error, path)),
+        Err(error) if error.kind() == ErrorKind::NotFound => made(rt, alloc, path, size),
+        Err(error) => Err(unopened(alloc, &error, path)),
     }
 }
 
-/// A new file for a store, of zeros.
-fn made(rt: &HostRuntime, alloc: Global, path: &str) -> Result<FileDisk, Fault> {
-    match FileDisk::create(rt, path, STORE_BYTES) {
+/// A new file for a store, of so many zeros.
+fn made(rt: &HostRuntime, alloc: Global, path: &str, size: u64) -> Result<FileDisk, Fault> {
+    match FileDisk::create(rt, path, size) {
         Ok(disk) => Ok(disk),
-        Err(error) if error.kind() == ErrorKind::OutOfMemory => Err(Fault::Memory),
-        Err(_) => Err(Fault::CannotWrite(shown_name(alloc, path)?)),
+        Err(error) => Err(unwritten(alloc, &error, path)),
+    }
+}
+
+/// Why the file of a store was not opened.
+pub(crate) fn unopened(alloc: Global, error: &io::Error, path: &str) -> Fault {
+    if error.kind() == ErrorKind::WouldBlock {
+        return in_use(alloc, path);
+    }
+    unread(alloc, error, path)
+}
+
+/// A file that another process has.
+pub(crate) fn in_use(alloc: Global, path: &str) -> Fault {
+    match shown_name(alloc, path) {
+        Ok(path) => Fault::InUse(path),
+        Err(_) => Fault::Memory,
+    }
+}
+
+/// Why the file of a store was not made, or not lengthened.
+pub(crate) fn unwritten(alloc: Global, error: &io::Error, path: &str) -> Fault {
+    if error.kind() == ErrorKind::OutOfMemory {
+        return Fault::Memory;
+    }
+    match shown_name(alloc, path) {
+        Ok(path) => Fault::CannotWrite(path),
+        Err(_) => Fault::Memory,
     }
 }

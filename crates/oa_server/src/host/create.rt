@@ -31,10 +31,10 @@ impl Host {
 
     /// Whether the table may have a new object.
     fn find_room(&self, number: u32, class: Uuid) -> Result<(), Refusal>
-        ensures { result ≡ fitting (allowed (ACreate number class) self.now.table) }
+        ensures { result ≡ fitting (allowed self.now.bank (ACreate number class) self.now.table) }
     {
         let event = Event::Create { number, class };
-        match refusal(&self.table, &event) {
+        match refusal(self.bank, &self.table, &event) {
             Some(code) => Err(Refusal::of(code)),
             None => Ok(()),
         }

@@ -1,8 +1,8 @@
 use Rattle.std.proofs.Common.{rules, refl, inl, inr, ◌≡◌, arith}
 use Rattle.oa_model.specs.Limits.{max_records}
 use Rattle.oa_frame.specs.Framings.{frames}
-use Rattle.oa_frame.proofs.Sessions.{going_start, going_on, going_fails, going_waits, going_closes, known_over, sound_end, can_over}
-use Rattle.oa_frame.proofs.Sessions.{writes_none, no_call}
+use Rattle.oa_frame.proofs.Sessions.{going_start, going_on, going_fails, going_undone, going_waits, going_closes, known_over, sound_end, can_over}
+use Rattle.oa_frame.proofs.Sessions.{writes_none, no_call, stepped}
 use Rattle.oa_frame.proofs.session.serve.Goals as goal
 
 pub turns-init : goal.turns-init
@@ -14,43 +14,48 @@ turns-init g c = record {
   unbroken = c.requires.unbroken;
   unbroken_writer = c.requires.unbroken_writer;
   steady = λ s. s;
-  going = going_start (frames c.args.framing) _ _ _ _ c.requires.unbroken_writer;
+  going = going_start (frames c.args.framing) g.S.Responder.alone _ _ _ _ c.requires.unbroken_writer;
 }
 
 pub returns-in-Err : goal.returns-in-Err
 returns-in-Err g c =
-    let a = c.in-Err.ensures.answers in
     let read = c.in-Body.ensures in
-    going_fails (frames c.args.framing) _ _ c.args.last.now _ _ _ _ _ _ _ c.turns.requests c.turns.invariant.going _ _ _ _ _ a.replies _ read.input read.paced a.turned read.output (g.met.W.Sink.keeps _) a.put c.abandon.ensures.ended
+    going_undone (frames c.args.framing) _ _ _ c.args.last.now _ _ _ _ _ _ _ c.turns.requests c.turns.invariant.going _ _ _ _ _ c.in-Err.ensures.parts read.input read.paced read.output (g.met.W.Sink.keeps _)
+
+pub returns-in-Err-respond : goal.returns-in-Err-respond
+returns-in-Err-respond g c =
+    let a = stepped (frames c.args.framing) g.S.Responder.alone g.S.Responder.turn g.S.Responder.ends _ _ _ _ _ _ _ _ _ g.met.S.Responder.one_reply c.in-Ok.ensures.parts c.in-Err-respond.ensures.answers in
+    let read = c.in-Body.ensures in
+    going_fails (frames c.args.framing) _ _ _ c.args.last.now _ _ _ _ _ _ _ c.turns.requests c.turns.invariant.going _ _ _ _ _ a.answers.replies _ read.input read.paced a.answers.turned read.output (g.met.W.Sink.keeps _) a.answers.put a.own c.abandon.ensures.ended
 
 pub returns-in-Ends : goal.returns-in-Ends
 returns-in-Ends g c =
     let read = c.in-Ends.ensures in
-    going_closes (frames c.args.framing) _ _ c.args.last.now _ _ _ _ _ _ _ c.turns.requests c.turns.invariant.going _ _ _ c.close-why.result c.in-Ends.end read.paced.tries read.input.0 read.input.1 read.paced.most read.paced.clock (inl read.paced.cause)
+    going_closes (frames c.args.framing) _ _ _ c.args.last.now _ _ _ _ _ _ _ c.turns.requests c.turns.invariant.going _ _ _ c.close-why.result c.in-Ends.end read.paced.tries read.input.0 read.input.1 read.paced.most read.paced.clock (inl read.paced.cause)
     (λ s. sound_end c.in-Ends.end c.turns.requests (read.paced.on (c.turns.invariant.steady s)).0) read.output (g.met.W.Sink.keeps _) c.close-why.ensures
 
 pub returns-in-Unwritten : goal.returns-in-Unwritten
 returns-in-Unwritten g c =
     let read = c.in-Unwritten.ensures in
-    going_waits (frames c.args.framing) _ _ c.args.last.now _ _ _ _ _ _ _ c.turns.requests c.turns.invariant.going _ _ _ read.input read.paced (g.met.W.Sink.keeps _) read.output c.abandon-in-Unwritten.ensures.ended
+    going_waits (frames c.args.framing) _ _ _ c.args.last.now _ _ _ _ _ _ _ c.turns.requests c.turns.invariant.going _ _ _ read.input read.paced (g.met.W.Sink.keeps _) read.output c.abandon-in-Unwritten.ensures.ended
 
 pub turns-preserved : goal.turns-preserved
 turns-preserved g c =
-    let a = c.in-Ok.ensures.answers in
+    let a = stepped (frames c.args.framing) g.S.Responder.alone g.S.Responder.turn g.S.Responder.ends _ _ _ _ _ _ _ _ _ g.met.S.Responder.one_reply c.in-Ok.ensures.parts c.in-Ok-respond.ensures.answers in
     let read = c.in-Body.ensures in
     record {
       room = search rules;
       buffer = read.len;
       count = search rules;
-      ready = c.in-Ok.ensures.ready;
+      ready = c.in-Ok-respond.ensures.ready;
       unbroken = read.paced.cause;
-      unbroken_writer = a.put.sound;
+      unbroken_writer = a.answers.put.sound;
       steady = λ s. (read.paced.on (c.turns.invariant.steady s)).1;
-      going = going_on (frames c.args.framing) _ g.S.Responder.ends c.args.last.now _ _ _ _ _ _ _ c.turns.requests c.turns.invariant.going _ _ _ _ a.replies read.input read.paced a.turned read.output a.put;
+      going = going_on (frames c.args.framing) g.S.Responder.alone _ g.S.Responder.ends c.args.last.now _ _ _ _ _ _ _ c.turns.requests c.turns.invariant.going _ _ _ _ a.answers.replies read.input read.paced a.answers.turned read.output a.answers.put a.own;
     }
 
 pub returns : goal.returns
 returns g c =
     let used_up : c.turns.requests ≡ max_records = search rules in
-    going_closes (frames c.args.framing) _ _ c.args.last.now _ _ _ _ _ _ _ c.turns.requests c.turns.invariant.going _ _ _ c.close-why-2.result _ 0 (can_over c.args.framing c.turns.requests) (known_over c.args.framing _) (omega arith) (no_call _) (inr used_up) (λ _ _. used_up)
+    going_closes (frames c.args.framing) _ _ _ c.args.last.now _ _ _ _ _ _ _ c.turns.requests c.turns.invariant.going _ _ _ c.close-why-2.result _ 0 (can_over c.args.framing c.turns.requests) (known_over c.args.framing _) (omega arith) (no_call _) (inr used_up) (λ _ _. used_up)
     (writes_none _ c.turns.invariant.unbroken_writer) (g.met.W.Sink.keeps _) c.close-why-2.ensures

@@ -6,4 +6,4 @@ use Rattle.oa_record.proofs.fields.variant_field.Goals as goal
 pub returns-clause-len : goal.returns-clause-len
 returns-clause-len c =
     let few : length (canon c.args.value.now) ≤ 4294967264 = search rules in
-    rw (c.in_ok-add_value.ensures, c.in_ok-field.ensures.items) (value_small (length (canon c.args.value.now)) (canon c.args.value.now) few)
+    rw (c.in_ok-add_value.ensures.ok, c.in_ok-field.ensures.items) (value_small (length (canon c.args.value.now)) (canon c.args.value.now) few)

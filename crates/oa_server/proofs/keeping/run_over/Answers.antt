@@ -15,6 +15,7 @@ bodies-init g c =
     let made = c.in_ok-hand.ensures in
     record {
       ready = rw (made.replies, made.frame, made.size) (ready_none c.args.store.now c.args.group _ c.requires.positive made.places);
+      banks = c.requires.banks;
       size = made.size;
       count = search rules;
       places = search rules;
@@ -36,6 +37,7 @@ bodies-preserved g c =
     let more : map bytes (take (i + 1) bodies) ≡ map bytes (take i bodies) ++ bytes body ∷ [] = rw (take_more bodies i body c.bodies-test.true, sym c.body-item.is) (map_push bytes (take i bodies) body) in
     record {
       ready = c.take_on.ensures.ready;
+      banks = c.take_on.ensures.banks;
       size = c.take_on.ensures.size ∙ so_far.size;
       count = search rules;
       places = search rules;

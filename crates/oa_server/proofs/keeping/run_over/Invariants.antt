@@ -2,13 +2,14 @@ use Rattle.std.proofs.Common.{◌≡◌, ◌+◌, ◌≤◌, false, true, [], ta
 use Rattle.std.specs.Prelude.{vec_capacity}
 use Rattle.oa_groups.specs.Going.{Underway}
 use Rattle.oa_server.specs.Answers.{IsLate}
-use Rattle.oa_server.specs.Hands.{IsReady, desk}
+use Rattle.oa_server.specs.Hands.{HasBanks, IsReady, desk}
 use Rattle.oa_server.specs.Requests.{requests}
 use Rattle.oa_server.proofs.keeping.run_over.Given as goal
 
 abbrev pub invariant-bodies : goal.invariant-bodies
 invariant-bodies g l = record {
   ready : IsReady l.store l.hand.size (vec_capacity l.hand.replies) l.hand.replies.items l.hand.frame;
+  banks : HasBanks l.store l.host;
   size : l.hand.size ≡ l.group;
   count : length l.out.items + length l.hand.replies.items ≡ l.body-index;
   places : length l.bodies ≤ vec_capacity l.out;

@@ -3,10 +3,10 @@ use Rattle.oa_server.specs.Requests.{requests}
 use Rattle.oa_server.proofs.laws.a_stop_keeps_what_was_answered.Goals as goal
 
 pub returns-clause-stopped : goal.returns-clause-stopped
-returns-clause-stopped g c old new library first calls last session m f later since = session_stopped requests g.D.Disk.moment g.D.Disk.image_since old new library first calls last session m f later since
+returns-clause-stopped g c old new first calls last session m f later since = session_stopped requests g.D.Disk.moment g.D.Disk.image_since old new first calls last session m f later since
 
 pub returns-clause-all : goal.returns-clause-all
-returns-clause-all g c old new library first calls last session m le = session_ended requests g.D.Disk.moment g.D.Disk.image_since old new library first calls last session m le
+returns-clause-all g c old new first calls last session m le = session_ended requests g.D.Disk.moment g.D.Disk.image_since old new first calls last session m le
 
 pub returns-clause-link : goal.returns-clause-link
-returns-clause-link g c old new library first calls last session m f later since = session_left requests g.D.Disk old new library first calls last session m f later since
+returns-clause-link g c old new first calls last session m f later since = session_left requests g.D.Disk old new first calls last session m f later since

@@ -3,13 +3,13 @@ use Rattle.oa_server.specs.Requests.{requests}
 use Rattle.oa_server.proofs.laws.sessions_go_on.Goals as goal
 
 pub returns-clause-opened : goal.returns-clause-opened
-returns-clause-opened g c start now library first same calls all = session_opened requests {g = g.D.Disk} start now library first same calls all
+returns-clause-opened g c start now first calls all = session_opened requests {g = g.D.Disk} start now first calls all
 
 pub returns-clause-called : goal.returns-clause-called
-returns-clause-called g c start mid new library first last after calls call was is = (
-  session_called requests {g = g.D.Disk} start mid new library first last after calls call was is,
-  session_stands requests {g = g.D.Disk} start mid new library first last after calls call was is,
+returns-clause-called g c start mid new first last after calls call was is = (
+  session_called requests {g = g.D.Disk} start mid new first last after calls call was is,
+  session_stands requests {g = g.D.Disk} start mid new first last after calls call was is,
 )
 
 pub returns-clause-goes_on : goal.returns-clause-goes_on
-returns-clause-goes_on g c start mid new library first last after calls call was is going = session_goes_on requests {g = g.D.Disk} start mid new library first last after calls call was is going
+returns-clause-goes_on g c start mid new first last after calls call was is going = session_goes_on requests {g = g.D.Disk} start mid new first last after calls call was is going

@@ -6,6 +6,7 @@ pub returns : goal.returns
 returns g c = record {
   ended = record {
     held = map reply_record c.finish.new.hand.replies.items;
-    ended = record { told = c.finish.new.hand.replies.items; are = refl; ended = search rules };
+    ended = record { told = c.finish.new.hand.replies.items; are = refl; size = c.finish.ensures.size; none = search rules; ended = search rules };
   };
+  shape = c.finish.ensures.shape;
 }

@@ -5,5 +5,7 @@ use Rattle.oa_server.proofs.serving.finish_with.Goals as goal
 
 pub returns-in-Memory : goal.returns-in-Memory
 returns-in-Memory g c = record {
+  ready = rw c.in-Memory.is tt;
+  banks = rw c.in-Memory.is refl;
   ended = record { held = []; ended = rw c.in-Memory.is (refl, (refl, refl)); put = puts_none (frames c.args.framing).spelled _ [] refl c.requires.unbroken };
 }

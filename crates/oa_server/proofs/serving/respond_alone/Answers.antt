@@ -8,7 +8,10 @@ pub returns : goal.returns
 returns g c =
     let reply = reply_record c.turn-reply.result in
     record {
-      replies = reply ∷ [];
-      turned = (c.turn-reply.result, refl, c.turn-reply.ensures);
-      put = puts_one (frames c.args.framing).spelled c.put_reply.result _ _ (reply ∷ []) reply refl (rw c.body.ensures.value at (rw c.head.ensures at c.put_reply.ensures));
+      alone = record {
+        replies = reply ∷ [];
+        turned = (c.turn-reply.result, refl, c.turn-reply.ensures.turn);
+        put = puts_one (frames c.args.framing).spelled c.put_reply.result _ _ (reply ∷ []) reply refl (rw c.body.ensures.value at (rw c.head.ensures at c.put_reply.ensures));
+      };
+      bank = c.turn-reply.ensures.bank;
     }

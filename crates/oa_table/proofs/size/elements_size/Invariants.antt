@@ -1,10 +1,10 @@
 use Rattle.std.proofs.Common.{◌≡◌, ◌+◌, ◌*◌, ◌≤◌, drop}
 use Rattle.std.specs.List.{sum_by}
-use Rattle.oa_table.specs.Sizes.{element_size}
+use Rattle.oa_table.specs.Sizes.{element_size, largest_scalar}
 use Rattle.oa_table.proofs.size.elements_size.Given as goal
 
 abbrev pub invariant-elements : goal.invariant-elements
 invariant-elements l = record {
   value : l.size + sum_by (element_size l.elem) (drop l.s-index l.elements) ≡ sum_by (element_size l.elem) l.elements;
-  small : l.size ≤ 262150 * l.s-index;
+  small : l.size ≤ largest_scalar * l.s-index;
 }

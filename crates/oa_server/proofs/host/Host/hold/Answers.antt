@@ -4,8 +4,8 @@ use Rattle.oa_server.proofs.Held.{has_turn, held, starved}
 use Rattle.oa_server.proofs.host.Host.hold.Goals as goal
 
 pub returns-in-Ok-clause-turn : goal.returns-in-Ok-clause-turn
-returns-in-Ok-clause-turn g c body is =
-    held c.one_request.ensures c.args.self.now body c.args.planned is _ c.new.result c.args.frame.now c.hold_change.new.frame (search rules) (search rules) (search rules) (search rules) c.in-Ok.ensures.small c.in-Ok.ensures.event
+returns-in-Ok-clause-turn g c body plain is =
+    held c.one_request.ensures c.args.self.now body c.args.planned plain is _ c.new.result c.args.frame.now c.hold_change.new.frame (search rules) (search rules) (search rules) (search rules) c.in-Ok.ensures.small c.in-Ok.ensures.event
 
 pub returns-in-Ok-clause-any_moment : goal.returns-in-Ok-clause-any_moment
 returns-in-Ok-clause-any_moment g c committed first each = c.hold_change.ensures.any_moment committed (λ none. ap held_of c.self.view_is ∙ first none) each
@@ -14,7 +14,7 @@ pub returns-in-Ok-clause-each : goal.returns-in-Ok-clause-each
 returns-in-Ok-clause-each g c going committed first each = c.hold_change.ensures.each going committed (λ none. ap held_of c.self.view_is ∙ first none) each
 
 pub returns-in-Err-Memory-clause-turn : goal.returns-in-Err-Memory-clause-turn
-returns-in-Err-Memory-clause-turn g c body is = starved c.one_request.ensures c.args.self.now body c.args.planned is _ c.bare.result c.args.frame.now c.hold_change.new.frame (search rules) c.in-Err-Memory.ensures.same c.bare.ensures
+returns-in-Err-Memory-clause-turn g c body plain is = starved c.one_request.ensures c.args.self.now body c.args.planned plain is _ c.bare.result c.args.frame.now c.hold_change.new.frame (search rules) c.in-Err-Memory.ensures.same c.bare.ensures
 
 pub returns-in-Err-Memory-clause-any_moment : goal.returns-in-Err-Memory-clause-any_moment
 returns-in-Err-Memory-clause-any_moment g c committed first each = c.hold_change.ensures.any_moment committed (λ none. ap held_of c.self.view_is ∙ first none) each
@@ -23,7 +23,7 @@ pub returns-in-Err-Memory-clause-each : goal.returns-in-Err-Memory-clause-each
 returns-in-Err-Memory-clause-each g c going committed first each = c.hold_change.ensures.each going committed (λ none. ap held_of c.self.view_is ∙ first none) each
 
 pub returns-clause-failed : goal.returns-clause-failed
-returns-clause-failed g c body is = has_turn c.one_request.ensures c.args.self.now body c.args.planned is _ (search rules)
+returns-clause-failed g c body plain is = has_turn c.one_request.ensures c.args.self.now body c.args.planned plain is _ (search rules)
 
 pub returns-clause-any_moment : goal.returns-clause-any_moment
 returns-clause-any_moment g c committed first each = c.hold_change.ensures.any_moment committed (λ none. ap held_of c.self.view_is ∙ first none) each

@@ -9,6 +9,7 @@ returns-in-Ok-clause-opened g c =
     let opened : IsOpened g.D.Disk c.args.disk c.args.library c.in-Ok.store c.in-Ok.table = record {
       serves = ensures.serves;
       numbered = ensures.starts.2;
+      shape = ensures.shape;
       text = ensures.starts.1;
       goes_on = ensures.starts.0;
       size = ensures.size;
@@ -16,7 +17,7 @@ returns-in-Ok-clause-opened g c =
       found = λ h. record {
         honest = ensures.honest h;
         reads = ensures.reads h;
-        each = λ image is. subst (λ (text : List ℕ). IsStoreAt c.in-Ok.store.chosen c.in-Ok.store.bank.gate text c.in-Ok.table image) (sym ensures.starts.1) (ensures.found h image is);
+        each = λ image is. subst (λ (text : List ℕ). IsStoreAt c.in-Ok.store.bank.shape c.in-Ok.store.chosen c.in-Ok.store.bank.gate text c.in-Ok.table image) (sym ensures.starts.1) (ensures.found h image is);
         contents = ensures.contents h;
         unlocked = ensures.unlocked h;
         one = ensures.either h;
@@ -34,6 +35,7 @@ returns-in-Err-clause-refused g c = record {
     reads = c.in-Err.ensures.reads_err h;
     says = c.in-Err.ensures.says h;
     early = c.in-Err.ensures.early h;
+    differs = c.in-Err.ensures.differs h;
     late = λ r. c.in-Err.ensures.refused r h;
   };
 }

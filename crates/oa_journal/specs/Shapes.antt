@@ -1,0 +1,73 @@
+-- The two formats of a bank, which differ in the head's bytes, in the size of the body, and in where a store has the body. All that
+-- stands in a body is the same in both.
+use Rattle.std.specs.Prelude.{if◌then◌else◌}
+use Rattle.std.proofs.Common.{◌≡◌, ◌==◌, ℕ, ◌+◌, ◌*◌, ◌≤◌, refl, ap, arith}
+use Rattle.std.proofs.lemmas.Bool.{cond_both, eqb-true}
+use Rattle.oa_journal.specs.declared.shape.Shape.{Shape}
+use Rattle.oa_journal.specs.declared.shape.Shape.TheVariants.{One, Two}
+
+-- how many bytes the body has
+abbrev pub body_bytes : Shape → ℕ
+body_bytes One = 16777184
+body_bytes (Two size) = size
+
+-- the number of the format, which the head tells
+abbrev pub format_of : Shape → ℕ
+format_of One = 1
+format_of (Two size) = 2
+
+-- what the head tells of the body's size
+abbrev pub told_size : Shape → ℕ
+told_size One = 0
+told_size (Two size) = size
+
+-- the least size of a disk that has two banks of this format
+abbrev pub disk_bytes : Shape → ℕ
+disk_bytes One = 33562624
+disk_bytes (Two size) = 33562624 + 2 * size
+
+-- a number that lies in the range of the sizes of format 2 exactly where the body's size is one that the format has
+abbrev pub measured : Shape → ℕ
+measured One = 20971520
+measured (Two size) = size
+
+-- the body's size is one that the format has
+abbrev pub IsShape : Shape → Type 0
+IsShape shape = (20971520 ≤ measured shape) × (measured shape ≤ 1073741824)
+
+-- the bytes of a body that a new store has where nobody says another number
+abbrev pub default_bank_bytes : ℕ
+default_bank_bytes = 20971520
+
+-- How many bytes of a body the image of a table leaves free: behind the longest text of a library so many are left as are ample.
+abbrev pub reserved_bytes : ℕ
+reserved_bytes = 5242880
+
+-- How many bytes a body has from its closed gate on where no checkpoint is due: the greatest group has room there.
+abbrev pub ample_bytes : ℕ
+ample_bytes = 4718597
+
+-- the format whose body has so many bytes
+abbrev pub shape_of : ℕ → Shape
+shape_of size = if size == 16777184 then One else Two size
+
+pub body_small : (shape : Shape) → IsShape shape → body_bytes shape ≤ 1073741824
+body_small One is = omega arith
+body_small (Two size) is = is.1
+
+pub told_small : (shape : Shape) → IsShape shape → told_size shape ≤ 1073741824
+told_small One is = omega arith
+told_small (Two size) is = is.1
+
+-- a head tells its format
+pub one_shape : (a b : Shape) → format_of a ≡ format_of b → told_size a ≡ told_size b → a ≡ b
+one_shape One One format size = refl
+one_shape One (Two n) format size = absurd cc
+one_shape (Two m) One format size = absurd cc
+one_shape (Two m) (Two n) format size = ap Two size
+
+-- so does the body's size
+pub shape_of_bytes : (shape : Shape) → IsShape shape → shape_of (body_bytes shape) ≡ shape
+shape_of_bytes One is = refl
+shape_of_bytes (Two size) is = cond_both (size == 16777184) One (Two size) (λ (s : Shape). s ≡ Two size)
+    (λ e. absurd (omega (arith, eqb-true size 16777184 e, is.0))) (λ e. refl)

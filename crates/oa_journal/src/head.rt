@@ -1,0 +1,133 @@
+//! The head of a bank.
+ghost use Rattle.std.specs.Prelude.{◌≡◌, ◌↔◌, ◌+◌, ◌^◌, ◌<◌, ◌≤◌, ℕ, List, IsTrue, length, take, drop, slice_index, OnOk, IfOk, IfErr, IsErr, IsErrOf};
+ghost use Rattle.oa_disk.specs.declared.disk.DeviceFault.{DeviceFault};
+ghost use Rattle.oa_journal.specs.declared.bank.BankFault.{BankFault};
+ghost use Rattle.oa_journal.specs.declared.shape.Shape.{Shape as AShape};
+ghost use Rattle.oa_journal.specs.Bank.{from_place, HasHeader, HasHead};
+ghost use Rattle.oa_journal.specs.Damages.{HasNoHeader, IsDamagedHead};
+ghost use Rattle.oa_journal.specs.Reads.{OnlyReads};
+ghost use Rattle.oa_journal.specs.Replies.{IsCaused};
+ghost use Rattle.oa_journal.specs.Shapes.{body_bytes, disk_bytes, format_of, told_size, IsShape};
+
+use crate::layout::head_bytes;
+use crate::{BankFault, Shape};
+use oa_disk::Disk;
+
+/// What the head of a bank tells: its format with the body's size, and how long the library and the snapshot in the body are.
+#[derive(Clone, Copy, Debug, PartialEq, Eq)]
+pub struct Head {
+    pub shape: Shape,
+    pub library: u32,
+    pub snapshot: u32,
+}
+
+/// There is no such part.
+#[derive(Clone, Copy, Debug, PartialEq, Eq)]
+pub(crate) struct NotThere;
+
+fn same(one: &[u8], other: &[u8]) -> bool
+    ensures { IsTrue result ↔ (one.now ≡ other.now) }
+{
+    one == other
+}
+
+/// The format of that number whose head tells that size.
+fn told_shape(format: u8, size: u32) -> Result<Shape, NotThere>
+    ensures found { IfOk result (λ shape. IsShape shape × (format_of shape ≡ format) × (told_size shape ≡ size)) }
+    ensures none { IsErr result → (shape : AShape) → IsShape shape → format_of shape ≡ format → told_size shape ≡ size → ⊥ }
+{
+    if format == 1 && size == 0 {
+        return Ok(Shape::One);
+    }
+    if format == 2 && size >= 20_971_520 && size <= 1_073_741_824 {
+        return Ok(Shape::Two(size));
+    }
+    Err(NotThere)
+}
+
+/// What a head of 32 bytes tells.
+pub(crate) fn head_in(bytes: &[u8]) -> Result<Head, NotThere>
+    requires { length bytes.now ≡ 32 }
+    ensures found { IfOk result (λ h. HasHeader h.shape (slice_index bytes.now) h.library h.snapshot) }
+    ensures none { IsErr result → (shape : AShape) → HasNoHeader shape (slice_index bytes.now) }
+{
+    let format = bytes[8];
+    let library = u32::from_le_bytes([bytes[12], bytes[13], bytes[14], bytes[15]]);
+    let snapshot = u32::from_le_bytes([bytes[16], bytes[17], bytes[18], bytes[19]]);
+    let size = u32::from_le_bytes([bytes[20], bytes[21], bytes[22], bytes[23]]);
+    let Ok(shape) = told_shape(format, size) else {
+        return Err(NotThere);
+    };
+    let header = head_bytes(format, size, library, snapshot);
+    if !same(bytes, &header) {
+        return Err(NotThere);
+    }
+    if u64::from(library) + u64::from(snapshot) >= u64::from(shape.body_bytes()) {
+        return Err(NotThere);
+    }
+    Ok(Head {
+        shape,
+        library,
+        snapshot,
+    })
+}
+
+/// The head at that place of a disk.
+pub(crate) fn head_at<D: Disk>(disk: &mut D, place: u64) -> Result<Head, BankFault>
+    requires { place + 32 ≤ D.size_of disk.old }
+
+    ensures found { IfOk result (λ h. IsTrue (D.is_honest disk.new)
+        → HasHeader h.shape (from_place place (D.contents disk.old)) h.library h.snapshot) }
+    ensures known { IfOk result (λ h. IsShape h.shape × (h.library + h.snapshot < body_bytes h.shape)) }
+    ensures damaged { (at : ℕ) → IsErrOf result (BankFault.Damaged at)
+        → (at ≡ place) × (IsTrue (D.is_honest disk.new) → (shape : AShape) → HasNoHeader shape (from_place place (D.contents disk.old))) }
+    ensures memory { IsErrOf result BankFault.Memory → ⊥ }
+    ensures device { (fault : DeviceFault) → IsErrOf result (BankFault.Device fault) → fault ≡ DeviceFault.Read }
+
+    ensures reads { IsTrue (D.is_honest disk.new) → OnlyReads D.contents D.image D.moment D.image_since disk.old disk.new }
+    ensures size { D.size_of disk.new ≡ D.size_of disk.old }
+    ensures honest { IsTrue (D.is_honest disk.new) → IsTrue (D.is_honest disk.old) }
+    ensures cause { IfErr result (IsCaused (D.failures_of disk.old) (D.failures_of disk.new)) }
+    ensures unfailed { OnOk result (D.failures_of disk.new ≡ D.failures_of disk.old) }
+    ensures failures { D.failures_of disk.old ≤ D.failures_of disk.new }
+    ensures calls { IsTrue (D.is_honest disk.new) → D.moment disk.new ≤ D.moment disk.old + 2 }
+{
+    let mut bytes = [0; 32];
+    disk.read_at(place, &mut bytes)?;
+    match head_in(&bytes) {
+        Ok(head) => Ok(head),
+        Err(NotThere) => Err(BankFault::Damaged(place)),
+    }
+}
+
+/// The head of a bank at that place of a disk, in either format. `Damaged` exactly where there is none whose two banks the disk has room
+/// for. It takes no memory.
+pub fn read_head<D: Disk>(disk: &mut D, place: u64) -> Result<Head, BankFault>
+    requires { place + 32 ≤ D.size_of disk.old }
+
+    ensures found { IfOk result (λ h. IsTrue (D.is_honest disk.new)
+        → HasHead h.shape place (D.contents disk.old) h.library h.snapshot) }
+    ensures known { IfOk result (λ h. IsShape h.shape × (h.library + h.snapshot < body_bytes h.shape)) }
+    ensures room { IfOk result (λ h. disk_bytes h.shape ≤ D.size_of disk.old) }
+    ensures damaged { (at : ℕ) → IsErrOf result (BankFault.Damaged at)
+        → (at ≡ place) × (IsTrue (D.is_honest disk.new) → IsDamagedHead place (D.contents disk.old)) }
+    ensures memory { IsErrOf result BankFault.Memory → ⊥ }
+    ensures device { (fault : DeviceFault) → IsErrOf result (BankFault.Device fault) → fault ≡ DeviceFault.Read }
+
+    ensures reads { IsTrue (D.is_honest disk.new) → OnlyReads D.contents D.image D.moment D.image_since disk.old disk.new }
+    ensures size { D.size_of disk.new ≡ D.size_of disk.old }
+    ensures honest { IsTrue (D.is_honest disk.new) → IsTrue (D.is_honest disk.old) }
+    ensures cause { IfErr result (IsCaused (D.failures_of disk.old) (D.failures_of disk.new)) }
+    ensures unfailed { OnOk result (D.failures_of disk.new ≡ D.failures_of disk.old) }
+    ensures failures { D.failures_of disk.old ≤ D.failures_of disk.new }
+    ensures calls { IsTrue (D.is_honest disk.new) → D.moment disk.new ≤ D.moment disk.old + 2 }
+{
+    let head = match head_at(disk, place) {
+        Ok(found) => found,
+        Err(fault) => return Err(fault),
+    };
+    if disk.size() < head.shape.disk_bytes() {
+        return Err(BankFault::Damaged(place));
+    }
+    Ok(head)
+}

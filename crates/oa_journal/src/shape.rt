@@ -1,0 +1,54 @@
+//! The two formats of a bank.
+ghost use Rattle.oa_journal.specs.Shapes.{body_bytes, disk_bytes, shape_of};
+
+/// The bytes of a bank's body that a new store has where nobody says another number.
+pub const DEFAULT_BANK_BYTES: u32 = 20_971_520;
+/// How many bytes of a bank's body the image of a table leaves free.
+pub const RESERVED_BYTES: u32 = 5_242_880;
+/// How many bytes a bank's body has from its closed gate on where no checkpoint is due.
+pub const AMPLE_BYTES: u32 = 4_718_597;
+
+/// The format of a bank. In each of them 32 bytes, the head, say how long the parts of the body are; the body stands elsewhere or right
+/// behind the head.
+#[derive(Clone, Copy, Debug, PartialEq, Eq)]
+pub enum Shape {
+    /// Format 1: a body of 16,777,184 bytes.
+    One,
+    /// Format 2: a body of so many bytes.
+    Two(u32),
+}
+
+impl Shape {
+    ghost use Rattle.std.specs.Prelude.{◌≡◌};
+
+    /// The format whose body has so many bytes.
+    pub fn of(size: u32) -> Shape
+        ensures { result ≡ shape_of size }
+    {
+        if size == 16_777_184 {
+            Shape::One
+        } else {
+            Shape::Two(size)
+        }
+    }
+
+    /// How many bytes the body has.
+    pub fn body_bytes(self) -> u32
+        ensures { result ≡ body_bytes self }
+    {
+        match self {
+            Shape::One => 16_777_184,
+            Shape::Two(size) => size,
+        }
+    }
+
+    /// The least size of a disk that has two banks of this format.
+    pub fn disk_bytes(self) -> u64
+        ensures { result ≡ disk_bytes self }
+    {
+        match self {
+            Shape::One => 33_562_624,
+            Shape::Two(size) => 33_562_624 + 2 * u64::from(size),
+        }
+    }
+}

@@ -1,0 +1,139 @@
+//! Bytes of a disk that were read ahead: a reader in pieces.
+ghost use Rattle.std.specs.Prelude.{◌≡◌, ◌↔◌, ◌+◌, ◌-◌, ◌^◌, ◌<◌, ◌≤◌, ℕ, List, IsTrue, length, take, drop, OnOk, OnErr, IfErr, IsErrOf};
+ghost use Rattle.oa_disk.specs.Disk.{Holds};
+ghost use Rattle.oa_disk.specs.declared.disk.DeviceFault.{DeviceFault};
+ghost use Rattle.oa_journal.specs.declared.bank.BankFault.{BankFault};
+ghost use Rattle.oa_journal.specs.Reads.{OnlyReads};
+ghost use Rattle.oa_journal.specs.Replies.{IsCaused};
+
+use crate::BankFault;
+use oa_disk::Disk;
+
+/// Reads so many bytes of a disk from that place on into the front of a buffer.
+fn read_front<D: Disk>(
+    disk: &mut D,
+    at: u64,
+    buffer: &mut [u8],
+    count: usize,
+) -> Result<(), BankFault>
+    requires fits { count ≤ length buffer.old }
+    requires inside { at + count ≤ D.size_of disk.old }
+
+    ensures front { OnOk result (IsTrue (D.is_honest disk.new) → Holds (D.contents disk.old) at (take count buffer.new)) }
+    ensures long { length buffer.new ≡ length buffer.old }
+    ensures damaged { (place : ℕ) → IsErrOf result (BankFault.Damaged place) → ⊥ }
+    ensures device { (fault : DeviceFault) → IsErrOf result (BankFault.Device fault) → fault ≡ DeviceFault.Read }
+
+    ensures reads { IsTrue (D.is_honest disk.new) → OnlyReads D.contents D.image D.moment D.image_since disk.old disk.new }
+    ensures size { D.size_of disk.new ≡ D.size_of disk.old }
+    ensures honest { IsTrue (D.is_honest disk.new) → IsTrue (D.is_honest disk.old) }
+    ensures cause { IfErr result (IsCaused (D.failures_of disk.old) (D.failures_of disk.new)) }
+    ensures unfailed { OnOk result (D.failures_of disk.new ≡ D.failures_of disk.old) }
+    ensures failures { D.failures_of disk.old ≤ D.failures_of disk.new }
+    ensures calls { IsTrue (D.is_honest disk.new) → D.moment disk.new ≤ D.moment disk.old + 2 }
+{
+    disk.read_at(at, &mut buffer[..count])?;
+    Ok(())
+}
+
+/// The bytes of a disk from a place on, as they were read into the front of a buffer.
+#[derive(Drop)]
+pub(crate) struct Window {
+    from: u64,
+    len: usize,
+    buffer: Vec<u8>,
+    ghost within: { len ≤ length buffer.items },
+    ghost some: { 5 ≤ length buffer.items },
+}
+
+impl Window {
+    /// No bytes.
+    pub(crate) fn over(buffer: Vec<u8>) -> Window
+        requires { 5 ≤ length buffer.items }
+        ensures shown { (disk : List ℕ) → Holds disk result.from (take result.len result.buffer.items) }
+        ensures kept { length result.buffer.items ≡ length buffer.items }
+    {
+        Window {
+            from: 0,
+            len: 0,
+            buffer,
+        }
+    }
+
+    /// The buffer.
+    pub(crate) fn into_buffer(self) -> Vec<u8>
+        ensures { length result.items ≡ length self.buffer.items }
+    {
+        let Window { buffer, .. } = self;
+        buffer
+    }
+
+    /// Whether the buffer takes so many bytes.
+    pub(crate) fn takes(&self, count: usize) -> bool
+        ensures { IsTrue result ↔ (count ≤ length self.now.buffer.items) }
+    {
+        count <= self.buffer.len()
+    }
+
+    /// Reads on where the bytes of that range are not all there: as many as the buffer takes, as far as the end. Takes no memory.
+    pub(crate) fn cover<D: Disk>(
+        &mut self,
+        disk: &mut D,
+        end: u64,
+        at: u64,
+        count: usize,
+    ) -> Result<(), BankFault>
+        requires inside { at + count ≤ end }
+        requires on_the_disk { end ≤ D.size_of disk.old }
+        requires fits { count ≤ length self.old.buffer.items }
+        requires shown { IsTrue (D.is_honest disk.old) → Holds (D.contents disk.old) self.old.from (take self.old.len self.old.buffer.items) }
+
+        ensures covers { OnOk result ((self.new.from ≤ at) × (at + count ≤ self.new.from + self.new.len)) }
+        ensures shown { IsTrue (D.is_honest disk.new) → Holds (D.contents disk.old) self.new.from (take self.new.len self.new.buffer.items) }
+        ensures damaged { (place : ℕ) → IsErrOf result (BankFault.Damaged place) → ⊥ }
+        ensures device { (fault : DeviceFault) → IsErrOf result (BankFault.Device fault) → fault ≡ DeviceFault.Read }
+
+        ensures reads { IsTrue (D.is_honest disk.new) → OnlyReads D.contents D.image D.moment D.image_since disk.old disk.new }
+        ensures size { D.size_of disk.new ≡ D.size_of disk.old }
+        ensures honest { IsTrue (D.is_honest disk.new) → IsTrue (D.is_honest disk.old) }
+        ensures cause { IfErr result (IsCaused (D.failures_of disk.old) (D.failures_of disk.new)) }
+        ensures unfailed { OnOk result (D.failures_of disk.new ≡ D.failures_of disk.old) }
+        ensures failures { D.failures_of disk.old ≤ D.failures_of disk.new }
+        ensures kept { length self.new.buffer.items ≡ length self.old.buffer.items }
+        ensures calls { IsTrue (D.is_honest disk.new) → D.moment disk.new ≤ D.moment disk.old + 2 }
+    {
+        if self.from <= at {
+            let before = at - self.from;
+            let len = self.len as u64;
+            if before <= len && count as u64 <= len - before {
+                return Ok(());
+            }
+        }
+        let left = end - at;
+        let room = self.buffer.len();
+        let wanted = if left < room as u64 {
+            left as usize
+        } else {
+            room
+        };
+        self.len = 0;
+        match read_front(disk, at, &mut self.buffer, wanted) {
+            Ok(()) => {}
+            Err(fault) => return Err(fault),
+        }
+        self.from = at;
+        self.len = wanted;
+        Ok(())
+    }
+
+    /// Those of a range that is there.
+    pub(crate) fn seen(&self, at: u64, count: usize) -> &[u8]
+        requires low { self.now.from ≤ at }
+        requires high { at + count ≤ self.now.from + self.now.len }
+        ensures len { length result.now ≡ count }
+        ensures holds { (disk : List ℕ) → Holds disk self.now.from (take self.now.len self.now.buffer.items) → Holds disk at result.now }
+    {
+        let before = (at - self.from) as usize;
+        &self.buffer[..self.len][before..][..count]
+    }
+}

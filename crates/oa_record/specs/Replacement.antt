@@ -1,0 +1,22 @@
+-- A body that asks for another library: the opcode 12, and one field, the library's text (this project's choice). The field is laid out as
+-- a variant field is: how many bytes, a reserved number, the bytes, padding up to a multiple of 8.
+use Rattle.std.specs.Prelude.{ℕ, ◌+◌, ◌==◌, nat_lt, Bool, false, if◌then◌else◌, List, length, take, drop, Option, Some, None}
+use Rattle.byteorder.specs.Endian.{little_number}
+use Rattle.oa_model.specs.Limits.{max_request_bytes}
+use Rattle.oa_ndr.specs.Forms.{padding}
+use Rattle.oa_record.specs.Opcodes.{opcode_at, replacement_opcode}
+
+-- the body has that opcode
+abbrev pub is_replacement : List ℕ → Bool
+is_replacement body = if nat_lt (length body) 8 then false else opcode_at body == replacement_opcode
+
+-- the text of such a length, where it and its padding are all of the bytes
+abbrev pub text_of : ℕ → List ℕ → Option (List ℕ)
+text_of n bytes = if length bytes == n + padding 8 n then Some (take n bytes) else None
+
+-- the text that the body has behind its length and a reserved number
+abbrev pub text_in : List ℕ → Option (List ℕ)
+text_in body =
+    if nat_lt (length body) 16 then None
+    else if nat_lt max_request_bytes (length body) then None
+    else text_of (little_number 4 (drop 8 body)) (drop 16 body)

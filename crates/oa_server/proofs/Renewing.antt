@@ -1,0 +1,271 @@
+-- A body that asks for another library.
+use Rattle.std.proofs.Common.{◌≡◌, ◌⊎◌, inl, inr, ⊎_elim, ℕ, ◌-◌, true, false, true≢false, IsTrue, List, [], ◌∷◌, ◌++◌, Option, Some, None, Err, refl, sym, ap, ◌∙◌, subst}
+use Rattle.std.specs.Prelude.{IsSome}
+use Rattle.oa_disk.specs.Disk.{LeavesOnly, LeavesStep}
+use Rattle.oa_disk.specs.Moments.{weakened}
+use Rattle.oa_disk.specs.declared.disk.Disk.{Ghosts}
+use Rattle.oa_groups.specs.Desks.{Desk, IsEnded, IsFlushed, IsTaken, LeavesState}
+use Rattle.oa_groups.specs.Runs.{AllHoldState, HoldsState}
+use Rattle.oa_groups.specs.Served.{Goes, IsServed}
+use Rattle.oa_groups.specs.Simple.{no_event}
+use Rattle.oa_groups.proofs.Takes.{goes_nowhere, underway_ended, underway_start, underway_taken}
+use Rattle.oa_journal.specs.Replays.{Replays}
+use Rattle.oa_groups.specs.Turns.{entry}
+use Rattle.oa_idl.specs.Trees.{TreeValue}
+use Rattle.oa_keeper.proofs.Committed.{nothing_called}
+use Rattle.oa_model.specs.Codes.{bad_stub_data, e_outofmemory, s_ok}
+use Rattle.oa_model.specs.declared.hresult.HResult.{HResult}
+use Rattle.oa_record.specs.Asks.{tag_at}
+use Rattle.oa_record.specs.Replacement.{is_replacement, text_in}
+use Rattle.oa_record.specs.Replies.{ReplyValue}
+use Rattle.oa_store.specs.Changes.{IsReplacement, IsReplaced as HasReplaced}
+use Rattle.oa_journal.specs.declared.shape.Shape.{Shape}
+use Rattle.oa_journal.specs.declared.shape.Shape.TheVariants.{Two}
+use Rattle.oa_store.specs.Stores.{IsStoreAt, IsStoreIn}
+use Rattle.oa_store.specs.declared.store.Store.{Store}
+use Rattle.oa_table.specs.Tables.{TableValue}
+use Rattle.oa_server.specs.Hands.{desk}
+use Rattle.oa_typelib.specs.Keeps.{first_lost}
+use Rattle.oa_typelib.specs.declared.keeping.Lost.{Lost}
+use Rattle.oa_typelib.specs.LibraryTexts.{IsRead, StandsFor}
+use Rattle.oa_typelib.specs.declared.library_text.TextError.{TextError}
+use Rattle.oa_typelib.specs.declared.library_text.TextError.TheVariants.{NoLibrary, Memory}
+use Rattle.oa_server.specs.Renewals.{IsNext, RefusesLoss, text_code}
+use Rattle.oa_server.specs.Replacing.{AsksLibrary, Replacement, after_replacement, replacement_reply}
+use Rattle.oa_server.specs.Answers.{IsAnswered, IsRenewed, IsRenewedOrLate}
+use Rattle.oa_server.specs.Requests.{IsAsked, faulted, held_of, is_done, requests, text_of}
+use Rattle.oa_server.specs.States.{State}
+use Rattle.oa_server.specs.Steps.{refusal}
+use Rattle.oa_server.specs.Turns.{Turn}
+
+-- ---- which library a body asks for
+one_text : (a b : List ℕ) → Some a ≡ Some b → b ≡ a
+one_text a b e = cc
+
+module _ (body : List ℕ) where
+  pub no_text : text_in body ≡ None → (library : TreeValue) → AsksLibrary body library → ⊥
+  no_text none library asks = absurd (no_some asks.text (sym none ∙ asks.lies))
+    where
+      no_some : (a : List ℕ) → None ≡ Some a → ⊥
+      no_some a e = absurd cc
+
+  module _ (text : List ℕ) (lies : text_in body ≡ Some text) where
+    pub has_text : IsSome (text_in body)
+    has_text = subst IsSome (sym lies) refl
+
+    -- a text that gives no library, or one that memory was refused to
+    pub text_unread : (e : TextError) → IsRead text (Err e) → ((text_code e ≡ bad_stub_data) × ((library : TreeValue) → AsksLibrary body library → ⊥)) ⊎ ((text_code e ≡ e_outofmemory) × IsSome (text_in body))
+    text_unread NoLibrary none = inl (refl, λ library asks. none library (subst (λ (l : List ℕ). StandsFor l library) (one_text text asks.text (sym lies ∙ asks.lies)) asks.stands))
+    text_unread Memory any = inr (refl, has_text)
+
+-- ---- what becomes of it
+module _ (state : State) (body : List ℕ) (reply : ReplyValue) where
+  pub text_refused : (code : HResult) → ((code ≡ bad_stub_data) × ((library : TreeValue) → AsksLibrary body library → ⊥)) ⊎ ((code ≡ e_outofmemory) × IsSome (text_in body))
+      → reply ≡ refusal (tag_at body) code None → Replacement state body reply state × (is_done reply ≡ false)
+  text_refused code (inl why) told = (inr (inl (record { why = why.1; answers = told ∙ ap (λ (c : HResult). refusal (tag_at body) c None) why.0; leaves = refl })), rw (told, why.0) refl)
+  text_refused code (inr why) told = (inr (inr (record { may = why.1; answers = told ∙ ap (λ (c : HResult). refusal (tag_at body) c None) why.0; leaves = refl })), rw (told, why.0) refl)
+
+  pub loss_refused : (library : TreeValue) (lost : Lost) → AsksLibrary body library → first_lost library state.library ≡ Some lost → RefusesLoss (tag_at body) lost reply
+      → Replacement state body reply state × (is_done reply ≡ false)
+  loss_refused library lost asks is (inl told) = (
+    inl (record {
+      library = library;
+      asked = asks;
+      answers = told ∙ ap (λ (l : Option Lost). replacement_reply (tag_at body) l) (sym is);
+      leaves = ap (λ (l : Option Lost). after_replacement state library l) (sym is);
+    }),
+    rw told refl,
+  )
+  loss_refused library lost asks is (inr told) = (inr (inr (record { may = has_text body asks.text asks.lies; answers = told; leaves = refl })), rw told refl)
+
+  pub replaces : (library : TreeValue) (new : State) → IsNext state body library → reply ≡ refusal (tag_at body) s_ok None → new ≡ record state { library = library } → Replacement state body reply new
+  replaces library new next told leaves = inl (record {
+    library = library;
+    asked = next.asked;
+    answers = told ∙ ap (λ (l : Option Lost). replacement_reply (tag_at body) l) (sym next.keeps);
+    leaves = leaves ∙ ap (λ (l : Option Lost). after_replacement state library l) (sym next.keeps);
+  })
+
+-- ---- what images hold
+-- an image with the store's banks and library has those of the state that its disk holds
+pub as_held : {D : Type 0} {g : Ghosts D} (store : Store D g) (state : State) → AllHoldState requests store state → (held : TableValue) (c : List ℕ) → IsStoreIn store.bank.shape c store.library.items held → IsStoreIn (Two state.bank) c (text_of state) held
+as_held store state all held c is =
+    subst (λ (l : List ℕ). IsStoreIn (Two state.bank) c l held) all.has (subst (λ (s : Shape). IsStoreIn s c store.library.items held) all.shape is)
+
+module _ {D : Type 0} {g : Ghosts D} (only : (d : D) (c : List ℕ) → IsTrue (g.is_honest d) → g.image_since d (g.moment d) c → g.image d c) (old : Store D g) (before after : State) where
+  -- nothing was called
+  pub still : (disk : D) → disk ≡ old.disk → AllHoldState requests old before → LeavesOnly g.moment g.image_since old.disk disk (λ c. HoldsState requests before c ⊎ HoldsState requests after c)
+  still disk same all =
+      let here = weakened g.moment g.image_since old.disk old.disk (λ c. IsStoreIn old.bank.shape c old.library.items (held_of before)) (λ c. HoldsState requests before c ⊎ HoldsState requests after c)
+      (nothing_called g.moment g.image_since old.disk (g.image old.disk) old.bank.shape old.chosen old.bank.gate old.library.items (held_of before) (λ c left. only old.disk c all.all.0 left) all.all.1)
+      (λ c is. inl (as_held old before all (held_of before) c is)) in
+      subst (λ (d : D). LeavesOnly g.moment g.image_since old.disk d (λ c. HoldsState requests before c ⊎ HoldsState requests after c)) (sym same) here
+
+module _ {D : Type 0} {g : Ghosts D} (old new : Store D g) (before after : State) (text : List ℕ) (next : ℕ) (held : TableValue) (is : text ≡ text_of after) (first : held ≡ held_of before) (last : held ≡ held_of after) (sized : after.bank ≡ before.bank) where
+  was_held : AllHoldState requests old before → (d : List ℕ) → g.image old.disk d → IsStoreAt old.bank.shape old.chosen old.bank.gate old.library.items held d
+  was_held all d image = subst (λ (t : TableValue). IsStoreAt old.bank.shape old.chosen old.bank.gate old.library.items t d) (sym first) (all.all.1 d image)
+
+  same_shape : AllHoldState requests old before → old.bank.shape ≡ Two after.bank
+  same_shape all = all.shape ∙ ap (λ (n : ℕ). Two n) (sym sized)
+
+  -- the store of the other library is written, and then the selector
+  pub meanwhile : (IsTrue (g.is_honest old.disk) → LeavesStep g.moment g.image_since g.image old.disk new.disk (IsReplacement old.bank.shape old.chosen old.bank.gate old.bank.shape next old.library.items text held))
+      → AllHoldState requests old before → LeavesState old new (λ c. HoldsState requests before c ⊎ HoldsState requests after c)
+  meanwhile leaves all =
+      weakened g.moment g.image_since old.disk new.disk _ (λ c. HoldsState requests before c ⊎ HoldsState requests after c) (leaves all.all.0)
+      (λ c step. ⊎_elim
+      (λ one. inl (as_held old before all (held_of before) c (subst (λ (t : TableValue). IsStoreIn old.bank.shape c old.library.items t) first (old.chosen, old.bank.gate, one))))
+      (λ two. inr (subst (λ (s : Shape). IsStoreIn s c (text_of after) (held_of after)) (same_shape all)
+      (subst (λ (l : List ℕ). IsStoreIn old.bank.shape c l (held_of after)) is (subst (λ (t : TableValue). IsStoreIn old.bank.shape c text t) last (1 - old.chosen, next, two)))))
+      (step.2 (was_held all step.0 step.1)))
+
+  -- and then each image is one
+  pub at_last : new.bank.shape ≡ old.bank.shape → new.chosen ≡ 1 - old.chosen → new.bank.gate ≡ next → new.library.items ≡ text → g.is_honest new.disk ≡ g.is_honest old.disk
+      → (IsTrue (g.is_honest old.disk) → (c : List ℕ) → g.image new.disk c → (d : List ℕ) × g.image old.disk d × HasReplaced old.bank.shape old.chosen old.bank.gate old.bank.shape next old.library.items text held d c)
+      → AllHoldState requests old before → AllHoldState requests new after
+  at_last shape chosen gate library honest done all = record {
+    shape = shape ∙ same_shape all;
+    has = library ∙ is;
+    all = (
+      honest ∙ all.all.0,
+      λ c image.
+          let step = done all.all.0 c image in
+          subst (λ (s : Shape). IsStoreAt s new.chosen new.bank.gate new.library.items (held_of after) c) (sym shape)
+          (subst (λ (l : List ℕ). IsStoreAt old.bank.shape new.chosen new.bank.gate l (held_of after) c) (sym library)
+          (subst (λ (t : TableValue). IsStoreAt old.bank.shape new.chosen new.bank.gate text t c) last
+          (subst (λ (k : ℕ). IsStoreAt old.bank.shape new.chosen k text held c) (sym gate)
+          (subst (λ (k : ℕ). IsStoreAt old.bank.shape k next text held c) (sym chosen) (step.2 (was_held all step.0 step.1)))))),
+    );
+  }
+
+-- ---- as a group of its own
+module _ {D : Type 0} {g : Ghosts D} (old new : Store D g) (before after : State) (body : List ℕ) (kind : is_replacement body ≡ true) (same : held_of after ≡ held_of before)
+    (moment : AllHoldState requests old before → LeavesState old new (λ c. HoldsState requests before c ⊎ HoldsState requests after c)) (each : new.stopped ≡ false → AllHoldState requests old before → AllHoldState requests new after) (goes : Goes old new) where
+  asked : (due : ReplyValue) → Replacement before body due after → IsAsked (entry body due []) before after
+  asked due turn = record {
+    turn = inr (record { kind = kind; turn = turn });
+    made = record { done = λ request plain asks done. absurd (true≢false (sym kind ∙ plain)); undone = λ no. refl };
+    replays = subst (λ (t : TableValue). Replays [] (held_of before) t) (sym same) (no_event (held_of before));
+  }
+
+  pub renewed : (due : ReplyValue) → Replacement before body due after → new.stopped ≡ false → (is_done due ≡ false → new.disk ≡ old.disk) → IsRenewed old new before after body due
+  renewed due turn going quiet = record {
+    due = due;
+    replaced = record {
+      turn = asked due turn;
+      alone = kind;
+      none = refl;
+      idle = (refl, refl);
+      idle_still = (refl, refl);
+      well = λ yes. refl;
+      broken = λ stopped. absurd (true≢false (sym stopped ∙ going));
+      doubt = λ stopped. absurd (true≢false (sym stopped ∙ going));
+      quiet = quiet;
+      any_moment = moment;
+      each = each;
+      goes = goes;
+    };
+  }
+
+  -- a call of the device failed in it
+  pub in_doubt : (due : ReplyValue) → Replacement before body due after → is_done due ≡ true → new.stopped ≡ true → (reply : ReplyValue) → reply ≡ faulted body → IsRenewed old new before after body reply
+  in_doubt due turn done stopped reply told = record {
+    due = due;
+    replaced = record {
+      turn = asked due turn;
+      alone = kind;
+      none = refl;
+      idle = (refl, refl);
+      idle_still = (refl, refl);
+      well = λ going. absurd (true≢false (sym stopped ∙ going));
+      broken = λ yes. ap (λ (r : ReplyValue). r ∷ []) told;
+      doubt = λ yes. done;
+      quiet = λ refused. absurd (true≢false (sym done ∙ refused));
+      any_moment = moment;
+      each = each;
+      goes = goes;
+    };
+  }
+
+one_reply : (a b : ReplyValue) → a ∷ [] ≡ b ∷ [] → a ≡ b
+one_reply a b e = cc
+
+module _ {D : Type 0} {g : Ghosts D} (only : (d : D) (c : List ℕ) → IsTrue (g.is_honest d) → g.image_since d (g.moment d) c → g.image d c) (old new : Store D g) (was : old.stopped ≡ false) (before after : State) (body : List ℕ) (reply : ReplyValue)
+    (kind : is_replacement body ≡ true) (is : IsRenewed old new before after body reply) where
+  abbrev begin : Desk State ReplyValue D g
+  begin = desk old before [] []
+
+  is_due : new.stopped ≡ false → reply ≡ is.due
+  is_due going = one_reply reply is.due (is.replaced.well going)
+
+  served_apart : IsServed requests 1 old new before after (body ∷ []) (reply ∷ [])
+  served_apart =
+      let under = underway_taken requests {g = g} only begin 1 begin (desk new after [] []) [] [] body (reply ∷ []) (underway_start requests {g = g} only begin 1 was refl refl) (inr (inr (inr (inr (record {
+        was = was;
+        alone = kind;
+        mid = begin;
+        before = [];
+        after = reply ∷ [];
+        told_are = refl;
+        flushed = inl (record { none = refl; nothing = refl; store = refl; state = refl });
+        going = λ going. (is.due, is.replaced);
+        late = λ stopped. absurd (true≢false (sym stopped ∙ was));
+      }))))) in
+      underway_ended requests {g = g} only begin 1 (desk new after [] []) (desk new after [] []) (body ∷ []) (reply ∷ []) [] under (inl (record { none = refl; nothing = refl; store = refl; state = refl }))
+
+  pub answered_apart : IsAnswered old new before after body reply
+  answered_apart = record {
+    late = λ late. absurd (true≢false (sym late ∙ was));
+    going = λ no going. subst (λ (r : ReplyValue). Turn before body r after) (sym (is_due going)) is.replaced.turn.turn;
+    doubt = λ no stopped. (one_reply reply (faulted body) (is.replaced.broken stopped), (is.due, is.replaced.turn.turn));
+    replaced = λ no stopped alone. (is.due, is.replaced.turn.turn, is.replaced.doubt stopped);
+    any_moment = λ no. is.replaced.any_moment;
+    each = λ no. is.replaced.each;
+    goes = is.replaced.goes;
+    quiet = λ no going none fed. is.replaced.quiet (ap is_done (sym (is_due going)) ∙ none.kept kind);
+    served = λ no. served_apart;
+  }
+
+-- behind the group before it
+module _ {D : Type 0} {g : Ghosts D} (old mid new : Store D g) (was : old.stopped ≡ false) (before after : State) (body : List ℕ) (reply : ReplyValue) (kind : is_replacement body ≡ true)
+    (pending told : List ReplyValue) (events frame : List ℕ) (ended : IsEnded requests told (desk old before pending events) (desk mid before [] frame)) (is : IsRenewedOrLate mid new before after body reply) where
+  flushed : IsEnded requests told (desk old before pending events) (desk mid before [] frame) → IsFlushed requests told (desk old before pending events) (desk mid before [] [])
+  flushed (inl idle) = inl (record { none = idle.none; nothing = idle.nothing; store = idle.store; state = idle.state })
+  flushed (inr (inl last)) = inr (record {
+    was = last.was;
+    some = last.some;
+    settled = record {
+      state = last.settled.state;
+      well = λ going. ((last.settled.well going).0, refl, refl);
+      broken = last.settled.broken;
+      quiet = last.settled.quiet;
+      any_moment = last.settled.any_moment;
+      each = last.settled.each;
+      library = last.settled.library;
+      goes = last.settled.goes;
+    };
+  })
+  flushed (inr (inr left)) = absurd (true≢false (sym left.over.was ∙ was))
+
+  pub taken_apart : (all : List ReplyValue) → all ≡ told ++ reply ∷ [] → (events' : List ℕ) → events' ≡ [] → (size : ℕ) → IsTaken requests size body all (desk old before pending events) (desk new after [] events')
+  taken_apart all are events' none size = subst (λ (l : List ℕ). IsTaken requests size body all (desk old before pending events) (desk new after [] l)) (sym none) (inr (inr (inr (inr (record {
+    was = was;
+    alone = kind;
+    mid = desk mid before [] [];
+    before = told;
+    after = reply ∷ [];
+    told_are = are;
+    flushed = flushed ended;
+    going = λ going. ((is.0 going).due, (is.0 going).replaced);
+    late = λ stopped.
+        let late = is.1 stopped in (
+          ap (λ (r : ReplyValue). r ∷ []) late.0,
+          record {
+            was = stopped;
+            is = ap (λ (s : Store D g). s.stopped) late.1 ∙ stopped;
+            disk = ap (λ (s : Store D g). s.disk) late.1;
+            state = late.2;
+            goes = subst (λ (s : Store D g). Goes mid s) (sym late.1) (goes_nowhere mid);
+          },
+        );
+  })))))

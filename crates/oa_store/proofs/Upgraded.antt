@@ -1,0 +1,103 @@
+-- What an upgrade finds and leaves.
+use Rattle.std.proofs.Common.{◌≡◌, ◌⊎◌, inl, inr, ⊎_elim, ℕ, ◌-◌, List, Option, None, false, refl, sym, subst}
+use Rattle.oa_disk.specs.declared.disk.DeviceFault.{DeviceFault}
+use Rattle.oa_disk.specs.declared.disk.DeviceFault.TheVariants as devices
+use Rattle.oa_table.specs.Tables.{TableValue, unlocked_table}
+use Rattle.oa_journal.specs.declared.bank.Bank.{Bank}
+use Rattle.oa_journal.specs.declared.shape.Shape.{Shape}
+use Rattle.oa_journal.specs.declared.shape.Shape.TheVariants.{One, Two}
+use Rattle.oa_journal.specs.Shapes.{body_bytes}
+use Rattle.oa_journal.specs.Append.{IsAt, TornBank}
+use Rattle.oa_journal.specs.Bank.{from_place, IsBank}
+use Rattle.oa_journal.specs.Lockless.{no_locks}
+use Rattle.oa_store.specs.declared.fault.OpenFault.{OpenFault}
+use Rattle.oa_store.specs.declared.fault.OpenFault.TheVariants.{NotAStore, OldFormat, LibraryDiffers, Damaged, Device, Memory}
+use Rattle.oa_store.specs.Changes.{IsMove, IsMoved, IsUpgrade}
+use Rattle.oa_store.specs.Faults.{IsHead, IsLate, IsOld, IfDamaged, IsDamaged, IsCaused, IsCausedUpgrade, IsFailed, IsFailedUpgrade, Says, SaysOld, Tells, TellsOld, of_opening}
+use Rattle.oa_store.specs.OneStore.{one_store_at}
+use Rattle.oa_store.specs.Stores.{body_place, head_place, IsStoreAt, IsStoreIn}
+
+-- a refusal of an opening, as one of an upgrade
+pub says_early : (bank size : ℕ) (contents : List ℕ) (e : OpenFault) → IsHead e → ((wanted : Option (List ℕ)) → Says wanted size contents e)
+    → SaysOld bank size contents (of_opening e)
+says_early bank size contents NotAStore is says = says None
+says_early bank size contents OldFormat is says = absurd is
+says_early bank size contents LibraryDiffers is says = absurd is
+says_early bank size contents (Damaged place) is says = inr (says None)
+says_early bank size contents (Device fault) is says = tt
+says_early bank size contents Memory is says = absurd is
+
+pub says_spoilt : (bank size : ℕ) (contents : List ℕ) (e : OpenFault) → IsLate e → IsOld contents → IfDamaged e (IsDamaged None contents)
+    → SaysOld bank size contents (of_opening e)
+says_spoilt bank size contents NotAStore is old p = absurd is
+says_spoilt bank size contents OldFormat is old p = absurd is
+says_spoilt bank size contents LibraryDiffers is old p = absurd is
+says_spoilt bank size contents (Damaged place) is old p = inr p
+says_spoilt bank size contents (Device fault) is old p = tt
+says_spoilt bank size contents Memory is old p = old
+
+pub caused_upgrade : (before now : ℕ) (e : OpenFault) → IsCaused before now e → IsCausedUpgrade before now (of_opening e)
+caused_upgrade before now NotAStore is = is
+caused_upgrade before now OldFormat is = is
+caused_upgrade before now LibraryDiffers is = is
+caused_upgrade before now (Damaged place) is = is
+caused_upgrade before now (Device fault) is = is
+caused_upgrade before now Memory is = is
+
+failed_upgrade : (contents : List ℕ) (before after : List ℕ → Type 0) (fault : DeviceFault) → IsFailed contents before after fault
+    → IsFailedUpgrade contents before after fault
+failed_upgrade contents before after devices.Read is = is
+failed_upgrade contents before after devices.Write is = inl is
+
+pub tells_old : (contents : List ℕ) (before after : List ℕ → Type 0) (e : OpenFault) → Tells contents before after e
+    → TellsOld contents before after (of_opening e)
+tells_old contents before after NotAStore is = tt
+tells_old contents before after OldFormat is = tt
+tells_old contents before after LibraryDiffers is = tt
+tells_old contents before after (Damaged place) is = tt
+tells_old contents before after (Device fault) is = failed_upgrade contents before after fault is
+tells_old contents before after Memory is = tt
+
+-- a write fails once a store is found
+pub write_failed : (contents : List ℕ) (before after : List ℕ → Type 0) (fault : DeviceFault) → fault ≡ devices.Write
+    → (library : List ℕ) × (table : TableValue) × IsStoreIn One contents library table → IsFailedUpgrade contents before after fault
+write_failed contents before after fault is store = subst (λ (f : DeviceFault). IsFailedUpgrade contents before after f) (sym is) (inr store)
+
+-- what a bank does where it stands
+module _ (bank : Bank) (shape : Shape) (head body gate : ℕ) (at : IsAt shape head body gate false bank) where
+  pub torn_there : (old new : List ℕ) → TornBank bank.head bank.body (body_bytes bank.shape) old new
+      → TornBank head body (body_bytes shape) old new
+  torn_there old new torn =
+      subst (λ (s : Shape). TornBank head body (body_bytes s) old new) at.shape_is
+      (subst (λ (b : ℕ). TornBank head b (body_bytes bank.shape) old new) at.body_is
+      (subst (λ (h : ℕ). TornBank h bank.body (body_bytes bank.shape) old new) at.head_is torn))
+
+  pub bank_there : (disk library : List ℕ) (table : TableValue) (end : ℕ)
+      → IsBank bank.shape (from_place bank.head disk) (from_place bank.body disk) library table end
+      → IsBank shape (from_place head disk) (from_place body disk) library table end
+  bank_there disk library table end is =
+      subst (λ (s : Shape). IsBank s (from_place head disk) (from_place body disk) library table end) at.shape_is
+      (subst (λ (b : ℕ). IsBank bank.shape (from_place head disk) (from_place b disk) library table end) at.body_is
+      (subst (λ (h : ℕ). IsBank bank.shape (from_place h disk) (from_place bank.body disk) library table end) at.head_is is))
+
+module _ (size chosen gate next : ℕ) (library : List ℕ) (table : TableValue) (found d f : List ℕ)
+    (is : IsStoreAt One chosen gate library table found) (same : d ≡ found) where
+  lockless : unlocked_table table ≡ table
+  lockless = no_locks One (from_place (head_place chosen) found) (from_place (body_place One chosen) found) library table gate is.bank
+
+  here : IsStoreAt One chosen gate library table d
+  here = subst (λ (c : List ℕ). IsStoreAt One chosen gate library table c) (sym same) is
+
+  -- the store that was found, before or after
+  pub moved : IsMove chosen size next library (unlocked_table table) d f → IsUpgrade size found f
+  moved move shape text other store =
+      let all = one_store_at found One chosen gate library table shape store.0 store.1 text other is store.2 in
+      let step = subst (λ (t : TableValue). IsMove chosen size next library t d f) lockless move in
+      let left : IsStoreIn One f library table ⊎ IsStoreIn (Two size) f library table = ⊎_elim (λ old. inl (chosen, gate, old)) (λ new. inr (1 - chosen, next, new)) (step One gate library (inl refl) here) in
+      subst (λ (s : Shape). IsStoreIn s f text other ⊎ IsStoreIn (Two size) f text other) all.shape_same
+      (subst (λ (t : TableValue). IsStoreIn One f text t ⊎ IsStoreIn (Two size) f text t) all.table_same
+      (subst (λ (l : List ℕ). IsStoreIn One f l table ⊎ IsStoreIn (Two size) f l table) all.library_same left))
+
+  -- and after
+  pub arrived : IsMoved chosen size next library (unlocked_table table) d f → IsStoreAt (Two size) (1 - chosen) next library table f
+  arrived move = let step = subst (λ (t : TableValue). IsMoved chosen size next library t d f) lockless move in step One gate library (inl refl) here

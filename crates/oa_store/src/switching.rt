@@ -1,0 +1,65 @@
+//! Going on in the other bank.
+ghost use Rattle.std.specs.Prelude.{◌≡◌, ◌+◌, ◌*◌, ◌-◌, ◌^◌, ◌<◌, ◌≤◌, List, ℕ, IsTrue, length, OnOk, IfOk, IfErr, true, false};
+ghost use Rattle.std.specs.Int.{div_ceil};
+ghost use Rattle.oa_disk.specs.Disk.{LeavesStep, Counts, Follows};
+ghost use Rattle.oa_disk.specs.declared.disk.DeviceFault.{DeviceFault};
+ghost use Rattle.oa_image.specs.Tables.{is_numbered};
+ghost use Rattle.oa_table.specs.Tables.{unlocked_table};
+ghost use Rattle.oa_journal.specs.Append.{IsAt};
+ghost use Rattle.oa_journal.specs.Banks.{first_gate};
+ghost use Rattle.oa_journal.specs.declared.shape.Shape.TheVariants.{Two};
+ghost use Rattle.oa_store.specs.Changes.{IsMove, IsMoved};
+ghost use Rattle.oa_store.specs.Stores.{body_place, head_place};
+
+use crate::head::SELECTOR;
+use crate::opening::bank_of;
+use oa_disk::{DeviceFault, Disk, flip};
+use oa_journal::{Bank, Shape};
+use oa_table::Table;
+
+/// Writes the bank that is not in use in format 2, with a body of that size, this library, this table and no groups, and then the selector
+/// that names it. Takes no memory.
+pub(crate) fn switch_to<D: Disk>(
+    disk: &mut D,
+    buffer: &mut [u8],
+    chosen: u8,
+    size: u32,
+    library: &[u8],
+    table: &Table,
+) -> Result<Bank, DeviceFault>
+    requires some { 0 < length buffer.old }
+    requires two { chosen < 2 }
+    requires least { 20971520 ≤ size }
+    requires most { size ≤ 1073741824 }
+    requires fits { first_gate library.now table.now < size }
+    requires numbered { is_numbered table.now ≡ true }
+    requires room { 33562624 + 2 * size ≤ D.size_of disk.old }
+
+    ensures any_moment { IsTrue (D.is_honest disk.old)
+        → LeavesStep D.moment D.image_since D.image disk.old disk.new
+        (IsMove chosen size (first_gate library.now table.now) library.now (unlocked_table table.now)) }
+    ensures done { OnOk result (IsTrue (D.is_honest disk.old)
+        → Follows (IsMoved chosen size (first_gate library.now table.now) library.now (unlocked_table table.now)) (D.image disk.old)
+        (D.image disk.new)) }
+    ensures bank { IfOk result (IsAt (Two size) (head_place (1 - chosen)) (body_place (Two size) (1 - chosen))
+        (first_gate library.now table.now) false) }
+    ensures buffer { length buffer.new ≡ length buffer.old }
+    ensures fault { IfErr result (λ e. e ≡ DeviceFault.Write) }
+    ensures size { D.size_of disk.new ≡ D.size_of disk.old }
+    ensures honest { D.is_honest disk.new ≡ D.is_honest disk.old }
+    ensures counts { Counts (D.failures_of disk.old) (D.failures_of disk.new) result }
+    // at most a call for the head, one for each piece of the body, a sync, the selector and a sync
+    ensures calls { IsTrue (D.is_honest disk.old) → D.moment disk.new
+        ≤ D.moment disk.old + 2 * (4 + div_ceil (1 + first_gate library.now table.now) (length buffer.old)) }
+{
+    let other = 1 - chosen;
+    let mut bank = bank_of(Shape::Two(size), other);
+    match bank.start(disk, buffer, library, table) {
+        Ok(()) => {}
+        Err(fault) => return Err(fault),
+    }
+    match flip(disk, SELECTOR, other) {
+        Ok(()) => Ok(bank),
+        Err(fault) => Err(fault),
+    }
+}

@@ -1,0 +1,150 @@
+//! Bringing a store of format 1 to format 2.
+ghost use Rattle.std.specs.Prelude.{◌≡◌, ◌⊎◌, ◌↔◌, ◌+◌, ◌*◌, ◌-◌, ◌^◌, ◌<◌, ◌≤◌, List, ℕ, None, IsTrue, length, OnOk, OnErr, IfOk, IfErr};
+ghost use Rattle.std.specs.Prelude.{IsErr, IsErrOf, true};
+ghost use Rattle.oa_disk.specs.Disk.{LeavesStep, HasCounted, Follows, Only};
+ghost use Rattle.oa_disk.specs.declared.disk.DeviceFault.{DeviceFault};
+ghost use Rattle.oa_image.specs.Tables.{is_numbered, table_image};
+ghost use Rattle.oa_table.specs.Tables.{TableValue};
+ghost use Rattle.oa_journal.specs.declared.shape.Shape.TheVariants.{One, Two};
+ghost use Rattle.oa_store.specs.declared.fault.UpgradeFault.{UpgradeFault};
+ghost use Rattle.oa_store.specs.Calls.{piece_bytes, checkpoint_calls};
+ghost use Rattle.oa_store.specs.Changes.{IsUpgrade};
+ghost use Rattle.oa_store.specs.Faults.{of_opening, IsCausedUpgrade, IsRefusedUpgrade, SaysOld, TellsOld};
+ghost use Rattle.oa_store.specs.Reads.{WritesNothing};
+ghost use Rattle.oa_store.specs.Stores.{IsForeign, IsStoreAt, IsStoreIn};
+
+use crate::head::{buffer, find_head};
+use crate::opening::look;
+use crate::store::BESIDE_TABLE;
+use crate::switching::switch_to;
+use crate::{OpenFault, UpgradeFault};
+use oa_disk::Disk;
+use oa_image::laws::images_are_counted;
+use oa_journal::Shape;
+use oa_model::MAX_LIBRARY_BYTES;
+use oa_table::Table;
+use std::alloc::Global;
+
+/// A store of format 1 that was found.
+#[derive(Drop)]
+struct Old {
+    chosen: u8,
+    library: Vec<u8>,
+    table: Table,
+    /// What the new bank is written from.
+    buffer: Vec<u8>,
+}
+
+/// A fault of an opening that compares no library, as one of an upgrade.
+fn of_opening(fault: OpenFault) -> UpgradeFault
+    ensures { result ≡ of_opening fault }
+{
+    match fault {
+        OpenFault::NotAStore => UpgradeFault::NotAStore,
+        OpenFault::OldFormat | OpenFault::LibraryDiffers => UpgradeFault::Memory,
+        OpenFault::Damaged(place) => UpgradeFault::Damaged(place),
+        OpenFault::Device(fault) => UpgradeFault::Device(fault),
+        OpenFault::Memory => UpgradeFault::Memory,
+    }
+}
+
+/// The store of format 1 that is on the disk. It writes nothing, and begins with a sync.
+fn find_old<D: Disk>(alloc: Global, disk: &mut D) -> Result<Old, UpgradeFault>
+    ensures found { IfOk result (λ o. IsTrue (D.is_honest disk.new)
+        → (gate : ℕ) × IsStoreAt One o.chosen gate o.library.items o.table (D.contents disk.old)
+        × (D.moment disk.new + length o.library.items ≤ D.moment disk.old + (16 + gate))) }
+    ensures two { IfOk result (λ o. o.chosen < 2) }
+    ensures numbered { IfOk result (λ o. is_numbered o.table ≡ true) }
+    ensures buffer { IfOk result (λ o. length o.buffer.items ≡ piece_bytes) }
+    ensures synced { OnOk result (IsTrue (D.is_honest disk.new) → Only (D.contents disk.old) (D.image disk.new)) }
+    ensures says { IfErr result (λ e. IsTrue (D.is_honest disk.new) → (bank : ℕ) → SaysOld bank (D.size_of disk.old) (D.contents disk.old) e) }
+    ensures cause { IfErr result (IsCausedUpgrade (D.failures_of disk.old) (D.failures_of disk.new)) }
+    ensures tells { IfErr result (λ e. IsTrue (D.is_honest disk.new)
+        → TellsOld (D.contents disk.old) (D.image disk.old) (D.image disk.new) e) }
+    ensures small { IsErrOf result UpgradeFault.TooSmall → ⊥ }
+    ensures reads { IsTrue (D.is_honest disk.new) → WritesNothing D.image D.moment D.image_since disk.old disk.new }
+    ensures size { D.size_of disk.new ≡ D.size_of disk.old }
+    ensures honest { IsTrue (D.is_honest disk.new) → IsTrue (D.is_honest disk.old) }
+    ensures unfailed { OnOk result (D.failures_of disk.new ≡ D.failures_of disk.old) }
+    ensures failures { D.failures_of disk.old ≤ D.failures_of disk.new }
+{
+    let (chosen, head) = match find_head(disk) {
+        Ok(found) => found,
+        Err(fault) => return Err(of_opening(fault)),
+    };
+    if let Shape::Two(_) = head.shape {
+        return Err(UpgradeFault::AlreadyNew);
+    }
+    let Ok(buffer) = buffer(alloc) else {
+        return Err(UpgradeFault::Memory);
+    };
+    match look(alloc, disk, chosen, head.shape, buffer) {
+        Ok((library, table, _, buffer)) => Ok(Old {
+            chosen,
+            library,
+            table,
+            buffer,
+        }),
+        Err(fault) => Err(of_opening(fault)),
+    }
+}
+
+/// Brings a store of format 1 to format 2 with bodies of that size: its library and its table go into the bank that is not in use, and the
+/// selector then names it. It begins with a sync.
+///
+/// Refused as `TooSmall` before the first call of the disk, and otherwise, but for a fault of the device, before the first write.
+pub fn upgrade<D: Disk>(alloc: Global, disk: &mut D, size: u32) -> Result<(), UpgradeFault>
+    requires least { 20971520 ≤ size }
+    requires most { size ≤ 1073741824 }
+
+    // A crash at any moment leaves the same library and the same table, in the old format or in the new one.
+    ensures any_moment { IsTrue (D.is_honest disk.new)
+        → LeavesStep D.moment D.image_since D.image disk.old disk.new (IsUpgrade size) }
+    // And at `Ok` in the new one alone: the contents were a store of format 1, and each image is one of format 2 with what it held.
+    ensures done { OnOk result (IsTrue (D.is_honest disk.new) → (library : List ℕ) × (table : TableValue)
+        × IsStoreIn One (D.contents disk.old) library table
+        × ((c : List ℕ) → D.image disk.new c → IsStoreIn (Two size) c library table)) }
+    ensures small { IsErrOf result UpgradeFault.TooSmall ↔ (D.size_of disk.old < 33562624 + 2 * size) }
+    ensures small_same { IsErrOf result UpgradeFault.TooSmall → disk.new ≡ disk.old }
+    // A refusal is true of the contents at the start.
+    ensures says { IfErr result (λ e. IsTrue (D.is_honest disk.new) → SaysOld size (D.size_of disk.old) (D.contents disk.old) e) }
+    // But for a write or a sync that failed, it comes before the first write.
+    ensures refused { IfErr result (λ e. IsRefusedUpgrade e → IsTrue (D.is_honest disk.new)
+        → WritesNothing D.image D.moment D.image_since disk.old disk.new) }
+    ensures cause { IfErr result (IsCausedUpgrade (D.failures_of disk.old) (D.failures_of disk.new)) }
+    ensures tells { IfErr result (λ e. IsTrue (D.is_honest disk.new)
+        → TellsOld (D.contents disk.old) (D.image disk.old) (D.image disk.new) e) }
+    // at most the calls of a reading, as `inspect` makes them, and those of a checkpoint
+    ensures calls { OnOk result (IsTrue (D.is_honest disk.new) → (library : List ℕ) × (table : TableValue) × (chosen : ℕ) × (gate : ℕ)
+        × IsStoreAt One chosen gate library table (D.contents disk.old)
+        × (D.moment disk.new + length library ≤ D.moment disk.old + (16 + gate) + 2 * checkpoint_calls library table)) }
+    ensures size { D.size_of disk.new ≡ D.size_of disk.old }
+    ensures honest { IsTrue (D.is_honest disk.new) → IsTrue (D.is_honest disk.old) }
+    ensures unfailed { OnOk result (D.failures_of disk.new ≡ D.failures_of disk.old) }
+    ensures failures { D.failures_of disk.old ≤ D.failures_of disk.new }
+{
+    if disk.size() < Shape::Two(size).disk_bytes() {
+        return Err(UpgradeFault::TooSmall);
+    }
+    let old = match find_old(alloc, disk) {
+        Ok(old) => old,
+        Err(fault) => return Err(fault),
+    };
+    images_are_counted();
+    if old.library.len() > MAX_LIBRARY_BYTES {
+        return Err(UpgradeFault::Damaged(0));
+    }
+    if old.table.image_size() > u64::from(size - BESIDE_TABLE) {
+        return Err(UpgradeFault::Damaged(0));
+    }
+    let Old {
+        chosen,
+        library,
+        table,
+        mut buffer,
+    } = old;
+    match switch_to(disk, &mut buffer, chosen, size, &library, &table) {
+        Ok(_) => Ok(()),
+        Err(fault) => Err(UpgradeFault::Device(fault)),
+    }
+}

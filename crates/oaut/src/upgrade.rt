@@ -1,0 +1,87 @@
+//! Bringing the file of a store to format 2.
+ghost use Rattle.std.specs.Prelude.{◌≤◌};
+
+use crate::fault::Fault;
+use crate::store::{LEAST_BANK, MOST_BANK, found, store_bytes, unopened, unwritten};
+use crate::streams::{Streams, write};
+use oa_disk::FileDisk;
+use oa_store::{OpenFault, Store, inspect};
+use std::alloc::Global;
+use std::fs::{File, OpenFile, OpenOptions};
+use std::io;
+use std::os::unix::fs::FileExt;
+
+/// How many zeros are written in one call.
+const PIECE: usize = 65_536;
+
+/// Brings a store of format 1 to format 2, with banks of so many bytes, and says so. A file that is too short for it is lengthened.
+pub(crate) fn upgrade_store(rt: &HostRuntime, path: &str, bank: u32) -> Result<(), Fault> {
+    let _streams = Streams::new(rt);
+    renew(rt, path, bank.clamp(LEAST_BANK, MOST_BANK))?;
+    write(rt, b"upgraded\n")
+}
+
+/// Brings a store of format 1 to format 2. The file is opened anew behind each step, and locked in each: what it is then is looked at
+/// again, since between them another process may have had it.
+fn renew(rt: &HostRuntime, path: &str, bank: u32) -> Result<(), Fault>
+    requires least { 20971520 ≤ bank }
+    requires most { bank ≤ 1073741824 }
+{
+    let alloc = rt.alloc();
+    refuse_others(alloc, found(rt, alloc, path)?)?;
+    lengthen(rt, alloc, path, store_bytes(bank))?;
+    let mut disk = found(rt, alloc, path)?;
+    oa_store::upgrade(alloc, &mut disk, bank)?;
+    Ok(())
+}
+
+/// Refuses what is no whole store of format 1, before its file is made longer. An opening tells the format before it compares the
+/// library, and none is the library of no bytes.
+fn refuse_others(alloc: Global, disk: FileDisk) -> Result<(), Fault> {
+    match Store::open(alloc, disk, &[]) {
+        Err((mut disk, OpenFault::OldFormat)) => {
+            inspect(alloc, &mut disk)?;
+            Ok(())
+        }
+        Ok(_) | Err((_, OpenFault::LibraryDiffers)) => Err(Fault::AlreadyNew),
+        Err((_, fault)) => Err(Fault::from(fault)),
+    }
+}
+
+/// Lengthens a shorter file to so many bytes.
+fn lengthen(rt: &HostRuntime, alloc: Global, path: &str, size: u64) -> Result<(), Fault> {
+    let file = match OpenOptions::new().read(true).write(true).open(rt, path) {
+        Ok(file) => file,
+        Err(error) => return Err(unopened(alloc, &error, path)),
+    };
+    if let Err(error) = file.try_lock() {
+        return Err(unopened(alloc, &io::Error::from(error), path));
+    }
+    match fill_up(&file, size) {
+        Ok(()) => Ok(()),
+        Err(error) => Err(unwritten(alloc, &error, path)),
+    }
+}
+
+/// Adds zeros to a file up to that length. Where that fails, it has its length of before.
+fn fill_up(file: &File, size: u64) -> io::Result<()> {
+    let old = file.metadata()?.len();
+    if let Err(error) = add_zeros(file, old, size) {
+        let _ = file.set_len(old);
+        return Err(error);
+    }
+    Ok(())
+}
+
+/// Writes zeros from one place of a file to another, so that they take their room on the device, and brings them there. A stop leaves a
+/// file that is shorter than that, and goes on from its end the next time.
+fn add_zeros(file: &File, from: u64, to: u64) -> io::Result<()> {
+    let zeros = [0; PIECE];
+    let mut at = from;
+    'pieces: while at < to {
+        let count = (to - at).min(PIECE as u64);
+        file.write_all_at(&zeros[..count as usize], at)?;
+        at += count;
+    }
+    file.sync_all()
+}

@@ -1,17 +1,21 @@
 #!/usr/bin/env python3
-"""The test of bin/wrong-bodies: on a crate of four functions it must tell edits that turn a meaning from one that turns none.
+"""The test of bin/wrong-bodies: on a crate of five functions it must tell edits that turn a meaning from one that turns none, and in the gate it must try what it should.
 
     python3 tests/wrong_bodies.py
 
-The crate is made in a temporary folder, and its edits are tried as anybody would try them and as the gate does (--proved). The last line says whether each got the
-verdict that it should.
+The crates are made in a temporary folder, with a history of their own. The edits are tried as anybody would try them and as the gate does (--gate): there the first crate has
+changed since all were tried, and of the second one part in six is tried.
 """
 import os
 import subprocess
 import sys
 import tempfile
 
-TOOL = os.path.join(os.path.dirname(os.path.dirname(os.path.abspath(__file__))), "bin", "wrong-bodies")
+ROOT = os.path.dirname(os.path.dirname(os.path.abspath(__file__)))
+TOOL = os.path.join(ROOT, "bin", "wrong-bodies")
+sys.dont_write_bytecode = True
+sys.path.insert(0, os.path.join(ROOT, "tools"))
+from wrong_bodies.choice import PARTS, TRIED, Choice, part_of, write_tried
 
 SOURCE = """//! Steps and the lesser of two numbers.
 #![tactic(auto)]
@@ -49,48 +53,170 @@ fn is_less(a: u8, b: u8) -> bool
 {
     a < b
 }
+
+/// Three steps above.
+pub fn three_above(n: u8) -> u8
+    requires { n ≤ 90 }
+    ensures { result ≡ n + 3 }
+{
+    above(n) + 1
+}
+"""
+
+# the proof of the last function names the call in its body
+ANSWERS = """use Rattle.std.proofs.Common.{rules}
+use Rattle.steps.proofs.three_above.Goals as goal
+
+pub returns : goal.returns
+returns c = search (c.above.ensures, rules)
+"""
+
+# a crate above the first one
+ABOVE = """//! A function over the steps.
+#![tactic(auto)]
+
+ghost use Rattle.std.specs.Prelude.{◌≡◌, ◌≤◌, ◌+◌};
+
+/// Four steps above.
+pub fn four_above(n: u8) -> u8
+    requires { n ≤ 80 }
+    ensures { result ≡ n + 4 }
+{
+    steps::twice_above(n)
+}
 """
 
 # Of each edit: its text after the line 'file: src/lib.rt', and how its line must begin after the name.
 EDITS = {
-    "a_step_too_long": ("old:     n + STEP\nnew:     n + STEP + 1\n", "refused: above: what the function ensures"),
-    "no_step": ("old:     n + STEP\nnew:     n\n", "refused: above: what the function ensures"),
+    "a_step_too_long": ("old:     n + STEP\nnew:     n + STEP + 1\n", "refused by a clause: above: what the function ensures"),
+    "no_step": ("old:     n + STEP\nnew:     n\n", "refused by a clause: above: what the function ensures"),
     "a_step_by_its_number": ("old:     n + STEP\nnew:     n + 2\n", "NOT REFUSED: above: proved with this edit"),
     # (brings the text that the edits of a step look for)
-    "one_step_spelled_out": ("old:     above(above(n))\nnew:     n + STEP\n", "refused: twice_above: what the function ensures"),
-    "one_step_alone": ("old:     above(above(n))\nnew:     above(n)\n", "refused: twice_above: what the function ensures"),
-    "the_greater": ("old: { a } else { b }\nnew: { b } else { a }\n", "refused: lesser: what the function ensures"),
+    "one_step_spelled_out": ("old:     above(above(n))\nnew:     n + STEP\n", "refused by a clause: twice_above: what the function ensures"),
+    "one_step_alone": ("old:     above(above(n))\nnew:     above(n)\n", "refused by a clause: twice_above: what the function ensures"),
+    "the_greater": ("old: { a } else { b }\nnew: { b } else { a }\n", "refused by a clause: lesser: what the function ensures"),
     "two_steps_by_name": ("old:     above(above(n))\nnew:     let next = above(n); above(next)\n", "NOT REFUSED: twice_above: proved with this edit"),
     "equal_numbers_the_other_way": ("old: is_less(a, b) { a } else { b }\nnew: is_less(b, a) { b } else { a }\n", "NOT REFUSED: lesser: proved with this edit"),
-    "a_longer_step": ("falls: above\nold: const STEP: u8 = 2;\nnew: const STEP: u8 = 3;\n", "refused: above: what the function ensures"),
+    "a_longer_step": ("falls: above\nold: const STEP: u8 = 2;\nnew: const STEP: u8 = 3;\n", "refused by a clause: above: what the function ensures"),
     "a_constant_that_names_none": ("old: const STEP: u8 = 2;\nnew: const STEP: u8 = 3;\n", "not tried: its text"),
+    "a_step_and_one": ("old:     above(n) + 1\nnew:     n + 3\n", "refused by a proof file alone: three_above: proofs/three_above/Answers.antt"),
+    "a_step_for_three": ("old:     above(n) + 1\nnew:     above(n)\n", "refused by a"),
     "a_text_that_is_gone": ("old: if b < a\nnew: if a < b\n", "not tried: an 'old:' text is in src/lib.rt 0 times"),
 }
 
 
+
+# Edits of the second crate: whether each is in the part that the commit chooses, its text, and how its line begins, None where it has none.
+ABOVE_EDITS = {
+    "tried": (True, "old:     steps::twice_above(n)\nnew:     steps::above(n)\n", "refused by a clause: four_above"),
+    "tried_and_stands": (True, "old:     steps::twice_above(n)\nnew:     steps::above(steps::above(n))\n", "NOT REFUSED: four_above"),
+    "left": (False, "old:     steps::twice_above(n)\nnew:     steps::above(n)\n", None),
+    "left_and_cannot_be_placed": (False, "old:     steps::thrice_above(n)\nnew:     n\n", "not tried: an 'old:' text is in src/lib.rt 0 times"),
+    "left_and_does_not_compile": (False, "old:     steps::twice_above(n)\nnew:     steps::thrice_above(n)\n", "not tried: it did not reach the prover"),
+}
+
+counts = {True: 0, False: 0}
+
+
+def tell(name, well, what=""):
+    counts[bool(well)] += 1
+    if not well:
+        print(f"FAILED {name}: {what}")
+
+
+def write(path, text):
+    os.makedirs(os.path.dirname(path), exist_ok=True)
+    with open(path, "w", encoding="utf-8") as it:
+        it.write(text)
+
+
+def git(root, *words):
+    own = {"GIT_AUTHOR_NAME": "test", "GIT_AUTHOR_EMAIL": "test", "GIT_COMMITTER_NAME": "test", "GIT_COMMITTER_EMAIL": "test", "GIT_CONFIG_GLOBAL": "/dev/null"}
+    return subprocess.run(["git", "-C", root, *words], env={**os.environ, **own}, stdout=subprocess.PIPE, check=True, text=True).stdout.strip()
+
+
+def commit(root, text):
+    git(root, "add", "-A")
+    git(root, "commit", "-q", "--allow-empty", "-m", text)
+    return git(root, "rev-parse", "HEAD")
+
+
+def ran(root, wanted, last, *flags):
+    """Runs the tool, whose lines must begin as wanted, which must end with this line and answer 1."""
+    done = subprocess.run([TOOL, "--jobs", "1", *flags], cwd=root, stdout=subprocess.PIPE, stderr=subprocess.STDOUT, text=True)
+    lines = done.stdout.splitlines()
+    said = dict(line.partition(": ")[::2] for line in lines if not line.startswith(" "))
+    for label, want in wanted.items():
+        got = said.get(label)
+        tell(f"{label} with {flags}", got is None if want is None else got is not None and got.startswith(want), f"wanted {want}, got {got}")
+    tell(f"the status and the last line with {flags}", (done.returncode, lines[-1:]) == (1, [last]), f"{done.returncode}, {done.stdout}")
+    return lines
+
+
+def named(name, part):
+    """Returns a name for an edit of the second crate that is in a part."""
+    return next(it for it in (f"{name}_{count}" for count in range(1_000)) if part_of(f"above/{it}") == part)
+
+
+def choices(root):
+    """Looks at what is chosen, commit by commit, where nothing but the commits changes: each edit comes again and again."""
+    write(f"{root}/{TRIED}", f"{git(root, 'rev-parse', 'HEAD')} 2026-01-01 7\n")
+    labels, seen = [f"above/{count}" for count in range(60)], {}
+    for count in range(40):
+        head = commit(root, f"{count}")
+        choice = Choice(root, True)
+        tried = [it for it in labels if choice.is_tried(it)]
+        tell(f"what commit {count} chooses", choice.changed == set() and tried == [it for it in labels if part_of(it) == int(head, 16) % PARTS], choice.why)
+        for it in tried:
+            seen[it] = seen.get(it, 0) + 1
+    tell("each edit is chosen by one commit or another", sorted(seen) == sorted(labels), sorted({*labels} - {*seen}))
+    tell("without the gate all are tried", all(Choice(root, False).is_tried(it) for it in labels))
+    for path, is_counted in (("src/lib.rt", True), ("specs/S.antt", True), ("proofs/P.antt", True), ("wrong-bodies/new.edit", True), ("must-fail/new.edit", False), ("out/x", False)):
+        write(f"{root}/crates/above/{path}", "x")
+        tell(f"a crate with another {path} has changed: {is_counted}", Choice(root, True).changed == ({"above"} if is_counted else set()))
+        git(root, "checkout", "-q", ".")
+        git(root, "clean", "-qfd")
+    write(f"{root}/{TRIED}", f"# a comment\n{'1' * 40} 2026-01-01 7\n")
+    choice = Choice(root, True)
+    tell("a commit that is not in the history has all tried", choice.changed is None and choice.is_tried(labels[0]) and "not in the history" in choice.why, choice.why)
+    os.remove(f"{root}/{TRIED}")
+    tell("no file has all tried", Choice(root, True).changed is None)
+    commit(root, "without the file")
+    tell("all were tried over a commit", write_tried(root, 7).endswith("is written") and Choice(root, True).changed == set())
+    write(f"{root}/crates/above/src/lib.rt", "x")
+    tell("all were tried over what is no commit", "is not written" in write_tried(root, 7))
+
+
 def main():
     with tempfile.TemporaryDirectory(prefix="wrong-bodies-test-") as root:
-        folder = f"{root}/crates/steps"
-        for part in ("src", "wrong-bodies"):
-            os.makedirs(f"{folder}/{part}")
-        with open(f"{root}/crates.txt", "w", encoding="utf-8") as it:
-            it.write("steps:\n")
-        with open(f"{folder}/src/lib.rt", "w", encoding="utf-8") as it:
-            it.write(SOURCE)
+        git(root, "init", "-q")
+        write(f"{root}/.gitignore", "out/\n")
+        write(f"{root}/crates.txt", "steps:\nabove: steps\n")
+        write(f"{root}/crates/steps/src/lib.rt", SOURCE)
+        write(f"{root}/crates/steps/proofs/three_above/Answers.antt", ANSWERS)
+        write(f"{root}/crates/above/src/lib.rt", ABOVE)
         for name, (text, _) in EDITS.items():
-            with open(f"{folder}/wrong-bodies/{name}.edit", "w", encoding="utf-8") as it:
-                it.write(f"file: src/lib.rt\n{text}")
-        runs = [(flags, subprocess.run([TOOL, "--jobs", "1", *flags], cwd=root, stdout=subprocess.PIPE, stderr=subprocess.STDOUT, text=True)) for flags in ([], ["--proved"])]
-    refused = sum(want.startswith("refused") for _, want in EDITS.values())
-    last = f"{refused} refused, {len(EDITS) - refused} not"
-    for flags, ran in runs:
-        said = dict(line.partition(": ")[::2] for line in ran.stdout.splitlines())
-        wrong = [name for name, (_, want) in EDITS.items() if not said.get(f"steps/{name}", "").startswith(want)]
-        if wrong or ran.returncode != 1 or ran.stdout.splitlines()[-1:] != [last]:
-            print(f"{ran.stdout}wrong-bodies {flags}: FAILED: {', '.join(wrong) or 'status or last line'}; wanted status 1 and '{last}', got {ran.returncode}")
-            return 1
-    print(f"wrong-bodies: each of {len(EDITS)} edits got its verdict, also after a gate's proof")
-    return 0
+            write(f"{root}/crates/steps/wrong-bodies/{name}.edit", f"file: src/lib.rt\n{text}")
+        steps = {f"steps/{name}": want for name, (_, want) in EDITS.items()}
+        refused = sum(want.startswith("refused") for want in steps.values())
+        # as anybody tries them
+        lines = ran(root, steps, f"{refused} refused, {len(EDITS) - refused} not", "steps")
+        tell("what a proof file alone refuses is listed", any(line.startswith("   steps/a_step_and_one: proofs") or line.startswith("   steps/a_step_and_one: three_above") for line in lines), lines[-8:])
+        # as the gate does: all of the crate that has changed since, and one part of the crate above it
+        above = {}
+        for name, (is_chosen, text, want) in ABOVE_EDITS.items():
+            name = named(name, 0 if is_chosen else 1)
+            above[f"above/{name}"] = want
+            write(f"{root}/crates/above/wrong-bodies/{name}.edit", f"file: src/lib.rt\n{text}")
+        before = commit(root, "all tried")
+        write(f"{root}/{TRIED}", f"{before} 2026-01-01 7\n")
+        write(f"{root}/crates/steps/src/lib.rt", SOURCE + "\n// changed\n")
+        while int(commit(root, "one crate changed"), 16) % PARTS:
+            pass
+        ran(root, {**steps, **above}, f"{refused + 1} refused, {len(EDITS) - refused + 3} not, 1 left to other commits", "--gate")
+        choices(root)
+    print(f"{counts[True]} passed, {counts[False]} failed")
+    return 1 if counts[False] else 0
 
 
 if __name__ == "__main__":

@@ -1,0 +1,76 @@
+"""What the prover says of a check: which functions are proved, which goals are open, and whether more fell than what a proof names."""
+import collections
+import re
+
+TOLD = re.compile(r"^(?:fn) ([^:\s]\S*?): (.*)$", re.M)
+# What is said of a function whose own goals are all proved, but not those of one that it calls; and of one whose goals were not all tried, since they wait for a proof
+# of what it calls.
+MASKED = re.compile(r"no proof: it calls .*not proved$")
+BLOCKED = re.compile(r"no proof: the borrow checker's part in its proof is not made yet: a call of ")
+WAITS = re.compile(r"`search` has not tried the goals of `([^`]*)`")
+# What is said of a goal that no file has an answer for.
+OPEN = re.compile(r"`search` did not prove `")
+# A goal of the source, with its name; and what is said at a line of a proof's file, to its end.
+GOAL = re.compile(r"^(?:note: )?(?:\./)?(\S+?):(\d+):\d+: (?:error: |it is not proved that |(?=`search` found no proof))(.*)$", re.M)
+ERROR = re.compile(r"^(?:note: )?(?:\./)?(proofs/(\S+?)/\w+\.antt):(\d+):\d+: error: (.*(?:\n  .*)*)$", re.M)
+NAME = re.compile(r"`([^`\s]+)`")
+# What is said at a name of a proof that stands for nothing: a goal, a fact or a field of before the edit.
+GONE = re.compile(r"has no field|is not in scope|has no `|was not admitted")
+# The name of a place of the code in a proof, as c.match-read.in-Ok or c.sync-2: the words of it are those of what is called there.
+PLACE = re.compile(r"\bc\.([\w.-]+)")
+
+Finding = collections.namedtuple("Finding", "text is_of_proof")
+
+
+def calls_of(text):
+    """Returns how often a function's text calls each name."""
+    return collections.Counter(re.findall(r"\b(\w+)(?:::<[^>]*>)?\(", text))
+
+
+def changed_calls(before, after):
+    """Returns the names that two texts of a function do not call equally often."""
+    one, other = calls_of(before), calls_of(after)
+    return {it for it in one | other if one[it] != other[it]}
+
+
+def kind_of(goal):
+    """Returns what a goal's name says of the clause that it belongs to, wherever in the code it arises: that of returns-in-Err-clause-any is returns, any."""
+    first, _, clause = goal.partition("-clause-")
+    return re.split(r"-(?=in|then|else|after|\d)", first)[0], clause
+
+
+class Said:
+    """What a check of a crate said."""
+
+    def __init__(self, crate_name, status, text):
+        self.status, self.text = status, text
+        own = f"{crate_name}::"
+        self.told = [(name.removeprefix(own), verdict) for name, verdict in TOLD.findall(text) if name.startswith(own)]
+        # (of these the prover tried no goal, since they wait for a callee's proof)
+        self.waiting = [name.partition("::")[2] for name in WAITS.findall(text)]
+
+    def reached_the_prover(self):
+        return self.status in (0, 1, 3) and bool(self.told)
+
+    def of(self, function):
+        """Returns what is said of a function and of the closures in it."""
+        return {name: verdict for name, verdict in self.told if function.is_told_by(name)}
+
+    def findings(self, function, span, calls=frozenset()):
+        """Returns what the prover left open in a function, in its words, and of each whether it says no more than that a proof names what an edit took away: the function
+        calls these names more or less often. The span is that of the function in a file: its first and last line, and the path."""
+        first, last, path = span
+        owner = function.of_type + function.of_trait
+        folder = "/".join([*function.modules, *([owner] if owner else []), function.name])
+        errors = [it for it in ERROR.finditer(self.text) if it[2] == folder and not it[4].startswith("`no-help`")]
+        gone = {kind_of(NAME.search(it[4])[1]) for it in errors if GONE.search(it[4]) and NAME.search(it[4])}
+        found = []
+        for it in GOAL.finditer(self.text):
+            if it[1] == path and first <= int(it[2]) <= last:
+                text = it[3].split(";")[0]
+                names = NAME.findall(text)
+                found.append(Finding(text[:160], bool(names) and kind_of(names[-1]) in gone))
+        for it in errors:
+            places = {word for place in PLACE.findall(it[4]) for word in re.split(r"[.-]", place)}
+            found.append(Finding(f"{it[1]}:{it[3]}: {it[4].partition(chr(10))[0][:130]}", bool(GONE.search(it[4]) or places & calls)))
+        return found

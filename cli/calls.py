@@ -8,13 +8,13 @@ from running import fill, run_in
 
 STRACE = shutil.which("strace")
 CALL = re.compile(r"^\d+ +(\w+)\((.*)\) += -?\d")
-TRACED = "trace=pread64,pwrite64,fsync,fdatasync,write"
+TRACED = "trace=pread64,pwrite64,fsync,fdatasync,flock,ftruncate,write"
 OUT = ("out",)
 
 
 class Calls:
     """What a command made of its store's file and of standard output, in order. Each call has its name, which of the calls of that name it was, and
-    what it does: ("write", place, length), ("read", place, length), ("sync",), ("sync folder",) or OUT."""
+    what it does: ("lock",), ("length", bytes), ("write", place, length), ("read", place, length), ("sync",), ("sync folder",) or OUT."""
 
     def __init__(self, room, words, inject=None, **how):
         self.log = f"{room}/calls"
@@ -30,6 +30,10 @@ class Calls:
                 counts[name] = counts.get(name, 0) + 1
                 if "/it.store>" in words[0] and name in ("pwrite64", "pread64"):
                     self.made.append((name, counts[name], ("write" if name == "pwrite64" else "read", int(words[-1]), int(words[-2]))))
+                elif name == "flock" and "/it.store>" in words[0]:
+                    self.made.append((name, counts[name], ("lock",) if words[1] == "LOCK_EX|LOCK_NB" else (words[1],)))
+                elif name == "ftruncate" and "/it.store>" in words[0]:
+                    self.made.append((name, counts[name], ("length", int(words[1]))))
                 elif name in ("fsync", "fdatasync"):
                     self.made.append((name, counts[name], ("sync",) if "/it.store>" in words[0] else ("sync folder",)))
                 elif name == "write" and words[0].startswith("1<"):

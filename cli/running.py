@@ -1,17 +1,19 @@
-"""What the cases share: the program, how it is run, and how its answers are compared and counted.
+"""What the cases share: the program, how it is run, and how its answers are compared.
 
-PROGRAM is the first word of the command line, or crates/oaut/out/oaut, as `rt ci` leaves it, where none is given.
+The program is the one that the environment variable OAUT_PROGRAM names, as `cli/run.py --program PATH` sets it; where there is none,
+crates/oaut/out/oaut, as `rt ci` leaves it.
 """
 import os
 import resource
 import select
 import subprocess
-import sys
 import tempfile
 import time
+import unittest
 
-ROOT = os.path.dirname(os.path.dirname(os.path.abspath(__file__)))
-PROGRAM = os.path.abspath(sys.argv[1]) if len(sys.argv) > 1 else f"{ROOT}/crates/oaut/out/oaut"
+CLI = os.path.dirname(os.path.abspath(__file__))
+ROOT = os.path.dirname(CLI)
+PROGRAM = os.path.abspath(os.environ.get("OAUT_PROGRAM") or f"{ROOT}/crates/oaut/out/oaut")
 # the name that it is called by, which its usage tells
 CALLED = os.path.basename(PROGRAM).encode()
 
@@ -21,21 +23,36 @@ def text_of(name):
         return file.read()
 
 
-SMALL = text_of("small.idl")
+def rows_of(name):
+    """The rows of a table that stands beside the cases, in a file of lines: those that begin with a `#` say what the rows are."""
+    with open(f"{CLI}/{name}") as file:
+        return [line.rstrip("\n") for line in file if not line.startswith("#")]
+
+
+SMALL, FULL, ARRAYS = text_of("small.idl"), text_of("full.idl"), text_of("arrays.idl")
+SMALL_TEXT, FULL_TEXT = text_of("small.canonical.idl"), text_of("full.canonical.idl")
 REQUESTS = text_of("first.hex")
 REPLIES = text_of("first.out")
 CREATE = REQUESTS.splitlines()[0]
 CREATED = REPLIES.splitlines()[0]
 
-counts = {True: 0, False: 0}
 TIMEOUT = 120
 
 
+PIECE = 1 << 18
+ZEROS = bytes(PIECE)
+
+
 def fill(room, files):
-    """Writes files into a folder."""
+    """Writes files into a folder. Where a piece of a file has zeros alone it is left out, so that a store takes no more room than what it holds."""
     for name, content in files.items():
         with open(f"{room}/{name}", "wb") as file:
-            file.write(content)
+            for at in range(0, len(content), PIECE):
+                piece = content[at : at + PIECE]
+                if piece != ZEROS:
+                    file.seek(at)
+                    file.write(piece)
+            file.truncate(len(content))
 
 
 def run_in(room, words, given=b"", stdin=None, stdout=None, before=None, under=()):
@@ -58,11 +75,6 @@ def run(words, given=b"", files=None, **how):
 def within(bytes):
     """What limits the memory of the program, as a call in its process."""
     return lambda: resource.setrlimit(resource.RLIMIT_AS, (bytes, bytes))
-
-
-def taken(*sizes):
-    """Those of some sizes of groups that the program takes."""
-    return [it for it in sizes if run(["serve", "none.store", "none.idl", "--group", str(it)])[0] != 2]
 
 
 class Talk:
@@ -127,33 +139,38 @@ def short(it):
     return it if it is None or len(it) <= 420 else it[:300] + b" .. " + it[-100:]
 
 
-def tell(name, well, what=""):
-    counts[well] += 1
-    if not well:
-        print(f"FAILED {name}: {what}")
+def told(wanted, got):
+    """What is said of a status, an output and a fault that are others."""
+    return f"wanted {wanted[0], short(wanted[1]), wanted[2]}, got {got[0], short(got[1]), short(got[2])}"
 
 
-def case(name, words, status, out, err, **how):
-    got = run(words, **how)
-    tell(name, got == (status, out, err), f"wanted {status, short(out), err}, got {got[0], short(got[1]), short(got[2])}")
+class Cases(unittest.TestCase):
+    """A test has any number of cases: each is counted, and told by its name where it fails, and the others go on."""
 
+    def tell(self, name, well, what=""):
+        """A case: whether it is well, and what is said of it otherwise."""
+        with self.subTest(name):
+            if not well:
+                raise self.failureException(what)
 
+    def case(self, name, words, status, out, err, **how):
+        """A run of the program in a new folder."""
+        got = run(words, **how)
+        self.tell(name, got == (status, out, err), told((status, out, err), got))
 
-def leaves(name, words, status, out, err, files, left, **how):
-    """A command in a folder of these files, and what each of some files holds behind it, None where it is not there."""
-    with tempfile.TemporaryDirectory() as room:
-        fill(room, files)
-        got = run_in(room, words, **how)
-        tell(name, got == (status, out, err), f"wanted {status, out, err}, got {got[0], short(got[1]), short(got[2])}")
-        for file, wanted in left.items():
-            held = None
-            if os.path.exists(f"{room}/{file}"):
-                with open(f"{room}/{file}", "rb") as opened:
-                    held = opened.read()
-            tell(f"{name}: what {file} holds", held == wanted, f"{None if held is None else len(held)} bytes")
+    def leaves(self, name, words, status, out, err, files, left, **how):
+        """A command in a folder of these files, and what each of some files holds behind it, None where it is not there."""
+        with tempfile.TemporaryDirectory() as room:
+            fill(room, files)
+            got = run_in(room, words, **how)
+            self.tell(name, got == (status, out, err), told((status, out, err), got))
+            for file, wanted in left.items():
+                held = None
+                if os.path.exists(f"{room}/{file}"):
+                    with open(f"{room}/{file}", "rb") as opened:
+                        held = opened.read()
+                self.tell(f"{name}: what {file} holds", held == wanted, f"{None if held is None else len(held)} bytes")
 
-
-def ends():
-    """The last line, and the status."""
-    print(f"{counts[True]} passed, {counts[False]} failed")
-    sys.exit(1 if counts[False] else 0)
+    def checked(self, name, library, status, out, err, **how):
+        """What `oaut check` makes of a library."""
+        self.case(f"check: {name}", ["check", "lib.idl"], status, out, err, files={"lib.idl": library}, **how)

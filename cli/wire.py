@@ -1,4 +1,4 @@
-"""Requests and replies as the lines that the cases and the benchmarks send and expect, by the codec of the client (clients/python/oaut.py).
+"""Requests and replies as the lines that the cases and the benchmarks send and expect, by the codec of the client (clients/python/oaut).
 What is to be refused is spelled here, from good bytes that are changed at one place."""
 import os
 import struct
@@ -109,3 +109,13 @@ def member(dispid, kind, flags, vt, name, parameters=()):
 def interface(guid, name, members):
     """The description of an interface whose GUID is spelled so on the wire."""
     return struct.pack("<II", 4, len(members)) + guid + string(name) + b"".join(members)
+
+
+def replacement(tag, text, length=None, more=b""):
+    """A REPLACE LIBRARY, as a line. `length` and `more` spoil it: what stands for the text's length, and bytes behind its padding."""
+    return line(tag, struct.pack("<HHII", 12, 0, len(text) if length is None else length, 0) + aligned(text, 8) + more)
+
+
+def lost(tag, guid, dispid):
+    """The reply to one that is refused for what it would lose: the GUID, spelled as on the wire, and the DISPID, or -1."""
+    return reply(tag, 0x8007_0057, fields=guid + struct.pack("<iI", dispid, 0))

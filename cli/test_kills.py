@@ -1,30 +1,29 @@
-#!/usr/bin/env python3
 """Kills `oaut serve` at random moments, and looks at what is there behind it.
 
-    python3 cli/killed.py [PROGRAM] [--times N] [--seed S]
-
-PROGRAM is crates/oaut/out/oaut where none is given, N is 300. Each time a server is started on one store, with groups of 1, 3, 64 or 1,024, as far as it takes them. It reads back what the store should
-hold, takes puts as fast as it can, small ones and long texts, so that checkpoints fall among them, and gets the signal 9. Then the store is read by `oaut dump` and by
-cli/store.py. It has to hold what a first part of the puts has left, in which every acknowledged one is, and which ends where a group ends.
+OAUT_KILLS says how often (300 times where nothing is said), OAUT_SEED from which seed: `cli/run.py kills --kills N --seed S` sets them. Each time a server is started on
+one store, with groups of 1, 3, 64 or 1,024. It reads back what the store should hold, takes puts as fast as it can, small ones and long texts, so that checkpoints fall among
+them, and gets the signal 9. Then the store is read by `oaut dump` and by cli/store.py. It has to hold what a first part of the puts has left, in which every acknowledged one
+is, and which ends where a group ends.
 
 A kill leaves the system's cache as it is: what a loss of power may leave is shown by the proofs and by the crates' tests alone.
 """
-import argparse
 import os
 import random
 import struct
 import subprocess
-import sys
 import tempfile
 import threading
 import time
+import unittest
 import uuid
 
 import store
 import wire
 from oaut import PROPERTYGET, PROPERTYPUT, ask_create, ask_invoke
+from running import PROGRAM
 
-ROOT = os.path.dirname(os.path.dirname(os.path.abspath(__file__)))
+TIMES = int(os.environ.get("OAUT_KILLS") or 300)
+SEED = int(os.environ.get("OAUT_SEED") or int.from_bytes(os.urandom(4), "little"))
 GROUPS = (1, 3, 64, 1_024)
 OBJECTS = 8
 EARLY = 524_288  # a group ends behind the request that brings its events to so many bytes
@@ -148,55 +147,62 @@ def held(room):
     return found, values, "".join(store.lines(found))
 
 
-def main():
-    parser = argparse.ArgumentParser()
-    parser.add_argument("program", nargs="?", default=f"{ROOT}/crates/oaut/out/oaut")
-    parser.add_argument("--times", type=int, default=300)
-    parser.add_argument("--seed", type=int, default=int.from_bytes(os.urandom(4), "little"))
-    given = parser.parse_args()
-    program, draw = os.path.abspath(given.program), random.Random(given.seed)
-    acknowledged = behind = switched = 0
-    with tempfile.TemporaryDirectory() as room:
-        with open(f"{room}/lib.idl", "wb") as file:
+class Kills(unittest.TestCase):
+    """Each kill is a case; nothing is tried behind the first where something is wrong."""
+
+    def setUp(self):
+        self.draw, self.number = random.Random(SEED), 1
+        self.acknowledged = self.behind = self.switched = 0
+        room = tempfile.TemporaryDirectory()
+        self.addCleanup(room.cleanup)
+        self.room = room.name
+        with open(f"{self.room}/lib.idl", "wb") as file:
             file.write(LIBRARY)
-        subprocess.run([program, "format", "it.store", "lib.idl"], cwd=room, check=True, stdout=subprocess.DEVNULL)
+        self.call(["format", "it.store", "lib.idl"])
         made = b"".join(record(struct.pack("<I", it) + ask_create(uuid.UUID(bytes_le=CLASS))) for it in range(OBJECTS))
-        subprocess.run([program, "serve", "it.store", "lib.idl"], cwd=room, check=True, input=made, stdout=subprocess.DEVNULL)
-        found, values, _ = held(room)
-        number = 1
-        groups = [it for it in GROUPS if subprocess.run([program, "serve", "none", "none", "--group", str(it)], stderr=subprocess.DEVNULL).returncode != 2]
-        for time_ in range(given.times):
-            group, long = groups[time_ % len(groups)], time_ // len(groups) % 2 == 1
-            try:
-                session = Session(program, room, group, number, values, long)
-                until = draw.random() * (200 if long else 100 + 20 * group)
-                late = time.monotonic() + 20
-                while len(session.heard) < len(session.wanted) + 20 * until and time.monotonic() < late and draw.random() > 0.002:
-                    time.sleep(0.0002)
-                time.sleep(draw.random() * 0.003)
-                count = session.kill()
-                before = found.chosen
-                found, now, dump = held(room)
-                puts = [Put(number + it, long) for it in range(session.asked)]
-                there = next((it for it in range(session.asked, 0, -1) if now[puts[it - 1].object, puts[it - 1].dispid] == puts[it - 1].value), 0)
-                for put in puts[:there]:
-                    values[put.object, put.dispid] = put.value
-                if values != now:
-                    raise Wrong(f"the cells are not what {there} puts leave")
-                if there < count:
-                    raise Wrong(f"{count} puts were acknowledged, {there} are there")
-                if there not in ends_of_groups(group, len(session.reads), puts[:there]):
-                    raise Wrong(f"{there} puts are there, and no group ends behind them")
-                said = subprocess.run([program, "dump", "it.store"], cwd=room, check=True, stdout=subprocess.PIPE).stdout.decode()
-                if said != dump:
-                    raise Wrong("`oaut dump` prints something else")
-            except Wrong as wrong:
-                print(f"FAILED at kill {time_} with groups of {group}, seed {given.seed}: {wrong}")
-                return 1
-            acknowledged, behind, switched = acknowledged + count, behind + there - count, switched + (found.chosen != before)
-            number += session.asked
-    print(f"{given.times} kills, groups of {', '.join(map(str, groups))}: {acknowledged} acknowledged puts were all there, {behind} more with them, in whole groups; {switched} sessions ended in the other bank")
-    return 0
+        self.call(["serve", "it.store", "lib.idl"], input=made)
+        self.found, self.values, _ = held(self.room)
 
+    def call(self, words, **how):
+        return subprocess.run([PROGRAM, *words], cwd=self.room, check=True, stdout=subprocess.PIPE, **how).stdout
 
-sys.exit(main())
+    def test_kills(self):
+        for turn in range(TIMES):
+            group, long = GROUPS[turn % len(GROUPS)], turn // len(GROUPS) % 2 == 1
+            wrong = None
+            with self.subTest(f"kill {turn}, groups of {group}, seed {SEED}"):
+                try:
+                    self.kill(group, long)
+                except Wrong as it:
+                    wrong = str(it)
+                if wrong:
+                    self.fail(wrong)
+            if wrong:
+                return
+        print(f"{TIMES} kills, groups of {', '.join(map(str, GROUPS))}: {self.acknowledged} acknowledged puts were all there, {self.behind} more with them, in whole groups; {self.switched} sessions ended in the other bank")
+
+    def kill(self, group, long):
+        """Serves, kills, and looks at what is there."""
+        session = Session(PROGRAM, self.room, group, self.number, self.values, long)
+        until = self.draw.random() * (200 if long else 100 + 20 * group)
+        late = time.monotonic() + 20
+        while len(session.heard) < len(session.wanted) + 20 * until and time.monotonic() < late and self.draw.random() > 0.002:
+            time.sleep(0.0002)
+        time.sleep(self.draw.random() * 0.003)
+        count = session.kill()
+        before = self.found.chosen
+        self.found, now, dump = held(self.room)
+        puts = [Put(self.number + it, long) for it in range(session.asked)]
+        there = next((it for it in range(session.asked, 0, -1) if now[puts[it - 1].object, puts[it - 1].dispid] == puts[it - 1].value), 0)
+        for put in puts[:there]:
+            self.values[put.object, put.dispid] = put.value
+        if self.values != now:
+            raise Wrong(f"the cells are not what {there} puts leave")
+        if there < count:
+            raise Wrong(f"{count} puts were acknowledged, {there} are there")
+        if there not in ends_of_groups(group, len(session.reads), puts[:there]):
+            raise Wrong(f"{there} puts are there, and no group ends behind them")
+        if self.call(["dump", "it.store"]).decode() != dump:
+            raise Wrong("`oaut dump` prints something else")
+        self.acknowledged, self.behind, self.switched = self.acknowledged + count, self.behind + there - count, self.switched + (self.found.chosen != before)
+        self.number += session.asked

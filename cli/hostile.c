@@ -1,0 +1,133 @@
+/* What the system does to a program behind LD_PRELOAD, at its worst. Each is asked for by a variable of the environment:
+
+   REFUSE, REFUSE_FROM   memory is refused at one call of the allocator, counted from 1 where `main` begins, and at each from one on; what the
+                         system takes before `main` and behind it is neither counted nor refused
+   SHORT                 a read or a write brings so many bytes at most
+   INTERRUPTED           each read of standard input is interrupted
+   TOLD                  a file, which gets the number of calls of the allocator, of blocks that were not freed, and of reads of standard input */
+#define _GNU_SOURCE
+#include <dlfcn.h>
+#include <errno.h>
+#include <fcntl.h>
+#include <stddef.h>
+#include <stdio.h>
+#include <stdlib.h>
+#include <sys/types.h>
+#include <unistd.h>
+
+void *__libc_malloc(size_t size);
+void *__libc_calloc(size_t count, size_t size);
+void *__libc_realloc(void *block, size_t size);
+void *__libc_memalign(size_t unit, size_t size);
+void __libc_free(void *block);
+ssize_t __read(int file, void *into, size_t size);
+ssize_t __write(int file, const void *from, size_t size);
+ssize_t __pread64(int file, void *into, size_t size, off64_t at);
+ssize_t __pwrite64(int file, const void *from, size_t size, off64_t at);
+
+static int counts, interrupted;
+static long calls, blocks, reads, refused, refused_from;
+static size_t most = (size_t)-1;
+
+static long number(const char *name) {
+    const char *text = getenv(name);
+    return text ? atol(text) : 0;
+}
+
+static size_t brought(size_t size) { return counts && size > most ? most : size; }
+
+/* memory */
+
+static int is_refused(void) {
+    if (!counts) return 0;
+    calls++;
+    if (calls != refused && (refused_from == 0 || calls < refused_from)) return 0;
+    errno = ENOMEM;
+    return 1;
+}
+
+static void *got(void *block) {
+    blocks += counts && block != NULL;
+    return block;
+}
+
+void *malloc(size_t size) { return is_refused() ? NULL : got(__libc_malloc(size)); }
+
+void *calloc(size_t count, size_t size) { return is_refused() ? NULL : got(__libc_calloc(count, size)); }
+
+void *realloc(void *block, size_t size) {
+    if (is_refused()) return NULL;
+    void *found = __libc_realloc(block, size);
+    return block == NULL ? got(found) : found;
+}
+
+void *memalign(size_t unit, size_t size) { return is_refused() ? NULL : got(__libc_memalign(unit, size)); }
+
+void *aligned_alloc(size_t unit, size_t size) { return memalign(unit, size); }
+
+int posix_memalign(void **block, size_t unit, size_t size) {
+    void *found = memalign(unit, size);
+    if (found == NULL) return ENOMEM;
+    *block = found;
+    return 0;
+}
+
+void free(void *block) {
+    blocks -= counts && block != NULL;
+    __libc_free(block);
+}
+
+/* files */
+
+ssize_t read(int file, void *into, size_t size) {
+    if (counts && file == 0) {
+        reads++;
+        if (interrupted) {
+            errno = EINTR;
+            return -1;
+        }
+    }
+    return __read(file, into, brought(size));
+}
+
+ssize_t write(int file, const void *from, size_t size) { return __write(file, from, brought(size)); }
+
+ssize_t pread64(int file, void *into, size_t size, off64_t at) { return __pread64(file, into, brought(size), at); }
+
+ssize_t pread(int file, void *into, size_t size, off_t at) { return __pread64(file, into, brought(size), at); }
+
+ssize_t pwrite64(int file, const void *from, size_t size, off64_t at) { return __pwrite64(file, from, brought(size), at); }
+
+ssize_t pwrite(int file, const void *from, size_t size, off_t at) { return __pwrite64(file, from, brought(size), at); }
+
+/* from `main` on */
+
+static int (*program)(int, char **, char **);
+
+static void told(void) {
+    counts = 0;
+    char text[96];
+    int length = snprintf(text, sizeof text, "%ld %ld %ld\n", calls, blocks, reads);
+    int file = open(getenv("TOLD"), O_WRONLY | O_CREAT | O_TRUNC, 0600);
+    if (__write(file, text, length) != length) abort();
+    close(file);
+}
+
+static int counted(int count, char **words, char **variables) {
+    refused = number("REFUSE");
+    refused_from = number("REFUSE_FROM");
+    interrupted = number("INTERRUPTED") != 0;
+    if (number("SHORT") > 0) most = number("SHORT");
+    atexit(told);
+    calls = blocks = 0;
+    counts = 1;
+    int status = program(count, words, variables);
+    counts = 0;
+    return status;
+}
+
+int __libc_start_main(int (*main)(int, char **, char **), int count, char **words, void (*start)(void), void (*end)(void), void (*unload)(void), void *stack) {
+    int (*real)(int (*)(int, char **, char **), int, char **, void (*)(void), void (*)(void), void (*)(void), void *) = dlsym(RTLD_NEXT, "__libc_start_main");
+    program = main;
+    return real(counted, count, words, start, end, unload, stack);
+}

@@ -1,0 +1,37 @@
+"""Sessions that are played with objects in memory, and again over stores."""
+import tempfile
+
+from running import CREATE, CREATED, SMALL, Cases, fault, fill, run_in, told
+from store import BANK, length_of
+
+# the sizes of the groups that a session over a store is played with
+GROUPS = (1, 3, 1_024)
+
+
+class Played(Cases):
+    def play(self, name, given, status, out, err, library=SMALL, words=("--hex",), **how):
+        """A session with objects in memory, and the same over new stores, with groups of several sizes: the replies are the same bytes."""
+        self.case(name, ["play", "lib.idl", *words], status, out, err, given=given, files={"lib.idl": library}, **how)
+        for group in GROUPS:
+            with tempfile.TemporaryDirectory() as room:
+                fill(room, {"lib.idl": library})
+                with open(f"{room}/it.store", "wb") as file:
+                    file.truncate(length_of(BANK))
+                run_in(room, ["format", "it.store", "lib.idl"])
+                got = run_in(room, ["serve", "it.store", "lib.idl", "--group", str(group), *words], given=given, **how)
+                self.tell(f"{name}: over a store, groups of {group}", got == (status, out, err), told((status, out, err), got))
+
+    def refused(self, name, library, text):
+        """A library that `play`, `serve` and `check` refuse with this text."""
+        self.play(name, CREATE + b"\n", 2, b"", fault(text), library=library)
+        self.checked(name, library, 2, b"", fault(text))
+
+    def converse(self, name, library, turns):
+        """A session of turns, each with a tag of its own."""
+        asked, answered = (b"".join(turn[side](tag) for tag, turn in enumerate(turns, 1)) for side in (0, 1))
+        self.play(name, asked, 0, answered, b"", library=library)
+
+    def talk(self, name, library, turns):
+        """The same with one object, which is made first."""
+        asked, answered = (b"".join(turn[side](tag) for tag, turn in enumerate(turns, 2)) for side in (0, 1))
+        self.play(name, CREATE + b"\n" + asked, 0, CREATED + b"\n" + answered, b"", library=library)

@@ -1,0 +1,125 @@
+#!/usr/bin/env python3
+"""Runs the cases of the built program: the tests of each file cli/test_PART.py.
+
+    python3 cli/run.py [--program PATH] [-k NAME].. [PART ..]
+
+PATH is crates/oaut/out/oaut, as `rt ci` leaves it, where none is given. `-k NAME` runs the tests whose names have NAME in them, `PART` those of one
+file; `--list` prints the names. Where no part is named, `com` is left out. Each part gets a line with its seconds; the last line counts all cases, and the status is 1 where one failed.
+
+Without this file, in the folder cli/: OAUT_PROGRAM=PATH python3 -m unittest [-k NAME] [test_PART ..]
+"""
+import argparse
+import glob
+import os
+import sys
+import time
+import unittest
+
+CLI = os.path.dirname(os.path.abspath(__file__))
+# parts that run where they are named alone: under Wine they take minutes, and some cases wait for its clocks
+BY_HAND = {"com"}
+
+
+class Counts(unittest.TestResult):
+    """Counts the cases: each sub-test, and each test that has none. What failed is told at once."""
+
+    def __init__(self):
+        super().__init__()
+        self.passed = self.failed = 0
+        self.within = False
+
+    def startTest(self, test):
+        super().startTest(test)
+        self.within = False
+
+    def addSubTest(self, test, subtest, err):
+        super().addSubTest(test, subtest, err)
+        self.within = True
+        if err is None:
+            self.passed += 1
+        else:
+            self.tell(subtest, err, test.failureException)
+
+    def addSuccess(self, test):
+        super().addSuccess(test)
+        self.passed += not self.within
+
+    def addFailure(self, test, err):
+        super().addFailure(test, err)
+        self.tell(test, err, test.failureException)
+
+    def addError(self, test, err):
+        super().addError(test, err)
+        self.tell(test, err, ())
+
+    def addSkip(self, test, reason):
+        super().addSkip(test, reason)
+        print(f"skipped {named(test)}: {reason}", flush=True)
+
+    def tell(self, test, err, failure):
+        self.failed += 1
+        kind, what, _ = err
+        said = str(what) if failure and issubclass(kind, failure) else self._exc_info_to_string(err, test)
+        print(f"FAILED {named(test)}: {said}", flush=True)
+
+
+def named(test):
+    """The name of a test, and of the case in it."""
+    case = getattr(test, "test_case", None)
+    if case is None:
+        return test.id()
+    return f"{case.id()}: {test._message if isinstance(test._message, str) else test._subDescription()}"
+
+
+def parts_of(words):
+    """The parts that are named, or all but those by hand."""
+    found = sorted(os.path.basename(it)[len("test_") : -len(".py")] for it in glob.glob(f"{CLI}/test_*.py"))
+    unknown = {*words} - {*found}
+    if unknown:
+        raise SystemExit(f"run.py: no part is named {', '.join(sorted(unknown))}; there are {', '.join(found)}")
+    return [it for it in found if it in (words or {*found} - BY_HAND)]
+
+
+def tests_of(suite):
+    for it in suite:
+        if isinstance(it, unittest.TestSuite):
+            yield from tests_of(it)
+        else:
+            yield it
+
+
+def main():
+    parser = argparse.ArgumentParser(description=__doc__, formatter_class=argparse.RawDescriptionHelpFormatter)
+    parser.add_argument("--program", metavar="PATH", help="the program")
+    parser.add_argument("-k", metavar="NAME", action="append", dest="names", help="tests with this in their names")
+    parser.add_argument("--list", action="store_true", help="print the names of the tests")
+    parser.add_argument("--sessions", nargs=2, metavar=("FIRST", "COUNT"), help="the seeds of the part `random`")
+    parser.add_argument("--kills", metavar="N", help="how often the part `kills` kills")
+    parser.add_argument("--seed", metavar="S", help="from which seed")
+    parser.add_argument("parts", nargs="*", metavar="PART")
+    given = parser.parse_args()
+    told = {"OAUT_PROGRAM": given.program and os.path.abspath(given.program), "OAUT_SESSIONS": given.sessions and " ".join(given.sessions), "OAUT_KILLS": given.kills, "OAUT_SEED": given.seed}
+    os.environ.update({name: it for name, it in told.items() if it})
+    sys.path.insert(0, CLI)
+    loader = unittest.TestLoader()
+    loader.testNamePatterns = [it if "*" in it else f"*{it}*" for it in given.names or []] or None
+    passed = failed = 0
+    for part in parts_of(given.parts):
+        suite = loader.loadTestsFromName(f"test_{part}")
+        if not suite.countTestCases():
+            continue
+        if given.list:
+            print("\n".join(it.id() for it in tests_of(suite)))
+            continue
+        counts, begun = Counts(), time.monotonic()
+        suite.run(counts)
+        print(f"{part}: {counts.passed} passed, {counts.failed} failed, {time.monotonic() - begun:.1f} s", flush=True)
+        passed, failed = passed + counts.passed, failed + counts.failed
+    if given.list:
+        return 0
+    print(f"{passed} passed, {failed} failed")
+    return 1 if failed or not passed else 0
+
+
+if __name__ == "__main__":
+    sys.exit(main())

@@ -1,0 +1,70 @@
+"""Stores that the cases begin with, their events, and sessions over them."""
+import struct
+
+import store
+import wire
+from running import FULL_TEXT, SMALL, SMALL_TEXT, Cases
+
+CLASS, FACE = (bytes.fromhex("443322116655887799aabbccddeeff" + last) for last in ("03", "02"))
+CREATED_1 = b"\1" + struct.pack("<I", 1) + CLASS
+# where the body of bank 0 stands in each format, and of bank 1 in a store of format 2 as long as it is where nothing is said
+BODIES = {1: 8_224, 2: 33_562_624}
+BODY_1 = 54_534_144
+# a store of the small library without objects, and one of the full library with object 1
+NEW, WITH_ITEM = bytes(store.formatted(SMALL_TEXT)), bytes(store.add(store.formatted(FULL_TEXT), CREATED_1))
+TEXT_NAME = 2  # the BSTR of the full library
+# the sizes of the groups that cases of `serve` have, where they name none
+GROUPS = (1, 2, 3, 4, 1_024)
+
+
+def put_of(value):
+    """The event that puts a long into object 1."""
+    return b"\3" + struct.pack("<I", 1) + FACE + struct.pack("<iHHi", 1, 0, 3, value)
+
+
+def put(tag, value):
+    return wire.put(tag, 1, 1, wire.scalar(wire.I4, value))
+
+
+def get(tag):
+    return wire.get(tag, 1, 1)
+
+
+def got(tag, value):
+    return wire.reply(tag, fields=wire.field(wire.scalar(wire.I4, value)))
+
+
+def table(value=None, next=2):
+    """The dump of a store with object 1, whose Count was put."""
+    cell = "" if value is None else "cell %s 1 - 0300%s\n" % (store.guid_text(FACE), struct.pack("<i", value).hex())
+    return f"next {next}\nobject 1 {store.guid_text(CLASS)}\n{cell}"
+
+
+# a store of the small library with object 1, whose Count is 7, in two groups, and its dump
+PUT_7 = put_of(7)
+TWO, ONE = bytes(store.add(bytearray(NEW), CREATED_1, PUT_7)), table(7)
+# the same store in format 1, as a program of before has left it
+OLD = bytes(store.add(store.formatted_before(SMALL_TEXT), CREATED_1, PUT_7))
+
+
+def changed(disk, at, *bytes):
+    """The same disk with other bytes from one place on."""
+    disk = bytearray(disk)
+    disk[at : at + len(bytes)] = bytes
+    return disk
+
+
+def text_put(value, tag=1):
+    """The event that puts a text into object 1 of the full library, and the request."""
+    name = struct.pack("<I", 1) + FACE + struct.pack("<iH", TEXT_NAME, 0)
+    return b"\3" + name + struct.pack("<HI", 8, len(value)) + value, wire.put(tag, 1, TEXT_NAME, wire.scalar(wire.BSTR, value))
+
+
+def words(*more):
+    return ["serve", "it.store", "lib.idl", *more]
+
+
+class Served(Cases):
+    def serves(self, name, given, status, out, err, disk, left, *more, library=SMALL, **how):
+        """A session over a store, and what it leaves."""
+        self.leaves(f"serve: {name}", words(*more), status, out, err, {"lib.idl": library, "it.store": disk}, {"it.store": bytes(left)}, given=given, **how)

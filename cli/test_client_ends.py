@@ -1,0 +1,231 @@
+"""How sessions end, and what comes of a program that is behind a socket."""
+import contextlib
+import os
+import pathlib
+import re
+import shutil
+import signal
+import socket
+import subprocess
+import sys
+import tempfile
+import threading
+import time
+import unittest
+
+from clients import FULL, PROGRAM, ROOT, ClientCases, library_of, oaut, play
+from oaut import I4
+
+ACTIVATE = shutil.which("systemd-socket-activate")
+LISTENERS = {
+    "systemd-socket-activate": lambda path, words: [ACTIVATE, "--accept", "--inetd", "-l", path, *words],
+    "socat": lambda path, words: ["socat", f"UNIX-LISTEN:{path},fork", "EXEC:" + " ".join(words)],
+}
+
+
+@contextlib.contextmanager
+def dialled(path):
+    """A socket that is connected to this path, once something listens there."""
+    until = time.monotonic() + 300
+    while True:
+        with socket.socket(socket.AF_UNIX) as sock:
+            sock.settimeout(300)
+            try:
+                sock.connect(path)
+            except (FileNotFoundError, ConnectionRefusedError):
+                if time.monotonic() > until:
+                    raise
+                time.sleep(0.02)
+                continue
+            yield sock
+            return
+
+
+@contextlib.contextmanager
+def connected(path):
+    """A session over such a socket."""
+    with dialled(path) as sock, oaut.connect(sock) as server:
+        yield server
+
+
+@contextlib.contextmanager
+def listening(words):
+    """What listens, as long as this lasts."""
+    with subprocess.Popen(words, stdin=subprocess.DEVNULL, stdout=subprocess.DEVNULL, stderr=subprocess.DEVNULL) as child:
+        try:
+            yield
+        finally:
+            child.terminate()
+
+
+def counted(path):
+    """Puts the next number into the one object, which is made where it is not there. A connection that comes while the process of the one
+    before still has the store is turned away, and made again."""
+    until = time.monotonic() + 300
+    while True:
+        try:
+            with connected(path) as server:
+                item = next(iter(server.objects()), None) or server.create("Item")
+                item.Count = item.Count + 1
+                return int(item.Count)
+        except oaut.Stopped:
+            if time.monotonic() > until:
+                raise
+            time.sleep(0.02)
+
+
+class Ends(ClientCases):
+    def test_a_program_that_is_killed(self):
+        server = play(FULL)
+        item = server.create("Item")
+        os.kill(server._child.pid, signal.SIGKILL)
+        server._child.wait()
+        self.raises("a child that was killed", oaut.Stopped, lambda: item.Count, status=-signal.SIGKILL, fault=None)
+        self.raises("a session that has ended", oaut.Stopped, lambda: item.Count, status=-signal.SIGKILL)
+        server.close()
+        server = play(FULL)
+        item = server.create("Item")
+        os.kill(server._child.pid, signal.SIGKILL)
+        server._child.wait()
+        try:
+            with server.batch():
+                for _ in range(5_000):
+                    item.Count = 1
+            self.tell("a child that was killed before a batch", False, "no exception")
+        except oaut.Stopped as end:
+            self.same("a child that was killed before a batch", end.status, -signal.SIGKILL)
+        server = play(FULL)
+        server.close()
+        self.raises("a session that was closed", oaut.Stopped, lambda: server.create("Item"))
+
+    def test_what_is_refused_at_the_start(self):
+        with library_of("properties: long Count;") as library:
+            end = self.raises("a library that is refused", oaut.Stopped, lambda: play(library), status=2)
+            self.tell("its fault line", (end.fault or "").startswith("oaut: syntax at byte "), end.fault)
+        self.raises("a library that is not there", oaut.Stopped, lambda: play("/none.idl"), status=1, fault="oaut: cannot read /none.idl")
+        for program in ("/none/oaut", "no-such-oaut", FULL + "/oaut", ["no-such-ssh", "host", "oaut"]):
+            name = program if isinstance(program, str) else program[0]
+            says = f"there is no program {name}: name it by program=, or have it on the path"
+            self.raises(f"the program {program}", oaut.ProgramNotFound, lambda: oaut.play(FULL, program=program), says, status=None, fault=None)
+        self.tell("it is a Stopped and a FileNotFoundError", issubclass(oaut.ProgramNotFound, oaut.Stopped) and issubclass(oaut.ProgramNotFound, FileNotFoundError))
+        with tempfile.TemporaryDirectory() as room:
+            self.raises("a store by no program", oaut.ProgramNotFound, lambda: oaut.make_store(f"{room}/it.store", FULL, program="no-such-oaut"))
+            self.raises("a folder as a program", oaut.Stopped, lambda: oaut.play(FULL, program=room), f"the program {room} cannot be started: Permission denied")
+        self.raises("no words", ValueError, lambda: oaut.play(FULL, program=[]))
+
+    def test_a_program_of_several_words(self):
+        with oaut.play(FULL, program=["env", "A=B", PROGRAM]) as server:
+            self.same("a session by the words of a command line", int(server.create("Item").Count), 0)
+        with tempfile.TemporaryDirectory() as room:
+            oaut.make_store(pathlib.Path(room, "it.store"), pathlib.Path(FULL), program=pathlib.Path(PROGRAM))
+            with oaut.serve(pathlib.Path(room, "it.store"), pathlib.Path(FULL), program=["env", PROGRAM]) as server:
+                self.same("paths as words", server.objects(), [])
+
+    def test_a_socket(self):
+        ours, theirs = socket.socketpair()
+        with subprocess.Popen([PROGRAM, "play", FULL], stdin=theirs, stdout=theirs) as child:
+            theirs.close()
+            with oaut.connect(ours) as server:
+                item = server.create("Item")
+                with server.batch():
+                    for number in range(2_000):
+                        item.Count = number
+                self.same("a session over a socket", item.Count, I4(1_999))
+                ours.shutdown(socket.SHUT_WR)
+                self.raises("a socket whose server ends", oaut.Stopped, lambda: item.Count, "the server has ended")
+            self.same("the server's status", child.wait(300), 0)
+        ours.close()
+
+    def test_a_server_that_does_not_answer(self):
+        long = [oaut.ask_invoke(1, 1, 4, (-3,), (oaut.spell("a" * 131_072),))] * 8
+        over = {
+            "a socket": lambda it: oaut.connect(it, timeout=0.05),
+            "streams": lambda it: oaut.connect(it.makefile("rb"), it.makefile("wb"), timeout=0.05),
+        }
+        # (what was written to streams and nobody reads, nobody can take back)
+        for name, asks, how in (("a get", [oaut.ask_type_info(0)], "a socket"), ("a get", [oaut.ask_type_info(0)], "streams"), ("too much", long, "a socket")):
+            ours, theirs = socket.socketpair()
+            with theirs, ours:
+                server, begun = over[how](ours), time.monotonic()
+                self.raises(f"{name} over {how}", oaut.TimedOut, lambda: server._exchange(asks), "no answer within 0.05 seconds", status=None, fault=None)
+                self.raises(f"{name} over {how}, and behind it", oaut.TimedOut, lambda: server.create("Item"))
+                self.tell(f"{name} over {how} takes no longer", time.monotonic() - begun < 5, time.monotonic() - begun)
+                server.close()
+        self.tell("it is a Stopped and a TimeoutError", issubclass(oaut.TimedOut, oaut.Stopped) and issubclass(oaut.TimedOut, TimeoutError))
+
+    def test_a_program_that_does_not_answer(self):
+        for name, act in (("a get", lambda item: item.Count), ("a batch", lambda item: item._server._exchange([oaut.ask_type_info(0)] * 100_000))):
+            server = oaut.play(FULL, program=PROGRAM, timeout=60)
+            item = server.create("Item")
+            item.Count = 7
+            with server.batch():
+                later = item.Count
+            self.same(f"{name}: in time", later.value, I4(7))
+            os.kill(server._child.pid, signal.SIGSTOP)
+            server._timeout = server._reader.raw._timeout = 0.2
+            self.raises(f"{name} of a program that is stopped", oaut.TimedOut, lambda: act(item), "no answer within 0.2 seconds")
+            self.same(f"{name}: the program is killed", server._child.returncode, -signal.SIGKILL)
+            server.close()
+
+    @unittest.skipIf(ACTIVATE is None, "systemd-socket-activate is not there")
+    def test_clients_that_are_silent_are_let_go(self):
+        """Each session leaves a line. The program is `cat`, which answers each record by itself."""
+        with tempfile.TemporaryDirectory() as room, open(f"{room}/said", "wb+") as said:
+            words = [ACTIVATE, "-l", f"{room}/queue", sys.executable, f"{ROOT}/examples/one_at_a_time.py", "--idle", "0.5"]
+            for lines, records in (([], b"\3\0\0\0abc\1\0\0\0x"), (["--hex"], b"00\n01\n02\n")):
+                if os.path.exists(f"{room}/queue"):
+                    os.unlink(f"{room}/queue")
+                with subprocess.Popen([*words, "sh", "-c", "exec cat", *lines], stdin=subprocess.DEVNULL, stderr=said) as child:
+                    try:
+                        for ends in (True, False):
+                            with dialled(f"{room}/queue") as sock:
+                                sock.sendall(records)
+                                if ends:
+                                    sock.shutdown(socket.SHUT_WR)
+                                got = b"".join(iter(lambda: sock.recv(100), b""))
+                                self.same(f"what a client is answered {lines} {ends}", got, records)
+                        until = time.monotonic() + 20
+                        while pathlib.Path(room, "said").read_text().count("status") < (4 if lines else 2) and time.monotonic() < until:
+                            time.sleep(0.02)
+                    finally:
+                        child.terminate()
+            said.seek(0)
+            told = re.findall(r"^process \d+ of user \d+: [\d.]+ s, (.*)$", said.read().decode(), re.MULTILINE)
+            wanted = ["2 requests, status 0", "2 requests, status 0, idle for 0.5 s", "3 requests, status 0", "3 requests, status 0, idle for 0.5 s"]
+            self.same("the lines about the sessions", told, wanted)
+
+    def test_listeners(self):
+        for name, listener in LISTENERS.items():
+            if shutil.which(name) is None:
+                print(f"{name} is not there: no session behind it")
+                continue
+            with tempfile.TemporaryDirectory() as room:
+                oaut.make_store(f"{room}/it.store", FULL, program=PROGRAM)
+                for word, words, wanted in (("play", [PROGRAM, "play", FULL], [1, 1, 1]), ("serve", [PROGRAM, "serve", f"{room}/it.store", FULL], [1, 2, 3])):
+                    path = f"{room}/{word}.socket"
+                    with listening(listener(path, words)):
+                        self.same(f"three connections to {name} with `oaut {word}`", [counted(path) for _ in wanted], wanted)
+
+    def test_one_client_after_another(self):
+        if ACTIVATE is not None:
+            with tempfile.TemporaryDirectory() as room:
+                # the next client waits in the queue of a listening socket that is handed over
+                oaut.make_store(f"{room}/it.store", FULL, program=PROGRAM)
+                words = [sys.executable, f"{ROOT}/examples/one_at_a_time.py", PROGRAM, "serve", f"{room}/it.store", FULL]
+                with listening([ACTIVATE, "-l", f"{room}/queue", *words]):
+                    told = []
+
+                    def second():
+                        with connected(f"{room}/queue") as server:
+                            told.append(server.object(1, "Item").Count)
+
+                    with connected(f"{room}/queue") as server:
+                        item = server.create("Item")
+                        waiting = threading.Thread(target=second)
+                        waiting.start()
+                        for number in range(100):
+                            item.Count = number
+                            time.sleep(0.001)
+                        early = list(told)
+                    waiting.join(300)
+                    self.same("a client that waits until the one before has gone", [early, told], [[], [99]])

@@ -1,0 +1,116 @@
+"""What the client sends and what it makes of replies, over streams that are given."""
+import io
+import struct
+
+from clients import ASKED, DONE, K, LIBRARY, SEVEN, ClientCases, Kept, answer, hexed, item_of, oaut, scripted
+from oaut import I2, I4
+
+STANDARD = """DISP_E_UNKNOWNINTERFACE 80020001 DISP_E_MEMBERNOTFOUND 80020003 DISP_E_PARAMNOTFOUND 80020004 DISP_E_TYPEMISMATCH 80020005
+DISP_E_UNKNOWNNAME 80020006 DISP_E_BADVARTYPE 80020008 DISP_E_OVERFLOW 8002000A DISP_E_BADINDEX 8002000B DISP_E_ARRAYISLOCKED 8002000D
+DISP_E_BADPARAMCOUNT 8002000E DISP_E_PARAMNOTOPTIONAL 8002000F E_NOTIMPL 80004001 E_NOINTERFACE 80004002 E_FAIL 80004005 E_UNEXPECTED 8000FFFF
+E_OUTOFMEMORY 8007000E E_INVALIDARG 80070057 RPC_E_DISCONNECTED 80010108 REGDB_E_CLASSNOTREG 80040154 STG_E_WRITEFAULT 8003001D
+STG_E_READFAULT 8003001E STG_E_MEDIUMFULL 80030070""".split()
+NAMED = {int(code, 16): name for name, code in zip(STANDARD[::2], STANDARD[1::2])}
+PUT_, FILL_ = b"04000000", b"0a000000"
+
+
+def sent_in_groups(size, *exchanges):
+    """Opcodes of what is sent to a server with groups of a size, in some exchanges of puts, or of what else is to be sent."""
+    sent = Kept()
+    server = oaut.Server(io.BytesIO(), sent, "lines", size)
+    server._library = LIBRARY
+    server._read = lambda: b"\0\0\0\0" + DONE
+    server._skip = lambda count: None
+    server._wrong_tag = lambda body: None
+    for exchange in exchanges:
+        server._exchange(exchange if isinstance(exchange, list) else [oaut.ask_invoke(1, 1, 4, (-3,), (oaut.spell(I4(7)),))] * exchange)
+    return [line[8:16] for line in sent.getvalue().splitlines()]
+
+
+class Records(ClientCases):
+    def test_requests_and_replies(self):
+        for framing in ("lines", "raw"):
+            for name, act, sent, reply, wanted in ASKED:
+                server = scripted(reply, framing=framing)
+                got = act(server)
+                server.close()
+                self.same(f"{name} over {framing}: its answer", got, wanted)
+                self.same(f"{name} over {framing}: its bytes", server._writer.content, oaut.FRAMINGS[framing].pack([b"\1\0\0\0" + hexed(sent)]))
+
+    def test_codes(self):
+        self.same("the codes and their names", {**NAMED, 0x8007_06F7: "bad stub data"}, {code: of.name for code, of in oaut.CODES.items()})
+        for code, of in oaut.CODES.items():
+            self.raises(f"{of.name} by its exception", of, lambda: item_of(scripted(answer(code=code, index=1))).Count, code=code, index=1)
+            self.raises(f"{of.name} without an index", of, lambda: item_of(scripted(answer(code=code))).Count, code=code, index=None, argument=None)
+        self.raises("a code without a name", oaut.Refused, lambda: item_of(scripted(answer(code=0x8123_4567))).Count, code=0x8123_4567)
+        self.raises("which argument is at fault", oaut.TypeMismatch, lambda: item_of(scripted(answer(code=0x8002_0005, index=1))).Cell(5, Key="k"), argument="Row")
+        self.tell("a mismatch is a TypeError", issubclass(oaut.TypeMismatch, TypeError) and issubclass(oaut.BadIndex, IndexError))
+
+    def test_streams_that_are_none(self):
+        other = oaut.connect(io.BytesIO(oaut.Lines.pack([b"\7\0\0\0" + DONE, b"\7\0\0\0" + DONE])), Kept(), "lines")
+        other._library = LIBRARY
+        self.raises("a reply of another tag", oaut.Malformed, lambda: item_of(other).release())
+        self.raises("a session after it", oaut.Stopped, lambda: item_of(other).release())
+        ended = oaut.connect(io.BytesIO(oaut.Lines.pack([bytes(4) + answer(code=0x8007_06F7)])), Kept(), "lines")
+        ended._library = LIBRARY
+        self.raises("a stream that is refused", oaut.Stopped, lambda: item_of(ended).release(), status=None, fault=None)
+        self.raises("a stream that ends", oaut.Stopped, lambda: item_of(scripted()).release())
+        self.raises("fields too many", oaut.Malformed, lambda: item_of(scripted(answer(SEVEN))).release())
+        self.raises("fields behind a value", oaut.Malformed, lambda: item_of(scripted(answer(SEVEN + "00000000 00000000"))).Count)
+        self.raises("fields behind a number", oaut.Malformed, lambda: scripted(answer("01000000 00000000 00000000")).create("Item"))
+        self.raises("a value cut off", oaut.Malformed, lambda: item_of(scripted(answer(SEVEN[:-2]))).Count)
+        self.raises("fields too few", oaut.Malformed, lambda: item_of(scripted(DONE)).Count)
+        for cut in range(1, 20):
+            whole = oaut.Raw.pack([b"\1\0\0\0" + DONE])
+            short = oaut.connect(io.BytesIO(whole[:cut]), Kept(), "raw")
+            short._library = LIBRARY
+            self.raises(f"a raw stream that ends after {cut} bytes", oaut.Malformed, lambda: item_of(short).release())
+        not_hex = oaut.connect(io.BytesIO(b"0g\n"), Kept(), "lines")
+        not_hex._library = LIBRARY
+        self.raises("a line that is no digits", oaut.Malformed, lambda: item_of(not_hex).release())
+        self.raises("a body too long", ValueError, lambda: setattr(item_of(scripted()), "Any", ["a" * (oaut.TEXT_LIMIT // 2)] * 16))
+
+    def test_tags(self):
+        rising = scripted(DONE, DONE, answer(SEVEN))
+        with rising.batch():
+            item_of(rising).Count = 6
+            item_of(rising).Count = 7
+        self.same("tags go on behind a batch", item_of(rising).Any, I4(7))
+        last = oaut.connect(io.BytesIO(oaut.Lines.pack([b"\xff" * 4 + DONE, bytes(4) + answer(SEVEN)])), Kept(), "lines")
+        last._library, last._tag = LIBRARY, 0xFFFF_FFFF
+        item_of(last).Count = 7
+        self.same("tags begin again from 0", item_of(last).Any, I4(7))
+
+    def test_groups(self):
+        # a server that commits three requests together holds replies back until it has three: the client fills its group
+        fill = struct.pack("<III", oaut.BadIndex.code, oaut.NO_INDEX, 0)
+        told = [b"\1\0\0\0" + DONE, oaut.session._FILL[:4] + fill, oaut.session._FILL[:4] + fill, b"\2\0\0\0" + answer(SEVEN)]
+        grouped = oaut.connect(io.BytesIO(oaut.Lines.pack(told)), Kept(), "lines", group=3)
+        grouped._library = LIBRARY
+        item_of(grouped).Count = 7
+        self.same("a get behind a filled group", item_of(grouped).Any, I4(7))
+        grouped.close()
+        lines = grouped._writer.content.splitlines()
+        self.same("a group is filled by requests that change nothing", [line[8:16] for line in lines], [PUT_, FILL_, FILL_] * 2)
+
+    def test_groups_are_filled(self):
+        self.same("a batch as long as a group needs none", sent_in_groups(3, 3), [PUT_] * 3)
+        self.same("the last of several groups is filled", sent_in_groups(3, 4, 5), [PUT_] * 4 + [FILL_] * 2 + [PUT_] * 5 + [FILL_])
+        long_put = [oaut.ask_invoke(1, 2, 4, (-3,), (oaut.spell("a" * 131_072),))]
+        self.same("where a group may have ended by its bytes, it is filled wherever it began", [len(sent_in_groups(3, *([long_put] * 3))), len(sent_in_groups(3, long_put * 3))], [9, 5])
+        redim = [oaut.ask_call(oaut.REDIM, 1, 3, 2, (), ()) + struct.pack("<Ii", 65_536, 0)]
+        self.same("a REDIM may make more", [len(sent_in_groups(3, redim)), len(sent_in_groups(3, redim, 3))], [3, 8])
+
+    def test_libraries(self):
+        self.same("names fold A to Z alone", [oaut.fold(it) for it in ("aZ_9", "\u0131\u00df\u00e9a")], ["AZ_9", "\u0131\u00df\u00e9A"])
+        members = LIBRARY.members(LIBRARY.interfaces[0])
+        self.same("members", list(members), "COUNT NAME PRICE EXACT FLAG VERSION ANY GRID CELL CLEAR".split())
+        self.same("a property of two forms", [(it.name, it.vt, it.default) for it in members["CELL"].parameters], [("Row", 3, None), ("Key", 8, None), ("Page", 2, I2(1))])
+        self.same("what can be put", [name for name, it in members.items() if it.can_put], "COUNT NAME PRICE EXACT FLAG ANY GRID CELL".split())
+        self.raises("no such coclass", LookupError, lambda: LIBRARY.coclass("None"))
+        self.raises("no such member", AttributeError, lambda: item_of(scripted()).Cuont)
+        self.raises("no such member to put", AttributeError, lambda: setattr(item_of(scripted()), "Cuont", 1))
+        self.raises("no such parameter", TypeError, lambda: item_of(scripted()).Cell(Rwo=1))
+        self.raises("a parameter twice", TypeError, lambda: item_of(scripted()).Cell(5, Row=5))
+        self.raises("an own word is no member", AttributeError, lambda: setattr(item_of(scripted()), "number", 5))
+        self.tell("members in dir", {"Count", "Cell", "Clear", "release"} <= set(dir(item_of(scripted()))))

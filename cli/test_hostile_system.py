@@ -1,0 +1,144 @@
+"""A system that does the least that it may: reads and writes that bring a byte at a time, or nothing, and reads that are interrupted for ever."""
+import os
+import re
+import struct
+import subprocess
+import tempfile
+import unittest
+
+import wire
+from wire import oaut
+import store
+import worked
+from asked import Answering
+from calls import STRACE, each_fails
+from codes import WRITE_FAULT
+from fuzz import known_stores
+from model import BSTR, LIBRARY
+from preloaded import COMPILER, Preloaded, StoreFile
+from running import CREATE, CREATED, PROGRAM, SMALL, Cases, fault, fill, run_in
+from test_hostile import stub, tagged
+from test_sessions import LINE_LIMIT
+
+READ_CALLS = 2 * LINE_LIMIT  # of one record or line
+
+
+@unittest.skipUnless(COMPILER, "cc is not there")
+class Bytewise(Cases):
+    def test_a_line_as_long_as_it_may_be(self):
+        """A byte a read, and a CR and an LF behind it."""
+        with Preloaded() as preloaded:
+            preloaded.fill("lib.idl", SMALL)
+            given = b"0" * LINE_LIMIT + b"\r\n" + CREATE + b"\n"
+            preloaded.fill("given", given)
+            got = preloaded.run(["play", "--hex", preloaded.path("lib.idl")], "given", short=1)
+            wanted = stub(bytes(LINE_LIMIT // 2)).hex().encode() + b"\n" + CREATED + b"\n"
+            self.tell("the longest line, a byte a read", (got[:3], got.reads >= len(given)) == ((0, wanted, b""), True), (got[0], got[1][:80], got[2], got.reads))
+
+    def test_a_record_as_long_as_it_may_be(self):
+        with Preloaded() as preloaded:
+            preloaded.fill("lib.idl", SMALL)
+            body = struct.pack("<I", 7) + bytes(LINE_LIMIT // 2 - 4)
+            preloaded.fill("given", oaut.Raw.pack([body, bytes.fromhex(CREATE.decode())]))
+            got = preloaded.run(["play", preloaded.path("lib.idl")], "given", short=1)
+            self.tell("the longest record, a byte a read", got[:3] == (0, oaut.Raw.pack([stub(body), bytes.fromhex(CREATED.decode())]), b""), (got[0], got[1][:80], got[2], got.reads))
+
+    def test_reads_that_are_interrupted_for_ever(self):
+        with Preloaded() as preloaded:
+            preloaded.fill("lib.idl", SMALL)
+            for words in ([], ["--hex"]):
+                got = preloaded.run(["play", *words, preloaded.path("lib.idl")], interrupted=1)
+                self.tell(f"reads are interrupted for ever, {words or 'records'}", (got[:3], got.reads) == ((1, b"", fault("read fault")), READ_CALLS), got)
+
+    def test_files_a_byte_at_a_time(self):
+        """Each call of the store's file brings a byte, or a few: the file is the same as where they bring all."""
+        bodies = tagged([*worked.CREATED, *worked.SCALAR_PROPERTIES, worked.put(worked.NAME, wire.scalar(BSTR, bytes(range(256)) * 40)), *worked.ARRAYS])
+        answering = Answering()
+        due = oaut.Raw.pack(map(answering.reply, bodies))
+        with Preloaded() as preloaded:
+            preloaded.fill("lib.idl", LIBRARY)
+            preloaded.fill("given", oaut.Raw.pack(bodies))
+            path, lib = preloaded.path("it.store"), preloaded.path("lib.idl")
+            left = {}
+            for most in (0, 1, 3, 4_095):
+                with open(path, "wb") as file:
+                    file.truncate(store.length_of(store.BANK))
+                for words, given, wanted in (
+                    (["format", path, lib], "nothing", b"formatted\n"),
+                    (["serve", "--group", "3", path, lib], "given", due),
+                    (["serve", path, lib], "nothing", b""),
+                ):
+                    got = preloaded.run(words, given, short=most)
+                    self.tell(f"{words[0]}: at most {most} bytes a call", (got[:3], got.left) == ((0, wanted, b""), 0), (got[0], got[1][:80], got[2], got.left))
+                now = StoreFile(path)
+                left[most] = now.now()
+                got = preloaded.run(["dump", path], short=most)
+                self.tell(f"dump: at most {most} bytes a call", got[:3] == (0, now.dump().encode(), b""), (got[0], got[2]))
+                self.tell(f"what at most {most} bytes a call leave", left[most] == left[0])
+
+
+FORMAT = ["format", "it.store", "lib.idl"]
+
+
+@unittest.skipUnless(STRACE, "strace is not there: no call of the system is made to fail")
+class Injected(Cases):
+    def synced(self, room, words, cwd=None):
+        """The paths that a command syncs, in order."""
+        log = f"{room}/calls"
+        subprocess.run([STRACE, "-f", "-y", "-o", log, "-e", "trace=fsync,fdatasync", PROGRAM, *words], cwd=cwd or room, check=True, stdout=subprocess.DEVNULL)
+        with open(log) as file:
+            return re.findall(r"f(?:data)?sync\(\d+<([^>]*)>", file.read())
+
+    def test_the_folder_that_is_synced(self):
+        """It is the one that the store's file is in, whatever path leads there."""
+        with tempfile.TemporaryDirectory() as room:
+            room = os.path.realpath(room)
+            fill(room, {"lib.idl": SMALL})
+            for name in ("in", "in/deep", "else"):
+                os.mkdir(f"{room}/{name}")
+            os.symlink("in/deep", f"{room}/link")
+            for path, folder in (("it.store", room), ("in/it.store", f"{room}/in"), ("./in/../else/it.store", f"{room}/else"), (f"{room}/in/deep/it.store", f"{room}/in/deep"), ("link/other.store", f"{room}/in/deep")):
+                made = self.synced(room, ["format", path, "lib.idl"])
+                found = os.path.realpath(f"{room}/{path}" if not path.startswith("/") else path)
+                self.tell(f"format {path}: the folder is synced behind the file, and nothing else", ({*made}, made.index(folder) > made.index(found) if folder in made and found in made else None) == ({found, folder}, True), made)
+                again = self.synced(room, ["format", path, "lib.idl"])
+                self.tell(f"format {path} again: its folder has the name", folder not in again, again)
+
+    def test_writes_that_bring_a_byte(self):
+        """The next write begins behind what was written, as strace shows; and so do reads."""
+        with tempfile.TemporaryDirectory() as room:
+            fill(room, {"lib.idl": SMALL})
+            with open(f"{room}/it.store", "wb") as file:
+                file.truncate(store.length_of(store.BANK))
+            self.goes_on(room, "pwrite64", FORMAT)
+            run_in(room, FORMAT)
+            self.goes_on(room, "pread64", ["dump", "it.store"])
+
+    def goes_on(self, room, name, words):
+        log = f"{room}/calls"
+        for when in range(1, 9):
+            subprocess.run([STRACE, "-f", "-y", "-s", "0", "-o", log, "-e", f"trace={name}", "-e", f"inject={name}:retval=1:when={when}", PROGRAM, *words], cwd=room, stdout=subprocess.DEVNULL, stderr=subprocess.DEVNULL)
+            with open(log) as file:
+                made = [(int(length), int(place)) for length, place in re.findall(rf"{name}\(\d+<[^>]*/it.store>.*, (\d+), (\d+)\)", file.read())]
+            if len(made) < when:
+                break
+            length, place = made[when - 1]
+            if length > 1:
+                self.tell(f"{words[0]}: the {name} of {length} bytes at {place} brings one", made[when : when + 1] == [(length - 1, place + 1)], made[when - 1 : when + 1])
+
+    def test_writes_and_reads_that_bring_nothing(self):
+        asked = oaut.Raw.pack(tagged([oaut.ask_create(worked.ITEM)]))
+        with tempfile.TemporaryDirectory() as room:
+            files, _ = known_stores(room)
+            files[0][0].lay()
+            with open(f"{room}/it.store", "rb") as file:
+                held = file.read()
+        failed = struct.pack("<III", WRITE_FAULT, oaut.NO_INDEX, 0)
+
+        def judge(place, what, answer, _):
+            if what[0] == "read":
+                self.tell(f"serve: the call {place}, {what}, reads nothing", answer == (1, b"", fault("device fault 0x8003001e")), answer)
+            elif what[0] == "write":
+                self.tell(f"serve: the call {place}, {what}, writes nothing", answer == (0, oaut.Raw.pack([asked[4:8] + failed]), b""), answer)
+
+        each_fails(["serve", "it.store", "lib.idl"], {"lib.idl": LIBRARY, "it.store": held}, judge, "retval=0", given=asked)

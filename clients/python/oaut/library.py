@@ -1,0 +1,202 @@
+"""What a server's type library says: descriptions of interfaces and coclasses, and their members by name."""
+from __future__ import annotations
+
+import typing
+import uuid
+
+from .faults import Malformed
+from .records import METHOD, NEW_VALUE, PROPERTYGET, PROPERTYPUT, Fields, read_text_value, read_value
+from .values import _BSTR, _VARIANT, ARRAY, VOID
+from .wire import read_field, spell
+
+IN, OPTIONAL, HAS_DEFAULT, READ_ONLY, DEFAULT_INTERFACE = 1, 0x10, 0x20, 1, 1
+KIND_INTERFACE, KIND_COCLASS = 4, 5
+_TYPE_WORDS = {
+    **{2: "short", 3: "long", 6: "CURRENCY", 8: "BSTR", 10: "SCODE", 11: "VARIANT_BOOL", 12: "VARIANT", 14: "DECIMAL"},
+    **{16: "char", 17: "unsigned char", 18: "unsigned short", 19: "unsigned long", 20: "hyper", 21: "unsigned hyper"},
+    **{22: "int", 23: "unsigned int", VOID: "void"},
+}
+
+Which = typing.Union[str, uuid.UUID]
+
+
+def type_word(vt: int) -> str:
+    """A type as a library text spells it."""
+    word = _TYPE_WORDS.get(vt & ~ARRAY, f"type {vt}")
+    return f"SAFEARRAY({word})" if vt & ARRAY else word
+
+
+class Parameter(typing.NamedTuple):
+    """A parameter as described; `default` is the value of its default, where flag 0x20 is set."""
+
+    vt: int
+    flags: int
+    name: str
+    default: typing.Any
+
+
+class Form(typing.NamedTuple):
+    """One form of a member as described: kind 0 from `properties:`, 1 a method, 2 a get, 4 a put, whose new value is its last
+    parameter."""
+
+    dispid: int
+    kind: int
+    flags: int
+    vt: int
+    name: str
+    parameters: typing.List[Parameter]
+
+
+class Interface(typing.NamedTuple):
+    """An interface as described."""
+
+    guid: uuid.UUID
+    name: str
+    forms: typing.List[Form]
+
+
+class Coclass(typing.NamedTuple):
+    """A coclass as described: pairs of flags (1: the default) and the index of an interface."""
+
+    guid: uuid.UUID
+    name: str
+    entries: typing.List[typing.Tuple[int, int]]
+
+
+Description = typing.Union[Interface, Coclass]
+
+
+def read_description(fields: bytes) -> Description:
+    """The Interface or Coclass of a reply to a TYPEINFO."""
+    at = Fields(fields)
+    kind, count = at.take("II")
+    guid, name = at.guid(), at.string()
+    found: Description
+    if kind == KIND_COCLASS:
+        found = Coclass(guid, name, [typing.cast(typing.Tuple[int, int], at.take("II")) for _ in range(count)])
+    elif kind == KIND_INTERFACE:
+        found = Interface(guid, name, [_read_form(at) for _ in range(count)])
+    else:
+        raise Malformed(f"no description has the kind {kind}")
+    at.end()
+    return found
+
+
+def _read_form(at: Fields) -> Form:
+    dispid, kind, flags, vt, count, _ = at.take("iHHHHI")
+    name = at.string()
+    parameters = []
+    for _ in range(count):
+        of, flag, _ = at.take("HHI")
+        parameters.append(Parameter(of, flag, at.string(), read_field(at.variant()) if flag & HAS_DEFAULT else None))
+    return Form(dispid, kind, flags, vt, name, parameters)
+
+
+def fold(name: str) -> str:
+    """A name as it is compared: A to Z are folded, and nothing else."""
+    return name.upper() if name.isascii() else "".join(it.upper() if "a" <= it <= "z" else it for it in name)
+
+
+class Member:
+    """A member of an interface, its get and its put joined: `vt` is the type of its value, `parameters` those before a put's new
+    value."""
+
+    __slots__ = ("name", "dispid", "interface", "vt", "parameters", "is_method", "can_get", "can_put", "read")
+
+    def __init__(self, forms: typing.Sequence[Form], interface: Interface) -> None:
+        first = forms[0]
+        self.name, self.dispid, self.interface = first.name, first.dispid, interface
+        put = next((form for form in forms if form.kind == PROPERTYPUT), None)
+        get = next((form for form in forms if form.kind in (0, PROPERTYGET)), None)
+        self.is_method = first.kind == METHOD
+        self.can_get = get is not None
+        self.can_put = put is not None or get is not None and get.kind == 0 and not get.flags & READ_ONLY
+        self.vt = put.parameters[-1].vt if put is first else first.vt
+        self.parameters = first.parameters[:-1] if first is put else first.parameters
+        self.read: typing.Callable[[bytes], typing.Any] = read_text_value if self.vt in (_BSTR, ARRAY + _BSTR) else read_value
+
+    def arguments(
+        self, positional: typing.Sequence[typing.Any], named: typing.Mapping[str, typing.Any], put: typing.Sequence[typing.Any] = ()
+    ) -> typing.Tuple[typing.List[int], typing.List[bytes], typing.List[str]]:
+        """The named DISPIDs, the fields in the order of rgvarg, and what stands where; `put` has the new value of a put."""
+        places = [self._place(name) for name in named]
+        for place in range(len(positional)):
+            if place in places:
+                raise TypeError(f"{self.name}: {self.parameters[place].name} is given twice")
+        told = [("the new value", self.vt, value) for value in put]
+        told += [(self.parameters[place].name, self.parameters[place].vt, value) for place, value in zip(places, named.values())]
+        for place in reversed(range(len(positional))):
+            # the server judges arguments beyond the parameters
+            of = self.parameters[place] if place < len(self.parameters) else Parameter(_VARIANT, 0, f"place {place}", None)
+            told.append((of.name, of.vt, positional[place]))
+        dispids = [NEW_VALUE] * len(put) + places
+        return dispids, [spell(value, vt) for _, vt, value in told], [name for name, _, _ in told]
+
+    def _place(self, name: str) -> int:
+        for place, parameter in enumerate(self.parameters):
+            if fold(parameter.name) == fold(name):
+                return place
+        raise TypeError(f"{self.name} has no parameter {name}")
+
+
+class Library:
+    """What the server's type library says: `interfaces`, `coclasses`, and the members of an interface by name."""
+
+    def __init__(self, descriptions: typing.Sequence[Description]) -> None:
+        self.interfaces = [it for it in descriptions if isinstance(it, Interface)]
+        self.coclasses = [it for it in descriptions if isinstance(it, Coclass)]
+        self._members: typing.Dict[str, typing.Dict[str, Member]] = {}
+        parameters = [it for interface in self.interfaces for form in interface.forms for it in form.parameters]
+        # what defaults may add to the event of one request
+        self._defaults = sum(len(spell(it.default, it.vt)) for it in parameters if it.flags & HAS_DEFAULT)
+
+    def coclass(self, which: Which) -> Coclass:
+        """The coclass of a name or a GUID (a UUID, or its text). Raises LookupError where there is none."""
+        found = self._find(self.coclasses, which)
+        if found is None:
+            raise LookupError(f"no coclass {which}; there are: {', '.join(it.name for it in self.coclasses)}")
+        return found
+
+    def interface(self, coclass: Coclass, which: typing.Optional[Which] = None) -> Interface:
+        """An interface of a coclass by name or GUID, its default one where none is given."""
+        own = [(flags, self.interfaces[index]) for flags, index in coclass.entries]
+        if which is None:
+            return next((it for flags, it in own if flags & DEFAULT_INTERFACE), own[0][1])
+        found = self._find([it for _, it in own], which)
+        if found is None:
+            raise LookupError(f"{coclass.name} has no interface {which}; there are: {', '.join(it.name for _, it in own)}")
+        return found
+
+    def members(self, interface: Interface) -> typing.Dict[str, Member]:
+        """The members by folded name, in the library's order."""
+        if interface.name not in self._members:
+            forms: typing.Dict[str, typing.List[Form]] = {}
+            for form in interface.forms:
+                forms.setdefault(fold(form.name), []).append(form)
+            self._members[interface.name] = {name: Member(them, interface) for name, them in forms.items()}
+        return self._members[interface.name]
+
+    def words_of(self, guid: uuid.UUID, dispid: typing.Optional[int]) -> str:
+        """A member of an interface, or a whole interface or coclass, in words: `Item.Cell of DItem, DISPID 9`."""
+        interface = self._find(self.interfaces, guid)
+        if interface is None:
+            coclass = self._find(self.coclasses, guid)
+            return f"the coclass {coclass.name}" if coclass is not None else f"{{{guid}}}"
+        if dispid is None:
+            return f"the interface {interface.name}"
+        name = next((it.name for it in interface.forms if it.dispid == dispid), "a member")
+        place = self.interfaces.index(interface)
+        owner = next((f"{it.name}." for it in self.coclasses if any(index == place for _, index in it.entries)), "")
+        return f"{owner}{name} of {interface.name}, DISPID {dispid}"
+
+    _D = typing.TypeVar("_D", Interface, Coclass)
+
+    @staticmethod
+    def _find(among: typing.Sequence[_D], which: Which) -> typing.Optional[_D]:
+        for it in among:
+            if isinstance(which, uuid.UUID):
+                if it.guid == which:
+                    return it
+            elif fold(it.name) == fold(which) or str(it.guid) == which.lower():
+                return it
+        return None

@@ -1,0 +1,233 @@
+"""Records (docs/records.md): a request is its bytes behind the tag, as a session picks the tags; a reply is read in parts."""
+from __future__ import annotations
+
+import struct
+import typing
+import uuid
+
+from .faults import Malformed
+from .values import NULL_BSTR
+from .wire import read_field
+
+BODY_LIMIT = 1_048_576
+NO_INDEX = 0xFFFF_FFFF
+CREATE, RELEASE, GETIDS, INVOKE, GETELEM, PUTELEM, REDIM, LOCK, UNLOCK, TYPEINFO, LIST, REPLACE = range(1, 13)
+_WORDS = "CREATE RELEASE GETIDS INVOKE GETELEM PUTELEM REDIM LOCK UNLOCK TYPEINFO LIST REPLACE".split()
+OPCODES: typing.Dict[int, str] = dict(enumerate(_WORDS, 1))
+METHOD, PROPERTYGET, PROPERTYPUT, PROPERTYPUTREF = 1, 2, 4, 8
+NEW_VALUE = -3
+# an interface of zeros stands for the coclass's default one
+DEFAULT = bytes(16)
+_TWO = struct.Struct("<II")
+_CALL = struct.Struct("<HHIi16s16xIHHII")
+_REPLY = struct.Struct("<IIII")
+# a reply with S_OK and no fields, behind its tag
+_DONE = _REPLY.pack(0, 0, NO_INDEX, 0)[4:]
+
+
+def padded(out: bytes) -> bytes:
+    """The bytes with zeros up to the next multiple of 8."""
+    return out + bytes(-len(out) % 8)
+
+
+def variant_field(field: bytes) -> bytes:
+    """A variant field of a record: the count of the value's bytes, a reserved number, the bytes, padding."""
+    return _TWO.pack(len(field), 0) + padded(field)
+
+
+def string_field(text: str) -> bytes:
+    """A string of a record: the count of its UTF-16 units, a reserved number, the units, padding."""
+    units = text.encode("utf-16-le", "surrogatepass")
+    return _TWO.pack(len(units) // 2, 0) + padded(units)
+
+
+def indices_field(indices: typing.Sequence[int]) -> bytes:
+    """The indices of an element: their count, a reserved number, the indices, padding."""
+    return padded(struct.pack(f"<II{len(indices)}i", len(indices), 0, *indices))
+
+
+def ask_create(coclass: uuid.UUID) -> bytes:
+    """A new object of the coclass with this GUID."""
+    return struct.pack("<HH", CREATE, 0) + coclass.bytes_le
+
+
+def ask_release(number: int) -> bytes:
+    """Gives an object up."""
+    return struct.pack("<HHII", RELEASE, 0, number, 0)
+
+
+def ask_ids(number: int, names: typing.Sequence[str], interface: bytes = DEFAULT, locale: int = 0) -> bytes:
+    """The DISPIDs of a member's name and of names of its parameters. `interface` is a GUID as it stands on the wire."""
+    head = struct.pack("<HHII16s16xII", GETIDS, 0, number, 0, interface, locale, len(names))
+    return head + b"".join(string_field(name) for name in names)
+
+
+def ask_call(
+    opcode: int,
+    number: int,
+    dispid: int,
+    flags: int,
+    named: typing.Sequence[int],
+    fields: typing.Sequence[bytes],
+    interface: bytes = DEFAULT,
+    locale: int = 0,
+) -> bytes:
+    """What an INVOKE, and each request on an array, begins with: the head and the arguments in the order of rgvarg. `named` are the
+    DISPIDs of the first of them, `fields` the bytes of each value."""
+    head = _CALL.pack(opcode, 0, number, dispid, interface, locale, flags, 0, len(fields), len(named))
+    return head + padded(struct.pack(f"<{len(named)}i", *named)) + b"".join([variant_field(it) for it in fields])
+
+
+def ask_invoke(
+    number: int,
+    dispid: int,
+    flags: int,
+    named: typing.Sequence[int],
+    fields: typing.Sequence[bytes],
+    interface: bytes = DEFAULT,
+    locale: int = 0,
+) -> bytes:
+    """An INVOKE: `flags` are METHOD, PROPERTYGET or PROPERTYPUT."""
+    return ask_call(INVOKE, number, dispid, flags, named, fields, interface, locale)
+
+
+def ask_type_info(index: int) -> bytes:
+    """The description of an interface or coclass."""
+    return struct.pack("<HHII", TYPEINFO, 0, index, 0)
+
+
+def ask_list() -> bytes:
+    """The live objects."""
+    return struct.pack("<HH", LIST, 0)
+
+
+def ask_replace(text: bytes) -> bytes:
+    """Another library in the place of the server's, of this text."""
+    # the pad counts from the body's start, and 16 bytes stand before the text
+    return struct.pack("<HHII", REPLACE, 0, len(text), 0) + padded(text)
+
+
+class Reply(typing.NamedTuple):
+    """A reply: `index` is None where no argument is named."""
+
+    tag: int
+    code: int
+    index: typing.Optional[int]  # type: ignore[assignment]
+    fields: bytes
+
+
+def read_reply(body: bytes) -> Reply:
+    """The reply of a body. Raises Malformed where it is none."""
+    if len(body) < 16:
+        raise Malformed(f"a reply has at least 16 bytes, this has {len(body)}")
+    tag, code, index, _ = _REPLY.unpack_from(body)
+    return Reply(tag, code, None if index == NO_INDEX else index, body[16:])
+
+
+class Fields:
+    """A cursor over a record's fields, whose parts stand at multiples of 4 or 8."""
+
+    __slots__ = ("data", "place")
+
+    def __init__(self, data: bytes, place: int = 0) -> None:
+        self.data = data
+        self.place = place
+
+    def take(self, form: str) -> typing.Tuple[typing.Any, ...]:
+        """The next numbers, in the words of struct."""
+        try:
+            found = struct.unpack_from("<" + form, self.data, self.place)
+        except struct.error as error:
+            raise Malformed("a record ends too early") from error
+        self.place += struct.calcsize("<" + form)
+        return found
+
+    def pad(self) -> None:
+        """Moves to the next multiple of 8."""
+        self.take(f"{-self.place % 8}x")
+
+    def padded_bytes(self, count: int) -> bytes:
+        """So many bytes, and their padding."""
+        (found,) = self.take(f"{count}s")
+        self.pad()
+        return typing.cast(bytes, found)
+
+    def guid(self) -> uuid.UUID:
+        """A GUID."""
+        return uuid.UUID(bytes_le=self.take("16s")[0])
+
+    def string(self) -> str:
+        """A string."""
+        count, _ = self.take("II")
+        return str(self.padded_bytes(2 * count), "utf-16-le", "surrogatepass")
+
+    def variant(self) -> bytes:
+        """A variant field."""
+        count, _ = self.take("II")
+        return self.padded_bytes(count)
+
+    def integers(self) -> typing.List[int]:
+        """A count and so many signed numbers, with padding."""
+        count, _ = self.take("II")
+        found = self.take(f"{count}i")
+        self.pad()
+        return list(found)
+
+    def end(self) -> None:
+        """Raises Malformed where something is left over."""
+        if self.place != len(self.data):
+            raise Malformed(f"{len(self.data) - self.place} bytes of a record are left over")
+
+
+def read_nothing(fields: bytes) -> None:
+    """The fields of a reply that has none."""
+    if fields:
+        raise Malformed("a reply has fields where none stand")
+
+
+def read_number(fields: bytes) -> int:
+    """An object's number, or the count of locks."""
+    at = Fields(fields)
+    number, _ = at.take("II")
+    at.end()
+    return int(number)
+
+
+def read_value(fields: bytes) -> typing.Any:
+    """The value of a reply to a get."""
+    count, _ = _TWO.unpack_from(fields) if len(fields) >= 8 else (-1, 0)
+    if count < 0 or len(fields) != 8 + count + -count % 8:
+        raise Malformed("a variant field does not fill its reply")
+    return read_field(fields[8 : 8 + count])
+
+
+def read_text_value(fields: bytes) -> typing.Any:
+    """The same where a BSTR is declared: None stands for the null text."""
+    value = read_value(fields)
+    return None if value is NULL_BSTR else value
+
+
+def read_ids(fields: bytes) -> typing.List[int]:
+    """The DISPIDs of names."""
+    at = Fields(fields)
+    found = at.integers()
+    at.end()
+    return found
+
+
+def read_objects(fields: bytes) -> typing.List[typing.Tuple[int, uuid.UUID]]:
+    """Pairs of an object's number and its coclass."""
+    at = Fields(fields)
+    count, _ = at.take("II")
+    found = [(int(at.take("II")[0]), at.guid()) for _ in range(count)]
+    at.end()
+    return found
+
+
+def read_lost(fields: bytes) -> typing.Tuple[uuid.UUID, typing.Optional[int]]:
+    """What a new library does not keep: the GUID of an interface or coclass, and a member's DISPID or None for the whole of it."""
+    at = Fields(fields)
+    guid = at.guid()
+    dispid, _ = at.take("iI")
+    at.end()
+    return guid, None if dispid == -1 else int(dispid)

@@ -1,0 +1,437 @@
+"""What a store's file holds, in either format, read by docs/store.md and docs/images.md alone: it shares no code with the crates.
+What a test makes of a store stands here too: new ones, groups that are added, checkpoints and upgrades.
+
+`read` answers a `Store`, or raises `NotAStore` or `Damaged`, whose text is that of the program's fault. `python3 -m oaut store` has
+commands over it (backup.py).
+"""
+from __future__ import annotations
+
+import functools
+import struct
+import typing
+
+# where the selector and the heads of the two banks stand, in both formats
+SELECTOR, HEADS = 4_096, (8_192, 16_785_408)
+# a store of format 1 is as long as this at least, and behind it stand the bodies of format 2
+LEAST = 33_562_624
+# how many bytes a bank's body has: in format 1, and in format 2 where nothing is said, and at most
+OLD_BANK, BANK, MOST_BANK = 16_777_184, 20_971_520, 1_073_741_824
+# magic, format, length of the library, length of the snapshot, the size of a bank and zeros: in format 1 all of these last are 0
+HEAD = struct.Struct("<8sIIII8s")
+EMPTY, NULL, I2, I4, CY, BSTR, ERROR, BOOL, VARIANT, DECIMAL = 0, 1, 2, 3, 6, 8, 10, 11, 12, 14
+I1, UI1, UI2, UI4, I8, UI8, INT, UINT = 16, 17, 18, 19, 20, 21, 22, 23
+ARRAY = 0x2000
+# numbers of a type, as struct names them
+NUMBERS = {I1: "b", UI1: "B", I2: "h", UI2: "H", I4: "i", UI4: "I", INT: "i", UINT: "I", I8: "q", UI8: "Q", CY: "q", ERROR: "I"}
+SIZES = {EMPTY: 0, NULL: 0, BOOL: 1, DECIMAL: 14, **{vt: struct.calcsize(form) for vt, form in NUMBERS.items()}}
+OF_ARRAYS = {I1, UI1, I2, UI2, I4, UI4, INT, UINT, I8, UI8, CY, BOOL, BSTR, VARIANT}
+NO_TEXT, TEXT_LIMIT, CELL_LIMIT, USED_UP = 0xFFFF_FFFF, 262_144, 65_536, 0xFFFF_FFFF
+
+
+# bytes, however they are held
+Data = typing.Union[bytes, bytearray, memoryview]
+
+
+class NotAStore(Exception):
+    """The bytes are no store: too few, or never formatted to the end."""
+
+    def __str__(self) -> str:
+        return "not a store"
+
+
+class Damaged(Exception):
+    """The place of the disk stands in it."""
+
+    def __str__(self) -> str:
+        return f"damaged at {self.args[0]}"
+
+
+class NoImage(Exception):
+    """Bytes that are the image of nothing, or an event that does not apply."""
+
+
+# a scalar is a pair of its type and the bytes of its content
+Scalar = typing.Tuple[int, bytes]
+Bound = typing.Tuple[int, int]
+
+
+class Array(typing.NamedTuple):
+    """The cells stand by their positions: contents, in an array of VARIANT scalars."""
+
+    vt: int
+    bounds: typing.List[Bound]
+    cells: typing.List[typing.Any]
+
+
+Value = typing.Union[Scalar, Array]
+# the place of a cell: an interface's GUID in wire order, a DISPID, and scalars
+Place = typing.Tuple[bytes, int, typing.Tuple[Scalar, ...]]
+Cells = typing.Dict[Place, Value]
+# of each object's number its class and its cells
+Objects = typing.Dict[int, typing.Tuple[bytes, Cells]]
+
+
+class Group(typing.NamedTuple):
+    """A group: the place of its gate, and how many events it has."""
+
+    place: int
+    events: int
+
+
+class Store(typing.NamedTuple):
+    """What a store holds, and where: the bank in use, the place of its closed gate, its groups, its format, where its body ends."""
+
+    library: bytes
+    next: int
+    objects: Objects
+    chosen: int
+    gate: int
+    groups: typing.List[Group]
+    format: int
+    end: int
+
+
+class Bytes:
+    """A cursor over bytes."""
+
+    def __init__(self, data: Data, place: int = 0, end: typing.Optional[int] = None) -> None:
+        self.data, self.place, self.end = data, place, len(data) if end is None else end
+
+    def take(self, count: int) -> bytes:
+        place, self.place = self.place, self.place + count
+        if self.place > self.end:
+            raise NoImage
+        return bytes(self.data[place : self.place])
+
+    def numbers(self, form: str) -> typing.Any:
+        return struct.unpack("<" + form, self.take(struct.calcsize("<" + form)))
+
+    def number(self, form: str) -> typing.Any:
+        return self.numbers(form)[0]
+
+
+def need(fact: object) -> None:
+    """Raises NoImage where a fact is none."""
+    if not fact:
+        raise NoImage
+
+
+# --- values
+
+
+def content(source: Bytes, vt: int) -> bytes:
+    """The content of a scalar of a type."""
+    if vt == BSTR:
+        count = source.take(4)
+        length = struct.unpack("<I", count)[0]
+        if length == NO_TEXT:
+            return count
+        need(length <= TEXT_LIMIT)
+        return count + source.take(length)
+    need(vt in SIZES)
+    found = source.take(SIZES[vt])
+    if vt == BOOL:
+        need(found[0] in (0, 1))
+    if vt == DECIMAL:
+        need(found[0] <= 28 and found[1] in (0, 1))
+    return found
+
+
+def scalar(source: Bytes) -> Scalar:
+    """A scalar."""
+    vt = source.number("H")
+    return vt, content(source, vt)
+
+
+def value(source: Bytes) -> Value:
+    """A value: a scalar or an array."""
+    vt = source.number("H")
+    if not vt & ARRAY:
+        return vt, content(source, vt)
+    of = vt - ARRAY
+    need(of in OF_ARRAYS)
+    count = source.number("H")
+    need(1 <= count <= 16)
+    bounds: typing.List[typing.Any] = [source.numbers("Ii") for _ in range(count)]
+    cells = cells_of(bounds)
+    need(cells <= CELL_LIMIT)
+    return Array(of, bounds, [scalar(source) if of == VARIANT else content(source, of) for _ in range(cells)])
+
+
+def cells_of(bounds: typing.Iterable[Bound]) -> int:
+    """How many cells some bounds have."""
+    count = 1
+    for size, _ in bounds:
+        count *= size
+    return count
+
+
+def scalar_image(it: Scalar) -> bytes:
+    """The image of a scalar."""
+    return struct.pack("<H", it[0]) + it[1]
+
+
+def value_image(it: Value) -> bytes:
+    """The image of a value."""
+    if not isinstance(it, Array):
+        return scalar_image(it)
+    head = struct.pack("<HH", ARRAY + it.vt, len(it.bounds)) + b"".join(struct.pack("<Ii", *bound) for bound in it.bounds)
+    return head + b"".join(scalar_image(cell) if it.vt == VARIANT else cell for cell in it.cells)
+
+
+def zero(vt: int) -> typing.Any:
+    """The zero of a type of cells."""
+    if vt == VARIANT:
+        return EMPTY, b""
+    return struct.pack("<I", NO_TEXT) if vt == BSTR else bytes(SIZES[vt])
+
+
+# --- places of cells
+
+
+def place_image(it: Place) -> bytes:
+    """The image of the place of a cell."""
+    guid, dispid, key = it
+    return guid + struct.pack("<iH", dispid, len(key)) + b"".join(map(scalar_image, key))
+
+
+def place(source: Bytes) -> Place:
+    """The place of a cell."""
+    guid = source.take(16)
+    dispid, count = source.numbers("iH")
+    return guid, dispid, tuple(scalar(source) for _ in range(count))
+
+
+def text_order(guid: bytes) -> bytes:
+    """A GUID in the order in which it is printed, so as a number of 128 bits."""
+    return guid[3::-1] + guid[5:3:-1] + guid[7:5:-1] + guid[8:]
+
+
+def guid_text(guid: bytes) -> str:
+    """A GUID as it is printed."""
+    digits = text_order(guid).hex()
+    return "-".join((digits[:8], digits[8:12], digits[12:16], digits[16:20], digits[20:]))
+
+
+@functools.lru_cache(maxsize=65_536)
+def rank(it: Scalar) -> typing.Tuple[typing.Any, ...]:
+    """What a scalar is compared by."""
+    vt, found = it
+    if vt == DECIMAL:
+        scale, minus, high, low = struct.unpack("<BBIQ", found)
+        return vt, minus, scale, high << 64 | low
+    if vt == BSTR:
+        return (vt, 0) if found == zero(BSTR) else (vt, 1, found[4:])
+    if vt in NUMBERS:
+        return vt, struct.unpack("<" + NUMBERS[vt], found)[0]
+    return vt, found
+
+
+def place_order(it: Place) -> typing.Tuple[bytes, int, typing.List[typing.Tuple[typing.Any, ...]]]:
+    """What the places of cells are ordered by."""
+    guid, dispid, key = it
+    return text_order(guid), dispid, [rank(one) for one in key]
+
+
+# --- tables and events
+
+
+def table(source: Bytes) -> typing.Tuple[int, Objects]:
+    """A next number, and of each object's number its class and its cells."""
+    next_number, count = source.numbers("II")
+    need(next_number > 0)
+    objects, last = {}, 0
+    for _ in range(count):
+        number, guid, size = source.number("I"), source.take(16), source.number("I")
+        need(last < number < next_number)
+        cells, before = {}, None
+        for _ in range(size):
+            where = place(source)
+            need(before is None or place_order(before) < place_order(where))
+            cells[where] = value(source)
+            before = where
+        objects[number] = (guid, cells)
+        last = number
+    need(source.place == source.end)
+    return next_number, objects
+
+
+def apply(source: Bytes, next_number: int, objects: Objects) -> int:
+    """The next number after the next event, which changes the objects."""
+    kind, number = source.numbers("BI")
+    if kind == 1:
+        need(number == next_number != USED_UP)
+        objects[number] = (source.take(16), {})
+        return next_number + 1
+    if kind == 2:
+        need(objects.pop(number, None))
+        return next_number
+    need(kind in (3, 4, 5) and number in objects)
+    cells = objects[number][1]
+    where = place(source)
+    if kind == 3:
+        cells[where] = value(source)
+        return next_number
+    found = cells.get(where)
+    if not isinstance(found, Array):
+        raise NoImage
+    if kind == 4:
+        indices = source.numbers(f"{source.number('H')}i")
+        new = scalar(source)
+        need(len(indices) == len(found.bounds))
+        position = 0
+        for index, (size, lowest) in zip(indices, found.bounds):
+            need(lowest <= index < lowest + size)
+            position = position * size + index - lowest
+        need(found.vt in (VARIANT, new[0]))
+        found.cells[position] = new if found.vt == VARIANT else new[1]
+    else:
+        bounds: typing.List[typing.Any] = [source.numbers("Ii"), *found.bounds[1:]]
+        count = cells_of(bounds)
+        need(count <= CELL_LIMIT)
+        kept = found.cells[:count]
+        cells[where] = Array(found.vt, bounds, kept + [zero(found.vt)] * (count - len(kept)))
+    return next_number
+
+
+def table_image(next_number: int, objects: Objects) -> bytes:
+    """The image of a table."""
+    out = [struct.pack("<II", next_number, len(objects))]
+    for number, (guid, cells) in sorted(objects.items()):
+        out.append(struct.pack("<I", number) + guid + struct.pack("<I", len(cells)))
+        for where in sorted(cells, key=place_order):
+            out.append(place_image(where) + value_image(cells[where]))
+    return b"".join(out)
+
+
+# --- the store
+
+
+def length_of(bank: int) -> int:
+    """How many bytes a store of format 2 takes whose banks have so many."""
+    return LEAST + 2 * bank
+
+
+def body_of(form: int, chosen: int, bank: int) -> int:
+    """Where the body of a bank stands."""
+    return HEADS[chosen] + HEAD.size if form == 1 else LEAST + chosen * bank
+
+
+def head_of(form: int, library: bytes, snapshot: bytes, bank: int) -> bytes:
+    """The bytes of a bank's head."""
+    return HEAD.pack(b"OAUTBK0%d" % form, form, len(library), len(snapshot), 0 if form == 1 else bank, bytes(8))
+
+
+def told(data: Data, at: int) -> typing.Tuple[int, int, int, int]:
+    """The format of the bank whose head stands there, the lengths of its library and of its snapshot, and its size."""
+    magic, form, library, snapshot, bank, zeros = HEAD.unpack_from(data, at)
+    if (magic, form, bank) == (b"OAUTBK01", 1, 0):
+        bank = OLD_BANK
+    elif (magic, form) != (b"OAUTBK02", 2) or not BANK <= bank <= MOST_BANK or len(data) < length_of(bank):
+        raise Damaged(at)
+    if zeros != bytes(8) or library + snapshot >= bank:
+        raise Damaged(at)
+    return form, library, snapshot, bank
+
+
+def read(data: Data) -> Store:
+    """What the bytes of a disk hold."""
+    if len(data) < LEAST or data[0] != 1:
+        raise NotAStore
+    chosen = data[SELECTOR] % 2
+    form, library_length, snapshot_length, bank = told(data, HEADS[chosen])
+    body = body_of(form, chosen, bank)
+    end = body + bank
+    snapshot = body + library_length
+    gate = snapshot + snapshot_length
+    try:
+        next_number, objects = table(Bytes(data, snapshot, gate))
+    except NoImage:
+        raise Damaged(snapshot) from None
+    groups = []
+    while data[gate] == 1:
+        try:
+            length = Bytes(data, gate + 1, end).number("I")
+            events = Bytes(data, gate + 5, gate + 5 + length)
+            need(length and events.end < end)
+            count = 0
+            while events.place < events.end:
+                next_number = apply(events, next_number, objects)
+                count += 1
+        except NoImage:
+            raise Damaged(gate) from None
+        groups.append(Group(gate, count))
+        gate = events.end
+    return Store(bytes(data[body:snapshot]), next_number, objects, chosen, gate, groups, form, end)
+
+
+def room(store: Store) -> int:
+    """How many bytes the bank in use has from its closed gate on."""
+    return store.end - store.gate
+
+
+def lines(store: Store) -> typing.Iterator[str]:
+    """The lines of the dump of a store."""
+    yield f"next {store.next}\n"
+    for number, (guid, cells) in sorted(store.objects.items()):
+        yield f"object {number} {guid_text(guid)}\n"
+        for where in sorted(cells, key=place_order):
+            key = "".join(scalar_image(it).hex() for it in where[2])
+            yield f"cell {guid_text(where[0])} {where[1]} {key or '-'} {value_image(cells[where]).hex()}\n"
+
+
+def dump(data: Data) -> str:
+    """What `oaut dump` prints of a store."""
+    return "".join(lines(read(data)))
+
+
+# --- stores that a test makes
+
+
+NO_OBJECTS = struct.pack("<II", 1, 0)
+
+
+def laid(disk: bytearray, form: int, chosen: int, library: bytes, snapshot: bytes, bank: int) -> bytearray:
+    """The same disk with a bank that has no groups, and that is the one in use."""
+    at, body = HEADS[chosen], body_of(form, chosen, bank)
+    disk[at : at + HEAD.size] = head_of(form, library, snapshot, bank)
+    disk[body : body + len(library) + len(snapshot) + 1] = library + snapshot + b"\0"
+    disk[SELECTOR] = chosen
+    return disk
+
+
+def formatted(library: bytes, bank: int = BANK, size: typing.Optional[int] = None, before: bytes = b"\0") -> bytearray:
+    """A disk that was filled with a byte and then formatted for the canonical text of a library."""
+    disk = bytearray(before * (size or length_of(bank)))
+    disk[0] = 1
+    return laid(disk, 2, 0, library, NO_OBJECTS, bank)
+
+
+def formatted_before(library: bytes, size: int = LEAST, before: bytes = b"\0") -> bytearray:
+    """The same in format 1, as programs of before have made it."""
+    disk = bytearray(before * size)
+    disk[0] = 1
+    return laid(disk, 1, 0, library, NO_OBJECTS, OLD_BANK)
+
+
+def settled(disk: Data, library: typing.Optional[bytes] = None) -> bytearray:
+    """A store behind a checkpoint, with another library where one is given."""
+    found = read(disk)
+    bank = told(disk, HEADS[found.chosen])[3]
+    return laid(bytearray(disk), found.format, 1 - found.chosen, library or found.library, table_image(found.next, found.objects), bank)
+
+
+def upgraded(disk: Data, bank: int = BANK) -> bytearray:
+    """A store of format 1 behind its upgrade."""
+    found = read(disk)
+    longer = bytearray(disk) + bytes(max(0, length_of(bank) - len(disk)))
+    return laid(longer, 2, 1 - found.chosen, found.library, table_image(found.next, found.objects), bank)
+
+
+def add(disk: bytearray, *groups: bytes) -> bytearray:
+    """Adds groups to a store's bytes, each the images of its events."""
+    gate = read(disk).gate
+    for events in groups:
+        disk[gate : gate + 6 + len(events)] = b"\1" + struct.pack("<I", len(events)) + events + b"\0"
+        gate += 5 + len(events)
+    return disk

@@ -1,0 +1,73 @@
+"""Values in words, and words as values: what a prompt and a fault say."""
+from __future__ import annotations
+
+import ast
+import decimal
+import typing
+
+from .values import CELLS, EMPTY, INTEGERS, MISSING, NULL_BSTR, VT, Array, Currency, Error
+
+_SHORT = 60
+
+
+def words_of(value: object) -> str:
+    """A value in the words that `value_of` takes."""
+    if value is None:
+        return "null"
+    if isinstance(value, bool):
+        return "true" if value else "false"
+    return repr(value)
+
+
+def short_words(value: object) -> str:
+    """A value in words that fit a line: of a long text or array its beginning."""
+    if isinstance(value, (str, bytes, bytearray)) and len(value) > _SHORT:
+        return f"{value[: _SHORT // 2]!r}.. ({len(value)})"
+    if isinstance(value, Array) and len(value.cells) > _SHORT // 4:
+        return f"an array of {len(value.cells)} cells"
+    if isinstance(value, (list, tuple, range)) and len(value) > _SHORT // 4:
+        return f"{type(value).__name__} of {len(value)}"
+    told = words_of(value)
+    return told if len(told) <= 2 * _SHORT else f"{told[:_SHORT]}.."
+
+
+_NAMES = {"true": True, "false": False, "null": None, "empty": EMPTY, "null_bstr": NULL_BSTR, "missing": MISSING}
+_CALLS: typing.Dict[str, typing.Callable[..., typing.Any]] = {
+    it.__name__: it for it in (*INTEGERS.values(), Error, Currency, Array, decimal.Decimal)
+}
+_TYPES: typing.Dict[str, typing.Any] = {
+    **{it.__name__: it for it in (*INTEGERS.values(), Currency, bool, str, object)},
+    **{vt.name: vt for vt in VT if int(vt) in CELLS},
+}
+
+
+def value_of(text: str) -> typing.Any:
+    """The value of words: a Python literal, `2.50` (a Decimal), true, false, null, empty, null_bstr, missing, `I2(5)`,
+    `Currency("2.5")`, `Error(0x80004005)`, `[[1, 2], [3, 4]]`, `Array(I2, [(2, -1)], [1, 2])`. Raises ValueError for anything
+    else."""
+
+    def read(node: ast.AST) -> typing.Any:
+        if isinstance(node, ast.Constant) and isinstance(node.value, (int, str, bytes, type(None))):
+            return node.value
+        if isinstance(node, ast.Constant) and isinstance(node.value, float):
+            return decimal.Decimal(ast.get_source_segment(text, node) or "")
+        if isinstance(node, ast.UnaryOp) and isinstance(node.op, ast.USub):
+            value = read(node.operand)
+            if isinstance(value, decimal.Decimal):
+                return value.copy_negate()
+            if type(value) is int:
+                return -value
+        if isinstance(node, (ast.List, ast.Tuple)):
+            return [read(it) for it in node.elts] if isinstance(node, ast.List) else tuple(read(it) for it in node.elts)
+        if isinstance(node, ast.Name) and node.id.lower() in _NAMES:
+            return _NAMES[node.id.lower()]
+        if isinstance(node, ast.Name) and node.id in _TYPES:
+            return _TYPES[node.id]
+        if isinstance(node, ast.Call) and isinstance(node.func, ast.Name) and node.func.id in _CALLS and not node.keywords:
+            return _CALLS[node.func.id](*[read(it) for it in node.args])
+        raise ValueError(f"no value: {text}")
+
+    try:
+        return read(ast.parse(text.strip(), mode="eval").body)
+    except (SyntaxError, ArithmeticError, TypeError, LookupError, MemoryError, RecursionError) as error:
+        raise ValueError(f"no value: {text}") from error

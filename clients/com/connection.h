@@ -1,0 +1,99 @@
+/* Connections to servers: requests and their replies over a socket, and what a server says of its types.
+
+   A process has one connection to a server, for all objects of it. It dials with the first request, and hangs up where
+   nothing was asked for a while, so that the server's next client has its turn: objects are numbers in a store, and the
+   next request dials again. A call holds the connection's lock throughout. */
+#ifndef OAUT_CONNECTION_H
+#define OAUT_CONNECTION_H
+
+#include <winsock2.h>
+#include <ws2tcpip.h>
+
+#include "wire.h"
+
+/* What the bridge adds to the codes that a server answers. */
+#define OAUT_E_NOT_REACHED ((HRESULT)0x800706BA) /* RPC_S_SERVER_UNAVAILABLE: nothing was sent */
+#define OAUT_E_LOST ((HRESULT)0x80010006)        /* RPC_E_CONNECTION_TERMINATED: sent; done or not, wholly */
+#define OAUT_E_LATE ((HRESULT)0x8001011F)        /* RPC_E_TIMEOUT: the same, no reply in time */
+
+enum opcode {
+    OP_CREATE = 1, OP_RELEASE, OP_GETIDS, OP_INVOKE, OP_GETELEM, OP_PUTELEM, OP_REDIM, OP_LOCK, OP_UNLOCK,
+    OP_TYPEINFO, OP_LIST
+};
+
+#define KIND_INTERFACE 4u /* TKIND_DISPATCH */
+#define KIND_COCLASS 5u   /* TKIND_COCLASS */
+
+/* Where a server is, and how long to wait; texts end with a NUL. */
+typedef struct Settings {
+    WCHAR host[256], port[16];
+    WCHAR type_library[MAX_PATH]; /* the file of its types, or empty */
+    DWORD timeout; /* milliseconds for a reply; 0 for ever */
+    DWORD idle;    /* milliseconds behind the last reply until it hangs up; 0 never */
+} Settings;
+
+/* What a property takes and holds, from TYPEINFO. */
+typedef struct Property {
+    DISPID id;
+    VARTYPE type;    /* of what it holds, with VT_ARRAY; VT_VOID of a method */
+    WORD parameters; /* a put's new value not counted */
+} Property;
+
+struct known_name;
+struct interface_types;
+struct class_types;
+
+typedef struct Connection {
+    struct Connection *next;
+    LONG references;
+    Settings settings;
+    CRITICAL_SECTION lock;
+    PTP_TIMER timer;
+    SOCKET socket; /* INVALID_SOCKET where it is hung up */
+    ULONGLONG last;
+    LONG locks;    /* of arrays: they end with the connection, so it is not idle while there are some */
+    UINT32 tag;
+    Writer request;
+    BYTE *reply;
+    UINT32 reply_length, reply_room;
+    UINT32 argument; /* the last reply's index of an argument, or NO_ARGUMENT */
+    /* what this connection's server has said of its library: another one may be there at the next dial */
+    struct known_name *names;
+    struct interface_types *interfaces;
+    struct class_types *classes;
+    UINT32 interface_count, class_count;
+    BOOL has_types;
+} Connection;
+
+/* Before all else, once a process. */
+void connections_begin(void);
+
+/* The process's connection to a server, made where there is none; the caller has a reference. NULL for want of memory.
+   Settings other than host and port count where it is made. */
+Connection *connection_to(const Settings *settings);
+void connection_keep(Connection *connection);
+/* Gives a reference back; the last one hangs up. Not while its lock is held. */
+void connection_release(Connection *connection);
+
+/* All below want the connection's lock held. */
+
+/* Begins the request; the caller writes its fields to what is given. */
+Writer *begin_request(Connection *connection, enum opcode opcode);
+/* Sends what was begun, and has the reply. S_OK, a code of the server, or one of the bridge's, and then it has hung up.
+   `repeatable` where asking twice is as asking once: a connection that broke is then dialled again. */
+HRESULT exchange(Connection *connection, BOOL repeatable);
+/* The fields of the last reply. */
+Reader reply_fields(Connection *connection);
+void hang_up(Connection *connection);
+
+/* DISPIDs of a member and of parameters, by GETIDS; that of a member alone is remembered while the connection lasts. */
+HRESULT names_to_ids(Connection *connection, UINT32 object, REFGUID class, REFIID riid, LCID locale,
+                     const WCHAR *const *names, UINT32 count, DISPID *ids);
+/* What a property of a coclass's default interface takes and holds. S_FALSE where there is no such property. */
+HRESULT property_of(Connection *connection, REFGUID class, DISPID id, Property *property);
+/* Asks for the item of the library with an index: its kind, GUID, and name, of at most 64 units and a NUL.
+   DISP_E_BADINDEX behind the last. `entries` reads on behind them. */
+HRESULT describe_item(Connection *connection, UINT32 index, UINT32 *kind, GUID *guid, WCHAR name[65],
+                      UINT32 *entry_count, Reader *entries);
+
+#endif

@@ -116,15 +116,15 @@ class Calls:
 
     def __init__(self, room):
         self.file = os.open(f"{room}/it.calls", os.O_RDWR | os.O_CREAT)
-        if os.fstat(self.file).st_size < store.LEAST:
-            os.pwrite(self.file, bytes(store.LEAST), 0)
+        if os.fstat(self.file).st_size < store.length_of(store.BANK):
+            os.pwrite(self.file, bytes(store.length_of(store.BANK)), 0)
             os.fsync(self.file)
-        self.at = store.BANKS
+        self.at = store.LEAST
 
     def commit(self, group):
         body = bytes(4 + EVENT * group + 1)
-        if self.at + 1 + len(body) > store.BANKS + store.BANK:
-            self.at = store.BANKS
+        if self.at + 1 + len(body) > store.LEAST + store.BANK:
+            self.at = store.LEAST
         os.pwrite(self.file, body, self.at + 1)
         os.fdatasync(self.file)
         os.pwrite(self.file, b"\1", self.at)

@@ -8,8 +8,6 @@ import sys
 from running import ROOT, Cases
 
 COLUMNS = 100
-# pages that are not wrapped yet
-YET = {f"docs/{it}.md" for it in "com operating program records".split()}
 PAGES = sorted(os.path.relpath(it, ROOT) for it in [*glob.glob(f"{ROOT}/*.md"), *glob.glob(f"{ROOT}/docs/*.md"), *glob.glob(f"{ROOT}/clients/**/*.md", recursive=True)])
 
 
@@ -21,8 +19,6 @@ def read(path):
 class Docs(Cases):
     def test_lines_and_cells(self):
         for path in PAGES:
-            if path in YET:
-                continue
             lines = read(path).split("\n")
             long = [f"{number}: {line}" for number, line in enumerate(lines, 1) if len(line) > COLUMNS and not line.startswith("|")]
             self.tell(f"lines of {path}", not long, long)

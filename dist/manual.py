@@ -13,11 +13,19 @@ LINK = re.compile(r"\[([^\]]*)\]\(([^)]*)\)")
 
 
 def inline(text):
-    """A line of prose: links as their words, what stands in backticks bold."""
+    """Prose in one line: links as their words, bold what stands in backticks or between two stars."""
     text = LINK.sub(lambda it: f"docs/{it[2]}" if it[1] == it[2] else it[1], text)
-    parts = text.replace("\\", "\\e").split("`")
-    told = "".join(f"\\fB{it}\\fR" if place % 2 else it.replace("**", "") for place, it in enumerate(parts))
+    parts = re.split(r"`|\*\*", text.replace("\\", "\\e"))
+    told = "".join(f"\\fB{it}\\fR" if place % 2 else it for place, it in enumerate(parts))
     return re.sub(r"^(['.])", r"\\&\1", told.replace("-", "\\-"))
+
+
+def paragraph(lines, at):
+    """The lines from a place on that make one paragraph or one item of a list, as one line, and the place behind them."""
+    end = at + 1
+    while end < len(lines) and lines[end] and not lines[end].startswith(("- ", "|", "#", "    ")):
+        end += 1
+    return " ".join(it.strip() for it in lines[at:end]), end
 
 
 def rows(lines):
@@ -48,17 +56,20 @@ def page(text, version):
                 table.append(lines[at])
                 at += 1
             head, body = rows(table)
+            if len(head) == 2:
+                told.append(inline(f"{head[0]}, {head[1].lower()}:"))
             for row in body:
-                told += [".TP", inline(row[0]) or "\\&"]
-                told.append(" \\- ".join(inline(it) for it in row[1:] if it) or "\\&")
+                # of three columns and more each says whose it is
+                cells = row[1:] if len(head) == 2 else [f"{name}: {it}." for name, it in zip(head[1:], row[1:])]
+                told += [".TP", f"\\fB{inline(row[0])}\\fR", *map(inline, cells)]
             continue
-        elif line.startswith("- "):
-            told += [".IP \\(bu 2", inline(line[2:])]
         elif not line:
             if not told[-1].startswith((".SH", ".PP", ".TH")):
                 told.append(".PP")
         else:
-            told.append(inline(line.strip()))
+            text, at = paragraph(lines, at)
+            told += [".IP \\(bu 2", inline(text[2:])] if text.startswith("- ") else [inline(text)]
+            continue
         at += 1
     while told[-1] == ".PP":
         told.pop()

@@ -11,10 +11,9 @@ import time
 ROOT = os.path.dirname(os.path.dirname(os.path.abspath(__file__)))
 sys.path.append(f"{ROOT}/clients/python")
 import oaut
+from command_line import words
 
-PROGRAM = os.path.abspath(sys.argv[1]) if len(sys.argv) > 1 else f"{ROOT}/crates/oaut/out/oaut"
-PUTS = int(sys.argv[2]) if len(sys.argv) > 2 else 300_000
-FOLDER = sys.argv[3] if len(sys.argv) > 3 else "."
+PROGRAM, PUTS, FOLDER = words(__doc__, puts=300_000, folder=".")
 LIBRARY = f"{ROOT}/examples/small.idl"
 
 

@@ -31,11 +31,9 @@ sys.path.append(f"{ROOT}/cli")
 import store
 import wire
 from oaut import PROPERTYPUT, ask_create, ask_invoke
+from command_line import words
 
-PROGRAM = os.path.abspath(sys.argv[1]) if len(sys.argv) > 1 else f"{ROOT}/crates/oaut/out/oaut"
-FOLDER = sys.argv[2] if len(sys.argv) > 2 else "."
-SECONDS = float(sys.argv[3]) if len(sys.argv) > 3 else 0.5
-ROUNDS = int(sys.argv[4]) if len(sys.argv) > 4 else 9
+PROGRAM, FOLDER, SECONDS, ROUNDS = words(__doc__, folder=".", seconds=0.5, rounds=9)
 GROUPS = [it for it in (1, 16, 256, 1_024) if subprocess.run([PROGRAM, "serve", "none", "none", "--group", str(it)], stderr=subprocess.DEVNULL).returncode != 2]
 EVENT = 33  # the bytes of the put of a long
 ITEM = bytes.fromhex("443322116655887799aabbccddeeff03")

@@ -16,9 +16,9 @@ import uuid
 ROOT = os.path.dirname(os.path.dirname(os.path.abspath(__file__)))
 sys.path.append(f"{ROOT}/cli")
 import wire
+from command_line import words
 
-PROGRAM = os.path.abspath(sys.argv[1]) if len(sys.argv) > 1 else f"{ROOT}/crates/oaut/out/oaut"
-REQUESTS = int(sys.argv[2]) if len(sys.argv) > 2 else 200_000
+PROGRAM, REQUESTS = words(__doc__, requests=200_000)
 # the DISPID of SAFEARRAY(long) in examples/arrays.idl, and of its long
 LONGS, COUNT = 5, 16
 CLASS = uuid.UUID("11223344-5566-7788-99AA-BBCCDDEEFF03")

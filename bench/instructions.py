@@ -6,10 +6,11 @@
 import os
 import sys
 
+from command_line import words
+
 ROOT = os.path.dirname(os.path.dirname(os.path.abspath(__file__)))
 sys.path.append(f"{ROOT}/cli")
-if len(sys.argv) > 1:
-    os.environ["OAUT_PROGRAM"] = sys.argv[1]
+(os.environ["OAUT_PROGRAM"],) = words(__doc__)
 import instructions
 
 if instructions.VALGRIND is None:

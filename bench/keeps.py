@@ -13,10 +13,10 @@ import subprocess
 import sys
 import tempfile
 import time
+from command_line import words
 
 ROOT = os.path.dirname(os.path.dirname(os.path.abspath(__file__)))
-PROGRAM = os.path.abspath(sys.argv[1]) if len(sys.argv) > 1 else f"{ROOT}/crates/oaut/out/oaut"
-RUNS = int(sys.argv[2]) if len(sys.argv) > 2 else 20
+PROGRAM, RUNS = words(__doc__, runs=20)
 LIMIT = 262_144
 MOST_MILLISECONDS = 20
 E_INVALIDARG = 0x8007_0057

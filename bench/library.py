@@ -13,10 +13,10 @@ import tempfile
 import time
 
 from memory import peak_of
+from command_line import words
 
 ROOT = os.path.dirname(os.path.dirname(os.path.abspath(__file__)))
-PROGRAM = os.path.abspath(sys.argv[1]) if len(sys.argv) > 1 else f"{ROOT}/crates/oaut/out/oaut"
-RUNS = int(sys.argv[2]) if len(sys.argv) > 2 else 5
+PROGRAM, RUNS = words(__doc__, runs=5)
 LIMIT = 262_144
 HEAD = "[uuid(11223344-5566-7788-99aa-000000000000), version(1.0)]\nlibrary Demo {\n"
 TAIL = "[uuid(11223344-5566-7788-99aa-00000000ffff)]\ncoclass Item {\n[default] dispinterface D0;\n}\n}\n"

@@ -16,9 +16,9 @@ import time
 ROOT = os.path.dirname(os.path.dirname(os.path.abspath(__file__)))
 sys.path.append(f"{ROOT}/cli")
 import store
+from command_line import words
 
-PROGRAM = os.path.abspath(sys.argv[1]) if len(sys.argv) > 1 else f"{ROOT}/crates/oaut/out/oaut"
-GROUPS = int(sys.argv[2]) if len(sys.argv) > 2 else 424_000
+PROGRAM, GROUPS = words(__doc__, groups=424_000)
 ITEM, FACE = (bytes.fromhex("443322116655887799aabbccddeeff" + last) for last in ("03", "02"))
 CREATE = b"\1" + struct.pack("<I", 1) + ITEM
 

@@ -23,9 +23,9 @@ ROOT = os.path.dirname(os.path.dirname(os.path.abspath(__file__)))
 sys.path.append(f"{ROOT}/cli")
 import wire
 from memory import peak_of
+from command_line import words
 
-PROGRAM = os.path.abspath(sys.argv[1]) if len(sys.argv) > 1 else f"{ROOT}/crates/oaut/out/oaut"
-LINES = int(sys.argv[2]) if len(sys.argv) > 2 else 200_000
+PROGRAM, LINES = words(__doc__, lines=200_000)
 OBJECTS = 1_000
 # the DISPIDs of SAFEARRAY(unsigned char), SAFEARRAY(long), SAFEARRAY(hyper), SAFEARRAY(BSTR) and VARIANT in examples/arrays.idl
 BYTES, LONGS, HYPERS, NAMES, ANY = 2, 5, 9, 13, 15

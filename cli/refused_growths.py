@@ -10,13 +10,17 @@ session goes on, and each request is either answered by E_OUTOFMEMORY and has ch
 
 `cli/run.py growths` runs the same as cases. The last line counts what was refused.
 """
+import argparse
 import contextlib
 import os
 import struct
 import sys
 
-if __name__ == "__main__" and len(sys.argv) > 1:
-    os.environ["OAUT_PROGRAM"] = sys.argv[1]
+if __name__ == "__main__":
+    parser = argparse.ArgumentParser(description=__doc__, formatter_class=argparse.RawDescriptionHelpFormatter)
+    parser.add_argument("program", metavar="PROGRAM", nargs="?")
+    if given := parser.parse_args().program:
+        os.environ["OAUT_PROGRAM"] = given
 
 from wire import oaut
 import store

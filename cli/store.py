@@ -7,6 +7,7 @@
 
 `python3 -m oaut store` has these and more.
 """
+import argparse
 import sys
 
 import wire  # (which finds the package)
@@ -15,6 +16,10 @@ import oaut.store
 assert wire.oaut is oaut
 
 if __name__ == "__main__":
-    what = sys.argv.pop(1)[2:] if sys.argv[1:2] in (["--library"], ["--groups"]) else "dump"
-    sys.exit(oaut.main(["store", what, *sys.argv[1:]]) if sys.argv[1:] else __doc__)
+    parser = argparse.ArgumentParser(description=__doc__, formatter_class=argparse.RawDescriptionHelpFormatter)
+    for what in ("library", "groups"):
+        parser.add_argument(f"--{what}", dest="what", action="store_const", const=what, default="dump")
+    parser.add_argument("store", metavar="STORE")
+    given = parser.parse_args()
+    sys.exit(oaut.main(["store", given.what, given.store]))
 sys.modules[__name__] = oaut.store

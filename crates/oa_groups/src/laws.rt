@@ -1,7 +1,7 @@
 //! Laws of groups of requests, each the contract of a function with an empty body. They are stated of the simplest requests, groups of
 //! events that are done or refused; the proofs are of requests of any kind.
-ghost use Rattle.oa_groups.specs.Laws.{CallCounts, CallGoesOn, EndCountsAll, OpeningBegins, StopIsLink, StopKeepsAnswered};
-ghost use Rattle.oa_groups.specs.Laws.{EndIsServed, HistoryKeepsAnswered, OthersAreRun, StartIsUnderway, TakenIsUnderway};
+ghost use Rattle.oa_groups.specs.Laws.{CallCounts, CallGoesOn, EndCountsAll, LateCallCounts, OneFault, OpeningBegins, StopIsLink};
+ghost use Rattle.oa_groups.specs.Laws.{EndIsServed, HistoryKeepsAnswered, OthersAreRun, StartIsUnderway, StopKeepsAnswered, TakenIsUnderway};
 ghost use Rattle.oa_groups.specs.Simple.{simple};
 
 use oa_disk::Disk;
@@ -12,6 +12,9 @@ pub fn sessions_go_on<D: Disk>()
     ensures opened { OpeningBegins simple D.Disk }
     ensures called { CallCounts simple D.Disk }
     ensures goes_on { CallGoesOn simple D.Disk }
+    // Where it has failed, what follows does nothing, so that it fails in one group of the session at most.
+    ensures late { LateCallCounts simple D.Disk }
+    ensures one { OneFault simple D.Disk }
 {}
 
 /// What a stop at some moment of a session leaves is a store of the table after all groups that were answered by then, and some more

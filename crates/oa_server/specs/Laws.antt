@@ -1,9 +1,9 @@
 -- Laws of sessions of a server over a store, beside those of any groups.
-use Rattle.std.specs.Prelude.{◌≡◌, ℕ, IsTrue, false, List, [], ◌++◌}
+use Rattle.std.specs.Prelude.{◌≡◌, ◌≤◌, ℕ, IsTrue, false, List, [], ◌++◌}
 use Rattle.oa_disk.specs.Disk.{NothingPending}
 use Rattle.oa_disk.specs.declared.disk.Disk.{Ghosts}
 use Rattle.oa_groups.specs.Runs.{IsAfter}
-use Rattle.oa_groups.specs.Sessions.{Call, Sitting}
+use Rattle.oa_groups.specs.Sessions.{Call, IsSessionOn, Sitting, answered_by}
 use Rattle.oa_groups.specs.Turns.{Entry}
 use Rattle.oa_idl.specs.Canonical.{canonical}
 use Rattle.oa_idl.specs.Trees.{TreeValue}
@@ -41,3 +41,12 @@ PartsGoOn {D} g =
     (start : D) (mid new : Store D g) (first last after : State) (calls : List (Call ReplyValue)) (size : ℕ)
     (parts : List Part) → Sitting requests start mid first last calls → Parts size (Disk mid) (Disk new) last parts after
     → new.stopped ≡ false → Sitting requests start new first after (calls ++ calls_of size parts)
+
+-- They are calls of the session also where the device fails in one of them: from its start on all counts that was answered before them.
+abbrev pub PartsCount : {D : Type 0} → Ghosts D → Type 0
+PartsCount {D} g =
+    (start : D) (mid new : Store D g) (first last after : State) (calls : List (Call ReplyValue)) (size : ℕ) (parts : List Part)
+    → (was : Sitting requests start mid first last calls) → mid.stopped ≡ false
+    → Parts size (Disk mid) (Disk new) last parts after
+    → (session : IsSessionOn requests g start new.disk first (calls ++ calls_of size parts) after) × (session.stopped ≡ new.stopped)
+    × ((m : ℕ) → g.moment mid.disk ≤ m → was.session.count ≤ answered_by m session.moments)

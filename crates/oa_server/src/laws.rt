@@ -1,14 +1,14 @@
 //! Laws of the definitions that turns are stated by.
 ghost use Rattle.std.specs.Prelude.{◌≡◌, ◌↔◌, ◌≤◌, ℕ, true, Bool, List, None, ◌++◌};
-ghost use Rattle.oa_groups.specs.Laws.{CallCounts, CallGoesOn, EndCountsAll, HistoryKeepsAnswered, OpeningBegins};
-ghost use Rattle.oa_groups.specs.Laws.{OthersAreRun, StopIsLink, StopKeepsAnswered};
+ghost use Rattle.oa_groups.specs.Laws.{CallCounts, CallGoesOn, EndCountsAll, HistoryKeepsAnswered, LateCallCounts, OneFault};
+ghost use Rattle.oa_groups.specs.Laws.{OpeningBegins, OthersAreRun, StopIsLink, StopKeepsAnswered};
 ghost use Rattle.oa_groups.specs.Runs.{Run as RunOf};
 ghost use Rattle.oa_groups.specs.Turns.{Entry};
 ghost use Rattle.oa_record.specs.declared.request.Request.{Request as ARequest};
 ghost use Rattle.oa_record.specs.Replies.{ReplyValue};
 ghost use Rattle.oa_fits.specs.Fits.{fits};
 ghost use Rattle.oa_server.specs.Decisions.{IsQuiet};
-ghost use Rattle.oa_server.specs.Laws.{FoundIsKept, OpenedBegins, PartsGoOn};
+ghost use Rattle.oa_server.specs.Laws.{FoundIsKept, OpenedBegins, PartsCount, PartsGoOn};
 ghost use Rattle.oa_server.specs.Openings.{CanBegin};
 ghost use Rattle.oa_server.specs.OwnCodes.{is_own};
 ghost use Rattle.oa_server.specs.Requests.{opened, requests};
@@ -120,12 +120,17 @@ pub fn sessions_go_on<D: Disk>()
     ensures opened { OpeningBegins requests D.Disk }
     ensures called { CallCounts requests D.Disk }
     ensures goes_on { CallGoesOn requests D.Disk }
+    // Where it has failed, what follows does nothing, so that it fails in one group of the session at most.
+    ensures late { LateCallCounts requests D.Disk }
+    ensures one { OneFault requests D.Disk }
 {}
 
 /// The parts of a session over streams, each of which was handed out before the next body was read, are calls of the session: so wherever
-/// so many of them are over and the device has not failed, it may go on, or be stopped, as after these calls.
+/// so many of them are over it may be stopped as after these calls, also where the device has failed in one of them; where it has not, the
+/// session may go on.
 pub fn parts_go_on<D: Disk>()
     ensures goes_on { PartsGoOn D.Disk }
+    ensures counts { PartsCount D.Disk }
 {}
 
 /// What a stop at some moment of a session leaves is a store of the state after all groups that were answered by then, and some more

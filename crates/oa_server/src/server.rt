@@ -57,6 +57,13 @@ impl<D: Disk> Server<D> {
         }
     }
 
+    /// The disk as it is between two calls: its clock tells when the one before has ended. This makes no call.
+    pub fn disk(&self) -> &D
+        ensures { result.now ≡ disk_of self.now.clerk.storage }
+    {
+        self.clerk.storage.disk()
+    }
+
     /// The disk as it is. This makes no call.
     pub fn into_disk(self) -> D
         ensures { result ≡ disk_of self.clerk.storage }

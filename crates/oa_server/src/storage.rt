@@ -15,6 +15,16 @@ pub(crate) enum Storage<D: Disk> {
 }
 
 impl<D: Disk> Storage<D> {
+    /// The disk as it is, while it is kept. This makes no call.
+    pub(crate) fn disk(&self) -> &D
+        ensures { result.now ≡ disk_of self.now }
+    {
+        match self {
+            Storage::Memory(disk) => disk,
+            Storage::Disk(store) => store.disk(),
+        }
+    }
+
     /// The disk as it is. This makes no call.
     pub(crate) fn into_disk(self) -> D
         ensures { result ≡ disk_of self }

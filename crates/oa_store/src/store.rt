@@ -137,6 +137,13 @@ impl<D: Disk> Store<D> {
         self.stopped
     }
 
+    /// The disk as it is, while the store goes on: its clock tells when a call has ended. This makes no call.
+    pub fn disk(&self) -> &D
+        ensures { result.now ≡ self.now.disk }
+    {
+        &self.disk
+    }
+
     /// The disk as it is. This makes no call.
     pub fn into_disk(self) -> D
         ensures { result ≡ self.disk }

@@ -1,4 +1,9 @@
 //! Binding: which call of a property the arguments of an INVOKE make, or the first reason why they make none.
+//!
+//! Its contract: `bind` answers the call that the arguments make of a property, or the first refusal in the
+//! stated order with its index.
+//!
+//! What stands on it: oa_server, for INVOKE and for requests on elements and locks.
 #![tactic(auto)]
 
 mod binding;

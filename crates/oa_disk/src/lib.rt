@@ -1,4 +1,10 @@
 //! A disk of a fixed size: what a read gives, and what a crash at each moment may leave.
+//!
+//! Its contract: the clauses of the trait `Disk`: a write may tear until a sync at `Ok`; `write_then_flip`
+//! leaves at each moment the bytes of before or of after at its switch.
+//!
+//! What stands on it: the storage crates: oa_journal, oa_store, oa_keeper, oa_groups; and the program, over a
+//! file.
 #![tactic(auto)]
 
 mod call;

@@ -1,4 +1,9 @@
 //! Bodies and replies as lines of digits or as records, and a session over them.
+//!
+//! Its contract: `serve` writes exactly the replies that its server hands out at the bodies that it read, or a
+//! first part of them where the writer fails (`Session`).
+//!
+//! What stands on it: oa_server.
 #![tactic(auto)]
 
 mod ends;

@@ -1,4 +1,10 @@
-//! Groups of requests: what holds of every server that holds requests until their group ends, and whose events then go out under one gate.
+//! Groups of requests: what holds of every server that holds requests until their group ends, and whose events
+//! then go out under one gate.
+//!
+//! Its contract: what is taken one by one is served: the replies are a run's, and each image from its group's
+//! moment on holds that group (`IsServed`, `laws::headline`).
+//!
+//! What stands on it: oa_server.
 #![tactic(auto)]
 
 mod group;

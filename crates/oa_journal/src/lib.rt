@@ -1,4 +1,10 @@
-//! One bank of a store: a library, a snapshot of a table, and groups of events behind gates, each there whole or not at all.
+//! One bank of a store: a library, a snapshot of a table, and groups of events behind gates, each there whole
+//! or not at all.
+//!
+//! Its contract: `append` leaves at each moment a bank with its table or with the one that the group makes of
+//! it, and at `Ok` that one.
+//!
+//! What stands on it: oa_store.
 #![tactic(auto)]
 
 mod bank;

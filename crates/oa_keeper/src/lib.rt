@@ -1,4 +1,10 @@
-//! A table in memory that a store keeps: changes are made in memory, and their events go out group by group, each under one gate.
+//! A table in memory that a store keeps: changes are made in memory, and their events go out group by group,
+//! each under one gate.
+//!
+//! Its contract: `commit` leaves at each moment images of the table before or of the one that the events in
+//! hand make, and at `Ok` the latter.
+//!
+//! What stands on it: oa_groups and oa_server.
 #![tactic(auto)]
 
 mod fault;

@@ -1,4 +1,9 @@
 //! Codes, limits, types and GUIDs of the automation server: the data that every other crate shares.
+//!
+//! Its contract: each type has its number and each number its type (`VarType::vt`, `from_vt`); a GUID's wire
+//! bytes are its fields turned round (`guid_to_wire`, `guid_from_wire`); `fold` changes A to Z alone.
+//!
+//! What stands on it: every crate but oa_cells, oa_ndr, oa_stream and oa_disk.
 #![tactic(auto)]
 
 mod bound;

@@ -1,4 +1,9 @@
 //! Records: bodies as requests, and replies as bytes.
+//!
+//! Its contract: `read_request` answers a request exactly where the body asks it (`Asks`), and else its one
+//! refusal; a reply is its head and the bytes of its fields.
+//!
+//! What stands on it: oa_server, and oa_description for the fields of a description.
 #![tactic(auto)]
 
 mod arguments;

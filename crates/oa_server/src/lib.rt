@@ -1,4 +1,9 @@
 //! An automation object server: requests to a table, and sessions over a reader and a writer.
+//!
+//! Its contract: `answer` is one turn of a table of objects (`Turn`), `serve` a session of such turns
+//! (`Session`), over a store in groups that a stop leaves whole (`IsServed`).
+//!
+//! What stands on it: the program.
 #![tactic(auto)]
 
 mod changes;

@@ -1,5 +1,10 @@
-//! A store on a disk: a library and a table of objects, in two banks that take turns. Every image that a stop may leave opens to the
-//! table before or after.
+//! A store on a disk: a library and a table of objects, in two banks that take turns. Every image that a stop
+//! may leave opens to the table before or after.
+//!
+//! Its contract: `Store::open` answers the one table that the contents hold (`IsStore`); a stop in `commit`,
+//! `checkpoint` or `upgrade` leaves a store of the table before or after.
+//!
+//! What stands on it: oa_keeper and oa_groups; the program's format, upgrade and dump.
 #![tactic(auto)]
 
 mod fault;

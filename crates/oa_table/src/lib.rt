@@ -1,4 +1,10 @@
-//! The table of objects: a cell for each property and each list of arguments, the changes that it takes, and the locks of a session.
+//! The table of objects: a cell for each property and each list of arguments, the changes that it takes, and
+//! the locks of a session.
+//!
+//! Its contract: `apply` of an event gives the one new table, or the reason why the event does not apply, or
+//! want of memory with nothing changed (`applied`).
+//!
+//! What stands on it: oa_image writes it, oa_fits judges it, oa_keeper keeps it, oa_server answers from it.
 #![tactic(auto)]
 
 mod difference;

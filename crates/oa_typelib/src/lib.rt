@@ -1,4 +1,9 @@
 //! Type libraries: the checks that make a tree a library, and the look-ups of a server in it.
+//!
+//! Its contract: `check` answers a library exactly where its tree has no breach (`IsLibrary`), and else the
+//! first; `keeps` tells the first thing that another library loses.
+//!
+//! What stands on it: oa_bind, oa_fits, oa_description, oa_server, and the program.
 #![tactic(auto)]
 
 mod access;

@@ -1,4 +1,9 @@
 //! Texts, scalars and arrays as parts of a field (MS-OAUT 2.2.23, 2.2.29, 2.2.30) over NDR.
+//!
+//! Its contract: `read_text`, `read_scalar`, `read_array` answer a value whose form the bytes are, and a fault
+//! exactly where they are of none; the writers add the one writing.
+//!
+//! What stands on it: oa_wire_variant, and oa_record for elements.
 #![tactic(auto)]
 
 mod array;

@@ -4,7 +4,8 @@
     python3 cli/run.py [--program PATH] [-k NAME].. [PART ..]
 
 PATH is crates/oaut/out/oaut, as `rt ci` leaves it, where none is given. `-k NAME` runs the tests whose names have NAME in them, `PART` those of one
-file; `--list` prints the names. Where no part is named, `com` is left out. Each part gets a line with its seconds; the last line counts all cases, and the status is 1 where one failed.
+file; `--list` prints the names. A test whose tools are not installed is left out, with a line that names it and them. Each part gets a line with its
+seconds; the last line counts all cases, and the status is 1 where one failed.
 
 Without this file, in the folder cli/: OAUT_PROGRAM=PATH python3 -m unittest [-k NAME] [test_PART ..]
 """
@@ -16,8 +17,6 @@ import time
 import unittest
 
 CLI = os.path.dirname(os.path.abspath(__file__))
-# parts that run where they are named alone: under Wine they take minutes, and some cases wait for its clocks
-BY_HAND = {"com"}
 
 
 class Counts(unittest.TestResult):
@@ -54,7 +53,7 @@ class Counts(unittest.TestResult):
 
     def addSkip(self, test, reason):
         super().addSkip(test, reason)
-        print(f"skipped {named(test)}: {reason}", flush=True)
+        print(f"left out {named(test)}: {reason}", flush=True)
 
     def tell(self, test, err, failure):
         self.failed += 1
@@ -72,12 +71,12 @@ def named(test):
 
 
 def parts_of(words):
-    """The parts that are named, or all but those by hand."""
+    """The parts that are named, or all."""
     found = sorted(os.path.basename(it)[len("test_") : -len(".py")] for it in glob.glob(f"{CLI}/test_*.py"))
     unknown = {*words} - {*found}
     if unknown:
         raise SystemExit(f"run.py: no part is named {', '.join(sorted(unknown))}; there are {', '.join(found)}")
-    return [it for it in found if it in (words or {*found} - BY_HAND)]
+    return [it for it in found if it in (words or found)]
 
 
 def tests_of(suite):
@@ -103,7 +102,7 @@ def main():
     sys.path.insert(0, CLI)
     loader = unittest.TestLoader()
     loader.testNamePatterns = [it if "*" in it else f"*{it}*" for it in given.names or []] or None
-    passed = failed = 0
+    passed = failed = left = 0
     for part in parts_of(given.parts):
         suite = loader.loadTestsFromName(f"test_{part}")
         if not suite.countTestCases():
@@ -113,11 +112,11 @@ def main():
             continue
         counts, begun = Counts(), time.monotonic()
         suite.run(counts)
-        print(f"{part}: {counts.passed} passed, {counts.failed} failed, {time.monotonic() - begun:.1f} s", flush=True)
-        passed, failed = passed + counts.passed, failed + counts.failed
+        print(f"{part}: {counts.passed} passed, {counts.failed} failed, {len(counts.skipped)} tests left out, {time.monotonic() - begun:.1f} s", flush=True)
+        passed, failed, left = passed + counts.passed, failed + counts.failed, left + len(counts.skipped)
     if given.list:
         return 0
-    print(f"{passed} passed, {failed} failed")
+    print(f"{passed} passed, {failed} failed, {left} tests left out")
     return 1 if failed or not passed else 0
 
 

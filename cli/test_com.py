@@ -1,6 +1,7 @@
 """The COM bridge, clients/com: built by mingw-w64 and run under Wine, where scripts and a client in C reach the program by it over a
 socket; and its reading of bytes under Linux with sanitizers. What is not installed leaves its tests out, each by its name."""
 import collections
+import concurrent.futures
 import functools
 import os
 import random
@@ -26,7 +27,7 @@ TESTS = f"{COM}/tests"
 TIMEOUT = 300
 SPOILED_SECONDS, FUZZ_SECONDS = 5, 6
 # behind so many seconds what is not begun under Wine is left out, each by its name
-LIMIT, BEGUN = 420, time.monotonic()
+LIMIT, BEGUN = float(os.environ.get("OAUT_COM_SECONDS") or 210), time.monotonic()
 
 ITEM = uuid.UUID("11223344-5566-7788-99aa-bbccddeeff03")
 
@@ -71,10 +72,12 @@ def built(words, **how):
 
 class Server:
     """Accepts on a port of its own and starts the program for each client in turn. Its words may change: the next client's program has them. Where
-    records are looked at, they go through this process, which keeps the requests' bodies and spoils some replies of a thousand."""
+    records are looked at, they go through this process, which keeps the requests' bodies, spoils some replies of a thousand, and ends a session
+    behind so many requests for types, once."""
 
     def __init__(self):
         self.words, self.looks, self.spoils, self.requests = None, False, 0, []
+        self.types_left, self.is_last = 0, False
         self.chance = random.Random(20261126)
         self.child = None
         self.port = 0
@@ -110,6 +113,9 @@ class Server:
         with client.makefile("rb") as asked:
             while (body := record(asked)) is not None:
                 self.requests.append(body)
+                if self.types_left and body[4] == oaut.TYPEINFO:
+                    self.types_left -= 1
+                    self.is_last = not self.types_left
                 try:
                     child.stdin.write(struct.pack("<I", len(body)) + body)
                     child.stdin.flush()
@@ -123,7 +129,11 @@ class Server:
     def carry_back(self, replies, client):
         try:
             while (body := record(replies)) is not None:
-                client.sendall(self.spoiled(struct.pack("<I", len(body)) + body))
+                whole = self.spoiled(struct.pack("<I", len(body)) + body)
+                client.sendall(whole, socket.MSG_MORE if self.is_last else 0)
+                if self.is_last:  # it comes with the connection's end, so that the client sees that before it asks again
+                    self.is_last = False
+                    break
         except OSError:
             pass
         try:
@@ -141,10 +151,10 @@ class Server:
             changed[place] = self.chance.choice((0, 1, 2, 0x20, 0x7F, 0x80, 0xFF, self.chance.randrange(256)))
         return bytes(changed)
 
-    def ends(self, child):
+    def ends(self, child, seconds=20):
         """Waits until a client's program has ended, since the client has hung up."""
         try:
-            child.wait(20)
+            child.wait(seconds)
         except subprocess.TimeoutExpired:
             return False
         return True
@@ -323,7 +333,8 @@ class UnderWine(Told):
     def finish(self, held):
         """Lets it go on, and gives all that it tells."""
         process, go, told = held
-        write(go, "")
+        if process.poll() is None:
+            write(go, "")
         try:
             told += process.communicate(timeout=TIMEOUT)[0]
         except subprocess.TimeoutExpired:
@@ -331,6 +342,25 @@ class UnderWine(Told):
             told += process.communicate()[0]
         return plain(told)
 
+    def types(self):
+        """What a script tells whose server ends while it tells its types."""
+        self.server.looks, self.server.types_left = True, 1
+        try:
+            return self.wine.run(*self.bridge.script("types.vbs"))[1]
+        finally:
+            self.server.looks = False
+
+    def started(self):
+        """What a client tells that ends before the process that it has started, and whether its connection ends with it."""
+        go = tempfile.mktemp(dir=self.bridge.room)
+        client = self.wine.start(f"{self.bridge.room}/built/client.exe", "starts", windows(go))
+        told = b""
+        while b"end" not in told and (line := client.stdout.readline()):
+            told += line
+        ended = self.server.ends(self.server.child, 4)
+        write(go, "")
+        told += client.communicate(timeout=TIMEOUT)[0]
+        return f"{'ok   ' if ended else 'BAD  '}its server ends\n{plain(told)}"
 
     def lost(self):
         """What a script tells whose server is killed while it has a put."""
@@ -386,6 +416,11 @@ class Values(UnderWine):
                 if oaut.spell(value) != field:
                     self.tell("the Python client spells a field as the bridge did", False, field.hex())
         self.tell("fields of each type were sent", len(seen) >= 31 and sum(seen.values()) > 300, seen)
+
+    def test_arrays_of_a_client_for_scripts(self):
+        self.bridge.new_store()
+        self.bridge.set()
+        self.each("client.c", self.wine.run(f"{self.bridge.room}/built/client.exe", "script")[1])
 
     def test_fields_of_another_implementation(self):
         rows = [row.split() for row in rows_of("variants.txt")]
@@ -468,6 +503,16 @@ class Stops(UnderWine):
         self.tell("one with a lock keeps the next one waiting", second.poll() is None)
         self.each("locks.vbs", self.finish(held))
         self.each("next.vbs", plain(second.communicate(timeout=TIMEOUT)[0]))
+
+    def test_a_server_that_ends_while_it_tells_its_types(self):
+        """What is read of one server is not taken for the other one's."""
+        self.each("types.vbs", self.types())
+        self.tell("a server has ended", self.server.types_left == 0)
+
+    def test_a_process_that_a_client_has_started(self):
+        """It goes on behind its client, whose connection ends all the same."""
+        self.bridge.set(Script=0, Idle=0)
+        self.each("client.c", self.started())
 
     def test_new_members_behind_a_reconnect(self):
         held = self.held("more.vbs")
@@ -584,6 +629,20 @@ class UnderLinux(Cases):
         self.tell("fuzz", status == 0, said)
 
 
+class Source(Cases):
+    """What is looked at in the sources alone."""
+
+    def test_the_limit_of_a_request_is_the_servers(self):
+        own = re.search(r"^#define MAX_BODY (\w+)u ", text(f"{COM}/wire.h"), re.MULTILINE)[1]
+        server = re.search(r"^pub const MAX_REQUEST_BYTES: u32 = ([\d_]+);", text(f"{ROOT}/crates/oa_model/src/limits.rt"), re.MULTILINE)[1]
+        self.tell("MAX_BODY of clients/com/wire.h", int(own, 0) == int(server), (own, server))
+
+    def test_planted_faults_have_their_places(self):
+        for name, (file, edits, *_) in (FAULTS | SPOILERS).items():
+            for old, new in edits:
+                self.tell(f"{name}: {old}", text(f"{COM}/{file}").count(old) == 1 and old != new)
+
+
 def fuzzed(room, seed):
     done = subprocess.run([f"{room}/fuzz", str(FUZZ_SECONDS), str(seed)], input=corpus().encode(), stdout=subprocess.PIPE, stderr=subprocess.STDOUT, timeout=TIMEOUT)
     return done.returncode, f"fuzz {FUZZ_SECONDS} {seed}: {plain(done.stdout)[:2000]}"
@@ -595,8 +654,10 @@ FAULTS = {
     "scale and sign of a DECIMAL are exchanged": ("wire.c", [("&number->scale, 1);\n    write_bytes(to, &number->sign, 1);", "&number->sign, 1);\n    write_bytes(to, &number->scale, 1);"), ("&number->scale, 1);\n    read_bytes(from, &number->sign, 1);", "&number->sign, 1);\n    read_bytes(from, &number->scale, 1);")], "client"),
     "the bounds of an array that was read are not turned": ("wire.c", [("bounds[dimensions - 1 - i]", "bounds[i]")], "client"),
     "VT_BYREF is not followed": ("wire.c", [("if (!(V_VT(value) & VT_BYREF))", "if (1)")], "client"),
-    "the argument at fault is not told": ("objects.c", [("        *argument = call.argument;\n", "        *argument = *argument;\n")], "client"),
-    "a put that was lost is sent again": ("connection.c", [("result == OAUT_E_LOST && repeatable &&", "result == OAUT_E_LOST &&")], "lost"),
+    "the argument at fault is not told": ("objects.c", [("    if (FAILED(code) && argument && call.argument < given->cArgs)\n", "    if (0)\n")], "client"),
+    "a put that was lost is sent again": ("connection.c", [("result == OAUT_E_LOST && way == AGAIN &&", "result == OAUT_E_LOST &&")], "lost"),
+    "half of the types is another server's": ("connection.c", [("index ? HERE : AGAIN", "index ? ONCE : AGAIN")], "types"),
+    "a started process has the connection": ("connection.c", [("WSA_FLAG_OVERLAPPED | WSA_FLAG_NO_HANDLE_INHERIT", "WSA_FLAG_OVERLAPPED")], "started"),
 }
 SPOILERS = {
     "a text is as long as it says": ("wire.c", [("    if (!has_bytes(from, (size_t)count + count % 2))\n        return S_OK;\n    *text", "    *text")]),
@@ -617,34 +678,53 @@ def planted(room, file, edits):
     return f"{room}/com"
 
 
+def all_planted(faults, build, *words):
+    """Of each fault a folder with what is built of it, and what the build said; they are built at once."""
+    rooms = {name: tempfile.TemporaryDirectory() for name in faults}
+
+    def one(name):
+        room = rooms[name]
+        return room, built([f"{planted(room.name, *faults[name][:2])}/{build}", *words, room.name], env={**os.environ, "CFLAGS": "-O0"})
+
+    with concurrent.futures.ThreadPoolExecutor(os.cpu_count()) as pool:
+        return dict(zip(rooms, pool.map(one, rooms)))
+
+
 @under_wine
 class PlantedFaults(UnderWine):
     def tearDown(self):
         self.bridge.set()
 
+    def client(self):
+        return self.wine.run(f"{self.bridge.room}/built/client.exe")[1]
+
     def test_each_is_found(self):
         self.bridge.new_store()
         self.bridge.add_item()
-        for name, (file, edits, finder) in FAULTS.items():
+        for name, (room, said) in all_planted(FAULTS, "build.sh").items():
             self.setUp()  # the time again
-            with self.subTest(name), tempfile.TemporaryDirectory() as room:
-                said = built([f"{planted(room, file, edits)}/build.sh", room], env={**os.environ, "CFLAGS": "-O0"})
+            finder = FAULTS[name][2]
+            with self.subTest(name), room:
                 self.assertEqual(said[0], 0, said)
-                self.bridge.set(Script=0 if finder == "client" else 1, Idle=0)
-                dll = windows(f"{room}/oautcom.dll").replace("\\", "\\\\")
+                self.bridge.set(Script=int(finder in ("lost", "types")), Idle=0)
+                dll = windows(f"{room.name}/oautcom.dll").replace("\\", "\\\\")
                 self.bridge.enter("".join(f'[HKEY_CLASSES_ROOT\\CLSID\\{{{it}}}\\InprocServer32]\n@="{dll}"\n\n' for it in (ITEM, HUB)))
-                output = self.lost() if finder == "lost" else self.wine.run(f"{self.bridge.room}/built/client.exe")[1]
+                output = getattr(self, finder)()
                 self.assertTrue(self.bad(output), "it is not found")
 
 
 @left_out("gcc")
 class PlantedSpoilers(Cases):
     def test_each_is_found(self):
-        for name, (file, edits) in SPOILERS.items():
-            with self.subTest(name), tempfile.TemporaryDirectory() as room:
-                said = built([f"{planted(room, file, edits)}/tests/build.sh", "linux", room])
+        for name, (room, said) in all_planted(SPOILERS, "tests/build.sh", "linux").items():
+            with self.subTest(name), room:
                 self.assertEqual(said[0], 0, said)
-                self.assertNotEqual(fuzzed(room, 1)[0], 0, "it is not found")
+                self.assertNotEqual(fuzzed(room.name, 1)[0], 0, "it is not found")
+
+
+def load_tests(loader, tests, pattern):
+    """What takes longest comes last: the faults that are planted under Wine."""
+    return unittest.TestSuite(sorted(tests, key=lambda some: "PlantedFaults" in str(some)))
 
 
 if __name__ == "__main__":

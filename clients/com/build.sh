@@ -11,6 +11,6 @@ case ${2:-64} in
 *) cc=x86_64-w64-mingw32-gcc stdcall= ;;
 esac
 # shellcheck disable=SC2086
-${CC:-$cc} -std=gnu11 ${CFLAGS:--O2} -Wall -Wextra -D_WIN32_WINNT=0x0601 -DUNICODE -static-libgcc -s -shared $stdcall \
+${CC:-$cc} -std=gnu11 ${CFLAGS:--O2} -Wall -Wextra -D_WIN32_WINNT=0x0601 -DUNICODE -static-libgcc -s -shared $stdcall -Wl,--no-insert-timestamp \
     -o "$1/oautcom.dll" "$here/wire.c" "$here/connection.c" "$here/objects.c" "$here/registration.c" "$here/oautcom.def" \
     -lole32 -loleaut32 -luuid -lws2_32 -ladvapi32

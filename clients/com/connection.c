@@ -174,6 +174,19 @@ void connection_release(Connection *connection)
     WSACleanup();
 }
 
+void connection_enter(Connection *connection)
+{
+    EnterCriticalSection(&connection->lock);
+}
+
+HRESULT connection_leave(Connection *connection, HRESULT code)
+{
+    if (code == OAUT_E_NO_REPLY)
+        hang_up(connection);
+    LeaveCriticalSection(&connection->lock);
+    return code;
+}
+
 /* ---- exchanges */
 
 static void set_option(SOCKET socket, int level, int option, DWORD number)
@@ -191,7 +204,9 @@ static HRESULT dial(Connection *connection)
     if (GetAddrInfoW(connection->settings.host, connection->settings.port, &hints, &list))
         return OAUT_E_NOT_REACHED;
     for (address = list; address && made == INVALID_SOCKET; address = address->ai_next) {
-        made = socket(address->ai_family, address->ai_socktype, address->ai_protocol);
+        /* not for the processes that the host starts: one that goes on would keep the next client waiting */
+        made = WSASocketW(address->ai_family, address->ai_socktype, address->ai_protocol, NULL, 0,
+                          WSA_FLAG_OVERLAPPED | WSA_FLAG_NO_HANDLE_INHERIT);
         if (made != INVALID_SOCKET && connect(made, address->ai_addr, (int)address->ai_addrlen)) {
             closesocket(made);
             made = INVALID_SOCKET;
@@ -294,16 +309,16 @@ Writer *begin_request(Connection *connection, enum opcode opcode)
 }
 
 /* One try. OAUT_E_NOT_REACHED where nothing of the request has left. */
-static HRESULT try_exchange(Connection *connection, BOOL repeatable)
+static HRESULT try_exchange(Connection *connection, enum way way)
 {
     DWORD timeout = connection->settings.timeout;
     UINT32 length, head[3];
     ULONGLONG until;
     HRESULT result;
 
-    if (connection->socket != INVALID_SOCKET && !repeatable && is_over(connection))
+    if (connection->socket != INVALID_SOCKET && way != AGAIN && is_over(connection))
         hang_up(connection); /* a server that has gone is told before a put is sent, and not behind it */
-    if (connection->socket == INVALID_SOCKET && FAILED(result = dial(connection)))
+    if (connection->socket == INVALID_SOCKET && FAILED(result = way == HERE ? OAUT_E_LOST : dial(connection)))
         return result;
     until = timeout ? GetTickCount64() + timeout : 0;
     if (FAILED(result = send_all(connection)) ||
@@ -320,7 +335,7 @@ static HRESULT try_exchange(Connection *connection, BOOL repeatable)
     return S_OK;
 }
 
-HRESULT exchange(Connection *connection, BOOL repeatable)
+HRESULT exchange(Connection *connection, enum way way)
 {
     Writer *request = &connection->request;
     UINT32 length = (UINT32)(request->length - request->body), code;
@@ -331,10 +346,10 @@ HRESULT exchange(Connection *connection, BOOL repeatable)
     if (FAILED(request->fault))
         return request->fault;
     memcpy(request->bytes, &length, sizeof length);
-    result = try_exchange(connection, repeatable);
-    if (result == OAUT_E_LOST && repeatable && !fresh) {
+    result = try_exchange(connection, way);
+    if (result == OAUT_E_LOST && way == AGAIN && !fresh) {
         hang_up(connection);
-        result = try_exchange(connection, repeatable);
+        result = try_exchange(connection, way);
     }
     if (FAILED(result)) {
         connection->argument = NO_ARGUMENT;
@@ -422,7 +437,7 @@ HRESULT names_to_ids(Connection *connection, UINT32 object, REFGUID class, REFII
         write_bytes(to, names[i], (size_t)length * sizeof(WCHAR));
         write_pad(to, 8);
     }
-    result = exchange(connection, TRUE);
+    result = exchange(connection, AGAIN);
     if (result != S_OK && result != DISP_E_UNKNOWNNAME)
         return result;
     from = reply_fields(connection);
@@ -450,7 +465,7 @@ HRESULT describe_item(Connection *connection, UINT32 index, UINT32 *kind, GUID *
 
     write_32(to, index);
     write_32(to, 0);
-    if ((result = exchange(connection, !index)) != S_OK) /* the first alone may be of a server that is dialled anew */
+    if ((result = exchange(connection, index ? HERE : AGAIN)) != S_OK)
         return result;
     *entries = reply_fields(connection);
     *kind = read_32(entries);
@@ -578,9 +593,12 @@ HRESULT property_of(Connection *connection, REFGUID class, DISPID id, Property *
         hang_up(connection); /* another library may be there by now */
     if (!connection->has_types) {
         result = read_types(connection);
+        if (result == OAUT_E_LOST) {
+            hang_up(connection); /* what is half read is not used */
+            result = read_types(connection);
+        }
         if (FAILED(result)) {
-            /* nothing of the caller's has been asked yet; what is half read is not used */
-            hang_up(connection);
+            hang_up(connection); /* nothing of the caller's has been asked yet */
             return result == OAUT_E_LOST ? OAUT_E_NOT_REACHED : result;
         }
     }

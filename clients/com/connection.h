@@ -75,13 +75,23 @@ void connection_keep(Connection *connection);
 /* Gives a reference back; the last one hangs up. Not while its lock is held. */
 void connection_release(Connection *connection);
 
+void connection_enter(Connection *connection);
+/* Leaves, and gives the code of what was done between; where bytes came that are no reply it has hung up. */
+HRESULT connection_leave(Connection *connection, HRESULT code);
+
 /* All below want the connection's lock held. */
+
+/* Over which connection a request goes. */
+enum way {
+    ONCE,  /* over the one that is there; over a new one where there is none, or its server has gone before it was sent */
+    AGAIN, /* the same, and over a new one where the connection broke: asking twice is as asking once */
+    HERE   /* over the one that is there: what was asked before it has to be of the same server */
+};
 
 /* Begins the request; the caller writes its fields to what is given. */
 Writer *begin_request(Connection *connection, enum opcode opcode);
-/* Sends what was begun, and has the reply. S_OK, a code of the server, or one of the bridge's, and then it has hung up.
-   `repeatable` where asking twice is as asking once: a connection that broke is then dialled again. */
-HRESULT exchange(Connection *connection, BOOL repeatable);
+/* Sends what was begun, and has the reply. S_OK, a code of the server, or one of the bridge's, and then it has hung up. */
+HRESULT exchange(Connection *connection, enum way way);
 /* The fields of the last reply. */
 Reader reply_fields(Connection *connection);
 void hang_up(Connection *connection);
@@ -92,7 +102,8 @@ HRESULT names_to_ids(Connection *connection, UINT32 object, REFGUID class, REFII
 /* What a property of a coclass's default interface takes and holds. S_FALSE where there is no such property. */
 HRESULT property_of(Connection *connection, REFGUID class, DISPID id, Property *property);
 /* Asks for the item of the library with an index: its kind, GUID, and name, of at most 64 units and a NUL.
-   DISP_E_BADINDEX behind the last. `entries` reads on behind them. */
+   DISP_E_BADINDEX behind the last. `entries` reads on behind them. The items are asked for from 0 on, so that all of
+   them are of one server. */
 HRESULT describe_item(Connection *connection, UINT32 index, UINT32 *kind, GUID *guid, WCHAR name[65],
                       UINT32 *entry_count, Reader *entries);
 

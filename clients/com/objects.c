@@ -154,11 +154,10 @@ static HRESULT STDMETHODCALLTYPE object_names(IDispatch *self, REFIID riid, LPOL
 
     if (!count || !names || !ids)
         return E_INVALIDARG;
-    EnterCriticalSection(&object->connection->lock);
+    connection_enter(object->connection);
     result = names_to_ids(object->connection, object->number, &object->class, riid, locale,
                           (const WCHAR *const *)names, count, ids);
-    LeaveCriticalSection(&object->connection->lock);
-    return result;
+    return connection_leave(object->connection, result);
 }
 
 /* What a caller of Invoke gives. */
@@ -237,7 +236,7 @@ static HRESULT take_value(const Call *call)
 static HRESULT finish_call(Call *call)
 {
     Connection *connection = call->object->connection;
-    HRESULT result = exchange(connection, !is_put(call));
+    HRESULT result = exchange(connection, is_put(call) ? ONCE : AGAIN);
 
     call->argument = connection->argument;
     return result == S_OK && !is_put(call) ? take_value(call) : result;
@@ -323,12 +322,10 @@ static HRESULT put_cells(Call *call, SAFEARRAY *cells, VARTYPE type)
 
     cast = cast_cells(cells, type, &made);
     result = invoke(call, SUCCEEDED(cast) ? &made : NULL);
-    if (SUCCEEDED(cast)) {
+    if (SUCCEEDED(cast))
         VariantClear(&made);
-    } else if (result == DISP_E_TYPEMISMATCH) {
-        call->argument = 0;
+    else if (result == DISP_E_TYPEMISMATCH && call->argument == 0) /* the array, and no argument before it */
         result = cast;
-    }
     return result;
 }
 
@@ -383,9 +380,8 @@ static HRESULT STDMETHODCALLTYPE object_invoke(IDispatch *self, DISPID id, REFII
     if (!is_whole(given))
         return given && (given->cArgs > MAX_ARGUMENTS || given->cNamedArgs > MAX_ARGUMENTS) ? DISP_E_BADPARAMCOUNT
                                                                                            : E_INVALIDARG;
-    EnterCriticalSection(&call.object->connection->lock);
-    code = perform(&call);
-    LeaveCriticalSection(&call.object->connection->lock);
+    connection_enter(call.object->connection);
+    code = connection_leave(call.object->connection, perform(&call));
     if (FAILED(code) && argument && call.argument < given->cArgs)
         *argument = call.argument;
     return code;
@@ -443,7 +439,7 @@ static HRESULT list_objects(Connection *connection, UINT32 *count, Reader *entri
     HRESULT result;
 
     begin_request(connection, OP_LIST);
-    if ((result = exchange(connection, TRUE)) != S_OK)
+    if ((result = exchange(connection, AGAIN)) != S_OK)
         return result;
     *entries = reply_fields(connection);
     *count = read_32(entries);
@@ -555,7 +551,7 @@ static HRESULT release_number(const Object *object)
 
     write_32(to, object->number);
     write_32(to, 0);
-    return exchange(object->connection, FALSE);
+    return exchange(object->connection, ONCE);
 }
 
 /* Redim, Lock, Unlock: the property by its name, then Redim's count and lowest index, then the property's arguments. */
@@ -601,7 +597,7 @@ static HRESULT change_array(enum hub_member member, Object *object, const DISPPA
         write_32(to, (UINT32)count);
         write_32(to, (UINT32)(INT32)lowest);
     }
-    result = exchange(connection, FALSE);
+    result = exchange(connection, ONCE);
     *argument = connection->argument < arguments ? connection->argument : NO_ARGUMENT;
     if (result != S_OK || member == HUB_REDIM)
         return result;
@@ -679,9 +675,8 @@ static HRESULT STDMETHODCALLTYPE hub_invoke(IDispatch *self, DISPID id, REFIID r
         return DISP_E_NONAMEDARGS;
     if (given->cArgs < HUB_MEMBERS[id].least || given->cArgs > HUB_MEMBERS[id].most)
         return DISP_E_BADPARAMCOUNT;
-    EnterCriticalSection(&hub->connection->lock);
-    code = perform_of_hub(hub, (enum hub_member)id, given, &told, &wrong);
-    LeaveCriticalSection(&hub->connection->lock);
+    connection_enter(hub->connection);
+    code = connection_leave(hub->connection, perform_of_hub(hub, (enum hub_member)id, given, &told, &wrong));
     if (SUCCEEDED(code) && result)
         *result = told;
     else
@@ -747,17 +742,16 @@ static HRESULT create_number(Connection *connection, REFGUID class, UINT32 *numb
     HRESULT result;
     Reader from;
 
-    EnterCriticalSection(&connection->lock);
+    connection_enter(connection);
     write_bytes(begin_request(connection, OP_CREATE), class, sizeof(GUID));
-    result = exchange(connection, FALSE);
+    result = exchange(connection, ONCE);
     if (result == S_OK) {
         from = reply_fields(connection);
         *number = read_32(&from);
         if (from.bad)
             result = OAUT_E_NO_REPLY;
     }
-    LeaveCriticalSection(&connection->lock);
-    return result;
+    return connection_leave(connection, result);
 }
 
 static HRESULT STDMETHODCALLTYPE class_create(IClassFactory *self, IUnknown *outer, REFIID iid, void **made)
@@ -838,9 +832,9 @@ static HRESULT STDMETHODCALLTYPE parser_parse(IParseDisplayName *self, IBindCtx 
         return MK_E_SYNTAX;
     if (FAILED(result = class_create(class, NULL, &IID_IDispatch, &hub)))
         return result;
-    EnterCriticalSection(&((Object *)hub)->connection->lock);
+    connection_enter(((Object *)hub)->connection);
     result = find_object(hub, number, &IID_IUnknown, (void **)&found);
-    LeaveCriticalSection(&((Object *)hub)->connection->lock);
+    result = connection_leave(((Object *)hub)->connection, result);
     object_release(hub);
     if (FAILED(result))
         return result;

@@ -313,9 +313,8 @@ __declspec(dllexport) HRESULT WINAPI DllInstall(BOOL on, LPCWSTR line)
         connection_release(connection);
         return E_OUTOFMEMORY;
     }
-    EnterCriticalSection(&connection->lock);
-    result = ask_classes(connection, told);
-    LeaveCriticalSection(&connection->lock);
+    connection_enter(connection);
+    result = connection_leave(connection, ask_classes(connection, told));
     connection_release(connection);
     if (SUCCEEDED(result) && FAILED(result = enter_all(name, &settings, told)))
         remove_all(name); /* all of them or none */

@@ -278,6 +278,18 @@ static HRESULT write_variants(Writer *to, const VARIANT *values, UINT32 count)
     return S_OK;
 }
 
+/* Whether cells are what a VARIANT calls them. Numbers are compared by their width alone, since a host may call a
+   Long an INT; but what is followed as a pointer has to be one by the array's own word, where it has said it. */
+static BOOL holds_cells(const SAFEARRAY *array, VARTYPE type, size_t width)
+{
+    VARTYPE own;
+
+    if (array->cbElements != width)
+        return FALSE;
+    return (type != VT_BSTR && type != VT_VARIANT) || !(array->fFeatures & FADF_HAVEVARTYPE) ||
+           (SUCCEEDED(SafeArrayGetVartype((SAFEARRAY *)array, &own)) && own == type);
+}
+
 /* The bounds stand as in memory, where rgsabound has the leftmost dimension last, and so do the cells: in memory the
    last of rgsabound counts fastest, on the wire the last that is listed. */
 static HRESULT write_array(Writer *to, VARTYPE type, const SAFEARRAY *array)
@@ -295,7 +307,7 @@ static HRESULT write_array(Writer *to, VARTYPE type, const SAFEARRAY *array)
         write_size(to, head);
         return S_OK; /* the server refuses its vt */
     }
-    if (dimensions < 1 || dimensions > MAX_BOUNDS || (array && array->cbElements != cells.memory))
+    if (dimensions < 1 || dimensions > MAX_BOUNDS || (array && !holds_cells(array, type, cells.memory)))
         return E_INVALIDARG;
     count = count_cells(bounds, dimensions);
     if (count > MAX_CELLS || (count && !data))
@@ -431,7 +443,7 @@ static HRESULT read_text(Reader *from, BSTR *text)
         from->bad = from->bad || most || units;
         return S_OK;
     }
-    if (count > MAX_TEXT || most != units || units != count / 2 + count % 2)
+    if (most != units || units != count / 2 + count % 2)
         from->bad = TRUE;
     if (!has_bytes(from, (size_t)count + count % 2))
         return S_OK;
@@ -751,7 +763,7 @@ HRESULT cast_cells(SAFEARRAY *cells, VARTYPE type, VARIANT *made)
     SAFEARRAY *array;
     size_t width = cells_of(type).memory;
 
-    if (cells->cDims < 1 || cells->cDims > MAX_BOUNDS || cells->cbElements != sizeof(VARIANT))
+    if (cells->cDims < 1 || cells->cDims > MAX_BOUNDS || !holds_cells(cells, VT_VARIANT, sizeof(VARIANT)))
         return E_INVALIDARG;
     count = count_cells(cells->rgsabound, cells->cDims);
     if (count > MAX_CELLS || (count && !cells->pvData))

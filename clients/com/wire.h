@@ -10,7 +10,6 @@
 
 #define MAX_BODY 0x100000u    /* the bytes of a request's body */
 #define MAX_CELLS 0x10000u    /* the cells of an array */
-#define MAX_TEXT 0x40000u     /* the bytes of a text */
 #define MAX_BOUNDS 16u        /* the bounds of an array */
 #define NO_ARGUMENT 0xFFFFFFFFu /* a reply's index where no argument is at fault */
 

@@ -2,10 +2,11 @@
    arguments, argErr, the moniker, type information. The classes are those of tests/demo.idl, registered with Script = 0.
 
        client                  the cases: a line "ok   NAME" or "BAD  NAME: CODE" each, and the last one "end"
-       client spoiled SECONDS  values there and back over a server whose replies are spoiled, so long: nothing may break */
+       client script           those of a class with Script = 1
+       client spoiled SECONDS  values there and back over a server whose replies are spoiled, so long: nothing may break
+       client starts FILE      puts a number, starts a process that goes on until there is such a file, and ends before it */
 #define COBJMACROS
-#include <windows.h>
-#include <oleauto.h>
+#include "../wire.h"
 
 #include <stdio.h>
 #include <stdlib.h>
@@ -379,6 +380,8 @@ static void refusals(void)
     tell(code == DISP_E_TYPEMISMATCH && at_fault == 0, "an array of VARIANT into one of I2, without Script", code);
     code = put_array(ANY, VT_I2, VT_I8);
     tell(code == E_INVALIDARG && at_fault == 0, "an array of I2 that its VARIANT calls one of I8", code);
+    code = put_array(ANY, VT_I8, VT_BSTR);
+    tell(code == E_INVALIDARG && at_fault == 0, "an array of I8 that its VARIANT calls one of texts", code);
     VariantInit(&value);
     V_VT(&value) = VT_I4 | VT_BYREF;
     V_BYREF(&value) = NULL;
@@ -391,18 +394,47 @@ static void refusals(void)
     tell(code == E_POINTER && at_fault == 0, "a reference to itself", code);
     VariantInit(&value);
     V_VT(&value) = VT_BSTR;
-    V_BSTR(&value) = SysAllocStringByteLen(NULL, 0x200000);
-    memset(V_BSTR(&value), 'x', 0x200000);
+    V_BSTR(&value) = SysAllocStringByteLen(NULL, MAX_BODY);
+    memset(V_BSTR(&value), 'x', MAX_BODY);
     code = put(ANY, &value, 1);
     tell(code == E_INVALIDARG, "a text longer than a request", code);
     VariantClear(&value);
     VariantInit(&value);
     V_VT(&value) = VT_BSTR;
-    V_BSTR(&value) = SysAllocStringByteLen(NULL, 262146);
-    memset(V_BSTR(&value), 'x', 262146);
+    V_BSTR(&value) = SysAllocStringByteLen(NULL, MAX_BODY / 2);
+    memset(V_BSTR(&value), 'x', MAX_BODY / 2);
     code = put(ANY, &value, 1);
     tell(code == (HRESULT)0x800706F7, "a text longer than a server's", code);
     VariantClear(&value);
+}
+
+/* An array of VARIANT for cells of a type, which a class for scripts makes one of them. */
+static void script_arrays(void)
+{
+    SAFEARRAYBOUND two = {2, 0};
+    VARIANT arguments[2], seen, *cells;
+    HRESULT code;
+
+    VariantInit(&arguments[0]);
+    V_ARRAY(&arguments[0]) = SafeArrayCreate(VT_VARIANT, 1, &two);
+    V_VT(&arguments[0]) = VT_ARRAY | VT_VARIANT;
+    cells = V_ARRAY(&arguments[0])->pvData;
+    cells[0] = number_of(7);
+    arguments[1] = number_of(5);
+    code = put(11, arguments, 2);
+    if (code == S_OK)
+        code = get(11, arguments + 1, 1, &seen);
+    tell(code == S_OK && V_VT(&seen) == (VT_ARRAY | VT_VARIANT) && V_I2((VARIANT *)V_ARRAY(&seen)->pvData) == 7,
+         "an array of VARIANT there and back", code);
+    VariantClear(&seen);
+    cells[1] = number_of(70000);
+    code = put(11, arguments, 2);
+    tell(code == DISP_E_OVERFLOW && at_fault == 0, "a cell that is too large, argument 0", code);
+    arguments[1] = text_of(L"no number");
+    code = put(11, arguments, 2);
+    tell(code == DISP_E_TYPEMISMATCH && at_fault == 1, "a wrong parameter beside such a cell, argument 1", code);
+    VariantClear(&arguments[0]);
+    VariantClear(&arguments[1]);
 }
 
 /* Cell(Row:=5, Key:="k") = "x", then gets of it. */
@@ -604,20 +636,52 @@ static int spoiled(REFCLSID class, int seconds)
     return 0;
 }
 
+/* Starts a process that has whatever handles it may have of this one. */
+static int starts(const char *file)
+{
+    STARTUPINFOA how = {.cb = sizeof how};
+    PROCESS_INFORMATION made;
+    VARIANT value = number_of(3);
+    char self[MAX_PATH], line[2 * MAX_PATH + 16];
+
+    GetModuleFileNameA(NULL, self, MAX_PATH);
+    sprintf(line, "\"%s\" waits \"%.250s\"", self, file);
+    tell(put(1, &value, 1) == S_OK, "a put", S_OK);
+    tell(CreateProcessA(NULL, line, NULL, NULL, TRUE, 0, NULL, NULL, &how, &made), "a process is started", S_OK);
+    puts("end");
+    fflush(stdout);
+    TerminateProcess(GetCurrentProcess(), 0); /* it hangs up by its end alone */
+    return 1;
+}
+
 int main(int count, char **words)
 {
+    const char *what = count > 1 ? words[1] : "";
     HRESULT code;
     CLSID class;
 
+    while (!strcmp(what, "waits"))
+        if (GetFileAttributesA(words[2]) != INVALID_FILE_ATTRIBUTES)
+            return 0;
+        else
+            Sleep(50);
     CoInitialize(NULL);
     code = CLSIDFromProgID(L"Demo.Item", &class);
-    if (count > 2)
+    if (!strcmp(what, "spoiled"))
         return FAILED(code) || spoiled(&class, atoi(words[2]));
     if (SUCCEEDED(code))
         code = CoCreateInstance(&class, NULL, CLSCTX_INPROC_SERVER, &IID_IDispatch, (void **)&item);
     tell(SUCCEEDED(code), "an object is made", code);
     if (FAILED(code))
         return 1;
+    if (!strcmp(what, "starts"))
+        return starts(words[2]);
+    if (!strcmp(what, "script")) {
+        script_arrays();
+        IDispatch_Release(item);
+        puts("end");
+        return 0;
+    }
     tell(id_of(item, L"any") == 7 && id_of(item, L"COUNT") == 1 && id_of(item, L"Count") == 1, "DISPIDs of names", S_OK);
     scalars();
     arrays();

@@ -319,11 +319,11 @@ static void fuzz_call(Connection *connection)
     case 3:
         write_32(begin_request(connection, OP_RELEASE), any(4));
         write_zeros(&connection->request, any(40) ? 4 : 2 * MAX_BODY);
-        count_code(exchange(connection, FALSE));
+        count_code(exchange(connection, any(4) ? ONCE : HERE));
         break;
     default:
         write_zeros(begin_request(connection, OP_INVOKE), 56);
-        code = exchange(connection, TRUE);
+        code = exchange(connection, AGAIN);
         if (code == S_OK) {
             entries = reply_fields(connection);
             code = read_variant(&entries, &value);

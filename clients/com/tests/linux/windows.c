@@ -87,28 +87,40 @@ static size_t cells_of(const SAFEARRAY *array)
     return cells;
 }
 
+/* The type of its cells stands before an array. */
+#define BEFORE 16
+
 SAFEARRAY *SafeArrayCreate(VARTYPE type, UINT dimensions, const SAFEARRAYBOUND *bounds)
 {
-    SAFEARRAY *array = tried_malloc(sizeof *array + dimensions * sizeof *bounds);
+    BYTE *block = tried_malloc(BEFORE + sizeof(SAFEARRAY) + dimensions * sizeof *bounds);
+    SAFEARRAY *array;
     UINT i;
 
     assert(dimensions > 0);
-    if (!array)
+    if (!block)
         return NULL;
+    memcpy(block, &type, sizeof type);
+    array = (SAFEARRAY *)(block + BEFORE);
     memset(array, 0, sizeof *array);
     array->cDims = (USHORT)dimensions;
-    array->fFeatures = type == VT_BSTR ? 0x100 : type == VT_VARIANT ? 0x800 : 0;
+    array->fFeatures = FADF_HAVEVARTYPE | (type == VT_BSTR ? 0x100 : type == VT_VARIANT ? 0x800 : 0);
     array->cbElements = (ULONG)size_of(type);
     for (i = 0; i < dimensions; i++)
         array->rgsabound[i] = bounds[dimensions - 1 - i];
     array->pvData = tried_malloc(cells_of(array) * array->cbElements);
     if (!array->pvData) {
-        free(array);
+        free(block);
         return NULL;
     }
     memset(array->pvData, 0, cells_of(array) * array->cbElements);
     blocks++;
     return array;
+}
+
+HRESULT SafeArrayGetVartype(SAFEARRAY *array, VARTYPE *type)
+{
+    memcpy(type, (BYTE *)array - BEFORE, sizeof *type);
+    return S_OK;
 }
 
 HRESULT SafeArrayDestroy(SAFEARRAY *array)
@@ -121,7 +133,7 @@ HRESULT SafeArrayDestroy(SAFEARRAY *array)
         else if (array->fFeatures & 0x800)
             VariantClear((VARIANT *)array->pvData + i);
     free(array->pvData);
-    free(array);
+    free((BYTE *)array - BEFORE);
     blocks--;
     return S_OK;
 }

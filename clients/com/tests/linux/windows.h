@@ -62,6 +62,7 @@ enum {
 };
 #define VARIANT_TRUE ((VARIANT_BOOL)-1)
 #define DECIMAL_NEG 0x80
+#define FADF_HAVEVARTYPE 0x80
 
 typedef struct DECIMAL { USHORT reserved; BYTE scale, sign; ULONG Hi32; ULONGLONG Lo64; } DECIMAL;
 typedef struct CY { LONGLONG int64; } CY;
@@ -107,6 +108,7 @@ BSTR SysAllocStringByteLen(const char *bytes, UINT count);
 UINT SysStringByteLen(BSTR text);
 SAFEARRAY *SafeArrayCreate(VARTYPE type, UINT dimensions, const SAFEARRAYBOUND *bounds);
 HRESULT SafeArrayDestroy(SAFEARRAY *array);
+HRESULT SafeArrayGetVartype(SAFEARRAY *array, VARTYPE *type);
 HRESULT VariantClear(VARIANT *value);
 int lstrcmpW(const WCHAR *one, const WCHAR *other);
 int lstrlenW(const WCHAR *text);
@@ -143,6 +145,9 @@ int WSACleanup(void);
 int WSAGetLastError(void);
 int GetAddrInfoW(const WCHAR *host, const WCHAR *port, const ADDRINFOW *hints, ADDRINFOW **list);
 #define FreeAddrInfoW freeaddrinfo
+#define WSA_FLAG_OVERLAPPED 1
+#define WSA_FLAG_NO_HANDLE_INHERIT 0x80
+#define WSASocketW(family, type, protocol, info, group, flags) socket(family, type, protocol)
 #define closesocket close
 int set_socket_option(SOCKET socket, int level, int option, const char *value, int size);
 #define setsockopt set_socket_option

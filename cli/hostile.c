@@ -3,8 +3,10 @@
    REFUSE, REFUSE_FROM   memory is refused at one call of the allocator, counted from 1 where `main` begins, and at each from one on; what the
                          system takes before `main` and behind it is neither counted nor refused
    SHORT                 a read or a write brings so many bytes at most
-   INTERRUPTED           each read of standard input is interrupted
-   TOLD                  a file, which gets the number of calls of the allocator, of blocks that were not freed, and of reads of standard input */
+   INTERRUPTED           each read of standard input is interrupted (1), or each write to standard output (2)
+   BLOCKED               the same calls would block
+   TOLD                  a file, which gets the number of calls of the allocator, of blocks that were not freed, of reads of standard input and
+                         of writes to standard output */
 #define _GNU_SOURCE
 #include <dlfcn.h>
 #include <errno.h>
@@ -25,8 +27,8 @@ ssize_t __write(int file, const void *from, size_t size);
 ssize_t __pread64(int file, void *into, size_t size, off64_t at);
 ssize_t __pwrite64(int file, const void *from, size_t size, off64_t at);
 
-static int counts, interrupted;
-static long calls, blocks, reads, refused, refused_from;
+static int counts;
+static long calls, blocks, reads, writes, refused, refused_from, interrupted, blocked;
 static size_t most = (size_t)-1;
 
 static long number(const char *name) {
@@ -79,18 +81,27 @@ void free(void *block) {
 
 /* files */
 
+/* what keeps a call from standard input (1) or standard output (2) from being made */
+static int kept_off(long stream) {
+    errno = interrupted == stream ? EINTR : EAGAIN;
+    return interrupted == stream || blocked == stream;
+}
+
 ssize_t read(int file, void *into, size_t size) {
     if (counts && file == 0) {
         reads++;
-        if (interrupted) {
-            errno = EINTR;
-            return -1;
-        }
+        if (kept_off(1)) return -1;
     }
     return __read(file, into, brought(size));
 }
 
-ssize_t write(int file, const void *from, size_t size) { return __write(file, from, brought(size)); }
+ssize_t write(int file, const void *from, size_t size) {
+    if (counts && file == 1) {
+        writes++;
+        if (kept_off(2)) return -1;
+    }
+    return __write(file, from, brought(size));
+}
 
 ssize_t pread64(int file, void *into, size_t size, off64_t at) { return __pread64(file, into, brought(size), at); }
 
@@ -107,7 +118,7 @@ static int (*program)(int, char **, char **);
 static void told(void) {
     counts = 0;
     char text[96];
-    int length = snprintf(text, sizeof text, "%ld %ld %ld\n", calls, blocks, reads);
+    int length = snprintf(text, sizeof text, "%ld %ld %ld %ld\n", calls, blocks, reads, writes);
     int file = open(getenv("TOLD"), O_WRONLY | O_CREAT | O_TRUNC, 0600);
     if (__write(file, text, length) != length) abort();
     close(file);
@@ -116,7 +127,8 @@ static void told(void) {
 static int counted(int count, char **words, char **variables) {
     refused = number("REFUSE");
     refused_from = number("REFUSE_FROM");
-    interrupted = number("INTERRUPTED") != 0;
+    interrupted = number("INTERRUPTED");
+    blocked = number("BLOCKED");
     if (number("SHORT") > 0) most = number("SHORT");
     atexit(told);
     calls = blocks = 0;

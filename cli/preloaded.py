@@ -1,4 +1,4 @@
-"""Runs of the program behind a library that makes the system as bad as it may be (cli/hostile.c): one that refuses memory, brings a byte at a time, or interrupts each read."""
+"""Runs of the program behind a library that makes the system as bad as it may be (cli/hostile.c): one that refuses memory, brings a byte at a time, or interrupts each read or write."""
 import mmap
 import os
 import shutil
@@ -96,7 +96,8 @@ class StoreFile:
 
 
 class Told(NamedTuple):
-    """What came of a run: status, output and fault; how many calls of the allocator were made, how many blocks were not freed, and how often standard input was read."""
+    """What came of a run: status, output and fault; how many calls of the allocator were made, how many blocks were not freed, and how often standard input was read
+    and standard output written."""
 
     status: int
     out: bytes
@@ -104,6 +105,7 @@ class Told(NamedTuple):
     calls: int
     left: int
     reads: int
+    writes: int
 
 
 class Preloaded:
@@ -129,7 +131,7 @@ class Preloaded:
     def run(self, words, given="nothing", **how):
         """Runs the program with the file `given` on standard input. `how` are the variables that the library reads, in lower case."""
         variables = {"LD_PRELOAD": self.path("hostile.so"), "TOLD": self.path("told"), **{name.upper(): str(it) for name, it in how.items()}}
-        self.fill("told", b"-1 -1 -1")
+        self.fill("told", b"-1 -1 -1 -1")
         status, _ = spawned([PROGRAM, *words], self.path(given), self.path("out"), self.path("err"), variables)
         return Told(status, read(self.path("out")), read(self.path("err")), *map(int, read(self.path("told")).split()))
 

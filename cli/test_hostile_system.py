@@ -1,4 +1,4 @@
-"""A system that does the least that it may: reads and writes that bring a byte at a time, or nothing, and reads that are interrupted for ever."""
+"""A system that does the least that it may: reads and writes that bring a byte at a time, or nothing, and some that are interrupted for ever, or would block."""
 import os
 import re
 import struct
@@ -21,6 +21,7 @@ from test_hostile import stub, tagged
 from test_sessions import LINE_LIMIT
 
 READ_CALLS = 2 * LINE_LIMIT  # of one record or line
+WRITE_CALLS = 4_194_304  # that may be interrupted in one put
 
 
 @unittest.skipUnless(COMPILER, "cc is not there")
@@ -49,6 +50,35 @@ class Bytewise(Cases):
             for words in ([], ["--hex"]):
                 got = preloaded.run(["play", *words, preloaded.path("lib.idl")], interrupted=1)
                 self.tell(f"reads are interrupted for ever, {words or 'records'}", (got[:3], got.reads) == ((1, b"", fault("read fault")), READ_CALLS), got)
+
+    def test_writes_that_are_interrupted_for_ever(self):
+        with Preloaded() as preloaded:
+            preloaded.fill("lib.idl", SMALL)
+            preloaded.fill("given", CREATE + b"\n")
+            got = preloaded.run(["play", "--hex", preloaded.path("lib.idl")], "given", interrupted=2)
+            self.tell("writes are interrupted for ever", (got[:3], got.writes) == ((1, b"", fault("write fault")), WRITE_CALLS), got)
+
+    def test_calls_that_would_block(self):
+        """That is a failure, and no such call is made again."""
+        with Preloaded() as preloaded:
+            preloaded.fill("lib.idl", SMALL)
+            preloaded.fill("given", CREATE + b"\n")
+            words = ["play", "--hex", preloaded.path("lib.idl")]
+            got = preloaded.run(words, "given", blocked=1)
+            self.tell("a read would block", (got[:3], got.reads) == ((1, b"", fault("read fault")), 1), got)
+            got = preloaded.run(words, "given", blocked=2)
+            self.tell("a write would block", (got[:3], got.writes) == ((1, b"", fault("write fault")), 1), got)
+
+    def test_replies_a_byte_a_write(self):
+        """However many writes a reply takes, it leaves whole."""
+        with Preloaded() as preloaded:
+            preloaded.fill("lib.idl", LIBRARY)
+            bodies = tagged([*worked.CREATED, worked.put(worked.NAME, wire.scalar(BSTR, bytes(range(256)) * 400)), worked.get(worked.NAME)])
+            answering = Answering()
+            due = oaut.Raw.pack(map(answering.reply, bodies))
+            preloaded.fill("given", oaut.Raw.pack(bodies))
+            got = preloaded.run(["play", preloaded.path("lib.idl")], "given", short=1)
+            self.tell("replies of 100,000 bytes, a byte a write", (got[:3], got.writes >= len(due)) == ((0, due, b""), True), (got[0], len(got[1]), got[2], got.writes))
 
     def test_files_a_byte_at_a_time(self):
         """Each call of the store's file brings a byte, or a few: the file is the same as where they bring all."""

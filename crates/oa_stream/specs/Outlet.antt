@@ -1,5 +1,5 @@
 -- Writers of the standard library.
-use Rattle.std.specs.Prelude.{◌≡◌, ℕ, ◌<◌, ◌≤◌, Bool, true, false, List, [], length, take, Option}
+use Rattle.std.specs.Prelude.{◌≡◌, ℕ, ◌+◌, ◌<◌, ◌≤◌, Bool, true, false, List, [], length, take, Option}
 use Rattle.std.specs.Io.KnownBytes.{Appends, Keeps}
 use Rattle.oa_stream.specs.declared.outlet.Outlet.{Outlet}
 use Rattle.oa_stream.specs.declared.outlet.Taken.{Taken}
@@ -9,6 +9,16 @@ use Rattle.oa_stream.specs.Sink.{Output}
 -- what the standard library says that the writer within holds has left; no room is promised
 abbrev pub outlet : {W : Type 0} → (W → Option (List ℕ)) → Outlet W → Output
 outlet contents o = record { reached = contents o.writer; kept = []; flushed = o.flushed; back = 0; room = 0; broken = o.broken }
+
+-- so many calls in a row may be interrupted
+abbrev pub most_tries : ℕ
+most_tries = 4194304
+
+-- An interrupted call is counted, and a failed one remembered.
+abbrev pub Tried : Taken → ℕ → ℕ → Bool → Type 0
+Tried (Bytes n) old new failed = new ≡ old
+Tried Again old new failed = new ≡ old + 1
+Tried Fault old new failed = (failed ≡ true) × (new ≡ old)
 
 -- one write call
 abbrev pub Took : Taken → Option (List ℕ) → Option (List ℕ) → Bool → List ℕ → Type 0

@@ -1,10 +1,14 @@
 //! Writers of the standard library.
-ghost use Rattle.std.specs.Prelude.{◌≡◌, ◌<◌, ◌≤◌, [], true, false, length};
+ghost use Rattle.std.specs.Prelude.{◌≡◌, ◌⊎◌, ◌<◌, ◌≤◌, [], true, false, IsErr, length};
 ghost use Rattle.std.proofs.Common.{le_refl};
-ghost use Rattle.oa_stream.specs.Outlet.{Flushes, Took, outlet};
+ghost use Rattle.oa_stream.specs.Outlet.{Flushes, Took, Tried, most_tries, outlet};
+ghost use Rattle.oa_stream.specs.Sink.{Delivers, Puts};
 
 use crate::{Sink, Unwritten};
 use std::io::{ErrorKind, Write};
+
+/// How many calls of a writer may be interrupted in one put, or in one delivery. So many count as a failure.
+pub(crate) const MOST_TRIES: usize = 4_194_304;
 
 /// What became of one call of a writer.
 #[derive(Clone, Copy, Debug, PartialEq, Eq)]
@@ -17,13 +21,15 @@ pub(crate) enum Taken {
     Fault,
 }
 
-/// A writer of the standard library. It promises nothing, keeps nothing back itself, and remembers whether a flush is wanting and whether
-/// it failed.
+/// A writer of the standard library. It promises nothing, keeps nothing back itself, and remembers whether a flush is wanting, whether a
+/// call of it failed, and how many calls were interrupted since it was last asked.
 #[derive(Drop)]
 pub struct Outlet<W> {
     writer: W,
     flushed: bool,
     broken: bool,
+    failed: bool,
+    tries: usize,
 }
 
 impl<W: Write> Outlet<W> {
@@ -36,6 +42,8 @@ impl<W: Write> Outlet<W> {
             writer,
             flushed: true,
             broken: false,
+            failed: false,
+            tries: 0,
         }
     }
 
@@ -43,31 +51,46 @@ impl<W: Write> Outlet<W> {
     fn take(&mut self, bytes: &[u8]) -> Taken
         requires unbroken { self.old.broken ≡ false }
         requires some { 0 < length bytes.now }
+        requires few { self.old.tries < most_tries }
         ensures took { Took result (W.contents self.old.writer) (W.contents self.new.writer) self.new.broken bytes.now }
+        ensures tried { Tried result self.old.tries self.new.tries self.new.failed }
         ensures flushed { self.new.flushed ≡ false }
     {
         self.flushed = false;
         match self.writer.write(bytes) {
-            Ok(0) => {
-                self.broken = true;
-                Taken::Fault
-            }
+            Ok(0) => self.fail(),
             Ok(count) => Taken::Bytes(count),
             Err(error) => {
                 if error.kind() == ErrorKind::Interrupted {
+                    self.tries += 1;
                     Taken::Again
                 } else {
-                    self.broken = true;
-                    Taken::Fault
+                    self.fail()
                 }
             }
         }
     }
 
+    // A call of the writer has failed.
+    fn fail(&mut self) -> Taken
+        ensures fault { result ≡ Taken.Fault }
+        ensures broken { self.new.broken ≡ true }
+        ensures failed { self.new.failed ≡ true }
+        ensures writer { self.new.writer ≡ self.old.writer }
+        ensures flushed { self.new.flushed ≡ self.old.flushed }
+        ensures tries { self.new.tries ≡ self.old.tries }
+    {
+        self.broken = true;
+        self.failed = true;
+        Taken::Fault
+    }
+
     // One flush.
     fn flush(&mut self) -> Taken
         requires unbroken { self.old.broken ≡ false }
-        ensures { Flushes result (W.contents self.old.writer) (W.contents self.new.writer) self.new.flushed self.new.broken }
+        requires few { self.old.tries < most_tries }
+        ensures flushes { Flushes result (W.contents self.old.writer) (W.contents self.new.writer) self.new.flushed self.new.broken }
+        ensures tried { Tried result self.old.tries self.new.tries self.new.failed }
     {
         match self.writer.flush() {
             Ok(()) => {
@@ -76,31 +99,43 @@ impl<W: Write> Outlet<W> {
             }
             Err(error) => {
                 if error.kind() == ErrorKind::Interrupted {
+                    self.tries += 1;
                     Taken::Again
                 } else {
-                    self.broken = true;
-                    Taken::Fault
+                    self.fail()
                 }
             }
         }
     }
 }
 
-// Both loops make an interrupted call again, 18,446,744,073,709,551,615 times at most; that many count as a failure.
+// Both loops make an interrupted call again. Each other call of `put` takes a byte at least, so no loop comes to its end.
 impl<W: Write> Sink for Outlet<W> {
     ghost out = { outlet W.contents };
 
     ghost keeps = { λ _. le_refl 0 };
 
-    fn put(&mut self, bytes: &[u8]) -> Result<(), Unwritten> {
+    fn put(&mut self, bytes: &[u8]) -> Result<(), Unwritten>
+        requires unbroken { (outlet W.contents self.old).broken ≡ false }
+        ensures puts { Puts result (outlet W.contents self.old) (outlet W.contents self.new) bytes.now }
+        // It fails where a call of the writer has failed, or so many were interrupted, and never else.
+        ensures cause { IsErr result → (self.new.failed ≡ true) ⊎ (self.new.tries ≡ most_tries) }
+        ensures ends { self.new.tries ≤ most_tries }
+    {
+        self.tries = 0;
         let mut at = 0;
-        'calls: for _ in 0..u64::MAX {
+        'calls: for _ in 0..bytes.len() + MOST_TRIES {
             if at >= bytes.len() {
                 return Ok(());
             }
             match self.take(&bytes[at..]) {
                 Taken::Bytes(count) => at += count,
-                Taken::Again => {}
+                Taken::Again => {
+                    if self.tries >= MOST_TRIES {
+                        self.broken = true;
+                        return Err(Unwritten);
+                    }
+                }
                 Taken::Fault => return Err(Unwritten),
             }
         }
@@ -108,11 +143,17 @@ impl<W: Write> Sink for Outlet<W> {
         Err(Unwritten)
     }
 
-    fn deliver(&mut self) -> Result<(), Unwritten> {
+    fn deliver(&mut self) -> Result<(), Unwritten>
+        requires unbroken { (outlet W.contents self.old).broken ≡ false }
+        ensures delivers { Delivers result (outlet W.contents self.old) (outlet W.contents self.new) }
+        ensures cause { IsErr result → (self.new.failed ≡ true) ⊎ (self.new.tries ≡ most_tries) }
+        ensures ends { self.new.tries ≤ most_tries }
+    {
+        self.tries = 0;
         if self.flushed {
             return Ok(());
         }
-        'calls: for _ in 0..u64::MAX {
+        'calls: for _ in 0..MOST_TRIES {
             match self.flush() {
                 Taken::Bytes(_) => return Ok(()),
                 Taken::Again => {}

@@ -10,13 +10,15 @@ use Rattle.oa_store.specs.Stores.{IsStoreIn}
 use Rattle.oa_store.specs.declared.store.Store.{Store}
 use Rattle.oa_table.specs.Tables.{TableValue}
 use Rattle.oa_keeper.proofs.Committed.{no_change}
-use Rattle.oa_groups.specs.Desks.{CallsFor, Desk, IsApart, IsEnded, IsFailed, IsFlushed, IsHeld, IsOver, IsReplaced, IsSettled, IsTaken}
-use Rattle.oa_groups.specs.Going.{IsCut, IsCutBefore, IsGroup, IsEnd, IsWholeBefore, Going, Faulted, Underway}
-use Rattle.oa_groups.specs.Groups.{BeginsAlone, events_in, fills, groups_of, is_full, joined, rest_of}
-use Rattle.oa_groups.specs.Runs.{AllHoldState, AllQuiet, HoldsState, IsAfter, IsQuiet, IsRun, Run}
-use Rattle.oa_groups.specs.Served.{Goes, IsServed}
+use Rattle.oa_groups.specs.Desks.{Desk, IsApart, IsDue, IsFailed, IsFlushed, IsHeld, IsOver, IsReplaced, IsSettled, IsTaken}
+use Rattle.oa_groups.specs.Faults.{IsWholeBefore}
+use Rattle.oa_groups.specs.Going.{IsCut, IsCutBefore, IsGroup, Going, Faulted, Underway}
+use Rattle.oa_groups.specs.Groups.{BeginsAlone, events_in, fills, is_full, joined}
+use Rattle.oa_groups.specs.Runs.{AllHoldState, CallsFor, HoldsState, InTurn, IsAfter, IsRun, Run}
+use Rattle.oa_groups.specs.Served.{Goes}
 use Rattle.oa_groups.specs.Turns.{Entry, Turns, body_of, entry, reply_of}
-use Rattle.oa_groups.proofs.Entries.{apart_group, cut_apart, cut_before, cut_ends, cut_flushed, cut_holds, cut_last, cut_one, either, ends_after, events_push, full_group, group_ends}
+use Rattle.oa_groups.proofs.Called.{calls_behind, calls_events, calls_more, calls_none, calls_one, none_or_some, turn_push}
+use Rattle.oa_groups.proofs.Entries.{apart_group, cut_apart, cut_before, cut_ends, cut_flushed, cut_holds, cut_one, either, events_push, full_group, group_ends}
 use Rattle.oa_groups.proofs.Entries.{joined_push, run_append, run_replays}
 use Rattle.oa_groups.proofs.Running.{after_all, after_fewer, after_more, run_more, run_on, run_started}
 
@@ -51,12 +53,6 @@ goes_on {D} {g} old mid new one two = record {
     on false at going = at
     on true at going = absurd (true≢false (sym (two.stays at).0 ∙ going))
 
-no_group : {X : Type 0} (x : X) → [] ≡ x ∷ [] → ⊥
-no_group x e = absurd cc
-
-one_group : {X : Type 0} (x y : X) → x ∷ [] ≡ y ∷ [] → x ≡ y
-one_group x y e = cc
-
 no_bytes : (bytes : List ℕ) → length bytes ≡ 0 → bytes ≡ []
 no_bytes [] none = refl
 no_bytes (b ∷ bytes) none = absurd (omega (arith, none))
@@ -65,27 +61,15 @@ no_bytes (b ∷ bytes) none = absurd (omega (arith, none))
 joined_events : {R : Type 0} (held : List (Entry R)) (asked : Entry R) → length (events_in held) ≡ 0 → asked.event ≡ [] → events_in (held ++ asked ∷ []) ≡ []
 joined_events held asked none empty = events_push held asked ∙ ap (λ (l : List ℕ). events_in held ++ l) empty ∙ append-nil (events_in held) ∙ no_bytes (events_in held) none
 
-no_entry : {R : Type 0} (held : List (Entry R)) → map reply_of held ≡ [] → held ≡ []
+pub no_entry : {R : Type 0} (held : List (Entry R)) → map reply_of held ≡ [] → held ≡ []
 no_entry [] is = refl
 no_entry (asked ∷ held) is = absurd (cc)
 
-some_entry : {R : Type 0} (held : List (Entry R)) → map reply_of held ≢ [] → 0 < length held
+pub some_entry : {R : Type 0} (held : List (Entry R)) → map reply_of held ≢ [] → 0 < length held
 some_entry [] some = absurd (some refl)
 some_entry (asked ∷ held) some = omega arith
 
 module _ {S R : Type 0} (t : Turns S R) where
-  quiet_front : (front back : List (Entry R)) → AllQuiet t (front ++ back) → AllQuiet t front
-  quiet_front [] back quiet = tt
-  quiet_front (asked ∷ front) back quiet = (quiet.0, quiet_front front back quiet.1)
-
-  quiet_back : (front back : List (Entry R)) → AllQuiet t (front ++ back) → AllQuiet t back
-  quiet_back [] back quiet = quiet
-  quiet_back (asked ∷ front) back quiet = quiet_back front back quiet.1
-
-  quiet_bytes : (entries : List (Entry R)) → AllQuiet t entries → length (events_in entries) ≡ 0
-  quiet_bytes [] quiet = refl
-  quiet_bytes (asked ∷ entries) quiet = ap (λ (l : List ℕ). length (l ++ events_in entries)) quiet.0.none ∙ quiet_bytes entries quiet.1
-
   run_one : (old : S) (asked : Entry R) (new : S) → t.Turn asked old new → Run t old (asked ∷ []) new
   run_one old asked new turn = (new, turn, refl)
 
@@ -128,13 +112,15 @@ module _ {S R : Type 0} (t : Turns S R) where
       runs = refl;
       same = refl;
       same_bank = refl;
-      quiet = λ quiet. refl;
+      mark = start.store.disk;
+      in_turn = (refl, refl);
+      calls = inl refl;
       all = λ begins. begins;
       moments = λ begins. (_, run_started t g.moment g.image_since first start.store.disk (λ c since. state_held start.store first begins c (only start.store.disk c begins.all.0 since)));
     }
 
     -- how the requests are cut may be said otherwise
-    going_as : {C : List (List (Entry R)) → List (Entry R) → Type 0} {now : Desk S R D g} {bodies : List (List ℕ)} {out : List R} (was : Going t C start now bodies out)
+    pub going_as : {C : List (List (Entry R)) → List (Entry R) → Type 0} {now : Desk S R D g} {bodies : List (List ℕ)} {out : List R} (was : Going t C start now bodies out)
         (C' : List (List (Entry R)) → List (Entry R) → Type 0) → C' was.groups was.held → Going t C' start now bodies out
     going_as was C' cuts = record {
       groups = was.groups;
@@ -149,7 +135,9 @@ module _ {S R : Type 0} (t : Turns S R) where
       runs = was.runs;
       same = was.same;
       same_bank = was.same_bank;
-      quiet = was.quiet;
+      mark = was.mark;
+      in_turn = was.in_turn;
+      calls = was.calls;
       all = was.all;
       moments = was.moments;
     }
@@ -174,17 +162,23 @@ module _ {S R : Type 0} (t : Turns S R) where
           subst (λ (l : List ℕ). IsStoreIn (Two (t.bank old.state)) c l (t.held old.state)) (sym was.same)
           (subst (λ (n : ℕ). IsStoreIn (Two n) c (t.text was.committed) (t.held old.state)) (sym was.same_bank) (held_as old.store was.committed (was.all begins) (t.held old.state) c is))
 
-      -- without an event nothing is called
-      still : (asked : Entry R) (new : Desk S R D g) → IsHeld t asked old new → AllQuiet t ((joined was.groups ++ was.held) ++ asked ∷ []) → new.store.disk ≡ start.store.disk
-      still asked new one quiet = by one.calls ∙ was.quiet (quiet_front (joined was.groups ++ was.held) (asked ∷ []) quiet)
+      -- so far, and for what this request calls
+      called_by : (asked : Entry R) (new : Desk S R D g) → IsHeld t asked old new → (new.store.disk ≡ was.mark) ⊎ CallsFor t was.committed (was.held ++ asked ∷ [])
+      called_by asked new one = by one.calls was.calls
         where
-          own : AllQuiet t (asked ∷ [])
-          own = quiet_back (joined was.groups ++ was.held) (asked ∷ []) quiet
+          by : (new.store.disk ≡ old.store.disk) ⊎ IsDue t old.store old.state old.events asked.body → (old.store.disk ≡ was.mark) ⊎ CallsFor t was.committed was.held
+              → (new.store.disk ≡ was.mark) ⊎ CallsFor t was.committed (was.held ++ asked ∷ [])
+          by (inr due) before = inr (calls_behind t was.committed was.held old.state (asked ∷ []) was.runs (calls_one t old.state asked due.makes))
+          by (inl same) (inl before) = inl (same ∙ before)
+          by (inl same) (inr called) = inr (calls_more t was.committed was.held (asked ∷ []) called)
 
-          by : CallsFor old.store new.store asked.event (t.is_starved asked.reply) → new.store.disk ≡ old.store.disk
-          by (inl same) = same
-          by (inr (inl some)) = absurd (omega (arith, some, ap length own.0.none))
-          by (inr (inr starved)) = absurd (true≢false (sym starved ∙ own.0.fed))
+      -- the group in hand calls for its events
+      settled_by : (told : List R) (new : Desk S R D g) → IsSettled t told old new → ((new.store.disk ≡ old.store.disk) × (new.store.stopped ≡ false)) ⊎ CallsFor t was.committed was.held
+      settled_by told new one = by (none_or_some old.events)
+        where
+          by : (length old.events ≡ 0) ⊎ (0 < length old.events) → ((new.store.disk ≡ old.store.disk) × (new.store.stopped ≡ false)) ⊎ CallsFor t was.committed was.held
+          by (inl none) = inl (one.quiet none)
+          by (inr some) = inr (calls_events t was.committed was.held old.state was.runs (subst (λ (l : List ℕ). 0 < length l) was.events_are some))
 
       -- a request more is held
       going_held : (C' : List (List (Entry R)) → List (Entry R) → Type 0) (asked : Entry R) (new : Desk S R D g) → C' was.groups (was.held ++ asked ∷ []) → IsHeld t asked old new → Going t C' start new (bodies ++ asked.body ∷ []) out
@@ -201,8 +195,9 @@ module _ {S R : Type 0} (t : Turns S R) where
         runs = run_append t was.committed was.held old.state (asked ∷ []) new.state was.runs (run_one old.state asked new.state one.turn);
         same = t.stays asked old.state new.state one.turn one.plain ∙ was.same;
         same_bank = t.sized asked old.state new.state one.turn ∙ was.same_bank;
-        quiet = λ quiet. still asked new one
-            (subst (λ (l : List (Entry R)). AllQuiet t l) (sym (append_assoc (joined was.groups) was.held (asked ∷ []))) quiet);
+        mark = was.mark;
+        in_turn = was.in_turn;
+        calls = called_by asked new one;
         all = λ begins. let before = was.all begins in record { shape = one.goes.shape ∙ before.shape; has = one.library ∙ before.has; all = one.each (t.held was.committed) none_made before.all };
         moments = λ begins. let before = was.moments begins in (
           before.0,
@@ -252,8 +247,17 @@ module _ {S R : Type 0} (t : Turns S R) where
             all = one.each going (t.held was.committed) makes before.all;
           }
 
+      ended_by : (told : List R) (new : Desk S R D g) → IsSettled t told old new → (new.store.disk ≡ was.mark) ⊎ CallsFor t was.committed was.held
+      ended_by told new one = by (settled_by told new one) was.calls
+        where
+          by : ((new.store.disk ≡ old.store.disk) × (new.store.stopped ≡ false)) ⊎ CallsFor t was.committed was.held → (old.store.disk ≡ was.mark) ⊎ CallsFor t was.committed was.held
+              → (new.store.disk ≡ was.mark) ⊎ CallsFor t was.committed was.held
+          by (inr called) before = inr called
+          by (inl same) (inl before) = inl (same.0 ∙ before)
+          by (inl same) (inr called) = inr called
+
       -- the group in hand was committed, and its replies are handed out
-      going_ends : (C' : List (List (Entry R)) → List (Entry R) → Type 0) (told : List R) (new : Desk S R D g) → new.store.stopped ≡ false → C' grown [] → IsSettled t told old new → Going t C' start new bodies (out ++ told)
+      pub going_ends : (C' : List (List (Entry R)) → List (Entry R) → Type 0) (told : List R) (new : Desk S R D g) → new.store.stopped ≡ false → C' grown [] → IsSettled t told old new → Going t C' start new bodies (out ++ told)
       going_ends C' told new going cuts one =
           let well = one.well going in
           record {
@@ -270,9 +274,9 @@ module _ {S R : Type 0} (t : Turns S R) where
             runs = refl;
             same = refl;
             same_bank = refl;
-            quiet = λ quiet.
-                let before = subst (λ (l : List (Entry R)). AllQuiet t l) (append-nil (joined grown) ∙ joined_push was.groups was.held) quiet in
-                one.quiet (ap length was.events_are ∙ quiet_bytes was.held (quiet_back (joined was.groups) was.held before)) ∙ was.quiet before;
+            mark = new.store.disk;
+            in_turn = turn_push t start.store.disk first was.groups was.mark was.committed was.held new.store.disk new.state was.in_turn (subst (λ (s : S). Run t was.committed was.held s) (sym one.state) was.runs) (ended_by told new one);
+            calls = inl refl;
             all = λ begins. subst (λ (s : S). AllHoldState t new.store s) (sym one.state) (committed_now told new going one begins);
             moments = λ begins.
                 let on = during told new one begins in
@@ -284,21 +288,29 @@ module _ {S R : Type 0} (t : Turns S R) where
           }
 
       -- it could not be committed, and its replies are taken back
-      going_breaks : (size : ℕ) (W : List (Entry R) → List (List ℕ) → Type 0) (told : List R) (new : Desk S R D g) → W was.held [] → new.store.stopped ≡ true → IsGroup t.alone size was.groups was.held → IsSettled t told old new
+      pub going_breaks : (size : ℕ) (W : S → List (Entry R) → List (List ℕ) → Type 0) (told : List R) (new : Desk S R D g) → W was.committed was.held [] → new.store.stopped ≡ true → IsGroup t.alone size was.groups was.held → IsSettled t told old new
           → Faulted t size W start new bodies (out ++ told)
       going_breaks size W told new whole stopped ends one = record {
         groups = was.groups;
         group = was.held;
         others = [];
+        committed = was.committed;
         cuts = ends;
         whole = whole;
         bodies_are = was.bodies_are ∙ sym (append-nil (map body_of (joined was.groups ++ was.held)));
         replies_are = ap (λ (l : List R). l ++ told) was.out_are
             ∙ ap (λ (l : List R). map reply_of (joined was.groups) ++ l)
             (one.broken stopped ∙ ap (λ (l : List R). map t.withdrawn l) was.pending_are ∙ run_withdrawn was.committed was.held old.state was.runs ∙ sym (append-nil (map (λ asked. t.faulted asked.body) was.held)));
-        run = subst (λ (s : S). Run t first (joined was.groups ++ was.held) s) (sym one.state) (run_append t first (joined was.groups) was.committed was.held old.state was.stands was.runs);
+        stands = was.stands;
+        runs = subst (λ (s : S). Run t was.committed was.held s) (sym one.state) was.runs;
+        called = by (settled_by told new one);
+        in_turn = turn_push t start.store.disk first was.groups was.mark was.committed was.held new.store.disk new.state was.in_turn (subst (λ (s : S). Run t was.committed was.held s) (sym one.state) was.runs) (inr (by (settled_by told new one)));
         moments = during told new one;
       }
+        where
+          by : ((new.store.disk ≡ old.store.disk) × (new.store.stopped ≡ false)) ⊎ CallsFor t was.committed was.held → CallsFor t was.committed was.held
+          by (inl none) = absurd (true≢false (sym stopped ∙ none.1))
+          by (inr called) = called
 
       -- the checkpoint before its event failed: the group ends with this request
       going_fails : (size : ℕ) (body : List ℕ) (told : List R) (new : Desk S R D g) → IsCut t.alone size was.groups was.held → IsFailed t body told old new → Faulted t size (IsWholeBefore t size) start new (bodies ++ body ∷ []) (out ++ told)
@@ -309,8 +321,17 @@ module _ {S R : Type 0} (t : Turns S R) where
             groups = was.groups;
             group = group;
             others = [];
+            committed = was.committed;
             cuts = cut_one t.alone size was.groups was.held asked one.plain cuts;
-            whole = inl (inr (joined_events was.held asked (sym (ap length was.events_are) ∙ one.first) one.none));
+            whole = inl (inr (inl (record {
+              none = joined_events was.held asked (sym (ap length was.events_are) ∙ one.due.first) one.none;
+              front = was.held;
+              last = asked;
+              are = refl;
+              state = old.state;
+              run = was.runs;
+              makes = one.due.makes;
+            })));
             bodies_are = ap (λ (l : List (List ℕ)). l ++ body ∷ []) was.bodies_are ∙ sym (map-append body_of (joined was.groups ++ was.held) (asked ∷ []))
                 ∙ ap (λ (l : List (Entry R)). map body_of l) (append_assoc (joined was.groups) was.held (asked ∷ [])) ∙ sym (append-nil (map body_of (joined was.groups ++ group)));
             replies_are = ap (λ (l : List R). l ++ told) was.out_are
@@ -318,7 +339,13 @@ module _ {S R : Type 0} (t : Turns S R) where
                 (one.told_are ∙ ap (λ (l : List R). map t.withdrawn l ++ t.faulted body ∷ []) was.pending_are
                 ∙ ap (λ (l : List R). l ++ t.faulted body ∷ []) (run_withdrawn was.committed was.held old.state was.runs)
                 ∙ sym (map-append (λ asked. t.faulted asked.body) was.held (asked ∷ [])) ∙ sym (append-nil (map (λ asked. t.faulted asked.body) group)));
-            run = run_append t first (joined was.groups) was.committed group new.state was.stands (run_append t was.committed was.held old.state (asked ∷ []) new.state was.runs (run_one old.state asked new.state one.turn));
+            stands = was.stands;
+            runs = run_append t was.committed was.held old.state (asked ∷ []) new.state was.runs (run_one old.state asked new.state one.turn);
+            called = calls_behind t was.committed was.held old.state (asked ∷ []) was.runs (calls_one t old.state asked one.due.makes);
+            in_turn =
+                turn_push t start.store.disk first was.groups was.mark was.committed group new.store.disk new.state was.in_turn
+                (run_append t was.committed was.held old.state (asked ∷ []) new.state was.runs (run_one old.state asked new.state one.turn))
+                (inr (calls_behind t was.committed was.held old.state (asked ∷ []) was.runs (calls_one t old.state asked one.due.makes)));
             moments = λ begins. let before = was.moments begins in (
               before.0,
               run_on t g.moment g.image_since first start.store.disk old.store.disk new.store.disk was.groups (group ∷ []) (length was.groups) before.0 (λ c. InBank c (t.held was.committed)) before.1
@@ -332,34 +359,46 @@ module _ {S R : Type 0} (t : Turns S R) where
     over_moments old new groups count same moments begins =
         let before = moments begins in (before.0, subst (λ (d : D). IsRun t g.moment g.image_since start.store.disk d first groups count before.0) (sym same) before.1)
 
-    faulted_as : (size : ℕ) (W W' : List (Entry R) → List (List ℕ) → Type 0) → ((group : List (Entry R)) (others : List (List ℕ)) → W group others → W' group others) → (old new : Desk S R D g) (bodies : List (List ℕ)) (replies more : List R) → more ≡ replies → new.store.disk ≡ old.store.disk → new.state ≡ old.state
+    turn_as : (old new : Desk S R D g) (groups : List (List (Entry R))) → new.store.disk ≡ old.store.disk → new.state ≡ old.state → InTurn t start.store.disk first groups old.store.disk old.state → InTurn t start.store.disk first groups new.store.disk new.state
+    turn_as old new groups disk state was =
+        subst (λ (d : D). InTurn t start.store.disk first groups d new.state) (sym disk) (subst (λ (s : S). InTurn t start.store.disk first groups old.store.disk s) (sym state) was)
+
+    pub faulted_as : (size : ℕ) (W W' : S → List (Entry R) → List (List ℕ) → Type 0) → ((state : S) (group : List (Entry R)) (others : List (List ℕ)) → W state group others → W' state group others) → (old new : Desk S R D g) (bodies : List (List ℕ)) (replies more : List R) → more ≡ replies → new.store.disk ≡ old.store.disk → new.state ≡ old.state
         → Faulted t size W start old bodies replies → Faulted t size W' start new bodies more
     faulted_as size W W' weaker old new bodies replies more told disk state was = record {
       groups = was.groups;
       group = was.group;
       others = was.others;
+      committed = was.committed;
       cuts = was.cuts;
-      whole = weaker was.group was.others was.whole;
+      whole = weaker was.committed was.group was.others was.whole;
       bodies_are = was.bodies_are;
       replies_are = told ∙ was.replies_are;
-      run = subst (λ (s : S). Run t first (joined was.groups ++ was.group) s) (sym state) was.run;
+      stands = was.stands;
+      runs = subst (λ (s : S). Run t was.committed was.group s) (sym state) was.runs;
+      called = was.called;
+      in_turn = turn_as old new (was.groups ++ was.group ∷ []) disk state was.in_turn;
       moments = over_moments old new (was.groups ++ was.group ∷ []) (length was.groups) disk was.moments;
     }
 
-    faulted_more : (size : ℕ) (old new : Desk S R D g) (bodies : List (List ℕ)) (replies : List R) (body : List ℕ) → IsOver old new → (W : List (Entry R) → List (List ℕ) → Type 0)
-        → ((group : List (Entry R)) (others : List (List ℕ)) → W group others → IsWholeBefore t size group (others ++ body ∷ [])) → Faulted t size W start old bodies replies
+    faulted_more : (size : ℕ) (old new : Desk S R D g) (bodies : List (List ℕ)) (replies : List R) (body : List ℕ) → IsOver old new → (W : S → List (Entry R) → List (List ℕ) → Type 0)
+        → ((state : S) (group : List (Entry R)) (others : List (List ℕ)) → W state group others → IsWholeBefore t size state group (others ++ body ∷ [])) → Faulted t size W start old bodies replies
         → Faulted t size (IsWholeBefore t size) start new (bodies ++ body ∷ []) (replies ++ t.failed body ∷ [])
     faulted_more size old new bodies replies body over W then was = record {
       groups = was.groups;
       group = was.group;
       others = was.others ++ body ∷ [];
+      committed = was.committed;
       cuts = was.cuts;
-      whole = then was.group was.others was.whole;
+      whole = then was.committed was.group was.others was.whole;
       bodies_are = ap (λ (l : List (List ℕ)). l ++ body ∷ []) was.bodies_are ∙ append_assoc (map body_of (joined was.groups ++ was.group)) was.others (body ∷ []);
       replies_are = ap (λ (l : List R). l ++ t.failed body ∷ []) was.replies_are ∙ append_assoc (map reply_of (joined was.groups)) (map (λ asked. t.faulted asked.body) was.group ++ map t.failed was.others) (t.failed body ∷ [])
           ∙ ap (λ (l : List R). map reply_of (joined was.groups) ++ l) (append_assoc (map (λ asked. t.faulted asked.body) was.group) (map t.failed was.others) (t.failed body ∷ [])
           ∙ ap (λ (l : List R). map (λ asked. t.faulted asked.body) was.group ++ l) (sym (map-append t.failed was.others (body ∷ []))));
-      run = subst (λ (s : S). Run t first (joined was.groups ++ was.group) s) (sym over.state) was.run;
+      stands = was.stands;
+      runs = subst (λ (s : S). Run t was.committed was.group s) (sym over.state) was.runs;
+      called = was.called;
+      in_turn = turn_as old new (was.groups ++ was.group ∷ []) over.disk over.state was.in_turn;
       moments = over_moments old new (was.groups ++ was.group ∷ []) (length was.groups) over.disk was.moments;
     }
 
@@ -371,15 +410,10 @@ module _ {S R : Type 0} (t : Turns S R) where
     }
 
     -- more bodies behind the fault
-    still_whole : (size : ℕ) (body : List ℕ) (group : List (Entry R)) (others : List (List ℕ)) → IsWholeBefore t size group others → IsWholeBefore t size group (others ++ body ∷ [])
-    still_whole size body group others (inl whole) = inl whole
-    still_whole size body group (next ∷ others) (inr begins) = inr begins
-    still_whole size body group [] (inr begins) = absurd begins
-
-    still_quiet : (groups : List (List (Entry R))) (asked : Entry R) → AllQuiet t (joined (groups ++ (asked ∷ []) ∷ []) ++ []) → AllQuiet t (joined groups ++ []) × IsQuiet t asked
-    still_quiet groups asked quiet =
-        let all = subst (λ (l : List (Entry R)). AllQuiet t l) (append-nil (joined (groups ++ (asked ∷ []) ∷ [])) ∙ joined_push groups (asked ∷ [])) quiet in
-        (subst (λ (l : List (Entry R)). AllQuiet t l) (sym (append-nil (joined groups))) (quiet_front (joined groups) (asked ∷ []) all), (quiet_back (joined groups) (asked ∷ []) all).0)
+    still_whole : (size : ℕ) (body : List ℕ) (state : S) (group : List (Entry R)) (others : List (List ℕ)) → IsWholeBefore t size state group others → IsWholeBefore t size state group (others ++ body ∷ [])
+    still_whole size body state group others (inl whole) = inl whole
+    still_whole size body state group (next ∷ others) (inr begins) = inr begins
+    still_whole size body state group [] (inr begins) = absurd begins
 
     abbrev Idle : ℕ → List (List (Entry R)) → List (Entry R) → Type 0
     Idle size groups held = IsCutBefore t.alone size groups held × (held ≡ [])
@@ -389,6 +423,14 @@ module _ {S R : Type 0} (t : Turns S R) where
       idle_run : Run t first (joined was.groups) old.state
       idle_run = let none = was.cuts.1 in
           subst (λ (s : S). Run t first (joined was.groups) s) (subst (λ (l : List (Entry R)). Run t was.committed l old.state) none was.runs) was.stands
+
+      idle_turn : InTurn t start.store.disk first was.groups old.store.disk old.state
+      idle_turn = subst (λ (d : D). InTurn t start.store.disk first was.groups d old.state) (sym (marked was.calls))
+          (subst (λ (s : S). InTurn t start.store.disk first was.groups was.mark s) (subst (λ (l : List (Entry R)). Run t was.committed l old.state) was.cuts.1 was.runs) was.in_turn)
+        where
+          marked : (old.store.disk ≡ was.mark) ⊎ CallsFor t was.committed was.held → old.store.disk ≡ was.mark
+          marked (inl same) = same
+          marked (inr called) = absurd (calls_none t was.committed (subst (λ (l : List (Entry R)). CallsFor t was.committed l) was.cuts.1 called))
 
       module _ (asked : Entry R) (told : List R) (new : Desk S R D g) (one : IsReplaced t asked told old new) where
         abbrev more : List (List (Entry R))
@@ -418,6 +460,17 @@ module _ {S R : Type 0} (t : Turns S R) where
             ap (λ (l : List (List ℕ)). l ++ asked.body ∷ []) (was.bodies_are ∙ ap (λ (l : List (Entry R)). map body_of (joined was.groups ++ l)) was.cuts.1 ∙ ap (λ (l : List (Entry R)). map body_of l) (append-nil (joined was.groups)))
             ∙ sym (map-append body_of (joined was.groups) (asked ∷ [])) ∙ ap (λ (l : List (Entry R)). map body_of l) (sym (joined_push was.groups (asked ∷ [])) ∙ sym (append-nil (joined more)))
 
+        -- the device is called for a replacement that is done
+        apart_done : t.is_done asked.reply ≡ true → CallsFor t old.state (asked ∷ [])
+        apart_done done = record { front = []; asked = asked; back = []; are = refl; state = old.state; run = refl; calls = inr (one.alone, done) }
+
+        apart_calls : (t.is_done asked.reply ≡ false) ⊎ (t.is_done asked.reply ≡ true) → (new.store.disk ≡ old.store.disk) ⊎ CallsFor t old.state (asked ∷ [])
+        apart_calls (inr done) = inr (apart_done done)
+        apart_calls (inl refused) = inl (one.quiet refused)
+
+        apart_turn : (new.store.disk ≡ old.store.disk) ⊎ CallsFor t old.state (asked ∷ []) → InTurn t start.store.disk first more new.store.disk new.state
+        apart_turn calls = turn_push t start.store.disk first was.groups old.store.disk old.state (asked ∷ []) new.store.disk new.state idle_turn (run_one old.state asked new.state one.turn) calls
+
         -- the library was replaced, or that was refused
         going_apart : new.store.stopped ≡ false → Going t (IsCut t.alone size) start new (bodies ++ asked.body ∷ []) (out ++ told)
         going_apart going = record {
@@ -434,7 +487,9 @@ module _ {S R : Type 0} (t : Turns S R) where
           runs = refl;
           same = refl;
           same_bank = refl;
-          quiet = λ quiet. let each = still_quiet was.groups asked quiet in one.quiet (each.1.kept one.alone) ∙ was.quiet (subst (λ (l : List (Entry R)). AllQuiet t (joined was.groups ++ l)) (sym was.cuts.1) each.0);
+          mark = new.store.disk;
+          in_turn = apart_turn (apart_calls (either (t.is_done asked.reply)));
+          calls = inl refl;
           all = λ begins. one.each going (idle_all begins);
           moments = λ begins.
               let on = apart_during begins in
@@ -452,11 +507,15 @@ module _ {S R : Type 0} (t : Turns S R) where
           groups = was.groups;
           group = asked ∷ [];
           others = [];
+          committed = old.state;
           cuts = apart_group t.alone size was.groups asked one.alone (subst (λ (l : List (Entry R)). IsCutBefore t.alone size was.groups l) was.cuts.1 was.cuts.0);
-          whole = inl (inr (append-nil asked.event ∙ one.none));
+          whole = inl (inr (inr one.alone));
           bodies_are = apart_bodies ∙ ap (λ (l : List (Entry R)). map body_of l) (append-nil (joined more) ∙ joined_push was.groups (asked ∷ [])) ∙ sym (append-nil (map body_of (joined was.groups ++ asked ∷ [])));
           replies_are = ap (λ (l : List R). l ++ told) was.out_are ∙ ap (λ (l : List R). map reply_of (joined was.groups) ++ l) (one.broken stopped);
-          run = subst (λ (l : List (Entry R)). Run t first l new.state) (joined_push was.groups (asked ∷ [])) apart_run;
+          stands = idle_run;
+          runs = run_one old.state asked new.state one.turn;
+          called = apart_done (one.doubt stopped);
+          in_turn = apart_turn (inr (apart_done (one.doubt stopped)));
           moments = apart_during;
         }
 
@@ -478,13 +537,19 @@ module _ {S R : Type 0} (t : Turns S R) where
           runs = subst (λ (s : S). Run t was.committed was.held s) (sym state) was.runs;
           same = ap t.text state ∙ was.same;
           same_bank = ap t.bank state ∙ was.same_bank;
-          quiet = λ quiet. ap (λ (s : Store D g). s.disk) store ∙ was.quiet quiet;
+          mark = was.mark;
+          in_turn = was.in_turn;
+          calls = idle_calls was.calls;
           all = λ begins. subst (λ (s : Store D g). AllHoldState t s was.committed) (sym store) (was.all begins);
           moments = λ begins. let run = was.moments begins in (
             run.0,
             subst (λ (s : Store D g). IsRun t g.moment g.image_since start.store.disk s.disk first was.groups (length was.groups) run.0) (sym store) run.1,
           );
         }
+      where
+        idle_calls : (old.store.disk ≡ was.mark) ⊎ CallsFor t was.committed was.held → (mid.store.disk ≡ was.mark) ⊎ CallsFor t was.committed was.held
+        idle_calls (inl same) = inl (ap (λ (s : Store D g). s.disk) store ∙ same)
+        idle_calls (inr called) = inr called
 
     -- a request that is a group of its own, behind those that were answered
     underway_then : (size : ℕ) (mid new : Desk S R D g) (bodies : List (List ℕ)) (body : List ℕ) (sent told : List R) → Going t (Idle size) start mid bodies sent → Goes start.store mid.store
@@ -525,11 +590,11 @@ module _ {S R : Type 0} (t : Turns S R) where
                 (going_ends was (Idle size) apart.before apart.mid going (cut_flushed t.alone size was.groups was.held some (cut_before t.alone size was.groups was.held was.cuts), refl) last.settled) goes (apart.going going)
             on (inr stopped) =
                 let late = apart.late stopped in
-                let fault = going_breaks was size (λ group others. others ≡ []) apart.before apart.mid refl stopped (group_ends t.alone size was.groups was.held some was.cuts) last.settled in
+                let fault = going_breaks was size (λ state group others. others ≡ []) apart.before apart.mid refl stopped (group_ends t.alone size was.groups was.held some was.cuts) last.settled in
                 record {
                   going = λ is. absurd (true≢false (sym late.1.is ∙ is));
                   broken = λ is. subst (λ (l : List R). Faulted t size (IsWholeBefore t size) start new (bodies ++ body ∷ []) ((out ++ apart.before) ++ l)) (sym late.0)
-                      (faulted_more size apart.mid new bodies (out ++ apart.before) body late.1 (λ group others. others ≡ []) (λ group others none. inr (subst (λ (l : List (List ℕ)). BeginsAlone t.alone (l ++ body ∷ [])) (sym none) apart.alone)) fault);
+                      (faulted_more size apart.mid new bodies (out ++ apart.before) body late.1 (λ state group others. others ≡ []) (λ state group others none. inr (subst (λ (l : List (List ℕ)). BeginsAlone t.alone (l ++ body ∷ [])) (sym none) apart.alone)) fault);
                   goes = goes_on start.store apart.mid.store new.store goes late.1.goes;
                 }
 
@@ -572,95 +637,3 @@ module _ {S R : Type 0} (t : Turns S R) where
       broken = λ is. subst (λ (l : List R). Faulted t size (IsWholeBefore t size) start new (bodies ++ body ∷ []) (out ++ l)) (sym late.told_is) (faulted_more size old new bodies out body late.over (IsWholeBefore t size) (still_whole size body) (so_far.broken late.over.was));
       goes = goes_on start.store old.store new.store so_far.goes late.over.goes;
     }
-
-    -- all was answered
-    served_all : (size : ℕ) (now : Desk S R D g) (bodies : List (List ℕ)) (out : List R) → now.pending ≡ [] → now.store.stopped ≡ false → Goes start.store now.store → Going t (IsEnd t.alone size) start now bodies out
-        → IsServed t size start.store now.store first now.state bodies out
-    served_all size now bodies out none going goes was =
-        let empty : was.held ≡ [] = no_entry was.held (sym was.pending_are ∙ none) in
-        let whole : joined was.groups ++ was.held ≡ joined (was.groups ++ []) =
-        ap (λ (l : List (Entry R)). joined was.groups ++ l) empty ∙ append-nil (joined was.groups) ∙ ap (λ (l : List (List (Entry R))). joined l) (sym (append-nil was.groups)) in
-        let at_last : was.committed ≡ now.state = subst (λ (l : List (Entry R)). Run t was.committed l now.state) empty was.runs in
-        record {
-          groups = was.groups;
-          faulted = [];
-          others = [];
-          served = record {
-            bodies_are = was.bodies_are ∙ ap (λ (l : List (Entry R)). map body_of l) whole ∙ sym (append-nil (map body_of (joined (was.groups ++ []))));
-            run = subst (λ (l : List (Entry R)). Run t first l now.state) whole (run_append t first (joined was.groups) was.committed was.held now.state was.stands was.runs);
-            groups_are = ap (λ (l : List (Entry R)). groups_of t.alone size l) (sym whole) ∙ was.cuts ∙ ap (λ (l : List (Entry R)). was.groups ++ rest_of l) empty;
-            whole = λ group is. absurd (no_group group is);
-            replies_are = was.out_are ∙ sym (append-nil (map reply_of (joined was.groups)));
-          };
-          well = λ is. (refl, refl);
-          fault = λ is. absurd (true≢false (sym is ∙ going));
-          quiet = λ is quiet. was.quiet (subst (λ (l : List (Entry R)). AllQuiet t l) (sym (ap (λ (l : List (Entry R)). joined was.groups ++ l) empty ∙ append-nil (joined was.groups))) quiet);
-          moments = λ begins.
-              let run = was.moments begins in
-              (run.0, subst (λ (l : List (List (Entry R))). IsRun t g.moment g.image_since start.store.disk now.store.disk first l (length was.groups) run.0) (sym (append-nil was.groups)) run.1);
-          all = λ is begins. subst (λ (s : S). AllHoldState t now.store s) at_last (was.all begins);
-          goes = goes;
-        }
-
-    -- or up to a fault
-    served_part : (size : ℕ) (now : Desk S R D g) (bodies : List (List ℕ)) (out : List R) → now.store.stopped ≡ true → Goes start.store now.store → Faulted t size (λ group others. (others ≡ []) ⊎ IsWholeBefore t size group others) start now bodies out
-        → IsServed t size start.store now.store first now.state bodies out
-    served_part size now bodies out stopped goes was =
-        let whole : joined (was.groups ++ was.group ∷ []) ≡ joined was.groups ++ was.group = joined_push was.groups was.group in
-        record {
-          groups = was.groups;
-          faulted = was.group ∷ [];
-          others = was.others;
-          served = record {
-            bodies_are = was.bodies_are ∙ ap (λ (l : List (Entry R)). map body_of l ++ was.others) (sym whole);
-            run = subst (λ (l : List (Entry R)). Run t first l now.state) (sym whole) was.run;
-            groups_are = ap (λ (l : List (Entry R)). groups_of t.alone size l) whole ∙ was.cuts;
-            whole = λ group is. subst (λ (l : List (Entry R)). (was.others ≡ []) ⊎ IsWholeBefore t size l was.others) (one_group was.group group is) was.whole;
-            replies_are = was.replies_are ∙ ap (λ (l : List (Entry R)). map reply_of (joined was.groups) ++ (map (λ asked. t.faulted asked.body) l ++ map t.failed was.others)) (sym (append-nil was.group));
-          };
-          well = λ is. absurd (true≢false (sym stopped ∙ is));
-          fault = λ is. refl;
-          quiet = λ is. absurd (true≢false (sym stopped ∙ is));
-          moments = was.moments;
-          all = λ is. absurd (true≢false (sym stopped ∙ is));
-          goes = goes;
-        }
-
-    abbrev Ends : ℕ → Desk S R D g → List (List ℕ) → List R → Type 0
-    Ends size now bodies out = IsServed t size start.store now.store first now.state bodies out
-
-    -- whatever is in hand, and nothing more comes
-    stopped_or_not : (size : ℕ) (now : Desk S R D g) (bodies : List (List ℕ)) (out : List R) → now.pending ≡ [] → Underway t size start now bodies out → Ends size now bodies out
-    stopped_or_not size now bodies out none so_far = by (either now.store.stopped)
-      where
-        by : (now.store.stopped ≡ false) ⊎ (now.store.stopped ≡ true) → Ends size now bodies out
-        by (inl going) =
-            let was = so_far.going going in
-            let last : Going t (IsEnd t.alone size) start now bodies out = going_as was (IsEnd t.alone size) (cut_last t.alone size was.groups was.held was.cuts) in
-            served_all size now bodies out none going so_far.goes last
-        by (inr stopped) = served_part size now bodies out stopped so_far.goes (faulted_as size (IsWholeBefore t size) (λ group others. (others ≡ []) ⊎ IsWholeBefore t size group others) (λ group others is. inr is) now now bodies out out refl refl refl (so_far.broken stopped))
-
-    -- the input has ended
-    pub underway_ended : (size : ℕ) (old new : Desk S R D g) (bodies : List (List ℕ)) (out told : List R) → Underway t size start old bodies out → IsEnded t told old new → Ends size new bodies (out ++ told)
-    underway_ended size old new bodies out told so_far (inl idle) =
-        subst (λ (l : List R). IsServed t size start.store new.store first new.state bodies l) (sym (ap (λ (l : List R). out ++ l) idle.nothing ∙ append-nil out))
-        (subst (λ (s : S). IsServed t size start.store new.store first s bodies out) (sym idle.state)
-        (subst (λ (s : Store D g). IsServed t size start.store s first old.state bodies out) (sym idle.store) (stopped_or_not size old bodies out idle.none so_far)))
-    underway_ended size old new bodies out told so_far (inr (inl last)) = by (either new.store.stopped)
-      where
-        was : Going t (IsCut t.alone size) start old bodies out
-        was = so_far.going last.was
-
-        goes : Goes start.store new.store
-        goes = goes_on start.store old.store new.store so_far.goes last.settled.goes
-
-        ends : IsGroup t.alone size was.groups was.held
-        ends = group_ends t.alone size was.groups was.held (some_entry was.held (λ none. last.some (was.pending_are ∙ none))) was.cuts
-
-        by : (new.store.stopped ≡ false) ⊎ (new.store.stopped ≡ true) → Ends size new bodies (out ++ told)
-        by (inl going) =
-            served_all size new bodies (out ++ told) (last.settled.well going).1 going goes (going_ends was (IsEnd t.alone size) told new going (ends_after t.alone size was.groups was.held ends) last.settled)
-        by (inr stopped) = served_part size new bodies (out ++ told) stopped goes (going_breaks was size (λ group others. (others ≡ []) ⊎ IsWholeBefore t size group others) told new (inl refl) stopped ends last.settled)
-    underway_ended size old new bodies out told so_far (inr (inr left)) =
-        served_part size new bodies (out ++ told) left.over.is (goes_on start.store old.store new.store so_far.goes left.over.goes)
-        (faulted_as size (IsWholeBefore t size) (λ group others. (others ≡ []) ⊎ IsWholeBefore t size group others) (λ group others is. inr is) old new bodies out (out ++ told) (ap (λ (l : List R). out ++ l) left.nothing ∙ append-nil out) left.over.disk left.over.state (so_far.broken left.over.was))

@@ -1,13 +1,14 @@
 -- A server at work: its store and its state, and the group in hand.
-use Rattle.std.specs.Prelude.{◌≡◌, ◌≢◌, ◌⊎◌, ◌<◌, ℕ, Bool, true, false, List, [], ◌∷◌, ◌++◌, length, map}
+use Rattle.std.specs.Prelude.{◌≡◌, ◌≢◌, ◌⊎◌, ◌+◌, ◌-◌, ◌<◌, ◌≤◌, ℕ, IsTrue, true, false, List, [], ◌∷◌, ◌++◌, length, map}
 use Rattle.oa_disk.specs.Disk.{LeavesOnly}
 use Rattle.oa_disk.specs.declared.disk.Disk.{Ghosts}
 use Rattle.oa_journal.specs.Replays.{Replays}
+use Rattle.oa_journal.specs.Shapes.{ample_bytes, body_bytes}
 use Rattle.oa_store.specs.declared.store.Store.{Store}
 use Rattle.oa_table.specs.Tables.{TableValue}
 use Rattle.oa_keeper.specs.Kept.{AllHold, LeavesEither, LeavesTable}
 use Rattle.oa_groups.specs.Groups.{fills}
-use Rattle.oa_groups.specs.Runs.{AllHoldState, HoldsState}
+use Rattle.oa_groups.specs.Runs.{AllHoldState, HoldsState, MakesEvent}
 use Rattle.oa_groups.specs.Served.{Goes}
 use Rattle.oa_groups.specs.Turns.{Entry, Turns, entry}
 
@@ -18,9 +19,11 @@ pub record Desk (S R D : Type 0) (g : Ghosts D) : Type 0 where
   pub pending : List R
   pub events : List ℕ
 
--- The device was called for an event alone, or for one that would have been but for memory.
-abbrev pub CallsFor : {D : Type 0} {g : Ghosts D} → Store D g → Store D g → List ℕ → Bool → Type 0
-CallsFor old new event starved = (new.disk ≡ old.disk) ⊎ ((0 < length event) ⊎ (starved ≡ true))
+-- A checkpoint is due before an event of this request: the event is the first of its group, and the store has no ample room for one.
+pub record IsDue {S R D : Type 0} {g : Ghosts D} (t : Turns S R) (store : Store D g) (state : S) (events body : List ℕ) : Type 0 where
+  pub first : length events ≡ 0
+  pub short : body_bytes store.bank.shape - store.bank.gate < ample_bytes
+  pub makes : MakesEvent t state body
 
 -- Images hold this table: what is held of the state where no event is in hand, and while some are, what they held before the first.
 abbrev pub IsCommitted : List ℕ → TableValue → TableValue → Type 0
@@ -58,7 +61,8 @@ pub record IsHeld {S R D : Type 0} {g : Ghosts D} (t : Turns S R) (asked : Entry
   pub pending : new.pending ≡ old.pending ++ asked.reply ∷ []
   pub events : new.events ≡ old.events ++ asked.event
   pub going : new.store.stopped ≡ false
-  pub calls : CallsFor old.store new.store asked.event (t.is_starved asked.reply)
+  -- the device is called for a checkpoint alone
+  pub calls : (new.store.disk ≡ old.store.disk) ⊎ IsDue t old.store old.state old.events asked.body
   pub any_moment : LeavesCommitted old.events (t.held old.state) old.store new.store
   pub each : KeepsCommitted old.events (t.held old.state) old.store new.store
   pub library : new.store.library.items ≡ old.store.library.items
@@ -69,20 +73,23 @@ pub record IsSettled {S R D : Type 0} {g : Ghosts D} (t : Turns S R) (told : Lis
   pub state : new.state ≡ old.state
   pub well : new.store.stopped ≡ false → (told ≡ old.pending) × (new.pending ≡ []) × (new.events ≡ [])
   pub broken : new.store.stopped ≡ true → told ≡ map t.withdrawn old.pending
-  pub quiet : length old.events ≡ 0 → new.store.disk ≡ old.store.disk
+  pub quiet : length old.events ≡ 0 → (new.store.disk ≡ old.store.disk) × (new.store.stopped ≡ false)
+  -- with four calls of the device at most, and no checkpoint
+  pub calls : IsTrue (g.is_honest old.store.disk) → g.moment new.store.disk ≤ g.moment old.store.disk + 8
+  pub chosen : new.store.chosen ≡ old.store.chosen
   pub any_moment : LeavesGroupOrNot old.events (t.held old.state) old.store new.store
   pub each : new.store.stopped ≡ false → CommitsGroup old.events (t.held old.state) old.store new.store
   pub library : new.store.library.items ≡ old.store.library.items
   pub goes : Goes old.store new.store
 
--- The checkpoint before a request's event failed: it is the first event of the group, which ends with this request, and is taken
--- back. A turn without an event that changes nothing that images hold stands for the request.
+-- The checkpoint before a request's event was due, and failed: the group ends with this request, and is taken back. A turn without an
+-- event that changes nothing that images hold stands for the request.
 pub record IsFailed {S R D : Type 0} {g : Ghosts D} (t : Turns S R) (body : List ℕ) (told : List R) (old new : Desk S R D g) : Type 0 where
   pub reply : R
   pub event : List ℕ
   pub turn : t.Turn (entry body reply event) old.state new.state
   pub plain : t.alone body ≡ false
-  pub first : length old.events ≡ 0
+  pub due : IsDue t old.store old.state old.events body
   pub none : event ≡ []
   pub same : t.held new.state ≡ t.held old.state
   pub told_are : told ≡ map t.withdrawn old.pending ++ t.faulted body ∷ []

@@ -2,8 +2,9 @@
 use Rattle.std.specs.Prelude.{◌≡◌, ◌⊎◌, ℕ, Bool, true, false, List, [], ◌∷◌, ◌++◌, length, map}
 use Rattle.oa_disk.specs.declared.disk.Disk.{Ghosts}
 use Rattle.oa_groups.specs.Desks.{Desk}
-use Rattle.oa_groups.specs.Groups.{BeginsAlone, IsWhole, cut, events_in, groups_of, joined, rest_of}
-use Rattle.oa_groups.specs.Runs.{AllHoldState, AllQuiet, HasMoments, Run}
+use Rattle.oa_groups.specs.Faults.{IsWholeBefore}
+use Rattle.oa_groups.specs.Groups.{cut, events_in, groups_of, joined, rest_of}
+use Rattle.oa_groups.specs.Runs.{AllHoldState, CallsFor, HasMoments, InTurn, Run}
 use Rattle.oa_groups.specs.Served.{Goes}
 use Rattle.oa_groups.specs.Turns.{Entry, Turns, body_of, reply_of}
 
@@ -42,26 +43,29 @@ pub record Going {S R D : Type 0} {g : Ghosts D} (t : Turns S R) (C : List (List
   -- none of those in hand has replaced the library
   pub same : t.text now.state ≡ t.text committed
   pub same_bank : t.bank now.state ≡ t.bank committed
-  pub quiet : AllQuiet t (joined groups ++ held) → now.store.disk ≡ start.store.disk
+  -- the disk behind the groups
+  pub mark : D
+  pub in_turn : InTurn t start.store.disk start.state groups mark committed
+  pub calls : (now.store.disk ≡ mark) ⊎ CallsFor t committed held
   pub all : AllHoldState t start.store start.state → AllHoldState t now.store committed
   pub moments : HasMoments t start.store now.store start.state groups (length groups)
 
 -- A call of the device failed, in the group behind those that were answered. C says why it ends where it does, and what came behind it.
-pub record Faulted {S R D : Type 0} {g : Ghosts D} (t : Turns S R) (size : ℕ) (C : List (Entry R) → List (List ℕ) → Type 0)
+pub record Faulted {S R D : Type 0} {g : Ghosts D} (t : Turns S R) (size : ℕ) (C : S → List (Entry R) → List (List ℕ) → Type 0)
     (start now : Desk S R D g) (bodies : List (List ℕ)) (replies : List R) : Type 0 where
   pub groups : List (List (Entry R))
   pub group : List (Entry R)
   pub others : List (List ℕ)
+  pub committed : S
   pub cuts : IsGroup t.alone size groups group
-  pub whole : C group others
+  pub whole : C committed group others
   pub bodies_are : bodies ≡ map body_of (joined groups ++ group) ++ others
   pub replies_are : replies ≡ map reply_of (joined groups) ++ (map (λ asked. t.faulted asked.body) group ++ map t.failed others)
-  pub run : Run t start.state (joined groups ++ group) now.state
+  pub stands : Run t start.state (joined groups) committed
+  pub runs : Run t committed group now.state
+  pub called : CallsFor t committed group
+  pub in_turn : InTurn t start.store.disk start.state (groups ++ group ∷ []) now.store.disk now.state
   pub moments : HasMoments t start.store now.store start.state (groups ++ group ∷ []) (length groups)
-
--- The group of a fault is one whatever comes behind it, or ends before a request that is a group of its own.
-abbrev pub IsWholeBefore : {S R : Type 0} → Turns S R → ℕ → List (Entry R) → List (List ℕ) → Type 0
-IsWholeBefore t size group others = IsWhole size group ⊎ BeginsAlone t.alone others
 
 -- These bodies were taken since the start, and these replies handed out.
 pub record Underway {S R D : Type 0} {g : Ghosts D} (t : Turns S R) (size : ℕ) (start now : Desk S R D g) (bodies : List (List ℕ))

@@ -1,4 +1,5 @@
 pub mod Desks
+pub mod Faults
 pub mod Going
 pub mod Groups
 pub mod History

@@ -1,27 +1,43 @@
 -- Runs of a server, and what the images of its disk hold at each moment of one.
-use Rattle.std.specs.Prelude.{◌≡◌, ◌⊎◌, ℕ, true, false, ◌+◌, ◌≤◌, List, [], ◌∷◌, ◌++◌, length, Some, slice_get}
+use Rattle.std.specs.Prelude.{◌≡◌, ◌⊎◌, ℕ, true, ◌+◌, ◌<◌, ◌≤◌, List, [], ◌∷◌, ◌++◌, length, Some, slice_get}
 use Rattle.oa_disk.specs.declared.disk.Disk.{Ghosts}
 use Rattle.oa_keeper.specs.Kept.{AllHold}
 use Rattle.oa_journal.specs.declared.shape.Shape.TheVariants.{Two}
 use Rattle.oa_store.specs.Stores.{IsStoreIn}
 use Rattle.oa_store.specs.declared.store.Store.{Store}
 use Rattle.oa_groups.specs.Groups.{joined}
-use Rattle.oa_groups.specs.Turns.{Entry, Turns}
+use Rattle.oa_groups.specs.Turns.{Entry, Turns, entry}
 
 -- the turns of a state, one after another
 abbrev pub Run : {S R : Type 0} → Turns S R → S → List (Entry R) → S → Type 0
 Run t old [] new = old ≡ new
 Run {S} t old (asked ∷ entries) new = (mid : S) × t.Turn asked old mid × Run t mid entries new
 
--- The request made no event and has not replaced the library, and memory was not refused to it.
-pub record IsQuiet {S R : Type 0} (t : Turns S R) (asked : Entry R) : Type 0 where
-  pub none : asked.event ≡ []
-  pub fed : t.is_starved asked.reply ≡ false
-  pub kept : t.alone asked.body ≡ true → t.is_done asked.reply ≡ false
+-- From this state some turn of the body makes an event.
+pub record MakesEvent {S R : Type 0} (t : Turns S R) (state : S) (body : List ℕ) : Type 0 where
+  pub reply : R
+  pub event : List ℕ
+  pub after : S
+  pub turn : t.Turn (entry body reply event) state after
+  pub some : 0 < length event
 
-abbrev pub AllQuiet : {S R : Type 0} → Turns S R → List (Entry R) → Type 0
-AllQuiet t [] = Unit {0}
-AllQuiet t (asked ∷ entries) = IsQuiet t asked × AllQuiet t entries
+-- One of these requests calls for the device, from the state before it in a run from this one: it makes an event, whether memory is found
+-- for it or not, or it replaces the library.
+pub record CallsFor {S R : Type 0} (t : Turns S R) (first : S) (entries : List (Entry R)) : Type 0 where
+  pub front : List (Entry R)
+  pub asked : Entry R
+  pub back : List (Entry R)
+  pub are : entries ≡ front ++ asked ∷ back
+  pub state : S
+  pub run : Run t first front state
+  pub calls : MakesEvent t state asked.body ⊎ ((t.alone asked.body ≡ true) × (t.is_done asked.reply ≡ true))
+
+-- Each group is answered on the disk, and from the state, with which the one before has ended. The device is called only in a group of
+-- which a request calls for it.
+abbrev pub InTurn : {S R D : Type 0} → Turns S R → D → S → List (List (Entry R)) → D → S → Type 0
+InTurn t old before [] new after = (new ≡ old) × (after ≡ before)
+InTurn {S} {R} {D} t old before (group ∷ groups) new after =
+    (mid : D) × (state : S) × Run t before group state × ((mid ≡ old) ⊎ CallsFor t before group) × InTurn t mid state groups new after
 
 -- the image is a store of what is held of the state
 abbrev pub HoldsState : {S R : Type 0} → Turns S R → S → List ℕ → Type 0

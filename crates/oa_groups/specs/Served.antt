@@ -1,10 +1,11 @@
 -- What a call answers that takes a list of requests, and what a stop at any moment of it leaves.
-use Rattle.std.specs.Prelude.{◌≡◌, ◌⊎◌, ℕ, ◌≤◌, true, false, List, [], ◌∷◌, ◌++◌, length, map}
+use Rattle.std.specs.Prelude.{◌≡◌, ℕ, ◌≤◌, true, false, List, [], ◌∷◌, ◌++◌, length, map}
 use Rattle.oa_disk.specs.Disk.{HasCounted}
 use Rattle.oa_disk.specs.declared.disk.Disk.{Ghosts}
 use Rattle.oa_store.specs.declared.store.Store.{Store}
-use Rattle.oa_groups.specs.Groups.{BeginsAlone, IsWhole, groups_of, joined}
-use Rattle.oa_groups.specs.Runs.{AllHoldState, AllQuiet, HasMoments, Run}
+use Rattle.oa_groups.specs.Faults.{IsFaultIn}
+use Rattle.oa_groups.specs.Groups.{groups_of, joined}
+use Rattle.oa_groups.specs.Runs.{AllHoldState, HasMoments, InTurn, Run}
 use Rattle.oa_groups.specs.Turns.{Entry, Turns, body_of, reply_of}
 
 -- The replies to these bodies are those of a run, group for group. Where a call of the device failed, the run goes to the end
@@ -14,8 +15,7 @@ pub record Served {S R : Type 0} (t : Turns S R) (size : ℕ) (first : S) (bodie
   pub bodies_are : bodies ≡ map body_of (joined (groups ++ faulted)) ++ others
   pub run : Run t first (joined (groups ++ faulted)) last
   pub groups_are : groups_of t.alone size (joined (groups ++ faulted)) ≡ groups ++ faulted
-  -- what comes behind the fault's group is none of it
-  pub whole : (group : List (Entry R)) → faulted ≡ group ∷ [] → (others ≡ []) ⊎ (IsWhole size group ⊎ BeginsAlone t.alone others)
+  pub fault : (group : List (Entry R)) → faulted ≡ group ∷ [] → IsFaultIn t size first groups group others
   pub replies_are : replies ≡ map reply_of (joined groups) ++ (map (λ asked. t.faulted asked.body) (joined faulted) ++ map t.failed others)
 
 -- What every call says of the device, and of the store's format, which stays.
@@ -39,8 +39,8 @@ pub record IsServed {S R D : Type 0} {g : Ghosts D} (t : Turns S R) (size : ℕ)
   pub served : Served t size before bodies replies after groups faulted others
   pub well : new.stopped ≡ false → (faulted ≡ []) × (others ≡ [])
   pub fault : new.stopped ≡ true → length faulted ≡ 1
-  -- requests that make no event and do not replace the library make no call of the device
-  pub quiet : new.stopped ≡ false → AllQuiet t (joined groups) → new.disk ≡ old.disk
+  -- what comes behind the fault's group calls nothing
+  pub in_turn : InTurn t old.disk before (groups ++ faulted) new.disk after
   pub moments : HasMoments t old new before (groups ++ faulted) (length groups)
   -- and the next call may begin
   pub all : new.stopped ≡ false → AllHoldState t old before → AllHoldState t new after

@@ -79,7 +79,6 @@ simple = record {
   failed = λ body. false;
   withdrawn = λ reply. false;
   is_done = λ reply. reply;
-  is_starved = λ reply. false;
   opened = λ kept. kept;
   reopens = λ kept. (refl, refl, refl);
   sized = sized;

@@ -36,8 +36,6 @@ pub record Turns (S R : Type 0) : Type 1 where
   pub withdrawn : R → R
   -- a reply that says that the request was done
   pub is_done : R → Bool
-  -- a reply that says that memory was refused
-  pub is_starved : R → Bool
   -- what an opening makes of a state that was stopped: images hold the same of it
   pub opened : S → S
   pub reopens : (state : S) → (held (opened state) ≡ held state) × (text (opened state) ≡ text state) × (bank (opened state) ≡ bank state)

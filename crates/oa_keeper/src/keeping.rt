@@ -1,5 +1,6 @@
 //! Changes of a table in memory that a store keeps: their events are held, and go out under one gate.
-ghost use Rattle.std.specs.Prelude.{◌≡◌, ◌⊎◌, ◌+◌, ◌-◌, ◌^◌, ◌<◌, ◌≤◌, ◌++◌, [], true, false, length, IsErr, IsErrOf, IsOk, OnErr, OnOk};
+ghost use Rattle.std.specs.Prelude.{◌≡◌, ◌⊎◌, ◌+◌, ◌-◌, ◌^◌, ◌<◌, ◌≤◌, ◌++◌, [], true, false, length, IsErr, IsErrOf, IsOk, IsTrue, OnErr};
+ghost use Rattle.std.specs.Prelude.{OnOk, vec_capacity};
 ghost use Rattle.oa_image.specs.Events.{event_image};
 ghost use Rattle.oa_image.specs.Tables.{is_numbered, table_image};
 ghost use Rattle.oa_journal.specs.Append.{group_of};
@@ -105,8 +106,9 @@ pub fn hold<D: Disk>(
     ensures each { store.new.stopped ≡ false → (committed : TableValue) → (length frame.old ≡ 0 → unlocked_table table.old ≡ committed)
         → AllHold store.old committed → AllHold store.new committed }
     ensures quiet { 0 < length frame.old → store.new.disk ≡ store.old.disk }
-    // It is the first event of a group before which a checkpoint fails.
+    // It is the first event of a group before which a checkpoint fails, and one was due.
     ensures first { IsErrOf result KeepFault.Write → length frame.old ≡ 0 }
+    ensures due { IsErrOf result KeepFault.Write → body_bytes store.old.bank.shape - store.old.bank.gate < ample_bytes }
     ensures undue { ample_bytes ≤ body_bytes store.old.bank.shape - store.old.bank.gate → store.new.disk ≡ store.old.disk }
     ensures room { store.new.stopped ≡ false → HasRoom frame.new store.new }
 
@@ -137,7 +139,10 @@ pub fn commit<D: Disk>(store: &mut Store<D>, frame: &mut Frame) -> Result<(), Br
         → AllHold store.old committed → LeavesEither store.old store.new committed now }
     ensures each { store.new.stopped ≡ false → (committed now : TableValue) → Replays frame.old committed now
         → AllHold store.old committed → AllHold store.new now }
-    ensures quiet { length frame.old ≡ 0 → (store.new.disk ≡ store.old.disk) × IsOk result }
+    ensures quiet { length frame.old ≡ 0 → (store.new.disk ≡ store.old.disk) × IsOk result × (store.new.stopped ≡ false) }
+    // At most four calls, and no checkpoint.
+    ensures calls { IsTrue (D.is_honest store.old.disk) → D.moment store.new.disk ≤ D.moment store.old.disk + 8 }
+    ensures chosen { store.new.chosen ≡ store.old.chosen }
     ensures emptied { frame.new ≡ [] }
 
     ensures going { OnOk result (store.new.stopped ≡ false) }
@@ -163,8 +168,13 @@ fn commit_bytes<D: Disk>(store: &mut Store<D>, bytes: &mut Vec<u8>) -> Result<()
         → AllHold store.old committed → LeavesEither store.old store.new committed now }
     ensures each { store.new.stopped ≡ false → (committed now : TableValue) → Replays (group_of bytes.old.items) committed now
         → AllHold store.old committed → AllHold store.new now }
-    ensures quiet { length (group_of bytes.old.items) ≡ 0 → (store.new.disk ≡ store.old.disk) × IsOk result }
+    ensures quiet { length (group_of bytes.old.items) ≡ 0 → (store.new.disk ≡ store.old.disk) × IsOk result
+        × (store.new.stopped ≡ false) }
+    ensures calls { IsTrue (D.is_honest store.old.disk) → D.moment store.new.disk ≤ D.moment store.old.disk + 8 }
+    ensures chosen { store.new.chosen ≡ store.old.chosen }
     ensures emptied { bytes.new.items ≡ [] }
+    // The frame keeps its room.
+    ensures places { vec_capacity bytes.new ≡ vec_capacity bytes.old }
     ensures going { OnOk result (store.new.stopped ≡ false) }
     ensures stops { OnErr result ((store.new.stopped ≡ true)
         × (D.failures_of store.new.disk < 2 ^ 64 - 1 → D.failures_of store.old.disk < D.failures_of store.new.disk)) }

@@ -1,13 +1,15 @@
 -- One body is answered over a store.
-use Rattle.std.proofs.Common.{◌≡◌, ◌⊎◌, ◌<◌, inl, inr, ℕ, Bool, true, false, true≢false, IsTrue, List, [], ◌∷◌, ◌++◌, length, refl, sym, ap}
-use Rattle.std.proofs.Common.{◌∙◌, subst, arith}
+use Rattle.std.proofs.Common.{◌≡◌, ◌⊎◌, ◌+◌, ◌<◌, ◌≤◌, inl, inr, ℕ, true, false, true≢false, IsTrue, List, [], ◌∷◌, ◌++◌, length, refl, sym, ap}
+use Rattle.std.proofs.Common.{◌∙◌, subst, arith, length-append}
 use Rattle.oa_disk.specs.declared.disk.Disk.{Ghosts}
 use Rattle.oa_disk.specs.Moments.{chained, weakened}
 use Rattle.oa_groups.specs.Desks.{Desk, IsSettled, IsTaken, LeavesState}
 use Rattle.oa_groups.specs.Groups.{fills}
 use Rattle.oa_groups.specs.Served.{Goes, IsServed}
 use Rattle.oa_groups.specs.Turns.{entry}
-use Rattle.oa_groups.proofs.Takes.{goes_on, underway_ended, underway_start, underway_taken}
+use Rattle.oa_groups.proofs.Called.{none_or_some}
+use Rattle.oa_groups.proofs.Ends.{underway_ended}
+use Rattle.oa_groups.proofs.Takes.{goes_on, underway_start, underway_taken}
 use Rattle.oa_journal.specs.Replays.{Replays}
 use Rattle.oa_groups.specs.Runs.{AllHoldState, HoldsState}
 use Rattle.oa_idl.specs.Canonical.{canonical}
@@ -20,16 +22,13 @@ use Rattle.oa_journal.specs.declared.shape.Shape.TheVariants.{Two}
 use Rattle.oa_store.specs.Stores.{IsStoreIn}
 use Rattle.oa_store.specs.declared.store.Store.{Store}
 use Rattle.oa_table.specs.Tables.{TableValue}
-use Rattle.oa_server.specs.Answers.{IsAnswered}
-use Rattle.oa_server.specs.Hands.{desk}
-use Rattle.oa_server.specs.Requests.{HasTurn, IsHeldBack, bytes_of, faulted, held_of, is_done, is_starved, requests, text_of}
-use Rattle.oa_record.specs.Asks.{Asks}
-use Rattle.oa_record.specs.declared.request.Request.{Request}
+use Rattle.oa_server.specs.Answers.{IsAnswered, MakesNoEvent}
+use Rattle.oa_server.specs.Hands.{CallsWhereDue, IsDueFor, desk}
+use Rattle.oa_server.specs.Requests.{HasTurn, IsHeldBack, faulted, held_of, requests, text_of}
 use Rattle.oa_server.specs.States.{State}
-use Rattle.oa_server.specs.Steps.{outcome}
-use Rattle.oa_server.specs.Turns.{Ordinary, Turn}
+use Rattle.oa_server.specs.Turns.{Turn}
+use Rattle.oa_server.proofs.Eventless.{no_event_of}
 use Rattle.oa_server.proofs.Renewing.{as_held}
-use Rattle.oa_server.proofs.Settled.{called_for}
 
 -- one request is a group of one
 full_one : (bytes : ℕ) → fills 1 1 bytes ≡ true
@@ -65,8 +64,8 @@ module _ {D : Type 0} {g : Ghosts D} (only : (d : D) (c : List ℕ) → IsTrue (
     has_state new shape kept holds = record { shape = shape ∙ all.shape ∙ ap (λ (n : ℕ). Two n) (sym same_bank); has = kept ∙ all.has ∙ sym same_text; all = holds }
 
   -- its checkpoint failed
-  pub checkpoint_failed : (reply : ReplyValue) → reply ≡ faulted body → HasTurn body before after → mid.stopped ≡ true → IsAnswered old mid before after body reply
-  checkpoint_failed reply told some stopped = record {
+  pub checkpoint_failed : (reply : ReplyValue) → reply ≡ faulted body → HasTurn body before after → IsDueFor old before start body → mid.stopped ≡ true → IsAnswered old mid before after body reply
+  checkpoint_failed reply told some due stopped = record {
     late = λ late. absurd (true≢false (sym late ∙ was));
     going = λ no going. absurd (true≢false (sym stopped ∙ going));
     doubt = λ no yes. (told, (some.reply, some.asked.turn));
@@ -76,10 +75,11 @@ module _ {D : Type 0} {g : Ghosts D} (only : (d : D) (c : List ℕ) → IsTrue (
         (leaves (held_of before) (λ none. refl) all.all) (λ c is. either_state (some.reply, some.asked.turn) all c (inl is));
     each = λ no going. absurd (true≢false (sym stopped ∙ going));
     goes = first;
-    quiet = λ no going. absurd (true≢false (sym stopped ∙ going));
+    quiet = λ no kind none. absurd (no_event_of before body plain none due.makes);
+    refused = λ no going. absurd (true≢false (sym stopped ∙ going));
     served = λ no. alone mid reply start (inr (inr (inl (record {
       was = was;
-      failed = record { reply = some.reply; event = []; turn = some.asked; plain = plain; first = ap length empty; none = refl; same = some.same; told_are = ap (λ (r : ReplyValue). r ∷ []) told; stopped = stopped; any_moment = leaves; goes = first };
+      failed = record { reply = some.reply; event = []; turn = some.asked; plain = plain; due = due; none = refl; same = some.same; told_are = ap (λ (r : ReplyValue). r ∷ []) told; stopped = stopped; any_moment = leaves; goes = first };
     }))));
   }
 
@@ -87,7 +87,7 @@ module _ {D : Type 0} {g : Ghosts D} (only : (d : D) (c : List ℕ) → IsTrue (
       (holds : (committed : TableValue) → (length start ≡ 0 → held_of before ≡ committed) → AllHold old committed → AllHold mid committed)
       (either : (committed now : TableValue) → Replays events committed now → AllHold mid committed → LeavesEither mid new committed now)
       (each : new.stopped ≡ false → (committed now : TableValue) → Replays events committed now → AllHold mid committed → AllHold new now)
-      (calls : (mid.disk ≡ old.disk) ⊎ ((length start < length events) ⊎ (is_starved due ≡ true))) (still : length events ≡ 0 → new.disk ≡ mid.disk) where
+      (calls : CallsWhereDue old mid before start body) (still : length events ≡ 0 → (new.disk ≡ mid.disk) × (new.stopped ≡ false)) (four : IsTrue (g.is_honest mid.disk) → g.moment new.disk ≤ g.moment mid.disk + 8) (chosen : new.chosen ≡ mid.chosen) where
     replays : Replays events (held_of before) (held_of after)
     replays =
         let added : events ≡ turn.event = turn.added ∙ ap (λ (l : List ℕ). l ++ turn.event) empty in
@@ -113,37 +113,22 @@ module _ {D : Type 0} {g : Ghosts D} (only : (d : D) (c : List ℕ) → IsTrue (
       reply = due;
       event = turn.event;
       mid = desk mid after (due ∷ []) events;
-      held = record { turn = turn.asked; plain = plain; pending = refl; events = turn.added; going = on; calls = called_for old mid body due before after start events turn calls; any_moment = leaves; each = holds; library = stays; goes = first };
+      held = record { turn = turn.asked; plain = plain; pending = refl; events = turn.added; going = on; calls = calls; any_moment = leaves; each = holds; library = stays; goes = first };
       full = full_one (length events);
       settled = settled;
     })))
 
-    -- the body makes no event
-    eventless : ((request : Request) → Asks body request → bytes_of (outcome before request).event ≡ []) → turn.event ≡ []
-    eventless none = by (is_done due) refl (ordinary turn.asked.turn)
+    -- where the body makes no event nothing is called
+    silent : MakesNoEvent before body → (new.disk ≡ old.disk) × (new.stopped ≡ false)
+    silent none = by calls (none_or_some turn.event)
       where
-        ordinary : Turn before body due after → Ordinary before body due after
-        ordinary (inl one) = one.turn
-        ordinary (inr one) = absurd (true≢false (sym one.kind ∙ plain))
-
-        by : (b : Bool) → is_done due ≡ b → Ordinary before body due after → turn.event ≡ []
-        by false is one = turn.asked.made.undone is
-        by true is (inl one) = turn.asked.made.done one.request plain one.asked is ∙ none one.request one.asked
-        by true is (inr (inl one)) = absurd (true≢false (sym is ∙ ap is_done one.answers))
-        by true is (inr (inr (inl one))) = absurd (true≢false (sym is ∙ ap is_done one.answers))
-        by true is (inr (inr (inr one))) = absurd (true≢false (sym is ∙ ap is_done one.answers))
-
-    -- then nothing is called
-    silent : ((request : Request) → Asks body request → bytes_of (outcome before request).event ≡ []) → is_starved due ≡ false → new.disk ≡ old.disk
-    silent none well = still (ap length all) ∙ by calls
-      where
-        all : events ≡ []
-        all = turn.added ∙ ap (λ (l : List ℕ). l ++ turn.event) empty ∙ eventless none
-
-        by : (mid.disk ≡ old.disk) ⊎ ((length start < length events) ⊎ (is_starved due ≡ true)) → mid.disk ≡ old.disk
-        by (inl same) = same
-        by (inr (inl more)) = absurd (omega (arith, more, ap length all))
-        by (inr (inr starved)) = absurd (true≢false (sym starved ∙ well))
+        by : CallsWhereDue old mid before start body → (length turn.event ≡ 0) ⊎ (0 < length turn.event) → (new.disk ≡ old.disk) × (new.stopped ≡ false)
+        by (inr is_due) event = absurd (no_event_of before body plain none is_due.makes)
+        by (inl same) (inr some) = absurd (no_event_of before body plain none (record { reply = due; event = turn.event; after = after; turn = turn.asked; some = some }))
+        by (inl same) (inl nothing) =
+            let all : length events ≡ 0 = omega (arith, ap (λ (l : List ℕ). length l) turn.added, length-append start turn.event, ap (λ (l : List ℕ). length l) empty, nothing) in
+            let last = still all in
+            (last.0 ∙ same, last.1)
 
     -- its commit failed
     pub commit_failed : (reply : ReplyValue) → reply ≡ faulted body → new.stopped ≡ true → IsAnswered old new before after body reply
@@ -155,12 +140,15 @@ module _ {D : Type 0} {g : Ghosts D} (only : (d : D) (c : List ℕ) → IsTrue (
       any_moment = λ no. meanwhile;
       each = λ no going. absurd (true≢false (sym stopped ∙ going));
       goes = goes_on old mid new first then;
-      quiet = λ no going. absurd (true≢false (sym stopped ∙ going));
+      quiet = λ no kind none. silent none;
+      refused = λ no going. absurd (true≢false (sym stopped ∙ going));
       served = λ no. filled reply (record {
         state = refl;
         well = λ going. absurd (true≢false (sym stopped ∙ going));
         broken = λ yes. ap (λ (r : ReplyValue). r ∷ []) (told ∙ sym (requests.tells (entry body due turn.event) before after turn.asked));
         quiet = still;
+        calls = four;
+        chosen = chosen;
         any_moment = λ committed makes all. either committed (held_of after) makes all;
         each = λ going. absurd (true≢false (sym stopped ∙ going));
         library = stays_on;
@@ -178,12 +166,15 @@ module _ {D : Type 0} {g : Ghosts D} (only : (d : D) (c : List ℕ) → IsTrue (
       any_moment = λ no. meanwhile;
       each = λ no yes all. has_state (due, turn.asked.turn) all new (goes_on old mid new first then).shape (stays_on ∙ stays) (each yes (held_of before) (held_of after) replays (holds (held_of before) (λ none. refl) all.all));
       goes = goes_on old mid new first then;
-      quiet = λ no yes none well. silent none.none well;
+      quiet = λ no kind none. silent none;
+      refused = λ no yes kind. absurd (true≢false (sym kind ∙ plain));
       served = λ no. filled due (record {
         state = refl;
         well = λ yes. (refl, refl, refl);
         broken = λ stopped. absurd (true≢false (sym stopped ∙ going));
         quiet = still;
+        calls = four;
+        chosen = chosen;
         any_moment = λ committed makes all. either committed (held_of after) makes all;
         each = λ yes committed makes all. each yes committed (held_of after) makes all;
         library = stays_on;

@@ -1,5 +1,6 @@
 -- What a body made of events.
-use Rattle.std.proofs.Common.{◌≡◌, ℕ, true, false, true≢false, List, [], None, Result, Ok, Err, refl, sym, ap, ◌∙◌}
+use Rattle.std.proofs.Common.{◌≡◌, inl, inr, ℕ, ◌<◌, Bool, true, false, true≢false, List, [], length, None, Result, Ok, Err, refl, sym, ap, ◌∙◌, subst, arith}
+use Rattle.oa_groups.specs.Runs.{MakesEvent}
 use Rattle.oa_image.specs.Events.{event_image}
 use Rattle.oa_model.specs.declared.hresult.HResult.{HResult}
 use Rattle.oa_record.specs.Asks.{Asks}
@@ -18,9 +19,12 @@ use Rattle.oa_server.specs.declared.refusal.Refusal.{Refusal}
 use Rattle.oa_server.specs.Decisions.{changed, outcome_of, relocked, relocking}
 use Rattle.oa_server.specs.Limits.{allowed}
 use Rattle.oa_server.specs.Plans.{HasNoEvent, PlansChange}
-use Rattle.oa_server.specs.Requests.{HasEvent, bytes_of, is_done}
+use Rattle.oa_record.specs.Replacement.{is_replacement}
+use Rattle.oa_server.specs.Answers.{MakesNoEvent}
+use Rattle.oa_server.specs.Requests.{HasEvent, bytes_of, is_done, requests}
 use Rattle.oa_server.specs.States.{State}
 use Rattle.oa_server.specs.Steps.{decided, outcome}
+use Rattle.oa_server.specs.Turns.{Ordinary, Turn}
 
 module _ (old : State) (body : List ℕ) where
   -- a reply other than S_OK
@@ -54,3 +58,23 @@ module _ (old : State) (body : List ℕ) where
     pub change_eventless : (tag : ℕ) (event : Event) (fields : List ℕ) (plan : Plan) → decided old request ≡ Ok (decisions.Change event fields) → PlansChange old tag event fields plan → HasNoEvent old body plan
     change_eventless tag event fields (Answered reply) is plans = eventless (Ok (decisions.Change event fields)) reply is (rw plans.1 refl)
     change_eventless tag event fields (Change planned) is plans = tt
+
+-- where a turn of the body makes an event, one comes of what it asks
+pub event_of : (state : State) (body : List ℕ) → is_replacement body ≡ false → MakesEvent requests state body → (request : Request) × Asks body request × (0 < length (bytes_of (outcome state request).event))
+event_of state body plain makes = by (is_done makes.reply) refl (ordinary makes.turn.turn)
+  where
+    ordinary : Turn state body makes.reply makes.after → Ordinary state body makes.reply makes.after
+    ordinary (inl one) = one.turn
+    ordinary (inr one) = absurd (true≢false (sym one.kind ∙ plain))
+
+    by : (b : Bool) → is_done makes.reply ≡ b → Ordinary state body makes.reply makes.after → (request : Request) × Asks body request × (0 < length (bytes_of (outcome state request).event))
+    by false is one = absurd (omega (arith, makes.some, ap (λ (l : List ℕ). length l) (makes.turn.made.undone is)))
+    by true is (inl one) = (one.request, one.asked, subst (λ (l : List ℕ). 0 < length l) (makes.turn.made.done one.request plain one.asked is) makes.some)
+    by true is (inr (inl one)) = absurd (true≢false (sym is ∙ ap is_done one.answers))
+    by true is (inr (inr (inl one))) = absurd (true≢false (sym is ∙ ap is_done one.answers))
+    by true is (inr (inr (inr one))) = absurd (true≢false (sym is ∙ ap is_done one.answers))
+
+pub no_event_of : (state : State) (body : List ℕ) → is_replacement body ≡ false → MakesNoEvent state body → MakesEvent requests state body → ⊥
+no_event_of state body plain none makes =
+    let one = event_of state body plain makes in
+    omega (arith, one.2, ap (λ (l : List ℕ). length l) (none one.0 one.1))

@@ -10,7 +10,7 @@ use Rattle.oa_groups.specs.Turns.{Entry, body_of, entry, reply_of}
 use Rattle.oa_groups.proofs.Entries.{events_push, run_append}
 use Rattle.oa_record.specs.Replies.{ReplyValue}
 use Rattle.oa_store.specs.declared.store.Store.{Store}
-use Rattle.oa_server.specs.Hands.{desk}
+use Rattle.oa_server.specs.Hands.{IsDueFor, desk}
 use Rattle.oa_server.specs.Requests.{requests}
 use Rattle.oa_server.specs.States.{State}
 use Rattle.oa_server.specs.Talks.{IsGroup, IsRest}
@@ -89,14 +89,22 @@ module _ {D : Type 0} {g : Ghosts D} (size : ℕ) where
       }
 
       -- the checkpoint before it fails
-      pub group_faulted : (new : Desk State ReplyValue D g) (told : List ReplyValue) → requests.Turn asked before new.state → length events ≡ 0 → event ≡ [] → new.store.stopped ≡ true
+      pub group_faulted : (new : Desk State ReplyValue D g) (told : List ReplyValue) → requests.Turn asked before new.state → IsDueFor old before events body → event ≡ [] → new.store.stopped ≡ true
           → IsGroup size new.store first (bodies ++ body ∷ []) told new.state
-      group_faulted new told turn empty none stopped = record {
+      group_faulted new told turn due none stopped = record {
         group = more;
         bodies_are = more_bodies;
         run = more_run new.state turn;
         short = not_before;
-        ends = inr (events_push was.held asked ∙ rw (none, append-nil (events_in was.held)) (sym was.events_are ∙ nil_from_length events empty));
+        ends = inr (inl (record {
+          none = events_push was.held asked ∙ rw (none, append-nil (events_in was.held)) (sym was.events_are ∙ nil_from_length events due.first);
+          front = was.held;
+          last = asked;
+          are = refl;
+          state = before;
+          run = was.run;
+          makes = due.makes;
+        }));
         whole = λ going. absurd (true≢false (sym stopped ∙ going));
       }
 

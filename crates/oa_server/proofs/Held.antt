@@ -1,8 +1,21 @@
 -- A turn over a store.
-use Rattle.std.proofs.Common.{◌≡◌, inl, inr, false, ℕ, ◌≤◌, ◌++◌, List, [], length, None, Ok, refl, sym, ap, ◌∙◌, subst, arith}
+use Rattle.std.proofs.Common.{rules, ◌≡◌, ◌⊎◌, inl, inr, Bool, true, false, true≢false, ℕ, ◌-◌, ◌<◌, ◌≤◌, ◌++◌, List, [], length, None, Result, Ok, Err, IsOk, refl}
+use Rattle.std.proofs.Common.{sym, ap, ◌∙◌, subst, arith}
+use Rattle.std.specs.Prelude.{nat_lt}
+use Rattle.std.proofs.lemmas.Bool.{ltb-false}
+use Rattle.oa_disk.specs.declared.disk.Disk.{Ghosts}
+use Rattle.oa_groups.specs.Runs.{MakesEvent}
+use Rattle.oa_groups.proofs.Called.{none_or_some}
+use Rattle.oa_image.proofs.Lengths.{event_bytes}
+use Rattle.oa_journal.specs.Shapes.{ample_bytes, body_bytes}
+use Rattle.oa_keeper.proofs.Committed.{one_event}
+use Rattle.oa_store.specs.declared.store.Store.{Store}
+use Rattle.oa_table.specs.declared.fault.TableFault.{TableFault}
+use Rattle.oa_server.specs.Hands.{CallsWhereDue}
+use Rattle.oa_server.specs.Limits.{limited}
 use Rattle.std.proofs.lemmas.List.{append-nil}
 use Rattle.oa_model.specs.Limits.{max_event_bytes}
-use Rattle.oa_image.specs.Events.{event_image}
+use Rattle.oa_image.specs.Events.{event as an_event, event_image}
 use Rattle.oa_journal.specs.Replays.{Replays}
 use Rattle.oa_model.specs.Codes.{e_outofmemory, s_ok}
 use Rattle.oa_record.specs.Asks.{Asks}
@@ -12,7 +25,7 @@ use Rattle.oa_table.specs.Events.{applied}
 use Rattle.oa_table.specs.Tables.{TableValue}
 use Rattle.oa_server.specs.declared.plan.Planned.{Planned}
 use Rattle.oa_server.specs.Plans.{HoldsSame, IsPlanned}
-use Rattle.oa_server.specs.Requests.{HasEvent, HasTurn, IsHeldBack, held_of}
+use Rattle.oa_server.specs.Requests.{HasEvent, HasTurn, IsHeldBack, held_of, requests}
 use Rattle.oa_server.specs.States.{State}
 use Rattle.oa_server.specs.Steps.{refusal}
 use Rattle.oa_record.specs.Replacement.{is_replacement}
@@ -68,3 +81,35 @@ module _ (one_request : (body : List ℕ) (p q : Request) → Asks body p → As
     asked = record { turn = inl (record { kind = plain; turn = refused old body planned (drafted old body planned is) new (refusal planned.tag e_outofmemory None) e_outofmemory (inr (refl, is.allows)) refl same }); made = undone old body (refusal planned.tag e_outofmemory None) refl; replays = no_events (held_of old) (held_of new) (ap held_of same) };
     same = ap held_of same;
   }
+
+  -- where the change is made, it makes an event
+  pub makes_event : an_event.Is planned.event → MakesEvent requests old body
+  makes_event is_event = by (applied planned.event old.table) refl
+    where
+      by : (due : Result TableValue TableFault) → applied planned.event old.table ≡ due → MakesEvent requests old body
+      by (Ok table) at =
+          let new : State = record old { table = table } in
+          let reply : ReplyValue = record { tag = planned.tag; code = s_ok; index = None; body = planned.fields } in
+          let made = (is_allowed old.bank planned.event old.table table is.allows at).is in
+          record {
+            reply = reply;
+            event = event_image planned.event;
+            after = new;
+            turn = record {
+              turn = inl (record { kind = plain; turn = done old body planned (drafted old body planned is) new reply made refl refl });
+              made = has_event old body one_request is.request is.asked planned table reply is.decided_is made refl;
+              replays = one_event planned.event old.table table is_event at;
+            };
+            some = event_bytes planned.event is_event;
+          }
+      by (Err fault) at = absurd (true≢false (sym (subst (λ (r : Result TableValue TableFault). IsOk (limited old.bank planned.event r)) at is.allows)))
+
+  -- and the device is called where that is due
+  pub called_where_due : {D : Type 0} {g : Ghosts D} (store new : Store D g) (events : List ℕ) → an_event.Is planned.event → (0 < length events → new.disk ≡ store.disk)
+      → (ample_bytes ≤ (body_bytes store.bank.shape - store.bank.gate) → new.disk ≡ store.disk) → CallsWhereDue store new old events body
+  called_where_due store new events is_event quiet undue = by (none_or_some events) (nat_lt (body_bytes store.bank.shape - store.bank.gate) ample_bytes) refl
+    where
+      by : (length events ≡ 0) ⊎ (0 < length events) → (b : Bool) → nat_lt (body_bytes store.bank.shape - store.bank.gate) ample_bytes ≡ b → CallsWhereDue store new old events body
+      by (inr some) b is_b = inl (quiet some)
+      by (inl none) false is_b = inl (undue (ltb-false (body_bytes store.bank.shape - store.bank.gate) ample_bytes is_b))
+      by (inl none) true is_b = inr (record { first = none; short = search (is_b, rules); makes = makes_event is_event })

@@ -1,7 +1,7 @@
 -- What an opening finds is the state that was kept.
-use Rattle.std.proofs.Common.{◌≡◌, ℕ, List, [], ◌∷◌, Option, Some, None, inl, inr, refl, sym, subst}
+use Rattle.std.proofs.Common.{◌≡◌, ◌≤◌, ℕ, IsTrue, List, [], ◌∷◌, Option, Some, None, inl, inr, refl, sym, subst}
 use Rattle.oa_disk.specs.declared.disk.Disk.{Ghosts}
-use Rattle.oa_disk.specs.Moments.{weakened}
+use Rattle.oa_disk.specs.Moments.{started, weakened}
 use Rattle.oa_groups.specs.Groups.{joined}
 use Rattle.oa_groups.specs.Runs.{HoldsState, Run}
 use Rattle.oa_groups.specs.Turns.{Entry}
@@ -19,7 +19,8 @@ use Rattle.oa_typelib.specs.Keeps.{first_lost}
 use Rattle.oa_typelib.specs.declared.keeping.Lost.{Lost}
 use Rattle.oa_server.specs.Replacing.{Replacement, after_replacement}
 use Rattle.oa_server.specs.SameLibrary.{ordinary_library}
-use Rattle.oa_server.specs.Laws.{FoundIsKept, OpenedBegins}
+use Rattle.oa_server.specs.Laws.{FoundIsKept, OpenedBegins, OpenedJoins}
+use Rattle.oa_server.specs.Openings.{IsFound}
 use Rattle.oa_server.specs.Requests.{held_of, requests, text_of}
 use Rattle.oa_server.specs.States.{State, state_of}
 use Rattle.oa_typelib.specs.Checked.{IsChecked}
@@ -64,7 +65,33 @@ pub session_begun : {D : Type 0} {g : Ghosts D} → OpenedBegins g
 session_begun {D} {g} disk library store table opened honest alone =
     let found = opened.found honest in
     let first = state_of (body_bytes store.bank.shape) library table in
-    let holds : HoldsState requests first (g.contents disk) = rw found.unlocked (subst (λ (s : Shape). IsStoreIn s (g.contents disk) (canonical library) table) opened.shape found.contents) in
+    let holds : HoldsState requests first (g.contents disk) = rw opened.unlocked (subst (λ (s : Shape). IsStoreIn s (g.contents disk) (canonical library) table) opened.shape found.contents) in
     session_opened requests {g = g} disk store first
     (weakened g.moment g.image_since disk store.disk (g.image disk) (HoldsState requests first) found.reads.moments (λ c is. rw (alone c is) holds))
-    (record { shape = opened.shape; has = opened.text; all = (honest, λ c is. rw found.unlocked (found.each c is)) })
+    (record { shape = opened.shape; has = opened.text; all = (honest, λ c is. rw opened.unlocked (found.each c is)) })
+
+-- An opening takes what the disk holds for what a stop has left.
+module _ {D : Type 0} {g : Ghosts D} (now : (d : D) (t : ℕ) (c : List ℕ) → IsTrue (g.is_honest d) → t ≤ g.moment d → g.image d c → g.image_since d t c)
+    (only : (d : D) (c : List ℕ) → IsTrue (g.is_honest d) → g.image_since d (g.moment d) c → g.image d c) (held : (d : D) → IsTrue (g.is_honest d) → g.image d (g.contents d)) where
+  pub opening_joins : OpenedJoins g
+  opening_joins disk library store table opened honest = (
+    session_opened requests {g = g} store.disk store first (started g.moment g.image_since store.disk (HoldsState requests first) (λ c left. holds c (only store.disk c honest left)))
+        (record { shape = opened.shape; has = opened.text; all = (honest, λ c is. rw opened.unlocked (found.each c is)) }),
+    λ m le. left_before m le (g.contents store.disk) (found.reads.images (g.contents store.disk) (held store.disk honest)),
+    holds (g.contents store.disk) (held store.disk honest),
+    λ m c le left k below. left_before k below c (found.reads.moments.each c (left (g.moment disk) le)),
+  )
+    where
+      found : IsFound g disk library store table
+      found = opened.found honest
+
+      first : State
+      first = state_of (body_bytes store.bank.shape) library table
+
+      holds : (c : List ℕ) → g.image store.disk c → HoldsState requests first c
+      holds c is = rw opened.unlocked
+          (subst (λ (l : List ℕ). IsStoreIn (Two (body_bytes store.bank.shape)) c l table) opened.text
+          (subst (λ (s : Shape). IsStoreIn s c store.library.items table) opened.shape (store.chosen, store.bank.gate, found.each c is)))
+
+      left_before : (k : ℕ) → k ≤ g.moment disk → (c : List ℕ) → g.image disk c → g.image_since disk k c
+      left_before k le c is = now disk k c found.honest le is

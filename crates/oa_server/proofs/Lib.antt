@@ -14,7 +14,6 @@ pub mod Found
 pub mod Fitting
 pub mod Planned
 pub mod Planning
-pub mod Lockless
 pub mod Opened
 pub mod Allowed
 pub mod Eventless
@@ -34,3 +33,4 @@ pub mod Beginning
 pub mod Parting
 pub mod OneState
 pub mod Kept
+pub mod Told

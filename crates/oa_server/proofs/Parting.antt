@@ -108,7 +108,6 @@ module _ {D : Type 0} {g : Ghosts D} where
         going,
       )
       by (inr stopped) = inr (session_called requests {g = g} start mid new first last after calls (call_of size part) sits.0 is, begins, stopped, stopped)
-
   part_over front start mid (Disk new) first last after calls size part (inr over) serves =
       let late = serves.late over.3 in
       let more = session_late requests g start mid.disk first last calls (call_of size part) over.0 over.2 late.told in

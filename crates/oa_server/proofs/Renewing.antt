@@ -8,7 +8,8 @@ use Rattle.oa_groups.specs.Desks.{Desk, IsEnded, IsFlushed, IsTaken, LeavesState
 use Rattle.oa_groups.specs.Runs.{AllHoldState, HoldsState}
 use Rattle.oa_groups.specs.Served.{Goes, IsServed}
 use Rattle.oa_groups.specs.Simple.{no_event}
-use Rattle.oa_groups.proofs.Takes.{goes_nowhere, underway_ended, underway_start, underway_taken}
+use Rattle.oa_groups.proofs.Ends.{underway_ended}
+use Rattle.oa_groups.proofs.Takes.{goes_nowhere, underway_start, underway_taken}
 use Rattle.oa_journal.specs.Replays.{Replays}
 use Rattle.oa_groups.specs.Turns.{entry}
 use Rattle.oa_idl.specs.Trees.{TreeValue}
@@ -222,7 +223,8 @@ module _ {D : Type 0} {g : Ghosts D} (only : (d : D) (c : List ℕ) → IsTrue (
     any_moment = λ no. is.replaced.any_moment;
     each = λ no. is.replaced.each;
     goes = is.replaced.goes;
-    quiet = λ no going none fed. is.replaced.quiet (ap is_done (sym (is_due going)) ∙ none.kept kind);
+    quiet = λ no plain. absurd (true≢false (sym kind ∙ plain));
+    refused = λ no going asks undone. is.replaced.quiet (ap is_done (sym (is_due going)) ∙ undone);
     served = λ no. served_apart;
   }
 
@@ -239,6 +241,8 @@ module _ {D : Type 0} {g : Ghosts D} (old mid new : Store D g) (was : old.stoppe
       well = λ going. ((last.settled.well going).0, refl, refl);
       broken = last.settled.broken;
       quiet = last.settled.quiet;
+      calls = last.settled.calls;
+      chosen = last.settled.chosen;
       any_moment = last.settled.any_moment;
       each = last.settled.each;
       library = last.settled.library;

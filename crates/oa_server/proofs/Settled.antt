@@ -1,8 +1,8 @@
 -- A group in hand, and its end.
-use Rattle.std.proofs.Common.{rules, ◌≡◌, ◌⊎◌, inl, inr, ℕ, ◌-◌, ◌^◌, ◌<◌, ◌≤◌, ◌++◌, true, false, true≢false, List, [], ◌∷◌, length, map}
-use Rattle.std.proofs.Common.{refl, sym, ap, ◌∙◌, arith, length-append}
+use Rattle.std.proofs.Common.{rules, ◌≡◌, ℕ, ◌+◌, ◌-◌, ◌^◌, ◌<◌, ◌≤◌, ◌++◌, IsTrue, true, false, true≢false, List, [], ◌∷◌, length, map, refl}
+use Rattle.std.proofs.Common.{sym, ◌∙◌, arith}
 use Rattle.oa_disk.specs.declared.disk.Disk.{Ghosts}
-use Rattle.oa_groups.specs.Desks.{CallsFor, IsHeld, IsSettled}
+use Rattle.oa_groups.specs.Desks.{IsHeld, IsSettled}
 use Rattle.oa_groups.specs.Groups.{fills}
 use Rattle.oa_groups.specs.Served.{Goes}
 use Rattle.oa_groups.specs.Turns.{entry}
@@ -12,8 +12,8 @@ use Rattle.oa_record.specs.Replacement.{is_replacement}
 use Rattle.oa_record.specs.Replies.{ReplyValue}
 use Rattle.oa_store.specs.declared.store.Store.{Store}
 use Rattle.oa_table.specs.Tables.{TableValue}
-use Rattle.oa_server.specs.Hands.{IsReady, desk}
-use Rattle.oa_server.specs.Requests.{IsHeldBack, held_of, is_starved, requests, withdrawn}
+use Rattle.oa_server.specs.Hands.{CallsWhereDue, IsReady, desk}
+use Rattle.oa_server.specs.Requests.{IsHeldBack, held_of, requests, withdrawn}
 use Rattle.oa_server.specs.States.{State}
 
 -- a group that goes on has a place
@@ -31,7 +31,8 @@ module _ {D : Type 0} {g : Ghosts D} (old new : Store D g) (was : old.stopped �
 
   module _ (state : State) (pending : List ReplyValue) (events events' : List ℕ) (says : Goes old new) (library : new.library.items ≡ old.library.items)
       (any_moment : (committed now : TableValue) → Replays events committed now → AllHold old committed → LeavesEither old new committed now)
-      (each : new.stopped ≡ false → (committed now : TableValue) → Replays events committed now → AllHold old committed → AllHold new now) (quiet : length events ≡ 0 → new.disk ≡ old.disk) where
+      (each : new.stopped ≡ false → (committed now : TableValue) → Replays events committed now → AllHold old committed → AllHold new now) (quiet : length events ≡ 0 → (new.disk ≡ old.disk) × (new.stopped ≡ false))
+      (calls : IsTrue (g.is_honest old.disk) → g.moment new.disk ≤ g.moment old.disk + 8) (chosen : new.chosen ≡ old.chosen) where
     -- the group is committed
     pub settled : events' ≡ [] → new.stopped ≡ false → IsSettled requests pending (desk old state pending events) (desk new state [] events')
     settled empty going = record {
@@ -39,6 +40,8 @@ module _ {D : Type 0} {g : Ghosts D} (old new : Store D g) (was : old.stopped �
       well = λ goes_on. (refl, refl, empty);
       broken = λ stopped. absurd (true≢false (sym stopped ∙ going));
       quiet = quiet;
+      calls = calls;
+      chosen = chosen;
       any_moment = λ committed replays all. any_moment committed (held_of state) replays all;
       each = λ goes_on committed replays all. each goes_on committed (held_of state) replays all;
       library = library;
@@ -52,6 +55,8 @@ module _ {D : Type 0} {g : Ghosts D} (old new : Store D g) (was : old.stopped �
       well = λ goes_on. absurd (true≢false (sym stopped ∙ goes_on));
       broken = λ stops. back;
       quiet = quiet;
+      calls = calls;
+      chosen = chosen;
       any_moment = λ committed replays all. any_moment committed (held_of state) replays all;
       each = λ goes_on committed replays all. each goes_on committed (held_of state) replays all;
       library = library;
@@ -71,26 +76,19 @@ ready_none store size places some place = record {
 pub ready_at : {D : Type 0} {g : Ghosts D} (store : Store D g) (size places : ℕ) (pending : List ReplyValue) (events : List ℕ) → 1 ≤ size → size ≤ places → pending ≡ [] → events ≡ [] → IsReady store size places pending events
 ready_at store size places pending events some place none empty = rw (none, empty) (ready_none store size places some place)
 
--- for what the device was called
-pub called_for : {D : Type 0} {g : Ghosts D} (old new : Store D g) (body : List ℕ) (reply : ReplyValue) (before after : State) (events events' : List ℕ) (turn : IsHeldBack body reply events events' before after)
-    → (new.disk ≡ old.disk) ⊎ ((length events < length events') ⊎ (is_starved reply ≡ true)) → CallsFor old new turn.event (is_starved reply)
-called_for old new body reply before after events events' turn (inl same) = inl same
-called_for old new body reply before after events events' turn (inr (inl more)) = inr (inl (omega (arith, more, ap length turn.added, length-append events turn.event)))
-called_for old new body reply before after events events' turn (inr (inr starved)) = inr (inr starved)
-
 -- a request is held
 pub held_one : {D : Type 0} {g : Ghosts D} (old new : Store D g) (body : List ℕ) (reply : ReplyValue) (before after : State) (pending pending' : List ReplyValue) (events events' : List ℕ)
     (turn : IsHeldBack body reply events events' before after) → pending' ≡ pending ++ reply ∷ [] → new.stopped ≡ false
     → ((committed : TableValue) → (length events ≡ 0 → held_of before ≡ committed) → AllHold old committed → LeavesTable old new committed)
     → ((committed : TableValue) → (length events ≡ 0 → held_of before ≡ committed) → AllHold old committed → AllHold new committed)
-    → (new.disk ≡ old.disk) ⊎ ((length events < length events') ⊎ (is_starved reply ≡ true)) → Goes old new → is_replacement body ≡ false → new.library.items ≡ old.library.items → IsHeld requests (entry body reply turn.event) (desk old before pending events) (desk new after pending' events')
+    → CallsWhereDue old new before events body → Goes old new → is_replacement body ≡ false → new.library.items ≡ old.library.items → IsHeld requests (entry body reply turn.event) (desk old before pending events) (desk new after pending' events')
 held_one old new body reply before after pending pending' events events' turn more going any_moment each calls says plain library = record {
   turn = turn.asked;
   plain = plain;
   pending = more;
   events = turn.added;
   going = going;
-  calls = called_for old new body reply before after events events' turn calls;
+  calls = calls;
   any_moment = any_moment;
   each = each;
   library = library;

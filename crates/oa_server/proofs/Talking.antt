@@ -12,7 +12,8 @@ use Rattle.oa_groups.specs.Desks.{Desk, IsTaken}
 use Rattle.oa_groups.specs.Going.{Underway}
 use Rattle.oa_groups.specs.Served.{IsServed}
 use Rattle.oa_groups.proofs.Entries.{either}
-use Rattle.oa_groups.proofs.Takes.{underway_ended, underway_start, underway_taken}
+use Rattle.oa_groups.proofs.Ends.{underway_ended}
+use Rattle.oa_groups.proofs.Takes.{underway_start, underway_taken}
 use Rattle.oa_record.specs.Replacement.{is_replacement}
 use Rattle.oa_record.specs.Replies.{ReplyValue, reply_record}
 use Rattle.oa_store.specs.declared.store.Store.{Store}
@@ -292,7 +293,7 @@ module _ {D : Type 0} {g : Ghosts D} (only : (d : D) (c : List ℕ) → IsTrue (
             none (inl going) = (filled.settled.well going).1
             none (inr stopped) = is.ready.late stopped
         by (inr (inr (inl faulted))) = ends (is.ready.late faulted.failed.stopped) (λ going. absurd (true≢false (sym faulted.failed.stopped ∙ going)))
-            (λ going. inl (group_faulted size first old before hand.replies.items hand.frame bodies (was.short.0 going) body faulted.failed.reply faulted.failed.event now is.told faulted.failed.turn faulted.failed.first faulted.failed.none faulted.failed.stopped))
+            (λ going. inl (group_faulted size first old before hand.replies.items hand.frame bodies (was.short.0 going) body faulted.failed.reply faulted.failed.event now is.told faulted.failed.turn faulted.failed.due faulted.failed.none faulted.failed.stopped))
         by (inr (inr (inr (inr apart)))) = ends (on (either apart.mid.store.stopped)).0 (λ going. (on (either apart.mid.store.stopped)).1 going) (λ going. inr (record { front = bodies; last = body; are = refl; alone = apart.alone }))
           where
             on : (apart.mid.store.stopped ≡ false) ⊎ (apart.mid.store.stopped ≡ true) → (hand'.replies.items ≡ []) × (new.stopped ≡ false → hand'.frame ≡ [])

@@ -11,15 +11,14 @@ use Rattle.oa_record.specs.Replacement.{is_replacement}
 use Rattle.oa_record.specs.Replies.{ReplyValue}
 use Rattle.oa_record.specs.declared.request.Request.{Request}
 use Rattle.oa_store.specs.declared.store.Store.{Store}
-use Rattle.oa_server.specs.Requests.{bytes_of, failed, faulted, is_done, is_starved, requests}
+use Rattle.oa_server.specs.Requests.{bytes_of, failed, faulted, is_done, requests}
 use Rattle.oa_server.specs.States.{State}
 use Rattle.oa_server.specs.Steps.{outcome}
 use Rattle.oa_server.specs.Turns.{Turn}
 
--- whatever the body asks, no event comes of it, and no other library
-pub record MakesNoEvent (state : State) (body : List ℕ) (reply : ReplyValue) : Type 0 where
-  pub none : (request : Request) → Asks body request → bytes_of (outcome state request).event ≡ []
-  pub kept : is_replacement body ≡ true → is_done reply ≡ false
+-- whatever the body asks, no event comes of it
+abbrev pub MakesNoEvent : State → List ℕ → Type 0
+MakesNoEvent state body = (request : Request) → Asks body request → bytes_of (outcome state request).event ≡ []
 
 -- After a fault of the device a body is answered that the store has failed, and nothing is done. Before one it is answered by a turn,
 -- or a call of the device fails in it: then the reply says that, and the state is the one after some turn of the body.
@@ -37,9 +36,9 @@ pub record IsAnswered {D : Type 0} {g : Ghosts D} (old new : Store D g) (before 
   -- and without a fault, at the end, those after
   pub each : old.stopped ≡ false → new.stopped ≡ false → AllHoldState requests old before → AllHoldState requests new after
   pub goes : Goes old new
-  -- A body that makes no event and replaces no library makes no call of the device. (Where memory is refused to one that would make an
-  -- event, a checkpoint may have come first.)
-  pub quiet : old.stopped ≡ false → new.stopped ≡ false → MakesNoEvent before body reply → is_starved reply ≡ false → new.disk ≡ old.disk
+  -- A body that makes no event makes no call of the device, and so none fails; nor does one of which no other library comes.
+  pub quiet : old.stopped ≡ false → is_replacement body ≡ false → MakesNoEvent before body → (new.disk ≡ old.disk) × (new.stopped ≡ false)
+  pub refused : old.stopped ≡ false → new.stopped ≡ false → is_replacement body ≡ true → is_done reply ≡ false → new.disk ≡ old.disk
   -- it is a group of one, with its moments
   pub served : old.stopped ≡ false → IsServed requests 1 old new before after (body ∷ []) (reply ∷ [])
 

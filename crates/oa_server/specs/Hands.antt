@@ -1,13 +1,13 @@
 -- A server at work over a store, and the group in hand.
 use Rattle.std.specs.Prelude.{◌≡◌, ◌⊎◌, ◌<◌, ◌≤◌, ◌++◌, ℕ, true, false, List, [], length, vec_capacity}
 use Rattle.oa_disk.specs.declared.disk.Disk.{Ghosts}
-use Rattle.oa_groups.specs.Desks.{Desk}
+use Rattle.oa_groups.specs.Desks.{Desk, IsDue}
 use Rattle.oa_journal.specs.Shapes.{body_bytes}
 use Rattle.oa_keeper.specs.Kept.{HasRoom}
 use Rattle.oa_record.specs.Replies.{ReplyValue}
 use Rattle.oa_store.specs.declared.store.Store.{Store}
 use Rattle.oa_server.specs.declared.hand.Hand.{Hand}
-use Rattle.oa_server.specs.Requests.{is_starved}
+use Rattle.oa_server.specs.Requests.{requests}
 use Rattle.oa_server.specs.States.{State}
 
 -- the store, the state, the replies that are held back, the events that are not committed yet
@@ -43,10 +43,13 @@ CanTake store hand = IsReady store hand.size (vec_capacity hand.replies) hand.re
 abbrev pub CanTakeCleared : {D : Type 0} {g : Ghosts D} → Store D g → Hand → Type 0
 CanTakeCleared store hand = IsReady store hand.size (vec_capacity hand.replies) [] hand.frame
 
--- The device was called for an event alone, or for one that would have been but for memory.
-abbrev pub CallsForEvent : {D : Type 0} {g : Ghosts D} → Store D g → Store D g → List ℕ → List ℕ → ReplyValue → Type 0
-CallsForEvent old new events events' reply =
-    (new.disk ≡ old.disk) ⊎ ((length events < length events') ⊎ (is_starved reply ≡ true))
+-- a checkpoint is due before an event of this body
+abbrev pub IsDueFor : {D : Type 0} {g : Ghosts D} → Store D g → State → List ℕ → List ℕ → Type 0
+IsDueFor store state events body = IsDue requests store state events body
+
+-- The device is called for a checkpoint alone, where one is due.
+abbrev pub CallsWhereDue : {D : Type 0} {g : Ghosts D} → Store D g → Store D g → State → List ℕ → List ℕ → Type 0
+CallsWhereDue old new state events body = (new.disk ≡ old.disk) ⊎ IsDueFor old state events body
 
 -- replies of which this holds were handed out
 pub record HandsOut (P : List ReplyValue → Type 0) (old new : List ReplyValue) : Type 0 where

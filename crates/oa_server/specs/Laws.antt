@@ -1,10 +1,13 @@
 -- Laws of sessions of a server over a store, beside those of any groups.
-use Rattle.std.specs.Prelude.{◌≡◌, ◌≤◌, ℕ, IsTrue, false, List, [], ◌++◌}
+use Rattle.std.specs.Prelude.{◌≡◌, ◌≤◌, ℕ, IsTrue, false, List, [], ◌++◌, map}
 use Rattle.oa_disk.specs.Disk.{NothingPending}
 use Rattle.oa_disk.specs.declared.disk.Disk.{Ghosts}
-use Rattle.oa_groups.specs.Runs.{IsAfter}
+use Rattle.oa_groups.specs.History.{MayBeLeft}
+use Rattle.oa_groups.specs.Runs.{HoldsState, IsAfter}
+use Rattle.oa_groups.specs.Served.{IsServed}
 use Rattle.oa_groups.specs.Sessions.{Call, IsSessionOn, Sitting, answered_by}
-use Rattle.oa_groups.specs.Turns.{Entry}
+use Rattle.oa_groups.specs.Groups.{joined}
+use Rattle.oa_groups.specs.Turns.{Entry, body_of, reply_of}
 use Rattle.oa_idl.specs.Canonical.{canonical}
 use Rattle.oa_idl.specs.Trees.{TreeValue}
 use Rattle.oa_record.specs.Replies.{ReplyValue}
@@ -18,6 +21,7 @@ use Rattle.oa_server.specs.Openings.{IsOpened}
 use Rattle.oa_server.specs.Requests.{opened, requests}
 use Rattle.oa_server.specs.States.{State, state_of}
 use Rattle.oa_server.specs.Talks.{Part, Parts, calls_of}
+use Rattle.oa_server.specs.Turns.{Run}
 use Rattle.oa_server.specs.declared.storage.Storage.TheVariants.{Disk}
 
 -- Where a crash leaves nothing but the contents of the disk, an opening begins a session with the table that it has found.
@@ -26,6 +30,18 @@ OpenedBegins {D} g =
     (disk : D) (library : TreeValue) (store : Store D g) (table : TableValue) → IsOpened g disk library store table
     → IsTrue (g.is_honest store.disk) → NothingPending g.contents g.image disk
     → Sitting requests disk store (state_of (body_bytes store.bank.shape) library table) (state_of (body_bytes store.bank.shape) library table) []
+
+-- Where something was pending too, an opening goes on with what came before: a stop at the end of that may leave what the disk holds once
+-- it is opened, and what a stop within the opening leaves. With it, which has the table that was found, a session begins.
+abbrev pub OpenedJoins : {D : Type 0} → Ghosts D → Type 0
+OpenedJoins {D} g =
+    (disk : D) (library : TreeValue) (store : Store D g) (table : TableValue) → IsOpened g disk library store table
+    → IsTrue (g.is_honest store.disk)
+    → Sitting requests store.disk store (state_of (body_bytes store.bank.shape) library table)
+    (state_of (body_bytes store.bank.shape) library table) []
+    × MayBeLeft g disk (g.moment disk) (g.contents store.disk)
+    × HoldsState requests (state_of (body_bytes store.bank.shape) library table) (g.contents store.disk)
+    × ((m : ℕ) (c : List ℕ) → g.moment disk ≤ m → MayBeLeft g store.disk m c → MayBeLeft g disk (g.moment disk) c)
 
 -- What an opening finds in an image that a stop may leave is the state that the image holds, without locks: its banks, its library and its
 -- table.
@@ -50,3 +66,14 @@ PartsCount {D} g =
     → Parts size (Disk mid) (Disk new) last parts after
     → (session : IsSessionOn requests g start new.disk first (calls ++ calls_of size parts) after) × (session.stopped ≡ new.stopped)
     × ((m : ℕ) → g.moment mid.disk ≤ m → was.session.count ≤ answered_by m session.moments)
+
+-- Of a call on a store the bodies of the groups that were answered have the replies of one run of turns; without a fault of the device all
+-- have.
+abbrev pub AnsweredAreRun : {D : Type 0} → Ghosts D → Type 0
+AnsweredAreRun {D} g =
+    (size : ℕ) (old new : Store D g) (before after : State) (bodies : List (List ℕ)) (replies : List ReplyValue)
+    → (is : IsServed requests size old new before after bodies replies)
+    → (mid : State) × (others : List (List ℕ)) × (rest : List ReplyValue)
+    × Run before (map body_of (joined is.groups)) (map reply_of (joined is.groups)) mid
+    × (bodies ≡ map body_of (joined is.groups) ++ others) × (replies ≡ map reply_of (joined is.groups) ++ rest)
+    × (new.stopped ≡ false → (others ≡ []) × (rest ≡ []) × (mid ≡ after))

@@ -69,21 +69,21 @@ pub record IsUnfit (library : TreeValue) (contents : List ℕ) (fault : OpenFaul
   pub holds : IsStoreIn (Two bank) contents (canonical library) table
   pub cannot : CanServe bank library table → ⊥
 
--- What an opening has found on an honest disk. It writes nothing; at the end each image is a store of the table, which has no locks, and
--- the contents were one at the start.
+-- What an opening has found on an honest disk. It writes nothing; at the end each image is a store of the table, and the contents were one
+-- at the start.
 pub record IsFound {D : Type 0} (g : Ghosts D) (disk : D) (library : TreeValue) (store : Store D g) (table : TableValue) : Type 0 where
   pub honest : IsTrue (g.is_honest disk)
   pub reads : WritesNothing g.image g.moment g.image_since disk store.disk
   pub each : EachIs (g.image store.disk) store.bank.shape store.chosen store.bank.gate store.library.items table
   pub contents : IsStoreIn store.bank.shape (g.contents disk) (canonical library) table
-  pub unlocked : unlocked_table table ≡ table
   pub one : FindsOneOf (g.image disk) (body_bytes store.bank.shape) library table
   pub formatted : IsForeign (g.size_of disk) (g.contents disk) → ⊥
 
--- a store of the library was opened on the disk, with a table
+-- a store of the library was opened on the disk, with a table, which has no locks
 pub record IsOpened {D : Type 0} (g : Ghosts D) (disk : D) (library : TreeValue) (store : Store D g) (table : TableValue) : Type 0 where
   pub serves : CanServe (body_bytes store.bank.shape) library table
   pub numbered : is_numbered table ≡ true
+  pub unlocked : unlocked_table table ≡ table
   pub shape : store.bank.shape ≡ Two (body_bytes store.bank.shape)
   pub text : store.library.items ≡ canonical library
   pub goes_on : store.stopped ≡ false

@@ -5,7 +5,7 @@ use Rattle.oa_model.specs.Limits.{max_event_bytes}
 use Rattle.oa_groups.specs.Turns.{Entry, Turns, entry}
 use Rattle.oa_journal.specs.Replays.{Replays}
 use Rattle.oa_keeper.proofs.Relocked.{unlocked_twice}
-use Rattle.oa_model.specs.Codes.{e_fail, e_outofmemory, stg_e_writefault}
+use Rattle.oa_model.specs.Codes.{e_fail, stg_e_writefault}
 use Rattle.oa_image.specs.Events.{event_image}
 use Rattle.oa_record.specs.Asks.{Asks, tag_at}
 use Rattle.oa_idl.specs.Canonical.{canonical}
@@ -30,10 +30,6 @@ held_of state = unlocked_table state.table
 -- a reply with S_OK
 abbrev pub is_done : ReplyValue → Bool
 is_done reply = reply.code.0 == 0
-
--- a reply that says that memory was refused
-abbrev pub is_starved : ReplyValue → Bool
-is_starved reply = reply.code.0 == e_outofmemory.0
 
 abbrev pub bytes_of : Option Event → List ℕ
 bytes_of None = []
@@ -117,7 +113,6 @@ requests = record {
   failed = failed;
   withdrawn = withdrawn;
   is_done = is_done;
-  is_starved = is_starved;
   opened = opened;
   reopens = λ state. (unlocked_twice state.table, refl, refl);
   sized = λ asked old new one. turn_bank old new asked.body asked.reply one.turn;

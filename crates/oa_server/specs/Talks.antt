@@ -5,7 +5,8 @@ use Rattle.oa_frame.specs.Framings.{Frames}
 use Rattle.oa_frame.specs.Sessions.{Session, joined, spelled_all}
 use Rattle.oa_frame.specs.declared.session.Served.{Served}
 use Rattle.oa_groups.specs.Desks.{IsEnded, IsTaken}
-use Rattle.oa_groups.specs.Groups.{IsWhole, is_full}
+use Rattle.oa_groups.specs.Faults.{IsWhole}
+use Rattle.oa_groups.specs.Groups.{is_full}
 use Rattle.oa_groups.specs.Runs.{Run}
 use Rattle.oa_groups.specs.Sessions.{Call}
 use Rattle.oa_groups.specs.Turns.{Entry, body_of, reply_of}
@@ -134,15 +135,15 @@ abbrev pub handed_of : List Part → List (List (List ℕ))
 handed_of [] = []
 handed_of (part ∷ parts) = at_last part.bodies (map reply_record part.told) ++ handed_of parts
 
--- The last of these bodies ends a group: it fills it, or the checkpoint before the group's first event has failed. Before it no group
--- is whole.
+-- The last of these bodies ends a group: it fills it, or the checkpoint before its event, the group's first, has failed. Before it no
+-- group is whole.
 pub record IsGroup {D : Type 0} {g : Ghosts D} (size : ℕ) (new : Store D g) (before : State) (bodies : List (List ℕ))
     (told : List ReplyValue) (after : State) : Type 0 where
   pub group : List (Entry ReplyValue)
   pub bodies_are : bodies ≡ map body_of group
   pub run : Run requests before group after
   pub short : (front : List (Entry ReplyValue)) (last : Entry ReplyValue) → group ≡ front ++ last ∷ [] → is_full size front ≡ false
-  pub ends : IsWhole size group
+  pub ends : IsWhole requests size before group
   pub whole : new.stopped ≡ false → (is_full size group ≡ true) × (told ≡ map reply_of group)
 
 -- These bodies are no group yet: another request could have come to them.

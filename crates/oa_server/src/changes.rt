@@ -3,7 +3,7 @@ ghost use Rattle.std.specs.Prelude.{◌≡◌, ◌-◌, ◌<◌, ◌≤◌, ◌+
 ghost use Rattle.oa_model.specs.Limits.{max_event_bytes};
 ghost use Rattle.oa_groups.specs.Desks.{KeepsCommitted, LeavesCommitted};
 ghost use Rattle.oa_groups.specs.Served.{Goes};
-ghost use Rattle.oa_image.specs.Events.{event_image};
+ghost use Rattle.oa_image.specs.Events.{event as an_event, event_image};
 ghost use Rattle.oa_journal.specs.Shapes.{ample_bytes, body_bytes};
 ghost use Rattle.oa_journal.specs.Replays.{Replays};
 ghost use Rattle.oa_keeper.specs.Kept.{HasRoom};
@@ -119,7 +119,11 @@ pub(crate) fn hold_change<D: Disk>(
     ensures replays { OnOk result (Replays (event_image event) (unlocked_table table.old) (unlocked_table table.new)) }
     ensures small { OnOk result (length (event_image event) ≤ max_event_bytes) }
     ensures some { OnOk result (0 < length (event_image event)) }
+    // It is the first event of a group before which the device is called.
+    ensures quiet { 0 < length frame.old → store.new.disk ≡ store.old.disk }
     ensures first { IsErrOf result KeepFault.Write → length frame.old ≡ 0 }
+    ensures due { IsErrOf result KeepFault.Write → body_bytes store.old.bank.shape - store.old.bank.gate < ample_bytes }
+    ensures is { an_event.Is event }
     ensures event { OnOk result (frame.new ≡ frame.old ++ event_image event) }
     ensures same { OnErr result (frame.new ≡ frame.old) }
     ensures any_moment { LeavesCommitted frame.old (unlocked_table table.old) store.old store.new }

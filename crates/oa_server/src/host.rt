@@ -7,7 +7,7 @@ ghost use Rattle.oa_keeper.specs.Kept.{HasRoom};
 ghost use Rattle.oa_server.specs.Decisions.{ChangesNoLocks, Decides, after_outcome, relocked, relocking};
 ghost use Rattle.oa_server.specs.Limits.{IsSound, allowed};
 ghost use Rattle.oa_server.specs.Plans.{Drafts, HasNoEvent, HoldsSame, IsDrafted, IsPlanned, Plans, PlansChange};
-ghost use Rattle.oa_server.specs.Hands.{CallsForEvent, HasBanks};
+ghost use Rattle.oa_server.specs.Hands.{CallsWhereDue, HasBanks, IsDueFor};
 ghost use Rattle.oa_server.specs.Requests.{HasTurn, IsHeldBack, held_of};
 ghost use Rattle.oa_server.specs.Steps.{decided, reply_with, takes_memory};
 ghost use Rattle.oa_server.specs.Turns.{Ordinary, Run, Turn};
@@ -183,9 +183,9 @@ impl Host {
         ensures turn { IfOk result (λ reply. IsHeldBack body.now reply frame.old frame.new self.old self.new) }
         ensures failed { OnErr result (HasTurn body.now self.old self.new) }
         ensures same { OnErr result (frame.new ≡ frame.old) }
-        ensures first { OnErr result (length frame.old ≡ 0) }
-        // The device is called for an event alone, or for one that would have been but for memory.
-        ensures calls { IfOk result (CallsForEvent store.old store.new frame.old frame.new) }
+        // The device is called for a checkpoint alone, where one is due before an event of the body.
+        ensures calls { CallsWhereDue store.old store.new self.old frame.old body.now }
+        ensures due { OnErr result (IsDueFor store.old self.old frame.old body.now) }
         ensures any_moment { LeavesCommitted frame.old (held_of self.old) store.old store.new }
         ensures each { store.new.stopped ≡ false → KeepsCommitted frame.old (held_of self.old) store.old store.new }
         // No checkpoint is made that is not due.
@@ -219,9 +219,11 @@ impl Host {
             → IsHeldBack body reply frame.old frame.new self.old self.new) }
         ensures failed { OnErr result ((body : List ℕ) → is_replacement body ≡ false → IsPlanned self.old body planned → HasTurn body self.old self.new) }
         ensures same { OnErr result (frame.new ≡ frame.old) }
-        ensures first { OnErr result (length frame.old ≡ 0) }
-        // The device is called for an event alone, or for one that would have been but for memory.
-        ensures calls { IfOk result (CallsForEvent store.old store.new frame.old frame.new) }
+        // The device is called for a checkpoint alone, where one is due before the event.
+        ensures calls { (body : List ℕ) → is_replacement body ≡ false → IsPlanned self.old body planned
+            → CallsWhereDue store.old store.new self.old frame.old body }
+        ensures due { OnErr result ((body : List ℕ) → is_replacement body ≡ false → IsPlanned self.old body planned
+            → IsDueFor store.old self.old frame.old body) }
         ensures any_moment { LeavesCommitted frame.old (held_of self.old) store.old store.new }
         ensures each { store.new.stopped ≡ false → KeepsCommitted frame.old (held_of self.old) store.old store.new }
         // No checkpoint is made that is not due.

@@ -1,17 +1,19 @@
 //! Laws of the definitions that turns are stated by.
-ghost use Rattle.std.specs.Prelude.{◌≡◌, ◌↔◌, ◌≤◌, ℕ, true, Bool, List, None, ◌++◌};
+ghost use Rattle.std.specs.Prelude.{◌≡◌, ◌↔◌, ◌<◌, ◌≤◌, ℕ, false, true, Bool, List, None, ◌++◌, length};
 ghost use Rattle.oa_groups.specs.Laws.{CallCounts, CallGoesOn, EndCountsAll, HistoryKeepsAnswered, LateCallCounts, OneFault};
 ghost use Rattle.oa_groups.specs.Laws.{OpeningBegins, OthersAreRun, StopIsLink, StopKeepsAnswered};
-ghost use Rattle.oa_groups.specs.Runs.{Run as RunOf};
+ghost use Rattle.oa_groups.specs.Runs.{MakesEvent, Run as RunOf};
 ghost use Rattle.oa_groups.specs.Turns.{Entry};
 ghost use Rattle.oa_record.specs.declared.request.Request.{Request as ARequest};
+ghost use Rattle.oa_record.specs.Asks.{Asks};
+ghost use Rattle.oa_record.specs.Replacement.{is_replacement};
 ghost use Rattle.oa_record.specs.Replies.{ReplyValue};
 ghost use Rattle.oa_fits.specs.Fits.{fits};
 ghost use Rattle.oa_server.specs.Decisions.{IsQuiet};
-ghost use Rattle.oa_server.specs.Laws.{FoundIsKept, OpenedBegins, PartsCount, PartsGoOn};
+ghost use Rattle.oa_server.specs.Laws.{AnsweredAreRun, FoundIsKept, OpenedBegins, OpenedJoins, PartsCount, PartsGoOn};
 ghost use Rattle.oa_server.specs.Openings.{CanBegin};
 ghost use Rattle.oa_server.specs.OwnCodes.{is_own};
-ghost use Rattle.oa_server.specs.Requests.{opened, requests};
+ghost use Rattle.oa_server.specs.Requests.{bytes_of, opened, requests};
 ghost use Rattle.oa_server.specs.States.{State, state_of};
 ghost use Rattle.oa_server.specs.Steps.{outcome, reply_of};
 ghost use Rattle.oa_server.specs.Traces.{done_bodies, done_replies, kept_bodies, kept_replies};
@@ -89,6 +91,13 @@ pub fn one_state()
     one_tree();
 }
 
+/// A request calls for the device where an event comes of it, whether memory is found for that or not: from a state some turn of the body
+/// makes an event only where one comes of what it asks.
+pub fn events_call_for_the_device()
+    ensures { (state : State) (body : List ℕ) → is_replacement body ≡ false → MakesEvent requests state body
+        → (request : ARequest) × Asks body request × (0 < length (bytes_of (outcome state request).event)) }
+{}
+
 /// The same of a run as groups hold it: the requests that were answered with S_OK alone are a run too, with the same replies and events.
 pub fn no_trace_of_groups()
     ensures { OthersAreRun requests }
@@ -107,11 +116,18 @@ pub fn headline<D: Disk>()
 /// sessions of the headline are those of servers that were opened one after the other.
 pub fn an_opening_finds_what_was_kept<D: Disk>()
     ensures begins { OpenedBegins D.Disk }
+    // Also where something was pending.
+    ensures joins { OpenedJoins D.Disk }
     ensures kept { FoundIsKept }
 {
     one_tree();
     marked_is_read();
 }
+
+/// What a call over a store answers is one run of turns, group behind group, up to a fault of the device.
+pub fn groups_are_one_run<D: Disk>()
+    ensures { AnsweredAreRun D.Disk }
+{}
 
 /// A session over a store is an opening and calls, one after another. It begins with an opening that writes nothing; each call that is
 /// served, an answer among them, goes on with it: from its start on all that was answered before it counts. Without a fault of the device

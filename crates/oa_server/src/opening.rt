@@ -62,7 +62,7 @@ pub(crate) fn open_store<D: Disk>(
     ensures contents { IfOk result (λ r. IsTrue (D.is_honest r.0.disk)
         → IsStoreIn r.0.bank.shape (D.contents disk) (canonical library.now) r.1) }
     ensures shape { IfOk result (λ r. r.0.bank.shape ≡ Two (body_bytes r.0.bank.shape)) }
-    ensures unlocked { IfOk result (λ r. IsTrue (D.is_honest r.0.disk) → unlocked_table r.1 ≡ r.1) }
+    ensures unlocked { IfOk result (λ r. unlocked_table r.1 ≡ r.1) }
     ensures serves { IfOk result (λ r. CanServe (body_bytes r.0.bank.shape) library.now r.1) }
     ensures starts { IfOk result (λ r. (r.0.stopped ≡ false) × (r.0.library.items ≡ canonical library.now) × (is_numbered r.1 ≡ true)) }
     // Where a stop has left one of two states, that one is answered, and no refusal says that there is none but that of another library.

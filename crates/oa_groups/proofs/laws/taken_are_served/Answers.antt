@@ -1,4 +1,5 @@
-use Rattle.oa_groups.proofs.Takes.{underway_start, underway_taken, underway_ended}
+use Rattle.oa_groups.proofs.Ends.{underway_ended}
+use Rattle.oa_groups.proofs.Takes.{underway_start, underway_taken}
 use Rattle.oa_groups.specs.Simple.{simple}
 use Rattle.oa_groups.proofs.laws.taken_are_served.Goals as goal
 

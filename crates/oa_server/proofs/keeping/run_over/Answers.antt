@@ -1,6 +1,7 @@
 use Rattle.std.proofs.Common.{rules, Vec, Global, ◌≡◌, ◌+◌, ◌++◌, ◌∷◌, ◌≤◌, [], List, ℕ, arith, map, take, length, refl, sym, ◌∙◌, ap}
 use Rattle.std.proofs.lemmas.List.{map_push, take_all, take_more}
-use Rattle.oa_groups.proofs.Takes.{underway_ended, underway_start, underway_taken}
+use Rattle.oa_groups.proofs.Ends.{underway_ended}
+use Rattle.oa_groups.proofs.Takes.{underway_start, underway_taken}
 use Rattle.oa_server.specs.Hands.{desk}
 use Rattle.oa_server.specs.Requests.{requests}
 use Rattle.oa_server.proofs.Late.{late_ended, late_more, late_none}

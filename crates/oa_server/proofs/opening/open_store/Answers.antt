@@ -5,7 +5,6 @@ use Rattle.oa_journal.specs.declared.shape.Shape.{Shape}
 use Rattle.oa_store.specs.Stores.{IsStoreIn}
 use Rattle.oa_server.specs.Openings.{CanServe}
 use Rattle.oa_server.proofs.Kept.{same_library}
-use Rattle.oa_server.proofs.Lockless.{no_locks}
 use Rattle.oa_server.proofs.Opened.{differs_told, differs_unfit, finds_one, is_two, of_library, of_text, refuses_one, refuses_unfit, says_library}
 use Rattle.oa_server.proofs.Texts.{is_read}
 use Rattle.oa_server.proofs.opening.open_store.Goals as goal
@@ -25,10 +24,6 @@ returns-then-can_serve-clause-either g c h =
     finds_one (g.D.Disk.image disk) (g.D.Disk.contents disk) is (body_bytes shape) c.args.library.now c.in-Ok.table
     (subst (λ (s : Shape). IsStoreIn s (g.D.Disk.contents disk) (canonical c.args.library.now) c.in-Ok.table) (is_two shape c.in-Ok.store.is_new)
     (of_text c.args.library.now c.text_of.result.now (g.D.Disk.contents disk) c.text_of.ensures.text shape c.in-Ok.table (c.in-Ok.store.chosen, c.in-Ok.store.bank.gate, c.in-Ok.ensures.contents h)))
-
-pub returns-then-can_serve-clause-unlocked : goal.returns-then-can_serve-clause-unlocked
-returns-then-can_serve-clause-unlocked g c h =
-    no_locks c.in-Ok.store.bank.shape (g.D.Disk.contents c.args.disk) c.text_of.result.now c.in-Ok.table (c.in-Ok.store.chosen, c.in-Ok.store.bank.gate, c.in-Ok.ensures.contents h)
 
 pub returns-else-can_serve-clause-refused : goal.returns-else-can_serve-clause-refused
 returns-else-can_serve-clause-refused g c r h =

@@ -1,6 +1,6 @@
 use Rattle.std.proofs.Common.{rules, ap, ◌∙◌}
 use Rattle.oa_server.specs.Requests.{held_of}
-use Rattle.oa_server.proofs.Held.{has_turn, held, starved}
+use Rattle.oa_server.proofs.Held.{called_where_due, has_turn, held, makes_event, starved}
 use Rattle.oa_server.proofs.host.Host.hold.Goals as goal
 
 pub returns-in-Ok-clause-turn : goal.returns-in-Ok-clause-turn
@@ -27,3 +27,19 @@ returns-clause-failed g c body plain is = has_turn c.one_request.ensures c.args.
 
 pub returns-clause-any_moment : goal.returns-clause-any_moment
 returns-clause-any_moment g c committed first each = c.hold_change.ensures.any_moment committed (λ none. ap held_of c.self.view_is ∙ first none) each
+
+pub returns-in-Ok-clause-calls : goal.returns-in-Ok-clause-calls
+returns-in-Ok-clause-calls g c body plain is =
+    called_where_due c.one_request.ensures c.args.self.now body c.args.planned plain is {g = g.D.Disk} c.args.store.now c.hold_change.new.store c.args.frame.now c.hold_change.ensures.is c.hold_change.ensures.quiet c.hold_change.ensures.undue
+
+pub returns-in-Err-Memory-clause-calls : goal.returns-in-Err-Memory-clause-calls
+returns-in-Err-Memory-clause-calls g c body plain is =
+    called_where_due c.one_request.ensures c.args.self.now body c.args.planned plain is {g = g.D.Disk} c.args.store.now c.hold_change.new.store c.args.frame.now c.hold_change.ensures.is c.hold_change.ensures.quiet c.hold_change.ensures.undue
+
+pub returns-clause-calls : goal.returns-clause-calls
+returns-clause-calls g c body plain is =
+    called_where_due c.one_request.ensures c.args.self.now body c.args.planned plain is {g = g.D.Disk} c.args.store.now c.hold_change.new.store c.args.frame.now c.hold_change.ensures.is c.hold_change.ensures.quiet c.hold_change.ensures.undue
+
+pub returns-clause-due : goal.returns-clause-due
+returns-clause-due g c body plain is =
+    record { first = search rules; short = search rules; makes = makes_event c.one_request.ensures c.args.self.now body c.args.planned plain is c.hold_change.ensures.is }

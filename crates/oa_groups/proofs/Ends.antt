@@ -1,0 +1,125 @@
+-- The end of the input.
+use Rattle.std.proofs.Common.{◌≡◌, ◌⊎◌, inl, inr, ℕ, true, false, true≢false, IsTrue, List, [], ◌∷◌, ◌++◌, length, map, refl, sym, ◌∙◌, ap, subst}
+use Rattle.std.proofs.lemmas.List.{append-nil}
+use Rattle.oa_disk.specs.declared.disk.Disk.{Ghosts}
+use Rattle.oa_store.specs.declared.store.Store.{Store}
+use Rattle.oa_groups.specs.Desks.{Desk, IsEnded}
+use Rattle.oa_groups.specs.Faults.{IsFaultIn, IsWholeBefore}
+use Rattle.oa_groups.specs.Going.{Faulted, Going, IsCut, IsEnd, IsGroup, Underway}
+use Rattle.oa_groups.specs.Groups.{groups_of, joined, rest_of}
+use Rattle.oa_groups.specs.Runs.{AllHoldState, CallsFor, InTurn, IsRun, Run}
+use Rattle.oa_groups.specs.Served.{Goes, IsServed}
+use Rattle.oa_groups.specs.Turns.{Entry, Turns, body_of, reply_of}
+use Rattle.oa_groups.proofs.Called.{calls_none}
+use Rattle.oa_groups.proofs.Entries.{cut_last, either, ends_after, group_ends, joined_push, run_append}
+use Rattle.oa_groups.proofs.Takes.{faulted_as, goes_on, going_as, going_breaks, going_ends, no_entry, some_entry}
+
+no_group : {X : Type 0} (x : X) → [] ≡ x ∷ [] → ⊥
+no_group x e = absurd cc
+
+one_group : {X : Type 0} (x y : X) → x ∷ [] ≡ y ∷ [] → x ≡ y
+one_group x y e = cc
+
+module _ {S R : Type 0} (t : Turns S R) where
+  module _ {D : Type 0} {g : Ghosts D} (only : (d : D) (c : List ℕ) → IsTrue (g.is_honest d) → g.image_since d (g.moment d) c → g.image d c) (start : Desk S R D g) where
+    abbrev first : S
+    first = start.state
+
+    -- all was answered
+    served_all : (size : ℕ) (now : Desk S R D g) (bodies : List (List ℕ)) (out : List R) → now.pending ≡ [] → now.store.stopped ≡ false → Goes start.store now.store → Going t (IsEnd t.alone size) start now bodies out
+        → IsServed t size start.store now.store first now.state bodies out
+    served_all size now bodies out none going goes was =
+        let empty : was.held ≡ [] = no_entry was.held (sym was.pending_are ∙ none) in
+        let whole : joined was.groups ++ was.held ≡ joined (was.groups ++ []) =
+        ap (λ (l : List (Entry R)). joined was.groups ++ l) empty ∙ append-nil (joined was.groups) ∙ ap (λ (l : List (List (Entry R))). joined l) (sym (append-nil was.groups)) in
+        let at_last : was.committed ≡ now.state = subst (λ (l : List (Entry R)). Run t was.committed l now.state) empty was.runs in
+        record {
+          groups = was.groups;
+          faulted = [];
+          others = [];
+          served = record {
+            bodies_are = was.bodies_are ∙ ap (λ (l : List (Entry R)). map body_of l) whole ∙ sym (append-nil (map body_of (joined (was.groups ++ []))));
+            run = subst (λ (l : List (Entry R)). Run t first l now.state) whole (run_append t first (joined was.groups) was.committed was.held now.state was.stands was.runs);
+            groups_are = ap (λ (l : List (Entry R)). groups_of t.alone size l) (sym whole) ∙ was.cuts ∙ ap (λ (l : List (Entry R)). was.groups ++ rest_of l) empty;
+            fault = λ group is. absurd (no_group group is);
+            replies_are = was.out_are ∙ sym (append-nil (map reply_of (joined was.groups)));
+          };
+          well = λ is. (refl, refl);
+          fault = λ is. absurd (true≢false (sym is ∙ going));
+          in_turn = all_turn was.calls empty at_last;
+          moments = λ begins.
+              let run = was.moments begins in
+              (run.0, subst (λ (l : List (List (Entry R))). IsRun t g.moment g.image_since start.store.disk now.store.disk first l (length was.groups) run.0) (sym (append-nil was.groups)) run.1);
+          all = λ is begins. subst (λ (s : S). AllHoldState t now.store s) at_last (was.all begins);
+          goes = goes;
+        }
+      where
+        all_turn : (now.store.disk ≡ was.mark) ⊎ CallsFor t was.committed was.held → was.held ≡ [] → was.committed ≡ now.state → InTurn t start.store.disk first (was.groups ++ []) now.store.disk now.state
+        all_turn (inr called) empty at_last = absurd (calls_none t was.committed (subst (λ (l : List (Entry R)). CallsFor t was.committed l) empty called))
+        all_turn (inl same) empty at_last =
+            subst (λ (l : List (List (Entry R))). InTurn t start.store.disk first l now.store.disk now.state) (sym (append-nil was.groups))
+            (subst (λ (d : D). InTurn t start.store.disk first was.groups d now.state) (sym same) (subst (λ (s : S). InTurn t start.store.disk first was.groups was.mark s) at_last was.in_turn))
+
+    -- or up to a fault
+    served_part : (size : ℕ) (now : Desk S R D g) (bodies : List (List ℕ)) (out : List R) → now.store.stopped ≡ true → Goes start.store now.store → Faulted t size (λ state group others. (others ≡ []) ⊎ IsWholeBefore t size state group others) start now bodies out
+        → IsServed t size start.store now.store first now.state bodies out
+    served_part size now bodies out stopped goes was =
+        let whole : joined (was.groups ++ was.group ∷ []) ≡ joined was.groups ++ was.group = joined_push was.groups was.group in
+        record {
+          groups = was.groups;
+          faulted = was.group ∷ [];
+          others = was.others;
+          served = record {
+            bodies_are = was.bodies_are ∙ ap (λ (l : List (Entry R)). map body_of l ++ was.others) (sym whole);
+            run = subst (λ (l : List (Entry R)). Run t first l now.state) (sym whole) (run_append t first (joined was.groups) was.committed was.group now.state was.stands was.runs);
+            groups_are = ap (λ (l : List (Entry R)). groups_of t.alone size l) whole ∙ was.cuts;
+            fault = λ group is. subst (λ (l : List (Entry R)). IsFaultIn t size first was.groups l was.others) (one_group was.group group is)
+                (record { state = was.committed; before = was.stands; called = was.called; ends = was.whole });
+            replies_are = was.replies_are ∙ ap (λ (l : List (Entry R)). map reply_of (joined was.groups) ++ (map (λ asked. t.faulted asked.body) l ++ map t.failed was.others)) (sym (append-nil was.group));
+          };
+          well = λ is. absurd (true≢false (sym stopped ∙ is));
+          fault = λ is. refl;
+          in_turn = was.in_turn;
+          moments = was.moments;
+          all = λ is. absurd (true≢false (sym stopped ∙ is));
+          goes = goes;
+        }
+
+    abbrev Ends : ℕ → Desk S R D g → List (List ℕ) → List R → Type 0
+    Ends size now bodies out = IsServed t size start.store now.store first now.state bodies out
+
+    -- whatever is in hand, and nothing more comes
+    stopped_or_not : (size : ℕ) (now : Desk S R D g) (bodies : List (List ℕ)) (out : List R) → now.pending ≡ [] → Underway t size start now bodies out → Ends size now bodies out
+    stopped_or_not size now bodies out none so_far = by (either now.store.stopped)
+      where
+        by : (now.store.stopped ≡ false) ⊎ (now.store.stopped ≡ true) → Ends size now bodies out
+        by (inl going) =
+            let was = so_far.going going in
+            let last : Going t (IsEnd t.alone size) start now bodies out = going_as t only start was (IsEnd t.alone size) (cut_last t.alone size was.groups was.held was.cuts) in
+            served_all size now bodies out none going so_far.goes last
+        by (inr stopped) = served_part size now bodies out stopped so_far.goes (faulted_as t only start size (IsWholeBefore t size) (λ state group others. (others ≡ []) ⊎ IsWholeBefore t size state group others) (λ state group others is. inr is) now now bodies out out refl refl refl (so_far.broken stopped))
+
+    -- the input has ended
+    pub underway_ended : (size : ℕ) (old new : Desk S R D g) (bodies : List (List ℕ)) (out told : List R) → Underway t size start old bodies out → IsEnded t told old new → Ends size new bodies (out ++ told)
+    underway_ended size old new bodies out told so_far (inl idle) =
+        subst (λ (l : List R). IsServed t size start.store new.store first new.state bodies l) (sym (ap (λ (l : List R). out ++ l) idle.nothing ∙ append-nil out))
+        (subst (λ (s : S). IsServed t size start.store new.store first s bodies out) (sym idle.state)
+        (subst (λ (s : Store D g). IsServed t size start.store s first old.state bodies out) (sym idle.store) (stopped_or_not size old bodies out idle.none so_far)))
+    underway_ended size old new bodies out told so_far (inr (inl last)) = by (either new.store.stopped)
+      where
+        was : Going t (IsCut t.alone size) start old bodies out
+        was = so_far.going last.was
+
+        goes : Goes start.store new.store
+        goes = goes_on start.store old.store new.store so_far.goes last.settled.goes
+
+        ends : IsGroup t.alone size was.groups was.held
+        ends = group_ends t.alone size was.groups was.held (some_entry was.held (λ none. last.some (was.pending_are ∙ none))) was.cuts
+
+        by : (new.store.stopped ≡ false) ⊎ (new.store.stopped ≡ true) → Ends size new bodies (out ++ told)
+        by (inl going) =
+            served_all size new bodies (out ++ told) (last.settled.well going).1 going goes (going_ends t only start was (IsEnd t.alone size) told new going (ends_after t.alone size was.groups was.held ends) last.settled)
+        by (inr stopped) = served_part size new bodies (out ++ told) stopped goes (going_breaks t only start was size (λ state group others. (others ≡ []) ⊎ IsWholeBefore t size state group others) told new (inl refl) stopped ends last.settled)
+    underway_ended size old new bodies out told so_far (inr (inr left)) =
+        served_part size new bodies (out ++ told) left.over.is (goes_on start.store old.store new.store so_far.goes left.over.goes)
+        (faulted_as t only start size (IsWholeBefore t size) (λ state group others. (others ≡ []) ⊎ IsWholeBefore t size state group others) (λ state group others is. inr is) old new bodies out (out ++ told) (ap (λ (l : List R). out ++ l) left.nothing ∙ append-nil out) left.over.disk left.over.state (so_far.broken left.over.was))

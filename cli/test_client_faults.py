@@ -17,6 +17,8 @@ TOLD = [
     (lambda it: setattr(it, "COUNT", 7), MISMATCH, None, f"put Item.Count = 7: {LONG}"),
     (lambda it: setattr(it, "Version", 1), NOT_FOUND, None, "put Item.Version = 1: DISP_E_MEMBERNOTFOUND (0x80020003): the property is read-only"),
     (lambda it: it.Count, NOT_FOUND, None, "get Item.Count: DISP_E_MEMBERNOTFOUND (0x80020003)"),
+    (lambda it: it.Cell[5], 0x8002_000F, None, "get Item.Cell(5): DISP_E_PARAMNOTOPTIONAL (0x8002000f): its parameters: Row, Key, Page (may be left out)"),
+    (lambda it: it.Cell(1, "k", 1, 4), 0x8002_000E, None, "get Item.Cell(1, 'k', 1, 4): DISP_E_BADPARAMCOUNT (0x8002000e): its parameters: Row, Key, Page (may be left out)"),
     (lambda it: it.Cell(5, Key="k"), MISMATCH, 1, f"get Item.Cell(5, Key='k'): {LONG}, argument 1 (Row)"),
     (lambda it: it.Cell.put(True, 5, "k"), MISMATCH, 0, f"put Item.Cell(5, 'k') = true: {LONG}, argument 0 (the new value)"),
     (lambda it: it.Grid[0, 7], 0x8002_000B, None, "get Item.Grid[0, 7]: DISP_E_BADINDEX (0x8002000b)"),

@@ -4,8 +4,8 @@ from __future__ import annotations
 import struct
 import typing
 
-from .faults import MemberNotFound
-from .library import Coclass, Library, Member, Which, fold
+from .faults import BadParamCount, MemberNotFound, ParamNotOptional
+from .library import HAS_DEFAULT, OPTIONAL, Coclass, Library, Member, Which, fold
 from .records import (
     _CALL,
     DEFAULT,
@@ -366,6 +366,9 @@ def _called(
             hint = "the property is read-only" if member.can_get else "it is a method"
         elif word == "get" and not member.can_get:
             hint = "the property cannot be read"
+    elif code in (BadParamCount.code, ParamNotOptional.code):
+        names = [f"{it.name} (may be left out)" if it.flags & (OPTIONAL | HAS_DEFAULT) else it.name for it in member.parameters]
+        hint = f"its parameters: {', '.join(names)}" if names else "it has no parameters"
     return f"{word} {item._coclass.name}.{member.name}{brackets}{new}", hint
 
 

@@ -15,7 +15,7 @@ use Rattle.oa_variant.specs.declared.variant.Variant.TheVariants.{One, Array}
 use Rattle.oa_coerce.specs.Answers.{coerced_scalar, coerced}
 use Rattle.oa_coerce.specs.Refusals.{code_of}
 use Rattle.oa_coerce.specs.declared.fault.CoerceFault.{CoerceFault}
-use Rattle.oa_typelib.specs.Defaults.{default_value}
+use Rattle.oa_checks.specs.Defaults.{default_value}
 use Rattle.oa_typelib.specs.MemberValues.{MemberValue}
 use Rattle.oa_typelib.specs.declared.access.Kind.{Kind}
 use Rattle.oa_typelib.specs.declared.access.Kind.TheVariants.{Get, Put}

@@ -5,7 +5,7 @@ use Rattle.std.specs.List.{list_any, position_from}
 use Rattle.std.specs.Ordering.{int_eq}
 use Rattle.oa_model.specs.Codes.{e_invalidarg, disp_e_badparamcount, disp_e_paramnotfound, disp_e_paramnotoptional}
 use Rattle.oa_idl.specs.declared.parts.Parameter.{Parameter}
-use Rattle.oa_typelib.specs.Agreement.{is_optional}
+use Rattle.oa_checks.specs.Agreement.{is_optional}
 use Rattle.oa_typelib.specs.declared.access.Kind.{Kind}
 use Rattle.oa_typelib.specs.declared.access.Kind.TheVariants.{Get, Put}
 use Rattle.oa_bind.specs.declared.fault.BindFault.{BindFault}

@@ -2,7 +2,7 @@
 ghost use Rattle.std.specs.Prelude.{◌≡◌, ◌≤◌, length, map};
 ghost use Rattle.oa_model.specs.Limits.{max_arguments};
 ghost use Rattle.oa_typelib.specs.Bindable.{IsBindable};
-ghost use Rattle.oa_typelib.specs.Defaults.{default_value};
+ghost use Rattle.oa_checks.specs.Defaults.{default_value};
 ghost use Rattle.oa_variant.specs.Variants.{HasZero};
 ghost use Rattle.oa_bind.specs.Bindings.{bound, bound_to};
 ghost use Rattle.oa_bind.specs.Given.{call_of};

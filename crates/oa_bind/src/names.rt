@@ -8,9 +8,10 @@ ghost use Rattle.oa_bind.specs.Refusals.{any_at};
 
 use crate::BindFault;
 use crate::given::{NEW_VALUE, index_of, is_parameter, says_missing};
+use oa_checks::is_optional;
 use oa_idl::Parameter;
 use oa_model::HResult;
-use oa_typelib::{Kind, is_optional};
+use oa_typelib::Kind;
 use oa_variant::Variant;
 
 /// Whether a DISPID stands twice. Each is compared with those behind it.

@@ -1,7 +1,7 @@
 //! The values of the parameters, and the new value of a put.
 ghost use Rattle.std.specs.Prelude.{◌≡◌, ◌≢◌, ◌≤◌, ◌<◌, ℕ, length, map, pos, slice_get, Some, IfOk, OnOk};
 ghost use Rattle.oa_coerce.specs.Answers.{coerced};
-ghost use Rattle.oa_typelib.specs.Defaults.{default_value};
+ghost use Rattle.oa_checks.specs.Defaults.{default_value};
 ghost use Rattle.oa_variant.specs.Variants.{HasZero};
 ghost use Rattle.oa_bind.specs.Bindings.{missing_value, new_value, parameter_value, scalar_type, told, value_by, without_default};
 ghost use Rattle.oa_bind.specs.Given.{Stay, call_of, index_of};

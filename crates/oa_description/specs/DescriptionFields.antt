@@ -10,8 +10,8 @@ use Rattle.oa_model.specs.declared.var_type.ValueType.{ValueType}
 use Rattle.oa_variant.specs.declared.scalar.Scalar.{Scalar}
 use Rattle.oa_variant.specs.declared.variant.Variant.TheVariants.{One}
 use Rattle.oa_record.specs.Replies.{word, half_word, signed_word, string_field, variant_field}
-use Rattle.oa_typelib.specs.declared.declaration.DeclarationKind.{DeclarationKind}
-use Rattle.oa_typelib.specs.declared.declaration.DeclarationKind.TheVariants.{Property, ReadonlyProperty, Method, Get, Put}
+use Rattle.oa_checks.specs.declared.declaration.DeclarationKind.{DeclarationKind}
+use Rattle.oa_checks.specs.declared.declaration.DeclarationKind.TheVariants.{Property, ReadonlyProperty, Method, Get, Put}
 use Rattle.oa_typelib.specs.DescriptionValues.{ParameterDescription, MemberDescription, EntryDescription, ContentDescription}
 use Rattle.oa_typelib.specs.DescriptionValues.{DescriptionValue}
 use Rattle.oa_typelib.specs.DescriptionValues.ContentDescription.{OfInterface, OfCoclass}

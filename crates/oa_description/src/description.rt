@@ -8,15 +8,14 @@ ghost use Rattle.oa_description.specs.DescriptionFields.{entry_fields, flag, inv
 ghost use Rattle.oa_description.specs.DescriptionFields.{parameter_field, parameter_flags, parameter_head, type_number};
 
 use oa_array::Cell;
+use oa_checks::DeclarationKind;
 use oa_idl::Name;
 use oa_model::{
     COCLASS_KIND, DEFAULT_FLAG, HAS_DEFAULT_FLAG, IN_FLAG, INTERFACE_KIND, INVOKE_GET,
     INVOKE_METHOD, INVOKE_PUT, OPTIONAL_FLAG, READONLY_FLAG, VT_VOID, ValueType, guid_to_wire,
 };
 use oa_record::{MAX_FIELDS_BYTES, string_field, variant_field};
-use oa_typelib::{
-    Content, DeclarationKind, DescribedEntry, DescribedMember, DescribedParameter, Description,
-};
+use oa_typelib::{Content, DescribedEntry, DescribedMember, DescribedParameter, Description};
 use oa_variant::{Scalar, Variant};
 use std::alloc::{AllocError, Global};
 

@@ -11,10 +11,10 @@ use Rattle.oa_idl.specs.Values.{CoclassValue, InterfaceValue}
 use Rattle.oa_idl.specs.declared.items.Item.{Item}
 use Rattle.oa_idl.specs.declared.parts.Entry.{Entry}
 use Rattle.oa_typelib.specs.Checked.{IsChecked}
-use Rattle.oa_typelib.specs.DeclarationValues.{DeclarationValue}
-use Rattle.oa_typelib.specs.Declarations.{type_of_value}
-use Rattle.oa_typelib.specs.Libraries.{as_interface, class_of, default_interface, has_interface, if_entered, interface_named}
-use Rattle.oa_typelib.specs.Libraries.{interface_of, name_of, same_name, selected, selected_in}
+use Rattle.oa_checks.specs.DeclarationValues.{DeclarationValue}
+use Rattle.oa_checks.specs.Declarations.{type_of_value}
+use Rattle.oa_checks.specs.Libraries.{as_interface, class_of, default_interface, has_interface, if_entered, interface_named}
+use Rattle.oa_checks.specs.Libraries.{interface_of, name_of, same_name, selected, selected_in}
 use Rattle.oa_typelib.specs.MemberValues.{MemberValue}
 use Rattle.oa_typelib.specs.Members.{answer, forms_with, has_form, if_formed, is_method, kind_asked, main_form, member_in, method_fault}
 use Rattle.oa_typelib.specs.Members.{property_answer, property_in, property_of, property_with}
@@ -22,7 +22,7 @@ use Rattle.oa_typelib.specs.declared.access.Access.{Access}
 use Rattle.oa_typelib.specs.declared.access.Kind.{Kind}
 use Rattle.oa_typelib.specs.declared.access.MemberFault.{MemberFault}
 use Rattle.oa_typelib.specs.declared.access.MemberFault.TheVariants.{MemberNotFound}
-use Rattle.oa_typelib.proofs.Losses.{interface_found, interface_there, was_interface}
+use Rattle.oa_keeps.proofs.Losses.{interface_found, interface_there, was_interface}
 use Rattle.oa_typelib.proofs.Same.{at_any, found_at, inside, mapped_in}
 use Rattle.oa_fits.specs.Fits.{entered}
 

@@ -32,7 +32,7 @@ use Rattle.oa_table.specs.Objects.{any_locked, changed_if_put, locks_of_cell, wi
 use Rattle.oa_table.specs.Outcomes.{mapped}
 use Rattle.oa_table.specs.Places.{PlaceValue, place_cmp}
 use Rattle.oa_table.specs.Tables.{ObjectValue, TableValue, cell_at, object_at, unlocked_cell, unlocked_entry, unlocked_table}
-use Rattle.oa_typelib.specs.Libraries.{class_of}
+use Rattle.oa_checks.specs.Libraries.{class_of}
 use Rattle.oa_typelib.specs.MemberValues.{MemberValue}
 use Rattle.oa_typelib.specs.Members.{property_in}
 use Rattle.oa_idl.specs.Values.{InterfaceValue}

@@ -17,21 +17,22 @@ use Rattle.oa_idl.specs.Values.{CoclassValue, InterfaceValue}
 use Rattle.oa_idl.specs.declared.items.Item.{Item}
 use Rattle.oa_idl.specs.declared.items.Item.TheVariants.{Interface}
 use Rattle.oa_idl.specs.declared.parts.Parameter.{Parameter}
-use Rattle.oa_typelib.specs.Agreement.{agree, is_optional, same_default, same_parameter, same_result, same_type}
-use Rattle.oa_typelib.specs.Breaches.{clashes, declared_breach, broken_by, first_broken, form_breaches, guid_breach, id_breach, in_interface}
-use Rattle.oa_typelib.specs.Breaches.{interface_breach, key_breaches, name_breach, repeated_name, shares_id, text_breach, tree_breach}
+use Rattle.oa_checks.specs.Agreement.{agree, is_optional, same_default, same_parameter, same_result, same_type}
+use Rattle.oa_checks.specs.Breaches.{clashes, declared_breach, broken_by, first_broken, form_breaches, guid_breach, id_breach, in_interface}
+use Rattle.oa_checks.specs.Breaches.{interface_breach, key_breaches, name_breach, repeated_name, shares_id, text_breach, tree_breach}
 use Rattle.oa_typelib.specs.Checked.{IsChecked}
-use Rattle.oa_typelib.specs.DeclarationValues.{DeclarationValue}
-use Rattle.oa_typelib.specs.Declarations.{are_one_member, declarations, is_put, own_parameters, type_of_value}
+use Rattle.oa_checks.specs.DeclarationValues.{DeclarationValue}
+use Rattle.oa_checks.specs.Declarations.{are_one_member, declarations, is_put, own_parameters, type_of_value}
 use Rattle.oa_typelib.specs.Descriptions.{interfaces_of}
-use Rattle.oa_typelib.specs.Keeps.{DeclaresAll, Has, IsKeptBy, Keeps}
-use Rattle.oa_typelib.specs.Libraries.{as_interface, class_of, has_interface, if_entered, interface_of, same_name}
+use Rattle.oa_keeps.specs.Keeps.{DeclaresAll, IsKeptBy, Keeps}
+use Rattle.oa_checks.specs.Repeats.{Has}
+use Rattle.oa_checks.specs.Libraries.{as_interface, class_of, has_interface, if_entered, interface_of, same_name}
 use Rattle.oa_typelib.specs.MemberValues.{MemberValue}
 use Rattle.oa_typelib.specs.Members.{forms_with, is_method, main_form, property_in, property_of, property_with}
-use Rattle.oa_typelib.specs.declared.declaration.DeclarationKind.{DeclarationKind}
-use Rattle.oa_typelib.specs.declared.declaration.DeclarationKind.TheVariants as kinds
-use Rattle.oa_typelib.specs.declared.fault.CheckError.TheVariants.{DuplicateName, DuplicateId, DuplicateGuid, UnknownInterface}
-use Rattle.oa_typelib.proofs.Losses.{class_found, class_there, interface_found, interface_there, was_interface}
+use Rattle.oa_checks.specs.declared.declaration.DeclarationKind.{DeclarationKind}
+use Rattle.oa_checks.specs.declared.declaration.DeclarationKind.TheVariants as kinds
+use Rattle.oa_checks.specs.declared.fault.CheckError.TheVariants.{DuplicateName, DuplicateId, DuplicateGuid, UnknownInterface}
+use Rattle.oa_keeps.proofs.Losses.{class_found, class_there, interface_found, interface_there, was_interface}
 use Rattle.oa_typelib.proofs.Naming.{any_two, filtered, in_filter, main_in, name_symm, names_well, no_repeats, no_name_breach}
 use Rattle.oa_typelib.proofs.Naming.{some_main, unless, unmarked, unnot}
 use Rattle.oa_typelib.proofs.Same.{inside, none_at, in_mapped, results_are, same_itself, types_are}

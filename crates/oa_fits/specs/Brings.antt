@@ -5,7 +5,7 @@ use Rattle.oa_table.specs.declared.event.Event.{Event}
 use Rattle.oa_table.specs.declared.event.Event.TheVariants.{Create, Release, Put, PutElement, Redim}
 use Rattle.oa_table.specs.Places.{PlaceValue}
 use Rattle.oa_table.specs.Tables.{ObjectValue, TableValue, object_at}
-use Rattle.oa_typelib.specs.Libraries.{class_of}
+use Rattle.oa_checks.specs.Libraries.{class_of}
 use Rattle.oa_variant.specs.declared.variant.Variant.{Variant}
 use Rattle.oa_fits.specs.Fits.{cell_fits}
 

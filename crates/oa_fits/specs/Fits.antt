@@ -7,7 +7,7 @@ use Rattle.oa_idl.specs.Trees.{TreeValue}
 use Rattle.oa_idl.specs.Values.{InterfaceValue}
 use Rattle.oa_table.specs.Places.{PlaceValue}
 use Rattle.oa_table.specs.Tables.{ObjectValue, TableValue}
-use Rattle.oa_typelib.specs.Libraries.{class_of, if_entered, interface_of}
+use Rattle.oa_checks.specs.Libraries.{class_of, if_entered, interface_of}
 use Rattle.oa_typelib.specs.MemberValues.{MemberValue}
 use Rattle.oa_typelib.specs.Members.{property_in}
 use Rattle.oa_variant.specs.declared.scalar.Scalar.{Scalar}

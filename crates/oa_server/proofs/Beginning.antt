@@ -24,8 +24,8 @@ use Rattle.oa_server.specs.Requests.{opened, requests}
 use Rattle.oa_server.specs.SameLibrary.{turn_bank}
 use Rattle.oa_server.specs.States.{State}
 use Rattle.oa_server.specs.Steps.{decided}
-use Rattle.oa_typelib.specs.Keeps.{first_lost}
-use Rattle.oa_typelib.specs.declared.keeping.Lost.{Lost}
+use Rattle.oa_keeps.specs.Keeps.{first_lost}
+use Rattle.oa_keeps.specs.declared.lost.Lost.{Lost}
 use Rattle.oa_server.specs.Replacing.{Replacement, after_replacement}
 use Rattle.oa_server.specs.Turns.{Ordinary, Turn}
 use Rattle.oa_server.proofs.Allowed.{first_sound, relock_sound, stays_sound}

@@ -22,7 +22,7 @@ use Rattle.oa_coerce.specs.declared.fault.CoerceFault.{CoerceFault}
 use Rattle.oa_coerce.proofs.Computed.{answer_scalar, answer_value}
 use Rattle.oa_coerce.proofs.Properties.{answer_fits, scalar_fits}
 use Rattle.oa_typelib.specs.Bindable.{AreScalars, IsBindable, IsOne}
-use Rattle.oa_typelib.specs.Defaults.{default_of, number_as, text_as, truth_as, wide}
+use Rattle.oa_checks.specs.Defaults.{default_of, number_as, text_as, truth_as, wide}
 use Rattle.oa_typelib.specs.MemberValues.{MemberValue}
 use Rattle.oa_typelib.specs.declared.access.Kind.{Kind}
 use Rattle.oa_typelib.specs.declared.access.Kind.TheVariants.{Get, Put}

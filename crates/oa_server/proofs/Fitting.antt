@@ -19,9 +19,9 @@ use Rattle.oa_variant.specs.Variants.{fits_declared, unlocked, zero_value}
 use Rattle.oa_variant.specs.declared.variant.Variant.{Variant}
 use Rattle.oa_typelib.specs.Bindable.{AreSound, IsBindable, IsSoundItem}
 use Rattle.oa_typelib.specs.Checked.{IsChecked}
-use Rattle.oa_typelib.specs.Declarations.{declarations}
-use Rattle.oa_typelib.specs.Libraries.{as_interface, class_of, guid_of, has_interface, if_entered, interface_of, item_with, same}
-use Rattle.oa_typelib.specs.Libraries.{selected_in}
+use Rattle.oa_checks.specs.Declarations.{declarations}
+use Rattle.oa_checks.specs.Libraries.{as_interface, class_of, guid_of, has_interface, if_entered, interface_of, item_with, same}
+use Rattle.oa_checks.specs.Libraries.{selected_in}
 use Rattle.oa_typelib.specs.MemberValues.{MemberValue}
 use Rattle.oa_typelib.specs.Members.{member_in, property_in}
 use Rattle.oa_typelib.specs.declared.access.Access.{Access}
@@ -68,10 +68,10 @@ use Rattle.oa_server.specs.Redimension.{resizing, zero_with}
 use Rattle.oa_server.specs.Refusals.{◌>>=◌, known, unless}
 use Rattle.oa_server.specs.States.{State}
 use Rattle.oa_server.specs.Steps.{decided}
-use Rattle.oa_typelib.specs.Keeps.{first_lost}
-use Rattle.oa_typelib.specs.declared.keeping.Lost.{Lost}
+use Rattle.oa_keeps.specs.Keeps.{first_lost}
+use Rattle.oa_keeps.specs.declared.lost.Lost.{Lost}
 use Rattle.oa_fits.proofs.KeptFits.{kept_fits}
-use Rattle.oa_typelib.proofs.Losses.{keeps_all}
+use Rattle.oa_keeps.proofs.Losses.{keeps_all}
 use Rattle.oa_server.specs.Replacing.{Replacement, after_replacement}
 use Rattle.oa_server.specs.Turns.{Ordinary, Run, Turn}
 use Rattle.oa_server.specs.TypeInfo.{description_of}

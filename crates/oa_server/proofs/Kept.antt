@@ -15,8 +15,8 @@ use Rattle.oa_journal.specs.Shapes.{body_bytes}
 use Rattle.oa_journal.specs.declared.shape.Shape.{Shape}
 use Rattle.oa_journal.specs.declared.shape.Shape.TheVariants.{Two}
 use Rattle.oa_store.specs.Stores.{IsStoreIn}
-use Rattle.oa_typelib.specs.Keeps.{first_lost}
-use Rattle.oa_typelib.specs.declared.keeping.Lost.{Lost}
+use Rattle.oa_keeps.specs.Keeps.{first_lost}
+use Rattle.oa_keeps.specs.declared.lost.Lost.{Lost}
 use Rattle.oa_server.specs.Replacing.{Replacement, after_replacement}
 use Rattle.oa_server.specs.SameLibrary.{ordinary_library}
 use Rattle.oa_server.specs.Laws.{FoundIsKept, OpenedBegins, OpenedJoins}

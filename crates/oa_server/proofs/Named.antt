@@ -2,8 +2,8 @@
 use Rattle.std.proofs.Common.{arith, Vec, Global, ◌≡◌, ℕ, ◌≤◌, List, [], ◌∷◌, suc, Option, Some, None, length, map, refl, ap}
 use Rattle.std.proofs.lemmas.List.{length-map}
 use Rattle.oa_idl.specs.Values.{InterfaceValue}
-use Rattle.oa_typelib.specs.DeclarationValues.{DeclarationValue}
-use Rattle.oa_typelib.specs.Declarations.{own_parameters}
+use Rattle.oa_checks.specs.DeclarationValues.{DeclarationValue}
+use Rattle.oa_checks.specs.Declarations.{own_parameters}
 use Rattle.oa_typelib.specs.Members.{forms_named, main_form}
 use Rattle.oa_typelib.specs.Names.{ids_in, named_in, names_told, or_unknown, parameter_named}
 

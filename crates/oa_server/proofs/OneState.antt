@@ -8,7 +8,7 @@ use Rattle.oa_record.specs.Replies.{ReplyValue}
 use Rattle.oa_record.specs.declared.request.Request.{Request}
 use Rattle.oa_idl.specs.IsTree.{IsTree}
 use Rattle.oa_idl.specs.Trees.{TreeValue}
-use Rattle.oa_typelib.specs.Keeps.{first_lost}
+use Rattle.oa_keeps.specs.Keeps.{first_lost}
 use Rattle.oa_server.specs.NoTrace.{quiet_turn}
 use Rattle.oa_server.specs.Replacing.{Replaces, Replacement, after_replacement}
 use Rattle.oa_server.specs.Requests.{requests}

@@ -60,7 +60,7 @@ use Rattle.oa_model.specs.Codes.{disp_e_unknowninterface, disp_e_unknownname, e_
 use Rattle.oa_model.specs.Codes.{regdb_e_classnotreg, rpc_e_disconnected, s_ok, stg_e_mediumfull}
 use Rattle.oa_record.specs.Asks.{tag_at}
 use Rattle.oa_table.specs.Tables.{class_in, object_at}
-use Rattle.oa_typelib.specs.Libraries.{class_of, selected_in}
+use Rattle.oa_checks.specs.Libraries.{class_of, selected_in}
 use Rattle.oa_typelib.specs.Members.{member_in}
 use Rattle.oa_variant.specs.Variants.{zero_value}
 use Rattle.uuid.specs.Parts.{is_nil_bytes}
@@ -85,8 +85,8 @@ use Rattle.oa_server.specs.Redimension.{resizing, zero_with}
 use Rattle.oa_server.specs.Refusals.{◌>>=◌, known, unless}
 use Rattle.oa_server.specs.States.{State}
 use Rattle.oa_server.specs.Steps.{decided, reply_of}
-use Rattle.oa_typelib.specs.Keeps.{first_lost}
-use Rattle.oa_typelib.specs.declared.keeping.Lost.{Lost}
+use Rattle.oa_keeps.specs.Keeps.{first_lost}
+use Rattle.oa_keeps.specs.declared.lost.Lost.{Lost}
 use Rattle.oa_server.specs.Replacing.{Replacement, replacement_reply}
 use Rattle.oa_server.specs.Turns.{Ordinary, Turn}
 

@@ -26,11 +26,11 @@ use Rattle.oa_store.specs.Stores.{IsStoreAt, IsStoreIn}
 use Rattle.oa_store.specs.declared.store.Store.{Store}
 use Rattle.oa_table.specs.Tables.{TableValue}
 use Rattle.oa_server.specs.Hands.{desk}
-use Rattle.oa_typelib.specs.Keeps.{first_lost}
-use Rattle.oa_typelib.specs.declared.keeping.Lost.{Lost}
-use Rattle.oa_typelib.specs.LibraryTexts.{IsRead, StandsFor}
-use Rattle.oa_typelib.specs.declared.library_text.TextError.{TextError}
-use Rattle.oa_typelib.specs.declared.library_text.TextError.TheVariants.{NoLibrary, Memory}
+use Rattle.oa_keeps.specs.Keeps.{first_lost}
+use Rattle.oa_keeps.specs.declared.lost.Lost.{Lost}
+use Rattle.oa_keeps.specs.LibraryTexts.{IsRead, StandsFor}
+use Rattle.oa_keeps.specs.declared.library_text.TextError.{TextError}
+use Rattle.oa_keeps.specs.declared.library_text.TextError.TheVariants.{NoLibrary, Memory}
 use Rattle.oa_server.specs.Renewals.{IsNext, RefusesLoss, text_code}
 use Rattle.oa_server.specs.Replacing.{AsksLibrary, Replacement, after_replacement, replacement_reply}
 use Rattle.oa_server.specs.Answers.{IsAnswered, IsRenewed, IsRenewedOrLate}

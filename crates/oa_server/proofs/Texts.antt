@@ -5,12 +5,12 @@ use Rattle.oa_idl.specs.Canonical.{canonical}
 use Rattle.oa_idl.specs.IsTree.{IsTree, MayBeText}
 use Rattle.oa_idl.specs.Trees.{TreeValue}
 use Rattle.oa_model.specs.Limits.{max_library_bytes}
-use Rattle.oa_typelib.specs.declared.fault.CheckError.{CheckError}
-use Rattle.oa_typelib.specs.declared.fault.CheckError.TheVariants.{TextTooLong}
-use Rattle.oa_typelib.specs.Breaches.{text_breach, tree_breach}
+use Rattle.oa_checks.specs.declared.fault.CheckError.{CheckError}
+use Rattle.oa_checks.specs.declared.fault.CheckError.TheVariants.{TextTooLong}
+use Rattle.oa_checks.specs.Breaches.{text_breach, tree_breach}
 use Rattle.oa_typelib.specs.Checked.{IsChecked}
-use Rattle.oa_typelib.specs.IsLibrary.{IsLibrary}
-use Rattle.oa_typelib.specs.Libraries.{marked}
+use Rattle.oa_checks.specs.IsLibrary.{IsLibrary}
+use Rattle.oa_checks.specs.Libraries.{marked}
 use Rattle.oa_server.specs.Replacing.{AsksLibrary}
 
 second_none : (one two : Option CheckError) → option_or one two ≡ None → two ≡ None

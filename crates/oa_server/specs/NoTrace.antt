@@ -16,8 +16,8 @@ use Rattle.oa_server.specs.Decisions.{IsQuiet, Outcome, after_outcome, changed, 
 use Rattle.oa_server.specs.Limits.{allowed}
 use Rattle.oa_server.specs.States.{State}
 use Rattle.oa_server.specs.Steps.{decided, outcome, reply_of}
-use Rattle.oa_typelib.specs.Keeps.{first_lost}
-use Rattle.oa_typelib.specs.declared.keeping.Lost.{Lost}
+use Rattle.oa_keeps.specs.Keeps.{first_lost}
+use Rattle.oa_keeps.specs.declared.lost.Lost.{Lost}
 use Rattle.oa_server.specs.Replacing.{Replacement, after_replacement, replacement_reply}
 use Rattle.oa_server.specs.Turns.{Ordinary, Turn, Run}
 use Rattle.oa_server.specs.Traces.{done_bodies, done_replies, kept_bodies, kept_replies}

@@ -3,10 +3,10 @@ use Rattle.std.specs.Prelude.{◌≡◌, ◌⊎◌, ℕ, false, List, IsSome, So
 use Rattle.oa_idl.specs.Trees.{TreeValue}
 use Rattle.oa_model.specs.Codes.{bad_stub_data, e_outofmemory}
 use Rattle.oa_model.specs.declared.hresult.HResult.{HResult}
-use Rattle.oa_typelib.specs.Keeps.{first_lost}
-use Rattle.oa_typelib.specs.declared.keeping.Lost.{Lost}
-use Rattle.oa_typelib.specs.declared.library_text.TextError.{TextError}
-use Rattle.oa_typelib.specs.declared.library_text.TextError.TheVariants.{NoLibrary, Memory}
+use Rattle.oa_keeps.specs.Keeps.{first_lost}
+use Rattle.oa_keeps.specs.declared.lost.Lost.{Lost}
+use Rattle.oa_keeps.specs.declared.library_text.TextError.{TextError}
+use Rattle.oa_keeps.specs.declared.library_text.TextError.TheVariants.{NoLibrary, Memory}
 use Rattle.oa_record.specs.Replacement.{text_in}
 use Rattle.oa_record.specs.Replies.{ReplyValue}
 use Rattle.oa_server.specs.declared.host.renewal.Renewal.{Renewal}

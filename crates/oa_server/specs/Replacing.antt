@@ -5,9 +5,9 @@ use Rattle.oa_model.specs.Codes.{bad_stub_data, e_invalidarg, e_outofmemory, s_o
 use Rattle.oa_record.specs.Asks.{tag_at}
 use Rattle.oa_record.specs.Replacement.{text_in}
 use Rattle.oa_record.specs.Replies.{ReplyValue, lost_field}
-use Rattle.oa_typelib.specs.Keeps.{dispid_lost, first_lost, guid_lost}
-use Rattle.oa_typelib.specs.LibraryTexts.{StandsFor}
-use Rattle.oa_typelib.specs.declared.keeping.Lost.{Lost}
+use Rattle.oa_keeps.specs.Keeps.{dispid_lost, first_lost, guid_lost}
+use Rattle.oa_keeps.specs.LibraryTexts.{StandsFor}
+use Rattle.oa_keeps.specs.declared.lost.Lost.{Lost}
 use Rattle.oa_server.specs.States.{State}
 use Rattle.oa_server.specs.Steps.{refusal}
 

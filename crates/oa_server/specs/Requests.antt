@@ -17,8 +17,8 @@ use Rattle.oa_table.specs.Tables.{TableValue, unlocked_table}
 use Rattle.oa_server.specs.NoTrace.{quiet_turn}
 use Rattle.oa_server.specs.States.{State}
 use Rattle.oa_server.specs.Steps.{outcome, refusal}
-use Rattle.oa_typelib.specs.Keeps.{first_lost}
-use Rattle.oa_typelib.specs.declared.keeping.Lost.{Lost}
+use Rattle.oa_keeps.specs.Keeps.{first_lost}
+use Rattle.oa_keeps.specs.declared.lost.Lost.{Lost}
 use Rattle.oa_server.specs.Replacing.{Replacement, replacement_reply}
 use Rattle.oa_server.specs.SameLibrary.{plain_library, turn_bank}
 use Rattle.oa_server.specs.Turns.{Ordinary, Turn}

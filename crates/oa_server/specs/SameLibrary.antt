@@ -7,8 +7,8 @@ use Rattle.oa_table.specs.declared.event.Event.{Event}
 use Rattle.oa_table.specs.declared.fault.TableFault.{TableFault}
 use Rattle.oa_table.specs.Tables.{TableValue}
 use Rattle.oa_server.specs.declared.decision.LockChange.{LockChange}
-use Rattle.oa_typelib.specs.Keeps.{first_lost}
-use Rattle.oa_typelib.specs.declared.keeping.Lost.{Lost}
+use Rattle.oa_keeps.specs.Keeps.{first_lost}
+use Rattle.oa_keeps.specs.declared.lost.Lost.{Lost}
 use Rattle.oa_server.specs.Decisions.{Outcome, after_event, after_locks, after_outcome, with_table}
 use Rattle.oa_server.specs.Replacing.{Replacement, after_replacement}
 use Rattle.oa_server.specs.States.{State}

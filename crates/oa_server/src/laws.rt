@@ -21,7 +21,7 @@ ghost use Rattle.oa_server.specs.Turns.{Run, Turn};
 ghost use Rattle.oa_idl.specs.Trees.{TreeValue};
 ghost use Rattle.oa_table.specs.Tables.{TableValue, first_table};
 ghost use Rattle.oa_typelib.specs.Checked.{IsChecked};
-ghost use Rattle.oa_typelib.specs.Keeps.{Keeps, first_lost};
+ghost use Rattle.oa_keeps.specs.Keeps.{Keeps, first_lost};
 
 use oa_disk::Disk;
 use oa_fits::laws::changes_that_fit;

@@ -11,8 +11,8 @@ use Rattle.indexmap.specs.IndexSet.{insert_key}
 use Rattle.indexmap.proofs.MapLemmas.{Found-position, Missing-position}
 use Rattle.indexmap.proofs.SetLemmas.{keys_insert_entry}
 use Rattle.oa_typelib.specs.Groups.{with_place, places_in}
-use Rattle.oa_typelib.proofs.Groups.{later}
-use Rattle.oa_typelib.proofs.Lists.{place-map, position-map, insert_key-map}
+use Rattle.oa_typelib.proofs.Grouping.{later}
+use Rattle.oa_checks.proofs.Lists.{place-map, position-map, insert_key-map}
 
 -- ---- the group of a key
 mapped_places : {V : Type 0} (f : V → List ℕ) (o : Option ℕ) (vs : List V) → places_in o (map f vs) ≡ unwrap_or (option_map f (option_and_then (slice_get vs) o)) []

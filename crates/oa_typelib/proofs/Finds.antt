@@ -2,9 +2,6 @@
 use Rattle.std.proofs.Common.{◌≡◌, ◌<◌, ◌≤◌, ◌+◌, ℕ, suc, Bool, List, [], ◌∷◌, ◌++◌, length, map, take, drop, get_or}
 use Rattle.std.proofs.Common.{IfOk, Result, Ok, Err}
 use Rattle.std.proofs.Common.{slice_get, position, find, Option, None, Some, true, false, refl, sym, ap, ◌∙◌, arith, add-one}
-use Rattle.std.proofs.Math.Seq.{drop-cons}
-use Rattle.std.proofs.Math.ListN.{set}
-use Rattle.std.proofs.lemmas.List.{take_more, take_more_set, take_all, map-append, drop-set-lt}
 use Rattle.std.proofs.lemmas.Bool.Decides.{nat_tests}
 use Rattle.std.proofs.lemmas.Option.{none-some, slice_get-map}
 use Rattle.std.specs.Option.{option_map, option_map_or, option_and_then, option_or, unwrap_or}
@@ -16,17 +13,18 @@ use Rattle.oa_idl.specs.Canonical.{canonical}
 use Rattle.oa_idl.specs.declared.parts.Entry.{Entry}
 use Rattle.oa_idl.specs.declared.items.Item.{Item}
 use Rattle.oa_idl.specs.declared.items.Item.TheVariants.{Interface, Coclass}
-use Rattle.oa_typelib.specs.Libraries.{same, name_of, guid_of, as_interface, as_class, has_interface, if_entered}
-use Rattle.oa_typelib.specs.Libraries.{interface_of, class_of, interface_named, default_interface, marked_item, marked}
-use Rattle.oa_typelib.specs.declared.fault.CheckError.TheVariants.{TextTooLong}
-use Rattle.oa_typelib.specs.Breaches.{Refuses, first_breach, length_breach, text_breach}
-use Rattle.oa_typelib.specs.IsLibrary.{IsLibrary}
-use Rattle.oa_typelib.specs.declared.fault.CheckError.{CheckError}
+use Rattle.oa_checks.specs.Libraries.{same, name_of, guid_of, as_interface, as_class, has_interface, if_entered}
+use Rattle.oa_checks.specs.Libraries.{interface_of, class_of, interface_named, default_interface, marked_item, marked}
+use Rattle.oa_checks.specs.declared.fault.CheckError.TheVariants.{TextTooLong}
+use Rattle.oa_checks.specs.Breaches.{Refuses, first_breach, length_breach, text_breach}
+use Rattle.oa_checks.specs.IsLibrary.{IsLibrary}
+use Rattle.oa_checks.specs.declared.fault.CheckError.{CheckError}
 use Rattle.oa_idl.specs.IsTree.{IsTree}
 use Rattle.oa_idl.specs.Values.{InterfaceValue, CoclassValue}
-use Rattle.oa_typelib.specs.Indexes.{default_in, folded_names, enters, entered_in, flag_at, flag_of}
-use Rattle.oa_typelib.proofs.Lists.{position_finds}
-use Rattle.oa_typelib.proofs.Passes.{interface_by_place}
+use Rattle.oa_typelib.specs.Indexes.{default_in, enters, entered_in, flag_at, flag_of}
+use Rattle.oa_checks.specs.Libraries.{folded_names}
+use Rattle.oa_checks.proofs.Lists.{position_finds}
+use Rattle.oa_checks.proofs.Passes.{interface_by_place}
 
 -- what is found, by its place
 pub found_by_place : {X Y : Type 0} (f : X → Option Y) (p : X → Bool) (xs : List X) (o : Option ℕ) → o ≡ position p xs → option_and_then f (find p xs) ≡ option_and_then f (option_and_then (slice_get xs) o)
@@ -64,22 +62,6 @@ pub guid_kept : (i : Item) → guid_of (marked_item i) ≡ guid_of i
 guid_kept (Interface i) = refl
 guid_kept (Coclass c) = refl
 
--- a turn of a loop that writes f of each
-pub turn_writes : {X : Type 0} (f : X → X) (xs ys : List X) (i : ℕ) (x y : X) → i < length xs → length ys ≡ length xs → take i ys ≡ map f (take i xs) → drop i ys ≡ drop i xs → x ≡ get_or ys i x → y ≡ f (get_or ys i x) → (take (i + 1) (set ys i y) ≡ map f (take (i + 1) xs)) × (drop (i + 1) (set ys i y) ≡ drop (i + 1) xs)
-turn_writes f xs ys i x y h len before after is new =
-    let h2 : i < length ys = omega (arith, h, len) in
-    let p = drop-cons ys i x h2 in
-    let q = drop-cons xs i x h in
-    let r : get_or ys i x ∷ drop (suc i) ys ≡ get_or xs i x ∷ drop (suc i) xs = sym p ∙ after ∙ q in
-    let heads : get_or ys i x ≡ get_or xs i x = cc in
-    let tails : drop (suc i) ys ≡ drop (suc i) xs = cc in (
-      take_more_set ys i y h2 ∙ ap (λ zs. zs ++ y ∷ []) before ∙ ap (λ z. map f (take i xs) ++ z ∷ []) (new ∙ ap f heads) ∙ sym (ap (map f) (take_more xs i x h) ∙ map-append f (take i xs) (get_or xs i x ∷ [])),
-      drop-set-lt (i + 1) ys i y (omega arith) ∙ rw add-one tails,
-    )
-
-pub all_written : {X : Type 0} (f : X → X) (xs ys : List X) (i : ℕ) → length xs ≤ i → length ys ≡ length xs → take i ys ≡ map f (take i xs) → ys ≡ map f xs
-all_written f xs ys i h len before = sym (take_all i ys (omega (arith, h, len))) ∙ before ∙ ap (map f) (take_all i xs h)
-
 -- the length of the text of a tree whose defaults are marked
 pub length_of_marked : (tree t : TreeValue) → t ≡ marked tree → text_breach tree ≡ length_breach t
 unfolding text_breach
@@ -90,13 +72,6 @@ pub library_of_texts : (tree : TreeValue) (r : Result TreeValue CheckError) → 
     → IfOk r (λ library. (text : List ℕ) → IsTree text tree → IsLibrary text library)
 library_of_texts tree (Ok library) h = λ text is. record { tree = tree; stands = is; unbroken = h.0; says = h.1 }
 library_of_texts tree (Err e) h = tt
-
--- the last kind of breach, after the others
-pub breach_before : {X : Type 0} (a b : Option X) (x : X) → a ≡ Some x → option_or a b ≡ Some x
-breach_before a b x is = rw is refl
-
-pub no_breach_before : {X : Type 0} (a b : Option X) → a ≡ None → option_or a b ≡ b
-no_breach_before a b is = rw is refl
 
 short_text : (bs : List ℕ) → nat_le (length bs) max_library_bytes ≡ true → length bs ≤ max_library_bytes
 short_text bs h = grind (arith, nat_tests)

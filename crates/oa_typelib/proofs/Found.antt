@@ -14,10 +14,10 @@ use Rattle.oa_idl.specs.declared.parts.Parameter.{Parameter}
 use Rattle.oa_idl.specs.declared.items.Item.{Item}
 use Rattle.oa_idl.specs.declared.items.Item.TheVariants.{Interface, Coclass}
 use Rattle.oa_typelib.specs.Bindable.{IsBindable, IsSound, AreSound, IsSoundItem}
-use Rattle.oa_typelib.specs.DeclarationValues.{DeclarationValue}
-use Rattle.oa_typelib.specs.Declarations.{declarations, is_put, own_parameters, type_of_value}
-use Rattle.oa_typelib.specs.Defaults.{default_value}
-use Rattle.oa_typelib.specs.Libraries.{as_interface}
+use Rattle.oa_checks.specs.DeclarationValues.{DeclarationValue}
+use Rattle.oa_checks.specs.Declarations.{declarations, is_put, own_parameters, type_of_value}
+use Rattle.oa_checks.specs.Defaults.{default_value}
+use Rattle.oa_checks.specs.Libraries.{as_interface}
 use Rattle.oa_typelib.specs.Members.{forms_with, form_for, main_form, property_of, kind_asked, has_form, is_method, method_fault}
 use Rattle.oa_typelib.specs.Members.{if_formed, property_answer, answer, lets, member_in, property_in, property_with}
 use Rattle.oa_typelib.specs.MemberValues.{MemberValue}
@@ -165,12 +165,3 @@ interface_sound (Some (Coclass c)) h = tt
 
 pub interface_at_sound : (items : List Item) (place : ℕ) → AllByRecursion IsSoundItem items → IfSome (option_and_then as_interface (slice_get items place)) (λ i. AreSound (declarations i))
 interface_at_sound items place all = interface_sound (slice_get items place) (get_all IsSoundItem items place all)
-
--- ---- the defaults of a put's parameters without the new value
-pub own_of : (n : ℕ) (xs : List (Option Scalar)) (d : DeclarationValue) → xs ≡ map default_value d.parameters → n ≡ length xs - 1 → is_put d.kind ≡ true → take n xs ≡ map default_value (own_parameters d)
-own_of n xs d is at put =
-    let len : n ≡ length d.parameters - 1 = at ∙ ap (λ (ys : List (Option Scalar)). length ys - 1) is ∙ ap (λ (m : ℕ). m - 1) (length-map d.parameters default_value) in
-    rw (put, is, len) (take-map default_value (length d.parameters - 1) d.parameters)
-
-pub all_of : (xs : List (Option Scalar)) (d : DeclarationValue) → xs ≡ map default_value d.parameters → is_put d.kind ≡ false → xs ≡ map default_value (own_parameters d)
-all_of xs d is put = rw put is

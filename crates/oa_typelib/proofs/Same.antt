@@ -11,12 +11,9 @@ use Rattle.oa_model.specs.declared.var_type.VarType.{VarType}
 use Rattle.oa_model.specs.declared.var_type.VarType.TheVariants as types
 use Rattle.oa_model.specs.declared.var_type.ValueType.{ValueType}
 use Rattle.oa_model.specs.declared.var_type.ValueType.TheVariants.{One, Array}
-use Rattle.oa_typelib.specs.Agreement.{same_type, same_result}
-use Rattle.oa_typelib.specs.Keeps.{same_kind}
-use Rattle.oa_typelib.specs.Libraries.{same}
-use Rattle.oa_typelib.specs.Repeats.{first_answer}
-use Rattle.oa_typelib.specs.declared.declaration.DeclarationKind.{DeclarationKind}
-use Rattle.oa_typelib.specs.declared.declaration.DeclarationKind.TheVariants as kinds
+use Rattle.oa_checks.specs.Agreement.{same_type, same_result}
+use Rattle.oa_checks.specs.Libraries.{same}
+use Rattle.oa_checks.specs.Repeats.{first_answer}
 use Rattle.oa_typelib.proofs.Sound.{neither}
 
 pub inside : {X : Type 0} (x y : X) → Some x ≡ Some y → x ≡ y
@@ -147,42 +144,6 @@ same_itself bytes = search rules
 
 pub are_same : (a b : List ℕ) → same a b ≡ true → a ≡ b
 are_same a b e = same_text a b (sym e)
-
--- ---- equal kinds
-
-pub kind_itself : (k : DeclarationKind) → same_kind k k ≡ true
-kind_itself kinds.Property = refl
-kind_itself kinds.ReadonlyProperty = refl
-kind_itself kinds.Method = refl
-kind_itself kinds.Get = refl
-kind_itself kinds.Put = refl
-
-pub kinds_are : (j k : DeclarationKind) → same_kind j k ≡ true → k ≡ j
-kinds_are kinds.Property kinds.Property e = refl
-kinds_are kinds.Property kinds.ReadonlyProperty e = absurd (true≢false (sym e))
-kinds_are kinds.Property kinds.Method e = absurd (true≢false (sym e))
-kinds_are kinds.Property kinds.Get e = absurd (true≢false (sym e))
-kinds_are kinds.Property kinds.Put e = absurd (true≢false (sym e))
-kinds_are kinds.ReadonlyProperty kinds.Property e = absurd (true≢false (sym e))
-kinds_are kinds.ReadonlyProperty kinds.ReadonlyProperty e = refl
-kinds_are kinds.ReadonlyProperty kinds.Method e = absurd (true≢false (sym e))
-kinds_are kinds.ReadonlyProperty kinds.Get e = absurd (true≢false (sym e))
-kinds_are kinds.ReadonlyProperty kinds.Put e = absurd (true≢false (sym e))
-kinds_are kinds.Method kinds.Property e = absurd (true≢false (sym e))
-kinds_are kinds.Method kinds.ReadonlyProperty e = absurd (true≢false (sym e))
-kinds_are kinds.Method kinds.Method e = refl
-kinds_are kinds.Method kinds.Get e = absurd (true≢false (sym e))
-kinds_are kinds.Method kinds.Put e = absurd (true≢false (sym e))
-kinds_are kinds.Get kinds.Property e = absurd (true≢false (sym e))
-kinds_are kinds.Get kinds.ReadonlyProperty e = absurd (true≢false (sym e))
-kinds_are kinds.Get kinds.Method e = absurd (true≢false (sym e))
-kinds_are kinds.Get kinds.Get e = refl
-kinds_are kinds.Get kinds.Put e = absurd (true≢false (sym e))
-kinds_are kinds.Put kinds.Property e = absurd (true≢false (sym e))
-kinds_are kinds.Put kinds.ReadonlyProperty e = absurd (true≢false (sym e))
-kinds_are kinds.Put kinds.Method e = absurd (true≢false (sym e))
-kinds_are kinds.Put kinds.Get e = absurd (true≢false (sym e))
-kinds_are kinds.Put kinds.Put e = refl
 
 -- ---- equal types
 

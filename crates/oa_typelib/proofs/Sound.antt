@@ -19,19 +19,19 @@ use Rattle.oa_idl.specs.declared.items.Item.{Item}
 use Rattle.oa_idl.specs.declared.items.Item.TheVariants.{Interface, Coclass}
 use Rattle.oa_idl.specs.declared.stop.TreeLimit.TheVariants as limits
 use Rattle.oa_typelib.specs.Bindable.{IsOne, AreScalars, HasGoodDefault, IsSound, AreSound, IsSoundItem}
-use Rattle.oa_typelib.specs.Breaches.{first_breach, tree_breach, text_breach, key_breaches, interface_breach}
-use Rattle.oa_typelib.specs.Breaches.{form_breaches, form_breach, array_breach, default_breach, in_interface}
-use Rattle.oa_typelib.specs.Breaches.{array_in, named_first, is_array, is_bad, bad_default_in, if_optional}
+use Rattle.oa_checks.specs.Breaches.{first_breach, tree_breach, text_breach, key_breaches, interface_breach}
+use Rattle.oa_checks.specs.Breaches.{form_breaches, form_breach, array_breach, default_breach, in_interface}
+use Rattle.oa_checks.specs.Breaches.{array_in, named_first, is_array, is_bad, bad_default_in, if_optional}
 use Rattle.oa_typelib.specs.Checked.{IsChecked}
-use Rattle.oa_typelib.specs.DeclarationValues.{DeclarationValue}
-use Rattle.oa_typelib.specs.Declarations.{declarations, of_property, of_method, kind_of_method}
-use Rattle.oa_typelib.specs.Declarations.{is_form, own_parameters, new_value, type_of_value}
-use Rattle.oa_typelib.specs.Defaults.{default_of}
-use Rattle.oa_typelib.specs.Libraries.{marked_item}
+use Rattle.oa_checks.specs.DeclarationValues.{DeclarationValue}
+use Rattle.oa_checks.specs.Declarations.{declarations, of_property, of_method, kind_of_method}
+use Rattle.oa_checks.specs.Declarations.{is_form, own_parameters, new_value, type_of_value}
+use Rattle.oa_checks.specs.Defaults.{default_of}
+use Rattle.oa_checks.specs.Libraries.{marked_item}
 use Rattle.oa_typelib.specs.Members.{is_method}
-use Rattle.oa_typelib.specs.Repeats.{first_answer}
+use Rattle.oa_checks.specs.Repeats.{first_answer}
 use Rattle.oa_typelib.specs.Typed.{IsDeclarable, IsTypedDeclaration, IsTypedItem}
-use Rattle.oa_typelib.specs.declared.fault.CheckError.TheVariants.{UnknownInterface, GetPutDisagree, ArrayParameter, BadDefault}
+use Rattle.oa_checks.specs.declared.fault.CheckError.TheVariants.{UnknownInterface, GetPutDisagree, ArrayParameter, BadDefault}
 use Rattle.oa_typelib.proofs.Found.{holds_typed}
 use Rattle.oa_typelib.proofs.TypedTrees.{marked_typed}
 

@@ -21,8 +21,8 @@ use Rattle.oa_idl.specs.declared.parts.Parameter.{Parameter}
 use Rattle.oa_idl.specs.declared.parts.Property.{Property}
 use Rattle.oa_idl.specs.declared.items.Item.{Item}
 use Rattle.oa_idl.specs.declared.items.Item.TheVariants.{Interface, Coclass}
-use Rattle.oa_typelib.specs.Declarations.{of_property, of_method}
-use Rattle.oa_typelib.specs.Libraries.{marked, marked_item}
+use Rattle.oa_checks.specs.Declarations.{of_property, of_method}
+use Rattle.oa_checks.specs.Libraries.{marked, marked_item}
 use Rattle.oa_typelib.specs.Typed.{IsDeclarable, IsTypedDeclaration, IsTypedItem, IsTyped, IsOfText}
 
 -- a word that names the type of cells

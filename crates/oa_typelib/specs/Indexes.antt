@@ -10,17 +10,16 @@ use Rattle.oa_idl.specs.declared.parts.Entry.{Entry}
 use Rattle.oa_idl.specs.declared.items.Item.{Item}
 use Rattle.oa_idl.specs.declared.items.Item.TheVariants.{Interface, Coclass}
 use Rattle.oa_idl.specs.Canonical.{canonical}
-use Rattle.oa_variant.specs.declared.scalar.Scalar.{Scalar}
-use Rattle.oa_typelib.specs.declared.declaration.DeclarationKind.{DeclarationKind}
-use Rattle.oa_typelib.specs.DeclarationValues.{DeclarationValue}
-use Rattle.oa_typelib.specs.Declarations.{declarations, is_put}
-use Rattle.oa_typelib.specs.Defaults.{default_value}
+use Rattle.oa_checks.specs.declared.declaration.DeclarationKind.{DeclarationKind}
+use Rattle.oa_checks.specs.DeclarationValues.{DeclarationValue}
+use Rattle.oa_checks.specs.Declarations.{declarations, is_put}
+use Rattle.oa_checks.specs.Defaults.{defaults_of}
 use Rattle.oa_typelib.specs.DescriptionValues.{EntryDescription, DescriptionValue}
 use Rattle.oa_typelib.specs.DescriptionValues.ContentDescription.{OfCoclass}
 use Rattle.oa_typelib.specs.Descriptions.{entry_at, interfaces_of}
 use Rattle.oa_typelib.specs.Groups.{GroupsValue, groups_of, places_in}
 use Rattle.oa_typelib.specs.IndexValues.{MembersValue, IndexValue}
-use Rattle.oa_typelib.specs.Libraries.{same, name_of, guid_of}
+use Rattle.oa_checks.specs.Libraries.{same, guid_of, folded_names}
 
 -- the place of the interface of the default entry in a list of folded names
 abbrev pub default_among : List (List ℕ) → List Entry → Option ℕ
@@ -31,14 +30,6 @@ default_among names entries =
 abbrev pub default_in : List (List ℕ) → Item → Option ℕ
 default_in names (Interface i) = None
 default_in names (Coclass c) = default_among names c.entries
-
--- the items' names, as the checks keep them
-abbrev pub folded_names : List Item → List (List ℕ)
-folded_names items = map (λ i. folded_name (name_of i)) items
-
--- the values of the defaults of a declaration's parameters
-abbrev pub defaults_of : DeclarationValue → List (Option Scalar)
-defaults_of d = map default_value d.parameters
 
 -- the declarations by their names, folded, and by their DISPIDs, and their defaults
 abbrev pub grouped : List DeclarationValue → MembersValue

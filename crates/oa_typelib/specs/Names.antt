@@ -6,9 +6,9 @@ use Rattle.std.specs.Option.{option_and_then, unwrap_or}
 use Rattle.oa_model.specs.Invoke.{unknown_dispid}
 use Rattle.oa_idl.specs.Values.{InterfaceValue}
 use Rattle.oa_idl.specs.declared.parts.Parameter.{Parameter}
-use Rattle.oa_typelib.specs.DeclarationValues.{DeclarationValue}
-use Rattle.oa_typelib.specs.Declarations.{own_parameters}
-use Rattle.oa_typelib.specs.Libraries.{same_name}
+use Rattle.oa_checks.specs.DeclarationValues.{DeclarationValue}
+use Rattle.oa_checks.specs.Declarations.{own_parameters}
+use Rattle.oa_checks.specs.Libraries.{same_name}
 use Rattle.oa_typelib.specs.Members.{forms_named, main_form}
 use Rattle.oa_typelib.specs.NamedValues.{DispIdsValue}
 

@@ -2,7 +2,7 @@
 ghost use Rattle.std.specs.Prelude.{◌≡◌};
 ghost use Rattle.oa_typelib.specs.Members.{is_method, kind_asked, lets, method_fault};
 
-use crate::declaration::DeclarationKind;
+use oa_checks::DeclarationKind;
 use oa_model::{GET_FLAG, METHOD_FLAG, PUT_FLAG};
 use thiserror::Error;
 
@@ -64,25 +64,23 @@ impl Access {
     }
 }
 
-impl DeclarationKind {
-    /// Whether a declaration lets a call use the form.
-    pub(crate) fn lets(self, kind: Kind) -> bool
-        ensures { result ≡ lets kind self }
-    {
-        match kind {
-            Kind::Get => matches!(
-                self,
-                DeclarationKind::Property | DeclarationKind::ReadonlyProperty | DeclarationKind::Get
-            ),
-            Kind::Put => matches!(self, DeclarationKind::Property | DeclarationKind::Put),
-        }
+/// Whether a declaration lets a call use the form.
+pub(crate) fn lets(declared: DeclarationKind, kind: Kind) -> bool
+    ensures { result ≡ lets kind declared }
+{
+    match kind {
+        Kind::Get => matches!(
+            declared,
+            DeclarationKind::Property | DeclarationKind::ReadonlyProperty | DeclarationKind::Get
+        ),
+        Kind::Put => matches!(declared, DeclarationKind::Property | DeclarationKind::Put),
     }
+}
 
-    pub(crate) fn is_method(self) -> bool
-        ensures { result ≡ is_method self }
-    {
-        matches!(self, DeclarationKind::Method)
-    }
+pub(crate) fn is_method(declared: DeclarationKind) -> bool
+    ensures { result ≡ is_method declared }
+{
+    matches!(declared, DeclarationKind::Method)
 }
 
 /// Why a call finds no member to use.

@@ -2,19 +2,18 @@
 ghost use Rattle.std.specs.Prelude.{◌≡◌, ◌++◌, if◌then◌else◌, Some, None, IfOk, OnOk, map, length, option_copied, slice_get};
 ghost use Rattle.std.specs.List.{filter, filter_map};
 ghost use Rattle.std.specs.Option.{option_and_then};
-ghost use Rattle.oa_typelib.specs.Declarations.{declarations};
-ghost use Rattle.oa_typelib.specs.Defaults.{default_value};
+ghost use Rattle.oa_checks.specs.Declarations.{declarations};
+ghost use Rattle.oa_checks.specs.Defaults.{default_value};
 ghost use Rattle.oa_typelib.specs.Indexes.{class_in, entry_in, is_put_or_not};
 ghost use Rattle.oa_typelib.specs.Descriptions.{classes_of, entry_at, interface_description, interfaces_of};
 ghost use Rattle.oa_typelib.specs.Descriptions.{member_description, members_described, parameter_description, put_last};
-ghost use Rattle.oa_typelib.specs.Libraries.{as_interface};
+ghost use Rattle.oa_checks.specs.Libraries.{as_interface};
 
-use crate::agreement::is_optional;
-use crate::declaration::DeclarationKind;
 use crate::described::{Content, DescribedEntry, DescribedMember, DescribedParameter};
+use crate::dispinterface::Dispinterface;
 use crate::forms::Form;
-use crate::members::{Dispinterface, Index};
-use crate::names::folded;
+use crate::index::Index;
+use oa_checks::{DeclarationKind, folded, is_optional};
 use oa_idl::{Coclass, Entry, Interface, Item, Name, Parameter};
 use oa_variant::Scalar;
 use std::alloc::{AllocError, Global};
@@ -89,11 +88,7 @@ fn is_put_or_not(kind: DeclarationKind, puts: bool) -> bool
 }
 
 /// The declaration at a place where it is a put, or where it is not.
-pub(crate) fn form_at<'a>(
-    interface: &Dispinterface<'a>,
-    place: usize,
-    puts: bool,
-) -> Option<Form<'a>>
+pub fn form_at<'a>(interface: &Dispinterface<'a>, place: usize, puts: bool) -> Option<Form<'a>>
     ensures { result ≡ option_and_then (λ d. if is_put_or_not puts d.kind then Some d else None)
         (slice_get (declarations interface.now) place) }
 {

@@ -2,7 +2,7 @@
 ghost use Rattle.std.specs.Prelude.{◌≡◌};
 ghost use Rattle.oa_typelib.specs.declared.described.DescribeError.TheVariants.{Memory};
 
-use crate::declaration::DeclarationKind;
+use oa_checks::DeclarationKind;
 use oa_idl::Name;
 use oa_model::ValueType;
 use oa_variant::Scalar;

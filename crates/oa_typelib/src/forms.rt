@@ -1,14 +1,14 @@
 //! The declarations of a member.
 ghost use Rattle.std.specs.Prelude.{◌≡◌, is_some, map, slice_get};
 ghost use Rattle.std.specs.List.{filter_map};
-ghost use Rattle.oa_typelib.specs.Declarations.{declarations, own_parameters};
-ghost use Rattle.oa_typelib.specs.Defaults.{default_value};
-ghost use Rattle.oa_typelib.specs.Indexes.{defaults_of};
+ghost use Rattle.oa_checks.specs.Declarations.{declarations, own_parameters};
+ghost use Rattle.oa_checks.specs.Defaults.{default_value};
+ghost use Rattle.oa_checks.specs.Defaults.{defaults_of};
 ghost use Rattle.oa_typelib.specs.Members.{form_for, main_form};
 
-use crate::access::Kind;
-use crate::declaration::Declaration;
-use crate::members::Dispinterface;
+use crate::access::{Kind, lets};
+use crate::dispinterface::Dispinterface;
+use oa_checks::Declaration;
 use oa_idl::Interface;
 use oa_variant::Scalar;
 use std::marker::Model;
@@ -28,15 +28,16 @@ pub(crate) fn declaration_at(interface: &Interface, place: usize) -> Option<Decl
 
 /// A declaration with the values of its parameters' defaults.
 #[derive(Drop)]
-pub(crate) struct Form<'a> {
-    pub(crate) declaration: Declaration<'a>,
+pub struct Form<'a> {
+    /// The declaration.
+    pub declaration: Declaration<'a>,
     defaults: &'a [Option<Scalar>],
 }
 
 impl<'a> Model for Form<'a> {
     ghost use Rattle.std.specs.Prelude.{◌≡◌};
-    ghost use Rattle.oa_typelib.specs.DeclarationValues.{DeclarationValue};
-    ghost use Rattle.oa_typelib.specs.Indexes.{defaults_of};
+    ghost use Rattle.oa_checks.specs.DeclarationValues.{DeclarationValue};
+    ghost use Rattle.oa_checks.specs.Defaults.{defaults_of};
 
     ghost Value = { DeclarationValue };
 
@@ -88,7 +89,7 @@ fn form_at<'a>(interface: &Dispinterface<'a>, places: &[usize], kind: Kind) -> O
     let Some(form) = interface.form(*place) else {
         return form_at(interface, places, kind);
     };
-    if form.declaration.kind.lets(kind) {
+    if lets(form.declaration.kind, kind) {
         Some(form)
     } else {
         form_at(interface, places, kind)
@@ -103,7 +104,7 @@ fn any_lets(interface: &Dispinterface<'_>, places: &[usize], kind: Kind) -> bool
         return false;
     };
     match interface.kind_at(*place) {
-        Some(found) => found.lets(kind) || any_lets(interface, places, kind),
+        Some(found) => lets(found, kind) || any_lets(interface, places, kind),
         None => any_lets(interface, places, kind),
     }
 }
@@ -118,8 +119,8 @@ pub(crate) struct Forms<'a> {
 impl<'a> Model for Forms<'a> {
     ghost use Rattle.std.specs.Prelude.{List, slice_get};
     ghost use Rattle.std.specs.List.{filter_map};
-    ghost use Rattle.oa_typelib.specs.DeclarationValues.{DeclarationValue};
-    ghost use Rattle.oa_typelib.specs.Declarations.{declarations};
+    ghost use Rattle.oa_checks.specs.DeclarationValues.{DeclarationValue};
+    ghost use Rattle.oa_checks.specs.Declarations.{declarations};
 
     ghost Value = { List DeclarationValue };
 

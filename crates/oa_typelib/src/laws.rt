@@ -1,10 +1,9 @@
 //! Laws over the definitions alone.
-ghost use Rattle.std.specs.Prelude.{◌≡◌, ℕ, List, Some, slice_get};
+ghost use Rattle.std.specs.Prelude.{◌≡◌, ℕ, Some, slice_get};
 ghost use Rattle.oa_idl.specs.Trees.{TreeValue};
 ghost use Rattle.oa_idl.specs.Values.{InterfaceValue};
 ghost use Rattle.oa_idl.specs.declared.items.Item.TheVariants.{Interface};
 ghost use Rattle.oa_typelib.specs.Checked.{IsChecked};
-ghost use Rattle.oa_typelib.specs.IsLibrary.{IsLibrary};
 ghost use Rattle.oa_typelib.specs.Naming.{NamesMembers, NamesParameters};
 
 /// In an interface of a library the first of the names that are asked has a DISPID exactly where it is that of a member, which has it.
@@ -18,10 +17,3 @@ pub fn names_of_parameters()
     ensures { (t : TreeValue) (place : ℕ) (i : InterfaceValue) → IsChecked t
         → slice_get t.items place ≡ Some (Interface i) → NamesParameters i }
 {}
-
-/// A text stands for one library at most.
-pub fn one_library()
-    ensures { (text : List ℕ) (a b : TreeValue) → IsLibrary text a → IsLibrary text b → a ≡ b }
-{
-    oa_idl::laws::one_tree();
-}

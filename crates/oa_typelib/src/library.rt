@@ -4,28 +4,30 @@ ghost use Rattle.oa_idl.specs.Canonical.{canonical};
 ghost use Rattle.std.specs.Option.{option_and_then, option_map};
 ghost use Rattle.oa_idl.specs.IsTree.{IsTree};
 ghost use Rattle.oa_model.specs.Limits.{max_library_bytes};
-ghost use Rattle.oa_typelib.specs.Breaches.{Refuses, first_breach, length_breach, text_breach, tree_breach};
+ghost use Rattle.oa_checks.specs.Breaches.{Refuses, first_breach, length_breach, text_breach, tree_breach};
 ghost use Rattle.oa_typelib.specs.Checked.{IsChecked, IsWhole};
 ghost use Rattle.uuid.specs.Parts.{is_nil_bytes};
 ghost use Rattle.oa_typelib.specs.Contents.{Describes};
 ghost use Rattle.oa_typelib.specs.Descriptions.{description_at, interfaces_of};
-ghost use Rattle.oa_typelib.specs.Libraries.{as_class, as_interface, same, guid_of, class_of, if_entered};
-ghost use Rattle.oa_typelib.specs.Libraries.{interface_of, default_interface, selected_in, marked};
-ghost use Rattle.oa_typelib.specs.Indexes.{default_in, entered_in, flag_at, folded_names, index_of, members_in};
-ghost use Rattle.oa_typelib.specs.IsLibrary.{IsLibrary};
+ghost use Rattle.oa_checks.specs.Libraries.{as_class, as_interface, same, guid_of, class_of, if_entered};
+ghost use Rattle.oa_checks.specs.Libraries.{interface_of, default_interface, selected_in, marked};
+ghost use Rattle.oa_typelib.specs.Indexes.{default_in, entered_in, flag_at, index_of, members_in};
+ghost use Rattle.oa_checks.specs.Libraries.{folded_names};
+ghost use Rattle.oa_checks.specs.IsLibrary.{IsLibrary};
 ghost use Rattle.oa_typelib.specs.Typed.{IsOfText};
 
-use crate::checks::{Checked, check_tree};
-use crate::defaults::{find_defaults, mark};
+use crate::defaults::find_defaults;
 use crate::describe::{
     Description, class_description, count_interfaces, interface_description, nth_class,
     nth_interface,
 };
 use crate::described::DescribeError;
-use crate::fault::CheckError;
-use crate::members::{Dispinterface, Index, Members};
-use crate::places::{at, class_at, interface_at, items_of};
-use crate::sets::{Guids, Names};
+use crate::dispinterface::Dispinterface;
+use crate::index::Index;
+use crate::members::Members;
+use oa_checks::{
+    CheckError, Checked, Guids, Names, at, check_tree, class_at, interface_at, items_of, mark,
+};
 use oa_idl::laws::marked_is_read;
 use oa_idl::{Coclass, Item, Tree, print};
 use oa_model::MAX_LIBRARY_BYTES;
@@ -188,7 +190,8 @@ impl Library {
         self.guids.place(guid)
     }
 
-    pub(crate) fn items(&self) -> &[Item]
+    /// The tree's items.
+    pub fn items(&self) -> &[Item]
         ensures { result.now ≡ self.now.items }
     {
         items_of(&self.tree)
@@ -202,7 +205,7 @@ impl Library {
     }
 
     /// The interface at a place.
-    pub(crate) fn interface_at(&self, place: usize) -> Option<Dispinterface<'_>>
+    pub fn interface_at(&self, place: usize) -> Option<Dispinterface<'_>>
         ensures { result ≡ option_and_then as_interface (slice_get self.now.items place) }
     {
         self.is_whole();
@@ -212,7 +215,7 @@ impl Library {
     }
 
     /// The place of the default interface of the coclass at a place.
-    pub(crate) fn default_at(&self, place: usize) -> Option<usize>
+    pub fn default_at(&self, place: usize) -> Option<usize>
         ensures { result ≡ option_and_then (default_in (folded_names self.now.items)) (slice_get self.now.items place) }
     {
         *at(self.defaults.as_slice(), place)?
@@ -235,7 +238,7 @@ impl Library {
     }
 
     /// The default interface of the coclass with a GUID.
-    pub(crate) fn default_interface(&self, class: &Uuid) -> Option<Dispinterface<'_>>
+    pub fn default_interface(&self, class: &Uuid) -> Option<Dispinterface<'_>>
         ensures { result ≡ option_and_then (default_interface self.now.items) (class_of self.now class.now) }
     {
         let place = self.place(class)?;
@@ -244,7 +247,7 @@ impl Library {
     }
 
     /// The interface at a place where an entry of the coclass at a place names it.
-    pub(crate) fn entered_at(&self, class: usize, place: usize) -> Option<Dispinterface<'_>>
+    pub fn entered_at(&self, class: usize, place: usize) -> Option<Dispinterface<'_>>
         ensures { result ≡ option_and_then
             (λ c. option_and_then (if_entered c) (option_and_then as_interface (slice_get self.now.items place)))
             (option_and_then as_class (slice_get self.now.items class)) }

@@ -1,11 +1,11 @@
 //! Members as a call sees them.
 ghost use Rattle.std.specs.Prelude.{◌≡◌, map, option_copied, slice_get};
 ghost use Rattle.std.specs.Option.{option_and_then, option_map};
-ghost use Rattle.oa_typelib.specs.Declarations.{type_of_value};
-ghost use Rattle.oa_typelib.specs.Defaults.{default_value};
+ghost use Rattle.oa_checks.specs.Declarations.{type_of_value};
+ghost use Rattle.oa_checks.specs.Defaults.{default_value};
 ghost use Rattle.oa_typelib.specs.Members.{answer, has_form, main_form, property_of, property_with};
 
-use crate::access::{Access, Kind, MemberFault};
+use crate::access::{Access, Kind, MemberFault, is_method};
 use crate::forms::{Form, Forms};
 use oa_idl::{Name, Parameter};
 use oa_model::ValueType;
@@ -33,7 +33,7 @@ pub struct Member<'a> {
 
 impl<'a> Model for Member<'a> {
     ghost use Rattle.std.specs.Prelude.{◌≡◌, map};
-    ghost use Rattle.oa_typelib.specs.Defaults.{default_value};
+    ghost use Rattle.oa_checks.specs.Defaults.{default_value};
     ghost use Rattle.oa_typelib.specs.MemberValues.{MemberValue};
 
     ghost Value = { MemberValue };
@@ -101,7 +101,7 @@ pub(crate) fn property<'a>(forms: &Forms<'a>) -> Option<Member<'a>>
     ensures { result ≡ property_with (main_form forms.now) forms.now }
 {
     let main = forms.main()?;
-    if main.declaration.kind.is_method() {
+    if is_method(main.declaration.kind) {
         return None;
     }
     Member::of(forms, &main)
@@ -114,7 +114,7 @@ pub(crate) fn find<'a>(forms: &Forms<'a>, access: Access) -> Result<(Member<'a>,
     let Some(main) = forms.main() else {
         return Err(MemberFault::MemberNotFound);
     };
-    if main.declaration.kind.is_method() {
+    if is_method(main.declaration.kind) {
         return Err(access.of_method());
     }
     let Some(member) = Member::of(forms, &main) else {

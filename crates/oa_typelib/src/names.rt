@@ -2,12 +2,12 @@
 ghost use Rattle.std.specs.Prelude.{◌≡◌, ◌++◌, IfOk, OnOk, is_some, map, position, None, Some};
 ghost use Rattle.std.specs.List.{list_all};
 ghost use Rattle.oa_model.specs.Folding.{folded, folded_name};
-ghost use Rattle.oa_typelib.specs.Libraries.{same_name};
+ghost use Rattle.oa_checks.specs.Libraries.{same_name};
 ghost use Rattle.oa_typelib.specs.Names.{ids_in, named_in, or_unknown, parameter_named, place_as_id, told};
 
-use crate::declaration::Declaration;
-use crate::members::Dispinterface;
-use oa_idl::{Name, Parameter};
+use crate::dispinterface::Dispinterface;
+use oa_checks::Declaration;
+use oa_idl::Parameter;
 use oa_model::{UNKNOWN_DISPID, fold};
 use std::alloc::{AllocError, Global};
 use std::marker::Model;
@@ -38,16 +38,6 @@ fn fold_unit(unit: u16) -> u16
     } else {
         unit
     }
-}
-
-/// A declared name with A to Z folded, in UTF-16 units.
-pub(crate) fn folded(alloc: Global, name: &Name) -> Result<Vec<u16>, AllocError>
-    ensures { IfOk result (λ v. v.items ≡ folded_name name.now) }
-{
-    name.as_bytes()
-        .iter()
-        .map(|b| u16::from(fold(*b)))
-        .collect(alloc)
 }
 
 /// A name that is asked for, folded.

@@ -1,10 +1,10 @@
 //! What ends the program early: one line on standard error, and a status.
 use crate::place::Place;
+use oa_checks::CheckError;
 use oa_disk::DeviceFault;
 use oa_idl::ParseError;
 use oa_store::{FormatFault, OpenFault, UpgradeFault};
 use oa_stream::Unwritten;
-use oa_typelib::CheckError;
 use std::alloc::{AllocError, AllocFailed};
 use thiserror::Error;
 

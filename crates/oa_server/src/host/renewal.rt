@@ -14,10 +14,11 @@ use super::Host;
 use crate::opening::text_of;
 use oa_disk::Disk;
 use oa_keeper::Broken;
+use oa_keeps::{Lost, TextError, keeps, read_library};
 use oa_model::HResult;
 use oa_record::{Reply, lost_field, replacement_text, tag_of};
 use oa_store::{CheckpointFault, Store};
-use oa_typelib::{Library, Lost, TextError, keeps, read_library};
+use oa_typelib::Library;
 use std::alloc::Global;
 
 /// What becomes of a body that asks for another library.

@@ -1,4 +1,4 @@
-use Rattle.oa_typelib.proofs.Losses.{all_kept, keeps_all}
+use Rattle.oa_keeps.proofs.Losses.{all_kept, keeps_all}
 use Rattle.oa_server.proofs.laws.kept_fits.Goals as goal
 
 pub returns-clause-keeps : goal.returns-clause-keeps

@@ -4,12 +4,14 @@ use Rattle.oa_idl.specs.declared.items.Item.{Item}
 use Rattle.oa_idl.specs.Canonical.{canonical}
 use Rattle.oa_idl.specs.IsTree.{MayBeText, IsTree}
 use Rattle.oa_model.specs.Folding.{folded_name}
-use Rattle.oa_typelib.specs.Libraries.{name_of, guid_of, marked, marked_item}
-use Rattle.oa_typelib.specs.Indexes.{default_in, folded_names}
-use Rattle.oa_typelib.specs.Breaches.{tree_breach, text_breach}
+use Rattle.oa_checks.specs.Libraries.{name_of, guid_of, marked, marked_item}
+use Rattle.oa_typelib.specs.Indexes.{default_in}
+use Rattle.oa_checks.specs.Libraries.{folded_names}
+use Rattle.oa_checks.specs.Breaches.{tree_breach, text_breach}
 use Rattle.oa_typelib.specs.Typed.{IsTyped}
-use Rattle.oa_typelib.proofs.Passes.{refused, for_memory}
-use Rattle.oa_typelib.proofs.Finds.{fits_text, kept, name_kept, guid_kept, length_of_marked, no_breach_before}
+use Rattle.oa_checks.proofs.Passes.{refused, for_memory}
+use Rattle.oa_typelib.proofs.Finds.{fits_text, kept, name_kept, guid_kept, length_of_marked}
+use Rattle.oa_checks.proofs.Passes.{no_breach_before}
 use Rattle.oa_typelib.proofs.TypedTrees.{marked_typed}
 use Rattle.oa_typelib.proofs.library.library_of.Goals as goal
 

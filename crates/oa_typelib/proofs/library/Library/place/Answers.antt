@@ -1,7 +1,7 @@
 use Rattle.std.proofs.Common.{map, position, ap, ◌∙◌}
 use Rattle.oa_idl.specs.Trees.{TreeValue}
-use Rattle.oa_typelib.specs.Libraries.{same, guid_of}
-use Rattle.oa_typelib.proofs.Lists.{position-map}
+use Rattle.oa_checks.specs.Libraries.{same, guid_of}
+use Rattle.oa_checks.proofs.Lists.{position-map}
 use Rattle.oa_typelib.proofs.library.Library.place.Goals as goal
 
 pub returns : goal.returns

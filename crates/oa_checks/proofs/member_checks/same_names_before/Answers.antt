@@ -1,0 +1,12 @@
+use Rattle.std.proofs.Common.{[], ℕ, sym, ap, ◌∙◌, Vec, Global}
+use Rattle.oa_model.specs.Folding.{folded_name}
+use Rattle.oa_checks.specs.DeclarationValues.{DeclarationValue}
+use Rattle.oa_checks.specs.Libraries.{same}
+use Rattle.oa_checks.specs.Repeats.{places_before}
+use Rattle.oa_checks.proofs.Walks.{places-map}
+use Rattle.oa_checks.proofs.member_checks.same_names_before.Goals as goal
+
+pub returns : goal.returns
+returns c =
+    c.in_ok-places.ensures ∙ sym (places-map (λ (k : Vec ℕ Global). k.items) same [] c.in_ok-keys.keys.items) ∙ ap (places_before same []) c.in_ok-keys.ensures
+    ∙ places-map (λ (d : DeclarationValue). folded_name d.name) same [] c.args.all.now

@@ -1,0 +1,60 @@
+-- What an interface declares.
+use Rattle.std.specs.Prelude.{Bool, true, false, if◌then◌else◌, List, [], ◌++◌, ◌-◌, length, map, take, slice_get, Option, Some, None}
+use Rattle.std.specs.Option.{option_map}
+use Rattle.oa_model.specs.declared.var_type.ValueType.{ValueType}
+use Rattle.oa_idl.specs.declared.parts.MethodKind.{MethodKind}
+use Rattle.oa_idl.specs.declared.parts.MethodKind.TheVariants as forms
+use Rattle.oa_idl.specs.declared.parts.Parameter.{Parameter}
+use Rattle.oa_idl.specs.declared.parts.Property.{Property}
+use Rattle.oa_idl.specs.MethodValues.{MethodValue}
+use Rattle.oa_idl.specs.Values.{InterfaceValue}
+use Rattle.oa_checks.specs.declared.declaration.DeclarationKind.{DeclarationKind}
+use Rattle.oa_checks.specs.declared.declaration.DeclarationKind.TheVariants as kinds
+use Rattle.oa_checks.specs.DeclarationValues.{DeclarationValue}
+
+abbrev pub kind_of_property : Bool → DeclarationKind
+kind_of_property true = kinds.ReadonlyProperty
+kind_of_property false = kinds.Property
+
+abbrev pub kind_of_method : MethodKind → DeclarationKind
+kind_of_method forms.Method = kinds.Method
+kind_of_method forms.Get = kinds.Get
+kind_of_method forms.Put = kinds.Put
+
+abbrev pub of_property : Property → DeclarationValue
+of_property p = record { id = p.id; name = p.name; kind = kind_of_property p.readonly; value_type = Some p.value_type; parameters = [] }
+
+abbrev pub of_method : MethodValue → DeclarationValue
+of_method m = record { id = m.id; name = m.name; kind = kind_of_method m.kind; value_type = m.value_type; parameters = m.parameters }
+
+-- the declarations of an interface in the text's order
+abbrev pub declarations : InterfaceValue → List DeclarationValue
+declarations i = map of_property i.properties ++ map of_method i.methods
+
+abbrev pub is_put : DeclarationKind → Bool
+is_put kinds.Put = true
+is_put k = false
+
+-- a get or a put: the form of a property in `methods:`
+abbrev pub is_form : DeclarationKind → Bool
+is_form kinds.Get = true
+is_form kinds.Put = true
+is_form k = false
+
+-- a get and a put of one name are one member
+abbrev pub are_one_member : DeclarationKind → DeclarationKind → Bool
+are_one_member kinds.Get kinds.Put = true
+are_one_member kinds.Put kinds.Get = true
+are_one_member j k = false
+
+-- the parameters that a call gives for a key: all, but of a put not the last, which is the new value
+abbrev pub own_parameters : DeclarationValue → List Parameter
+own_parameters d = if is_put d.kind then take (length d.parameters - 1) d.parameters else d.parameters
+
+-- the new value of a put
+abbrev pub new_value : DeclarationValue → Option Parameter
+new_value d = if is_put d.kind then slice_get d.parameters (length d.parameters - 1) else None
+
+-- the type of what a property holds, or of a method's result: of a put the type of its new value
+abbrev pub type_of_value : DeclarationValue → Option ValueType
+type_of_value d = if is_put d.kind then option_map (λ (p : Parameter). p.value_type) (new_value d) else d.value_type

@@ -1,0 +1,13 @@
+-- The library of a text.
+use Rattle.std.specs.Prelude.{◌≡◌, ℕ, List, None}
+use Rattle.oa_idl.specs.IsTree.{IsTree}
+use Rattle.oa_idl.specs.Trees.{TreeValue}
+use Rattle.oa_checks.specs.Breaches.{first_breach}
+use Rattle.oa_checks.specs.Libraries.{marked}
+
+-- The text stands for a tree that breaks none of the checks, and the library is what the tree says, with its defaults marked.
+pub record IsLibrary (text : List ℕ) (library : TreeValue) : Type 0 where
+  pub tree : TreeValue
+  pub stands : IsTree text tree
+  pub unbroken : first_breach tree ≡ None
+  pub says : library ≡ marked tree

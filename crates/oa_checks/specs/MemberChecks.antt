@@ -1,0 +1,40 @@
+-- The checks of an interface's declarations.
+use Rattle.std.specs.Prelude.{ℕ, Bool, false, not, ◌&&◌, List, slice_get, Option, Some, None}
+use Rattle.std.specs.Ordering.{int_eq}
+use Rattle.oa_checks.specs.Agreement.{agree}
+use Rattle.oa_checks.specs.Breaches.{first_broken, shares_id, disagrees, array_in, bad_default_in}
+use Rattle.oa_checks.specs.DeclarationValues.{DeclarationValue}
+use Rattle.oa_checks.specs.Libraries.{same_name}
+use Rattle.oa_checks.specs.Repeats.{first_answer}
+use Rattle.oa_checks.specs.declared.member_checks.MemberCheck.{MemberCheck}
+use Rattle.oa_checks.specs.declared.member_checks.MemberCheck.TheVariants as checks
+use Rattle.oa_checks.specs.declared.member_checks.Rule.{Rule}
+use Rattle.oa_checks.specs.declared.member_checks.Rule.TheVariants as rules
+
+-- a rule is for declarations that are alike
+abbrev pub alike : Rule → DeclarationValue → DeclarationValue → Bool
+alike rules.OneMember d e = int_eq d.id e.id
+alike rules.Agreement d e = same_name d.name e.name
+
+-- and asks this of them
+abbrev pub suits : Rule → DeclarationValue → DeclarationValue → Bool
+suits rules.OneMember d e = same_name d.name e.name
+suits rules.Agreement d e = agree d e
+
+abbrev pub breaks : Rule → DeclarationValue → DeclarationValue → Bool
+breaks rule d e = alike rule d e && not (suits rule d e)
+
+-- whether a declaration breaks a rule with the one at a place of a list
+abbrev pub broken_with : Rule → DeclarationValue → Option DeclarationValue → Bool
+broken_with rule d None = false
+broken_with rule d (Some e) = breaks rule d e
+
+abbrev pub broken_at : Rule → List DeclarationValue → DeclarationValue → Option ℕ → Bool
+broken_at rule all d None = false
+broken_at rule all d (Some n) = broken_with rule d (slice_get all n)
+
+abbrev pub breach_by : MemberCheck → List DeclarationValue → Option (List ℕ)
+breach_by checks.Ids = first_broken shares_id
+breach_by checks.Forms = first_broken disagrees
+breach_by checks.Arrays = first_answer array_in
+breach_by checks.Defaults = first_answer bad_default_in

@@ -1,0 +1,341 @@
+//! The passes of `check`, one for each kind of breach.
+ghost use Rattle.std.specs.Prelude.{◌≡◌, ◌++◌, ◌∷◌, [], IfOk, is_some, map};
+ghost use Rattle.std.specs.Option.{option_map, option_or};
+ghost use Rattle.oa_model.specs.Folding.{folded_name};
+ghost use Rattle.oa_checks.specs.Breaches.{Refuses, repeated_in, repeated_name, declared_breach, inner_breach, name_breach, id_breach};
+ghost use Rattle.oa_checks.specs.Breaches.{guid_breach, unknown_name, entry_breach, interface_breach, form_breach};
+ghost use Rattle.oa_checks.specs.Breaches.{array_breach, default_breach, form_breaches, key_breaches, tree_breach};
+ghost use Rattle.oa_checks.specs.Declarations.{declarations};
+ghost use Rattle.oa_checks.specs.Libraries.{folded_names};
+ghost use Rattle.oa_checks.specs.Libraries.{name_of, guid_of, interface_named};
+ghost use Rattle.oa_checks.specs.Repeats.{first_answer, first_after};
+ghost use Rattle.oa_checks.specs.Taken.{repeated_by, takes_reading, takes_setting, with_taken};
+ghost use Rattle.oa_checks.specs.declared.fault.CheckError.TheVariants.{DuplicateName, DuplicateId, DuplicateGuid, UnknownInterface};
+ghost use Rattle.oa_checks.specs.declared.fault.CheckError.TheVariants.{GetPutDisagree, ArrayParameter, BadDefault};
+
+use crate::declaration::{Declaration, declarations};
+use crate::fault::{CheckError, WrittenName};
+use crate::folding::folded;
+use crate::member_checks::{MemberCheck, check_members};
+use crate::places::{interface_at, items_of};
+use crate::repeats::{Distinct, told_apart};
+use crate::sets::{Guids, Names};
+use crate::taken::Taken;
+use oa_idl::{Coclass, Entry, Interface, Item, Name, Parameter, Tree};
+use std::alloc::{AllocError, Global};
+use uuid::Uuid;
+
+pub fn item_name(item: &Item) -> &Name
+    ensures { result.now ≡ name_of item.now }
+{
+    match item {
+        Item::Interface(interface) => &interface.name,
+        Item::Coclass(class) => &class.name,
+    }
+}
+
+fn item_guid(item: &Item) -> Uuid
+    ensures { result ≡ guid_of item.now }
+{
+    match item {
+        Item::Interface(interface) => interface.guid,
+        Item::Coclass(class) => class.guid,
+    }
+}
+
+pub fn entry_names(alloc: Global, entries: &[Entry]) -> Result<Vec<&Name>, AllocError>
+    ensures { IfOk result (λ v. map (λ n. n.now) v.items ≡ map (λ e. e.interface) entries.now) }
+{
+    let mut names = Vec::new(alloc);
+    for entry in entries {
+        names.push(&entry.interface)?;
+    }
+    Ok(names)
+}
+
+fn parameter_names(alloc: Global, parameters: &[Parameter]) -> Result<Vec<&Name>, AllocError>
+    ensures { IfOk result (λ v. map (λ n. n.now) v.items ≡ map (λ p. p.name) parameters.now) }
+{
+    let mut names = Vec::new(alloc);
+    for parameter in parameters {
+        names.push(&parameter.name)?;
+    }
+    Ok(names)
+}
+
+fn all_folded(alloc: Global, names: &[&Name]) -> Result<Vec<Vec<u16>>, AllocError>
+    ensures { IfOk result (λ v. map (λ k. k.items) v.items ≡ map (λ n. folded_name n.now) names.now) }
+{
+    let mut keys = Vec::new(alloc);
+    for name in names {
+        keys.push(folded(alloc, name)?)?;
+    }
+    Ok(keys)
+}
+
+/// The first name that repeats one before it.
+fn first_repeated<'a>(alloc: Global, names: &[&'a Name]) -> Result<Option<&'a Name>, AllocError>
+    ensures { IfOk result (λ r. option_map (λ n. n.now) r ≡ repeated_name (map (λ n. n.now) names.now)) }
+{
+    let keys = all_folded(alloc, names)?;
+    let Some(place) = told_apart(alloc, keys)?.repeat() else {
+        return Ok(None);
+    };
+    Ok(Some(names[place]))
+}
+
+/// Refuses names of which one repeats one before it.
+fn check_repeated(alloc: Global, names: &[&Name]) -> Result<(), CheckError>
+    ensures { Refuses (option_map DuplicateName (repeated_name (map (λ n. n.now) names.now))) (λ _. Unit {0}) result }
+{
+    match first_repeated(alloc, names)? {
+        Some(name) => Err(CheckError::DuplicateName(WrittenName::copy(alloc, name)?)),
+        None => Ok(()),
+    }
+}
+
+/// Adds a declaration's name to those of the declarations before it.
+fn admit_declaration(
+    alloc: Global,
+    taken: &mut Taken,
+    declaration: &Declaration<'_>,
+) -> Result<(), CheckError>
+    ensures refuses { Refuses (option_map DuplicateName (repeated_by taken.old.reading taken.old.setting declaration.now))
+        (λ _. (taken.new.reading ≡ with_taken takes_reading declaration.now taken.old.reading)
+        × (taken.new.setting ≡ with_taken takes_setting declaration.now taken.old.setting)) result }
+{
+    if !taken.take(alloc, declaration)? {
+        return Err(CheckError::DuplicateName(WrittenName::copy(alloc, declaration.name)?));
+    }
+    let names = parameter_names(alloc, declaration.parameters)?;
+    check_repeated(alloc, names.as_slice())
+}
+
+fn check_declared(alloc: Global, all: &[Declaration<'_>]) -> Result<(), CheckError>
+    ensures { Refuses (option_map DuplicateName (first_after declared_breach [] all.now)) (λ _. Unit {0}) result }
+{
+    let mut taken = Taken::new(alloc);
+    for declaration in all {
+        admit_declaration(alloc, &mut taken, declaration)?;
+    }
+    Ok(())
+}
+
+fn check_interface_names(alloc: Global, interface: &Interface) -> Result<(), CheckError>
+    ensures { Refuses (option_map DuplicateName (first_after declared_breach [] (declarations interface.now))) (λ _. Unit {0}) result }
+{
+    let all = declarations(alloc, interface)?;
+    check_declared(alloc, all.as_slice())
+}
+
+fn check_coclass_names(alloc: Global, class: &Coclass) -> Result<(), CheckError>
+    ensures { Refuses (option_map DuplicateName (repeated_name (map (λ e. e.interface) class.now.entries))) (λ _. Unit {0}) result }
+{
+    let names = entry_names(alloc, class.entries.as_slice())?;
+    check_repeated(alloc, names.as_slice())
+}
+
+fn check_inner_names(alloc: Global, item: &Item) -> Result<(), CheckError>
+    ensures { Refuses (option_map DuplicateName (inner_breach item.now)) (λ _. Unit {0}) result }
+{
+    match item {
+        Item::Interface(interface) => check_interface_names(alloc, interface),
+        Item::Coclass(class) => check_coclass_names(alloc, class),
+    }
+}
+
+/// Adds an item's name to those of the items before it.
+fn admit(alloc: Global, seen: &mut Names, item: &Item) -> Result<(), CheckError>
+    ensures refuses { Refuses (option_map DuplicateName (repeated_in seen.old item.now))
+        (λ _. seen.new ≡ seen.old ++ folded_name (name_of item.now) ∷ []) result }
+{
+    let name = item_name(item);
+    if !seen.insert(folded(alloc, name)?)? {
+        return Err(CheckError::DuplicateName(WrittenName::copy(alloc, name)?));
+    }
+    check_inner_names(alloc, item)
+}
+
+/// The items' names, which differ, as do the names inside each.
+pub(crate) fn check_names(alloc: Global, items: &[Item]) -> Result<Names, CheckError>
+    ensures { Refuses (option_map DuplicateName (name_breach items.now)) (λ names. names ≡ folded_names items.now) result }
+{
+    let mut seen = Names::new(alloc);
+    for item in items {
+        admit(alloc, &mut seen, item)?;
+    }
+    Ok(seen)
+}
+
+/// No two members of an interface have one DISPID.
+pub(crate) fn check_ids(alloc: Global, items: &[Item]) -> Result<(), CheckError>
+    ensures { Refuses (option_map DuplicateId (id_breach items.now)) (λ _. Unit {0}) result }
+{
+    match check_members(alloc, MemberCheck::Ids, items)? {
+        Some(name) => Err(CheckError::DuplicateId(WrittenName::copy(alloc, name)?)),
+        None => Ok(()),
+    }
+}
+
+fn all_guids(alloc: Global, library: Uuid, items: &[Item]) -> Result<Vec<Uuid>, AllocError>
+    ensures { IfOk result (λ v. v.items ≡ library ∷ map guid_of items.now) }
+{
+    let mut guids = Vec::new(alloc);
+    guids.push(library)?;
+    for item in items {
+        guids.push(item_guid(item))?;
+    }
+    Ok(guids)
+}
+
+/// The items' GUIDs, which differ from each other and from the library's.
+pub(crate) fn check_guids(alloc: Global, library: Uuid, items: &[Item]) -> Result<Guids, CheckError>
+    ensures { Refuses (option_map DuplicateGuid (guid_breach library items.now)) (λ guids. guids ≡ map guid_of items.now) result }
+{
+    let guids = all_guids(alloc, library, items)?;
+    match told_apart(alloc, all_guids(alloc, library, items)?)? {
+        Distinct::All(mut set) => {
+            let _ = set.shift_remove_index(0);
+            Ok(Guids::from_set(set))
+        }
+        Distinct::Repeat(place) => Err(CheckError::DuplicateGuid(guids[place])),
+    }
+}
+
+/// Whether an item of that name is an interface.
+fn is_interface(
+    alloc: Global,
+    names: &Names,
+    items: &[Item],
+    name: &Name,
+) -> Result<bool, AllocError>
+    requires { names.now ≡ folded_names items.now }
+    ensures { IfOk result (λ b. b ≡ is_some (interface_named items.now name.now)) }
+{
+    let Some(place) = names.place(folded(alloc, name)?.as_slice()) else {
+        return Ok(false);
+    };
+    Ok(interface_at(items, place).is_some())
+}
+
+fn check_entries(
+    alloc: Global,
+    names: &Names,
+    items: &[Item],
+    entries: &[Entry],
+) -> Result<(), CheckError>
+    requires { names.now ≡ folded_names items.now }
+    ensures { Refuses (option_map UnknownInterface (first_answer (unknown_name items.now) entries.now)) (λ _. Unit {0}) result }
+{
+    for entry in entries {
+        if !is_interface(alloc, names, items, &entry.interface)? {
+            return Err(CheckError::UnknownInterface(WrittenName::copy(alloc, &entry.interface)?));
+        }
+    }
+    Ok(())
+}
+
+fn check_item(alloc: Global, names: &Names, items: &[Item], item: &Item) -> Result<(), CheckError>
+    requires { names.now ≡ folded_names items.now }
+    ensures { Refuses (option_map UnknownInterface (entry_breach items.now item.now)) (λ _. Unit {0}) result }
+{
+    match item {
+        Item::Interface(_) => Ok(()),
+        Item::Coclass(class) => check_entries(alloc, names, items, class.entries.as_slice()),
+    }
+}
+
+/// Each entry of a coclass names an interface.
+pub(crate) fn check_interfaces(
+    alloc: Global,
+    names: &Names,
+    items: &[Item],
+) -> Result<(), CheckError>
+    requires { names.now ≡ folded_names items.now }
+    ensures { Refuses (option_map UnknownInterface (interface_breach items.now)) (λ _. Unit {0}) result }
+{
+    for item in items {
+        check_item(alloc, names, items, item)?;
+    }
+    Ok(())
+}
+
+/// The get and the put of each property agree.
+pub(crate) fn check_forms(alloc: Global, items: &[Item]) -> Result<(), CheckError>
+    ensures { Refuses (option_map GetPutDisagree (form_breach items.now)) (λ _. Unit {0}) result }
+{
+    match check_members(alloc, MemberCheck::Forms, items)? {
+        Some(name) => Err(CheckError::GetPutDisagree(WrittenName::copy(alloc, name)?)),
+        None => Ok(()),
+    }
+}
+
+/// No parameter of a property is an array.
+pub(crate) fn check_arrays(alloc: Global, items: &[Item]) -> Result<(), CheckError>
+    ensures { Refuses (option_map ArrayParameter (array_breach items.now)) (λ _. Unit {0}) result }
+{
+    match check_members(alloc, MemberCheck::Arrays, items)? {
+        Some(name) => Err(CheckError::ArrayParameter(WrittenName::copy(alloc, name)?)),
+        None => Ok(()),
+    }
+}
+
+/// Each default has a value of its parameter's type, and no new value has one.
+pub(crate) fn check_defaults(alloc: Global, items: &[Item]) -> Result<(), CheckError>
+    ensures { Refuses (option_map BadDefault (default_breach items.now)) (λ _. Unit {0}) result }
+{
+    match check_members(alloc, MemberCheck::Defaults, items)? {
+        Some(name) => Err(CheckError::BadDefault(WrittenName::copy(alloc, name)?)),
+        None => Ok(()),
+    }
+}
+
+/// The forms of properties and the parameters, after names, DISPIDs and interfaces.
+fn check_form_kinds(alloc: Global, items: &[Item]) -> Result<(), CheckError>
+    ensures { Refuses (form_breaches items.now) (λ _. Unit {0}) result }
+{
+    check_forms(alloc, items)?;
+    check_arrays(alloc, items)?;
+    check_defaults(alloc, items)?;
+    Ok(())
+}
+
+/// What the checks of a tree leave: its items' names and GUIDs, by their places.
+#[derive(Drop)]
+pub struct Checked {
+    pub names: Names,
+    pub guids: Guids,
+}
+
+/// Names, DISPIDs and GUIDs.
+fn check_keys(alloc: Global, tree: &Tree) -> Result<Checked, CheckError>
+    ensures { Refuses (key_breaches tree.now)
+        (λ c. (c.names ≡ folded_names tree.now.items) × (c.guids ≡ map guid_of tree.now.items)) result }
+{
+    let items = items_of(tree);
+    let names = check_names(alloc, items)?;
+    check_ids(alloc, items)?;
+    let guids = check_guids(alloc, tree.guid, items)?;
+    Ok(Checked { names, guids })
+}
+
+/// The entries of coclasses, the forms of properties and the parameters, after the names of all items.
+fn check_contents(alloc: Global, tree: &Tree, names: &Names) -> Result<(), CheckError>
+    requires { names.now ≡ folded_names tree.now.items }
+    ensures { Refuses (option_or (option_map UnknownInterface (interface_breach tree.now.items)) (form_breaches tree.now.items))
+        (λ _. Unit {0}) result }
+{
+    let items = items_of(tree);
+    check_interfaces(alloc, names, items)?;
+    check_form_kinds(alloc, items)
+}
+
+/// All checks of a tree but that of its text's length, in their order.
+pub fn check_tree(alloc: Global, tree: &Tree) -> Result<Checked, CheckError>
+    ensures { Refuses (tree_breach tree.now)
+        (λ c. (c.names ≡ folded_names tree.now.items) × (c.guids ≡ map guid_of tree.now.items)) result }
+{
+    let checked = check_keys(alloc, tree)?;
+    check_contents(alloc, tree, &checked.names)?;
+    Ok(checked)
+}

@@ -1,0 +1,189 @@
+//! The defaults of parameters.
+ghost use Rattle.std.specs.Prelude.{◌≡◌, ◌*ℤ◌, pos, IfOk, is_some};
+ghost use Rattle.oa_checks.specs.Defaults.{natural, whole, decimal_from, number_as, wide, holds_texts};
+ghost use Rattle.oa_checks.specs.Defaults.{text_as, holds_truths, default_of, default_value};
+
+use oa_bstr::{Bstr, BstrError};
+use oa_idl::{Characters, Literal, Parameter};
+use oa_model::{ValueType, VarType};
+use oa_variant::{Decimal, Scalar};
+use std::alloc::{AllocError, Global};
+
+/// The longest default string, in characters.
+const MAX_CHARACTERS: usize = 131_072;
+
+fn as_i8(n: i128) -> Option<i8>
+    ensures { result ≡ whole 128 n }
+{
+    i8::try_from(n).ok()
+}
+
+fn as_i16(n: i128) -> Option<i16>
+    ensures { result ≡ whole 32768 n }
+{
+    i16::try_from(n).ok()
+}
+
+fn as_i32(n: i128) -> Option<i32>
+    ensures { result ≡ whole 2147483648 n }
+{
+    i32::try_from(n).ok()
+}
+
+fn as_i64(n: i128) -> Option<i64>
+    ensures { result ≡ whole 9223372036854775808 n }
+{
+    i64::try_from(n).ok()
+}
+
+fn as_u8(n: i128) -> Option<u8>
+    ensures { result ≡ natural 256 n }
+{
+    u8::try_from(n).ok()
+}
+
+fn as_u16(n: i128) -> Option<u16>
+    ensures { result ≡ natural 65536 n }
+{
+    u16::try_from(n).ok()
+}
+
+fn as_u32(n: i128) -> Option<u32>
+    ensures { result ≡ natural 4294967296 n }
+{
+    u32::try_from(n).ok()
+}
+
+fn as_u64(n: i128) -> Option<u64>
+    ensures { result ≡ natural 18446744073709551616 n }
+{
+    u64::try_from(n).ok()
+}
+
+/// A number as a count of ten-thousandths.
+fn as_currency(n: i128) -> Option<i64>
+    ensures { result ≡ whole 9223372036854775808 (n *ℤ pos 10000) }
+{
+    as_i64(n.checked_mul(10_000)?)
+}
+
+fn as_decimal(n: i128) -> Option<Decimal>
+    ensures { result ≡ decimal_from n }
+{
+    let magnitude = n.unsigned_abs();
+    if magnitude < 0x1_0000_0000_0000_0000_0000_0000 {
+        Some(Decimal::new(n < 0, 0, magnitude))
+    } else {
+        None
+    }
+}
+
+/// A number as a value of a type. Takes no memory.
+#[tactic(auto, unfolding(crate::specs::Defaults::number_as))]
+fn number_as(t: VarType, n: i128) -> Option<Scalar>
+    ensures { result ≡ number_as t n }
+{
+    match t {
+        VarType::I1 => Some(Scalar::I1(as_i8(n)?)),
+        VarType::I2 => Some(Scalar::I2(as_i16(n)?)),
+        VarType::I4 | VarType::Variant => Some(Scalar::I4(as_i32(n)?)),
+        VarType::I8 => Some(Scalar::I8(as_i64(n)?)),
+        VarType::Int => Some(Scalar::Int(as_i32(n)?)),
+        VarType::Ui1 => Some(Scalar::Ui1(as_u8(n)?)),
+        VarType::Ui2 => Some(Scalar::Ui2(as_u16(n)?)),
+        VarType::Ui4 => Some(Scalar::Ui4(as_u32(n)?)),
+        VarType::Ui8 => Some(Scalar::Ui8(as_u64(n)?)),
+        VarType::Uint => Some(Scalar::Uint(as_u32(n)?)),
+        VarType::Error => Some(Scalar::Error(as_u32(n)?)),
+        VarType::Cy => Some(Scalar::Cy(as_currency(n)?)),
+        VarType::Decimal => Some(Scalar::Decimal(as_decimal(n)?)),
+        VarType::Empty | VarType::Null | VarType::Bstr | VarType::Bool => None,
+    }
+}
+
+fn holds_texts(t: VarType) -> bool
+    ensures { result ≡ holds_texts t }
+{
+    matches!(t, VarType::Bstr | VarType::Variant)
+}
+
+fn holds_truths(t: VarType) -> bool
+    ensures { result ≡ holds_truths t }
+{
+    matches!(t, VarType::Bool | VarType::Variant)
+}
+
+/// Characters as 16-bit units, low byte first.
+#[tactic(auto, unfolding(crate::specs::Defaults::wide))]
+fn wide(alloc: Global, characters: &[u8]) -> Result<Vec<u8>, AllocError>
+    ensures { IfOk result (λ v. v.items ≡ wide characters.now) }
+{
+    let mut bytes = Vec::new(alloc);
+    for character in characters {
+        bytes.extend_from_slice(&[*character, 0])?;
+    }
+    Ok(bytes)
+}
+
+/// A text as a value of a type.
+fn text_as(alloc: Global, t: VarType, text: &Characters) -> Result<Option<Scalar>, AllocError>
+    ensures { IfOk result (λ s. s ≡ text_as t text.now) }
+{
+    if !holds_texts(t) || text.as_bytes().len() > MAX_CHARACTERS {
+        return Ok(None);
+    }
+    let bytes = wide(alloc, text.as_bytes())?;
+    match Bstr::from_bytes(alloc, bytes.as_slice()) {
+        Ok(text) => Ok(Some(Scalar::Bstr(text))),
+        Err(BstrError::TooLong) => Ok(None),
+        Err(BstrError::Memory) => Err(AllocError),
+    }
+}
+
+/// Whether a default has a value of the parameter's type. Takes no memory.
+pub(crate) fn has_default(value_type: ValueType, default: &Literal) -> bool
+    ensures { result ≡ is_some (default_of value_type default.now) }
+{
+    let ValueType::One(t) = value_type else {
+        return false;
+    };
+    match default {
+        Literal::Number(n) => number_as(t, *n).is_some(),
+        Literal::Text(text) => holds_texts(t) && text.as_bytes().len() <= MAX_CHARACTERS,
+        Literal::Bool(_) => holds_truths(t),
+    }
+}
+
+/// The value of a default, of the parameter's type: a number of that type, a count of ten-thousandths for CURRENCY, a DECIMAL with scale
+/// 0, an I4 for VARIANT; a truth value; or a text in 16-bit units for BSTR and VARIANT. None where the type has no such value, and for
+/// each array type.
+pub(crate) fn default_value(
+    alloc: Global,
+    value_type: ValueType,
+    default: &Literal,
+) -> Result<Option<Scalar>, AllocError>
+    ensures { IfOk result (λ s. s ≡ default_of value_type default.now) }
+{
+    let ValueType::One(t) = value_type else {
+        return Ok(None);
+    };
+    match default {
+        Literal::Number(n) => Ok(number_as(t, *n)),
+        Literal::Text(text) => text_as(alloc, t, text),
+        Literal::Bool(b) => Ok(if holds_truths(t) {
+            Some(Scalar::Bool(*b))
+        } else {
+            None
+        }),
+    }
+}
+
+/// The value of a parameter's default. None where it has no default, or none of its type.
+pub fn value_of_default(alloc: Global, parameter: &Parameter) -> Result<Option<Scalar>, AllocError>
+    ensures { IfOk result (λ value. value ≡ default_value parameter.now) }
+{
+    match &parameter.default {
+        Some(default) => default_value(alloc, parameter.value_type, default),
+        None => Ok(None),
+    }
+}

@@ -1,0 +1,59 @@
+//! Lists whose keys have to differ.
+ghost use Rattle.std.specs.Prelude.{◌≡◌, [], IfOk};
+ghost use Rattle.oa_checks.specs.Keys.{Tells, repeat_of};
+ghost use Rattle.oa_checks.specs.Repeats.{places_before};
+
+use indexmap::{IndexMap, IndexSet};
+use std::alloc::{AllocError, Global};
+use std::hash::Hash;
+
+/// The keys of a list by their places, or the first place whose key stands at an earlier one too.
+#[derive(Drop)]
+pub(crate) enum Distinct<K: Eq + Hash + Drop> {
+    All(IndexSet<K>),
+    Repeat(usize),
+}
+
+impl<K: Eq + Hash + Drop> Distinct<K> {
+    pub(crate) fn repeat(self) -> Option<usize>
+        ensures { result ≡ repeat_of self }
+    {
+        match self {
+            Distinct::All(_) => None,
+            Distinct::Repeat(place) => Some(place),
+        }
+    }
+}
+
+pub(crate) fn told_apart<K: Eq + Hash + Drop>(
+    alloc: Global,
+    keys: Vec<K>,
+) -> Result<Distinct<K>, AllocError>
+    ensures { IfOk result (Tells K.eq keys.items) }
+{
+    let mut seen = IndexSet::new(alloc);
+    for key in keys {
+        let place = seen.len();
+        if !seen.insert(key)? {
+            return Ok(Distinct::Repeat(place));
+        }
+    }
+    Ok(Distinct::All(seen))
+}
+
+/// For each key the last place before it with an equal one.
+pub(crate) fn earlier<K: Eq + Hash + Drop>(
+    alloc: Global,
+    keys: Vec<K>,
+) -> Result<Vec<Option<usize>>, AllocError>
+    ensures { IfOk result (λ v. v.items ≡ places_before K.eq [] keys.items) }
+{
+    let mut last = IndexMap::new(alloc);
+    let mut places = Vec::new(alloc);
+    for key in keys {
+        let place = places.len();
+        let before = last.insert(key, place)?;
+        places.push(before)?;
+    }
+    Ok(places)
+}

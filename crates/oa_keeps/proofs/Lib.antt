@@ -1,0 +1,4 @@
+pub mod Losses
+pub mod SameKinds
+pub mod Searches
+pub mod TextReads

@@ -1,0 +1,45 @@
+-- What reading the text of a library answers.
+use Rattle.std.specs.Prelude.{◌≡◌, ℕ, List, None, Result, Ok, Err}
+use Rattle.std.specs.Str.{IsUtf8}
+use Rattle.oa_idl.specs.Trees.{TreeValue}
+use Rattle.oa_idl.specs.declared.stop.ParseError.{ParseError}
+use Rattle.oa_idl.specs.declared.stop.ParseError.TheVariants as parses
+use Rattle.oa_checks.specs.Breaches.{first_breach}
+use Rattle.oa_checks.specs.IsLibrary.{IsLibrary}
+use Rattle.oa_checks.specs.Libraries.{marked}
+use Rattle.oa_checks.specs.declared.fault.CheckError.{CheckError}
+use Rattle.oa_checks.specs.declared.fault.CheckError.TheVariants as checks
+use Rattle.oa_keeps.specs.declared.library_text.TextError.{TextError}
+use Rattle.oa_keeps.specs.declared.library_text.TextError.TheVariants.{NoLibrary, Memory}
+
+-- bytes are a text, and it stands for the library
+abbrev pub StandsFor : List ℕ → TreeValue → Type 0
+StandsFor bytes library = IsUtf8 bytes × IsLibrary bytes library
+
+-- want of memory says nothing
+abbrev pub IsRead : List ℕ → Result TreeValue TextError → Type 0
+IsRead bytes (Ok library) = StandsFor bytes library
+IsRead bytes (Err NoLibrary) = (library : TreeValue) → StandsFor bytes library → ⊥
+IsRead bytes (Err Memory) = Unit {0}
+
+-- the same of the tree of a text
+abbrev pub IsMade : TreeValue → Result TreeValue TextError → Type 0
+IsMade tree (Ok library) = (first_breach tree ≡ None) × (library ≡ marked tree)
+IsMade tree (Err NoLibrary) = first_breach tree ≡ None → ⊥
+IsMade tree (Err Memory) = Unit {0}
+
+abbrev pub parse_fault : ParseError → TextError
+parse_fault (parses.Syntax place) = NoLibrary
+parse_fault (parses.Limit which) = NoLibrary
+parse_fault parses.Memory = Memory
+
+abbrev pub check_fault : CheckError → TextError
+check_fault (checks.DuplicateName n) = NoLibrary
+check_fault (checks.DuplicateId n) = NoLibrary
+check_fault (checks.DuplicateGuid g) = NoLibrary
+check_fault (checks.UnknownInterface n) = NoLibrary
+check_fault (checks.GetPutDisagree n) = NoLibrary
+check_fault (checks.ArrayParameter n) = NoLibrary
+check_fault (checks.BadDefault n) = NoLibrary
+check_fault checks.TextTooLong = NoLibrary
+check_fault checks.Memory = Memory

@@ -1,0 +1,14 @@
+//! Which libraries can stand in the place of another, and the library of a text.
+//!
+//! Its contract: `keeps` answers None exactly where a new library keeps what an old one has (`Keeps`), and else
+//! the first thing that is lost; `read_library` makes the library of bytes (`LibraryTexts`).
+//!
+//! What stands on it: oa_fits, oa_server.
+#![tactic(auto)]
+
+pub mod laws;
+mod library_text;
+mod lost;
+
+pub use library_text::{TextError, read_library};
+pub use lost::{Lost, keeps};

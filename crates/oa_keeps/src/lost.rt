@@ -1,0 +1,310 @@
+//! What is lost where a library stands in the place of another.
+ghost use Rattle.std.specs.Prelude.{◌≡◌, ◌↔◌, true, Some, None, slice_get};
+ghost use Rattle.std.specs.List.{filter_map, list_any};
+ghost use Rattle.std.specs.Option.{option_and_then, option_eq, option_map, option_map_or};
+ghost use Rattle.oa_idl.specs.declared.items.Item.TheVariants.{Coclass as AClass};
+ghost use Rattle.oa_checks.specs.Declarations.{declarations};
+ghost use Rattle.oa_typelib.specs.Descriptions.{classes_of, interfaces_of, put_last};
+ghost use Rattle.oa_keeps.specs.Keeps.{Keeps, default_guid, dispid_lost, first_lost, guid_lost, is_kept_by, keeps_class, keeps_default};
+ghost use Rattle.oa_keeps.specs.Keeps.{keeps_entries, keeps_entry, lost_class, lost_declaration, lost_form, lost_interface, lost_member};
+ghost use Rattle.oa_keeps.specs.Keeps.{same_kind};
+ghost use Rattle.oa_checks.specs.Libraries.{as_class, as_interface, class_of, same};
+ghost use Rattle.oa_checks.specs.Repeats.{first_answer};
+
+use oa_checks::{
+    Declaration, DeclarationKind, class_at, is_same_name, same_parameters, same_result,
+};
+use oa_idl::Coclass;
+use oa_typelib::{Dispinterface, Library, form_at};
+use uuid::Uuid;
+
+/// The first thing of an old library that a new one does not keep.
+#[derive(Clone, Copy, Debug, PartialEq, Eq)]
+pub enum Lost {
+    /// The interface with the GUID, as a whole.
+    Interface(Uuid),
+    /// Of the interface with the GUID the member with the DISPID.
+    Member(Uuid, i32),
+    /// The coclass with the GUID, as a whole.
+    Coclass(Uuid),
+}
+
+impl Lost {
+    /// The GUID of the interface or of the coclass.
+    pub fn guid(&self) -> Uuid
+        ensures { result ≡ guid_lost self.now }
+    {
+        match self {
+            Lost::Interface(guid) | Lost::Member(guid, _) | Lost::Coclass(guid) => *guid,
+        }
+    }
+
+    /// The DISPID of the member, -1 (DISPID_UNKNOWN) for an interface or a coclass as a whole. No member has that one.
+    pub fn dispid(&self) -> i32
+        ensures { result ≡ dispid_lost self.now }
+    {
+        match self {
+            Lost::Interface(_) | Lost::Coclass(_) => -1,
+            Lost::Member(_, dispid) => *dispid,
+        }
+    }
+}
+
+fn same_kind(a: DeclarationKind, b: DeclarationKind) -> bool
+    ensures { result ≡ same_kind a b }
+{
+    match (a, b) {
+        (DeclarationKind::Property, DeclarationKind::Property) => true,
+        (DeclarationKind::ReadonlyProperty, DeclarationKind::ReadonlyProperty) => true,
+        (DeclarationKind::Method, DeclarationKind::Method) => true,
+        (DeclarationKind::Get, DeclarationKind::Get) => true,
+        (DeclarationKind::Put, DeclarationKind::Put) => true,
+        _ => false,
+    }
+}
+
+/// Whether a declaration stands for another one.
+#[tactic(auto, unfolding(crate::specs::Keeps::is_kept_by))]
+fn is_kept_by(was: &Declaration<'_>, now: &Declaration<'_>) -> bool
+    ensures { result ≡ is_kept_by was.now now.now }
+{
+    was.id == now.id
+        && same_kind(was.kind, now.kind)
+        && is_same_name(was.name, now.name)
+        && same_result(was.value_type, now.value_type)
+        && same_parameters(was.parameters, now.parameters)
+}
+
+/// Whether one of the declarations at some places stands for a declaration.
+fn any_keeps(now: &Dispinterface<'_>, places: &[usize], was: &Declaration<'_>) -> bool
+    ensures { result ≡ list_any (is_kept_by was.now) (filter_map (slice_get (declarations now.now)) places.now) }
+{
+    let Some((place, places)) = places.split_first() else {
+        return false;
+    };
+    match now.form(*place) {
+        Some(form) => is_kept_by(was, &form.declaration) || any_keeps(now, places, was),
+        None => any_keeps(now, places, was),
+    }
+}
+
+/// The DISPID of a declaration that is not kept.
+fn lost_declaration(now: &Dispinterface<'_>, was: &Declaration<'_>) -> Option<i32>
+    ensures { result ≡ lost_declaration now.now was.now }
+{
+    if any_keeps(now, now.places_with(was.id), was) {
+        None
+    } else {
+        Some(was.id)
+    }
+}
+
+/// The DISPID of the declaration at a place, where it is a put, or where it is not, and is not kept.
+fn lost_form(
+    now: &Dispinterface<'_>,
+    was: &Dispinterface<'_>,
+    place: usize,
+    puts: bool,
+) -> Option<i32>
+    ensures { result ≡ lost_form now.now was.now puts place }
+{
+    let form = form_at(was, place, puts)?;
+    lost_declaration(now, &form.declaration)
+}
+
+/// The first that is lost of the declarations at some places that are puts, or that are not.
+fn lost_at(
+    now: &Dispinterface<'_>,
+    was: &Dispinterface<'_>,
+    places: &[usize],
+    puts: bool,
+) -> Option<i32>
+    ensures { result ≡ first_answer (lost_form now.now was.now puts) places.now }
+{
+    'places: for place in places {
+        let lost = lost_form(now, was, *place, puts);
+        if lost.is_some() {
+            return lost;
+        }
+    }
+    None
+}
+
+/// The first that is lost of the declarations of a member, a get before its put.
+fn lost_of_member(now: &Dispinterface<'_>, was: &Dispinterface<'_>, places: &[usize]) -> Option<i32>
+    ensures { result ≡ first_answer (lost_declaration now.now) (put_last (filter_map (slice_get (declarations was.now)) places.now)) }
+{
+    let lost = lost_at(now, was, places, false);
+    if lost.is_some() {
+        return lost;
+    }
+    lost_at(now, was, places, true)
+}
+
+fn lost_member(now: &Dispinterface<'_>, was: &Dispinterface<'_>) -> Option<i32>
+    ensures { result ≡ lost_member now.now was.now }
+{
+    let groups = was.groups();
+    'members: for places in groups {
+        let lost = lost_of_member(now, was, places.as_slice());
+        if lost.is_some() {
+            return lost;
+        }
+    }
+    None
+}
+
+fn lost_interface(new: &Library, was: &Dispinterface<'_>) -> Option<Lost>
+    ensures { result ≡ lost_interface new.now was.now }
+{
+    let guid = was.interface().guid;
+    let Some(now) = new.interface(&guid) else {
+        return Some(Lost::Interface(guid));
+    };
+    match lost_member(&now, was) {
+        Some(dispid) => Some(Lost::Member(guid, dispid)),
+        None => None,
+    }
+}
+
+/// The first that is lost of an interface, where there is one.
+fn lost_of(new: &Library, was: Option<Dispinterface<'_>>) -> Option<Lost>
+    ensures { result ≡ option_and_then (lost_interface new.now) was.entry }
+{
+    lost_interface(new, &was?)
+}
+
+fn first_interface(new: &Library, old: &Library) -> Option<Lost>
+    ensures { result ≡ first_answer (lost_interface new.now) (interfaces_of old.now.items) }
+{
+    let items = old.items();
+    'items: for place in 0..items.len() {
+        let lost = lost_of(new, old.interface_at(place));
+        if lost.is_some() {
+            return lost;
+        }
+    }
+    None
+}
+
+fn same_guid(a: Option<Uuid>, b: Option<Uuid>) -> bool
+    ensures { result ≡ option_eq same a b }
+{
+    match (a, b) {
+        (None, None) => true,
+        (Some(a), Some(b)) => a == b,
+        _ => false,
+    }
+}
+
+fn guid_of(interface: Option<Dispinterface<'_>>) -> Option<Uuid>
+    ensures { result ≡ option_map (λ i. i.guid) interface.entry }
+{
+    Some(interface?.interface().guid)
+}
+
+/// Whether a coclass has an interface with the GUID of the one at a place, where the old coclass has that.
+fn keeps_entry(
+    new: &Library,
+    old: &Library,
+    place: usize,
+    was: &Coclass,
+    now: &Coclass,
+    at: usize,
+) -> bool
+    requires there { slice_get old.now.items place ≡ Some (AClass was.now) }
+    requires found { class_of new.now was.now.guid ≡ Some now.now }
+    ensures { result ≡ option_map_or (keeps_entry new.now now.now was.now) (option_and_then as_interface (slice_get old.now.items at)) true }
+{
+    match old.entered_at(place, at) {
+        Some(interface) => new
+            .entered(&was.guid, &interface.interface().guid)
+            .is_some(),
+        None => true,
+    }
+}
+
+/// Whether a coclass has an interface with the GUID of each that the old coclass at a place has.
+fn keeps_entries(new: &Library, old: &Library, place: usize, was: &Coclass, now: &Coclass) -> bool
+    requires there { slice_get old.now.items place ≡ Some (AClass was.now) }
+    requires found { class_of new.now was.now.guid ≡ Some now.now }
+    ensures { result ≡ keeps_entries new.now old.now now.now was.now }
+{
+    let items = old.items();
+    'items: for at in 0..items.len() {
+        if !keeps_entry(new, old, place, was, now, at) {
+            return false;
+        }
+    }
+    true
+}
+
+/// The GUID of the default interface of the coclass at a place.
+fn default_before(old: &Library, place: usize) -> Option<Uuid>
+    ensures { result ≡ option_and_then (default_guid old.now.items) (option_and_then as_class (slice_get old.now.items place)) }
+{
+    let default = old.default_at(place)?;
+    guid_of(old.interface_at(default))
+}
+
+/// Whether the default interface of a coclass has the GUID of that of the old coclass at a place.
+fn keeps_default(new: &Library, old: &Library, place: usize, was: &Coclass, now: &Coclass) -> bool
+    requires there { slice_get old.now.items place ≡ Some (AClass was.now) }
+    requires found { class_of new.now was.now.guid ≡ Some now.now }
+    ensures { result ≡ keeps_default new.now old.now now.now was.now }
+{
+    let after = guid_of(new.default_interface(&was.guid));
+    same_guid(default_before(old, place), after)
+}
+
+fn keeps_class(new: &Library, old: &Library, place: usize, was: &Coclass) -> bool
+    requires there { slice_get old.now.items place ≡ Some (AClass was.now) }
+    ensures { result ≡ keeps_class new.now old.now was.now }
+{
+    let Some(now) = new.class(&was.guid) else {
+        return false;
+    };
+    keeps_entries(new, old, place, was, now) && keeps_default(new, old, place, was, now)
+}
+
+/// The coclass at a place, where there is one and it is lost.
+fn lost_class(new: &Library, old: &Library, place: usize) -> Option<Lost>
+    ensures { result ≡ option_and_then (lost_class new.now old.now) (option_and_then as_class (slice_get old.now.items place)) }
+{
+    let was = class_at(old.items(), place)?;
+    if keeps_class(new, old, place, was) {
+        None
+    } else {
+        Some(Lost::Coclass(was.guid))
+    }
+}
+
+fn first_class(new: &Library, old: &Library) -> Option<Lost>
+    ensures { result ≡ first_answer (lost_class new.now old.now) (classes_of old.now.items) }
+{
+    let items = old.items();
+    'items: for place in 0..items.len() {
+        let lost = lost_class(new, old, place);
+        if lost.is_some() {
+            return lost;
+        }
+    }
+    None
+}
+
+/// What is lost first where a new library stands in the place of an old one; None where it keeps all. It keeps an interface where it has one
+/// with its GUID that declares all that the old one declares, each with its name (A to Z folded), DISPID, kind, type and parameters, and a
+/// coclass where it has one with its GUID, all of its interfaces and its default one; it may have more. The old interfaces come first, in
+/// the text's order, each with its members in the order in which their names first stand, a get before its put, and then the coclasses.
+/// Takes no memory.
+pub fn keeps(new: &Library, old: &Library) -> Option<Lost>
+    ensures exactly { (result ≡ None) ↔ Keeps new.now old.now }
+    ensures first { result ≡ first_lost new.now old.now }
+{
+    new.is_checked();
+    let lost = first_interface(new, old);
+    if lost.is_some() {
+        return lost;
+    }
+    first_class(new, old)
+}

@@ -1,6 +1,0 @@
-use Rattle.std.proofs.Common.{◌≡◌, ◌∷◌, map, take}
-use Rattle.oa_typelib.specs.Libraries.{guid_of}
-use Rattle.oa_typelib.proofs.checks.all_guids.Given as goal
-
-abbrev pub invariant-loop-item : goal.invariant-loop-item
-invariant-loop-item l = l.guids.items ≡ l.fn.library ∷ map guid_of (take l.item-index l.items)

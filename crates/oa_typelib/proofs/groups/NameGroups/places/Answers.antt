@@ -1,0 +1,14 @@
+use Rattle.std.proofs.Common.{ℕ, Some, None, ◌∙◌, Vec, Global}
+use Rattle.oa_checks.specs.Libraries.{same}
+use Rattle.oa_typelib.proofs.Entries.{found_places}
+use Rattle.oa_typelib.proofs.groups.NameGroups.places.Goals as goal
+
+pub returns-in-Some : goal.returns-in-Some
+returns-in-Some c =
+    rw (← c.self.view_is)
+    (c.as_slice.ensures.value ∙ found_places (λ (k : Vec ℕ Global). k.items) same (λ (ps : Vec ℕ Global). ps.items) c.self.inside.groups.entries c.args.name.now (Some c.in-Some.places.now) c.in-Some.ensures.value)
+
+pub returns-in-None : goal.returns-in-None
+returns-in-None c =
+    rw (← c.self.view_is)
+    (found_places (λ (k : Vec ℕ Global). k.items) same (λ (ps : Vec ℕ Global). ps.items) c.self.inside.groups.entries c.args.name.now None c.in-None.ensures.value)

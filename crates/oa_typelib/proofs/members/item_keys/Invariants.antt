@@ -1,6 +1,0 @@
-use Rattle.std.proofs.Common.{◌≡◌, map, take}
-use Rattle.oa_typelib.specs.Indexes.{folded_names}
-use Rattle.oa_typelib.proofs.members.item_keys.Given as goal
-
-abbrev pub invariant-loop-item : goal.invariant-loop-item
-invariant-loop-item l = map (λ k. k.items) l.keys.items ≡ folded_names (take l.item-index l.items)

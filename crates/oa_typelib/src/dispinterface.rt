@@ -1,0 +1,172 @@
+//! An interface of a library, and what a call asks of it.
+ghost use Rattle.std.specs.Prelude.{◌≡◌, true, IfOk, IfSome, map, slice_get};
+ghost use Rattle.std.specs.List.{filter, filter_map};
+ghost use Rattle.std.specs.Option.{option_map};
+ghost use Rattle.oa_model.specs.Folding.{folded_name};
+ghost use Rattle.oa_checks.specs.Declarations.{declarations};
+ghost use Rattle.oa_checks.specs.Libraries.{same};
+ghost use Rattle.oa_typelib.specs.Bindable.{AreSound, IsBindable};
+ghost use Rattle.oa_typelib.specs.Indexes.{grouped};
+ghost use Rattle.oa_typelib.specs.Members.{forms_with, has_form, member_in, property_in};
+ghost use Rattle.oa_typelib.specs.Names.{names_told};
+ghost use Rattle.oa_typelib.specs.Typed.{IsDeclarable};
+
+use crate::access::{Access, Kind, MemberFault};
+use crate::forms::{Form, Forms, declaration_at};
+use crate::member::{Member, find, property};
+use crate::members::Members;
+use crate::names::{DispIds, named_in, told};
+use oa_checks::{DeclarationKind, at};
+use oa_idl::Interface;
+use std::alloc::{AllocError, Global};
+use std::marker::Model;
+
+/// An interface of a library with its members, so that no call looks its GUID up again.
+#[derive(Drop)]
+pub struct Dispinterface<'a> {
+    alloc: Global,
+    interface: &'a Interface,
+    members: &'a Members,
+}
+
+impl<'a> Model for Dispinterface<'a> {
+    ghost use Rattle.std.specs.Prelude.{◌≡◌};
+    ghost use Rattle.oa_idl.specs.Values.{InterfaceValue};
+    ghost use Rattle.oa_typelib.specs.Bindable.{AreSound};
+    ghost use Rattle.oa_checks.specs.Declarations.{declarations};
+    ghost use Rattle.oa_typelib.specs.Indexes.{grouped};
+
+    ghost Value = { InterfaceValue };
+
+    ghost view = { λ i. i.interface.now };
+
+    ghost invariant = { λ i. (i.members.now ≡ grouped (declarations i.interface.now)) × AreSound (declarations i.interface.now) };
+}
+
+impl<'a> Dispinterface<'a> {
+    pub(crate) fn of(
+        alloc: Global,
+        interface: &'a Interface,
+        members: &'a Members,
+    ) -> Dispinterface<'a>
+        requires indexed { members.now ≡ grouped (declarations interface.now) }
+        requires sound { AreSound (declarations interface.now) }
+        ensures { result ≡ interface.now }
+    {
+        Dispinterface {
+            alloc,
+            interface,
+            members,
+        }
+    }
+
+    /// What the tree says of it.
+    pub fn interface(&self) -> &'a Interface
+        ensures { result.now ≡ self.now }
+    {
+        self.interface
+    }
+
+    // What is true of each interface of a library: a call can be bound to each of its properties.
+    fn is_sound(&self)
+        ensures { AreSound (declarations self.now) }
+    {
+        let _interface = self.interface;
+    }
+
+    /// The declaration at a place.
+    pub fn form(&self, place: usize) -> Option<Form<'a>>
+        ensures { result ≡ slice_get (declarations self.now) place }
+    {
+        let interface: &'a Interface = self.interface;
+        let members: &'a Members = self.members;
+        let declaration = declaration_at(interface, place)?;
+        let defaults = at(members.defaults.as_slice(), place)?;
+        Some(Form::of(declaration, defaults.as_slice()))
+    }
+
+    /// What the declaration at a place declares.
+    pub(crate) fn kind_at(&self, place: usize) -> Option<DeclarationKind>
+        ensures { result ≡ option_map (λ d. d.kind) (slice_get (declarations self.now) place) }
+    {
+        let declaration = declaration_at(self.interface, place)?;
+        Some(declaration.kind)
+    }
+
+    /// The same interface again.
+    fn again(&self) -> Dispinterface<'a>
+        ensures { result ≡ self.now }
+    {
+        Dispinterface {
+            alloc: self.alloc,
+            interface: self.interface,
+            members: self.members,
+        }
+    }
+
+    /// The declarations with a DISPID.
+    pub(crate) fn forms_with(&self, id: i32) -> Forms<'a>
+        ensures { result ≡ forms_with id self.now }
+    {
+        let members: &'a Members = self.members;
+        Forms::at(self.again(), members.by_id.places(id))
+    }
+
+    /// The places of the declarations with a DISPID.
+    pub fn places_with(&self, id: i32) -> &'a [usize]
+        ensures { filter_map (slice_get (declarations self.now)) result.now ≡ forms_with id self.now }
+    {
+        let members: &'a Members = self.members;
+        members.by_id.places(id)
+    }
+
+    /// The declarations with a name, which is folded.
+    pub(crate) fn forms_named(&self, name: &[u16]) -> Forms<'a>
+        ensures { result ≡ filter (λ d. same name.now (folded_name d.name)) (declarations self.now) }
+    {
+        let members: &'a Members = self.members;
+        Forms::at(self.again(), members.by_name.places(name))
+    }
+
+    /// The places of the declarations of each member, in the order in which their names first stand.
+    pub fn groups(&self) -> &'a [Vec<usize>]
+        ensures { map (λ ps. ps.items) result.now ≡ (grouped (declarations self.now)).by_name.places }
+    {
+        let members: &'a Members = self.members;
+        members.by_name.groups()
+    }
+
+    /// The member with a DISPID, and the form of it that a call asks for. MemberNotFound where there is no such member, where the flags ask
+    /// for no form, and where the member has not the form, as a put of a readonly property. A method is NotImplemented where METHOD is set
+    /// and PROPERTYPUT is not, and else MemberNotFound. A call can be bound to a member that is found: it has at most 16 parameters, all
+    /// scalars, whose defaults are values of their types, and its type is a scalar type or that of an array which there is.
+    pub fn member(&self, id: i32, access: Access) -> Result<(Member<'a>, Kind), MemberFault>
+        ensures found { result ≡ member_in self.now id access }
+        ensures typed { IfOk result (λ found. IsDeclarable found.0.value_type) }
+        ensures bindable { IfOk result (λ found. IsBindable found.0) }
+        ensures formed { IfOk result (λ found. has_form found.0 found.1 ≡ true) }
+    {
+        self.is_sound();
+        find(&self.forms_with(id), access)
+    }
+
+    /// The property with a DISPID, whatever form of it a call would ask for. None where there is no such member, and where it is a method.
+    pub fn property(&self, id: i32) -> Option<Member<'a>>
+        ensures found { result ≡ property_in self.now id }
+        ensures bindable { IfSome result IsBindable }
+    {
+        self.is_sound();
+        property(&self.forms_with(id))
+    }
+
+    /// The DISPIDs of names, in UTF-16 units (MS-OAUT section 3.1.4.3): the first name is that of a member, the others are names of its
+    /// parameters, a put's new value not among them. The DISPID of a parameter is its place from 0. A name is equal to a declared one where
+    /// both are equal once A to Z are folded; no other characters are. A name that is not known has -1; where the member is not known, none
+    /// is. Err where memory is refused.
+    pub fn dispid(&self, names: &[Vec<u16>]) -> Result<DispIds, AllocError>
+        ensures { IfOk result (λ found. found ≡ names_told self.now (map (λ n. n.items) names.now)) }
+    {
+        let ids = named_in(self.alloc, self, names)?;
+        told(self.alloc, ids.as_slice())
+    }
+}

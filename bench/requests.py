@@ -4,8 +4,8 @@
     python3 bench/requests.py [PROGRAM [LINES]]      PROGRAM is crates/oaut/out/oaut where none is given
 
 The first thousand lines are creates, the others puts and gets of a long property in turn. Prints requests a second, the peak resident
-memory of the program, and the same for a file four times as long, which needs no more memory. Then puts and gets of texts of 1 KiB and
-of 256 KiB in turn, of an array of 65,536 I4 and of one of 4,096 texts: megabytes of hexadecimal digits read and written a second, beside
+memory of the program, and the same for a file four times as long, which needs no more memory. Then puts and gets of texts of 1 KiB
+and of 1 MiB in turn, of an array of 65,536 I4 and of one of 4,096 texts: megabytes of hexadecimal digits read and written a second, beside
 `cat` from and to files of the same length. Then an array of 65,536 cells kept in each of many objects, for cells of one, four and eight
 bytes on the wire: the memory that a cell takes, which is the peak above that of the same session with arrays of one cell, divided by the
 cells. Then puts and gets through the first and the last of the 256 interfaces of a coclass: the last takes at most 1.5 times as long as
@@ -167,7 +167,7 @@ with tempfile.TemporaryDirectory() as room:
     names = [f"text {n}".encode("utf-16-le") for n in range(4_096)]
     for name, dispid, value in (
         ("texts of 1 KiB", ANY, wire.scalar(wire.BSTR, b"a\0" * 512)),
-        ("texts of 256 KiB", ANY, wire.scalar(wire.BSTR, b"a\0" * (1 << 17))),
+        ("texts of 1 MiB", ANY, wire.scalar(wire.BSTR, b"a\0" * (1 << 19))),
         ("arrays of 65,536 I4", LONGS, wire.array(wire.I4, [(65_536, 0)], range(65_536))),
         ("arrays of 4,096 texts", NAMES, wire.array(wire.BSTR, [(4_096, 0)], names)),
     ):

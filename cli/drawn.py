@@ -184,7 +184,7 @@ class Large(Session):
     """Requests with long texts, until the objects are as large as they may be."""
 
     def text(self):
-        return BSTR, b"n" * self.dice.choice([262_144, 262_144, 262_144, 262_144, self.dice.randrange(262_145), 0])
+        return BSTR, b"n" * self.dice.choice([1_048_576, 1_048_576, 1_048_576, 1_048_576, self.dice.randrange(1_048_577), 0])
 
     def request(self):
         dice, model = self.dice, self.model

@@ -36,7 +36,7 @@ from preloaded import StoreFile, fast_folder, read, spawned
 from running import PROGRAM, fault, fill, rows_of, run_in, text_of
 from test_random import replies_of
 
-NUMBERS = (0, 1, 2, 3, 7, 8, 16, 17, 32, 33, 255, 256, 65_535, 65_536, 65_537, 262_144, 262_145, 2**31 - 1, 2**31, 2**32 - 2, 2**32 - 1)
+NUMBERS = (0, 1, 2, 3, 7, 8, 16, 17, 32, 33, 255, 256, 65_535, 65_536, 65_537, 1_048_576, 1_048_577, 2**31 - 1, 2**31, 2**32 - 2, 2**32 - 1)
 
 
 class Dice(random.Random):

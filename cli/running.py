@@ -123,6 +123,11 @@ class Talk:
             got += sign
         return got
 
+    def peak(self):
+        """The most memory that the session has had so far, in KiB."""
+        with open(f"/proc/{self.process.pid}/status", encoding="ascii") as file:
+            return next(int(line.split()[1]) for line in file if line.startswith("VmHWM:"))
+
     def status(self):
         try:
             return self.process.wait(TIMEOUT)

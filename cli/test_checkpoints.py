@@ -11,8 +11,8 @@ from commits import COMMIT
 from running import FULL, FULL_TEXT, fill, run_in
 from stores import BODY_1, CLASS, CREATED_1, FACE, Served, get, got, text_put, words
 
-LONGEST = bytes(262_144)
-nearly = store.add(store.formatted(FULL_TEXT), CREATED_1, *[text_put(LONGEST)[0]] * 61)
+LONGEST = bytes(1_048_576)
+nearly = store.add(store.formatted(FULL_TEXT), CREATED_1, *[text_put(LONGEST)[0]] * 15)
 # a room of 4,718,597 bytes, for which no checkpoint is due, and one of less
 fills = text_put(bytes(store.room(store.read(nearly)) - 4_718_597 - 38))[0]
 at_limit, due = store.add(bytearray(nearly), fills), store.add(bytearray(nearly), fills + text_put(b"")[0])
@@ -33,7 +33,7 @@ class Checkpoints(Served):
 
     def test_banks_of_another_size(self):
         # where it is due depends on the room alone, and where the other bank stands on the size
-        disk = store.add(store.formatted(FULL_TEXT, 20_975_616), CREATED_1, *[text_put(LONGEST)[0]] * 61, text_put(bytes(262_000))[0], text_put(bytes(2_000))[0])
+        disk = store.add(store.formatted(FULL_TEXT, 20_975_616), CREATED_1, *[text_put(LONGEST)[0]] * 15, text_put(bytes(525_892))[0], text_put(bytes(2_000))[0])
         self.tell("serve: a checkpoint is due in banks of another size", store.room(store.read(disk)) < 4_718_597, store.room(store.read(disk)))
         with tempfile.TemporaryDirectory() as room:
             fill(room, {"lib.idl": FULL, "it.store": bytes(disk)})
@@ -78,11 +78,11 @@ class CheckpointCalls(Served):
         each_fails(words("--hex", "--group", "3"), files, checkpoint_killed, "signal=KILL", given=asked)
 
     def test_the_largest_checkpoint(self):
-        # a table of 15,728,640 bytes in a bank whose library has 279: 59 cells of texts, each of 28 bytes and a text, in one object
-        texts = [262_144] * 59
-        texts.append(15_728_640 - 8 - 24 - 28 * 60 - sum(texts))
+        # a table of 15,728,640 bytes in a bank whose library has 279: 15 cells of texts, each of 28 bytes and a text, in one object
+        texts = [1_048_576] * 14
+        texts.append(15_728_640 - 8 - 24 - 28 * 15 - sum(texts))
         cells = {(FACE, dispid, ()): (wire.BSTR, struct.pack("<I", length) + bytes(length)) for dispid, length in enumerate(texts, 1)}
-        properties = "".join(f"[id({dispid})] BSTR T{dispid}; " for dispid in range(1, 61))
+        properties = "".join(f"[id({dispid})] BSTR T{dispid}; " for dispid in range(1, 16))
         library = b"[uuid(11223344-5566-7788-99aa-bbccddeeff01)] library D { [uuid(11223344-5566-7788-99aa-bbccddeeff02)] dispinterface F { properties: %s methods: } [uuid(11223344-5566-7788-99aa-bbccddeeff03)] coclass C { [default] dispinterface F; } }" % properties.encode()
         with tempfile.TemporaryDirectory() as room:
             fill(room, {"lib.idl": library})
@@ -90,12 +90,12 @@ class CheckpointCalls(Served):
             image = store.table_image(2, {1: (CLASS, cells)})
             disk = store.laid(store.formatted(text), 2, 0, text, image, store.BANK)
             # one group that fills the bank as far as a checkpoint is due
-            filler = b"\3" + struct.pack("<I", 1) + FACE + struct.pack("<iHHI", 1, 0, 8, 262_144) + bytes(262_144)
+            filler = b"\3" + struct.pack("<I", 1) + FACE + struct.pack("<iHHI", 1, 0, 8, 1_048_576) + bytes(1_048_576)
             while store.room(store.read(disk)) >= 4_718_597:
                 store.add(disk, filler)
             self.tell("serve: the image of a table of 15,728,640 bytes", len(image) == 15_728_640)
             fill(room, {"it.store": bytes(disk)})
-            asked = wire.put(1, 1, 1, wire.scalar(wire.BSTR, bytes(262_144)))
+            asked = wire.put(1, 1, 1, wire.scalar(wire.BSTR, bytes(1_048_576)))
             calls = Calls(room, words("--hex"), given=asked)
             made = [it for it in calls.does() if it != OUT]
             opening = next(place for place, it in enumerate(made) if it[0] == "write")

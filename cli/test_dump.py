@@ -133,14 +133,14 @@ class Dump(Dumped):
         self.dumps("an element and bounds that change, and an object that goes", store.add(many, element, redim + release), 0, "next 3\nobject 2 %s\n%s" % (store.guid_text(CLASS), lines.replace(GRID, GRID_LATER)))
 
     def test_a_bank_that_is_full(self):
-        # a front of 287 bytes, a group of 26, 79 of 262,182 and one of 258,828: the closed gate is the body's last byte
-        full_bank = store.add(store.formatted(SMALL_TEXT), CREATED_1, *[put_text(262_144)] * 79, put_text(258_790))
+        # a front of 287 bytes, a group of 26, 19 of 1,048,614 and one of 1,047,540: the closed gate is the body's last byte
+        full_bank = store.add(store.formatted(SMALL_TEXT), CREATED_1, *[put_text(1_048_576)] * 19, put_text(1_047_502))
         self.tell("a bank that is full has a room of 1", store.room(store.read(full_bank)) == 1)
-        self.dumps("a bank that is full up to its last byte", full_bank, 0, "next 2\nobject 1 %s\ncell %s 2 - %s\n" % (store.guid_text(CLASS), store.guid_text(FACE), text_image(b"A" * 258_790).hex()))
+        self.dumps("a bank that is full up to its last byte", full_bank, 0, "next 2\nobject 1 %s\ncell %s 2 - %s\n" % (store.guid_text(CLASS), store.guid_text(FACE), text_image(b"A" * 1_047_502).hex()))
         # the same in format 1, whose front is as long and whose body has 16,777,184 bytes
-        full_bank = store.add(store.formatted_before(SMALL_TEXT), CREATED_1, *[put_text(262_144)] * 63, put_text(259_366))
+        full_bank = store.add(store.formatted_before(SMALL_TEXT), CREATED_1, *[put_text(1_048_576)] * 15, put_text(1_047_622))
         self.tell("a bank of format 1 that is full has a room of 1", store.room(store.read(full_bank)) == 1)
-        self.dumps("a bank of format 1 that is full up to its last byte", full_bank, 0, "next 2\nobject 1 %s\ncell %s 2 - %s\n" % (store.guid_text(CLASS), store.guid_text(FACE), text_image(b"A" * 259_366).hex()))
+        self.dumps("a bank of format 1 that is full up to its last byte", full_bank, 0, "next 2\nobject 1 %s\ncell %s 2 - %s\n" % (store.guid_text(CLASS), store.guid_text(FACE), text_image(b"A" * 1_047_622).hex()))
 
     def is_refused(self, name, disk, text):
         self.dumps(f"{name} is {text}", disk, 3, "", fault(text))

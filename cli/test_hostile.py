@@ -39,12 +39,6 @@ def done(body):
     return body[:4] + struct.pack("<III", 0, oaut.NO_INDEX, 0)
 
 
-def peak(session):
-    """The most memory that a session has had so far, in KiB."""
-    with open(f"/proc/{session.process.pid}/status", encoding="ascii") as file:
-        return next(int(line.split()[1]) for line in file if line.startswith("VmHWM:"))
-
-
 def text(content):
     return scalar(BSTR, content)
 
@@ -158,13 +152,13 @@ class Records(Cases):
             session.send(oaut.Raw.pack(tagged([oaut.ask_create(worked.ITEM)])))
             session.bytes(28)
             session.send(asked)
-            begins = session.bytes(len(due)) == due, peak(session)
+            begins = session.bytes(len(due)) == due, session.peak()
             times = 60
             well = True
             for _ in range(times):
                 session.send(asked)
                 well = well and session.bytes(len(due)) == due
-            more = peak(session) - begins[1]
+            more = session.peak() - begins[1]
             self.tell(f"{times * len(bodies)} claims take no more memory than {len(bodies)}", (begins[0], well, more <= 64) == (True, True, True), (begins, well, more))
 
 

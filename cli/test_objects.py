@@ -10,19 +10,19 @@ from turns import creates, gets, i4, lists, of, puts, puts_of, releases
 
 # the DISPIDs of examples/full.idl
 COUNT_ID, NAME_ID = 1, 2
-WHOLE_TEXT = 262_144
+WHOLE_TEXT = 1_048_576
 
 
 def name_of(length):
     return wire.scalar(wire.BSTR, b"n" * length)
 
 
-# the image of a table has 8 bytes, 24 an object and 28 and its bytes a name. 59 objects with the longest name and one without: 15,469,596
-TABLE_LIMIT, FULL_NAMES = 15_728_640, 59
+# the image of a table has 8 bytes, 24 an object and 28 and its bytes a name. 14 objects with the longest name and one without: 14,680,824
+TABLE_LIMIT, FULL_NAMES = 15_728_640, 14
 NEARLY_FULL = [creates(number) for number in range(2, FULL_NAMES + 2)] + [puts_of(number, NAME_ID, name_of(WHOLE_TEXT)) for number in range(1, FULL_NAMES + 1)]
 LAST, NEXT = FULL_NAMES + 1, FULL_NAMES + 2
 # the longest name of the last object then
-FITS = 259_016
+FITS = 1_047_788
 BIG = library_with(
     interface(
         b"2",
@@ -107,5 +107,5 @@ class Limits(Played):
             self.tell("and at its own limit", run_in(room, ["serve", "it.store", "lib.idl", "--hex"], given=refused[0](1)) == (0, refused[1](1), b""))
 
     def test_the_event_of_a_put_at_its_limit(self):
-        self.talk("the put of an event at its limit", BIG, [puts(1, four_texts(182_083)), gets(1, four_texts(182_083))])
-        self.talk("the put of an event above its limit", BIG, [puts(1, four_texts(182_084), E_INVALIDARG), gets(1, wire.zero_array(wire.BSTR))])
+        self.talk("the put of an event at its limit", BIG, [puts(1, four_texts(968_515)), gets(1, four_texts(968_515))])
+        self.talk("the put of an event above its limit", BIG, [puts(1, four_texts(968_516), E_INVALIDARG), gets(1, wire.zero_array(wire.BSTR))])

@@ -8,7 +8,7 @@ from playing import Played
 from running import CREATE, CREATED, FULL, REPLIES, REQUESTS, SMALL, Talk, run, within
 
 STUB = b"00000000" + b"f7060780" + b"ffffffff" + b"00000000"
-LINE_LIMIT, BODY_LIMIT = 2_097_152, 1_048_576
+LINE_LIMIT, BODY_LIMIT = 8_388_608, 4_194_304
 
 
 def record(body):
@@ -62,6 +62,14 @@ class Lines(Played):
             if done[0] != 0:
                 break
         self.tell("memory refused", done == (5, b"", b"oaut: out of memory\n"), done)
+
+    def test_what_a_session_of_short_requests_takes(self):
+        # the buffers of a line and of a body are reserved whole, and no more of them is touched than the longest that comes
+        for words, asked, answered in ((("--hex",), REQUESTS, REPLIES), ((), records(REQUESTS), records(REPLIES))):
+            with Talk(SMALL, words=words) as session:
+                session.send(asked)
+                answer = session.bytes(len(answered))
+                self.tell(f"short requests {words} take 5 MiB at most", (answer, session.peak() <= 5_120) == (answered, True), session.peak())
 
     def test_replies_come_before_the_next_request(self):
         with Talk(SMALL) as session:

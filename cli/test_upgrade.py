@@ -48,7 +48,7 @@ class Upgrade(Cases):
         self.upgrades("a file that is longer than that", OLD + b"\xab" * 42_000_000, store.upgraded(OLD + b"\xab" * 42_000_000))
         self.upgrades("a file that is somewhat longer than before", OLD + b"\xab" * 1_000, store.upgraded(OLD + b"\xab" * 1_000))
         self.upgrades("a store without objects", store.formatted_before(SMALL_TEXT), store.upgraded(store.formatted_before(SMALL_TEXT)))
-        long = store.add(store.formatted_before(FULL_TEXT), CREATED_1, *[b"\3" + struct.pack("<I", 1) + FACE + struct.pack("<iHHI", 2, 0, 8, 262_144) + bytes([it]) * 262_144 for it in range(60)])
+        long = store.add(store.formatted_before(FULL_TEXT), CREATED_1, *[b"\3" + struct.pack("<I", 1) + FACE + struct.pack("<iHHI", 2, 0, 8, 1_048_576) + bytes([it]) * 1_048_576 for it in range(15)])
         self.upgrades("groups of 15 MB, of which one text is left", long, store.upgraded(long))
 
     def test_what_is_there_afterwards(self):

@@ -9,7 +9,7 @@ from texts import coclass, interface, library_with
 from turns import FOUR, HALF, HI, NO_VALUE, bstr, calls, gets, i2, i4, puts
 
 LARGEST_DECIMAL = bytes.fromhex("05000000000000000e000000000000000e0000000000000000001c00ffffffffffffffffffffffff")
-LONGEST = bytes(range(256)) * 1_024
+LONGEST = bytes(range(256)) * 4_096
 
 # Of each type: its word, the zero that a property of it reads first, and values that are put and read back. A pair is read back as its second.
 ROWS = [

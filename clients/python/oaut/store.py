@@ -25,7 +25,7 @@ ARRAY = 0x2000
 NUMBERS = {I1: "b", UI1: "B", I2: "h", UI2: "H", I4: "i", UI4: "I", INT: "i", UINT: "I", I8: "q", UI8: "Q", CY: "q", ERROR: "I"}
 SIZES = {EMPTY: 0, NULL: 0, BOOL: 1, DECIMAL: 14, **{vt: struct.calcsize(form) for vt, form in NUMBERS.items()}}
 OF_ARRAYS = {I1, UI1, I2, UI2, I4, UI4, INT, UINT, I8, UI8, CY, BOOL, BSTR, VARIANT}
-NO_TEXT, TEXT_LIMIT, CELL_LIMIT, USED_UP = 0xFFFF_FFFF, 262_144, 65_536, 0xFFFF_FFFF
+NO_TEXT, TEXT_LIMIT, CELL_LIMIT, USED_UP = 0xFFFF_FFFF, 1_048_576, 65_536, 0xFFFF_FFFF
 
 
 # bytes, however they are held

@@ -8,7 +8,7 @@ import operator
 import struct
 import typing
 
-TEXT_LIMIT = 262_144
+TEXT_LIMIT = 1_048_576
 CELL_LIMIT = 65_536
 
 

@@ -21,7 +21,7 @@ use std::cmp::Ordering;
 use std::fmt;
 use std::marker::Model;
 
-/// A BSTR: null, or a text of at most 262,144 bytes. Null and the empty text are two values.
+/// A BSTR: null, or a text of at most `MAX_TEXT_BYTES`. Null and the empty text are two values.
 ///
 /// A text has a raw block of its own, as MS-OAUT 2.2.23 lays it out: a 32-bit little-endian count of the bytes,
 /// the bytes, and a 16-bit zero. The block is freed with the `Bstr`, in one step.
@@ -47,7 +47,7 @@ impl Bstr {
 
     /// A text of these bytes, in a block of its own.
     ///
-    /// `TooLong` exactly where there are more than 262,144 bytes, and then no memory was asked for;
+    /// `TooLong` exactly where there are more than `MAX_TEXT_BYTES`, and then no memory was asked for;
     /// `Memory` where there is no block for the text.
     pub fn from_bytes(alloc: Global, bytes: &[u8]) -> Result<Bstr, BstrError>
         ensures value { IfOk result (λ b. b ≡ Some bytes.now) }
@@ -67,7 +67,7 @@ impl Bstr {
         self.row.is_none()
     }
 
-    /// How many bytes the text has: 0 for null. At most 262,144.
+    /// How many bytes the text has: 0 for null. At most `MAX_TEXT_BYTES`.
     pub fn byte_len(&self) -> u32
         ensures count { result ≡ length (bytes_of self.now) }
         ensures short { result ≤ max_text_bytes }
@@ -78,7 +78,7 @@ impl Bstr {
         }
     }
 
-    /// The bytes of the text: none for null. At most 262,144.
+    /// The bytes of the text: none for null. At most `MAX_TEXT_BYTES`.
     pub fn as_bytes(&self) -> &[u8]
         ensures bytes { result.now ≡ bytes_of self.now }
         ensures short { length result.now ≤ max_text_bytes }

@@ -11,8 +11,8 @@ pub enum BstrError {
     /// The allocator had no block for it.
     #[error("out of memory")]
     Memory,
-    /// The text has more than 262,144 bytes.
-    #[error("a text of more than 262144 bytes")]
+    /// The text has more than `MAX_TEXT_BYTES`.
+    #[error("a text of more than 1048576 bytes")]
     TooLong,
 }
 

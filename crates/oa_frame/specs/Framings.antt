@@ -121,11 +121,11 @@ Hands (read.Body n) old new = Writes old new []
 Hands (read.Ends why) old new = Writes old new []
 Hands read.Unwritten old new = Breaks old new []
 
--- a body has at most 1,048,576 bytes
-abbrev pub IsWithin : Read → Type 0
-IsWithin (read.Body n) = n ≤ max_request_bytes
-IsWithin (read.Ends why) = ⊤
-IsWithin read.Unwritten = ⊤
+-- the buffer holds the body
+abbrev pub IsWithin : Read → List ℕ → Type 0
+IsWithin (read.Body n) buffer = n ≤ length buffer
+IsWithin (read.Ends why) buffer = ⊤
+IsWithin read.Unwritten buffer = ⊤
 
 abbrev pub is_read_fault : End → Bool
 is_read_fault end.Closed = false

@@ -174,7 +174,7 @@ IsSound requests Between = ⊤
 IsSound requests (At why) = why ≡ ReadFault → requests ≡ max_records
 IsSound requests (Undone body) = ⊤
 
--- How often the reader was called: for each body that was read, 4,194,304 times at most, and so often after the last of them.
+-- How often the reader was called: for each body that was read, no more often than the limit, and so often after the last of them.
 pub record Calls (requests over : ℕ) (old new : Input) : Type 0 where
   pub each : List ℕ
   pub one_each : length each ≡ requests

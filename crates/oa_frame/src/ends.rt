@@ -7,11 +7,11 @@ pub enum End {
     Closed,
     /// The input ended inside a record.
     Cut,
-    /// A line has more than 2,097,152 characters, or a record's length is above 1,048,576.
+    /// A line has more than `MAX_LINE_CHARACTERS`, or a record's length is above `MAX_REQUEST_BYTES`.
     TooLong,
     /// The line of this number, counted from 1, is the digits of no bytes.
     BadHex(u64),
-    /// The reader failed, or was called 4,194,304 times for one body; or 18,446,744,073,709,551,615 bodies were answered.
+    /// The reader failed, or was called `MAX_READ_CALLS` times for one body; or 18,446,744,073,709,551,615 bodies were answered.
     ReadFault,
     /// The writer failed.
     WriteFault,

@@ -1,5 +1,5 @@
 //! How bodies stand in bytes.
-ghost use Rattle.std.specs.Prelude.{◌≡◌, ◌+◌, ◌≤◌, false, length, vec_capacity};
+ghost use Rattle.std.specs.Prelude.{◌≡◌, ◌+◌, ◌≤◌, false, vec_capacity};
 ghost use Rattle.oa_model.specs.Limits.{max_request_bytes, max_line_characters};
 ghost use Rattle.oa_stream.specs.Ahead.{ahead};
 ghost use Rattle.oa_frame.specs.Framings.{Hands, Inputs, IsWithin, frames, is_fault};
@@ -33,24 +33,24 @@ pub enum Read {
 /// Reads the body with this number, counted from 1, into the start of `body`, and takes nothing past it.
 ///
 /// Where all of it was read ahead, neither reader nor writer is called. Else what the writer keeps back is handed on before the first of
-/// its bytes is taken, and the reader is called at most 4,194,304 times. Takes no memory: `line` has room for the longest line, which the
-/// records' framing leaves alone.
+/// its bytes is taken, and the reader is called at most `MAX_READ_CALLS` times. Takes no memory: `line` has room for the longest line, which the
+/// records' framing leaves alone, and `body` for the longest body. `body` gets no longer than the longest that came.
 pub fn read_body<R: Source + Drop, W: Sink>(
     framing: Framing,
     reader: &mut Ahead<R>,
     writer: &mut W,
     line: &mut Vec<u8>,
-    body: &mut [u8],
+    body: &mut Vec<u8>,
     number: u64,
 ) -> Read
     requires room { max_line_characters + 1 ≤ vec_capacity line.now }
-    requires buffer { length body.now ≡ max_request_bytes }
+    requires buffer { max_request_bytes ≤ vec_capacity body.now }
     requires unbroken { (ahead R.input reader.old).faulted ≡ false }
     requires unbroken_writer { (W.out writer.old).broken ≡ false }
     ensures capacity { vec_capacity line.old ≤ vec_capacity line.new }
-    ensures len { length body.new ≡ max_request_bytes }
-    ensures within { IsWithin result }
-    ensures input { Inputs (frames framing) result number body.new (ahead R.input reader.old).left (ahead R.input reader.new).left }
+    ensures buffer { vec_capacity body.old ≤ vec_capacity body.new }
+    ensures within { IsWithin result body.new.items }
+    ensures input { Inputs (frames framing) result number body.new.items (ahead R.input reader.old).left (ahead R.input reader.new).left }
     ensures paced { Paced (is_fault result) (ahead R.input reader.old) (ahead R.input reader.new) }
     ensures output { Hands result (W.out writer.old) (W.out writer.new) }
 {

@@ -9,6 +9,7 @@ ghost use Rattle.oa_frame.specs.Lines.{DecodesLine, without_return};
 ghost use Rattle.oa_frame.specs.Framings.{Hands, Inputs, IsWithin, hex_lines, is_fault};
 ghost use Rattle.oa_frame.specs.Paces.{Paced};
 
+use crate::buffer::lengthen;
 use crate::lines::{Found, LINE_LIMIT, read_line};
 use crate::{End, Read};
 use memchr::memchr;
@@ -22,17 +23,17 @@ pub(crate) fn read_hex<R: Source + Drop, W: Sink>(
     reader: &mut Ahead<R>,
     writer: &mut W,
     line: &mut Vec<u8>,
-    body: &mut [u8],
+    body: &mut Vec<u8>,
     number: u64,
 ) -> Read
     requires room { max_line_characters + 1 ≤ vec_capacity line.now }
-    requires buffer { length body.now ≡ max_request_bytes }
+    requires buffer { max_request_bytes ≤ vec_capacity body.now }
     requires unbroken { (ahead R.input reader.old).faulted ≡ false }
     requires unbroken_writer { (W.out writer.old).broken ≡ false }
     ensures capacity { vec_capacity line.old ≤ vec_capacity line.new }
-    ensures len { length body.new ≡ max_request_bytes }
-    ensures within { IsWithin result }
-    ensures input { Inputs hex_lines result number body.new (ahead R.input reader.old).left (ahead R.input reader.new).left }
+    ensures buffer { vec_capacity body.old ≤ vec_capacity body.new }
+    ensures within { IsWithin result body.new.items }
+    ensures input { Inputs hex_lines result number body.new.items (ahead R.input reader.old).left (ahead R.input reader.new).left }
     ensures paced { Paced (is_fault result) (ahead R.input reader.old) (ahead R.input reader.new) }
     ensures output { Hands result (W.out writer.old) (W.out writer.new) }
 {
@@ -65,10 +66,10 @@ fn trimmed(raw: &[u8]) -> &[u8]
 }
 
 /// What a line says.
-fn judge(line: &[u8], body: &mut [u8], number: u64) -> Read
-    requires { length body.now ≡ max_request_bytes }
-    ensures len { length body.new ≡ max_request_bytes }
-    ensures says { DecodesLine result number line.now body.new }
+fn judge(line: &[u8], body: &mut Vec<u8>, number: u64) -> Read
+    requires { max_request_bytes ≤ vec_capacity body.now }
+    ensures buffer { vec_capacity body.old ≤ vec_capacity body.new }
+    ensures says { DecodesLine result number line.now body.new.items }
 {
     if line.is_empty() {
         return Read::Ends(End::Closed);
@@ -76,6 +77,7 @@ fn judge(line: &[u8], body: &mut [u8], number: u64) -> Read
     if line.len() > LINE_LIMIT {
         return Read::Ends(End::TooLong);
     }
+    lengthen(body, (line.len() + 1) / 2);
     match decode(line, body) {
         Some(count) => Read::Body(count),
         None => Read::Ends(End::BadHex(number)),

@@ -6,6 +6,7 @@
 //! What stands on it: oa_server.
 #![tactic(auto)]
 
+mod buffer;
 mod ends;
 mod framing;
 mod hex_lines;

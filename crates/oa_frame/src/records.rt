@@ -1,5 +1,5 @@
 //! Bodies as records of a length and that many bytes.
-ghost use Rattle.std.specs.Prelude.{◌≡◌, ◌≤◌, ◌<◌, ◌+◌, [], ℕ, List, Option, false, length, take, IfSome};
+ghost use Rattle.std.specs.Prelude.{◌≡◌, ◌≤◌, ◌<◌, ◌+◌, [], ℕ, List, Option, false, length, take, vec_capacity, IfSome};
 ghost use Rattle.std.specs.Io.KnownBytes.{Consumes};
 ghost use Rattle.oa_model.specs.Limits.{max_read_calls, max_request_bytes};
 ghost use Rattle.oa_stream.specs.Ahead.{ahead, held};
@@ -9,6 +9,7 @@ ghost use Rattle.oa_frame.specs.Framings.{Hands, Inputs, IsRead, IsWithin, Says,
 ghost use Rattle.oa_frame.specs.Paces.{Paced};
 ghost use Rattle.oa_frame.specs.Records.{Fetches, Gets, Spends, is_gone};
 
+use crate::buffer::lengthen;
 use crate::lines::MAX_READ_CALLS;
 use crate::{End, Read};
 use oa_stream::{Ahead, More, Sink, Source};
@@ -31,15 +32,15 @@ pub(crate) enum Got {
 pub(crate) fn read_record<R: Source + Drop, W: Sink>(
     reader: &mut Ahead<R>,
     writer: &mut W,
-    body: &mut [u8],
+    body: &mut Vec<u8>,
     number: u64,
 ) -> Read
-    requires buffer { length body.now ≡ max_request_bytes }
+    requires buffer { max_request_bytes ≤ vec_capacity body.now }
     requires unbroken { (ahead R.input reader.old).faulted ≡ false }
     requires unbroken_writer { (W.out writer.old).broken ≡ false }
-    ensures len { length body.new ≡ max_request_bytes }
-    ensures within { IsWithin result }
-    ensures input { Inputs records result number body.new (ahead R.input reader.old).left (ahead R.input reader.new).left }
+    ensures buffer { vec_capacity body.old ≤ vec_capacity body.new }
+    ensures within { IsWithin result body.new.items }
+    ensures input { Inputs records result number body.new.items (ahead R.input reader.old).left (ahead R.input reader.new).left }
     ensures paced { Paced (is_fault result) (ahead R.input reader.old) (ahead R.input reader.new) }
     ensures output { Hands result (W.out writer.old) (W.out writer.new) }
 {
@@ -54,8 +55,20 @@ pub(crate) fn read_record<R: Source + Drop, W: Sink>(
     }
 }
 
-/// Copies bytes to the start of a buffer.
-fn copy_front(body: &mut [u8], bytes: &[u8])
+/// Copies bytes to the start of a buffer that has room for them.
+fn copy_front(body: &mut Vec<u8>, bytes: &[u8])
+    requires { length bytes.now ≤ vec_capacity body.old }
+    ensures buffer { vec_capacity body.old ≤ vec_capacity body.new }
+    ensures len { length bytes.now ≤ length body.new.items }
+    ensures front { take (length bytes.now) body.new.items ≡ bytes.now }
+{
+    let n = bytes.len();
+    lengthen(body, n);
+    put_front(body, bytes);
+}
+
+/// The same where they are not more than the buffer's.
+fn put_front(body: &mut [u8], bytes: &[u8])
     requires { length bytes.now ≤ length body.old }
     ensures len { length body.new ≡ length body.old }
     ensures front { take (length bytes.now) body.new ≡ bytes.now }
@@ -86,15 +99,15 @@ fn whole_record(front: &[u8]) -> Option<usize>
 fn read_waiting<R: Source + Drop, W: Sink>(
     reader: &mut Ahead<R>,
     writer: &W,
-    body: &mut [u8],
+    body: &mut Vec<u8>,
     number: u64,
 ) -> Read
-    requires buffer { length body.now ≡ max_request_bytes }
+    requires buffer { max_request_bytes ≤ vec_capacity body.now }
     requires unbroken { (ahead R.input reader.old).faulted ≡ false }
     requires quiet { IsHandedOn (W.out writer.now) }
-    ensures len { length body.new ≡ max_request_bytes }
-    ensures within { IsWithin result }
-    ensures input { Inputs records result number body.new (ahead R.input reader.old).left (ahead R.input reader.new).left }
+    ensures buffer { vec_capacity body.old ≤ vec_capacity body.new }
+    ensures within { IsWithin result body.new.items }
+    ensures input { Inputs records result number body.new.items (ahead R.input reader.old).left (ahead R.input reader.new).left }
     ensures paced { Paced (is_fault result) (ahead R.input reader.old) (ahead R.input reader.new) }
     ensures read { IsRead result }
 {
@@ -116,18 +129,18 @@ fn read_waiting<R: Source + Drop, W: Sink>(
 fn read_content<R: Source + Drop, W: Sink>(
     reader: &mut Ahead<R>,
     writer: &W,
-    body: &mut [u8],
+    body: &mut Vec<u8>,
     n: usize,
-    mut calls: u32,
+    calls: u32,
 ) -> Read
-    requires buffer { length body.now ≡ max_request_bytes }
+    requires buffer { max_request_bytes ≤ vec_capacity body.now }
     requires unbroken { (ahead R.input reader.old).faulted ≡ false }
     requires quiet { IsHandedOn (W.out writer.now) }
     requires few { calls ≤ max_read_calls }
-    ensures len { length body.new ≡ max_request_bytes }
-    ensures within { IsWithin result }
+    ensures buffer { vec_capacity body.old ≤ vec_capacity body.new }
+    ensures within { IsWithin result body.new.items }
     ensures input { (number : ℕ) (bytes : Option (List ℕ)) (head : List ℕ) → Says head n → Consumes bytes (ahead R.input reader.old).left head
-        → Inputs records result number body.new bytes (ahead R.input reader.new).left }
+        → Inputs records result number body.new.items bytes (ahead R.input reader.new).left }
     ensures paced { (start : Input) → Spends false 4 0 calls start (ahead R.input reader.old)
         → Paced (is_fault result) start (ahead R.input reader.new) }
     ensures read { IsRead result }
@@ -138,6 +151,32 @@ fn read_content<R: Source + Drop, W: Sink>(
     if n > BODY_LIMIT {
         return Read::Ends(End::TooLong);
     }
+    lengthen(body, n);
+    read_bytes(reader, writer, body, n, calls)
+}
+
+/// The same where there are some, and the buffer is so long.
+fn read_bytes<R: Source + Drop, W: Sink>(
+    reader: &mut Ahead<R>,
+    writer: &W,
+    body: &mut [u8],
+    n: usize,
+    mut calls: u32,
+) -> Read
+    requires some { 0 < n }
+    requires short { n ≤ max_request_bytes }
+    requires room { n ≤ length body.now }
+    requires unbroken { (ahead R.input reader.old).faulted ≡ false }
+    requires quiet { IsHandedOn (W.out writer.now) }
+    requires few { calls ≤ max_read_calls }
+    ensures len { length body.new ≡ length body.old }
+    ensures within { IsWithin result body.new }
+    ensures input { (number : ℕ) (bytes : Option (List ℕ)) (head : List ℕ) → Says head n → Consumes bytes (ahead R.input reader.old).left head
+        → Inputs records result number body.new bytes (ahead R.input reader.new).left }
+    ensures paced { (start : Input) → Spends false 4 0 calls start (ahead R.input reader.old)
+        → Paced (is_fault result) start (ahead R.input reader.new) }
+    ensures read { IsRead result }
+{
     match fill_up(reader, writer, &mut body[..n], &mut calls) {
         Got::All => Read::Body(n),
         Got::End(_) => Read::Ends(End::Cut),
@@ -145,7 +184,7 @@ fn read_content<R: Source + Drop, W: Sink>(
     }
 }
 
-/// Reads until a buffer is full; `calls` counts those made for the record, 4,194,304 at most.
+/// Reads until a buffer is full; `calls` counts those made for the record, `MAX_READ_CALLS` at most.
 fn fill_up<R: Source + Drop, W: Sink>(
     reader: &mut Ahead<R>,
     writer: &W,

@@ -1,5 +1,5 @@
 //! Sessions over a reader and a writer.
-ghost use Rattle.std.specs.Prelude.{◌≡◌, ◌+◌, ◌≤◌, ℕ, Bool, List, false, true, length, vec_capacity};
+ghost use Rattle.std.specs.Prelude.{◌≡◌, ◌+◌, ◌≤◌, ℕ, Bool, List, false, true, length, take, vec_capacity};
 ghost use Rattle.oa_model.specs.Limits.{max_request_bytes, max_line_characters};
 ghost use Rattle.oa_stream.specs.Ahead.{ahead};
 ghost use Rattle.oa_stream.specs.Sink.{IsHandedOn, Puts};
@@ -82,11 +82,11 @@ pub fn serve<S: Responder, R: Source + Drop, W: Sink>(
     reader: &mut Ahead<R>,
     writer: &mut W,
     line: &mut Vec<u8>,
-    body: &mut [u8],
+    body: &mut Vec<u8>,
 ) -> Served
     requires last { length last.now ≤ 4294967295 }
     requires room { max_line_characters + 1 ≤ vec_capacity line.now }
-    requires buffer { length body.now ≡ max_request_bytes }
+    requires buffer { max_request_bytes ≤ vec_capacity body.now }
     requires ready { S.ready server.old }
     requires unbroken { (ahead R.input reader.old).faulted ≡ false }
     requires unbroken_writer { (W.out writer.old).broken ≡ false }
@@ -97,7 +97,8 @@ pub fn serve<S: Responder, R: Source + Drop, W: Sink>(
     'turns: for _ in 0..u64::MAX {
         match read_body(framing, reader, writer, line, body, requests + 1) {
             Read::Body(count) => {
-                match part_before(server, framing, &body[..count], writer) {
+                let bytes = front(body, count);
+                match part_before(server, framing, bytes, writer) {
                     Ok(()) => {}
                     Err(_) => {
                         return Served {
@@ -107,7 +108,7 @@ pub fn serve<S: Responder, R: Source + Drop, W: Sink>(
                     }
                 }
                 requests += 1;
-                match server.respond(framing, &body[..count], writer) {
+                match server.respond(framing, bytes, writer) {
                     Ok(()) => {}
                     Err(_) => {
                         server.abandon();
@@ -133,6 +134,14 @@ pub fn serve<S: Responder, R: Source + Drop, W: Sink>(
     }
     let why = close(server, framing, last, writer, End::ReadFault);
     Served { requests, why }
+}
+
+// So many bytes at the start of a buffer.
+fn front(buffer: &[u8], count: usize) -> &[u8]
+    requires { count ≤ length buffer.now }
+    ensures { result.now ≡ take count buffer.now }
+{
+    &buffer[..count]
 }
 
 // Writes what is held and hands all on, where this body comes alone.

@@ -10,4 +10,4 @@
 mod group;
 pub mod laws;
 
-pub use group::{GROUP_BYTES, is_full};
+pub use group::is_full;

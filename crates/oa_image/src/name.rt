@@ -1,5 +1,5 @@
 //! The images of names of cells.
-ghost use Rattle.std.specs.Prelude.{◌≡◌, ◌≤◌, ◌*◌, IfOk, length};
+ghost use Rattle.std.specs.Prelude.{◌≡◌, ◌≤◌, ◌+◌, ◌*◌, IfOk, length};
 ghost use Rattle.std.specs.List.{flat_map};
 ghost use Rattle.oa_layout.specs.Answers.{Answers, AnswersBy};
 ghost use Rattle.oa_layout.specs.Lengths.{max_scalar_bytes};
@@ -103,7 +103,7 @@ fn scalars_len(scalars: &[Scalar]) -> usize
 #[tactic(auto, unfolding(oa_layout::specs::Formats::raw, oa_layout::specs::Formats::made_where, oa_layout::specs::Formats::next_by, oa_layout::specs::Formats::times, oa_layout::specs::Formats::counted, oa_layout::specs::Numbers::u16, oa_layout::specs::Numbers::u32, oa_layout::specs::Numbers::i32, oa_layout::specs::Numbers::guid, crate::specs::Names::key, crate::specs::Names::place, crate::specs::Names::name))]
 pub(crate) fn name_len(name: &CellName) -> usize
     ensures value { result ≡ length (names.name.image name.now) }
-    ensures small { result ≤ 17200000000 }
+    ensures small { result ≤ 26 + max_scalar_bytes * max_key_scalars }
 {
     let key = name.place.key();
     26 + scalars_len(key)

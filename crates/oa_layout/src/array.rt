@@ -9,7 +9,7 @@ ghost use Rattle.oa_layout.specs.Answers.{Answers, AnswersBy};
 ghost use Rattle.oa_layout.specs.Arrays as arrays;
 ghost use Rattle.oa_layout.specs.Elements.{array_head, element_image};
 ghost use Rattle.oa_layout.specs.Formats.{times};
-ghost use Rattle.oa_layout.specs.Lengths.{max_scalar_bytes};
+ghost use Rattle.oa_layout.specs.Lengths.{max_array_image, max_scalar_bytes};
 ghost use Rattle.oa_layout.specs.Windows.{Adds};
 
 use crate::image::{PutImage, ReadImage, put_each, read_times};
@@ -205,7 +205,7 @@ fn cells_len(elem: VarType, cells: &[Scalar]) -> usize
 #[tactic(auto, unfolding(crate::specs::Formats::made_where, crate::specs::Formats::next_by, crate::specs::Formats::coded, crate::specs::Formats::times, crate::specs::Formats::counted, crate::specs::Formats::only, crate::specs::Numbers::u16, crate::specs::Arrays::bounds_of, crate::specs::Arrays::array_of))]
 pub(crate) fn array_len(a: &SafeArray<Scalar>) -> usize
     ensures value { result ≡ length ((arrays.array_of a.now.elem).image a.now) }
-    ensures small { result ≤ 17200000000 }
+    ensures small { result ≤ max_array_image }
 {
     let cells = a.cells();
     2 + 8 * a.bounds().len() + cells_len(a.elem(), cells)

@@ -3,15 +3,15 @@ use Rattle.std.specs.Prelude.{ℕ}
 
 -- bytes of a request's body
 abbrev pub max_request_bytes : ℕ
-max_request_bytes = 1048576
+max_request_bytes = 4194304
 
 -- characters of a line of hexadecimal digits: two for each byte of a body
 abbrev pub max_line_characters : ℕ
-max_line_characters = 2097152
+max_line_characters = 8388608
 
 -- bytes of a BSTR
 abbrev pub max_text_bytes : ℕ
-max_text_bytes = 262144
+max_text_bytes = 1048576
 
 -- dimensions of a safe array; it has at least one
 abbrev pub max_dimensions : ℕ
@@ -63,11 +63,11 @@ max_index_list = 65535
 
 -- bytes of an event's image
 abbrev pub max_event_bytes : ℕ
-max_event_bytes = 1048576
+max_event_bytes = 4194304
 
--- bytes of a table's image
-abbrev pub max_table_bytes : ℕ
-max_table_bytes = 14680064
+-- bytes of a group's events, from which on it ends early
+abbrev pub group_bytes : ℕ
+group_bytes = 524288
 
 -- objects that are live at a time
 abbrev pub max_live_objects : ℕ
@@ -87,7 +87,7 @@ max_group = 1024
 
 -- read calls for one record or line
 abbrev pub max_read_calls : ℕ
-max_read_calls = 4194304
+max_read_calls = 16777216
 
 -- records of one session
 abbrev pub max_records : ℕ

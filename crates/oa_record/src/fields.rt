@@ -3,6 +3,7 @@ ghost use Rattle.std.specs.Prelude.{◌≡◌, ◌↔◌, ◌<◌, ◌≤◌, �
 ghost use Rattle.std.specs.List.{flat_map};
 ghost use Rattle.oa_ndr.specs.Forms.{padding};
 ghost use Rattle.oa_variant.specs.declared.variant.Variant.TheVariants.{One};
+ghost use Rattle.oa_wire_array.specs.Canon.{max_wire_scalar};
 ghost use Rattle.oa_wire_variant.specs.Canon.{canon};
 ghost use Rattle.oa_record.specs.Replies.{word, half_word, lost_field, signed_word, number_field, object_field, variant_field, ids_field, string_field};
 ghost use Rattle.oa_record.specs.declared.fault.FieldFault.TheVariants.{TooLong};
@@ -154,7 +155,7 @@ pub fn variant_field(alloc: Global, value: &Variant) -> Result<Vec<u8>, FieldFau
 #[tactic(auto, unfolding(oa_wire_array::specs::Canon::scalar_len))]
 fn one_len(value: &Scalar) -> usize
     ensures value { result ≡ length (canon (One value.now)) }
-    ensures small { result ≤ 262180 }
+    ensures small { result ≤ max_wire_scalar }
 {
     scalar_len(value)
 }

@@ -161,10 +161,10 @@ fn request(alloc: Global, parts: Parts<'_>) -> Result<Request, RecordFault>
 /// The request that a body asks: the tag at its first byte, which `tag_of` reads, the opcode at 4, its fields from 8 to the end (this
 /// project's choice).
 ///
-/// `Stub` where the body is laid out as no request of a listed opcode, has more than 1,048,576 bytes, more than 32 arguments or named ones,
+/// `Stub` where the body is laid out as no request of a listed opcode, has more than `MAX_REQUEST_BYTES`, more than 32 arguments or named ones,
 /// no name or more than 17, or more than 16 indices, and where the field of a value is broken; else `BadVarType` for the first value with a
 /// type outside the profile: with its index in rgvarg, or None for the new value of a cell. `Memory` only for an opcode whose bodies take
-/// memory to be read, in a body of 8 to 1,048,576 bytes.
+/// memory to be read, in a body of 8 to `MAX_REQUEST_BYTES`.
 pub fn read_request(alloc: Global, body: &[u8]) -> Result<Request, RecordFault>
     ensures { IsRequest body.now result }
 {

@@ -4,6 +4,7 @@ use Rattle.oa_disk.specs.declared.disk.Disk.{Ghosts}
 use Rattle.oa_groups.specs.Desks.{Desk, IsDue}
 use Rattle.oa_journal.specs.Shapes.{body_bytes}
 use Rattle.oa_keeper.specs.Kept.{HasRoom}
+use Rattle.oa_model.specs.Limits.{group_bytes}
 use Rattle.oa_record.specs.Replies.{ReplyValue}
 use Rattle.oa_store.specs.declared.store.Store.{Store}
 use Rattle.oa_server.specs.declared.hand.Hand.{Hand}
@@ -32,7 +33,7 @@ pub record IsReady {D : Type 0} {g : Ghosts D} (store : Store D g) (size places 
   pub place : size ≤ places
   pub few : length pending < size
   pub room : store.stopped ≡ false → HasRoom events store
-  pub small : store.stopped ≡ false → length events < 524288
+  pub small : store.stopped ≡ false → length events < group_bytes
   pub late : store.stopped ≡ true → pending ≡ []
 
 -- the hand can take one

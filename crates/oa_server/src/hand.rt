@@ -1,6 +1,7 @@
 //! The group in hand of a server over a store.
 ghost use Rattle.std.specs.Prelude.{◌≡◌, ◌<◌, ◌≤◌, [], IfOk, false, length, map, vec_capacity};
 ghost use Rattle.oa_groups.specs.Groups.{fills};
+ghost use Rattle.oa_model.specs.Limits.{group_bytes};
 ghost use Rattle.oa_server.specs.Requests.{withdrawn};
 
 use oa_groups::is_full;
@@ -52,7 +53,7 @@ impl Hand {
     /// Whether the group is whole.
     pub(crate) fn is_full(&self) -> bool
         ensures fills { result ≡ fills self.now.size (length self.now.replies.items) (length self.now.frame) }
-        ensures few { result ≡ false → length self.now.frame < 524288 }
+        ensures few { result ≡ false → length self.now.frame < group_bytes }
         ensures place { result ≡ false → length self.now.replies.items < self.now.size }
     {
         is_full(self.size, self.replies.len(), self.frame.len())

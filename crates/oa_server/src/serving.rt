@@ -1,5 +1,5 @@
 //! Sessions over streams.
-ghost use Rattle.std.specs.Prelude.{◌≡◌, ◌+◌, ◌≤◌, [], IfOk, OnErr, false, length, map, vec_capacity};
+ghost use Rattle.std.specs.Prelude.{◌≡◌, ◌+◌, ◌≤◌, [], IfOk, OnErr, false, map, vec_capacity};
 ghost use Rattle.oa_model.specs.Limits.{max_group, max_line_characters, max_request_bytes};
 ghost use Rattle.oa_stream.specs.Ahead.{ahead};
 ghost use Rattle.oa_stream.specs.Sink.{Puts};
@@ -288,7 +288,7 @@ fn session_with<D: Disk, R: Source + Drop, W: Sink>(
 {
     let alloc = clerk.host.allocator();
     let mut line = Vec::with_capacity(alloc, MAX_LINE_CHARACTERS as usize + 1)?;
-    let mut body = zeros(alloc, MAX_REQUEST_BYTES as usize)?;
+    let mut body = Vec::with_capacity(alloc, MAX_REQUEST_BYTES as usize)?;
     let hand = Hand::new(alloc, group)?;
     clerk.hand = hand;
     let served = talk(clerk, framing, reader, writer, &mut line, &mut body);
@@ -303,14 +303,14 @@ fn talk<D: Disk, R: Source + Drop, W: Sink>(
     reader: &mut Ahead<R>,
     writer: &mut W,
     line: &mut Vec<u8>,
-    body: &mut [u8],
+    body: &mut Vec<u8>,
 ) -> Served
     requires positive { 1 ≤ clerk.old.hand.size }
     requires places { clerk.old.hand.size ≤ vec_capacity clerk.old.hand.replies }
     requires replies { clerk.old.hand.replies.items ≡ [] }
     requires frame { clerk.old.hand.frame ≡ [] }
     requires line { max_line_characters + 1 ≤ vec_capacity line.now }
-    requires body { length body.now ≡ max_request_bytes }
+    requires body { max_request_bytes ≤ vec_capacity body.now }
     requires unbroken { (ahead R.input reader.old).faulted ≡ false }
     requires unbroken_writer { (W.out writer.old).broken ≡ false }
     ensures session { HasTalked (frames framing) (ahead R.input reader.old) (ahead R.input reader.new)
@@ -320,11 +320,4 @@ fn talk<D: Disk, R: Source + Drop, W: Sink>(
 {
     let last = Reply::bare(clerk.host.allocator(), 0, HResult::BAD_STUB_DATA, None).head();
     serve(clerk, framing, &last, reader, writer, line, body)
-}
-
-/// This many zeros.
-fn zeros(alloc: Global, n: usize) -> Result<Vec<u8>, AllocError>
-    ensures { IfOk result (λ v. length v.items ≡ n) }
-{
-    vec![in alloc; 0u8; n]
 }

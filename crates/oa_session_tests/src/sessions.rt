@@ -326,7 +326,7 @@ fn is_refused(alloc: Global, kind: ErrorKind, calls: u32) -> bool {
 #[test]
 fn readers_that_never_give_a_byte_end_a_session(rt: HostRuntime) {
     let alloc = rt.alloc();
-    let interrupted = is_refused(alloc, ErrorKind::Interrupted, 4_194_304);
+    let interrupted = is_refused(alloc, ErrorKind::Interrupted, 16_777_216);
     expect(&rt, "interrupted", interrupted);
     let other = is_refused(alloc, ErrorKind::Other, 1);
     expect(&rt, "another error", other);

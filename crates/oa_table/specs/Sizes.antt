@@ -1,5 +1,5 @@
 -- How many bytes the parts of an image have: what oa_image writes, counted. (This project's choice.)
-use Rattle.std.specs.Prelude.{◌≡◌, ◌≤◌, ◌+◌, ◌*◌, ℕ, length, Option, Some, None, Result, Ok, Err}
+use Rattle.std.specs.Prelude.{◌≡◌, ◌≤◌, ◌+◌, ◌*◌, ◌^◌, ℕ, length, Option, Some, None, Result, Ok, Err}
 use Rattle.std.specs.List.{sum_by}
 use Rattle.std.specs.Map.{values_of}
 use Rattle.oa_model.specs.Limits.{max_cells, max_dimensions, max_text_bytes}
@@ -59,6 +59,10 @@ largest_value = 4 + 8 * max_dimensions + largest_scalar * max_cells
 -- the most that a cell has
 abbrev pub largest_cell : ℕ
 largest_cell = 2 * largest_value
+
+-- the most that an object has, whose cells a number of 64 bits counts
+abbrev pub largest_object : ℕ
+largest_object = 24 + largest_cell * 2 ^ 64
 
 -- the number of the type, how many bounds there are, each with a count and a lowest index, and the elements
 unfoldable pub array_size : ArrayValue Scalar → ℕ

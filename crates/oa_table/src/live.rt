@@ -1,5 +1,5 @@
 //! The objects of a table.
-ghost use Rattle.std.specs.Prelude.{◌≡◌, ◌≤◌, ◌+◌, ◌^◌, [], None, IfOk};
+ghost use Rattle.std.specs.Prelude.{◌≡◌, ◌≤◌, ◌+◌, [], None, IfOk};
 ghost use Rattle.std.specs.List.Sorted.{IsStrictlySortedBy};
 ghost use Rattle.std.specs.Map.{keys_of};
 ghost use Rattle.std.specs.Option.{option_map};
@@ -7,7 +7,7 @@ ghost use Rattle.oa_table.specs.Elements.{element_put, locked_value, redimension
 ghost use Rattle.oa_table.specs.Objects.{any_locked, locks_of_cell, with_change, with_put};
 ghost use Rattle.oa_table.specs.Outcomes.{Counts, Does};
 ghost use Rattle.oa_table.specs.Places.{place_cmp};
-ghost use Rattle.oa_table.specs.Sizes.{largest_cell, object_size, size_due};
+ghost use Rattle.oa_table.specs.Sizes.{largest_cell, largest_object, object_size, size_due};
 ghost use Rattle.oa_table.specs.Tables.{cell_at};
 
 use crate::difference::{Difference, element_difference, no_difference, redim_difference};
@@ -87,7 +87,7 @@ impl LiveObject {
     #[tactic(auto, unfolding(crate::specs::Sizes::object_size))]
     pub(crate) fn size(&self) -> u128
         ensures value { result ≡ object_size self.now }
-        ensures small { result ≤ 2 ^ 100 }
+        ensures small { result ≤ largest_object }
     {
         let _count = self.cells.len();
         let mut size = 24;

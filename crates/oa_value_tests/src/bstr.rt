@@ -105,9 +105,9 @@ fn sevens(alloc: Global, count: usize) -> Result<Vec<u8>, AllocError> {
     }
 }
 
-/// Whether a text of 262,145 bytes is refused before memory is asked for.
+/// Whether a text of 1,048,577 bytes is refused before memory is asked for.
 fn is_too_long(alloc: Global) -> bool {
-    match sevens(alloc, 262_145) {
+    match sevens(alloc, 1_048_577) {
         Ok(bytes) => Bstr::from_bytes(alloc, &bytes).err() == Some(BstrError::TooLong),
         Err(_) => false,
     }

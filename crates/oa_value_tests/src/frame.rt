@@ -37,7 +37,7 @@ impl Responder for Echo {
         body: &[u8],
         writer: &mut W,
     ) -> Result<(), Unwritten> {
-        let count = body.len().min(1_048_576);
+        let count = body.len().min(4_194_304);
         put_reply(framing, writer, &[], &body[..count])
     }
 
@@ -61,9 +61,8 @@ fn session<R: Source + Drop, W: Sink>(
     requires unbroken { (ahead R.input reader.old).faulted ≡ false }
     requires unbroken_writer { (W.out writer.old).broken ≡ false }
 {
-    let mut line = Vec::with_capacity(alloc, 2_097_153)?;
-    let mut body: Vec<u8> = Vec::new(alloc);
-    body.resize(1_048_576, 0)?;
+    let mut line = Vec::with_capacity(alloc, 8_388_609)?;
+    let mut body = Vec::with_capacity(alloc, 4_194_304)?;
     let served = serve(
         &mut Echo, framing, &LAST, reader, writer, &mut line, &mut body,
     );
@@ -97,7 +96,7 @@ static CASES: [Case; 9] = cases! {
     "a length of 0": Records &[1, 0, 0, 0, 9, 0, 0, 0, 0, 5] => 1, End::Closed, &[1, 0, 0, 0, 9];
     "a length that is cut": Records &[1, 0, 0, 0, 7, 8, 0, 0] => 1, End::Cut, &[1, 0, 0, 0, 7, 2, 0, 0, 0, 0xab, 0xcd];
     "a record that is cut": Records &[3, 0, 0, 0, 7, 8] => 0, End::Cut, &[2, 0, 0, 0, 0xab, 0xcd];
-    "a length that is too large": Records &[1, 0, 16, 0, 7] => 0, End::TooLong, &[2, 0, 0, 0, 0xab, 0xcd];
+    "a length that is too large": Records &[1, 0, 64, 0, 7] => 0, End::TooLong, &[2, 0, 0, 0, 0xab, 0xcd];
 };
 
 static CUTS: [&[usize]; 5] = [&[], &[1], &[1, 1, 1, 1, 1, 1, 1], &[3, 2], &[5]];
@@ -152,9 +151,9 @@ fn so_many_interruptions_are_a_fault(rt: HostRuntime) {
     laws::one_line();
     laws::one_end();
     for framing in &[Framing::HexLines, Framing::Records] {
-        let is_closed = ends(rt.alloc(), *framing, 4_194_303, End::Closed);
+        let is_closed = ends(rt.alloc(), *framing, 16_777_215, End::Closed);
         expect(&rt, "one interruption fewer", is_closed);
-        let is_fault = ends(rt.alloc(), *framing, 4_194_304, End::ReadFault);
+        let is_fault = ends(rt.alloc(), *framing, 16_777_216, End::ReadFault);
         expect(&rt, "so many interruptions", is_fault);
     }
 }

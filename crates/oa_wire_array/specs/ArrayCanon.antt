@@ -1,5 +1,5 @@
 -- How arrays are written (this project's choice).
-use Rattle.std.specs.Prelude.{ℕ, ◌*◌, Bool, true, false, if◌then◌else◌, is_some, List, length, Option, Some, None}
+use Rattle.std.specs.Prelude.{ℕ, ◌+◌, ◌*◌, Bool, true, false, if◌then◌else◌, is_some, List, length, Option, Some, None}
 use Rattle.std.specs.Int.{w32, cast_unsigned}
 use Rattle.std.specs.Option.{unwrap_or}
 use Rattle.oa_ndr.specs.Writing.{put_unit, put_referent, put_all}
@@ -10,7 +10,7 @@ use Rattle.oa_model.specs.Types.{vt_of, sf_type_of, element_size_of}
 use Rattle.oa_array.specs.Arrays.{ArrayValue}
 use Rattle.oa_variant.specs.Scalars.{text_of}
 use Rattle.oa_variant.specs.declared.scalar.Scalar.{Scalar}
-use Rattle.oa_wire_array.specs.Canon.{◌|>◌, put_blob, put_arm, put_scalar}
+use Rattle.oa_wire_array.specs.Canon.{◌|>◌, max_wire_scalar, put_blob, put_arm, put_scalar}
 
 abbrev pub put_bound : Bound → List ℕ → List ℕ
 put_bound b out = out |> put_unit 4 b.count |> put_unit 4 (cast_unsigned w32 b.lower)
@@ -27,6 +27,14 @@ put_text (Some text) out = put_blob (Some text) out
 abbrev pub put_pointee : VarType → Scalar → List ℕ → List ℕ
 put_pointee types.Bstr v out = put_text (text_of v) out
 put_pointee t v out = put_scalar v out
+
+-- the most that the pointee of a cell takes: a scalar at the next multiple of 8, which is more than any text takes
+abbrev pub max_wire_pointee : ℕ
+max_wire_pointee = 7 + max_wire_scalar
+
+-- the most that a cell takes, its referent and its pointee
+abbrev pub max_wire_cell : ℕ
+max_wire_cell = 4 + max_wire_pointee
 
 abbrev pub put_cell_referent : VarType → Scalar → List ℕ → List ℕ
 put_cell_referent t v out = put_referent (has_pointee t v) out

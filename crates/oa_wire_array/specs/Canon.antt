@@ -1,6 +1,7 @@
 -- How values are written: the ignored parts and the choices of a spelling (this project's choice).
 use Rattle.std.specs.Prelude.{true, false, ℕ, ◌+◌, ◌/◌, ◌%◌, ◌^◌, Bool, if◌then◌else◌, List, [], length, replicate, Option, Some, None}
 use Rattle.std.specs.Int.{w8, w16, w32, w64, cast_unsigned}
+use Rattle.oa_model.specs.Limits.{max_text_bytes}
 use Rattle.oa_ndr.specs.Writing.{put_align, put_unit, put_bytes, put_referent}
 use Rattle.oa_variant.specs.Decimals.{DecimalValue}
 use Rattle.oa_variant.specs.declared.scalar.Scalar.{Scalar}
@@ -62,6 +63,10 @@ put_sized size v out = out |> put_head size (scalar_vt v) |> put_unit 4 (scalar_
 -- how many bytes a scalar takes, from its first byte to the last of its pointee
 unfoldable pub scalar_len : Scalar → ℕ
 scalar_len v = length (put_sized 0 v [])
+
+-- the most that a scalar takes: the longest text behind 36 bytes
+abbrev pub max_wire_scalar : ℕ
+max_wire_scalar = 36 + max_text_bytes
 
 -- clSize counts them in units of 8, rounded up
 abbrev pub cl_size : Scalar → ℕ

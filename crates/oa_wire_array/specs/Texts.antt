@@ -17,7 +17,7 @@ abbrev pub text_units : Option (List ℕ) → ℕ
 text_units None = 0
 text_units (Some text) = units (length text)
 
--- an odd last byte is followed by one more; a text has at most 262,144 bytes (this project's choice)
+-- an odd last byte is followed by one more; the number of bytes has a limit (this project's choice)
 abbrev pub body : List ℕ → Form
 body text = exactly text ▸ any (length text % 2) ▸ given (length text ≤ max_text_bytes)
 

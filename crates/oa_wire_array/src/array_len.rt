@@ -9,7 +9,7 @@ ghost use Rattle.std.specs.Prelude.{true, false, Some, ◌⊎◌};
 ghost use Rattle.oa_model.specs.Limits.{max_cells};
 ghost use Rattle.oa_model.specs.Types.{sf_type_of, element_size_of};
 ghost use Rattle.oa_wire_array.specs.Canon.{put_arm};
-ghost use Rattle.oa_wire_array.specs.ArrayCanon.{is_pointed, put_text, put_pointee, put_elements, put_array};
+ghost use Rattle.oa_wire_array.specs.ArrayCanon.{is_pointed, max_wire_cell, max_wire_pointee, put_text, put_pointee, put_elements, put_array};
 
 use crate::scalar::scalar_len;
 use oa_array::SafeArray;
@@ -32,7 +32,7 @@ fn aligned(n: usize, place: usize) -> usize
 fn text_end(cell: &Scalar, place: usize) -> usize
     requires { place < 2 ^ 59 }
     ensures value { (out : List ℕ) → length out ≡ place → length (put_text (text_of cell.now) out) ≡ result }
-    ensures near { result ≤ place + 262200 }
+    ensures near { result ≤ place + max_wire_pointee }
 {
     match cell {
         Scalar::Bstr(text) => {
@@ -50,7 +50,7 @@ fn text_end(cell: &Scalar, place: usize) -> usize
 fn pointee_end(elem: VarType, cell: &Scalar, place: usize) -> usize
     requires { place < 2 ^ 59 }
     ensures value { (out : List ℕ) → length out ≡ place → length (put_pointee elem cell.now out) ≡ result }
-    ensures near { result ≤ place + 262200 }
+    ensures near { result ≤ place + max_wire_pointee }
 {
     match elem {
         VarType::Bstr => text_end(cell, place),
@@ -62,7 +62,7 @@ fn pointees_end(elem: VarType, cells: &[Scalar], place: usize) -> usize
     requires few { length cells.now ≤ max_cells }
     requires room { place < 2 ^ 58 }
     ensures value { (out : List ℕ) → length out ≡ place → length (put_all (put_pointee elem) cells.now out) ≡ result }
-    ensures near { result ≤ place + 262200 * length cells.now }
+    ensures near { result ≤ place + max_wire_pointee * length cells.now }
 {
     let mut end = place;
     for cell in cells {
@@ -98,7 +98,7 @@ fn plain_end(elem: VarType, cells: &[Scalar], place: usize) -> usize
     requires few { length cells.now ≤ max_cells }
     requires room { place < 2 ^ 57 }
     ensures value { (out : List ℕ) → length out ≡ place → length (put_all put_arm cells.now out) ≡ result }
-    ensures near { result ≤ place + 262300 * length cells.now }
+    ensures near { result ≤ place + max_wire_cell * length cells.now }
 {
     let count = cells.len();
     if count == 0 {
@@ -115,7 +115,7 @@ fn elements_end(elem: VarType, cells: &[Scalar], place: usize) -> usize
     requires place { place % 4 ≡ 0 }
     requires room { place < 2 ^ 57 }
     ensures value { (out : List ℕ) → length out ≡ place → length (put_elements elem cells.now out) ≡ result }
-    ensures near { result ≤ place + 262300 * length cells.now }
+    ensures near { result ≤ place + max_wire_cell * length cells.now }
 {
     if is_pointed(elem) {
         return pointees_end(elem, cells, place + 4 * cells.len());

@@ -17,6 +17,7 @@ ghost use Rattle.oa_wire_array.specs.Reading.{
   scalar_at,
 };
 ghost use Rattle.oa_wire_array.specs.Canon.{
+  max_wire_scalar,
   put_truth,
   put_decimal,
   put_arm,
@@ -250,7 +251,7 @@ fn write_sized(out: &mut NdrOut, size: u32, value: &Scalar) -> Result<(), AllocE
 #[tactic(auto, unfolding(crate::specs::Canon::scalar_len))]
 pub fn scalar_len(value: &Scalar) -> usize
     ensures value { result ≡ scalar_len value.now }
-    ensures small { result ≤ 262180 }
+    ensures small { result ≤ max_wire_scalar }
 {
     match value {
         Scalar::Empty | Scalar::Null => 20,

@@ -72,7 +72,7 @@ pub(crate) fn bstr(alloc: Global, r: &mut Ndr<'_>) -> Result<Bstr, ReadFault>
 /// (MS-OAUT 2.2.23), from the maximum count on.
 ///
 /// `BadStub` where the bytes end too early, where the maximum count or clSize is not cBytes / 2
-/// rounded up, or where the text has more than 262,144 bytes. `Memory` only where 12 bytes are there.
+/// rounded up, or where the text has more than `MAX_TEXT_BYTES`. `Memory` only where 12 bytes are there.
 /// At an error the reader is as it was.
 pub fn read_text(alloc: Global, r: &mut Ndr<'_>) -> Result<Bstr, ReadFault>
     ensures exact { IsFront blob result r.old r.new }

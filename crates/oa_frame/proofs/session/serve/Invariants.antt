@@ -9,7 +9,7 @@ use Rattle.oa_frame.proofs.session.serve.Given as goal
 abbrev pub invariant-turns : goal.invariant-turns
 invariant-turns g l = record {
   room : max_line_characters + 1 ≤ vec_capacity l.line;
-  buffer : length l.body ≡ max_request_bytes;
+  buffer : max_request_bytes ≤ vec_capacity l.body;
   count : l.requests ≡ l.counter;
   ready : g.S.Responder.ready l.server;
   unbroken : (ahead g.R.Source.input l.reader).faulted ≡ false;

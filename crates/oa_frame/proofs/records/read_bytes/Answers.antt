@@ -1,6 +1,6 @@
 use Rattle.std.proofs.Common.{rules, refl, take}
 use Rattle.oa_frame.proofs.Raws.{two_paced, known_cut, known_lost}
-use Rattle.oa_frame.proofs.records.read_content.Goals as goal
+use Rattle.oa_frame.proofs.records.read_bytes.Goals as goal
 
 pub returns-in-All-clause-paced : goal.returns-in-All-clause-paced
 returns-in-All-clause-paced g c = λ start p. two_paced _ _ _ _ _ _ _ _ refl (search rules) p c.in-All.ensures.spends

@@ -1,0 +1,112 @@
+#!/usr/bin/env python3
+"""Times records up to their limit of 4,194,304 bytes, through both framings, and tells what memory a session takes.
+
+    python3 bench/large.py [PROGRAM [MEGABYTES]]      PROGRAM is crates/oaut/out/oaut where none is given, MEGABYTES 256
+
+First the peak resident memory of a session of short lines and of one of short records, in memory and over a store: at most 5,120 KiB, since no more is touched of the
+buffers of a line and a body than the longest that came. Then puts of arrays of four texts whose records have 65,536, 262,144, 1,048,576 and 4,194,304 bytes,
+so many that all have so many megabytes, and the same with a get of the value behind each put: megabytes of records a second, the best of five runs. The longest are
+read at least as fast as the others, within 1.2.
+"""
+import os
+import subprocess
+import sys
+import tempfile
+import time
+import uuid
+
+ROOT = os.path.dirname(os.path.dirname(os.path.abspath(__file__)))
+sys.path.append(f"{ROOT}/cli")
+import wire
+from command_line import words
+from memory import peak_of
+
+PROGRAM, MEGABYTES = words(__doc__, megabytes=256)
+SIZES = (65_536, 262_144, 1_048_576, 4_194_304)
+RESIDENT = 5_120
+# the DISPID of SAFEARRAY(BSTR) in examples/arrays.idl, and of the long of examples/small.idl
+NAMES, COUNT = 13, 1
+CLASS = uuid.UUID("11223344-5566-7788-99AA-BBCCDDEEFF03")
+ask = wire.oaut
+
+
+def put_of(dispid, value):
+    return ask.ask_invoke(1, dispid, ask.PROPERTYPUT, [ask.NEW_VALUE], [value])
+
+
+def get_of(dispid):
+    return ask.ask_invoke(1, dispid, ask.PROPERTYGET, [], [])
+
+
+def texts(length):
+    """A put whose record has so many bytes: an array of four texts, of which the last is as long as is left."""
+    part = (length // 4 - 64) // 8 * 8
+    rest = length - 4 - len(put_of(NAMES, wire.array(wire.BSTR, [(4, 0)], [bytes(part)] * 3 + [b""])))
+    asked = put_of(NAMES, wire.array(wire.BSTR, [(4, 0)], [b"a\0" * (part // 2)] * 3 + [b"a\0" * (rest // 2)]))
+    assert len(asked) + 4 == length, len(asked) + 4
+    return asked
+
+
+def packed(path, form, requests):
+    """Writes requests into a file in a framing, each behind its tag."""
+    with open(path, "wb") as file:
+        for tag, asked in enumerate(requests):
+            file.write(form.pack([tag.to_bytes(4, "little") + asked]))
+
+
+def resident(command, form, room):
+    """The peak resident memory of a session of short requests, in KiB: it is read while the program waits for more."""
+    packed(f"{room}/in", form, [ask.ask_create(CLASS), *(it for number in range(1_000) for it in (put_of(COUNT, wire.scalar(wire.I4, number)), get_of(COUNT)))])
+    with open(f"{room}/in", "rb") as file:
+        given = file.read()
+    child = subprocess.Popen([PROGRAM, *command, *form.words], cwd=room, stdin=subprocess.PIPE, stdout=subprocess.PIPE)
+    child.stdin.write(given)
+    child.stdin.flush()
+    left = sum(form.length(16 + (0 if number else 8)) for number in range(1_001)) + sum(form.length(16 + 8 + 24) for _ in range(1_000))
+    while left > 0:
+        left -= len(child.stdout.read1(left))
+    peak = peak_of(child.pid)
+    child.stdin.close()
+    if child.wait():
+        sys.exit(f"status {child.returncode}")
+    return peak
+
+
+def best(form, requests, room):
+    """The least seconds of five runs of a session over these requests, of which each is answered."""
+    packed(f"{room}/in", form, requests)
+    taken = []
+    for _ in range(5):
+        with open(f"{room}/in", "rb") as given, open(f"{room}/out", "wb") as out:
+            started = time.perf_counter()
+            status = subprocess.run([PROGRAM, "play", f"{ROOT}/examples/arrays.idl", *form.words], stdin=given, stdout=out).returncode
+            taken.append(time.perf_counter() - started)
+        if status:
+            sys.exit(f"status {status}")
+    return min(taken), os.path.getsize(f"{room}/in") + os.path.getsize(f"{room}/out")
+
+
+slow = []
+with tempfile.TemporaryDirectory() as room:
+    with open(f"{ROOT}/examples/small.idl", "rb") as file, open(f"{room}/lib.idl", "wb") as copy:
+        copy.write(file.read())
+    for name, form in ask.FRAMINGS.items():
+        subprocess.run([PROGRAM, "format", "it.store", "lib.idl"], cwd=room, check=True, stdout=subprocess.DEVNULL)
+        for command in (["play", "lib.idl"], ["serve", "it.store", "lib.idl"]):
+            peak = resident(command, form, room)
+            print(f"{command[0]}, short requests as {name}: peak {peak:,} KiB")
+            if peak > RESIDENT:
+                slow.append(f"{command[0]} as {name} takes {peak:,} KiB")
+    for name, form in ask.FRAMINGS.items():
+        for what, more in (("puts", []), ("puts and gets", [get_of(NAMES)])):
+            speeds = []
+            for size in SIZES:
+                one = texts(size)
+                count = MEGABYTES * 1_000_000 // (size * (1 + len(more)))
+                seconds, moved = best(form, [ask.ask_create(CLASS), *[one, *more] * count], room)
+                speeds.append(size * count * (1 + len(more)) / seconds / 1e6)
+                print(f"{what} of {size:,} bytes as {name}: {count} in {seconds:.3f} s: {speeds[-1]:,.0f} MB of records a second, {moved / seconds / 1e6:,.0f} MB of the stream")
+            if max(speeds) > 1.2 * speeds[-1]:
+                slow.append(f"{what} of the longest records as {name} run at {speeds[-1]:,.0f} MB a second, others at {max(speeds):,.0f}")
+if slow:
+    sys.exit("; ".join(slow))

@@ -56,15 +56,14 @@ def packed(path, form, requests):
 
 def resident(command, form, room):
     """The peak resident memory of a session of short requests, in KiB: it is read while the program waits for more."""
-    packed(f"{room}/in", form, [ask.ask_create(CLASS), *(it for number in range(1_000) for it in (put_of(COUNT, wire.scalar(wire.I4, number)), get_of(COUNT)))])
+    packed(f"{room}/in", form, [ask.ask_create(CLASS), *(it for number in range(100) for it in (put_of(COUNT, wire.scalar(wire.I4, number)), get_of(COUNT)))])
     with open(f"{room}/in", "rb") as file:
         given = file.read()
     child = subprocess.Popen([PROGRAM, *command, *form.words], cwd=room, stdin=subprocess.PIPE, stdout=subprocess.PIPE)
     child.stdin.write(given)
     child.stdin.flush()
-    left = sum(form.length(16 + (0 if number else 8)) for number in range(1_001)) + sum(form.length(16 + 8 + 24) for _ in range(1_000))
-    while left > 0:
-        left -= len(child.stdout.read1(left))
+    for _ in range(201):
+        form.read(child.stdout)
     peak = peak_of(child.pid)
     child.stdin.close()
     if child.wait():

@@ -8,7 +8,7 @@
 #include <windows.h>
 #include <oleauto.h>
 
-#define MAX_BODY 0x100000u    /* the bytes of a request's body */
+#define MAX_BODY 0x400000u    /* the bytes of a request's body */
 #define MAX_CELLS 0x10000u    /* the cells of an array */
 #define MAX_BOUNDS 16u        /* the bounds of an array */
 #define NO_ARGUMENT 0xFFFFFFFFu /* a reply's index where no argument is at fault */

@@ -23,12 +23,13 @@ void writer_free(Writer *to)
     memset(to, 0, sizeof *to);
 }
 
-/* Room for `count` bytes more, or NULL with the fault set. The length is never above body + MAX_BODY. */
+/* Room for `count` bytes more; NULL where that is none, or with the fault set. The length is never above
+   body + MAX_BODY. */
 static BYTE *extend(Writer *to, size_t count)
 {
     BYTE *bytes;
 
-    if (FAILED(to->fault))
+    if (FAILED(to->fault) || !count)
         return NULL;
     if (count > to->body + MAX_BODY - to->length) {
         to->fault = E_INVALIDARG;
@@ -53,7 +54,7 @@ void write_bytes(Writer *to, const void *from, size_t count)
 {
     BYTE *bytes = extend(to, count);
 
-    if (bytes && count)
+    if (bytes)
         memcpy(bytes, from, count);
 }
 
@@ -61,7 +62,7 @@ void write_zeros(Writer *to, size_t count)
 {
     BYTE *bytes = extend(to, count);
 
-    if (bytes && count)
+    if (bytes)
         memset(bytes, 0, count);
 }
 

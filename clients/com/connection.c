@@ -4,7 +4,7 @@
 #include <string.h>
 
 #define HEAD 16u              /* the bytes of a reply before its fields */
-#define MAX_REPLY 0x1000000u  /* four times what the largest value takes */
+#define MAX_REPLY 0x1000000u  /* three times what the largest value takes */
 #define REPLY_STEP 0x40000u   /* as much room is made at once for a reply whose bytes have not come */
 #define MAX_NAME 64u
 #define MAX_ITEMS 1024u       /* of a library: twice what a server has */

@@ -13,6 +13,7 @@ from running import CLI, PROGRAM
 COMPILER = shutil.which("cc")
 SECONDS = 60  # at most for one run
 PAGE = 4_096
+ZEROS = bytes(PAGE)
 
 
 def fast_folder():
@@ -43,7 +44,8 @@ def read(path):
 
 def pages_of(data):
     """The pages of a row of bytes that are not zeros, by their places."""
-    return {at: bytes(data[at : at + PAGE]) for at in range(0, len(data), PAGE) if any(data[at : at + PAGE])}
+    pages = ((at, bytes(data[at : at + PAGE])) for at in range(0, len(data), PAGE))
+    return {at: page for at, page in pages if page != ZEROS[: len(page)]}
 
 
 class StoreFile:

@@ -28,8 +28,9 @@ import worked
 from asked import Answering
 from codes import E_OUTOFMEMORY
 from model import LIBRARY, first_library
-from preloaded import COMPILER, Preloaded, StoreFile
+from preloaded import COMPILER, Preloaded, StoreFile, pages_of
 from running import fault
+from stores import DUE_ASKED, DUE_BEFORE, nearly_full
 from test_random import dump_of, replies_of
 
 NO_MEMORY = (5, b"", fault("out of memory"))
@@ -42,10 +43,10 @@ def starved(body):
 
 
 class Session:
-    """Requests, and those that were answered, with ample memory, before the session begins: a store holds what they have changed."""
+    """Requests, and those that were answered, with ample memory, before the session begins: a store holds what they have changed, which is that of `disk` where one is given."""
 
-    def __init__(self, name, requests, before=()):
-        self.name = name
+    def __init__(self, name, requests, before=(), disk=None):
+        self.name, self.disk = name, disk
         self.bodies, self.before = ([struct.pack("<I", tag) + it for tag, it in enumerate(some, 1)] for some in (requests, before))
         self.known = {}
 
@@ -77,7 +78,7 @@ class Tried:
     """How often something was refused, and what was wrong of it."""
 
     def __init__(self):
-        self.refused = self.ends = self.starved = self.unneeded = self.runs = 0
+        self.refused = self.ends = self.starved = self.unneeded = self.runs = self.behind = 0
         self.wrong = []
 
     def note(self, well, nth, what):
@@ -103,11 +104,11 @@ class Over:
             self.words = ["serve", "--group", str(group), *self.framing.words, path, library]
             with contextlib.suppress(FileNotFoundError):
                 os.remove(path)
-            preloaded.ample(["format", path, library])
-            preloaded.fill("given", self.framing.pack(session.before))
-            preloaded.ample(self.words, "given")
-            self.store = StoreFile(path)
-            self.begins = self.store.dump()
+            if session.disk is None:
+                preloaded.ample(["format", path, library])
+                preloaded.fill("given", self.framing.pack(session.before))
+                preloaded.ample(self.words, "given")
+            self.store = StoreFile(path, session.disk)
         preloaded.fill("given", self.framing.pack(session.bodies))
 
     def run(self, given="given", **how):
@@ -141,6 +142,7 @@ class Over:
             due, dump = self.session.without()
             return replies == due and self.holds(dump), nth, "no request has no memory, and the replies or what the store holds are others"
         tried.starved += 1
+        tried.behind += self.store is not None and not self.store.is_as_laid()
         place = starving[0]
         due, dump = self.session.without(place)
         if replies != due or not self.holds(dump):
@@ -182,6 +184,7 @@ def sessions():
     yield Session("the worked cases", worked.ALL)
     yield Session("every type", worked.EVERY_TYPE)
     yield Session("a library that is replaced", worked.REPLACED)
+    yield Session("a due checkpoint", DUE_ASKED, DUE_BEFORE, nearly_full())
     yield Session("a store with objects", [worked.get(worked.ANY), worked.put(worked.NAME, worked.text(LONG)), *worked.GOES], [*worked.CREATED, *worked.SCALAR_PROPERTIES, *worked.PARAMETERS, *worked.ARRAYS])
 
 
@@ -191,6 +194,7 @@ PLAYED = {
     "every type": (("lines", None), ("lines", 1_024)),
     "a library that is replaced": (("lines", 3),),
     "a store with objects": (("raw", 3),),
+    "a due checkpoint": (("raw", 1), ("lines", 3)),
 }
 WHOLE = {("every type", "lines", None), ("a store with objects", "raw", 3)}
 
@@ -205,6 +209,48 @@ def in_sessions(preloaded, tell):
             over.refuse_from(tried, 29 * STEP)
             wrong = tried.wrong[began:]
             tell(f"{session.name}, {framing}, {'in memory' if group is None else f'groups of {group}'}", not wrong, f"{len(wrong)} are wrong: {wrong[:3]}")
+    return tried
+
+
+# --- a checkpoint that is due
+
+# requests that bring an event, and so the checkpoint, and two that bring none: one that is answered by a text, and one whose checkpoint has another library
+AT_DUE = {
+    "CREATE": oaut.ask_create(worked.ITEM),
+    "RELEASE": oaut.ask_release(1),
+    "a put of a long": worked.put(worked.COUNT, worked.i4(7)),
+    "a put of a text": worked.put(worked.NAME, worked.text(LONG)),
+    "a put of an array": worked.put(worked.ANY, worked.OF_VARIANTS),
+    "a put with arguments": worked.put(worked.CELL, worked.text(worked.HI), named=(-3, 1, 0), more=(worked.text(worked.LETTER), worked.i4(5))),
+    "PUTELEM": worked.put_element(worked.GRID, (0, 7), worked.i4(9)),
+    "REDIM": worked.redim(worked.GRID, 3, 10),
+    "a get": worked.get(worked.ANY),
+    "REPLACE LIBRARY": worked.replace(worked.WIDER),
+}
+MOST_AT_DUE = 16  # of the growths of one request so many are refused: most have fewer, the reading of a library some hundreds
+# where the library is replaced all growths come before the disk is touched, and gets do not touch it
+NEVER_BEHIND = ("a get", "REPLACE LIBRARY")
+
+
+def at_due_checkpoints(preloaded, tell):
+    """Each growth of one request refused, over a store in which a checkpoint is due: the file is as it was, or, where the checkpoint was made, has the same objects in the other bank."""
+    tried = Tried()
+    settled = pages_of(store.settled(nearly_full()))
+    for name, request in AT_DUE.items():
+        over = Over(preloaded, Session(name, [request], DUE_BEFORE, nearly_full()), "raw", 1)
+        opening, calls, began, behind = over.run("nothing").calls, over.run().calls, len(tried.wrong), tried.behind
+        for nth in range(opening + 1, calls + 1, max(1, (calls - opening) // MOST_AT_DUE)):
+            tried.refused, tried.runs = tried.refused + 1, tried.runs + 1
+            got = over.run(refuse=nth)
+            tried.note(got.status != 5 or over.store.is_as_laid(), nth, "a session that did not begin has changed the file")
+            if got.out == over.framing.pack([starved(over.session.bodies[0])]):
+                pages = over.store.now()[0]
+                tried.note(pages == over.store.pages or (pages == settled and name not in NEVER_BEHIND), nth, "the file is neither as it was nor behind the checkpoint")
+            tried.note(*over.refuse(tried, nth))
+        wrong = tried.wrong[began:]
+        tell(f"{name} at a due checkpoint, {calls - opening} growths, {tried.behind - behind} of them behind it", calls > opening and not wrong, f"{len(wrong)} are wrong: {wrong[:3]}")
+    tell("a growth is refused behind a checkpoint", tried.behind > 0, tried)
+    print(f"growths at due checkpoints: {tried.behind} were refused behind the checkpoint")
     return tried
 
 
@@ -234,6 +280,7 @@ def commands(preloaded):
     yield Command("format, a new file", ["format", path, library], store=None, left="next 1\n")
     yield Command("format, a store that is there", ["format", path, library], store="full", left="next 1\n")
     yield Command("upgrade", ["upgrade", path], store="old", left=OLD_DUMP)
+    yield Command("upgrade, a file that gets longer first", ["upgrade", path], store="short", left=OLD_DUMP)
     yield Command("dump", ["dump", path], store="full")
     yield Command("dump --library", ["dump", "--library", path], store="full")
 
@@ -243,7 +290,7 @@ def in_commands(preloaded, tell):
     preloaded.fill("lib.idl", LIBRARY)
     preloaded.fill("wrong.idl", worked.NO_LIBRARY)
     path = preloaded.path("it.store")
-    stores = {None: None, "full": Over(preloaded, next(it for it in sessions() if it.before), "raw", 1).store, "old": StoreFile(path, OLD)}
+    stores = {None: None, "full": Over(preloaded, next(it for it in sessions() if it.before and it.disk is None), "raw", 1).store, "old": StoreFile(path, OLD), "short": StoreFile(path, OLD[: store.length_of(store.BANK) - 100_000])}
     for command in commands(preloaded):
         began = len(tried.wrong)
         laid = stores[command.store]
@@ -268,7 +315,7 @@ def in_commands(preloaded, tell):
                     tried.note(got.left == 0 and (command.left is None or StoreFile(path).dump() == command.left), how, got)
                     continue
                 tried.ends += 1
-                spared = laid.is_as_laid() if laid else not os.path.exists(path) or StoreFile(path).dump() == "not a store"
+                spared = laid.is_as_laid() or (command.store == "short" and laid.dump() == OLD_DUMP) if laid else not os.path.exists(path) or StoreFile(path).dump() == "not a store"
                 tried.note(got[:3] == NO_MEMORY and spared, how, (got, spared))
         wrong = tried.wrong[began:]
         tell(command.name, not wrong, f"{len(wrong)} are wrong: {wrong[:3]}")
@@ -287,7 +334,7 @@ def main():
             print(f"FAILED {name}: {what}")
 
     with Preloaded() as preloaded:
-        for name, part in (("sessions", in_sessions), ("commands", in_commands)):
+        for name, part in (("sessions", in_sessions), ("due checkpoints", at_due_checkpoints), ("commands", in_commands)):
             print(f"{name}: {part(preloaded, tell)}", flush=True)
     return 1 if failed else 0
 

@@ -1,9 +1,13 @@
 """Stores that the cases begin with, their events, and sessions over them."""
+import functools
 import struct
 
 import store
 import wire
+import worked
+from model import first_library
 from running import FULL_TEXT, SMALL, SMALL_TEXT, Cases
+from wire import oaut
 
 CLASS, FACE = (bytes.fromhex("443322116655887799aabbccddeeff" + last) for last in ("03", "02"))
 CREATED_1 = b"\1" + struct.pack("<I", 1) + CLASS
@@ -58,6 +62,22 @@ def text_put(value, tag=1):
     """The event that puts a text into object 1 of the full library, and the request."""
     name = struct.pack("<I", 1) + FACE + struct.pack("<iH", TEXT_NAME, 0)
     return b"\3" + name + struct.pack("<HI", 8, len(value)) + value, wire.put(tag, 1, TEXT_NAME, wire.scalar(wire.BSTR, value))
+
+
+# requests that lead to what the store below holds, and some that a session over it has: a get, and then one that makes the checkpoint
+LONG = b"n\0" * 70_000
+DUE_BEFORE = [oaut.ask_create(worked.ITEM), worked.put(worked.ANY, worked.text(LONG)), worked.put(worked.NAME, worked.text(worked.HI)), worked.put(worked.GRID, worked.GRID_1_TO_6)]
+DUE_ASKED = [worked.get(worked.COUNT), worked.put(worked.COUNT, worked.i4(7)), worked.put(worked.GRID, worked.GRID_1_TO_6), oaut.ask_create(worked.ITEM), oaut.ask_release(1)]
+
+
+@functools.lru_cache(maxsize=1)
+def nearly_full():
+    """A store of the model's library in which a checkpoint is due: its bank is nearly full of groups, and its table has a text of some pieces."""
+    cell = lambda dispid: b"\3" + struct.pack("<I", 1) + FACE + struct.pack("<iH", dispid, 0)
+    long = cell(worked.ANY) + struct.pack("<HI", 8, len(LONG)) + LONG
+    grid = cell(worked.GRID) + struct.pack("<HHIiIi6h", 0x2002, 2, 2, -1, 3, 5, *range(1, 7))
+    fillers = [text_put(bytes(262_144))[0]] * 62
+    return bytes(store.add(store.formatted(first_library().text()), CREATED_1, long, *fillers, text_put(worked.HI)[0], grid))
 
 
 def words(*more):

@@ -12,10 +12,11 @@ import sys
 import tempfile
 import time
 
+ROOT = os.path.dirname(os.path.dirname(os.path.abspath(__file__)))
+sys.path.append(f"{ROOT}/cli")
 from memory import peak_of
 from command_line import words
 
-ROOT = os.path.dirname(os.path.dirname(os.path.abspath(__file__)))
 PROGRAM, RUNS = words(__doc__, runs=5)
 LIMIT = 262_144
 HEAD = "[uuid(11223344-5566-7788-99aa-000000000000), version(1.0)]\nlibrary Demo {\n"

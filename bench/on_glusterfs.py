@@ -251,15 +251,20 @@ class Trial:
     def puts(self, path, size=1, limit=None):
         """Puts that go on: so many and no more, or else some and a moment."""
         self.number += 1_000_000
+        time.sleep(0.5)  # the lock of what has looked at the store goes a moment later
         puts = Puts(path, self.library, size, self.number, limit or 1 << 30)
         puts.start()
         wait_for("replies", lambda: puts.acknowledged >= (limit or 2 * size) or not puts.is_alive())
         time.sleep(0 if limit else 1.5 * random.random())
         return puts
 
-    def held(self, where):
-        """The number that each object has, by `dump`; nothing where the store does not open."""
+    def held(self, where, patience=10):
+        """The number that each object has, by `dump`, or why the store does not open. The lock of a process that has ended goes a moment later."""
+        until = time.monotonic() + patience
         status, said = did(PROGRAM, "dump", self.store(where))
+        while "in use" in said and time.monotonic() < until:
+            time.sleep(0.1)
+            status, said = did(PROGRAM, "dump", self.store(where))
         found = re.findall(r"^object (\d+) \S+\ncell \S+ 1 - 0300([0-9a-f]{8})$", said, re.MULTILINE)
         return {int(number): struct.unpack("<I", bytes.fromhex(value))[0] for number, value in found} if status == 0 else {"status": said.strip()}
 
@@ -335,7 +340,7 @@ class Trial:
 
     def lock(self, turn, size):
         puts = self.puts(self.store("one"), size)
-        refused = self.held("two").get("status", "it opened")
+        refused = self.held("two", 0).get("status", "it opened")
         before = puts.acknowledged
         wait_for("more replies", lambda: puts.acknowledged > before + size or not puts.is_alive())
         self.codes = [hex(it) for it in puts.codes[:1]]
@@ -345,7 +350,7 @@ class Trial:
         puts.child.kill()
         killed = time.monotonic()
         puts.end()
-        wait_for("the lock", lambda: "in use" not in str(self.held("two")))
+        wait_for("the lock", lambda: "in use" not in str(self.held("two", 0)))
         self.free = time.monotonic() - killed
         self.judge(puts, "two")
 
@@ -386,7 +391,7 @@ class Trial:
                 self.site.mount(who)
             self.site.heal()
             shown = {where: self.held(where) for where in (*MACHINES, 1, 2, 3)}
-            others = {where: found.get("status") or max(found.values(), default=0) - max(self.found.values(), default=0) for where, found in shown.items() if found != self.found}
+            others = {where: found.get("status") or max(found.values(), default=0) - max((it for it in self.found.values() if isinstance(it, int)), default=0) for where, found in shown.items() if found != self.found}
             if others:
                 self.lost.append(f"healed, these show so many more puts than before: {others}")
             losses += bool(self.lost)

@@ -187,40 +187,41 @@ def known_texts():
     return [LIBRARY, *(text_of(name) for name in ("small.idl", "full.idl", "arrays.idl", "counters.idl", "full.canonical.idl")), *rows]
 
 
+def checked(room, content, words=()):
+    """What `check` says of a text."""
+    text, out, err = (f"{room}/{name}" for name in ("text.idl", "out", "err"))
+    fill(room, {"text.idl": content})
+    return spawned([PROGRAM, "check", *words, text], "/dev/null", out, err)[0], read(out), read(err)
+
+
+def judged_text(room, content):
+    """What kind of text it is, and what is wrong with what `check` says of it: None where nothing is."""
+    status, told, said = checked(room, content)
+    if checked(room, content) != (status, told, said):
+        return "a text", "another answer the second time"
+    if status == 0:
+        return "a library", "what was printed is not its own canonical text" if said or checked(room, told) != (0, told, b"") else None
+    fault_ = FAULT.fullmatch(said)
+    if status != 2 or told or fault_ is None:
+        return "a text", f"{status, told[:200], said[:200]}"
+    kind = re.sub(rb" (byte )?\S*$", b"", fault_[1]).decode()
+    if fault_[2] and int(fault_[2]) > len(content):
+        return kind, f"a place outside of the text, {said}"
+    placed = checked(room, content, ["--where"])
+    return kind, f"--where tells {placed}" if placed[0] != 2 or placed[1] or not placed[2].startswith(said) else None
+
+
 def libraries(room, seconds, seed, most=5):
     """Texts for `check`."""
     found, until, texts = Found("libraries"), time.monotonic() + seconds, known_texts()
-    text, out, err = (f"{room}/{name}" for name in ("text.idl", "out", "err"))
-
-    def checked(content, words=()):
-        fill(room, {"text.idl": content})
-        return spawned([PROGRAM, "check", *words, text], "/dev/null", out, err)[0], read(out), read(err)
-
     while time.monotonic() < until and len(found.differ) < most:
         dice = Dice(seed)
         content = spoiled_text(dice, dice.choice(texts), texts)
-        status, told, said = checked(content)
-        again = checked(content)
-        wrong, fault_ = None, FAULT.fullmatch(said)
-        if again != (status, told, said):
-            wrong = "another answer the second time"
-        elif status == 0:
-            found.kind("a library")
-            if said or checked(told) != (0, told, b""):
-                wrong = "what was printed is not its own canonical text"
-        elif status != 2 or told or fault_ is None:
-            wrong = f"{status, told[:200], said[:200]}"
-        else:
-            found.kind(re.sub(rb" (byte )?\S*$", b"", fault_[1]).decode())
-            if fault_[2] and int(fault_[2]) > len(content):
-                wrong = f"a place outside of the text, {said}"
-            placed = checked(content, ["--where"])
-            if placed[0] != 2 or placed[1] or not placed[2].startswith(said):
-                wrong = f"--where tells {placed}"
-            found.runs += 1
+        kind, wrong = judged_text(room, content)
+        found.kind(kind)
         if wrong:
             found.differ.append(f"seed {seed}, {content!r}: {wrong}")
-        found.tried, found.runs, seed = found.tried + 1, found.runs + 2, seed + 1
+        found.tried, found.runs, seed = found.tried + 1, found.runs + 3, seed + 1
     return found
 
 
@@ -343,26 +344,33 @@ def spoil_store(dice, file, layout):
             file.change(place, dice.spoil(some))
 
 
+def judged_store(room, file, library):
+    """Why a store's file is refused by `serve`, and what is wrong with what both commands say of it, in little memory and time: None where nothing is."""
+    path, lib, out, err = (f"{room}/{name}" for name in ("it.store", "lib.idl", "out", "err"))
+    now = file.now()
+    due = file.mapped(dumped) if now[1] else (3, b"", fault("not a store"))
+    refusal = file.mapped(lambda data: opened(data, library)) if now[1] else "not a store"
+    served = (0, b"", b"") if refusal is None else (3, b"", fault(refusal))
+    for words, wanted in ((["dump", path], due), (["serve", path, lib], served)):
+        status, took = spawned([*BOUNDED, *words], "/dev/null", out, err)
+        got = status, read(out), read(err)
+        if got != wanted or took > 1 or file.now() != now:
+            return refusal, f"{words[0]}: wanted {wanted[0], wanted[1][:200], wanted[2]}, got {got[0], got[1][:200], got[2]}, {took:.2f} s{', and the file is another' if file.now() != now else ''}"
+    return refusal, None
+
+
 def stores(room, seconds, seed, most=5):
     """Stores for `dump` and `serve`."""
     found, (files, library) = Found("stores"), known_stores(room)
-    path, lib, out, err = (f"{room}/{name}" for name in ("it.store", "lib.idl", "out", "err"))
     until = time.monotonic() + seconds
     while time.monotonic() < until and len(found.differ) < most:
         dice = Dice(seed)
         file, layout = dice.choice(files)
         file.lay()
         spoil_store(dice, file, layout)
-        now = file.now()
-        due = file.mapped(dumped) if now[1] else (3, b"", fault("not a store"))
-        refusal = file.mapped(lambda data: opened(data, library)) if now[1] else "not a store"
-        served = (0, b"", b"") if refusal is None else (3, b"", fault(refusal))
-        for words, wanted in ((["dump", path], due), (["serve", path, lib], served)):
-            status, took = spawned([*BOUNDED, *words], "/dev/null", out, err)
-            got = status, read(out), read(err)
-            if got != wanted or took > 1 or file.now() != now:
-                found.differ.append(f"seed {seed}, {words[0]}: wanted {wanted[0], wanted[1][:200], wanted[2]}, got {got[0], got[1][:200], got[2]}, {took:.2f} s{', and the file is another' if file.now() != now else ''}")
-                break
+        refusal, wrong = judged_store(room, file, library)
+        if wrong:
+            found.differ.append(f"seed {seed}, {wrong}")
         found.kind(re.sub(r" at \d+$", "", refusal or "opened"))
         found.tried, found.runs, seed = found.tried + 1, found.runs + 2, seed + 1
     return found

@@ -7,10 +7,11 @@ import tempfile
 from unittest import mock
 
 import fuzz
+import fuzzed
 import store
 from model import LIBRARY
 from preloaded import fast_folder
-from running import Cases, fill
+from running import Cases, fill, rows_of
 
 SECONDS, SEED = float(os.environ.get("OAUT_FUZZ") or 20), int(os.environ.get("OAUT_SEED") or 1)
 
@@ -53,6 +54,14 @@ class Fuzzed(Cases):
 
     def test_stores(self):
         self.fuzzed(fuzz.stores)
+
+    def test_what_another_fuzzer_has_found(self):
+        """Inputs that AFL++ has kept: what was reached by no other."""
+        with tempfile.TemporaryDirectory(dir=fast_folder()) as room:
+            for number, row in enumerate(rows_of("fuzzed.txt"), 1):
+                part, given = row.split(" ")
+                wrong = fuzzed.JUDGES[part](room, bytes.fromhex(given))
+                self.tell(f"row {number} of fuzzed.txt, {part}", wrong is None, wrong)
 
     def test_that_a_wrong_rule_is_found(self):
         for name, part, rule, wrong in WRONG_RULES:

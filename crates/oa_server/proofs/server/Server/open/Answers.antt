@@ -14,12 +14,12 @@ returns-in-Ok-clause-opened g c =
       goes_on = ensures.starts.0;
       size = ensures.size;
       unfailed = ensures.unfailed;
+      unlocked = ensures.unlocked;
       found = λ h. record {
         honest = ensures.honest h;
         reads = ensures.reads h;
         each = λ image is. subst (λ (text : List ℕ). IsStoreAt c.in-Ok.store.bank.shape c.in-Ok.store.chosen c.in-Ok.store.bank.gate text c.in-Ok.table image) (sym ensures.starts.1) (ensures.found h image is);
         contents = ensures.contents h;
-        unlocked = ensures.unlocked h;
         one = ensures.either h;
         formatted = ensures.foreign h;
       };

@@ -287,7 +287,7 @@ static SESSIONS: [Session; 9] = [
     Session {
         name: "a length too large",
         hex: false,
-        input: asked!(1, 0, 16, 0, 1),
+        input: asked!(1, 0, 64, 0, 1),
         requests: 1,
         why: End::TooLong,
         replies: answered!(

@@ -1,0 +1,97 @@
+-- What a store shows of a state that its disk holds.
+use Rattle.std.proofs.Common.{◌≡◌, ◌⊎◌, ⊎_elim, inl, inr, ℕ, Bool, true, false, List, [], ◌∷◌, Option, None, length, map, refl, sym, ◌∙◌, ap, subst, arith}
+use Rattle.std.specs.List.{list_any}
+use Rattle.std.specs.Prelude.{if◌then◌else◌}
+use Rattle.oa_disk.specs.Memory.{contents_of, history_of, image_since_of, moments_of}
+use Rattle.oa_disk.specs.Replaying.{only_now}
+use Rattle.oa_disk.specs.declared.memory.MemoryDisk.{MemoryDisk}
+use Rattle.oa_idl.specs.Canonical.{canonical}
+use Rattle.oa_idl.specs.IsTree.{IsTree}
+use Rattle.oa_idl.specs.Marked.{mark_first, marked, marked_entries, marked_item}
+use Rattle.oa_idl.specs.Trees.{TreeValue}
+use Rattle.oa_idl.specs.declared.items.Item.{Item}
+use Rattle.oa_idl.specs.declared.items.Item.TheVariants.{Interface, Coclass}
+use Rattle.oa_idl.specs.declared.parts.Entry.{Entry}
+use Rattle.oa_journal.specs.Bank.{HasHeader, from_place}
+use Rattle.oa_journal.specs.Banks.{bank_header}
+use Rattle.oa_journal.specs.Damages.{IsDamagedBody, not_damaged}
+use Rattle.oa_journal.specs.Unique.{one_head}
+use Rattle.oa_journal.specs.declared.shape.Shape.{Shape}
+use Rattle.oa_store.specs.Faults.{IsRefusal, Says}
+use Rattle.oa_store.specs.Stores.{IsFormatted, IsStoreAt, IsStoreIn, body_place, head_place}
+use Rattle.oa_store.specs.declared.fault.OpenFault.{OpenFault}
+use Rattle.oa_store.specs.declared.fault.OpenFault.TheVariants.{NotAStore, OldFormat, LibraryDiffers, Damaged, Device, Memory}
+use Rattle.oa_table.specs.Tables.{TableValue}
+use Rattle.oa_typelib.specs.Checked.{IsChecked}
+use Rattle.oa_checks.specs.IsLibrary.{IsLibrary}
+use Rattle.oa_history.specs.Kept.{IsSettled}
+
+-- ---- a store is not refused by whoever wants any library
+
+-- a body that is damaged stands behind a head
+header_of : (shape : Shape) (head body : ℕ → ℕ) (offset : ℕ) → IsDamagedBody shape head body offset → (l : ℕ) × (s : ℕ) × HasHeader shape head l s
+header_of shape head body offset (inl snapshot) = (snapshot.0, snapshot.1, snapshot.2)
+header_of shape head body offset (inr group) = (group.0, group.1, group.3.has)
+
+module _ (size : ℕ) (contents : List ℕ) (shape : Shape) (text : List ℕ) (table : TableValue) (long : length contents ≡ size) (is : IsStoreIn shape contents text table) where
+  -- the store's bank is the one that the selector names
+  its_bank : (chosen : ℕ) → IsFormatted chosen contents → IsStoreAt shape chosen is.1 text table contents
+  its_bank chosen head = subst (λ (k : ℕ). IsStoreAt shape k is.1 text table contents) (sym is.2.head.selected ∙ head.selected) is.2
+
+  pub shown_to_all : (e : OpenFault) → IsRefusal e → Says None size contents e → ⊥
+  shown_to_all NotAStore r says = ⊎_elim (λ lt. absurd (omega (arith, lt, long, is.2.head.size))) (λ none. none is.2.head.formatted) says
+  shown_to_all OldFormat r says = says
+  shown_to_all LibraryDiffers r says = says
+  shown_to_all (Damaged place) r says = ⊎_elim
+      (λ none.
+      let store = its_bank none.chosen none.head in
+      none.none shape (length text) _ (record { room = store.room; has = bank_header shape (from_place (head_place none.chosen) contents) (from_place (body_place shape none.chosen) contents) text table is.1 store.bank }))
+      (λ rest.
+      let store = its_bank rest.chosen rest.head in
+      let head = from_place (head_place rest.chosen) contents in
+      let has = header_of rest.shape head (from_place (body_place rest.shape rest.chosen) contents) rest.offset rest.damaged in
+      let same : shape ≡ rest.shape = (one_head head shape (length text) _ rest.shape has.0 has.1 (bank_header shape head (from_place (body_place shape rest.chosen) contents) text table is.1 store.bank) has.2).shape_same in
+      let here = subst (λ (s : Shape). IsStoreAt s rest.chosen is.1 text table contents) same store in
+      not_damaged rest.shape head (from_place (body_place rest.shape rest.chosen) contents) rest.offset text table is.1 rest.damaged here.bank)
+      says
+  shown_to_all (Device fault) r says = absurd r
+  shown_to_all Memory r says = absurd r
+
+-- ---- the library that is read from the canonical text of one is that one
+
+first_again : (es : List Entry) → marked_entries (mark_first es) ≡ mark_first es
+first_again [] = refl
+first_again (e ∷ es) = refl
+
+entries_again : (es : List Entry) → marked_entries (marked_entries es) ≡ marked_entries es
+entries_again es = by (list_any (λ (e : Entry). e.is_default) es) refl
+  where
+    by : (b : Bool) → list_any (λ (e : Entry). e.is_default) es ≡ b → marked_entries (if b then es else mark_first es) ≡ (if b then es else mark_first es)
+    by true is = rw is refl
+    by false is = first_again es
+
+item_again : (x : Item) → marked_item (marked_item x) ≡ marked_item x
+item_again (Interface i) = refl
+item_again (Coclass c) = ap (λ (es : List Entry). Coclass (record { guid = c.guid; name = c.name; entries = es })) (entries_again c.entries)
+
+items_again : (xs : List Item) → map marked_item (map marked_item xs) ≡ map marked_item xs
+items_again [] = refl
+items_again (x ∷ xs) = rw (item_again x, items_again xs) refl
+
+marked_again : (t : TreeValue) → marked (marked t) ≡ marked t
+marked_again t = ap (λ (xs : List Item). record { guid = t.guid; version = t.version; name = t.name; items = xs }) (items_again t.items)
+
+-- a library's defaults are marked
+library_marked : (t : TreeValue) → IsChecked t → marked t ≡ t
+library_marked t checked = let is = checked.1 in ap marked is.says ∙ marked_again is.tree ∙ sym is.says
+
+module _ (one_tree : (text : List ℕ) (s t : TreeValue) → IsTree text s → IsTree text t → s ≡ t) (read : (t : TreeValue) → IsChecked t → IsTree (canonical t) t) where
+  pub library_again : (text : List ℕ) (library t : TreeValue) → IsChecked t → text ≡ canonical t → IsLibrary text library → library ≡ t
+  library_again text library t checked same is =
+      let tree : is.tree ≡ t = one_tree (canonical t) is.tree t (subst (λ (l : List ℕ). IsTree l is.tree) same is.stands) (read t checked) in
+      is.says ∙ ap marked tree ∙ library_marked t checked
+
+-- ---- a copy of a disk
+
+pub copied : (disk : MemoryDisk) (moment : ℕ) (c : List ℕ) → IsSettled disk → moment ≡ moments_of disk → image_since_of disk moment c → c ≡ contents_of disk
+copied disk moment c settled is left = settled.alone c (only_now (history_of disk) c (subst (λ (n : ℕ). image_since_of disk n c) is left))

@@ -1,0 +1,17 @@
+use Rattle.std.proofs.Common.{ℕ, List, take}
+use Rattle.oa_disk.specs.Memory.{contents_of}
+use Rattle.oa_groups.specs.Runs.{HoldsState}
+use Rattle.oa_journal.specs.Shapes.{default_bank_bytes}
+use Rattle.oa_server.specs.Requests.{requests}
+use Rattle.oa_server.specs.States.{State, state_of}
+use Rattle.oa_table.specs.Tables.{first_table}
+use Rattle.oa_history.specs.Kept.{IsKept, IsSettled}
+use Rattle.oa_history.specs.Lived.{Lives}
+use Rattle.oa_history.proofs.history.relive.Given as goal
+
+abbrev pub invariant-sessions : goal.invariant-sessions
+invariant-sessions l = record {
+  settled : IsSettled l.disk;
+  lives : (new : List ℕ) × HoldsState requests (state_of default_bank_bytes l.library first_table) new
+      × (state : State) × Lives new (state_of default_bank_bytes l.library first_table) (take l.session-index l.sessions) l.heard.items (contents_of l.disk) state × IsKept l.disk state;
+}

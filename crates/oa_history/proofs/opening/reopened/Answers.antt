@@ -1,0 +1,22 @@
+use Rattle.std.proofs.Common.{refl}
+use Rattle.std.proofs.lemmas.Result.{err_from_is_err_and}
+use Rattle.oa_history.proofs.Found.{never_refused, serves, sits}
+use Rattle.oa_history.proofs.opening.reopened.Goals as goal
+
+pub returns-in-Ok-clause-begins : goal.returns-in-Ok-clause-begins
+returns-in-Ok-clause-begins c state kept =
+    let disk = c.args.disk in
+    let library = c.in_ok-library.library in
+    let same = c.in_ok-library.ensures.kept state kept in
+    let clerk = c.in-Ok.server.clerk in
+    record {
+      host = serves disk library state c.requires.alone (λ d. refl) kept.holds kept.unlocked same clerk.storage clerk.host c.in-Ok.ensures.library c.in-Ok.ensures.bank c.in-Ok.ensures.opened;
+      over = sits disk library state c.requires.alone (λ d. refl) kept.holds kept.unlocked same c.an_opening_finds_what_was_kept.ensures.begins clerk.storage clerk.host.table c.in-Ok.ensures.opened;
+    }
+
+pub returns-clause-wanting : goal.returns-clause-wanting
+returns-clause-wanting c state kept r =
+    never_refused c.args.disk c.in_ok-library.library state c.requires.alone (λ d. refl) kept.holds kept.unlocked (c.in_ok-library.ensures.kept state kept) kept.begins _ c.in-Err.fault c.in-Err.ensures.refused r
+
+pub returns-in_err-library-clause-wanting : goal.returns-in_err-library-clause-wanting
+returns-in_err-library-clause-wanting c = let p = err_from_is_err_and c.from_residual.result c.from_residual.ensures.1 in rw (p.1, p.2) (λ state kept. c.in_err-library.ensures.wanting state kept)

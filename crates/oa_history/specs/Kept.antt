@@ -1,0 +1,44 @@
+-- What stands on a disk between two sessions, and what an opening of it makes.
+use Rattle.std.specs.Prelude.{◌≡◌, false, [], ⊤}
+use Rattle.oa_disk.specs.Disk.{NothingPending}
+use Rattle.oa_disk.specs.Memory.{contents_of, image_of, moments_of}
+use Rattle.oa_disk.specs.declared.disk.Disk.{Ghosts}
+use Rattle.oa_disk.specs.declared.memory.MemoryDisk.{MemoryDisk}
+use Rattle.oa_groups.specs.Runs.{HoldsState}
+use Rattle.oa_groups.specs.Sessions.{Sitting}
+use Rattle.oa_server.specs.Openings.{CanBegin}
+use Rattle.oa_server.specs.Requests.{opened, requests}
+use Rattle.oa_server.specs.States.{State}
+use Rattle.oa_server.specs.Storages.{OverStore}
+use Rattle.oa_server.specs.declared.server.Server.{Server}
+use Rattle.oa_store.specs.Faults.{IsRefusal}
+use Rattle.oa_store.specs.declared.store.Store.{Store}
+use Rattle.oa_history.specs.declared.fault.HistoryFault.{HistoryFault}
+use Rattle.oa_history.specs.declared.fault.HistoryFault.TheVariants.{Format, Open, Text, Memory}
+
+-- A disk that was just made, or found after a crash: its clock stands at 0, and a crash leaves what a read gives.
+pub record IsSettled (disk : MemoryDisk) : Type 0 where
+  pub start : moments_of disk ≡ 0
+  pub alone : NothingPending contents_of image_of disk
+
+-- The disk holds a store of the state, with which a server can begin. Nobody holds a lock.
+pub record IsKept (disk : MemoryDisk) (state : State) : Type 0 where
+  pub holds : HoldsState requests state (contents_of disk)
+  pub begins : CanBegin state
+  pub unlocked : opened state ≡ state
+
+-- A session of a server was begun on the disk: it serves the state, and so far nothing was asked.
+pub record Sits {D : Type 0} {g : Ghosts D} (disk : D) (store : Store D g) (state : State) : Type 0 where
+  pub goes_on : store.stopped ≡ false
+  pub sits : Sitting requests disk store state state []
+
+pub record Begins {D : Type 0} {g : Ghosts D} (disk : D) (server : Server D g) (state : State) : Type 0 where
+  pub host : server.clerk.host ≡ state
+  pub over : OverStore server.clerk.storage (λ store. Sits disk store state)
+
+-- Why there is no history: memory is wanting, or room on the disk, or a call of it has failed. No opening was refused.
+abbrev pub IsWanting : HistoryFault → Type 0
+IsWanting (Format fault) = ⊤
+IsWanting (Open fault) = IsRefusal fault → ⊥
+IsWanting (Text fault) = ⊤
+IsWanting Memory = ⊤

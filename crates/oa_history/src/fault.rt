@@ -1,0 +1,41 @@
+//! Why there is no history.
+ghost use Rattle.std.specs.Prelude.{◌≡◌};
+ghost use Rattle.oa_history.specs.declared.fault.HistoryFault.TheVariants.{Memory};
+
+use oa_keeps::TextError;
+use oa_store::{FormatFault, OpenFault};
+use std::alloc::{AllocError, AllocFailed};
+use thiserror::Error;
+
+/// Why sessions were not played to their end.
+#[derive(Clone, Copy, Debug, PartialEq, Eq, Error)]
+pub enum HistoryFault {
+    /// The disk was not formatted.
+    #[error("not formatted: {0}")]
+    Format(FormatFault),
+    /// A store was not opened, since memory was refused or a call of the device failed.
+    #[error("not opened: {0}")]
+    Open(OpenFault),
+    /// The text of a store's library was not read.
+    #[error("library: {0}")]
+    Text(TextError),
+    /// Memory was refused.
+    #[error("out of memory")]
+    Memory,
+}
+
+impl From<AllocError> for HistoryFault {
+    ghost from_gives = { λ _ e. e ≡ Memory };
+
+    fn from(_: AllocError) -> HistoryFault {
+        HistoryFault::Memory
+    }
+}
+
+impl<T: Drop> From<AllocFailed<T>> for HistoryFault {
+    ghost from_gives = { λ _ e. e ≡ Memory };
+
+    fn from(_: AllocFailed<T>) -> HistoryFault {
+        HistoryFault::Memory
+    }
+}

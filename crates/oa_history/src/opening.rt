@@ -1,0 +1,83 @@
+//! A new store, and the opening of one with its own library.
+ghost use Rattle.std.specs.Prelude.{◌≡◌, IfOk, IfErr};
+ghost use Rattle.oa_disk.specs.Memory.{contents_of};
+ghost use Rattle.oa_groups.specs.Runs.{HoldsState};
+ghost use Rattle.oa_journal.specs.Shapes.{default_bank_bytes};
+ghost use Rattle.oa_server.specs.Requests.{requests};
+ghost use Rattle.oa_server.specs.States.{State, state_of};
+ghost use Rattle.oa_store.specs.Stores.{IsStore};
+ghost use Rattle.oa_table.specs.Tables.{first_table};
+ghost use Rattle.oa_history.specs.Kept.{Begins, IsKept, IsSettled, IsWanting};
+
+use crate::{HistoryFault, Opened};
+use oa_disk::{MemoryDisk, Tear};
+use oa_idl::laws::{marked_is_read, one_tree};
+use oa_journal::DEFAULT_BANK_BYTES;
+use oa_keeps::read_library;
+use oa_server::Server;
+use oa_server::laws::{an_opening_finds_what_was_kept, what_was_served_is_served_again};
+use oa_store::{format, inspect};
+use oa_table::Table;
+use oa_typelib::Library;
+use std::alloc::Global;
+
+/// A disk with a store of this library and no objects, as it is found after its making.
+pub(crate) fn begun(
+    alloc: Global,
+    disk: MemoryDisk,
+    library: &Library,
+) -> Result<MemoryDisk, HistoryFault>
+    ensures settled { IfOk result IsSettled }
+    ensures kept { IfOk result (λ disk. IsKept disk (state_of default_bank_bytes library.now first_table)) }
+    ensures wanting { IfErr result IsWanting }
+{
+    library.is_checked();
+    what_was_served_is_served_again();
+    let mut disk = disk;
+    if let Err(fault) = format(alloc, &mut disk, library.text(), DEFAULT_BANK_BYTES) {
+        return Err(HistoryFault::Format(fault));
+    }
+    Ok(disk.crash(disk.moments(), Tear::Kept)?)
+}
+
+/// The text of the library, and the table, of the store that the disk holds. A copy of the disk is read, so that its clock stays.
+pub(crate) fn shown(alloc: Global, disk: &MemoryDisk) -> Result<(Vec<u8>, Table), HistoryFault>
+    requires { IsSettled disk.now }
+    ensures shown { IfOk result (λ r. IsStore (contents_of disk.now) r.0.items r.1) }
+    ensures wanting { IfErr result (λ fault. (state : State) → HoldsState requests state (contents_of disk.now) → IsWanting fault) }
+{
+    let mut copy = disk.crash(disk.moments(), Tear::Kept)?;
+    match inspect(alloc, &mut copy) {
+        Ok(shown) => Ok(shown),
+        Err(fault) => Err(HistoryFault::Open(fault)),
+    }
+}
+
+/// The library of the store that the disk holds.
+fn library_on(alloc: Global, disk: &MemoryDisk) -> Result<Library, HistoryFault>
+    requires { IsSettled disk.now }
+    ensures kept { IfOk result (λ library. (state : State) → IsKept disk.now state → library ≡ state.library) }
+    ensures wanting { IfErr result (λ fault. (state : State) → IsKept disk.now state → IsWanting fault) }
+{
+    one_tree();
+    marked_is_read();
+    let (text, _) = shown(alloc, disk)?;
+    match read_library(alloc, text.as_slice()) {
+        Ok(library) => Ok(library),
+        Err(fault) => Err(HistoryFault::Text(fault)),
+    }
+}
+
+/// Opens the store that the disk holds, with its own library.
+pub(crate) fn reopened(alloc: Global, disk: MemoryDisk) -> Result<Opened, HistoryFault>
+    requires { IsSettled disk }
+    ensures begins { IfOk result (λ opened. (state : State) → IsKept disk state → Begins disk opened.server state) }
+    ensures wanting { IfErr result (λ fault. (state : State) → IsKept disk state → IsWanting fault) }
+{
+    an_opening_finds_what_was_kept::<MemoryDisk>();
+    let library = library_on(alloc, &disk)?;
+    match Server::open(alloc, disk, library) {
+        Ok(server) => Ok(Opened { server }),
+        Err((_, fault)) => Err(HistoryFault::Open(fault)),
+    }
+}

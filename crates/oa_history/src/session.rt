@@ -1,0 +1,59 @@
+//! What a session asks, and what is heard of it.
+ghost use Rattle.std.specs.Prelude.{◌≡◌, ◌≤◌};
+ghost use Rattle.oa_model.specs.Limits.{max_group};
+
+use oa_disk::{MemoryDisk, Tear};
+use oa_record::Reply;
+use oa_server::Server;
+
+/// One call of a server: requests, of which so many are a group.
+#[derive(Drop)]
+pub struct Call {
+    pub bodies: Vec<Vec<u8>>,
+    pub group: usize,
+    ghost some: { 1 ≤ group },
+    ghost few: { group ≤ max_group },
+}
+
+impl Call {
+    /// These requests, in groups of 1 to 1,024.
+    pub fn new(bodies: Vec<Vec<u8>>, group: usize) -> Call
+        requires some { 1 ≤ group }
+        requires few { group ≤ max_group }
+        ensures bodies { result.bodies ≡ bodies }
+        ensures group { result.group ≡ group }
+    {
+        Call { bodies, group }
+    }
+}
+
+/// What a session asks, call by call, and where it is stopped.
+#[derive(Drop)]
+pub struct Session {
+    pub calls: Vec<Call>,
+    /// The moment of its stop, by its disk's clock, which begins at 0 with its opening: moment `2k - 1` lies within call k of the disk,
+    /// and moment `2k` comes after it. A moment behind the session's end is its end.
+    pub moment: u64,
+    /// What becomes of what was pending then.
+    pub tear: Tear,
+}
+
+/// What a call was answered, and the moment at which it had returned.
+#[derive(Drop)]
+pub struct Answer {
+    pub replies: Vec<Reply>,
+    pub moment: u64,
+}
+
+/// What was heard of a session: the answer of each call, and its disk as it was at its end.
+#[derive(Drop)]
+pub struct Heard {
+    pub answers: Vec<Answer>,
+    pub disk: MemoryDisk,
+}
+
+/// A server that was opened on a disk in memory.
+#[derive(Drop)]
+pub struct Opened {
+    pub server: Server<MemoryDisk>,
+}

@@ -1,0 +1,59 @@
+//! One session, and its stop.
+ghost use Rattle.std.specs.Prelude.{◌≡◌, IfOk, IfErr};
+ghost use Rattle.oa_disk.specs.Memory.{contents_of};
+ghost use Rattle.oa_server.specs.States.{State};
+ghost use Rattle.oa_history.specs.Kept.{IsKept, IsSettled, IsWanting};
+ghost use Rattle.oa_history.specs.Lived.{IsStopped, MadeBy};
+ghost use Rattle.oa_history.specs.declared.fault.HistoryFault.TheVariants.{Memory};
+
+use crate::opening::reopened;
+use crate::{Answer, Call, Heard, HistoryFault, Opened, Session};
+use oa_disk::MemoryDisk;
+use oa_server::Server;
+use oa_server::laws::{
+    a_stop_keeps_what_was_answered, no_trace_of_groups, sessions_go_on,
+    what_was_served_is_served_again,
+};
+use std::alloc::Global;
+
+/// Makes the calls of a server, one after another.
+fn answered(
+    alloc: Global,
+    server: &mut Server<MemoryDisk>,
+    calls: &[Call],
+) -> Result<Vec<Answer>, HistoryFault>
+    ensures made { IfOk result (λ answers. MadeBy server.old calls.now answers.items server.new) }
+    ensures wanting { IfErr result (λ fault. fault ≡ Memory) }
+{
+    let mut answers = Vec::new(alloc);
+    'calls: for call in calls {
+        let replies = server.run(call.bodies.as_slice(), call.group)?;
+        let moment = server.disk().moments();
+        answers.push(Answer { replies, moment })?;
+    }
+    Ok(answers)
+}
+
+/// Plays one session: opens the store on the disk with its own library, makes the calls, and stops. Answers what was heard, and the disk
+/// that the stop has left.
+pub fn stopped(
+    alloc: Global,
+    disk: MemoryDisk,
+    session: &Session,
+) -> Result<(Heard, MemoryDisk), HistoryFault>
+    requires { IsSettled disk }
+    ensures settled { IfOk result (λ r. IsSettled r.1) }
+    ensures stopped { IfOk result (λ r. (before : State) → IsKept disk before → (after : State)
+        × IsStopped session.now r.0 (contents_of disk) before (contents_of r.1) after × IsKept r.1 after) }
+    ensures wanting { IfErr result (λ fault. (before : State) → IsKept disk before → IsWanting fault) }
+{
+    no_trace_of_groups();
+    what_was_served_is_served_again();
+    sessions_go_on::<MemoryDisk>();
+    a_stop_keeps_what_was_answered::<MemoryDisk>();
+    let Opened { mut server } = reopened(alloc, disk)?;
+    let answers = answered(alloc, &mut server, session.calls.as_slice())?;
+    let disk = server.into_disk();
+    let left = disk.crash(session.moment.min(disk.moments()), session.tear)?;
+    Ok((Heard { answers, disk }, left))
+}

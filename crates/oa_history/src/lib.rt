@@ -2,6 +2,8 @@
 #![tactic(auto)]
 
 mod fault;
+#[cfg(test)]
+mod histories;
 mod history;
 mod opening;
 mod session;

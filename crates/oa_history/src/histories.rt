@@ -1,0 +1,59 @@
+//! One session in which an object is made, stopped before anything of it is kept, and at its end.
+use crate::{Call, Session, relive};
+use oa_disk::{MemoryDisk, Tear};
+use oa_idl::parse;
+use oa_typelib::check;
+use std::alloc::Global;
+use std::process::Abort;
+use std::rt::HostRuntime;
+
+const SMALL: &str = "[uuid(11223344-5566-7788-99AA-BBCCDDEEFF01), version(1.0)] library Demo {
+[uuid(11223344-5566-7788-99AA-BBCCDDEEFF02)] dispinterface DItem { properties: [id(1)] long Count; }
+[uuid(11223344-5566-7788-99AA-BBCCDDEEFF03)] coclass Item { [default] dispinterface DItem; } }";
+
+/// Tag 1, opcode 1, and the coclass.
+const CREATE: [u8; 24] = [
+    1, 0, 0, 0, 1, 0, 0, 0, 0x44, 0x33, 0x22, 0x11, 0x66, 0x55, 0x88, 0x77, 0x99, 0xaa, 0xbb, 0xcc,
+    0xdd, 0xee, 0xff, 3,
+];
+
+/// Behind the end of any session.
+const END: u64 = 0xffff_ffff;
+
+/// A session that makes an object, stopped at the moment.
+fn session(alloc: Global, moment: u64, tear: Tear) -> Option<Session> {
+    let mut body = Vec::new(alloc);
+    body.extend_from_slice(&CREATE).ok()?;
+    let mut bodies = Vec::new(alloc);
+    bodies.push(body).ok()?;
+    let mut calls = Vec::new(alloc);
+    calls.push(Call::new(bodies, 1)).ok()?;
+    Some(Session {
+        calls,
+        moment,
+        tear,
+    })
+}
+
+/// The number of the next object, behind a session that was stopped at the moment and another one that was stopped at its end.
+fn next_of(alloc: Global, moment: u64, tear: Tear) -> Option<u32> {
+    let library = check(alloc, parse(alloc, SMALL).ok()?).ok()?;
+    let disk = MemoryDisk::new(alloc, 75_505_664, 100, 4000).ok()?;
+    let mut sessions = Vec::new(alloc);
+    sessions.push(session(alloc, moment, tear)?).ok()?;
+    sessions.push(session(alloc, END, Tear::Lost)?).ok()?;
+    let lived = relive(alloc, &library, disk, &sessions).ok()?;
+    Some(lived.table.next())
+}
+
+fn expect(rt: &impl Abort, what: &str, holds: bool) {
+    assert!(rt; holds, "{what}");
+}
+
+// A body that always answers want of memory meets the contract: here memory is ample.
+#[test]
+fn what_was_answered_is_kept(rt: HostRuntime) {
+    let alloc = rt.alloc();
+    expect(&rt, "lost", next_of(alloc, 0, Tear::Lost) == Some(2));
+    expect(&rt, "kept", next_of(alloc, END, Tear::Lost) == Some(3));
+}

@@ -15,7 +15,7 @@ ROOT = os.path.dirname(os.path.dirname(os.path.abspath(__file__)))
 TOOL = os.path.join(ROOT, "bin", "wrong-bodies")
 sys.dont_write_bytecode = True
 sys.path.insert(0, os.path.join(ROOT, "tools"))
-from wrong_bodies.choice import PARTS, TRIED, Choice, part_of, write_tried
+from wrong_bodies.choice import PARTS, TRIED, Choice, part_of, read_tried, write_tried
 
 SOURCE = """//! Steps and the lesser of two numbers.
 #![tactic(auto)]
@@ -158,33 +158,66 @@ def named(name, part):
     return next(it for it in (f"{name}_{count}" for count in range(1_000)) if part_of(f"above/{it}") == part)
 
 
+def tried_over(root, **commits):
+    """Says of these crates over which commit all of their edits were tried."""
+    write(f"{root}/{TRIED}", "# a comment\n" + "".join(f"{name} {it} 2026-01-01 7\n" for name, it in commits.items()))
+
+
 def choices(root):
     """Looks at what is chosen, commit by commit, where nothing but the commits changes: each edit comes again and again."""
-    write(f"{root}/{TRIED}", f"{git(root, 'rev-parse', 'HEAD')} 2026-01-01 7\n")
+    crates, below = ["steps", "above"], {"steps": [], "above": ["steps"]}
+    chosen = lambda: Choice(root, crates, True)
+    tried_over(root, steps=git(root, "rev-parse", "HEAD"), above=git(root, "rev-parse", "HEAD"))
     labels, seen = [f"above/{count}" for count in range(60)], {}
     for count in range(40):
         head = commit(root, f"{count}")
-        choice = Choice(root, True)
+        choice = chosen()
         tried = [it for it in labels if choice.is_tried(it)]
-        tell(f"what commit {count} chooses", choice.changed == set() and tried == [it for it in labels if part_of(it) == int(head, 16) % PARTS], choice.why)
+        tell(f"what commit {count} chooses", choice.whole == set() and tried == [it for it in labels if part_of(it) == int(head, 16) % PARTS], choice.why)
         for it in tried:
             seen[it] = seen.get(it, 0) + 1
     tell("each edit is chosen by one commit or another", sorted(seen) == sorted(labels), sorted({*labels} - {*seen}))
-    tell("without the gate all are tried", all(Choice(root, False).is_tried(it) for it in labels))
+    tell("without the gate all are tried", all(Choice(root, crates, False).is_tried(it) for it in labels))
     for path, is_counted in (("src/lib.rt", True), ("specs/S.antt", True), ("proofs/P.antt", True), ("wrong-bodies/new.edit", True), ("must-fail/new.edit", False), ("out/x", False)):
         write(f"{root}/crates/above/{path}", "x")
-        tell(f"a crate with another {path} has changed: {is_counted}", Choice(root, True).changed == ({"above"} if is_counted else set()))
+        tell(f"a crate with another {path} has changed: {is_counted}", chosen().whole == ({"above"} if is_counted else set()), chosen().why)
         git(root, "checkout", "-q", ".")
         git(root, "clean", "-qfd")
-    write(f"{root}/{TRIED}", f"# a comment\n{'1' * 40} 2026-01-01 7\n")
-    choice = Choice(root, True)
-    tell("a commit that is not in the history has all tried", choice.changed is None and choice.is_tried(labels[0]) and "not in the history" in choice.why, choice.why)
+    # each crate by its own line
+    older = git(root, "rev-parse", "HEAD")
+    write(f"{root}/crates/steps/src/lib.rt", SOURCE + "\n// changed again\n")
+    newer = commit(root, "the lower crate changed")
+    for name, lines, whole in (
+        ("a crate that changed since its own commit", {"steps": older, "above": older}, {"steps"}),
+        ("a crate that is as in its own commit, which is newer", {"steps": newer, "above": older}, set()),
+        ("a crate whose line is newer than what it lacks", {"steps": older, "above": newer}, {"steps"}),
+        ("a crate without a line", {"steps": newer}, {"above"}),
+        ("a crate whose commit is not in the history", {"steps": newer, "above": "1" * 40}, {"above"}),
+        ("no crate with a line", {}, {*crates}),
+    ):
+        tried_over(root, **lines)
+        choice = chosen()
+        well = choice.whole == whole and [it for it in labels if choice.is_tried(it)] == [it for it in labels if "above" in whole or part_of(it) == int(newer, 16) % PARTS]
+        tell(name, well and f"all of {len(whole)} of 2 crates" in choice.why, choice.why)
+    tried_over(root, steps=newer, above=older)
+    tell("what stands above a crate that changed since is compiled", chosen().has_changed("steps", "above") and not chosen().has_changed("above", "above"))
     os.remove(f"{root}/{TRIED}")
-    tell("no file has all tried", Choice(root, True).changed is None)
+    tell("no file has all tried", chosen().whole == {*crates})
+    # what is written
     commit(root, "without the file")
-    tell("all were tried over a commit", write_tried(root, 7).endswith("is written") and Choice(root, True).changed == set())
-    write(f"{root}/crates/above/src/lib.rt", "x")
-    tell("all were tried over what is no commit", "is not written" in write_tried(root, 7))
+    tell("one crate was tried over a commit", write_tried(root, {"above": 5}, below).endswith("is written for 1 of 1 crates") and chosen().whole == {"steps"}, chosen().why)
+    tell("and the other after it", write_tried(root, {"steps": 7}, below).endswith("is written for 1 of 1 crates") and chosen().whole == set(), chosen().why)
+    lines = read_tried(root)
+    tell("the lines say commit and count", [(it[0], it[2]) for it in (lines["above"], lines["steps"])] == [(git(root, "rev-parse", "HEAD"), "5"), (git(root, "rev-parse", "HEAD"), "7")], lines)
+    write_tried(root, {}, {"steps": []})
+    tell("nothing tried writes nothing", read_tried(root) == lines, read_tried(root))
+    for path in ("crates/above/src/lib.rt", "crates/above/wrong-bodies/new.edit", "crates/steps/src/lib.rt"):
+        tried_over(root, steps=older)
+        write(f"{root}/{path}", "x")
+        said = write_tried(root, {"above": 5}, below)
+        tell(f"{path} is of no commit, so that the crate gets no line", said.endswith("0 of 1 crates; not as in a commit: above") and "above" not in read_tried(root), said)
+        git(root, "checkout", "-q", ".")
+        git(root, "clean", "-qfd", "crates")
 
 
 def main():
@@ -209,7 +242,7 @@ def main():
             above[f"above/{name}"] = want
             write(f"{root}/crates/above/wrong-bodies/{name}.edit", f"file: src/lib.rt\n{text}")
         before = commit(root, "all tried")
-        write(f"{root}/{TRIED}", f"{before} 2026-01-01 7\n")
+        tried_over(root, steps=before, above=before)
         write(f"{root}/crates/steps/src/lib.rt", SOURCE + "\n// changed\n")
         while int(commit(root, "one crate changed"), 16) % PARTS:
             pass

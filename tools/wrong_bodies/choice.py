@@ -1,8 +1,9 @@
-"""Which wrong bodies the gate tries: those of each crate whose sources, specs, proofs or wrong bodies have changed since all were tried, and of the others one part in six.
+"""Which wrong bodies the gate tries: all of each crate whose sources, specs, proofs or wrong bodies have changed since all of them were tried, and of the others one part in six.
 
 The part is chosen by the commit: its hash and an edit's name alone say whether the edit is tried, so each comes again and again, and none is left out for good. The file
-wrong-bodies/TRIED names the commit over which all were tried."""
+wrong-bodies/TRIED names, crate by crate, the commit over which all of the crate's edits were tried and refused."""
 import datetime
+import functools
 import hashlib
 import os
 import subprocess
@@ -11,6 +12,9 @@ PARTS = 6
 # what of a crate counts; that a crate below it changed does not, since a crate is proved by the contracts of those below it
 FOLDERS = ("src", "specs", "proofs", "wrong-bodies")
 TRIED = "wrong-bodies/TRIED"
+HEAD = "# CRATE COMMIT DAY COUNT: the commit over which all wrong bodies of the crate were tried, and how many were refused. bin/wrong-bodies writes it."
+# how many crates are named one by one
+NAMED = 6
 
 
 def git(root, *words):
@@ -27,18 +31,18 @@ def part_of(label):
     return int.from_bytes(hashlib.sha256(label.encode()).digest()[:8], "big") % PARTS
 
 
-def tried_commit(root):
-    """Returns the commit over which all were tried, or None where none is named."""
+def read_tried(root):
+    """Returns the lines of the crates: each crate's commit, day and count."""
     if not os.path.isfile(f"{root}/{TRIED}"):
-        return None
+        return {}
     with open(f"{root}/{TRIED}", encoding="utf-8") as it:
-        words = [line.split() for line in it if line.strip() and not line.startswith("#")]
-    return words[0][0] if words else None
+        lines = [line.split() for line in it if not line.startswith("#")]
+    return {it[0]: it[1:] for it in lines if len(it) == 4}
 
 
 def changed_crates(root, commit):
-    """Returns the crates that differ from how they stood in a commit, or None where it is not in the history."""
-    if commit is None or git(root, "merge-base", "--is-ancestor", commit, "HEAD") is None:
+    """Returns the crates that differ, committed or not, from how they stood in a commit, or None where it is not in the history."""
+    if git(root, "merge-base", "--is-ancestor", commit, "HEAD") is None:
         return None
     paths = (git(root, "diff", "--name-only", "-z", commit, "--", "crates") or "") + (git(root, "ls-files", "-z", "--others", "--exclude-standard", "crates") or "")
     parts = [it.split("/") for it in paths.split("\0") if it]
@@ -46,30 +50,45 @@ def changed_crates(root, commit):
 
 
 class Choice:
-    """Which edits are tried. Without a commit that is known to have them tried, all are."""
+    """Which edits of these crates are tried: without the gate all, and in it those of the crates that are to be tried whole, and of the others the commit's part."""
 
-    def __init__(self, root, is_for_gate):
-        self.changed, self.part, self.why = None, None, ""
+    def __init__(self, root, crates, is_for_gate):
+        self.is_for_gate, self.whole, self.part, self.why = is_for_gate, {*crates}, None, ""
         if not is_for_gate:
             return
-        head, commit = git(root, "rev-parse", "HEAD"), tried_commit(root)
-        self.changed = changed_crates(root, commit)
-        if self.changed is None:
-            self.why = f"{TRIED} names {commit}, which is not in the history: all are tried" if commit else f"no file {TRIED} names a commit: all are tried"
+        self.tried = read_tried(root)
+        self.changed_since = functools.cache(lambda commit: changed_crates(root, commit))
+        head = git(root, "rev-parse", "HEAD")
+        if head is None:
+            self.why = "no commit chooses a part: all are tried"
             return
         self.part = int(head, 16) % PARTS
-        self.why = f"part {self.part + 1} of {PARTS}, by the commit, and all of what changed since {commit[:7]}: {', '.join(sorted(self.changed)) or 'no crate'}"
+        self.whole = {it for it in crates if self.has_changed(it, it)}
+        named = f": {', '.join(sorted(self.whole))}" if 0 < len(self.whole) <= NAMED else ""
+        self.why = f"part {self.part + 1} of {PARTS}, by the commit, and all of {len(self.whole)} of {len({*crates})} crates, changed since they were tried{named}"
+
+    def has_changed(self, crate, since):
+        """Whether a crate has changed since all edits of another, or its own, were tried, or nobody knows."""
+        if since not in self.tried:
+            return True
+        changed = self.changed_since(self.tried[since][0])
+        return changed is None or crate in changed
 
     def is_tried(self, label):
-        return self.changed is None or label.partition("/")[0] in self.changed or part_of(label) == self.part
+        return label.partition("/")[0] in self.whole or part_of(label) == self.part
 
 
-def write_tried(root, count):
-    """Says that all were tried over the commit as it stands, or why that can't be said."""
-    if git(root, "rev-parse", "HEAD") is None or git(root, "status", "--porcelain", "--", *[f":(glob)crates/*/{it}/**" for it in FOLDERS]):
-        return f"{TRIED} is not written: the crates are not those of a commit"
-    os.makedirs(os.path.dirname(f"{root}/{TRIED}"), exist_ok=True)
-    with open(f"{root}/{TRIED}", "w", encoding="utf-8") as it:
-        it.write("# The commit over which all wrong bodies were tried, the day, and how many were refused: bin/wrong-bodies --all writes it.\n")
-        it.write(f"{git(root, 'rev-parse', 'HEAD').strip()} {datetime.date.today()} {count}\n")
-    return f"{TRIED} is written"
+def write_tried(root, counts, below):
+    """Says of these crates, by their counts, that all of their edits were tried and refused over the commit as it stands; a crate gets no line while it, or one of those below it,
+    is not as in the commit. Returns what was written."""
+    head, tried = git(root, "rev-parse", "HEAD"), read_tried(root)
+    changed = changed_crates(root, "HEAD") if head else None
+    written = [] if changed is None else sorted(it for it in counts if not {it, *below[it]} & changed)
+    for it in written:
+        tried[it] = [head.strip(), str(datetime.date.today()), str(counts[it])]
+    if written:
+        os.makedirs(os.path.dirname(f"{root}/{TRIED}"), exist_ok=True)
+        with open(f"{root}/{TRIED}", "w", encoding="utf-8") as it:
+            it.write("".join(f"{line}\n" for line in [HEAD, *(" ".join([name, *tried[name]]) for name in sorted(tried) if name in below)]))
+    left = sorted({*counts} - {*written})
+    return f"{TRIED} is written for {len(written)} of {len(counts)} crates" + (f"; not as in a commit: {', '.join(left)}" if left else "")

@@ -10,7 +10,12 @@ from .sources import functions_of
 
 BY_CLAUSE, BY_PROOF, STANDS, NOT_TRIED = "refused by a clause", "refused by a proof file alone", "NOT REFUSED", "not tried"
 
-Verdict = collections.namedtuple("Verdict", "word why")
+
+class Verdict(collections.namedtuple("Verdict", "word why")):
+    """A word, and the reason for it."""
+
+    def is_refusal(self):
+        return self.word in (BY_CLAUSE, BY_PROOF)
 
 
 class Judge:
@@ -187,7 +192,7 @@ class Judge:
 
     def control(self):
         """Sees that each edited function is proved without its edit; where it is not, a refusal says nothing."""
-        refused = [it for it in self.edits if it.verdict.word in (BY_CLAUSE, BY_PROOF)]
+        refused = [it for it in self.edits if it.verdict.is_refusal()]
         for i in sorted({i for it in refused for i in it.must} - self.proved_unedited):
             function = self.sources.functions[i][1]
             if any(function.is_told_by(name) for name in self.unproved()):

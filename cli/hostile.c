@@ -5,8 +5,9 @@
    SHORT                 a read or a write brings so many bytes at most
    INTERRUPTED           each read of standard input is interrupted (1), or each write to standard output (2)
    BLOCKED               the same calls would block
-   TOLD                  a file, which gets the number of calls of the allocator, of blocks that were not freed, of reads of standard input and
-                         of writes to standard output */
+   LARGE                 how many bytes are many
+   TOLD                  a file, which gets the number of calls of the allocator, of blocks that were not freed, of reads of standard input, of
+                         writes to standard output, and of calls of the allocator that asked for LARGE bytes or more */
 #define _GNU_SOURCE
 #include <dlfcn.h>
 #include <errno.h>
@@ -28,8 +29,8 @@ ssize_t __pread64(int file, void *into, size_t size, off64_t at);
 ssize_t __pwrite64(int file, const void *from, size_t size, off64_t at);
 
 static int counts;
-static long calls, blocks, reads, writes, refused, refused_from, interrupted, blocked;
-static size_t most = (size_t)-1;
+static long calls, blocks, reads, writes, larges, refused, refused_from, interrupted, blocked;
+static size_t most = (size_t)-1, large = (size_t)-1;
 
 static long number(const char *name) {
     const char *text = getenv(name);
@@ -40,9 +41,10 @@ static size_t brought(size_t size) { return counts && size > most ? most : size;
 
 /* memory */
 
-static int is_refused(void) {
+static int is_refused(size_t size) {
     if (!counts) return 0;
     calls++;
+    larges += size >= large;
     if (calls != refused && (refused_from == 0 || calls < refused_from)) return 0;
     errno = ENOMEM;
     return 1;
@@ -53,17 +55,17 @@ static void *got(void *block) {
     return block;
 }
 
-void *malloc(size_t size) { return is_refused() ? NULL : got(__libc_malloc(size)); }
+void *malloc(size_t size) { return is_refused(size) ? NULL : got(__libc_malloc(size)); }
 
-void *calloc(size_t count, size_t size) { return is_refused() ? NULL : got(__libc_calloc(count, size)); }
+void *calloc(size_t count, size_t size) { return is_refused(count * size) ? NULL : got(__libc_calloc(count, size)); }
 
 void *realloc(void *block, size_t size) {
-    if (is_refused()) return NULL;
+    if (is_refused(size)) return NULL;
     void *found = __libc_realloc(block, size);
     return block == NULL ? got(found) : found;
 }
 
-void *memalign(size_t unit, size_t size) { return is_refused() ? NULL : got(__libc_memalign(unit, size)); }
+void *memalign(size_t unit, size_t size) { return is_refused(size) ? NULL : got(__libc_memalign(unit, size)); }
 
 void *aligned_alloc(size_t unit, size_t size) { return memalign(unit, size); }
 
@@ -117,8 +119,8 @@ static int (*program)(int, char **, char **);
 
 static void told(void) {
     counts = 0;
-    char text[96];
-    int length = snprintf(text, sizeof text, "%ld %ld %ld %ld\n", calls, blocks, reads, writes);
+    char text[128];
+    int length = snprintf(text, sizeof text, "%ld %ld %ld %ld %ld\n", calls, blocks, reads, writes, larges);
     int file = open(getenv("TOLD"), O_WRONLY | O_CREAT | O_TRUNC, 0600);
     if (__write(file, text, length) != length) abort();
     close(file);
@@ -130,6 +132,7 @@ static int counted(int count, char **words, char **variables) {
     interrupted = number("INTERRUPTED");
     blocked = number("BLOCKED");
     if (number("SHORT") > 0) most = number("SHORT");
+    if (number("LARGE") > 0) large = number("LARGE");
     atexit(told);
     calls = blocks = 0;
     counts = 1;

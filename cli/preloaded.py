@@ -98,8 +98,8 @@ class StoreFile:
 
 
 class Told(NamedTuple):
-    """What came of a run: status, output and fault; how many calls of the allocator were made, how many blocks were not freed, and how often standard input was read
-    and standard output written."""
+    """What came of a run: status, output and fault; how many calls of the allocator were made, how many blocks were not freed, how often standard input was read and
+    standard output written, and how many calls of the allocator asked for many bytes."""
 
     status: int
     out: bytes
@@ -108,6 +108,7 @@ class Told(NamedTuple):
     left: int
     reads: int
     writes: int
+    larges: int
 
 
 class Preloaded:
@@ -133,7 +134,7 @@ class Preloaded:
     def run(self, words, given="nothing", **how):
         """Runs the program with the file `given` on standard input. `how` are the variables that the library reads, in lower case."""
         variables = {"LD_PRELOAD": self.path("hostile.so"), "TOLD": self.path("told"), **{name.upper(): str(it) for name, it in how.items()}}
-        self.fill("told", b"-1 -1 -1 -1")
+        self.fill("told", b"-1 -1 -1 -1 -1")
         status, _ = spawned([PROGRAM, *words], self.path(given), self.path("out"), self.path("err"), variables)
         return Told(status, read(self.path("out")), read(self.path("err")), *map(int, read(self.path("told")).split()))
 

@@ -1,14 +1,19 @@
-"""The memory of the program over stores: an opening takes what the store holds, and a checkpoint takes none."""
+"""The memory of the program: an opening takes what the store holds, a checkpoint takes none, and a request is answered in as much as it and its reply are long."""
 import tempfile
+import unittest
 
 import full
 import store
 import wire
-from preloaded import fast_folder
+import worked
+from preloaded import COMPILER, Preloaded, fast_folder
+from refused_growths import LONG, Over, Session
 from running import Cases, fill, run_in
+from wire import oaut
 
 MEBIBYTE = 1_024  # KiB
 PAGES = 256  # KiB that may come and go without a growth of the program
+LARGE = 65_536
 
 
 class Memory(Cases):
@@ -38,3 +43,29 @@ class Memory(Cases):
         self.tell("a checkpoint takes no memory", max(with_checkpoint) <= max(put) + PAGES, found)
         self.tell("nor does what goes on behind it", max(found["a put behind it"]) <= max(put) + PAGES, found)
         self.tell("REPLACE LIBRARY takes its library's, and gives it back", max(found["REPLACE LIBRARY"]) <= max(put) + MEBIBYTE and max(found["a put behind that"]) <= max(put) + MEBIBYTE, found)
+
+
+@unittest.skipUnless(COMPILER, "cc is not there: no call of the allocator is looked at")
+class Asked(Cases):
+    """How many bytes a session asks the allocator for at once, behind what it asks for as it begins."""
+
+    def test_small_requests(self):
+        sessions = (
+            ("the worked cases", Session("", worked.ALL)),
+            ("every type", Session("", worked.EVERY_TYPE)),
+            ("one object", Session("", [oaut.ask_create(worked.ITEM)])),
+            ("a store with objects", Session("", [worked.get(worked.ANY), worked.put(worked.ANY, worked.i4(7)), oaut.ask_create(worked.ITEM)], worked.CREATED)),
+        )
+        long = Session("", [oaut.ask_create(worked.ITEM), worked.put(worked.NAME, worked.text(LONG))])
+        with Preloaded() as preloaded:
+            for framing in oaut.FRAMINGS:
+                for group in (None, 1, 3, 1_024):
+                    for name, session in sessions:
+                        if group is not None or not session.before:
+                            found = self.larges(Over(preloaded, session, framing, group))
+                            self.tell(f"{name}, {framing}, {'in memory' if group is None else f'groups of {group}'}: no block of {LARGE} bytes", found == 0, found)
+                    found = self.larges(Over(preloaded, long, framing, group))
+                    self.tell(f"a text of {len(LONG)} bytes takes some", found > 0, found)
+
+    def larges(self, over):
+        return over.run(large=LARGE).larges - over.run("nothing", large=LARGE).larges

@@ -2,13 +2,16 @@
 import os
 import struct
 import tempfile
+import unittest
 
 import wire
 from playing import Played
-from running import CREATE, CREATED, FULL, REPLIES, REQUESTS, SMALL, Talk, run, within
+from preloaded import COMPILER, Preloaded
+from running import CREATE, CREATED, FULL, REPLIES, REQUESTS, SMALL, Cases, Talk, run, within
 
 STUB = b"00000000" + b"f7060780" + b"ffffffff" + b"00000000"
 LINE_LIMIT, BODY_LIMIT = 8_388_608, 4_194_304
+BUFFER = 8_192  # bytes that are read in one call, where there are as many
 
 
 def record(body):
@@ -135,3 +138,18 @@ class Records(Played):
                 replies.append(session.bytes(len(records(answered))))
             session.send(struct.pack("<I", BODY_LIMIT + 1))
             self.tell("records: each reply comes before the next request, and a length too long ends the session at once", (session.status(), b"".join(replies)) == (4, records(REPLIES)), replies)
+
+
+@unittest.skipUnless(COMPILER, "cc is not there: the calls of the streams are not counted")
+class Calls(Cases):
+    def test_requests_that_are_all_there(self):
+        """They are read a buffer at a time, and the replies to a buffer's leave together."""
+        lines, times = b"".join(REQUESTS.splitlines(keepends=True)[2:]), 400
+        answers = b"".join(REPLIES.splitlines(keepends=True)[2:])
+        with Preloaded() as preloaded:
+            preloaded.fill("lib.idl", SMALL)
+            for words, given, due in ((["--hex"], CREATE + b"\n" + lines * times, CREATED + b"\n" + answers * times), ([], ASKED + records(lines) * times, ANSWERED + records(answers) * times)):
+                preloaded.fill("given", given)
+                got = preloaded.run(["play", *words, preloaded.path("lib.idl")], "given")
+                self.tell(f"{len(given)} bytes {words or 'of records'}", got[:3] == (0, due, b""), (got[0], len(got[1]), got[2]))
+                self.tell(f"{len(given)} bytes {words or 'of records'} are read, and their replies written, in few calls", got.writes <= got.reads <= len(given) // BUFFER + 2, (got.reads, got.writes))

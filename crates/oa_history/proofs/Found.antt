@@ -8,9 +8,11 @@ use Rattle.oa_idl.specs.Canonical.{canonical}
 use Rattle.oa_idl.specs.Trees.{TreeValue}
 use Rattle.oa_journal.specs.Shapes.{body_bytes}
 use Rattle.oa_server.specs.Laws.{OpenedBegins}
-use Rattle.oa_server.specs.Openings.{CanBegin, Finds, IsNotOpened, IsOpened}
-use Rattle.oa_server.specs.Requests.{held_of, opened, requests}
-use Rattle.oa_server.specs.States.{State, state_of}
+use Rattle.oa_turn.specs.Beginnings.{CanBegin}
+use Rattle.oa_server.specs.Openings.{Finds, IsNotOpened, IsOpened}
+use Rattle.oa_turn.specs.Events.{held_of}
+use Rattle.oa_server.specs.Requests.{opened, requests}
+use Rattle.oa_turn.specs.States.{State, state_of}
 use Rattle.oa_server.specs.Storages.{OverStore, bank_of}
 use Rattle.oa_server.specs.declared.storage.Storage.{Storage}
 use Rattle.oa_server.specs.declared.storage.Storage.TheVariants.{Disk, Memory}

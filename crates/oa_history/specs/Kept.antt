@@ -6,9 +6,9 @@ use Rattle.oa_disk.specs.declared.disk.Disk.{Ghosts}
 use Rattle.oa_disk.specs.declared.memory.MemoryDisk.{MemoryDisk}
 use Rattle.oa_groups.specs.Runs.{HoldsState}
 use Rattle.oa_groups.specs.Sessions.{Sitting}
-use Rattle.oa_server.specs.Openings.{CanBegin}
+use Rattle.oa_turn.specs.Beginnings.{CanBegin}
 use Rattle.oa_server.specs.Requests.{opened, requests}
-use Rattle.oa_server.specs.States.{State}
+use Rattle.oa_turn.specs.States.{State}
 use Rattle.oa_server.specs.Storages.{OverStore}
 use Rattle.oa_server.specs.declared.server.Server.{Server}
 use Rattle.oa_store.specs.Faults.{IsRefusal}

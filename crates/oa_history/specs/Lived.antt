@@ -11,7 +11,7 @@ use Rattle.oa_groups.specs.Turns.{Entry}
 use Rattle.oa_idl.specs.Canonical.{canonical}
 use Rattle.oa_record.specs.Replies.{ReplyValue}
 use Rattle.oa_server.specs.Requests.{opened, requests}
-use Rattle.oa_server.specs.States.{State}
+use Rattle.oa_turn.specs.States.{State}
 use Rattle.oa_server.specs.Storages.{OverStore, Serves, disk_of}
 use Rattle.oa_server.specs.declared.server.Server.{Server}
 use Rattle.oa_server.specs.declared.storage.Storage.{Storage}

@@ -1,7 +1,7 @@
 //! Sessions one after another.
 ghost use Rattle.std.specs.Prelude.{◌≡◌, IfOk, IfErr};
 ghost use Rattle.oa_journal.specs.Shapes.{default_bank_bytes};
-ghost use Rattle.oa_server.specs.States.{state_of};
+ghost use Rattle.oa_turn.specs.States.{state_of};
 ghost use Rattle.oa_table.specs.Tables.{first_table};
 ghost use Rattle.oa_history.specs.Kept.{IsWanting};
 ghost use Rattle.oa_history.specs.Lived.{IsLived};

@@ -1,7 +1,7 @@
 //! One session, and its stop.
 ghost use Rattle.std.specs.Prelude.{◌≡◌, IfOk, IfErr};
 ghost use Rattle.oa_disk.specs.Memory.{contents_of};
-ghost use Rattle.oa_server.specs.States.{State};
+ghost use Rattle.oa_turn.specs.States.{State};
 ghost use Rattle.oa_history.specs.Kept.{IsKept, IsSettled, IsWanting};
 ghost use Rattle.oa_history.specs.Lived.{IsStopped, MadeBy};
 ghost use Rattle.oa_history.specs.declared.fault.HistoryFault.TheVariants.{Memory};

@@ -1,7 +1,7 @@
 -- The images of tables: the next number, and the objects by rising number, each with its cells in the order of their places (this
 -- project's choice). Other orders, and a place or a number that stands twice, are no image.
 use Rattle.std.proofs.Common.{ℕ, Bool, List, refl}
-use Rattle.std.specs.Prelude.{nat_lt, ◌&&◌}
+use Rattle.std.specs.Prelude.{nat_lt, ◌&&◌, ◌+◌, ◌≤◌, length}
 use Rattle.std.specs.List.{list_all}
 use Rattle.std.specs.Ordering.{nat_cmp, is_lt}
 use Rattle.oa_variant.specs.declared.variant.Variant.{Variant}
@@ -47,3 +47,11 @@ table = only is_numbered (made (λ p. record { next = p.0; objects = p.1 }) (λ 
 -- the bytes of a table; they hold no locks
 abbrev pub table_image : TableValue → List ℕ
 table_image = table.image
+
+-- How many bytes of a bank's body the image of a table leaves free: behind the longest text of a library so many are left as are ample.
+abbrev pub reserved_bytes : ℕ
+reserved_bytes = 5242880
+
+-- the image of the table leaves what has to be free of a bank's body of this size
+abbrev pub FitsBank : ℕ → TableValue → Type 0
+FitsBank bank table = length (table_image table) + reserved_bytes ≤ bank

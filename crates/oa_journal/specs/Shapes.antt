@@ -39,10 +39,6 @@ IsShape shape = (20971520 ≤ measured shape) × (measured shape ≤ 1073741824)
 abbrev pub default_bank_bytes : ℕ
 default_bank_bytes = 20971520
 
--- How many bytes of a body the image of a table leaves free: behind the longest text of a library so many are left as are ample.
-abbrev pub reserved_bytes : ℕ
-reserved_bytes = 5242880
-
 -- How many bytes a body has from its closed gate on where no checkpoint is due: the greatest group has room there.
 abbrev pub ample_bytes : ℕ
 ample_bytes = 4718597

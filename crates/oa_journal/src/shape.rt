@@ -3,8 +3,6 @@ ghost use Rattle.oa_journal.specs.Shapes.{body_bytes, disk_bytes, shape_of};
 
 /// The bytes of a bank's body that a new store has where nobody says another number.
 pub const DEFAULT_BANK_BYTES: u32 = 20_971_520;
-/// How many bytes of a bank's body the image of a table leaves free.
-pub const RESERVED_BYTES: u32 = 5_242_880;
 /// How many bytes a bank's body has from its closed gate on where no checkpoint is due.
 pub const AMPLE_BYTES: u32 = 4_718_597;
 

@@ -1,3 +1,2 @@
 pub mod Committed
 pub mod Frames
-pub mod Relocked

@@ -1,20 +1,12 @@
 -- What a disk holds of a table that a store keeps: a store of its library, and of all of the table but its locks.
-use Rattle.std.specs.Prelude.{◌≡◌, ◌⊎◌, ℕ, ◌+◌, ◌-◌, ◌<◌, ◌≤◌, IsTrue, List, length, Result, Ok, Err}
+use Rattle.std.specs.Prelude.{◌⊎◌, ℕ, ◌-◌, ◌<◌, ◌≤◌, IsTrue, List, length}
 use Rattle.oa_disk.specs.declared.disk.Disk.{Ghosts}
 use Rattle.oa_disk.specs.Disk.{LeavesOnly}
 use Rattle.oa_journal.specs.declared.shape.Shape.{Shape}
-use Rattle.oa_journal.specs.Shapes.{ample_bytes, body_bytes, reserved_bytes}
-use Rattle.oa_image.specs.Tables.{table_image}
+use Rattle.oa_journal.specs.Shapes.{ample_bytes, body_bytes}
 use Rattle.oa_store.specs.Stores.{IsStoreAt, IsStoreIn}
 use Rattle.oa_store.specs.declared.store.Store.{Store}
-use Rattle.oa_table.specs.declared.event.Event.{Event}
-use Rattle.oa_table.specs.Events.{applied}
 use Rattle.oa_table.specs.Tables.{TableValue}
-use Rattle.oa_keeper.specs.declared.fault.KeepFault.{KeepFault}
-
--- the image of the table leaves what has to be free of a bank's body of this size
-abbrev pub FitsBank : ℕ → TableValue → Type 0
-FitsBank bank table = length (table_image table) + reserved_bytes ≤ bank
 
 -- each image is a store of this library and this table, in this bank
 abbrev pub EachIs : (List ℕ → Type 0) → Shape → ℕ → ℕ → List ℕ → TableValue → Type 0
@@ -37,8 +29,3 @@ LeavesEither {D} {g} old new before after =
 -- Where events are in hand, the bank in use has room for the greatest group.
 abbrev pub HasRoom : {D : Type 0} {g : Ghosts D} → List ℕ → Store D g → Type 0
 HasRoom frame store = 0 < length frame → ample_bytes ≤ body_bytes store.bank.shape - store.bank.gate
-
--- What a change makes of the table in memory: it is made, or nothing changes.
-abbrev pub Keeps : {U : Type 0} → Event → TableValue → TableValue → Result U KeepFault → Type 0
-Keeps event old new (Ok u) = applied event old ≡ Ok new
-Keeps event old new (Err fault) = new ≡ old

@@ -50,16 +50,16 @@ impl Frame {
         self.bytes.len().saturating_sub(5)
     }
 
-    /// Adds an event.
-    pub(crate) fn add(&mut self, event: &Event) -> Result<(), AllocError>
+    /// Adds an event. Err only where memory is refused; then nothing changes.
+    pub fn add(&mut self, event: &Event) -> Result<(), AllocError>
         ensures ok { OnOk result (self.new ≡ self.old ++ event_image event.now) }
         ensures err { OnErr result (self.new ≡ self.old) }
     {
         add_event(&mut self.bytes, event)
     }
 
-    /// Drops all but the events of so many first bytes.
-    pub(crate) fn cut(&mut self, len: usize)
+    /// Drops all but the events of so many first bytes. Takes no memory.
+    pub fn cut(&mut self, len: usize)
         requires { len ≤ length self.old }
         ensures { self.new ≡ take len self.old }
     {

@@ -1,21 +1,18 @@
-//! Changes of a table in memory that a store keeps: their events are held, and go out under one gate.
-ghost use Rattle.std.specs.Prelude.{◌≡◌, ◌⊎◌, ◌+◌, ◌-◌, ◌^◌, ◌<◌, ◌≤◌, ◌++◌, [], true, false, length, IsErr, IsErrOf, IsOk, IsTrue, OnErr};
+//! What a store keeps of a table in memory: the events of its changes go out under one gate.
+ghost use Rattle.std.specs.Prelude.{◌≡◌, ◌⊎◌, ◌+◌, ◌-◌, ◌^◌, ◌<◌, ◌≤◌, [], true, false, length, IsErrOf, IsOk, IsTrue, OnErr};
 ghost use Rattle.std.specs.Prelude.{OnOk, vec_capacity};
-ghost use Rattle.oa_image.specs.Events.{event_image};
-ghost use Rattle.oa_image.specs.Tables.{is_numbered, table_image};
+ghost use Rattle.oa_image.specs.Tables.{FitsBank, is_numbered};
 ghost use Rattle.oa_journal.specs.Append.{group_of};
 ghost use Rattle.oa_journal.specs.Shapes.{ample_bytes, body_bytes};
 ghost use Rattle.oa_journal.specs.Replays.{Replays};
-ghost use Rattle.oa_keeper.specs.Kept.{AllHold, FitsBank, HasRoom, Keeps, LeavesEither, LeavesTable};
+ghost use Rattle.oa_keeper.specs.Kept.{AllHold, HasRoom, LeavesEither, LeavesTable};
 ghost use Rattle.oa_keeper.specs.declared.fault.KeepFault.{KeepFault};
-ghost use Rattle.oa_table.specs.Events.{BringsNoLocks, applied};
 ghost use Rattle.oa_table.specs.Tables.{TableValue, unlocked_table};
 
 use crate::{Broken, Frame, KeepFault};
 use oa_disk::Disk;
-use oa_image::laws::numbers_stay;
 use oa_store::{CheckpointFault, Store};
-use oa_table::{Event, Table};
+use oa_table::Table;
 
 /// Makes room for the events of a group before the first of them: a checkpoint of the table, where one is due. Where events are in hand
 /// nothing is done. The images hold the same table at every moment.
@@ -60,71 +57,6 @@ pub fn make_room<D: Disk>(
         Ok(()) => Ok(()),
         Err(CheckpointFault::Device(_) | CheckpointFault::Stopped) => Err(KeepFault::Write),
     }
-}
-
-/// Makes a change of the table in memory, and adds its event to those in hand. The growths come in this order: the event's bytes, the
-/// table's. Makes no call of the device.
-pub fn change(table: &mut Table, frame: &mut Frame, event: Event) -> Result<(), KeepFault>
-    requires unlocked { BringsNoLocks event }
-    requires applies { IsOk (applied event table.old) }
-    ensures change { Keeps event table.old table.new result }
-    ensures event { OnOk result (frame.new ≡ frame.old ++ event_image event) }
-    ensures same { OnErr result (frame.new ≡ frame.old) }
-    ensures kind { IsErr result → IsErrOf result KeepFault.Memory }
-{
-    let before = frame.len();
-    frame.add(&event)?;
-    if let Err(_) = table.apply(event) {
-        frame.cut(before);
-        return Err(KeepFault::Memory);
-    }
-    Ok(())
-}
-
-/// Makes a change of the table in memory, and holds its event until `commit`. Before the first event of a group a checkpoint is made,
-/// where one is due, with the table before the change; then the growths of the event's bytes and of the table follow.
-pub fn hold<D: Disk>(
-    store: &mut Store<D>,
-    table: &mut Table,
-    frame: &mut Frame,
-    event: Event,
-) -> Result<(), KeepFault>
-    requires goes_on { store.old.stopped ≡ false }
-    requires numbered { is_numbered table.old ≡ true }
-    requires fits { FitsBank (body_bytes store.old.bank.shape) table.old }
-    requires unlocked { BringsNoLocks event }
-    requires applies { IsOk (applied event table.old) }
-    requires room { HasRoom frame.old store.old }
-
-    ensures change { Keeps event table.old table.new result }
-    ensures event { OnOk result (frame.new ≡ frame.old ++ event_image event) }
-    ensures same { OnErr result (frame.new ≡ frame.old) }
-    ensures numbered { is_numbered table.new ≡ true }
-    // Whatever table the images hold, which is the one in memory while no event is in hand, they go on to hold it.
-    ensures any_moment { (committed : TableValue) → (length frame.old ≡ 0 → unlocked_table table.old ≡ committed)
-        → AllHold store.old committed → LeavesTable store.old store.new committed }
-    ensures each { store.new.stopped ≡ false → (committed : TableValue) → (length frame.old ≡ 0 → unlocked_table table.old ≡ committed)
-        → AllHold store.old committed → AllHold store.new committed }
-    ensures quiet { 0 < length frame.old → store.new.disk ≡ store.old.disk }
-    // It is the first event of a group before which a checkpoint fails, and one was due.
-    ensures first { IsErrOf result KeepFault.Write → length frame.old ≡ 0 }
-    ensures due { IsErrOf result KeepFault.Write → body_bytes store.old.bank.shape - store.old.bank.gate < ample_bytes }
-    ensures undue { ample_bytes ≤ body_bytes store.old.bank.shape - store.old.bank.gate → store.new.disk ≡ store.old.disk }
-    ensures room { store.new.stopped ≡ false → HasRoom frame.new store.new }
-
-    ensures going { (IsErrOf result KeepFault.Write → ⊥) → store.new.stopped ≡ false }
-    ensures stops { IsErrOf result KeepFault.Write → (store.new.stopped ≡ true)
-        × (D.failures_of store.new.disk < 2 ^ 64 - 1 → D.failures_of store.old.disk < D.failures_of store.new.disk) }
-    ensures library { store.new.library.items ≡ store.old.library.items }
-    ensures shape { store.new.bank.shape ≡ store.old.bank.shape }
-    ensures honest { D.is_honest store.new.disk ≡ D.is_honest store.old.disk }
-    ensures failures { D.failures_of store.old.disk ≤ D.failures_of store.new.disk }
-    // No failed call goes untold.
-    ensures unfailed { store.new.stopped ≡ false → D.failures_of store.new.disk ≡ D.failures_of store.old.disk }
-{
-    make_room(store, table, frame)?;
-    numbers_stay();
-    change(table, frame, event)
 }
 
 /// Ends a group: its events go out under one gate, with two writes and two syncs. A group without events makes no call of the device.

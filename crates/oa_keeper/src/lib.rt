@@ -1,4 +1,4 @@
-//! A table in memory that a store keeps: changes are made in memory, and their events go out group by group,
+//! A table in memory that a store keeps: the events of its changes are held in a frame, and go out group by group,
 //! each under one gate.
 //!
 //! Its contract: `commit` leaves at each moment images of the table before or of the one that the events in
@@ -10,10 +10,7 @@
 mod fault;
 mod frame;
 mod keeping;
-pub mod laws;
-mod refusal;
 
 pub use fault::{Broken, KeepFault};
 pub use frame::Frame;
-pub use keeping::{change, commit, hold, make_room};
-pub use refusal::refusal_of;
+pub use keeping::{commit, make_room};

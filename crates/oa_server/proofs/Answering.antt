@@ -15,7 +15,7 @@ use Rattle.oa_groups.specs.Runs.{AllHoldState, HoldsState}
 use Rattle.oa_idl.specs.Canonical.{canonical}
 use Rattle.oa_keeper.specs.Kept.{AllHold, LeavesEither, LeavesTable}
 use Rattle.oa_record.specs.Replacement.{is_replacement}
-use Rattle.oa_server.specs.SameLibrary.{plain_library, turn_bank}
+use Rattle.oa_turn.proofs.SameLibrary.{plain_library, turn_bank}
 use Rattle.oa_record.specs.Replies.{ReplyValue}
 use Rattle.oa_journal.specs.declared.shape.Shape.{Shape}
 use Rattle.oa_journal.specs.declared.shape.Shape.TheVariants.{Two}
@@ -24,10 +24,11 @@ use Rattle.oa_store.specs.declared.store.Store.{Store}
 use Rattle.oa_table.specs.Tables.{TableValue}
 use Rattle.oa_server.specs.Answers.{IsAnswered, MakesNoEvent}
 use Rattle.oa_server.specs.Hands.{CallsWhereDue, IsDueFor, desk}
-use Rattle.oa_server.specs.Requests.{HasTurn, IsHeldBack, faulted, held_of, requests, text_of}
-use Rattle.oa_server.specs.States.{State}
-use Rattle.oa_server.specs.Turns.{Turn}
-use Rattle.oa_server.proofs.Eventless.{no_event_of}
+use Rattle.oa_server.specs.Requests.{HasTurn, IsHeldBack, faulted, requests, text_of}
+use Rattle.oa_turn.specs.Events.{held_of}
+use Rattle.oa_turn.specs.States.{State}
+use Rattle.oa_turn.specs.Turns.{Turn}
+use Rattle.oa_server.proofs.Making.{no_event_of}
 use Rattle.oa_server.proofs.Renewing.{as_held}
 
 -- one request is a group of one

@@ -20,9 +20,9 @@ use Rattle.oa_server.specs.declared.storage.Storage.{Storage}
 use Rattle.oa_server.specs.declared.storage.Storage.TheVariants.{Disk, Memory}
 use Rattle.oa_server.specs.Hands.{desk_of}
 use Rattle.oa_server.specs.Requests.{requests}
-use Rattle.oa_server.specs.States.{State}
+use Rattle.oa_turn.specs.States.{State}
 use Rattle.oa_server.specs.Talks.{Ended, Taken, ended_written, taken_written}
-use Rattle.oa_server.specs.Turns.{Turn}
+use Rattle.oa_turn.specs.Turns.{Turn}
 use Rattle.oa_server.proofs.Retold.{session_as}
 
 module _ {S R D : Type 0} {g : Ghosts D} where

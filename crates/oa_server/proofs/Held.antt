@@ -12,7 +12,7 @@ use Rattle.oa_keeper.proofs.Committed.{one_event}
 use Rattle.oa_store.specs.declared.store.Store.{Store}
 use Rattle.oa_table.specs.declared.fault.TableFault.{TableFault}
 use Rattle.oa_server.specs.Hands.{CallsWhereDue}
-use Rattle.oa_server.specs.Limits.{limited}
+use Rattle.oa_turn.specs.Limits.{limited}
 use Rattle.std.proofs.lemmas.List.{append-nil}
 use Rattle.oa_model.specs.Limits.{max_event_bytes}
 use Rattle.oa_image.specs.Events.{event as an_event, event_image}
@@ -23,16 +23,17 @@ use Rattle.oa_record.specs.Replies.{ReplyValue}
 use Rattle.oa_record.specs.declared.request.Request.{Request}
 use Rattle.oa_table.specs.Events.{applied}
 use Rattle.oa_table.specs.Tables.{TableValue}
-use Rattle.oa_server.specs.declared.plan.Planned.{Planned}
-use Rattle.oa_server.specs.Plans.{HoldsSame, IsPlanned}
-use Rattle.oa_server.specs.Requests.{HasEvent, HasTurn, IsHeldBack, held_of, requests}
-use Rattle.oa_server.specs.States.{State}
-use Rattle.oa_server.specs.Steps.{refusal}
+use Rattle.oa_turn.specs.declared.plan.Planned.{Planned}
+use Rattle.oa_turn.specs.Plans.{HoldsSame, IsPlanned}
+use Rattle.oa_turn.specs.Events.{HasEvent, held_of}
+use Rattle.oa_server.specs.Requests.{HasTurn, IsHeldBack, requests}
+use Rattle.oa_turn.specs.States.{State}
+use Rattle.oa_turn.specs.Steps.{refusal}
 use Rattle.oa_record.specs.Replacement.{is_replacement}
-use Rattle.oa_server.specs.Turns.{Ordinary}
-use Rattle.oa_server.proofs.Allowed.{is_allowed}
-use Rattle.oa_server.proofs.Eventless.{has_event, undone}
-use Rattle.oa_server.proofs.Planned.{done, drafted, refused}
+use Rattle.oa_turn.specs.Turns.{Ordinary}
+use Rattle.oa_turn.proofs.Allowed.{is_allowed}
+use Rattle.oa_turn.proofs.Eventless.{has_event, undone}
+use Rattle.oa_turn.proofs.Changing.{done, drafted, refused}
 
 -- no events
 no_events : (before after : TableValue) → after ≡ before → Replays [] before after

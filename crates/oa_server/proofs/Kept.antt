@@ -17,14 +17,15 @@ use Rattle.oa_journal.specs.declared.shape.Shape.TheVariants.{Two}
 use Rattle.oa_store.specs.Stores.{IsStoreIn}
 use Rattle.oa_keeps.specs.Keeps.{first_lost}
 use Rattle.oa_keeps.specs.declared.lost.Lost.{Lost}
-use Rattle.oa_server.specs.Replacing.{Replacement, after_replacement}
-use Rattle.oa_server.specs.SameLibrary.{ordinary_library}
+use Rattle.oa_turn.specs.Replacing.{Replacement, after_replacement}
+use Rattle.oa_turn.proofs.SameLibrary.{ordinary_library}
 use Rattle.oa_server.specs.Laws.{FoundIsKept, OpenedBegins, OpenedJoins}
 use Rattle.oa_server.specs.Openings.{IsFound}
-use Rattle.oa_server.specs.Requests.{held_of, requests, text_of}
-use Rattle.oa_server.specs.States.{State, state_of}
+use Rattle.oa_turn.specs.Events.{held_of}
+use Rattle.oa_server.specs.Requests.{requests, text_of}
+use Rattle.oa_turn.specs.States.{State, state_of}
 use Rattle.oa_typelib.specs.Checked.{IsChecked}
-use Rattle.oa_server.specs.Turns.{Turn}
+use Rattle.oa_turn.specs.Turns.{Turn}
 
 -- the library of a turn's body, and so of a run, is one that was checked
 replacement_checked : (old new : State) (body : List ℕ) (reply : ReplyValue) → Replacement old body reply new → IsChecked old.library → IsChecked new.library

@@ -1,23 +1,6 @@
 pub mod Renewing
-mod Runs
-pub mod Named
-pub mod Zeros
-pub mod Texts
-mod Wants
-pub mod Added
-pub mod Refused
-pub mod Keys
-pub mod Reached
-pub mod Bound
-pub mod Disconnected
-pub mod Found
-pub mod Fitting
-pub mod Planned
-pub mod Planning
 pub mod Opened
-pub mod Allowed
-pub mod Eventless
-pub mod Own
+pub mod Making
 pub mod Mapping
 pub mod Held
 pub mod Settled

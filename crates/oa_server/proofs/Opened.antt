@@ -20,9 +20,11 @@ use Rattle.oa_store.specs.declared.fault.OpenFault.{OpenFault}
 use Rattle.oa_store.specs.declared.fault.OpenFault.TheVariants.{NotAStore, OldFormat, LibraryDiffers, Damaged, Device, Memory}
 use Rattle.oa_table.specs.Tables.{TableValue}
 use Rattle.oa_typelib.specs.Checked.{IsChecked}
-use Rattle.oa_server.specs.Openings.{CanBegin, CanServe, Finds, FindsOneOf, HoldsOther, RefusesOneOf}
-use Rattle.oa_server.specs.Requests.{held_of, requests, text_of}
-use Rattle.oa_server.specs.States.{State}
+use Rattle.oa_turn.specs.Beginnings.{CanBegin, CanServe}
+use Rattle.oa_server.specs.Openings.{Finds, FindsOneOf, HoldsOther, RefusesOneOf}
+use Rattle.oa_turn.specs.Events.{held_of}
+use Rattle.oa_server.specs.Requests.{requests, text_of}
+use Rattle.oa_turn.specs.States.{State}
 use Rattle.oa_server.proofs.Kept.{one_size}
 
 -- an open store is one in format 2

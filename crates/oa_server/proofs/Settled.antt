@@ -13,8 +13,9 @@ use Rattle.oa_record.specs.Replies.{ReplyValue}
 use Rattle.oa_store.specs.declared.store.Store.{Store}
 use Rattle.oa_table.specs.Tables.{TableValue}
 use Rattle.oa_server.specs.Hands.{CallsWhereDue, IsReady, desk}
-use Rattle.oa_server.specs.Requests.{IsHeldBack, held_of, requests, withdrawn}
-use Rattle.oa_server.specs.States.{State}
+use Rattle.oa_server.specs.Requests.{IsHeldBack, requests, withdrawn}
+use Rattle.oa_turn.specs.Events.{held_of}
+use Rattle.oa_turn.specs.States.{State}
 
 -- a group that goes on has a place
 pub few_held : (size count bytes : ℕ) → fills size count bytes ≡ false → count < size

@@ -26,15 +26,15 @@ use Rattle.oa_server.specs.declared.storage.Storage.TheVariants.{Disk, Memory}
 use Rattle.oa_server.specs.Answers.{IsLate}
 use Rattle.oa_server.specs.Hands.{desk}
 use Rattle.oa_server.specs.Requests.{requests}
-use Rattle.oa_server.specs.States.{State}
+use Rattle.oa_turn.specs.States.{State}
 use Rattle.oa_server.specs.Storages.{Serves, disk_of}
 use Rattle.oa_server.specs.Talks.{Ended, EndsApart, EndsBefore, EndsGroup, HandIsReady, InParts, IsGroup, Part, Parts, ServesSession, Taken, any_end}
 use Rattle.oa_server.specs.Talks.{any_turn, at_last, bodies_of, ended_written, handed_of, silent, taken_written}
-use Rattle.oa_server.specs.Turns.{Run}
+use Rattle.oa_turn.specs.Turns.{Run}
 use Rattle.oa_server.proofs.Grouping.{Holding, group_faulted, group_filled, holds_more, holds_none, rest_ends}
 use Rattle.oa_server.proofs.Late.{late_ended, late_more, late_none}
 use Rattle.oa_server.proofs.Retold.{session_as}
-use Rattle.oa_server.proofs.Runs.{run_more}
+use Rattle.oa_turn.proofs.Runs.{run_more}
 use Rattle.oa_server.proofs.Settled.{ready_at}
 
 joined_none : sessions.joined [] ≡ []

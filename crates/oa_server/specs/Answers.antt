@@ -11,10 +11,11 @@ use Rattle.oa_record.specs.Replacement.{is_replacement}
 use Rattle.oa_record.specs.Replies.{ReplyValue}
 use Rattle.oa_record.specs.declared.request.Request.{Request}
 use Rattle.oa_store.specs.declared.store.Store.{Store}
-use Rattle.oa_server.specs.Requests.{bytes_of, failed, faulted, is_done, requests}
-use Rattle.oa_server.specs.States.{State}
-use Rattle.oa_server.specs.Steps.{outcome}
-use Rattle.oa_server.specs.Turns.{Turn}
+use Rattle.oa_turn.specs.Events.{bytes_of, is_done}
+use Rattle.oa_server.specs.Requests.{failed, faulted, requests}
+use Rattle.oa_turn.specs.States.{State}
+use Rattle.oa_turn.specs.Steps.{outcome}
+use Rattle.oa_turn.specs.Turns.{Turn}
 
 -- whatever the body asks, no event comes of it
 abbrev pub MakesNoEvent : State → List ℕ → Type 0

@@ -9,7 +9,7 @@ use Rattle.oa_record.specs.Replies.{ReplyValue}
 use Rattle.oa_store.specs.declared.store.Store.{Store}
 use Rattle.oa_server.specs.declared.hand.Hand.{Hand}
 use Rattle.oa_server.specs.Requests.{requests}
-use Rattle.oa_server.specs.States.{State}
+use Rattle.oa_turn.specs.States.{State}
 
 -- the store, the state, the replies that are held back, the events that are not committed yet
 abbrev pub desk : {D : Type 0} {g : Ghosts D} → Store D g → State → List ReplyValue → List ℕ → Desk State ReplyValue D g

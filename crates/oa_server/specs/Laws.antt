@@ -19,9 +19,9 @@ use Rattle.oa_table.specs.Tables.{TableValue, unlocked_table}
 use Rattle.oa_typelib.specs.Checked.{IsChecked}
 use Rattle.oa_server.specs.Openings.{IsOpened}
 use Rattle.oa_server.specs.Requests.{opened, requests}
-use Rattle.oa_server.specs.States.{State, state_of}
+use Rattle.oa_turn.specs.States.{State, state_of}
 use Rattle.oa_server.specs.Talks.{Part, Parts, calls_of}
-use Rattle.oa_server.specs.Turns.{Run}
+use Rattle.oa_turn.specs.Turns.{Run}
 use Rattle.oa_server.specs.declared.storage.Storage.TheVariants.{Disk}
 
 -- Where a crash leaves nothing but the contents of the disk, an opening begins a session with the table that it has found.

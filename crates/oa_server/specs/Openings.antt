@@ -1,11 +1,10 @@
--- With which tables a server begins, and what opening a disk answers.
+-- What opening a disk answers.
 use Rattle.std.specs.Prelude.{◌≡◌, ◌≢◌, ◌⊎◌, ℕ, List, Some, IsTrue, false, true}
 use Rattle.oa_disk.specs.declared.disk.Disk.{Ghosts}
-use Rattle.oa_fits.specs.Fits.{fits}
 use Rattle.oa_groups.specs.Runs.{HoldsState}
 use Rattle.oa_idl.specs.Canonical.{canonical}
 use Rattle.oa_idl.specs.Trees.{TreeValue}
-use Rattle.oa_keeper.specs.Kept.{EachIs, FitsBank}
+use Rattle.oa_keeper.specs.Kept.{EachIs}
 use Rattle.oa_image.specs.Tables.{is_numbered}
 use Rattle.oa_journal.specs.declared.shape.Shape.TheVariants.{Two}
 use Rattle.oa_journal.specs.Shapes.{body_bytes}
@@ -16,20 +15,10 @@ use Rattle.oa_store.specs.Faults.{IsCaused, IsEarly, IsRefusal, Says}
 use Rattle.oa_store.specs.Reads.{WritesNothing}
 use Rattle.oa_store.specs.Stores.{IsForeign, IsStoreIn}
 use Rattle.oa_table.specs.Tables.{TableValue, unlocked_table}
-use Rattle.oa_typelib.specs.Checked.{IsChecked}
-use Rattle.oa_server.specs.Requests.{held_of, requests}
-use Rattle.oa_server.specs.States.{State}
-
--- the library can have the table, and its image leaves what has to be free of a bank of this size
-pub record CanServe (bank : ℕ) (library : TreeValue) (table : TableValue) : Type 0 where
-  pub fit : fits library table ≡ true
-  pub small : FitsBank bank table
-
--- a server can begin with this state: its library is one that was checked, and can have its table, whose objects are numbered
-pub record CanBegin (state : State) : Type 0 where
-  pub checked : IsChecked state.library
-  pub serves : CanServe state.bank state.library state.table
-  pub numbered : is_numbered state.table ≡ true
+use Rattle.oa_turn.specs.Beginnings.{CanBegin, CanServe}
+use Rattle.oa_turn.specs.Events.{held_of}
+use Rattle.oa_server.specs.Requests.{requests}
+use Rattle.oa_turn.specs.States.{State}
 
 -- ---- one of two states, as a stop leaves them
 

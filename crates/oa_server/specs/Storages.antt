@@ -9,8 +9,8 @@ use Rattle.oa_server.specs.declared.storage.Storage.{Storage}
 use Rattle.oa_server.specs.declared.storage.Storage.TheVariants.{Disk, Memory}
 use Rattle.oa_server.specs.Answers.{IsAnswered, IsLate}
 use Rattle.oa_server.specs.Requests.{requests}
-use Rattle.oa_server.specs.States.{State}
-use Rattle.oa_server.specs.Turns.{Run, Turn}
+use Rattle.oa_turn.specs.States.{State}
+use Rattle.oa_turn.specs.Turns.{Run, Turn}
 
 -- the table is in memory alone
 abbrev pub InMemory : {D : Type 0} {g : Ghosts D} → Storage D g → Type 0

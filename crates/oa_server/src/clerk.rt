@@ -1,14 +1,14 @@
 //! A server at work.
 ghost use Rattle.std.specs.Prelude.{◌≡◌, ◌≤◌, map, IfOk, OnErr, false, true};
 ghost use Rattle.oa_server.specs.Storages.{Answers, InMemory, Serves, bank_of, disk_of};
-ghost use Rattle.oa_server.specs.Turns.{Run, Turn};
+ghost use Rattle.oa_turn.specs.Turns.{Run, Turn};
 
 use crate::hand::Hand;
-use crate::host::Host;
 use crate::keeping::{answer_over, run_over};
 use crate::storage::Storage;
 use oa_disk::Disk;
 use oa_record::Reply;
+use oa_turn::Host;
 use std::alloc::{AllocError, Global};
 
 /// A library and a table in memory, where the table is kept, and the group in hand.

@@ -10,12 +10,14 @@ ghost use Rattle.oa_server.specs.Hands.{CanTake, CanTakeCleared, HandsOut, HasBa
 ghost use Rattle.oa_server.specs.Requests.{requests};
 
 use crate::hand::{Hand, withdraw};
-use crate::host::Host;
+use crate::holding::turn_held;
+use crate::renewal::renew_over;
 use oa_disk::Disk;
 use oa_keeper::{Broken, Frame, commit};
 use oa_model::HResult;
 use oa_record::{Reply, is_replacement, tag_of};
 use oa_store::Store;
+use oa_turn::Host;
 use std::alloc::AllocError;
 
 /// Answers one body: a group of one, whose frame is its own. After a fault of the device the answer is that the store has failed, and
@@ -32,7 +34,7 @@ pub(crate) fn answer_over<D: Disk>(host: &mut Host, store: &mut Store<D>, body: 
         return renewed_over(host, store, body);
     }
     let mut frame = Frame::new(host.allocator());
-    let Ok(reply) = host.turn_held(store, &mut frame, body) else {
+    let Ok(reply) = turn_held(host, store, &mut frame, body) else {
         return Reply::bare(
             host.allocator(),
             tag_of(body),
@@ -59,7 +61,7 @@ fn renewed_over<D: Disk>(host: &mut Host, store: &mut Store<D>, body: &[u8]) -> 
     ensures renewed { IsRenewed store.old store.new host.old host.new body.now result }
     ensures banks { HasBanks store.new host.new }
 {
-    match host.renew_over(store, body) {
+    match renew_over(host, store, body) {
         Ok(reply) => reply,
         Err(_) => Reply::bare(
             host.allocator(),
@@ -116,7 +118,7 @@ pub(crate) fn take<D: Disk>(
         take_apart(host, store, hand, body);
         return true;
     }
-    match host.turn_held(store, &mut hand.frame, body) {
+    match turn_held(host, store, &mut hand.frame, body) {
         Ok(reply) => {
             hand.replies.push_reserved(reply);
             if !hand.is_full() {

@@ -3,19 +3,20 @@ ghost use Rattle.std.specs.Prelude.{◌≡◌, ◌≤◌, map, IfOk, OnErr, fals
 ghost use Rattle.oa_model.specs.Limits.{max_group};
 ghost use Rattle.oa_idl.specs.Canonical.{canonical};
 ghost use Rattle.oa_journal.specs.Shapes.{body_bytes, default_bank_bytes};
-ghost use Rattle.oa_server.specs.Limits.{IsSound};
+ghost use Rattle.oa_turn.specs.Limits.{IsSound};
 ghost use Rattle.oa_server.specs.Storages.{Answers, InMemory, Serves, disk_of};
-ghost use Rattle.oa_server.specs.Turns.{Run, Turn};
+ghost use Rattle.oa_turn.specs.Turns.{Run, Turn};
 ghost use Rattle.oa_server.specs.declared.storage.Storage.TheVariants.{Disk as ADisk};
 ghost use Rattle.oa_table.specs.Tables.{first_table};
 
 use crate::clerk::{Clerk, answer_with, run_with};
-use crate::host::Host;
 use crate::storage::Storage;
 use oa_disk::{Disk, NoDisk};
+use oa_journal::DEFAULT_BANK_BYTES;
 use oa_record::Reply;
 use oa_store::Store;
 use oa_table::Table;
+use oa_turn::Host;
 use oa_typelib::Library;
 use std::alloc::{AllocError, Global};
 
@@ -31,7 +32,7 @@ impl Server<NoDisk> {
         ensures state { result.clerk.host ≡ record { bank = default_bank_bytes; library = library; table = first_table } }
         ensures memory { InMemory result.clerk.storage }
     {
-        let host = Host::new(alloc, library);
+        let host = Host::new(alloc, DEFAULT_BANK_BYTES, library);
         Server {
             clerk: Clerk::new(alloc, host, Storage::Memory(NoDisk::new())),
         }

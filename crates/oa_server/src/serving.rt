@@ -17,7 +17,6 @@ ghost use Rattle.oa_server.specs.declared.storage.Storage.TheVariants.{Disk as A
 use crate::Server;
 use crate::clerk::Clerk;
 use crate::hand::Hand;
-use crate::host::Host;
 use crate::keeping::{finish, take};
 use crate::storage::Storage;
 use oa_disk::Disk;
@@ -26,6 +25,7 @@ use oa_model::{HResult, MAX_LINE_CHARACTERS, MAX_REQUEST_BYTES};
 use oa_record::{Reply, is_replacement};
 use oa_store::Store;
 use oa_stream::{Ahead, Sink, Source, Unwritten};
+use oa_turn::Host;
 use std::alloc::{AllocError, Global};
 
 impl<D: Disk> Responder for Clerk<D> {

@@ -1,7 +1,7 @@
 use Rattle.std.proofs.Common.{◌∙◌}
 use Rattle.std.proofs.lemmas.Result.{err_from_is_err_and}
 use Rattle.oa_disk.specs.Memory.{contents_of}
-use Rattle.oa_server.proofs.Texts.{is_read}
+use Rattle.oa_turn.proofs.Texts.{is_read}
 use Rattle.oa_history.proofs.Living.{shown_library}
 use Rattle.oa_history.proofs.Reading.{library_again}
 use Rattle.oa_history.proofs.opening.library_on.Goals as goal

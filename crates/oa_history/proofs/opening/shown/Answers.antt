@@ -4,7 +4,8 @@ use Rattle.oa_disk.specs.Replaying.{contents_size}
 use Rattle.oa_groups.specs.Runs.{HoldsState}
 use Rattle.oa_idl.specs.Canonical.{canonical}
 use Rattle.oa_journal.specs.declared.shape.Shape.TheVariants.{Two}
-use Rattle.oa_server.specs.Requests.{held_of, requests}
+use Rattle.oa_turn.specs.Events.{held_of}
+use Rattle.oa_server.specs.Requests.{requests}
 use Rattle.oa_store.specs.Stores.{IsStore}
 use Rattle.oa_history.proofs.Reading.{copied, shown_to_all}
 use Rattle.oa_history.proofs.opening.shown.Goals as goal

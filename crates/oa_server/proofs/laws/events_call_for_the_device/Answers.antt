@@ -1,4 +1,4 @@
-use Rattle.oa_server.proofs.Eventless.{event_of}
+use Rattle.oa_server.proofs.Making.{event_of}
 use Rattle.oa_server.proofs.laws.events_call_for_the_device.Goals as goal
 
 pub returns : goal.returns

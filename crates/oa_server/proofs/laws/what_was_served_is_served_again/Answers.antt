@@ -1,4 +1,5 @@
-use Rattle.oa_server.proofs.Beginning.{first_begins, groups_begin, opened_begins, turn_begins}
+use Rattle.oa_turn.proofs.Beginning.{first_begins, turn_begins}
+use Rattle.oa_server.proofs.Beginning.{groups_begin, opened_begins}
 use Rattle.oa_server.proofs.laws.what_was_served_is_served_again.Goals as goal
 
 pub returns : goal.returns

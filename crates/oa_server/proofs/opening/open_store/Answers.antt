@@ -3,10 +3,10 @@ use Rattle.oa_idl.specs.Canonical.{canonical}
 use Rattle.oa_journal.specs.Shapes.{body_bytes}
 use Rattle.oa_journal.specs.declared.shape.Shape.{Shape}
 use Rattle.oa_store.specs.Stores.{IsStoreIn}
-use Rattle.oa_server.specs.Openings.{CanServe}
+use Rattle.oa_turn.specs.Beginnings.{CanServe}
 use Rattle.oa_server.proofs.Kept.{same_library}
 use Rattle.oa_server.proofs.Opened.{differs_told, differs_unfit, finds_one, is_two, of_library, of_text, refuses_one, refuses_unfit, says_library}
-use Rattle.oa_server.proofs.Texts.{is_read}
+use Rattle.oa_turn.proofs.Texts.{is_read}
 use Rattle.oa_server.proofs.opening.open_store.Goals as goal
 
 pub returns-then-can_serve-clause-shape : goal.returns-then-can_serve-clause-shape

@@ -1,5 +1,0 @@
-use Rattle.oa_server.proofs.Allowed.{stays_sound}
-use Rattle.oa_server.proofs.changes.apply.Goals as goal
-
-pub returns-clause-sound : goal.returns-clause-sound
-returns-clause-sound c bank allowed sound = stays_sound bank c.args.event c.args.table.now c.apply.new.self sound allowed c.in_default.ensures

@@ -1,0 +1,33 @@
+use Rattle.std.proofs.Common.{ap, ◌∙◌}
+use Rattle.oa_image.proofs.Lengths.{event_bytes}
+use Rattle.oa_keeper.proofs.Committed.{one_event}
+use Rattle.oa_table.specs.Tables.{unlocked_table}
+use Rattle.oa_turn.proofs.Allowed.{is_allowed}
+use Rattle.oa_server.proofs.holding.hold_change.Goals as goal
+
+pub returns-in_err-make_room-clause-any_moment : goal.returns-in_err-make_room-clause-any_moment
+returns-in_err-make_room-clause-any_moment g c committed first all = c.make_room.ensures.any_moment committed (λ none. ap unlocked_table c.table.ensures.table ∙ first none) all
+
+pub returns-in_err-make_room-clause-each : goal.returns-in_err-make_room-clause-each
+returns-in_err-make_room-clause-each g c going committed first all = c.make_room.ensures.each going committed (λ none. ap unlocked_table c.table.ensures.table ∙ first none) all
+
+pub returns-in_err-add_change-clause-any_moment : goal.returns-in_err-add_change-clause-any_moment
+returns-in_err-add_change-clause-any_moment g c committed first all = c.make_room.ensures.any_moment committed (λ none. ap unlocked_table c.table.ensures.table ∙ first none) all
+
+pub returns-in_err-add_change-clause-each : goal.returns-in_err-add_change-clause-each
+returns-in_err-add_change-clause-each g c going committed first all = c.make_room.ensures.each going committed (λ none. ap unlocked_table c.table.ensures.table ∙ first none) all
+
+pub returns-clause-any_moment : goal.returns-clause-any_moment
+returns-clause-any_moment g c committed first all = c.make_room.ensures.any_moment committed (λ none. ap unlocked_table c.table.ensures.table ∙ first none) all
+
+pub returns-clause-each : goal.returns-clause-each
+returns-clause-each g c going committed first all = c.make_room.ensures.each going committed (λ none. ap unlocked_table c.table.ensures.table ∙ first none) all
+
+pub returns-clause-replays : goal.returns-clause-replays
+returns-clause-replays g c = one_event c.args.event c.args.host.now.table c.add_change.new.host.table c.is_event.ensures c.in_ok-add_change.ensures.change.0
+
+pub returns-clause-small : goal.returns-clause-small
+returns-clause-small g c = (is_allowed c.args.host.now.bank c.args.event c.args.host.now.table c.add_change.new.host.table c.requires.allowed c.in_ok-add_change.ensures.change.0).event_small
+
+pub returns-clause-some : goal.returns-clause-some
+returns-clause-some g c = event_bytes c.args.event c.is_event.ensures

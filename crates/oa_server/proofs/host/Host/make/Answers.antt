@@ -1,9 +1,0 @@
-use Rattle.std.proofs.Common.{rules}
-use Rattle.oa_server.proofs.Planned.{done, refused}
-use Rattle.oa_server.proofs.host.Host.make.Goals as goal
-
-pub returns : goal.returns
-returns c body is = done c.args.self.now body c.args.planned is _ c.new.result (search rules) (search rules) (search rules)
-
-pub returns-in-Err : goal.returns-in-Err
-returns-in-Err c body is = refused c.args.self.now body c.args.planned is _ c.bare.result c.in-Err.code (search rules) c.bare.ensures (search rules)

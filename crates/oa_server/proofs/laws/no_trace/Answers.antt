@@ -1,5 +1,0 @@
-use Rattle.oa_server.specs.NoTrace.{quiet_choice, quiet_run, quiet_step, quiet_turn}
-use Rattle.oa_server.proofs.laws.no_trace.Goals as goal
-
-pub returns : goal.returns
-returns c = record { outcome = quiet_step; turn = quiet_turn; others = quiet_run; some = quiet_choice }

@@ -1,5 +1,0 @@
-use Rattle.oa_server.proofs.OneState.{one_run, one_turn, run_rest}
-use Rattle.oa_server.proofs.laws.one_state.Goals as goal
-
-pub returns : goal.returns
-returns c = record { turn = one_turn c.one_request.ensures c.one_tree.ensures; run = one_run c.one_request.ensures c.one_tree.ensures; rest = run_rest c.one_request.ensures c.one_tree.ensures }

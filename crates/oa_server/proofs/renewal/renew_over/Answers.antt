@@ -1,0 +1,53 @@
+use Rattle.std.proofs.Common.{rules, ap, refl, sym, ◌∙◌, true≢false, None}
+use Rattle.oa_journal.specs.Banks.{first_gate}
+use Rattle.oa_model.specs.Codes.{s_ok}
+use Rattle.oa_record.specs.Asks.{tag_at}
+use Rattle.oa_table.specs.Tables.{unlocked_table}
+use Rattle.oa_turn.specs.States.{state_of}
+use Rattle.oa_turn.specs.Steps.{refusal}
+use Rattle.oa_server.proofs.Renewing.{at_last, meanwhile, still}
+use Rattle.oa_turn.proofs.Renewing.{replaces}
+use Rattle.oa_server.proofs.renewal.renew_over.Goals as goal
+
+pub returns-in-Answered-clause-any_moment : goal.returns-in-Answered-clause-any_moment
+returns-in-Answered-clause-any_moment g c = still {g = g.D.Disk} (λ d f honest since. g.met.D.Disk.only_now d f honest since) c.args.store.now c.args.host.now c.args.host.now c.args.store.now.disk refl
+
+pub returns-in-Ok-clause-any_moment : goal.returns-in-Ok-clause-any_moment
+returns-in-Ok-clause-any_moment g c =
+    let before = c.args.host.now in
+    let after = state_of before.bank c.in-Renewed.library before.table in
+    let table = c.table.result.now in
+    let text = c.text_of.result.now in
+    let held = ap unlocked_table c.table.ensures.table in
+    rw c.replace_library.ensures (meanwhile {g = g.D.Disk} c.args.store.now c.checkpoint_with.new.self before after text (first_gate text table) (unlocked_table table) c.text_of.ensures.text held held refl c.checkpoint_with.ensures.any_moment)
+
+pub returns-in-Ok-clause-each : goal.returns-in-Ok-clause-each
+returns-in-Ok-clause-each g c going =
+    let before = c.args.host.now in
+    let after = state_of before.bank c.in-Renewed.library before.table in
+    let table = c.table.result.now in
+    let text = c.text_of.result.now in
+    let held = ap unlocked_table c.table.ensures.table in
+    rw c.replace_library.ensures (at_last {g = g.D.Disk} c.args.store.now c.checkpoint_with.new.self before after text (first_gate text table) (unlocked_table table) c.text_of.ensures.text held held refl
+    c.checkpoint_with.ensures.shape c.in-Ok.ensures.chosen c.in-Ok.ensures.gate c.in-Ok.ensures.library c.checkpoint_with.ensures.honest c.in-Ok.ensures.done)
+
+pub returns-in-Err-Device : goal.returns-in-Err-Device
+returns-in-Err-Device g c =
+    let before = c.args.host.now in
+    let after = state_of before.bank c.in-Renewed.library before.table in
+    let table = c.table.result.now in
+    let text = c.text_of.result.now in
+    let held = ap unlocked_table c.table.ensures.table in
+    let stopped = (c.in-Err-Device.ensures.device c.in-Err-Device.field-0-0 (search rules)).0 in
+    record {
+      turn = tt;
+      failed = (refusal (tag_at c.args.body.now) s_ok None, rw c.replace_library-in-Err-Device.ensures (replaces before c.args.body.now (refusal (tag_at c.args.body.now) s_ok None) c.in-Renewed.library after c.in-Renewed.ensures refl refl), refl);
+      same = rw c.replace_library-in-Err-Device.ensures refl;
+      any_moment = rw c.replace_library-in-Err-Device.ensures (meanwhile {g = g.D.Disk} c.args.store.now c.checkpoint_with.new.self before after text (first_gate text table) (unlocked_table table) c.text_of.ensures.text held held refl c.checkpoint_with.ensures.any_moment);
+      each = λ going. absurd (true≢false (sym stopped ∙ going));
+      quiet = tt;
+      going = tt;
+      stops = stopped;
+      goes = search rules;
+      banks = search rules;
+    }

@@ -1,0 +1,165 @@
+//! A turn over a store: the event that it makes is held in a frame until its group ends.
+ghost use Rattle.std.specs.Prelude.{◌≡◌, ◌-◌, ◌<◌, ◌≤◌, ◌++◌, List, ℕ, false, length, true, IfOk, IsErr, IsErrOf, IsOk, OnErr, OnOk};
+ghost use Rattle.oa_groups.specs.Desks.{KeepsCommitted, LeavesCommitted};
+ghost use Rattle.oa_groups.specs.Served.{Goes};
+ghost use Rattle.oa_image.specs.Events.{event as an_event, event_image};
+ghost use Rattle.oa_journal.specs.Replays.{Replays};
+ghost use Rattle.oa_journal.specs.Shapes.{ample_bytes, body_bytes};
+ghost use Rattle.oa_keeper.specs.Kept.{HasRoom};
+ghost use Rattle.oa_keeper.specs.declared.fault.KeepFault.{KeepFault};
+ghost use Rattle.oa_model.specs.Limits.{max_event_bytes};
+ghost use Rattle.oa_record.specs.Replacement.{is_replacement};
+ghost use Rattle.oa_server.specs.Hands.{CallsWhereDue, HasBanks, IsDueFor};
+ghost use Rattle.oa_server.specs.Requests.{HasTurn, IsHeldBack};
+ghost use Rattle.oa_table.specs.Events.{BringsNoLocks};
+ghost use Rattle.oa_turn.specs.Decisions.{MakesChange};
+ghost use Rattle.oa_turn.specs.Events.{held_of};
+ghost use Rattle.oa_turn.specs.Limits.{allowed};
+ghost use Rattle.oa_turn.specs.Plans.{IsPlanned};
+
+use oa_disk::Disk;
+use oa_image::laws::is_event;
+use oa_keeper::{Broken, Frame, KeepFault, make_room};
+use oa_model::HResult;
+use oa_record::Reply;
+use oa_record::laws::one_request;
+use oa_store::Store;
+use oa_table::Event;
+use oa_turn::{Host, Plan, Planned};
+
+/// One turn over a store. Its event is added to those in hand; before the first of them a checkpoint is made, where one is due. At
+/// `Err` the checkpoint failed.
+pub(crate) fn turn_held<D: Disk>(
+    host: &mut Host,
+    store: &mut Store<D>,
+    frame: &mut Frame,
+    body: &[u8],
+) -> Result<Reply, Broken>
+    requires plain { is_replacement body.now ≡ false }
+    requires goes_on { store.old.stopped ≡ false }
+    requires room { HasRoom frame.old store.old }
+    requires banks { HasBanks store.old host.old }
+    ensures turn { IfOk result (λ reply. IsHeldBack body.now reply frame.old frame.new host.old host.new) }
+    ensures failed { OnErr result (HasTurn body.now host.old host.new) }
+    ensures same { OnErr result (frame.new ≡ frame.old) }
+    // The device is called for a checkpoint alone, where one is due before an event of the body.
+    ensures calls { CallsWhereDue store.old store.new host.old frame.old body.now }
+    ensures due { OnErr result (IsDueFor store.old host.old frame.old body.now) }
+    ensures any_moment { LeavesCommitted frame.old (held_of host.old) store.old store.new }
+    ensures each { store.new.stopped ≡ false → KeepsCommitted frame.old (held_of host.old) store.old store.new }
+    // No checkpoint is made that is not due.
+    ensures undue { ample_bytes ≤ body_bytes store.old.bank.shape - store.old.bank.gate → store.new.disk ≡ store.old.disk }
+    ensures room { store.new.stopped ≡ false → HasRoom frame.new store.new }
+    ensures going { OnOk result (store.new.stopped ≡ false) }
+    ensures stops { OnErr result (store.new.stopped ≡ true) }
+    ensures goes { Goes store.old store.new }
+    ensures library { store.new.library.items ≡ store.old.library.items }
+    ensures banks { HasBanks store.new host.new }
+{
+    match host.plan(body) {
+        Plan::Answered(reply) => Ok(reply),
+        Plan::Change(planned) => hold(host, store, frame, planned),
+    }
+}
+
+/// Makes a planned change in memory and holds its event, and tells it.
+fn hold<D: Disk>(
+    host: &mut Host,
+    store: &mut Store<D>,
+    frame: &mut Frame,
+    planned: Planned,
+) -> Result<Reply, Broken>
+    requires unlocked { BringsNoLocks planned.event }
+    requires allowed { IsOk (allowed host.old.bank planned.event host.old.table) }
+    requires goes_on { store.old.stopped ≡ false }
+    requires room { HasRoom frame.old store.old }
+    requires banks { HasBanks store.old host.old }
+    ensures turn { IfOk result (λ reply. (body : List ℕ) → is_replacement body ≡ false → IsPlanned host.old body planned
+        → IsHeldBack body reply frame.old frame.new host.old host.new) }
+    ensures failed { OnErr result ((body : List ℕ) → is_replacement body ≡ false → IsPlanned host.old body planned → HasTurn body host.old host.new) }
+    ensures same { OnErr result (frame.new ≡ frame.old) }
+    // The device is called for a checkpoint alone, where one is due before the event.
+    ensures calls { (body : List ℕ) → is_replacement body ≡ false → IsPlanned host.old body planned
+        → CallsWhereDue store.old store.new host.old frame.old body }
+    ensures due { OnErr result ((body : List ℕ) → is_replacement body ≡ false → IsPlanned host.old body planned
+        → IsDueFor store.old host.old frame.old body) }
+    ensures any_moment { LeavesCommitted frame.old (held_of host.old) store.old store.new }
+    ensures each { store.new.stopped ≡ false → KeepsCommitted frame.old (held_of host.old) store.old store.new }
+    // No checkpoint is made that is not due.
+    ensures undue { ample_bytes ≤ body_bytes store.old.bank.shape - store.old.bank.gate → store.new.disk ≡ store.old.disk }
+    ensures room { store.new.stopped ≡ false → HasRoom frame.new store.new }
+    ensures going { OnOk result (store.new.stopped ≡ false) }
+    ensures stops { OnErr result (store.new.stopped ≡ true) }
+    ensures goes { Goes store.old store.new }
+    ensures library { store.new.library.items ≡ store.old.library.items }
+    ensures banks { HasBanks store.new host.new }
+{
+    one_request();
+    let Planned { tag, event, fields } = planned;
+    match hold_change(host, store, frame, event) {
+        Ok(()) => Ok(Reply::new(tag, HResult::S_OK, None, fields.into_vec())),
+        Err(KeepFault::Memory) => {
+            Ok(Reply::bare(host.allocator(), tag, HResult::E_OUTOFMEMORY, None))
+        }
+        Err(KeepFault::Write) => Err(Broken),
+    }
+}
+
+/// Makes a change that is allowed, and holds its event in a frame, behind a checkpoint where one is due: that has the table before the
+/// change. Then the growths of the event's bytes and of the table follow. At `Write` the checkpoint failed.
+fn hold_change<D: Disk>(
+    host: &mut Host,
+    store: &mut Store<D>,
+    frame: &mut Frame,
+    event: Event,
+) -> Result<(), KeepFault>
+    requires unlocked { BringsNoLocks event }
+    requires allowed { IsOk (allowed host.old.bank event host.old.table) }
+    requires goes_on { store.old.stopped ≡ false }
+    requires room { HasRoom frame.old store.old }
+    requires banks { HasBanks store.old host.old }
+    ensures change { MakesChange event host.old host.new result }
+    ensures replays { OnOk result (Replays (event_image event) (held_of host.old) (held_of host.new)) }
+    ensures small { OnOk result (length (event_image event) ≤ max_event_bytes) }
+    ensures some { OnOk result (0 < length (event_image event)) }
+    // It is the first event of a group before which the device is called.
+    ensures quiet { 0 < length frame.old → store.new.disk ≡ store.old.disk }
+    ensures first { IsErrOf result KeepFault.Write → length frame.old ≡ 0 }
+    ensures due { IsErrOf result KeepFault.Write → body_bytes store.old.bank.shape - store.old.bank.gate < ample_bytes }
+    ensures is { an_event.Is event }
+    ensures event { OnOk result (frame.new ≡ frame.old ++ event_image event) }
+    ensures same { OnErr result (frame.new ≡ frame.old) }
+    ensures any_moment { LeavesCommitted frame.old (held_of host.old) store.old store.new }
+    ensures each { store.new.stopped ≡ false → KeepsCommitted frame.old (held_of host.old) store.old store.new }
+    // No checkpoint is made that is not due.
+    ensures undue { ample_bytes ≤ body_bytes store.old.bank.shape - store.old.bank.gate → store.new.disk ≡ store.old.disk }
+    ensures room { store.new.stopped ≡ false → HasRoom frame.new store.new }
+    ensures going { (IsErrOf result KeepFault.Write → ⊥) → store.new.stopped ≡ false }
+    ensures stops { IsErrOf result KeepFault.Write → store.new.stopped ≡ true }
+    ensures goes { Goes store.old store.new }
+    ensures library { store.new.library.items ≡ store.old.library.items }
+    ensures shape { store.new.bank.shape ≡ store.old.bank.shape }
+{
+    is_event(&event);
+    make_room(store, host.table(), frame)?;
+    add_change(host, frame, event)?;
+    Ok(())
+}
+
+/// Makes a change that is allowed, and adds its event to those in hand. The growths come in this order: the event's bytes, the table's.
+fn add_change(host: &mut Host, frame: &mut Frame, event: Event) -> Result<(), KeepFault>
+    requires unlocked { BringsNoLocks event }
+    requires allowed { IsOk (allowed host.old.bank event host.old.table) }
+    ensures change { MakesChange event host.old host.new result }
+    ensures event { OnOk result (frame.new ≡ frame.old ++ event_image event) }
+    ensures same { OnErr result (frame.new ≡ frame.old) }
+    ensures kind { IsErr result → IsErrOf result KeepFault.Memory }
+{
+    let before = frame.len();
+    frame.add(&event)?;
+    if let Err(_) = host.apply(event) {
+        frame.cut(before);
+        return Err(KeepFault::Memory);
+    }
+    Ok(())
+}

@@ -1,0 +1,60 @@
+//! REPLACE LIBRARY over a store.
+ghost use Rattle.std.specs.Prelude.{◌≡◌, ◌⊎◌, false, true, IfOk, OnErr, OnOk};
+ghost use Rattle.oa_groups.specs.Desks.{LeavesState};
+ghost use Rattle.oa_groups.specs.Runs.{AllHoldState, HoldsState};
+ghost use Rattle.oa_groups.specs.Served.{Goes};
+ghost use Rattle.oa_record.specs.Replies.{ReplyValue};
+ghost use Rattle.oa_server.specs.Hands.{HasBanks};
+ghost use Rattle.oa_server.specs.Requests.{requests};
+ghost use Rattle.oa_table.specs.Tables.{unlocked_table};
+ghost use Rattle.oa_turn.specs.Events.{is_done};
+ghost use Rattle.oa_turn.specs.Replacing.{Replacement};
+
+use crate::opening::text_of;
+use oa_disk::Disk;
+use oa_keeper::Broken;
+use oa_model::HResult;
+use oa_record::{Reply, tag_of};
+use oa_store::{CheckpointFault, Store};
+use oa_turn::{Host, Renewal};
+
+/// The turn of a body of opcode 12 over a store, with nothing in hand: a group of its own. The store goes on in its other bank with the other
+/// library; where the body is refused, the device is not called. At `Err` the device has failed, and the turn is in doubt: the state is
+/// the one after it.
+pub(crate) fn renew_over<D: Disk>(
+    host: &mut Host,
+    store: &mut Store<D>,
+    body: &[u8],
+) -> Result<Reply, Broken>
+    requires goes_on { store.old.stopped ≡ false }
+    requires banks { HasBanks store.old host.old }
+    ensures turn { IfOk result (λ reply. Replacement host.old body.now reply host.new) }
+    ensures failed { OnErr result ((reply : ReplyValue) × Replacement host.old body.now reply host.new × (is_done reply ≡ true)) }
+    ensures same { unlocked_table host.new.table ≡ unlocked_table host.old.table }
+    // A stop at any moment leaves the old library or the new, with the table.
+    ensures any_moment { AllHoldState requests store.old host.old
+        → LeavesState store.old store.new (λ c. HoldsState requests host.old c ⊎ HoldsState requests host.new c) }
+    ensures each { store.new.stopped ≡ false → AllHoldState requests store.old host.old → AllHoldState requests store.new host.new }
+    // A body that is refused makes no call of the device.
+    ensures quiet { IfOk result (λ reply. is_done reply ≡ false → store.new.disk ≡ store.old.disk) }
+    ensures going { OnOk result (store.new.stopped ≡ false) }
+    ensures stops { OnErr result (store.new.stopped ≡ true) }
+    ensures goes { Goes store.old store.new }
+    ensures banks { HasBanks store.new host.new }
+{
+    let library = match host.renewal(body) {
+        Renewal::Answered(reply) => return Ok(reply),
+        Renewal::Renewed(library) => library,
+    };
+    match store.checkpoint_with(text_of(&library), host.table()) {
+        Ok(()) => {
+            host.replace_library(library);
+            Ok(Reply::bare(host.allocator(), tag_of(body), HResult::S_OK, None))
+        }
+        Err(CheckpointFault::Device(_)) => {
+            host.replace_library(library);
+            Err(Broken)
+        }
+        Err(CheckpointFault::Stopped) => Err(Broken),
+    }
+}

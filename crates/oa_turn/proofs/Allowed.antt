@@ -1,0 +1,137 @@
+-- What is allowed applies, and leaves a sound table.
+use Rattle.std.proofs.Common.{◌≡◌, ℕ, ◌+◌, ◌-◌, ◌≤◌, ◌⊎◌, inl, inr, Bool, true, false, true≢false, length, Result, Ok, Err, IsOk, refl, sym, ap, subst}
+use Rattle.std.proofs.Common.{◌∙◌, arith}
+use Rattle.std.specs.Prelude.{nat_lt, if◌then◌else◌}
+use Rattle.std.proofs.lemmas.Bool.{ltb-false}
+use Rattle.oa_image.specs.Tables.{reserved_bytes}
+use Rattle.oa_model.specs.Limits.{max_event_bytes}
+use Rattle.oa_image.specs.Events.{event_image}
+use Rattle.oa_image.specs.Tables.{is_numbered, objects, table as a_table, table_image}
+use Rattle.oa_image.proofs.Numbered.{numbers_stay, unlocked_numbers}
+use Rattle.oa_image.proofs.Whole.{same_table}
+use Rattle.oa_layout.specs.Formats.{only, made_where, counted, coded, next_by, times, raw}
+use Rattle.oa_layout.specs.Numbers.{u32}
+use Rattle.oa_turn.proofs.Relocked.{lock_stays, unlock_stays}
+use Rattle.oa_model.specs.declared.hresult.HResult.{HResult}
+use Rattle.oa_model.specs.Codes.{e_invalidarg, e_outofmemory, stg_e_mediumfull}
+use Rattle.oa_table.specs.declared.event.Event.{Event}
+use Rattle.oa_table.specs.declared.fault.TableFault.{TableFault}
+use Rattle.oa_table.specs.declared.fault.TableFault.TheVariants.{Memory, NoObject, WrongNumber, NotArray, Array}
+use Rattle.oa_table.specs.Events.{applied}
+use Rattle.oa_table.specs.Faults.{code_of}
+use Rattle.oa_table.specs.Outcomes.{Because}
+use Rattle.oa_table.specs.Tables.{TableValue, first_table, unlocked_table}
+use Rattle.oa_turn.specs.declared.decision.LockChange.{LockChange}
+use Rattle.oa_turn.specs.declared.decision.LockChange.TheVariants.{Lock, Unlock}
+use Rattle.oa_turn.specs.Decisions.{relocked}
+use Rattle.oa_turn.specs.Limits.{IsSound, allowed, limited, within_limits}
+
+-- a table that is allowed
+pub record IsWithin (bank : ℕ) (event : Event) (made new : TableValue) : Type 0 where
+  pub same : made ≡ new
+  pub event_small : length (event_image event) ≤ max_event_bytes
+  pub table_small : length (table_image new) ≤ (bank - reserved_bytes)
+
+within : (bank : ℕ) (event : Event) (made new : TableValue) → within_limits bank event made ≡ Ok new → IsWithin bank event made new
+within bank event made new =
+    by (nat_lt max_event_bytes (length (event_image event))) refl (nat_lt (bank - reserved_bytes) (length (table_image made))) refl
+  where
+    by : (long : Bool) → nat_lt max_event_bytes (length (event_image event)) ≡ long → (full : Bool)
+        → nat_lt (bank - reserved_bytes) (length (table_image made)) ≡ full
+        → (if long then Err e_invalidarg else if full then Err stg_e_mediumfull else Ok made) ≡ Ok new → IsWithin bank event made new
+    by true a full b is = absurd cc
+    by false a true b is = absurd cc
+    by false a false b is =
+        let same : made ≡ new = cc in
+        record {
+          same = same;
+          event_small = ltb-false max_event_bytes (length (event_image event)) a;
+          table_small = subst (λ (t : TableValue).
+              length (table_image t) ≤ (bank - reserved_bytes)) same (ltb-false (bank - reserved_bytes) (length (table_image made)) b);
+        }
+
+pub record IsMade (bank : ℕ) (event : Event) (old new : TableValue) : Type 0 where
+  pub applies : applied event old ≡ Ok new
+  pub event_small : length (event_image event) ≤ max_event_bytes
+  pub table_small : length (table_image new) ≤ (bank - reserved_bytes)
+
+pub is_made : (bank : ℕ) (event : Event) (old new : TableValue) → allowed bank event old ≡ Ok new → IsMade bank event old new
+is_made bank event old new is = by (applied event old) refl is
+  where
+    by : (due : Result TableValue TableFault) → applied event old ≡ due → limited bank event due ≡ Ok new → IsMade bank event old new
+    by (Ok made) at is =
+        let one = within bank event made new is in
+        record { applies = at ∙ ap (λ (t : TableValue). Ok t) one.same; event_small = one.event_small; table_small = one.table_small }
+    by (Err fault) at is = absurd cc
+
+-- the table that is allowed is the one after the event
+pub record IsAllowed (bank : ℕ) (event : Event) (old new : TableValue) : Type 0 where
+  pub is : allowed bank event old ≡ Ok new
+  pub event_small : length (event_image event) ≤ max_event_bytes
+  pub table_small : length (table_image new) ≤ (bank - reserved_bytes)
+
+pub is_allowed : (bank : ℕ) (event : Event) (old new : TableValue) → IsOk (allowed bank event old) → applied event old ≡ Ok new → IsAllowed bank event old new
+is_allowed bank event old new ok at = by (allowed bank event old) refl ok
+  where
+    by : (due : Result TableValue HResult) → allowed bank event old ≡ due → IsOk due → IsAllowed bank event old new
+    by (Ok made) is ok =
+        let one = is_made bank event old made is in
+        let same : made ≡ new = cc in
+        record {
+          is = is ∙ ap (λ (t : TableValue). Ok t) same;
+          event_small = one.event_small;
+          table_small =
+              subst (λ (t : TableValue). length (table_image t) ≤ (bank - reserved_bytes)) same one.table_small;
+        }
+    by (Err code) is ok = absurd (true≢false (sym ok))
+
+-- an image that is no longer than may be leaves what has to be free
+below : (bank n m : ℕ) → n + reserved_bytes ≤ bank → m ≤ bank - reserved_bytes → m + reserved_bytes ≤ bank
+below bank n m was is = omega (arith, was, is)
+
+pub stays_sound : (bank : ℕ) (event : Event) (old new : TableValue) → IsSound bank old → IsOk (allowed bank event old) → applied event old ≡ Ok new → IsSound bank new
+stays_sound bank event old new sound ok at = record { numbered = numbers_stay event old new sound.numbered at; small = below bank (length (table_image old)) (length (table_image new)) sound.small (is_allowed bank event old new ok at).table_small }
+
+pub allowed_sound : (bank : ℕ) (event : Event) (old new : TableValue) → IsSound bank old → allowed bank event old ≡ Ok new → IsSound bank new
+allowed_sound bank event old new sound is = stays_sound bank event old new sound (rw is refl) (is_made bank event old new is).applies
+
+-- an event that is within the limits is allowed where it applies
+pub within_allowed : (bank : ℕ) (event : Event) (old new : TableValue) → applied event old ≡ Ok new → within_limits bank event new ≡ Ok new → allowed bank event old ≡ Ok new
+within_allowed bank event old new at is = rw at is
+
+-- why the table does not apply an event that is within the limits
+pub why_refused : (bank : ℕ) (event : Event) (old : TableValue) (fault : TableFault) → ((new : TableValue) → applied event old ≡ Ok new → within_limits bank event new ≡ Ok new) → Because (applied event old) fault
+    → (allowed bank event old ≡ Err (code_of fault)) ⊎ ((code_of fault ≡ e_outofmemory) × IsOk (allowed bank event old))
+why_refused bank event old Memory within ok = inr (refl, by (applied event old) refl ok)
+  where
+    by : (due : Result TableValue TableFault) → applied event old ≡ due → IsOk due → IsOk (allowed bank event old)
+    by (Ok new) at ok = rw at (rw (within new at) refl)
+    by (Err fault) at ok = absurd (true≢false (sym ok))
+why_refused bank event old NoObject within is = inl (rw is refl)
+why_refused bank event old WrongNumber within is = inl (rw is refl)
+why_refused bank event old NotArray within is = inl (rw is refl)
+why_refused bank event old (Array fault) within is = inl (rw is refl)
+
+-- locks are no part of it
+as_unlocked : (bank : ℕ) (old new : TableValue) → unlocked_table new ≡ unlocked_table old → IsSound bank old → IsSound bank new
+as_unlocked bank old new same sound = record {
+  numbered = sym (unlocked_numbers new) ∙ ap is_numbered same ∙ unlocked_numbers old ∙ sound.numbered;
+  small =
+      let image : table_image new ≡ table_image old = sym (same_table new) ∙ ap table_image same ∙ same_table old in
+      rw image sound.small;
+}
+
+pub relock_unseen : (change : LockChange) (old new : TableValue) → relocked change old ≡ Ok new → unlocked_table new ≡ unlocked_table old
+relock_unseen (Lock name) old new is = lock_stays name old new is
+relock_unseen (Unlock name) old new is = unlock_stays name old new is
+
+pub relock_sound : (bank : ℕ) (change : LockChange) (old new : TableValue) → relocked change old ≡ Ok new → IsSound bank old → IsSound bank new
+relock_sound bank change old new is sound = as_unlocked bank old new (relock_unseen change old new is) sound
+
+-- the bytes of the table without objects
+first_image : length (table_image first_table) ≡ 8
+unfolding a_table objects only made_where counted coded next_by times u32 raw
+first_image = refl
+
+pub first_sound : (bank : ℕ) → 5242888 ≤ bank → IsSound bank first_table
+first_sound bank large = record { numbered = refl; small = omega (arith, large, first_image) }

@@ -1,0 +1,67 @@
+-- A body that asks for another library.
+use Rattle.std.proofs.Common.{◌≡◌, ◌⊎◌, inl, inr, ℕ, false, List, Option, Some, None, Err, refl, sym, ap, ◌∙◌, subst}
+use Rattle.std.specs.Prelude.{IsSome}
+use Rattle.oa_idl.specs.Trees.{TreeValue}
+use Rattle.oa_keeps.specs.Keeps.{first_lost}
+use Rattle.oa_keeps.specs.declared.lost.Lost.{Lost}
+use Rattle.oa_keeps.specs.LibraryTexts.{IsRead, StandsFor}
+use Rattle.oa_keeps.specs.declared.library_text.TextError.{TextError}
+use Rattle.oa_keeps.specs.declared.library_text.TextError.TheVariants.{NoLibrary, Memory}
+use Rattle.oa_model.specs.Codes.{bad_stub_data, e_outofmemory, s_ok}
+use Rattle.oa_model.specs.declared.hresult.HResult.{HResult}
+use Rattle.oa_record.specs.Asks.{tag_at}
+use Rattle.oa_record.specs.Replacement.{text_in}
+use Rattle.oa_record.specs.Replies.{ReplyValue}
+use Rattle.oa_turn.specs.Events.{is_done}
+use Rattle.oa_turn.specs.Renewals.{IsNext, RefusesLoss, text_code}
+use Rattle.oa_turn.specs.Replacing.{AsksLibrary, Replacement, after_replacement, replacement_reply}
+use Rattle.oa_turn.specs.States.{State}
+use Rattle.oa_turn.specs.Steps.{refusal}
+
+-- ---- which library a body asks for
+one_text : (a b : List ℕ) → Some a ≡ Some b → b ≡ a
+one_text a b e = cc
+
+module _ (body : List ℕ) where
+  pub no_text : text_in body ≡ None → (library : TreeValue) → AsksLibrary body library → ⊥
+  no_text none library asks = absurd (no_some asks.text (sym none ∙ asks.lies))
+    where
+      no_some : (a : List ℕ) → None ≡ Some a → ⊥
+      no_some a e = absurd cc
+
+  module _ (text : List ℕ) (lies : text_in body ≡ Some text) where
+    pub has_text : IsSome (text_in body)
+    has_text = subst IsSome (sym lies) refl
+
+    -- a text that gives no library, or one that memory was refused to
+    pub text_unread : (e : TextError) → IsRead text (Err e) → ((text_code e ≡ bad_stub_data) × ((library : TreeValue) → AsksLibrary body library → ⊥)) ⊎ ((text_code e ≡ e_outofmemory) × IsSome (text_in body))
+    text_unread NoLibrary none = inl (refl, λ library asks. none library (subst (λ (l : List ℕ). StandsFor l library) (one_text text asks.text (sym lies ∙ asks.lies)) asks.stands))
+    text_unread Memory any = inr (refl, has_text)
+
+-- ---- what becomes of it
+module _ (state : State) (body : List ℕ) (reply : ReplyValue) where
+  pub text_refused : (code : HResult) → ((code ≡ bad_stub_data) × ((library : TreeValue) → AsksLibrary body library → ⊥)) ⊎ ((code ≡ e_outofmemory) × IsSome (text_in body))
+      → reply ≡ refusal (tag_at body) code None → Replacement state body reply state × (is_done reply ≡ false)
+  text_refused code (inl why) told = (inr (inl (record { why = why.1; answers = told ∙ ap (λ (c : HResult). refusal (tag_at body) c None) why.0; leaves = refl })), rw (told, why.0) refl)
+  text_refused code (inr why) told = (inr (inr (record { may = why.1; answers = told ∙ ap (λ (c : HResult). refusal (tag_at body) c None) why.0; leaves = refl })), rw (told, why.0) refl)
+
+  pub loss_refused : (library : TreeValue) (lost : Lost) → AsksLibrary body library → first_lost library state.library ≡ Some lost → RefusesLoss (tag_at body) lost reply
+      → Replacement state body reply state × (is_done reply ≡ false)
+  loss_refused library lost asks is (inl told) = (
+    inl (record {
+      library = library;
+      asked = asks;
+      answers = told ∙ ap (λ (l : Option Lost). replacement_reply (tag_at body) l) (sym is);
+      leaves = ap (λ (l : Option Lost). after_replacement state library l) (sym is);
+    }),
+    rw told refl,
+  )
+  loss_refused library lost asks is (inr told) = (inr (inr (record { may = has_text body asks.text asks.lies; answers = told; leaves = refl })), rw told refl)
+
+  pub replaces : (library : TreeValue) (new : State) → IsNext state body library → reply ≡ refusal (tag_at body) s_ok None → new ≡ record state { library = library } → Replacement state body reply new
+  replaces library new next told leaves = inl (record {
+    library = library;
+    asked = next.asked;
+    answers = told ∙ ap (λ (l : Option Lost). replacement_reply (tag_at body) l) (sym next.keeps);
+    leaves = leaves ∙ ap (λ (l : Option Lost). after_replacement state library l) (sym next.keeps);
+  })

@@ -1,0 +1,33 @@
+-- Where a change that was decided may want memory, its request may.
+use Rattle.std.proofs.Common.{◌≡◌, ℕ, Bool, true, List, Result, Ok, Err, IsOk, is_ok, refl, ap, ◌∙◌}
+use Rattle.oa_record.specs.declared.request.Request.{Request}
+use Rattle.oa_record.specs.declared.request.Request.TheVariants as requests
+use Rattle.oa_table.specs.declared.event.Event.{Event}
+use Rattle.oa_table.specs.Tables.{TableValue}
+use Rattle.oa_turn.specs.declared.decision.Decision.{Decision}
+use Rattle.oa_turn.specs.declared.decision.Decision.TheVariants.{Answer, Change, Relock}
+use Rattle.oa_turn.specs.declared.refusal.Refusal.{Refusal}
+use Rattle.oa_turn.specs.Limits.{allowed}
+use Rattle.oa_turn.specs.States.{State}
+use Rattle.oa_turn.specs.Steps.{decided, takes_memory}
+
+-- whether what is decided applies; true where nothing changes
+abbrev applies : ℕ → TableValue → Result Decision Refusal → Bool
+applies bank table (Err r) = true
+applies bank table (Ok (Answer code fields)) = true
+applies bank table (Ok (Change event fields)) = is_ok (allowed bank event table)
+applies bank table (Ok (Relock change fields)) = true
+
+pub wants : (state : State) (request : Request) (event : Event) (fields : List ℕ) → decided state request ≡ Ok (Change event fields) → IsOk (allowed state.bank event state.table)
+    → takes_memory state request ≡ true
+wants state (requests.Create class) event fields h ok = ap is_ok h
+wants state (requests.Release number) event fields h ok = ap (applies state.bank state.table) h ∙ ok
+wants state (requests.GetIds call) event fields h ok = refl
+wants state (requests.Invoke call) event fields h ok = refl
+wants state (requests.GetElement call indices) event fields h ok = refl
+wants state (requests.PutElement call indices value) event fields h ok = refl
+wants state (requests.Redimension call bound) event fields h ok = refl
+wants state (requests.Lock call) event fields h ok = refl
+wants state (requests.Unlock call) event fields h ok = refl
+wants state (requests.TypeInfo index) event fields h ok = refl
+wants state requests.Objects event fields h ok = refl

@@ -1,0 +1,29 @@
+-- What images hold of a state, and the event that a turn makes.
+use Rattle.std.specs.Prelude.{◌≡◌, ℕ, ◌==◌, Bool, false, true, List, [], Option, Some, None}
+use Rattle.oa_image.specs.Events.{event_image}
+use Rattle.oa_record.specs.Asks.{Asks}
+use Rattle.oa_record.specs.Replacement.{is_replacement}
+use Rattle.oa_record.specs.Replies.{ReplyValue}
+use Rattle.oa_record.specs.declared.request.Request.{Request}
+use Rattle.oa_table.specs.declared.event.Event.{Event}
+use Rattle.oa_table.specs.Tables.{TableValue, unlocked_table}
+use Rattle.oa_turn.specs.States.{State}
+use Rattle.oa_turn.specs.Steps.{outcome}
+
+-- what images hold of a state: its table without locks
+abbrev pub held_of : State → TableValue
+held_of state = unlocked_table state.table
+
+-- a reply with S_OK
+abbrev pub is_done : ReplyValue → Bool
+is_done reply = reply.code.0 == 0
+
+abbrev pub bytes_of : Option Event → List ℕ
+bytes_of None = []
+bytes_of (Some event) = event_image event
+
+-- the bytes of the event that a body made, and no others: none where its reply is not S_OK
+pub record HasEvent (old : State) (body : List ℕ) (reply : ReplyValue) (event : List ℕ) : Type 0 where
+  pub done : (request : Request) → is_replacement body ≡ false → Asks body request → is_done reply ≡ true
+      → event ≡ bytes_of (outcome old request).event
+  pub undone : is_done reply ≡ false → event ≡ []

@@ -1,0 +1,48 @@
+-- The limits on what a change makes. (This project's choice: a table has to leave so much of a bank's body that a group of one event fits
+-- behind it, and a server in memory refuses what one over a store refuses.)
+use Rattle.std.specs.Prelude.{◌≡◌, ◌⊎◌, ◌-◌, ℕ, nat_lt, if◌then◌else◌, length, true, Option, Some, None, Result, Ok, Err, IsOk}
+use Rattle.oa_image.specs.Tables.{FitsBank, reserved_bytes}
+use Rattle.oa_model.specs.Limits.{max_event_bytes}
+use Rattle.oa_image.specs.Events.{event_image}
+use Rattle.oa_image.specs.Tables.{is_numbered, table_image}
+use Rattle.oa_model.specs.declared.hresult.HResult.{HResult}
+use Rattle.oa_model.specs.Codes.{e_invalidarg, e_outofmemory, stg_e_mediumfull}
+use Rattle.oa_table.specs.declared.event.Event.{Event}
+use Rattle.oa_table.specs.declared.fault.TableFault.{TableFault}
+use Rattle.oa_table.specs.Events.{applied}
+use Rattle.oa_table.specs.Faults.{code_of}
+use Rattle.oa_table.specs.Tables.{TableValue}
+
+-- the image of the event, and then that of the table after it, in a bank of this size
+abbrev pub within_limits : ℕ → Event → TableValue → Result TableValue HResult
+within_limits bank event new =
+    if nat_lt max_event_bytes (length (event_image event)) then Err e_invalidarg
+    else if nat_lt (bank - reserved_bytes) (length (table_image new)) then Err stg_e_mediumfull
+    else Ok new
+
+-- the table after the event, where it applies, is within them
+abbrev pub StaysWithin : ℕ → Event → TableValue → Type 0
+StaysWithin bank event old = (new : TableValue) → applied event old ≡ Ok new → within_limits bank event new ≡ Ok new
+
+abbrev pub limited : ℕ → Event → Result TableValue TableFault → Result TableValue HResult
+limited bank event (Ok new) = within_limits bank event new
+limited bank event (Err fault) = Err (code_of fault)
+
+-- the table after an event, or why there is none: the table refuses it, or a limit does
+abbrev pub allowed : ℕ → Event → TableValue → Result TableValue HResult
+allowed bank event table = limited bank event (applied event table)
+
+-- the reason of a refusal, or none where there is none
+abbrev pub Refuses : {T E : Type 0} → Result T E → Option E → Type 0
+Refuses due None = IsOk due
+Refuses due (Some fault) = due ≡ Err fault
+
+-- A change is made where it is allowed; else the reason is told, or that memory was wanted, and nothing changes.
+abbrev pub ChangesTable : ℕ → Event → TableValue → TableValue → Result (Unit {0}) HResult → Type 0
+ChangesTable bank event old new (Ok u) = allowed bank event old ≡ Ok new
+ChangesTable bank event old new (Err code) = (new ≡ old) × ((allowed bank event old ≡ Err code) ⊎ ((code ≡ e_outofmemory) × IsOk (allowed bank event old)))
+
+-- What a server's table always is: its objects have numbers from 1 to below the next one, and its image leaves what has to be free of a bank of this size.
+pub record IsSound (bank : ℕ) (table : TableValue) : Type 0 where
+  pub numbered : is_numbered table ≡ true
+  pub small : FitsBank bank table

@@ -1,0 +1,59 @@
+-- What is left of a turn once its body was looked at.
+use Rattle.std.specs.Prelude.{◌≡◌, List, [], ℕ, None, Ok, Err, IsOk, ⊤}
+use Rattle.oa_model.specs.declared.hresult.HResult.{HResult}
+use Rattle.oa_record.specs.declared.request.Request.{Request}
+use Rattle.oa_record.specs.Asks.{Asks, tag_at}
+use Rattle.oa_table.specs.declared.event.Event.{Event}
+use Rattle.oa_table.specs.Events.{BringsNoLocks}
+use Rattle.oa_table.specs.Tables.{unlocked_table}
+use Rattle.oa_turn.specs.declared.decision.Decision.TheVariants as decisions
+use Rattle.oa_turn.specs.declared.plan.Plan.{Plan}
+use Rattle.oa_turn.specs.declared.plan.Plan.TheVariants.{Answered, Change}
+use Rattle.oa_turn.specs.declared.plan.Planned.{Planned}
+use Rattle.oa_turn.specs.Limits.{allowed}
+use Rattle.oa_turn.specs.Events.{HasEvent}
+use Rattle.oa_turn.specs.States.{State}
+use Rattle.oa_turn.specs.Steps.{decided, refusal}
+use Rattle.oa_turn.specs.Turns.{Ordinary}
+
+-- the body asks a request of which this change is decided
+pub record IsDrafted (state : State) (body : List ℕ) (planned : Planned) : Type 0 where
+  pub request : Request
+  pub asked : Asks body request
+  pub tag : planned.tag ≡ tag_at body
+  pub decided_is : decided state request ≡ Ok (decisions.Change planned.event planned.fields)
+
+-- the same, and the change is allowed
+pub record IsPlanned (state : State) (body : List ℕ) (planned : Planned) : Type 0 where
+  pub request : Request
+  pub asked : Asks body request
+  pub tag : planned.tag ≡ tag_at body
+  pub decided_is : decided state request ≡ Ok (decisions.Change planned.event planned.fields)
+  pub allows : IsOk (allowed state.bank planned.event state.table)
+
+-- what images hold of a state, and its library, are the same
+pub record HoldsSame (old new : State) : Type 0 where
+  pub table : unlocked_table new.table ≡ unlocked_table old.table
+  pub library : new.library ≡ old.library
+
+-- the turn was taken, and changed nothing that images hold; or a change was decided
+abbrev pub Drafts : State → List ℕ → State → Plan → Type 0
+Drafts old body new (Answered reply) = Ordinary old body reply new × HoldsSame old new
+Drafts old body new (Change planned) = IsDrafted old body planned × BringsNoLocks planned.event × (new ≡ old)
+
+-- the turn was taken, and changed nothing that images hold; or a change is to be made
+abbrev pub Plans : State → List ℕ → State → Plan → Type 0
+Plans old body new (Answered reply) = Ordinary old body reply new × HoldsSame old new
+Plans old body new (Change planned) = IsPlanned old body planned × BringsNoLocks planned.event × (new ≡ old)
+
+-- a change that was decided is refused, or to be made
+abbrev pub PlansChange : State → ℕ → Event → List ℕ → Plan → Type 0
+PlansChange state tag event fields (Answered reply) =
+    (code : HResult) × (allowed state.bank event state.table ≡ Err code) × (reply ≡ refusal tag code None)
+PlansChange state tag event fields (Change planned) =
+    (planned ≡ record { tag = tag; event = event; fields = fields }) × IsOk (allowed state.bank event state.table)
+
+-- what was answered made no event
+abbrev pub HasNoEvent : State → List ℕ → Plan → Type 0
+HasNoEvent old body (Answered reply) = HasEvent old body reply []
+HasNoEvent old body (Change planned) = ⊤

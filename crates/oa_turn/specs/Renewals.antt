@@ -1,0 +1,42 @@
+-- What becomes of a body that asks for another library, before anything is changed.
+use Rattle.std.specs.Prelude.{◌≡◌, ◌⊎◌, ℕ, false, List, IsSome, Some, None, Result, Ok, Err}
+use Rattle.oa_idl.specs.Trees.{TreeValue}
+use Rattle.oa_model.specs.Codes.{bad_stub_data, e_outofmemory}
+use Rattle.oa_model.specs.declared.hresult.HResult.{HResult}
+use Rattle.oa_keeps.specs.Keeps.{first_lost}
+use Rattle.oa_keeps.specs.declared.lost.Lost.{Lost}
+use Rattle.oa_keeps.specs.declared.library_text.TextError.{TextError}
+use Rattle.oa_keeps.specs.declared.library_text.TextError.TheVariants.{NoLibrary, Memory}
+use Rattle.oa_record.specs.Replacement.{text_in}
+use Rattle.oa_record.specs.Replies.{ReplyValue}
+use Rattle.oa_turn.specs.declared.host.renewal.Renewal.{Renewal}
+use Rattle.oa_turn.specs.declared.host.renewal.Renewal.TheVariants.{Answered, Renewed}
+use Rattle.oa_turn.specs.Replacing.{AsksLibrary, Replacement, replacement_reply}
+use Rattle.oa_turn.specs.Events.{is_done}
+use Rattle.oa_turn.specs.States.{State}
+use Rattle.oa_turn.specs.Steps.{refusal}
+
+-- what is answered where a text gives no library
+abbrev pub text_code : TextError → HResult
+text_code NoLibrary = bad_stub_data
+text_code Memory = e_outofmemory
+
+-- the library that the body asks for, or why it asks for none, or that memory was refused to its text
+abbrev pub IsLibraryOf : List ℕ → Result TreeValue HResult → Type 0
+IsLibraryOf body (Ok library) = AsksLibrary body library
+IsLibraryOf body (Err code) =
+    ((code ≡ bad_stub_data) × ((library : TreeValue) → AsksLibrary body library → ⊥)) ⊎ ((code ≡ e_outofmemory) × IsSome (text_in body))
+
+-- what is lost is told, or memory was refused to the reply
+abbrev pub RefusesLoss : ℕ → Lost → ReplyValue → Type 0
+RefusesLoss tag lost reply = (reply ≡ replacement_reply tag (Some lost)) ⊎ (reply ≡ refusal tag e_outofmemory None)
+
+-- a library that replaces the one of the state
+pub record IsNext (state : State) (body : List ℕ) (library : TreeValue) : Type 0 where
+  pub asked : AsksLibrary body library
+  pub keeps : first_lost library state.library ≡ None
+
+-- the turn was taken, and changed nothing; or a library is to replace the one of the state
+abbrev pub Renews : State → List ℕ → Renewal → Type 0
+Renews state body (Answered reply) = Replacement state body reply state × (is_done reply ≡ false)
+Renews state body (Renewed library) = IsNext state body library

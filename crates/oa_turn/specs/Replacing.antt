@@ -1,0 +1,54 @@
+-- REPLACE LIBRARY: the library of the body's text takes the place of the one that the server has (this project's choice).
+use Rattle.std.specs.Prelude.{◌≡◌, ◌⊎◌, ℕ, IsSome, List, Option, Some, None}
+use Rattle.oa_idl.specs.Trees.{TreeValue}
+use Rattle.oa_model.specs.Codes.{bad_stub_data, e_invalidarg, e_outofmemory, s_ok}
+use Rattle.oa_record.specs.Asks.{tag_at}
+use Rattle.oa_record.specs.Replacement.{text_in}
+use Rattle.oa_record.specs.Replies.{ReplyValue, lost_field}
+use Rattle.oa_keeps.specs.Keeps.{dispid_lost, first_lost, guid_lost}
+use Rattle.oa_keeps.specs.LibraryTexts.{StandsFor}
+use Rattle.oa_keeps.specs.declared.lost.Lost.{Lost}
+use Rattle.oa_turn.specs.States.{State}
+use Rattle.oa_turn.specs.Steps.{refusal}
+
+-- ---- what a body asks
+
+-- its text is that of this library
+pub record AsksLibrary (body : List ℕ) (library : TreeValue) : Type 0 where
+  pub text : List ℕ
+  pub lies : text_in body ≡ Some text
+  pub stands : StandsFor text library
+
+-- ---- what becomes of it
+
+-- the reply: what of the old library would be lost, in the order in which that is sought, or that nothing is
+abbrev pub replacement_reply : ℕ → Option Lost → ReplyValue
+replacement_reply tag None = refusal tag s_ok None
+replacement_reply tag (Some lost) = record { tag = tag; code = e_invalidarg; index = None; body = lost_field (guid_lost lost) (dispid_lost lost) }
+
+-- the table and its locks stay
+abbrev pub after_replacement : State → TreeValue → Option Lost → State
+after_replacement old library None = record old { library = library }
+after_replacement old library (Some lost) = old
+
+-- the body asks for this library, which replaces the one of the state, or not all of that is kept in it
+pub record Replaces (old : State) (body : List ℕ) (reply : ReplyValue) (new : State) : Type 0 where
+  pub library : TreeValue
+  pub asked : AsksLibrary body library
+  pub answers : reply ≡ replacement_reply (tag_at body) (first_lost library old.library)
+  pub leaves : new ≡ after_replacement old library (first_lost library old.library)
+
+-- the body is laid out otherwise, or its text is that of no library; nothing changes
+pub record RefusesText (old : State) (body : List ℕ) (reply : ReplyValue) (new : State) : Type 0 where
+  pub why : (library : TreeValue) → AsksLibrary body library → ⊥
+  pub answers : reply ≡ refusal (tag_at body) bad_stub_data None
+  pub leaves : new ≡ old
+
+-- memory was refused to a text; nothing changes
+pub record LacksText (old : State) (body : List ℕ) (reply : ReplyValue) (new : State) : Type 0 where
+  pub may : IsSome (text_in body)
+  pub answers : reply ≡ refusal (tag_at body) e_outofmemory None
+  pub leaves : new ≡ old
+
+abbrev pub Replacement : State → List ℕ → ReplyValue → State → Type 0
+Replacement old body reply new = Replaces old body reply new ⊎ (RefusesText old body reply new ⊎ LacksText old body reply new)

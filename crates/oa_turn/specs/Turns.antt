@@ -1,0 +1,67 @@
+-- Turns of a server, and runs of turns.
+use Rattle.std.specs.Prelude.{◌≡◌, ◌⊎◌, ℕ, true, false, List, [], ◌∷◌, Option, None}
+use Rattle.oa_model.specs.Codes.{bad_stub_data, disp_e_badvartype, e_outofmemory}
+use Rattle.oa_record.specs.declared.request.Request.{Request}
+use Rattle.oa_record.specs.Asks.{Asks, IsBadVarType, IsStub, MayStarve, tag_at}
+use Rattle.oa_record.specs.Replies.{ReplyValue}
+use Rattle.oa_record.specs.Replacement.{is_replacement}
+use Rattle.oa_turn.specs.Replacing.{Replacement}
+use Rattle.oa_turn.specs.States.{State}
+use Rattle.oa_turn.specs.Steps.{after, refusal, reply_of, takes_memory}
+
+-- the body asks a request, and this is its step
+pub record Steps (old : State) (body : List ℕ) (reply : ReplyValue) (new : State) : Type 0 where
+  pub request : Request
+  pub asked : Asks body request
+  pub answers : reply ≡ reply_of old (tag_at body) request
+  pub leaves : new ≡ after old request
+
+-- the body is laid out as no request, or the field of a value is broken; nothing changes
+pub record RefusesStub (old : State) (body : List ℕ) (reply : ReplyValue) (new : State) : Type 0 where
+  pub why : IsStub body
+  pub answers : reply ≡ refusal (tag_at body) bad_stub_data None
+  pub leaves : new ≡ old
+
+-- a value has a type outside the profile; nothing changes
+pub record RefusesType (old : State) (body : List ℕ) (reply : ReplyValue) (new : State) : Type 0 where
+  pub index : Option ℕ
+  pub why : IsBadVarType body index
+  pub answers : reply ≡ refusal (tag_at body) disp_e_badvartype index
+  pub leaves : new ≡ old
+
+-- the body asks a request that takes memory to carry out: any but a CREATE or a RELEASE that is refused
+pub record MayLack (old : State) (body : List ℕ) : Type 0 where
+  pub request : Request
+  pub asked : Asks body request
+  pub takes : takes_memory old request ≡ true
+
+-- memory was refused, where reading the body or carrying out its request takes some; nothing changes
+pub record LacksMemory (old : State) (body : List ℕ) (reply : ReplyValue) (new : State) : Type 0 where
+  pub may : MayStarve body ⊎ MayLack old body
+  pub answers : reply ≡ refusal (tag_at body) e_outofmemory None
+  pub leaves : new ≡ old
+
+-- one turn of a body with another opcode than 12
+abbrev pub Ordinary : State → List ℕ → ReplyValue → State → Type 0
+Ordinary old body reply new =
+    Steps old body reply new ⊎ (RefusesStub old body reply new ⊎ (RefusesType old body reply new ⊎ LacksMemory old body reply new))
+
+pub record IsOrdinary (old : State) (body : List ℕ) (reply : ReplyValue) (new : State) : Type 0 where
+  pub kind : is_replacement body ≡ false
+  pub turn : Ordinary old body reply new
+
+-- one turn of a body with that opcode
+pub record IsRenewal (old : State) (body : List ℕ) (reply : ReplyValue) (new : State) : Type 0 where
+  pub kind : is_replacement body ≡ true
+  pub turn : Replacement old body reply new
+
+-- one turn
+abbrev pub Turn : State → List ℕ → ReplyValue → State → Type 0
+Turn old body reply new = IsOrdinary old body reply new ⊎ IsRenewal old body reply new
+
+-- one turn after another
+abbrev pub Run : State → List (List ℕ) → List ReplyValue → State → Type 0
+Run old [] [] new = new ≡ old
+Run old (body ∷ bodies) (reply ∷ replies) new = (mid : State) × Turn old body reply mid × Run mid bodies replies new
+Run old [] (reply ∷ replies) new = ⊥
+Run old (body ∷ bodies) [] new = ⊥

@@ -1,0 +1,91 @@
+//! The ways in which a table changes.
+ghost use Rattle.std.specs.Prelude.{◌≡◌, ◌-◌, ◌<◌, ℕ, IsOk, Ok};
+ghost use Rattle.oa_turn.specs.Decisions.{MakesTable, RelocksTable};
+ghost use Rattle.oa_turn.specs.Limits.{ChangesTable, IsSound, StaysWithin, allowed};
+ghost use Rattle.oa_turn.specs.declared.decision.LockChange.TheVariants.{Lock as ALock, Unlock as AnUnlock};
+ghost use Rattle.oa_table.specs.Events.{BringsNoLocks};
+ghost use Rattle.oa_table.specs.Tables.{unlocked_table};
+
+use crate::decision::LockChange;
+use crate::limits::{is_surely_within, refusal};
+use oa_model::HResult;
+use oa_table::{CellName, Event, Table, TableFault};
+use std::alloc::AllocError;
+
+/// Makes a change that is allowed. Err only where memory is refused; then nothing changes.
+pub(crate) fn apply(table: &mut Table, event: Event) -> Result<(), AllocError>
+    requires unlocked { BringsNoLocks event }
+    ensures change { MakesTable event table.old table.new result }
+    ensures sound { (bank : ℕ) → IsOk (allowed bank event table.old) → IsSound bank table.old → IsSound bank table.new }
+{
+    if let Err(_) = table.apply(event) {
+        return Err(AllocError);
+    }
+    Ok(())
+}
+
+/// Makes a change where it is allowed. Err tells why it is not, or that no memory was found; then nothing changes.
+pub(crate) fn change(bank: u32, table: &mut Table, event: Event) -> Result<(), HResult>
+    requires unlocked { BringsNoLocks event }
+    requires sound { IsSound bank table.old }
+    ensures change { ChangesTable bank event table.old table.new result }
+    ensures sound { IsSound bank table.new }
+{
+    // Far from the limits, as most changes are, the table alone tells whether the event applies, as it makes the change.
+    if is_surely_within(bank, table, &event) {
+        return change_within(table, event);
+    }
+    if let Some(code) = refusal(bank, table, &event) {
+        return Err(code);
+    }
+    match apply(table, event) {
+        Ok(()) => Ok(()),
+        Err(_) => Err(HResult::E_OUTOFMEMORY),
+    }
+}
+
+/// The same of one that is within the limits, where it applies.
+fn change_within(table: &mut Table, event: Event) -> Result<(), HResult>
+    requires unlocked { BringsNoLocks event }
+    ensures change { (bank : ℕ) → StaysWithin bank event table.old → ChangesTable bank event table.old table.new result }
+    ensures sound { (bank : ℕ) → StaysWithin bank event table.old → IsSound bank table.old → IsSound bank table.new }
+{
+    if let Err((_, fault)) = table.apply(event) {
+        return Err(fault.code());
+    }
+    Ok(())
+}
+
+/// Changes the locks of an array. Takes no memory.
+pub(crate) fn change_locks(table: &mut Table, change: LockChange) -> Result<(), TableFault>
+    ensures change { RelocksTable change table.old table.new result }
+    ensures same { unlocked_table table.new ≡ unlocked_table table.old }
+    ensures sound { (bank : ℕ) → IsSound bank table.old → IsSound bank table.new }
+{
+    match change {
+        LockChange::Lock(name) => lock(table, name),
+        LockChange::Unlock(name) => unlock(table, name),
+    }
+}
+
+fn lock(table: &mut Table, name: CellName) -> Result<(), TableFault>
+    ensures change { RelocksTable (ALock name) table.old table.new result }
+    ensures same { unlocked_table table.new ≡ unlocked_table table.old }
+    ensures sound { (bank : ℕ) → IsSound bank table.old → IsSound bank table.new }
+{
+    match table.lock(&name) {
+        Ok(_) => Ok(()),
+        Err(fault) => Err(fault),
+    }
+}
+
+fn unlock(table: &mut Table, name: CellName) -> Result<(), TableFault>
+    ensures change { RelocksTable (AnUnlock name) table.old table.new result }
+    ensures same { unlocked_table table.new ≡ unlocked_table table.old }
+    ensures sound { (bank : ℕ) → IsSound bank table.old → IsSound bank table.new }
+{
+    match table.unlock(&name) {
+        Ok(_) => Ok(()),
+        Err(fault) => Err(fault),
+    }
+}

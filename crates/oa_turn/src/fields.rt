@@ -1,0 +1,49 @@
+//! The fields of a reply.
+ghost use Rattle.std.specs.Prelude.{◌≡◌, ◌≤◌, [], length};
+
+use std::alloc::Global;
+use std::marker::Model;
+
+/// The bytes of a reply's fields, no more than a reply can have.
+#[derive(Drop)]
+pub struct Fields {
+    bytes: Vec<u8>,
+}
+
+impl Model for Fields {
+    ghost use Rattle.std.specs.Prelude.{List, ℕ, ◌≤◌, length};
+
+    ghost Value = { List ℕ };
+
+    ghost view = { λ f. f.bytes.items };
+
+    ghost invariant = { λ f. length f.bytes.items ≤ 4294967279 };
+}
+
+impl Fields {
+    /// These fields.
+    pub(crate) fn new(bytes: Vec<u8>) -> Fields
+        requires { length bytes.items ≤ 4294967279 }
+        ensures { result ≡ bytes.items }
+    {
+        Fields { bytes }
+    }
+
+    /// No fields. Takes no memory.
+    pub(crate) fn none(alloc: Global) -> Fields
+        ensures { result ≡ [] }
+    {
+        Fields {
+            bytes: Vec::new(alloc),
+        }
+    }
+
+    /// Their bytes.
+    pub fn into_vec(self) -> Vec<u8>
+        ensures value { result.items ≡ self }
+        ensures small { length result.items ≤ 4294967279 }
+    {
+        let Fields { bytes } = self;
+        bytes
+    }
+}

@@ -1,0 +1,269 @@
+//! A library and a table in memory, and one turn after another.
+ghost use Rattle.std.specs.Prelude.{◌≡◌, ◌-◌, ◌≤◌, List, ℕ, [], map, IsOk, IfOk, OnErr};
+ghost use Rattle.oa_turn.specs.Decisions.{ChangesNoLocks, Decides, MakesChange, after_outcome, relocked, relocking};
+ghost use Rattle.oa_turn.specs.Limits.{IsSound, allowed};
+ghost use Rattle.oa_turn.specs.Plans.{Drafts, HasNoEvent, HoldsSame, IsDrafted, Plans, PlansChange};
+ghost use Rattle.oa_turn.specs.Steps.{decided, reply_with, takes_memory};
+ghost use Rattle.oa_turn.specs.Turns.{Ordinary, Run, Turn};
+ghost use Rattle.oa_record.specs.Replacement.{is_replacement};
+ghost use Rattle.oa_table.specs.Events.{BringsNoLocks};
+ghost use Rattle.oa_table.specs.Tables.{first_table};
+
+use crate::changes::{apply, change, change_locks};
+use crate::decision::{Decision, LockChange, Undecided};
+use crate::fields::Fields;
+use crate::limits::refusal;
+use crate::plan::{Plan, Planned};
+use crate::refusal::Refusal;
+use oa_model::HResult;
+use oa_record::laws::one_request;
+use oa_record::{Reply, Request, is_replacement, read_request, tag_of};
+use oa_table::{Event, Table};
+use oa_typelib::Library;
+use std::alloc::{AllocError, Global};
+use std::marker::Model;
+
+mod array_cell;
+mod cell;
+mod create;
+mod get_element;
+mod invoke;
+mod listing;
+mod lock;
+mod look_ups;
+mod put_element;
+mod redimension;
+mod release;
+pub(crate) mod renewal;
+mod type_info;
+mod unlock;
+
+/// A library and a table of its objects, in memory, and how large the table may grow: what a server's answers depend on.
+pub struct Host {
+    alloc: Global,
+    /// How many bytes the body of a bank has that the table has to fit.
+    bank: u32,
+    library: Library,
+    table: Table,
+}
+
+// Its own, so that a function that holds a host, or a server, lets go of it in one step.
+impl Drop for Host {
+    fn drop(self) {
+        let Host {
+            alloc: _alloc,
+            bank: _bank,
+            library: _library,
+            table: _table,
+        } = self;
+    }
+}
+
+impl Model for Host {
+    ghost use Rattle.oa_turn.specs.States.{State};
+    ghost use Rattle.oa_turn.specs.Limits.{IsSound};
+
+    ghost Value = { State };
+
+    ghost view = { λ s. record { bank = s.bank; library = s.library; table = s.table } };
+
+    ghost invariant = { λ s. IsSound s.bank s.table };
+}
+
+impl Host {
+    /// A library, and the table at first, over banks of this size. It refuses what one over a new store of such banks refuses.
+    pub fn new(alloc: Global, bank: u32, library: Library) -> Host
+        requires { 5242888 ≤ bank }
+        ensures { result ≡ record { bank = bank; library = library; table = first_table } }
+    {
+        Host {
+            alloc,
+            bank,
+            library,
+            table: Table::new(alloc),
+        }
+    }
+
+    /// A library, and a table that was made before, over banks of this size.
+    pub fn over(alloc: Global, bank: u32, library: Library, table: Table) -> Host
+        requires { IsSound bank table }
+        ensures { result ≡ record { bank = bank; library = library; table = table } }
+    {
+        Host {
+            alloc,
+            bank,
+            library,
+            table,
+        }
+    }
+
+    /// One turn. Want of memory is told in the reply, which then leaves all as it was.
+    pub fn turn(&mut self, body: &[u8]) -> Reply
+        ensures turn { Turn self.old body.now result self.new }
+        ensures bank { self.new.bank ≡ self.old.bank }
+    {
+        if is_replacement(body) {
+            return self.renew(body);
+        }
+        self.ordinary_turn(body)
+    }
+
+    /// One turn of a body with another opcode than 12.
+    fn ordinary_turn(&mut self, body: &[u8]) -> Reply
+        ensures { Ordinary self.old body.now result self.new }
+    {
+        match self.draft(body) {
+            Plan::Answered(reply) => reply,
+            Plan::Change(planned) => self.make(planned),
+        }
+    }
+
+    /// The turn of a body with another opcode than 12, but for the change that an event makes of the table: that is planned.
+    pub fn plan(&mut self, body: &[u8]) -> Plan
+        ensures plans { Plans self.old body.now self.new result }
+        ensures quiet { HasNoEvent self.old body.now result }
+    {
+        one_request();
+        match self.draft(body) {
+            Plan::Answered(reply) => Plan::Answered(reply),
+            Plan::Change(Planned { tag, event, fields }) => self.plan_change(tag, event, fields),
+        }
+    }
+
+    /// The same, but a change that was decided may still be refused.
+    fn draft(&mut self, body: &[u8]) -> Plan
+        ensures drafts { Drafts self.old body.now self.new result }
+        ensures quiet { HasNoEvent self.old body.now result }
+    {
+        one_request();
+        let tag = tag_of(body);
+        let request = match read_request(self.alloc, body) {
+            Ok(request) => request,
+            Err(fault) => {
+                let reply = Reply::bare(self.alloc, tag, fault.code(), fault.index());
+                return Plan::Answered(reply);
+            }
+        };
+        match self.decide(request) {
+            Ok(Decision::Answer { code, fields }) => {
+                Plan::Answered(Reply::new(tag, code, None, fields.into_vec()))
+            }
+            Ok(Decision::Change { event, fields }) => Plan::Change(Planned { tag, event, fields }),
+            Ok(Decision::Relock { change, fields }) => {
+                Plan::Answered(self.relock(tag, change, fields))
+            }
+            Err(Undecided::Refused(refusal)) => Plan::Answered(self.refuse(tag, refusal)),
+            Err(Undecided::OutOfMemory) => {
+                Plan::Answered(Reply::bare(self.alloc, tag, HResult::E_OUTOFMEMORY, None))
+            }
+        }
+    }
+
+    /// A change that was decided: it is refused, or to be made.
+    fn plan_change(&self, tag: u32, event: Event, fields: Fields) -> Plan
+        ensures { PlansChange self.now tag event fields result }
+    {
+        match refusal(self.bank, &self.table, &event) {
+            Some(code) => Plan::Answered(Reply::bare(self.alloc, tag, code, None)),
+            None => Plan::Change(Planned { tag, event, fields }),
+        }
+    }
+
+    /// Makes a change in memory, and tells it, or why it is refused.
+    fn make(&mut self, planned: Planned) -> Reply
+        requires { BringsNoLocks planned.event }
+        ensures { (body : List ℕ) → IsDrafted self.old body planned → Ordinary self.old body result self.new }
+    {
+        let Planned { tag, event, fields } = planned;
+        if let Err(code) = change(self.bank, &mut self.table, event) {
+            return Reply::bare(self.alloc, tag, code, None);
+        }
+        Reply::new(tag, HResult::S_OK, None, fields.into_vec())
+    }
+
+    /// Makes a change that was planned, or another that is allowed. Err only where memory is refused; then nothing changes.
+    pub fn apply(&mut self, event: Event) -> Result<(), AllocError>
+        requires unlocked { BringsNoLocks event }
+        requires allowed { IsOk (allowed self.old.bank event self.old.table) }
+        ensures { MakesChange event self.old self.new result }
+    {
+        apply(&mut self.table, event)
+    }
+
+    /// One turn after another. Err only where memory is refused before anything was done.
+    pub fn run(&mut self, bodies: &[Vec<u8>]) -> Result<Vec<Reply>, AllocError>
+        ensures run { IfOk result (λ replies. Run self.old (map (λ b. b.items) bodies.now) replies.items self.new) }
+        ensures bank { self.new.bank ≡ self.old.bank }
+        ensures err { OnErr result (self.new ≡ self.old) }
+    {
+        let mut replies = Vec::with_capacity(self.alloc, bodies.len())?;
+        'bodies: for body in bodies {
+            let reply = self.turn(body);
+            replies.push_reserved(reply);
+        }
+        Ok(replies)
+    }
+
+    /// The table, which is sound.
+    pub fn table(&self) -> &Table
+        ensures table { result.now ≡ self.now.table }
+        ensures sound { IsSound self.now.bank self.now.table }
+    {
+        &self.table
+    }
+
+    /// Takes a library in the place of the one that it has. The table stays, with its locks.
+    pub fn replace_library(&mut self, library: Library)
+        ensures { self.new ≡ record self.old { library = library } }
+    {
+        self.library = library;
+    }
+
+    /// The allocator that the host was made with.
+    pub fn allocator(&self) -> Global {
+        self.alloc
+    }
+
+    /// What becomes of a request. Only reads.
+    fn decide(&self, request: Request) -> Result<Decision, Undecided>
+        ensures decided { Decides (decided self.now request) (takes_memory self.now request) result }
+        ensures unlocked { IfOk result ChangesNoLocks }
+    {
+        match request {
+            Request::Create { class } => self.creation(class),
+            Request::Release { object } => Ok(self.ending(object)),
+            Request::GetIds(call) => self.look_up(call),
+            Request::Invoke(call) => self.invocation(call),
+            Request::TypeInfo { index } => self.information(index),
+            Request::Objects => self.listing(),
+            Request::GetElement { call, indices } => self.element_got(call, indices),
+            Request::PutElement {
+                call,
+                indices,
+                value,
+            } => self.element_put(call, indices, value),
+            Request::Redimension { call, bound } => self.redimension(call, bound),
+            Request::Lock(call) => self.locking(call),
+            Request::Unlock(call) => self.unlocking(call),
+        }
+    }
+
+    /// Changes the locks of an array and tells it with these fields, or why the table refuses it. Takes no memory.
+    fn relock(&mut self, tag: u32, change: LockChange, fields: Fields) -> Reply
+        ensures reply { result ≡ reply_with tag (relocking change fields (relocked change self.old.table)) }
+        ensures state { self.new ≡ after_outcome self.old (relocking change fields (relocked change self.old.table)) }
+        ensures same { HoldsSame self.old self.new }
+    {
+        match change_locks(&mut self.table, change) {
+            Ok(()) => Reply::new(tag, HResult::S_OK, None, fields.into_vec()),
+            Err(fault) => Reply::bare(self.alloc, tag, fault.code(), None),
+        }
+    }
+
+    /// A refusal as a reply.
+    fn refuse(&self, tag: u32, refusal: Refusal) -> Reply
+        ensures { result ≡ record { tag = tag; code = refusal.code; index = refusal.index; body = [] } }
+    {
+        Reply::bare(self.alloc, tag, refusal.code, refusal.index)
+    }
+}

@@ -1,0 +1,83 @@
+//! REPLACE LIBRARY.
+ghost use Rattle.std.specs.Prelude.{◌≡◌};
+ghost use Rattle.oa_turn.specs.Renewals.{IsLibraryOf, RefusesLoss, Renews, text_code};
+ghost use Rattle.oa_turn.specs.Replacing.{Replacement};
+
+use super::Host;
+use oa_keeps::{Lost, TextError, keeps, read_library};
+use oa_model::HResult;
+use oa_record::{Reply, lost_field, replacement_text, tag_of};
+use oa_typelib::Library;
+use std::alloc::Global;
+
+/// What becomes of a body that asks for another library.
+#[derive(Drop)]
+pub enum Renewal {
+    /// It is refused.
+    Answered(Reply),
+    /// The library is to take the place of the other.
+    Renewed(Library),
+}
+
+/// The library whose text the body has, or the code of a refusal.
+fn library_of(alloc: Global, body: &[u8]) -> Result<Library, HResult>
+    ensures { IsLibraryOf body.now result }
+{
+    let Some(text) = replacement_text(body) else {
+        return Err(HResult::BAD_STUB_DATA);
+    };
+    match read_library(alloc, text) {
+        Ok(library) => Ok(library),
+        Err(fault) => Err(text_code(fault)),
+    }
+}
+
+/// What is answered where a text gives no library.
+fn text_code(fault: TextError) -> HResult
+    ensures { result ≡ text_code fault }
+{
+    match fault {
+        TextError::NoLibrary => HResult::BAD_STUB_DATA,
+        TextError::Memory => HResult::E_OUTOFMEMORY,
+    }
+}
+
+/// The reply that names what is lost.
+fn refuse_loss(alloc: Global, tag: u32, lost: Lost) -> Reply
+    ensures { RefusesLoss tag lost result }
+{
+    match lost_field(alloc, &lost.guid(), lost.dispid()) {
+        Ok(fields) => Reply::new(tag, HResult::E_INVALIDARG, None, fields),
+        Err(_) => Reply::bare(alloc, tag, HResult::E_OUTOFMEMORY, None),
+    }
+}
+
+impl Host {
+    /// What becomes of a body that asks for another library. Only reads.
+    pub fn renewal(&self, body: &[u8]) -> Renewal
+        ensures { Renews self.now body.now result }
+    {
+        let tag = tag_of(body);
+        let library = match library_of(self.alloc, body) {
+            Ok(library) => library,
+            Err(code) => return Renewal::Answered(Reply::bare(self.alloc, tag, code, None)),
+        };
+        match keeps(&library, &self.library) {
+            None => Renewal::Renewed(library),
+            Some(lost) => Renewal::Answered(refuse_loss(self.alloc, tag, lost)),
+        }
+    }
+
+    /// The turn of such a body in memory.
+    pub(super) fn renew(&mut self, body: &[u8]) -> Reply
+        ensures { Replacement self.old body.now result self.new }
+    {
+        match self.renewal(body) {
+            Renewal::Answered(reply) => reply,
+            Renewal::Renewed(library) => {
+                self.library = library;
+                Reply::bare(self.alloc, tag_of(body), HResult::S_OK, None)
+            }
+        }
+    }
+}

@@ -1,0 +1,76 @@
+//! Laws of the definitions that turns are stated by.
+ghost use Rattle.std.specs.Prelude.{◌≡◌, ◌↔◌, ℕ, true, Bool, List, None, Ok};
+ghost use Rattle.oa_record.specs.declared.request.Request.{Request as ARequest};
+ghost use Rattle.oa_record.specs.Replies.{ReplyValue};
+ghost use Rattle.oa_fits.specs.Fits.{fits};
+ghost use Rattle.oa_turn.specs.Decisions.{IsQuiet};
+ghost use Rattle.oa_turn.specs.OwnCodes.{is_own};
+ghost use Rattle.oa_turn.specs.States.{State};
+ghost use Rattle.oa_turn.specs.Steps.{outcome, reply_of};
+ghost use Rattle.oa_turn.specs.Traces.{done_bodies, done_replies, kept_bodies, kept_replies};
+ghost use Rattle.oa_turn.specs.Turns.{Run, Turn};
+ghost use Rattle.oa_idl.specs.Trees.{TreeValue};
+ghost use Rattle.oa_table.specs.Locks.{with_lock, without_lock};
+ghost use Rattle.oa_table.specs.Tables.{TableValue, unlocked_table};
+ghost use Rattle.oa_table.specs.declared.name.CellName.{CellName as AName};
+ghost use Rattle.oa_typelib.specs.Checked.{IsChecked};
+ghost use Rattle.oa_keeps.specs.Keeps.{Keeps, first_lost};
+
+use oa_fits::laws::changes_that_fit;
+use oa_idl::laws::one_tree;
+use oa_record::laws::one_request;
+
+/// A request that is answered with another code than S_OK leaves no trace: its outcome has no event and no change of locks, so its turn
+/// leaves the state as it was, and the other turns of a run alone are a run, with the same replies; so are they together with any of the
+/// turns that leave no trace.
+pub fn no_trace()
+    ensures outcome { (state : State) (tag : ℕ) (request : ARequest) → ((reply_of state tag request).code.0 ≡ 0 → ⊥)
+        → IsQuiet (outcome state request) }
+    ensures turn { (old new : State) (body : List ℕ) (reply : ReplyValue) → Turn old body reply new → (reply.code.0 ≡ 0 → ⊥) → new ≡ old }
+    ensures others { (old new : State) (bodies : List (List ℕ)) (replies : List ReplyValue) → Run old bodies replies new
+        → Run old (done_bodies bodies replies) (done_replies replies) new }
+    ensures some { (old new : State) (choices : List Bool) (bodies : List (List ℕ)) (replies : List ReplyValue)
+        → Run old bodies replies new → Run old (kept_bodies choices bodies replies) (kept_replies choices replies) new }
+{}
+
+/// A table that a library can have is one that each library can have that keeps it. Locks are no part of that. A library replaces another
+/// exactly where it keeps it.
+pub fn kept_fits()
+    ensures fits { (new old : TreeValue) → IsChecked new → Keeps new old → (table : TableValue) → fits old table ≡ true
+        → fits new table ≡ true }
+    ensures keeps { (new old : TreeValue) → IsChecked new → (first_lost new old ≡ None) ↔ Keeps new old }
+{
+    oa_fits::laws::kept_fits();
+}
+
+/// From a table that a library can have, a turn leaves one that the library of then can have, and so does a run.
+pub fn fits_stays()
+    ensures turn { (old new : State) (body : List ℕ) (reply : ReplyValue) → IsChecked old.library
+        → fits old.library old.table ≡ true → Turn old body reply new → IsChecked new.library × (fits new.library new.table ≡ true) }
+    ensures run { (old new : State) (bodies : List (List ℕ)) (replies : List ReplyValue) → IsChecked old.library
+        → fits old.library old.table ≡ true → Run old bodies replies new → IsChecked new.library × (fits new.library new.table ≡ true) }
+{
+    changes_that_fit();
+}
+
+/// No turn answers STG_E_WRITEFAULT or E_FAIL: these tell of the device alone.
+pub fn own_codes()
+    ensures step { (state : State) (tag : ℕ) (request : ARequest) → is_own (reply_of state tag request).code ≡ true }
+    ensures turn { (old : State) (body : List ℕ) (reply : ReplyValue) (new : State) → Turn old body reply new → is_own reply.code ≡ true }
+{}
+
+/// A turn that is told by this reply leads to one state, and so does a run that is told by these.
+pub fn one_state()
+    ensures turn { (old a b : State) (body : List ℕ) (reply : ReplyValue) → Turn old body reply a → Turn old body reply b → a ≡ b }
+    ensures run { (old a b : State) (bodies : List (List ℕ)) (replies : List ReplyValue)
+        → Run old bodies replies a → Run old bodies replies b → a ≡ b }
+{
+    one_request();
+    one_tree();
+}
+
+/// A lock more or less changes nothing that an image holds of a table.
+pub fn locks_are_in_no_image()
+    ensures lock { (name : AName) (old new : TableValue) → with_lock name old ≡ Ok new → unlocked_table new ≡ unlocked_table old }
+    ensures unlock { (name : AName) (old new : TableValue) → without_lock name old ≡ Ok new → unlocked_table new ≡ unlocked_table old }
+{}

@@ -1,0 +1,22 @@
+//! The step of a request: what becomes of it over a library, a table of objects and its locks, in memory alone.
+//!
+//! Its contract: `Host::turn` is one turn (`Turn`), `Host::run` one after another (`Run`), and `Host::plan` a turn but
+//! for the change of the table that it calls for (`Plans`).
+//!
+//! What stands on it: oa_server, which keeps the table in a store.
+#![tactic(auto)]
+
+mod applies;
+mod changes;
+mod decision;
+mod fields;
+mod host;
+pub mod laws;
+mod limits;
+mod plan;
+mod refusal;
+
+pub use fields::Fields;
+pub use host::Host;
+pub use host::renewal::Renewal;
+pub use plan::{Plan, Planned};

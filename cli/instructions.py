@@ -37,3 +37,10 @@ def of_requests(objects, names=tuple(REQUESTS)):
     front = [oaut.ask_create(worked.ITEM)] * objects + [it(objects) for it in REQUESTS.values()]
     begun = of_session(front)
     return {name: (of_session(front + [REQUESTS[name](objects - at % min(objects, 7)) for at in range(TIMES)]) - begun) // TIMES for name in names}
+
+
+def of_a_put(cells):
+    """How many instructions a put takes into an object that has so many cells, on the average of many."""
+    cell = lambda at: worked.put(worked.CELL, worked.text(worked.HI), named=(-3, 1, 0), more=(worked.text(worked.LETTER), worked.i4(at)))
+    front = [oaut.ask_create(worked.ITEM), worked.put(worked.COUNT, worked.i4(0)), *map(cell, range(cells))]
+    return (of_session(front + [worked.put(worked.COUNT, worked.i4(at)) for at in range(TIMES)]) - of_session(front)) // TIMES

@@ -1,4 +1,4 @@
-"""A bound on the instructions of a request, by which a program falls that looks through all its objects."""
+"""A bound on the instructions of a request, by which a program falls that looks through all its objects, or through all cells of one."""
 import unittest
 
 import instructions
@@ -10,3 +10,7 @@ class Instructions(Cases):
     def test_a_put_into_a_large_table(self):
         few, many = (instructions.of_requests(it, ("put",))["put"] for it in (10, 60_000))
         self.tell("a put among 60,000 objects takes at most twice the instructions of one among 10", 0 < many <= 2 * few, (few, many))
+
+    def test_a_put_into_a_large_object(self):
+        few, many = map(instructions.of_a_put, (10, 3_000))
+        self.tell("a put into an object of 3,000 cells takes at most twice the instructions of one into one of 10", 0 < many <= 2 * few, (few, many))

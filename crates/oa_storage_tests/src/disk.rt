@@ -417,17 +417,19 @@ fn meets_when_cut(rt: &HostRuntime, path: &str) -> io::Result<bool> {
     Ok(is_written && disk.size() == 16 && answers(&mut disk, &CUT_AT_8))
 }
 
-/// Whether a file is held by what is open, a new one and one that was opened, and by nothing once that has gone.
+/// Whether a file is held by what is open, a new one and one that was opened, and by nothing once that has gone; and whether opening it leaves
+/// what it has.
 fn is_held(rt: &HostRuntime, path: &str) -> io::Result<bool> {
     let made = FileDisk::create(rt, path, 16)?;
     let of_new = refusal(FileDisk::open(rt, path));
     drop(made);
     let opened = FileDisk::open(rt, path)?;
     let of_opened = refusal(FileDisk::open(rt, path));
+    let size = opened.size();
     drop(opened);
     let after = refusal(FileDisk::open(rt, path));
     let held = Some(ErrorKind::WouldBlock);
-    Ok(of_new == held && of_opened == held && after.is_none())
+    Ok(of_new == held && of_opened == held && size == 16 && after.is_none())
 }
 
 /// The fault of an opening.

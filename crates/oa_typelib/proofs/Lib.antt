@@ -2,6 +2,7 @@ pub mod Classes
 pub mod Entries
 pub mod Finds
 pub mod Found
+mod Fronts
 pub mod Grouping
 pub mod Kept
 pub mod Looks

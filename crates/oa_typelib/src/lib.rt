@@ -14,6 +14,7 @@ mod described;
 mod dispinterface;
 mod forms;
 mod groups;
+mod guids;
 mod index;
 pub mod laws;
 mod library;

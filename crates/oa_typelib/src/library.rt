@@ -23,6 +23,7 @@ use crate::describe::{
 };
 use crate::described::DescribeError;
 use crate::dispinterface::Dispinterface;
+use crate::guids::{is_zero, place_in_front};
 use crate::index::Index;
 use crate::members::Members;
 use oa_checks::{
@@ -187,6 +188,9 @@ impl Library {
     fn place(&self, guid: &Uuid) -> Option<usize>
         ensures { result ≡ position (λ i. same guid.now (guid_of i)) self.now.items }
     {
+        if let Some(place) = place_in_front(self.items(), guid) {
+            return Some(place);
+        }
         self.guids.place(guid)
     }
 
@@ -286,7 +290,7 @@ impl Library {
         ensures default { is_nil_bytes interface.now ≡ true → IsSome (class_of self.now class.now) → IsSome result }
     {
         self.is_whole();
-        if interface.is_nil() {
+        if is_zero(interface) {
             return self.default_interface(class);
         }
         self.entered(class, interface)

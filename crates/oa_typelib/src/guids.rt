@@ -41,7 +41,7 @@ fn is_same(one: &Uuid, other: &Uuid) -> bool
 }
 
 /// Whether it is the zero GUID.
-pub(crate) fn is_zero(guid: &Uuid) -> bool
+pub fn is_zero_guid(guid: &Uuid) -> bool
     ensures { result ≡ is_nil_bytes guid.now }
 {
     is_same(guid, &Uuid::nil())

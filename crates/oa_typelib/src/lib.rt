@@ -27,6 +27,7 @@ pub use describe::{Description, form_at};
 pub use described::{Content, DescribeError, DescribedEntry, DescribedMember, DescribedParameter};
 pub use dispinterface::Dispinterface;
 pub use forms::Form;
+pub use guids::is_zero_guid;
 pub use library::{Library, check};
 pub use member::Member;
 pub use names::DispIds;

@@ -23,7 +23,7 @@ use crate::describe::{
 };
 use crate::described::DescribeError;
 use crate::dispinterface::Dispinterface;
-use crate::guids::{is_zero, place_in_front};
+use crate::guids::{is_zero_guid, place_in_front};
 use crate::index::Index;
 use crate::members::Members;
 use oa_checks::{
@@ -290,7 +290,7 @@ impl Library {
         ensures default { is_nil_bytes interface.now ≡ true → IsSome (class_of self.now class.now) → IsSome result }
     {
         self.is_whole();
-        if is_zero(interface) {
+        if is_zero_guid(interface) {
             return self.default_interface(class);
         }
         self.entered(class, interface)

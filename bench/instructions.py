@@ -1,7 +1,10 @@
 #!/usr/bin/env python3
-"""How many instructions requests take in tables of 10, 1,000 and 60,000 objects, as valgrind counts them.
+"""How many instructions requests take, as valgrind counts them.
 
     python3 bench/instructions.py [PROGRAM]      PROGRAM is crates/oaut/out/oaut where none is given
+
+First requests in tables of 10, 1,000 and 60,000 objects. Then what all of the program does for a put or a get of a long, over lines and as
+records, and for a put in groups of 1,024 over a store: in the form of cli/instructions.txt, with which the gate compares it.
 """
 import os
 import sys
@@ -9,7 +12,7 @@ import sys
 from command_line import words
 
 ROOT = os.path.dirname(os.path.dirname(os.path.abspath(__file__)))
-sys.path.append(f"{ROOT}/cli")
+sys.path.insert(0, f"{ROOT}/cli")  # before this folder, which has a script of that name
 (os.environ["OAUT_PROGRAM"],) = words(__doc__)
 import instructions
 
@@ -18,3 +21,5 @@ if instructions.VALGRIND is None:
 print("objects " + " ".join(f"{name:>8}" for name in instructions.REQUESTS))
 for objects in (10, 1_000, 60_000):
     print(f"{objects:7} " + " ".join(f"{it:8,}" for it in instructions.of_requests(objects).values()), flush=True)
+for way in instructions.LONGS:
+    print(f"{way} {instructions.of_longs(way)}", flush=True)

@@ -9,7 +9,7 @@ from wire import oaut
 import worked
 from model import LIBRARY
 from preloaded import fast_folder
-from running import PROGRAM, fill
+from running import PROGRAM, fill, rows_of
 
 VALGRIND = shutil.which("valgrind")
 TIMES = 200
@@ -20,16 +20,40 @@ REQUESTS = {
     "create": lambda of: oaut.ask_create(worked.ITEM),
     "names": lambda of: oaut.ask_ids(of, ["Cell", "Key"]),
 }
+# the ways of a session of longs, by the words behind `oaut play` or, over a store, behind `oaut serve`; and its objects and its requests
+LONGS = {"lines": ("play", "--hex"), "records": ("play",), "durable": ("serve", "--group", "1024")}
+OBJECTS, REPEATED = 1_000, 20_000
+GETS = {"lines", "records"}
+# what is committed of them, and how far above it they may come
+TABLE = "instructions.txt"
+RISE = 1.05
 
 
-def of_session(requests):
-    """The instructions of a session in memory."""
-    with tempfile.TemporaryDirectory(dir=fast_folder()) as room:
-        fill(room, {"lib.idl": LIBRARY, "given": oaut.Raw.pack([struct.pack("<I", tag) + it for tag, it in enumerate(requests, 1)])})
-        with open(f"{room}/given", "rb") as given:
-            words = [VALGRIND, "--tool=callgrind", "--callgrind-out-file=/dev/null", PROGRAM, "play", "lib.idl"]
-            done = subprocess.run(words, cwd=room, stdin=given, stdout=subprocess.DEVNULL, stderr=subprocess.PIPE, check=True)
+def spelled(bodies, hexed):
+    return b"".join(it.hex().encode() + b"\n" for it in bodies) if hexed else oaut.Raw.pack(bodies)
+
+
+def of_program(words, given, room):
+    """The instructions of a program from its start to its end, in a folder with what it is given."""
+    fill(room, {"given": given})
+    with open(f"{room}/given", "rb") as stdin:
+        under = [VALGRIND, "--tool=callgrind", "--callgrind-out-file=/dev/null"]
+        done = subprocess.run([*under, *words], cwd=room, stdin=stdin, stdout=subprocess.DEVNULL, stderr=subprocess.PIPE, check=True)
     return int(re.search(rb"Collected : (\d+)", done.stderr)[1])
+
+
+def tagged(requests):
+    return [struct.pack("<I", tag) + it for tag, it in enumerate(requests, 1)]
+
+
+def of_session(requests, way=("play",)):
+    """The instructions of a session: in memory, or over a new store."""
+    with tempfile.TemporaryDirectory(dir=fast_folder()) as room:
+        fill(room, {"lib.idl": LIBRARY})
+        store = ["it.store"] if "serve" in way else []
+        for it in store:
+            subprocess.run([PROGRAM, "format", it, "lib.idl"], cwd=room, stdout=subprocess.DEVNULL, check=True)
+        return of_program([PROGRAM, *way, *store, "lib.idl"], spelled(tagged(requests), "--hex" in way), room)
 
 
 def of_requests(objects, names=tuple(REQUESTS)):
@@ -44,3 +68,17 @@ def of_a_put(cells):
     cell = lambda at: worked.put(worked.CELL, worked.text(worked.HI), named=(-3, 1, 0), more=(worked.text(worked.LETTER), worked.i4(at)))
     front = [oaut.ask_create(worked.ITEM), worked.put(worked.COUNT, worked.i4(0)), *map(cell, range(cells))]
     return (of_session(front + [worked.put(worked.COUNT, worked.i4(at)) for at in range(TIMES)]) - of_session(front)) // TIMES
+
+
+def of_longs(way, count=None):
+    """How many instructions a put of a long takes, or in memory a put and a get in turn, among 1,000 objects: all that the program does for 20,000
+    of them. `count` tells a session's, where it is another program's."""
+    count = count or (lambda requests: of_session(requests, LONGS[way]))
+    front = [oaut.ask_create(worked.ITEM)] * OBJECTS + [REQUESTS["put"](of) for of in range(1, OBJECTS + 1)]
+    kinds = [REQUESTS["put"], REQUESTS["get"] if way in GETS else REQUESTS["put"]]
+    return (count(front + [kinds[at % 2](1 + at % OBJECTS) for at in range(REPEATED)]) - count(front)) // REPEATED
+
+
+def committed():
+    """What is committed of each way."""
+    return {name: int(number) for name, number in (it.split() for it in rows_of(TABLE))}

@@ -13,7 +13,7 @@ use crate::refusal::Refusal;
 use oa_model::HResult;
 use oa_record::{GetIds, ids_field};
 use oa_table::LiveObject;
-use oa_typelib::{DispIds, Dispinterface};
+use oa_typelib::{DispIds, Dispinterface, is_zero_guid};
 use uuid::Uuid;
 
 impl Host {
@@ -83,7 +83,7 @@ impl Host {
         let Some(found) = self.library.select(&object.class(), interface) else {
             return Err(Refusal::of(HResult::E_NOINTERFACE));
         };
-        if !riid.is_nil() {
+        if !is_zero_guid(riid) {
             return Err(Refusal::of(HResult::DISP_E_UNKNOWNINTERFACE));
         }
         Ok(found)

@@ -131,11 +131,11 @@ class Preloaded:
         with open(self.path(name), "wb") as file:
             file.write(content)
 
-    def run(self, words, given="nothing", **how):
-        """Runs the program with the file `given` on standard input. `how` are the variables that the library reads, in lower case."""
+    def run(self, words, given="nothing", program=PROGRAM, **how):
+        """Runs the program, or another one, with the file `given` on standard input. `how` are the variables that the library reads, in lower case."""
         variables = {"LD_PRELOAD": self.path("hostile.so"), "TOLD": self.path("told"), **{name.upper(): str(it) for name, it in how.items()}}
         self.fill("told", b"-1 -1 -1 -1 -1")
-        status, _ = spawned([PROGRAM, *words], self.path(given), self.path("out"), self.path("err"), variables)
+        status, _ = spawned([program, *words], self.path(given), self.path("out"), self.path("err"), variables)
         return Told(status, read(self.path("out")), read(self.path("err")), *map(int, read(self.path("told")).split()))
 
     def ample(self, words, given="nothing"):

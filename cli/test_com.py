@@ -2,6 +2,7 @@
 socket; and its reading of bytes under Linux with sanitizers. What is not installed leaves its tests out, each by its name."""
 import collections
 import concurrent.futures
+import contextlib
 import functools
 import os
 import random
@@ -110,18 +111,16 @@ class Server:
         self.child = child = subprocess.Popen(self.words, stdin=subprocess.PIPE, stdout=subprocess.PIPE, stderr=subprocess.DEVNULL)
         back = threading.Thread(target=self.carry_back, args=(child.stdout, client), daemon=True)
         back.start()
-        with client.makefile("rb") as asked:
+        with client.makefile("rb") as asked, contextlib.suppress(OSError):  # a client that resets its connection, or a program that has ended
             while (body := record(asked)) is not None:
                 self.requests.append(body)
                 if self.types_left and body[4] == oaut.TYPEINFO:
                     self.types_left -= 1
                     self.is_last = not self.types_left
-                try:
-                    child.stdin.write(struct.pack("<I", len(body)) + body)
-                    child.stdin.flush()
-                except OSError:
-                    break
-        child.stdin.close()
+                child.stdin.write(struct.pack("<I", len(body)) + body)
+                child.stdin.flush()
+        with contextlib.suppress(OSError):
+            child.stdin.close()
         child.wait()
         back.join()
         child.stdout.close()

@@ -4,8 +4,10 @@ ghost use Rattle.oa_model.specs.Limits.{max_group};
 
 use crate::fault::Fault;
 use oa_disk::Disk;
+use oa_model::MAX_LINE_CHARACTERS;
 use oa_server::{End, Server};
 use oa_stream::{Ahead, Behind, Inlet, Outlet};
+use std::alloc::{AllocError, Global};
 use std::io;
 
 /// Answers the requests of standard input on standard output, until the input ends or is refused: records, or lines of hexadecimal digits,
@@ -20,6 +22,7 @@ pub(crate) fn hold<D: Disk + Drop>(
     requires small { group ≤ max_group }
 {
     let alloc = rt.alloc();
+    settle(alloc)?;
     let mut reader = Ahead::new(alloc, Inlet::new(rt.reader()))?;
     let mut writer = Behind::new(alloc, Outlet::new(io::writer(rt)))?;
     let served = if hex {
@@ -28,6 +31,14 @@ pub(crate) fn hold<D: Disk + Drop>(
         server.serve(&mut reader, &mut writer, group)?
     };
     ended(served.why)
+}
+
+/// Takes a block as long as the longest line and gives it back, untouched. From then on the C library keeps the blocks of long texts that are
+/// given back, which it would else have from the system anew, page by page, for each of them (mallopt(3), M_MMAP_THRESHOLD).
+fn settle(alloc: Global) -> Result<(), AllocError> {
+    let block: Vec<u8> = Vec::with_capacity(alloc, MAX_LINE_CHARACTERS as usize)?;
+    drop(block);
+    Ok(())
 }
 
 /// What the end of a session is for the program: the end of the input is what was asked for.

@@ -4,8 +4,8 @@
     python3 cli/run.py [--program PATH] [-k NAME].. [PART ..]
 
 PATH is crates/oaut/out/oaut, as `rt ci` leaves it, where none is given. `-k NAME` runs the tests whose names have NAME in them, `PART` those of one
-file; `--list` prints the names. Where no part is named, `com` is left out. A test whose tools are not installed is left out, with a line that names
-it and them. Each part gets a line with its seconds; the last line counts all cases, and the status is 1 where one failed.
+file; `--list` prints the names. A test whose tools are not installed is left out, with a line that names it and them. Each part gets a line with its
+seconds; the last line counts all cases, and the status is 1 where one failed.
 
 Without this file, in the folder cli/: OAUT_PROGRAM=PATH python3 -m unittest [-k NAME] [test_PART ..]
 """
@@ -17,8 +17,6 @@ import time
 import unittest
 
 CLI = os.path.dirname(os.path.abspath(__file__))
-# parts that run where they are named alone: under Wine some cases wait for clocks, and fail where others use the processors
-BY_HAND = {"com"}
 
 
 class Counts(unittest.TestResult):
@@ -73,12 +71,12 @@ def named(test):
 
 
 def parts_of(words):
-    """The parts that are named, or all but those by hand."""
+    """The parts that are named, or all."""
     found = sorted(os.path.basename(it)[len("test_") : -len(".py")] for it in glob.glob(f"{CLI}/test_*.py"))
     unknown = {*words} - {*found}
     if unknown:
         raise SystemExit(f"run.py: no part is named {', '.join(sorted(unknown))}; there are {', '.join(found)}")
-    return [it for it in found if it in (words or {*found} - BY_HAND)]
+    return [it for it in found if it in (words or found)]
 
 
 def tests_of(suite):

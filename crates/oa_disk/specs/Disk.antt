@@ -1,5 +1,6 @@
 -- What the calls of a disk do to its contents, and what a crash may leave: this project's choice of a model.
-use Rattle.std.specs.Prelude.{◌≡◌, ◌⊎◌, ℕ, ◌+◌, ◌-◌, ◌^◌, ◌<◌, ◌≤◌, List, length, slice_index, Result, IsOk, IsErr}
+use Rattle.std.specs.Prelude.{◌≡◌, ◌⊎◌, ℕ, ◌+◌, ◌-◌, ◌^◌, ◌<◌, ◌≤◌, Bool, IsTrue, List, length, slice_index, Result, IfErr, IsOk, IsErr, OnErr, OnOk}
+use Rattle.oa_disk.specs.declared.disk.DeviceFault.{DeviceFault}
 
 -- the disk has these bytes from this place on
 pub record Holds (disk : List ℕ) (at : ℕ) (bytes : List ℕ) : Type 0 where
@@ -86,3 +87,15 @@ pub record Counts {T E : Type 0} (before now : ℕ) (result : Result T E) : Type
   pub failed : IsErr result → HasCounted before now
   pub once : now ≤ before + 1
   pub none : IsOk result → now ≡ before
+
+-- A failure is of this kind, and is counted.
+pub record FailsAs {T : Type 0} (kind : DeviceFault) (before now : ℕ) (result : Result T DeviceFault) : Type 0 where
+  pub counts : Counts before now result
+  pub fault : IfErr result (λ e. e ≡ kind)
+
+-- A read of these bytes is honest now only where the disk was before it; and it was if one that succeeds gives what is there. A read that
+-- fails changes nothing of that.
+pub record ReadsHonestly {T E : Type 0} (contents : List ℕ) (at : ℕ) (bytes : List ℕ) (was is : Bool) (result : Result T E) : Type 0 where
+  pub before : IsTrue is → IsTrue was
+  pub kept : OnOk result (IsTrue was → Holds contents at bytes → IsTrue is)
+  pub same : OnErr result (is ≡ was)

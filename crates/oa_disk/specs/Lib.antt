@@ -1,3 +1,4 @@
+pub mod After
 pub mod Counting
 pub mod Disk
 pub mod File

@@ -1,6 +1,6 @@
 //! A disk as a store sees it: what a read gives, and what a crash may leave.
 ghost use Rattle.std.specs.Prelude.{◌≡◌, ◌+◌, ◌-◌, ◌^◌, ◌≤◌, List, ℕ, Bool, IsTrue, length, OnOk, OnErr, IfErr};
-ghost use Rattle.oa_disk.specs.Disk.{Holds, Torn, Reaches, Stays, Writes, Syncs, TakesTime, Counts};
+ghost use Rattle.oa_disk.specs.Disk.{FailsAs, Holds, ReadsHonestly, Torn, Reaches, Stays, Writes, Syncs, TakesTime};
 
 use thiserror::Error;
 
@@ -57,11 +57,8 @@ pub trait Disk {
         ensures stays { IsTrue (is_honest self.old) → Stays (contents self.old) (contents self.new) (image self.old) (image self.new) }
         ensures time { IsTrue (is_honest self.old) → TakesTime moment image_since image self.old self.new }
         ensures size { size_of self.new ≡ size_of self.old }
-        ensures honest { IsTrue (is_honest self.new) → IsTrue (is_honest self.old) }
-        ensures kept { OnOk result (IsTrue (is_honest self.old) → Holds (contents self.old) at bytes.new → IsTrue (is_honest self.new)) }
-        ensures honest_err { OnErr result (is_honest self.new ≡ is_honest self.old) }
-        ensures counts { Counts (failures_of self.old) (failures_of self.new) result }
-        ensures fault { IfErr result (λ e. e ≡ DeviceFault.Read) };
+        ensures honest { ReadsHonestly (contents self.old) at bytes.new (is_honest self.old) (is_honest self.new) result }
+        ensures fails { FailsAs DeviceFault.Read (failures_of self.old) (failures_of self.new) result };
 
     /// Writes the bytes from that place on. Until a sync that succeeds, a crash may leave any bytes in that range,
     /// whatever is answered.
@@ -75,8 +72,7 @@ pub trait Disk {
         ensures time { IsTrue (is_honest self.old) → TakesTime moment image_since image self.old self.new }
         ensures size { size_of self.new ≡ size_of self.old }
         ensures honest { is_honest self.new ≡ is_honest self.old }
-        ensures counts { Counts (failures_of self.old) (failures_of self.new) result }
-        ensures fault { IfErr result (λ e. e ≡ DeviceFault.Write) };
+        ensures fails { FailsAs DeviceFault.Write (failures_of self.old) (failures_of self.new) result };
 
     /// Brings all that was written to the device. At `Ok` a crash leaves what a read gives. After an `Err` what a read gives is
     /// one of the images, and no more is known of it.
@@ -87,8 +83,7 @@ pub trait Disk {
         ensures time { IsTrue (is_honest self.old) → TakesTime moment image_since image self.old self.new }
         ensures size { size_of self.new ≡ size_of self.old }
         ensures honest { is_honest self.new ≡ is_honest self.old }
-        ensures counts { Counts (failures_of self.old) (failures_of self.new) result }
-        ensures fault { IfErr result (λ e. e ≡ DeviceFault.Write) };
+        ensures fails { FailsAs DeviceFault.Write (failures_of self.old) (failures_of self.new) result };
 
     /// The count of failures is a u64.
     ghost failures_fit: { (disk : Self) → failures_of disk ≤ 2 ^ 64 - 1 };

@@ -1,6 +1,6 @@
 //! A file of the operating system as a disk.
 ghost use Rattle.std.specs.Prelude.{◌≡◌, ◌+◌, ◌-◌, ◌^◌, ◌<◌, ◌≤◌, [], ℕ, List, length, OnOk, IfOk, IfErr, IsTrue};
-ghost use Rattle.oa_disk.specs.Disk.{NothingPending, Counts};
+ghost use Rattle.oa_disk.specs.Disk.{Counts};
 ghost use Rattle.oa_disk.specs.History.{IsWhole};
 ghost use Rattle.oa_disk.specs.Record.{history_of};
 
@@ -29,6 +29,7 @@ pub struct FileDisk {
 }
 
 impl FileDisk {
+    ghost use Rattle.oa_disk.specs.After.{BeginsHonest};
     ghost use Rattle.oa_disk.specs.File.{size_of, failures_of, record_of, IsHeld, IsZeros};
 
     /// Opens a file that is there for reading and writing, and not for appending, as `over` does. There is a beginning from which all that
@@ -36,8 +37,7 @@ impl FileDisk {
     /// only clauses name.)
     pub fn open<R: Files<File = File>>(rt: &R, path: &str) -> io::Result<FileDisk>
         ensures held { IfOk result (λ disk. (held : ℕ → ℕ) × IsHeld held disk) }
-        ensures honest { IfOk result (λ disk. IsTrue (⟦<FileDisk as Disk>⟧.is_honest disk)) }
-        ensures settled { IfOk result (NothingPending ⟦<FileDisk as Disk>⟧.contents ⟦<FileDisk as Disk>⟧.image) }
+        ensures begins { IfOk result (BeginsHonest ⟦<FileDisk as Disk>⟧) }
     {
         FileDisk::over(OpenOptions::new().read(true).write(true).open(rt, path)?)
     }
@@ -47,8 +47,7 @@ impl FileDisk {
     /// removed.
     pub fn create<R: Files<File = File>>(rt: &R, path: &str, size: u64) -> io::Result<FileDisk>
         ensures zeros { IfOk result (IsZeros size) }
-        ensures honest { IfOk result (λ disk. IsTrue (⟦<FileDisk as Disk>⟧.is_honest disk)) }
-        ensures settled { IfOk result (NothingPending ⟦<FileDisk as Disk>⟧.contents ⟦<FileDisk as Disk>⟧.image) }
+        ensures begins { IfOk result (BeginsHonest ⟦<FileDisk as Disk>⟧) }
     {
         let file = File::create_new(rt, path)?;
         if let Err(error) = lay_down(rt, &file, path, size) {
@@ -66,8 +65,7 @@ impl FileDisk {
     pub fn over(file: File) -> io::Result<FileDisk>
         ghost held: { ℕ → ℕ }
         ensures held { IfOk result (IsHeld held) }
-        ensures honest { IfOk result (λ disk. IsTrue (⟦<FileDisk as Disk>⟧.is_honest disk)) }
-        ensures settled { IfOk result (NothingPending ⟦<FileDisk as Disk>⟧.contents ⟦<FileDisk as Disk>⟧.image) }
+        ensures begins { IfOk result (BeginsHonest ⟦<FileDisk as Disk>⟧) }
     {
         if !file.metadata()?.is_file() {
             return Err(io::ErrorKind::Unsupported.into());
@@ -84,8 +82,7 @@ impl FileDisk {
         ghost held: { ℕ → ℕ }
         ensures size { size_of result ≡ size }
         ensures held { IsHeld held result }
-        ensures honest { IsTrue (⟦<FileDisk as Disk>⟧.is_honest result) }
-        ensures settled { NothingPending ⟦<FileDisk as Disk>⟧.contents ⟦<FileDisk as Disk>⟧.image result }
+        ensures begins { BeginsHonest ⟦<FileDisk as Disk>⟧ result }
     {
         let history = Record::beginning(&size);
         FileDisk {

@@ -1,7 +1,7 @@
 //! A disk that fails from some call on.
 ghost use Rattle.std.specs.Prelude.{◌≡◌, ◌+◌, ◌-◌, ◌^◌, ◌<◌, ◌≤◌, ◌↔◌, List, ℕ, length, IsTrue, OnOk, OnErr, IfErr, IsErr};
 ghost use Rattle.oa_disk.specs.Counting.{min_below};
-ghost use Rattle.oa_disk.specs.Disk.{Holds, Torn, Reaches, Stays, Writes, Syncs, TakesTime, Counts};
+ghost use Rattle.oa_disk.specs.Disk.{Counts, FailsAs, Holds, ReadsHonestly, Torn, Reaches, Stays, Writes, Syncs, TakesTime};
 ghost use Rattle.oa_disk.specs.Fuse.{failures_with};
 
 use crate::{DeviceFault, Disk};
@@ -112,12 +112,8 @@ impl<D: Disk> Disk for FuseDisk<D> {
             → Stays (D.contents self.old.disk) (D.contents self.new.disk) (D.image self.old.disk) (D.image self.new.disk) }
         ensures time { IsTrue (D.is_honest self.old.disk) → TakesTime D.moment D.image_since D.image self.old.disk self.new.disk }
         ensures size { D.size_of self.new.disk ≡ D.size_of self.old.disk }
-        ensures honest { IsTrue (D.is_honest self.new.disk) → IsTrue (D.is_honest self.old.disk) }
-        ensures kept { OnOk result (IsTrue (D.is_honest self.old.disk) → Holds (D.contents self.old.disk) at bytes.new
-            → IsTrue (D.is_honest self.new.disk)) }
-        ensures honest_err { OnErr result (D.is_honest self.new.disk ≡ D.is_honest self.old.disk) }
-        ensures counts { Counts (failures_with D.failures_of self.old) (failures_with D.failures_of self.new) result }
-        ensures fault { IfErr result (λ e. e ≡ DeviceFault.Read) }
+        ensures honest { ReadsHonestly (D.contents self.old.disk) at bytes.new (D.is_honest self.old.disk) (D.is_honest self.new.disk) result }
+        ensures fails { FailsAs DeviceFault.Read (failures_with D.failures_of self.old) (failures_with D.failures_of self.new) result }
     {
         spend(&mut self.calls_left, &mut self.refused, DeviceFault::Read)?;
         self.disk.read_at(at, bytes)
@@ -135,8 +131,7 @@ impl<D: Disk> Disk for FuseDisk<D> {
         ensures time { IsTrue (D.is_honest self.old.disk) → TakesTime D.moment D.image_since D.image self.old.disk self.new.disk }
         ensures size { D.size_of self.new.disk ≡ D.size_of self.old.disk }
         ensures honest { D.is_honest self.new.disk ≡ D.is_honest self.old.disk }
-        ensures counts { Counts (failures_with D.failures_of self.old) (failures_with D.failures_of self.new) result }
-        ensures fault { IfErr result (λ e. e ≡ DeviceFault.Write) }
+        ensures fails { FailsAs DeviceFault.Write (failures_with D.failures_of self.old) (failures_with D.failures_of self.new) result }
     {
         spend(&mut self.calls_left, &mut self.refused, DeviceFault::Write)?;
         self.disk.write_at(at, bytes)
@@ -152,8 +147,7 @@ impl<D: Disk> Disk for FuseDisk<D> {
         ensures time { IsTrue (D.is_honest self.old.disk) → TakesTime D.moment D.image_since D.image self.old.disk self.new.disk }
         ensures size { D.size_of self.new.disk ≡ D.size_of self.old.disk }
         ensures honest { D.is_honest self.new.disk ≡ D.is_honest self.old.disk }
-        ensures counts { Counts (failures_with D.failures_of self.old) (failures_with D.failures_of self.new) result }
-        ensures fault { IfErr result (λ e. e ≡ DeviceFault.Write) }
+        ensures fails { FailsAs DeviceFault.Write (failures_with D.failures_of self.old) (failures_with D.failures_of self.new) result }
     {
         spend(&mut self.calls_left, &mut self.refused, DeviceFault::Write)?;
         self.disk.sync()

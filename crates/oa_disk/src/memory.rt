@@ -1,6 +1,6 @@
 //! A disk in memory that can be made to crash at any moment.
 ghost use Rattle.std.specs.Prelude.{◌≡◌, ◌+◌, ◌*◌, ◌-◌, ◌<◌, ◌≤◌, [], length, true, List, ℕ, IsTrue, OnOk, OnErr, IfOk, IfErr, Some};
-ghost use Rattle.oa_disk.specs.Disk.{Holds, Torn, Reaches, NothingPending, Stays, Writes, Syncs, TakesTime, Counts};
+ghost use Rattle.oa_disk.specs.Disk.{Holds, Torn, Reaches, NothingPending, FailsAs, Stays, Writes, Syncs, TakesTime};
 ghost use Rattle.oa_disk.specs.History.{IsWhole};
 ghost use Rattle.oa_disk.specs.Ledger.{laid, history, IsEmpty};
 ghost use Rattle.oa_disk.specs.Replay.{State, IsImage, zeros};
@@ -25,6 +25,7 @@ pub struct MemoryDisk {
 }
 
 impl MemoryDisk {
+    ghost use Rattle.oa_disk.specs.After.{BeginsHonest};
     ghost use Rattle.oa_disk.specs.Memory.{contents_of, state_at, moments_of, IsFresh, IsTornAt};
 
     /// So many zeros, all of them on the device, with room for so many calls and for so many bytes of writes in all. It
@@ -39,8 +40,7 @@ impl MemoryDisk {
         ensures size { IfOk result (λ disk. ⟦<MemoryDisk as Disk>⟧.size_of disk ≡ size) }
         ensures fresh { IfOk result (IsFresh calls bytes) }
         ensures start { IfOk result (λ disk. moments_of disk ≡ 0) }
-        ensures honest { IfOk result (λ disk. IsTrue (⟦<MemoryDisk as Disk>⟧.is_honest disk)) }
-        ensures settled { IfOk result (NothingPending ⟦<MemoryDisk as Disk>⟧.contents ⟦<MemoryDisk as Disk>⟧.image) }
+        ensures begins { IfOk result (BeginsHonest ⟦<MemoryDisk as Disk>⟧) }
     {
         MemoryDisk::over(alloc, Layers::new(alloc, size), calls, bytes)
     }
@@ -63,8 +63,7 @@ impl MemoryDisk {
         ensures size { IfOk result (λ disk. ⟦<MemoryDisk as Disk>⟧.size_of disk ≡ ⟦<MemoryDisk as Disk>⟧.size_of self.now) }
         ensures fresh { IfOk result (IsFresh self.now.ledger.most_calls self.now.ledger.most_bytes) }
         ensures start { IfOk result (λ disk. moments_of disk ≡ 0) }
-        ensures honest { IfOk result (λ disk. IsTrue (⟦<MemoryDisk as Disk>⟧.is_honest disk)) }
-        ensures settled { IfOk result (NothingPending ⟦<MemoryDisk as Disk>⟧.contents ⟦<MemoryDisk as Disk>⟧.image) }
+        ensures begins { IfOk result (BeginsHonest ⟦<MemoryDisk as Disk>⟧) }
     {
         let mut first = self.first.copy(self.alloc)?;
         leave_at(
@@ -173,8 +172,7 @@ impl Disk for MemoryDisk {
         ensures stays { Stays (contents_of self.old) (contents_of self.new) (image_of self.old) (image_of self.new) }
         ensures time { TakesTime moments_of image_since_of image_of self.old self.new }
         ensures size { self.new.first.size ≡ self.old.first.size }
-        ensures counts { Counts self.old.ledger.failures self.new.ledger.failures result }
-        ensures fault { IfErr result (λ e. e ≡ DeviceFault.Read) }
+        ensures fails { FailsAs DeviceFault.Read self.old.ledger.failures self.new.ledger.failures result }
     {
         self.ledger.enter(Call::Read, &[], DeviceFault::Read)?;
         self.show(at as usize, bytes);
@@ -190,8 +188,7 @@ impl Disk for MemoryDisk {
         ensures any_bytes { OnOk result (Reaches (Torn at (length bytes.now)) (image_of self.old) (image_of self.new)) }
         ensures time { TakesTime moments_of image_since_of image_of self.old self.new }
         ensures size { self.new.first.size ≡ self.old.first.size }
-        ensures counts { Counts self.old.ledger.failures self.new.ledger.failures result }
-        ensures fault { IfErr result (λ e. e ≡ DeviceFault.Write) }
+        ensures fails { FailsAs DeviceFault.Write self.old.ledger.failures self.new.ledger.failures result }
     {
         let call = Call::Write(at as usize, bytes.len());
         self.ledger.enter(call, bytes, DeviceFault::Write)
@@ -204,8 +201,7 @@ impl Disk for MemoryDisk {
         ensures stay { OnErr result ((c : List ℕ) → image_of self.old c → image_of self.new c) }
         ensures time { TakesTime moments_of image_since_of image_of self.old self.new }
         ensures size { self.new.first.size ≡ self.old.first.size }
-        ensures counts { Counts self.old.ledger.failures self.new.ledger.failures result }
-        ensures fault { IfErr result (λ e. e ≡ DeviceFault.Write) }
+        ensures fails { FailsAs DeviceFault.Write self.old.ledger.failures self.new.ledger.failures result }
     {
         self.ledger.enter(Call::Sync, &[], DeviceFault::Write)
     }

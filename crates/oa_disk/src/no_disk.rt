@@ -1,7 +1,6 @@
 //! The disk of a server that keeps nothing.
 ghost use Rattle.std.specs.Prelude.{◌≡◌, [], true, refl, IsTrue};
 ghost use Rattle.oa_disk.specs.Counting.{none_below};
-ghost use Rattle.oa_disk.specs.Disk.{NothingPending};
 ghost use Rattle.oa_disk.specs.Replaying.{no_bytes};
 
 use crate::{DeviceFault, Disk};
@@ -11,11 +10,12 @@ use crate::{DeviceFault, Disk};
 pub struct NoDisk;
 
 impl NoDisk {
+    ghost use Rattle.oa_disk.specs.After.{BeginsHonest};
+
     /// The disk of no bytes, which is honest. There is one alone.
     pub fn new() -> NoDisk
         ensures size { ⟦<NoDisk as Disk>⟧.size_of result ≡ 0 }
-        ensures honest { IsTrue (⟦<NoDisk as Disk>⟧.is_honest result) }
-        ensures settled { NothingPending ⟦<NoDisk as Disk>⟧.contents ⟦<NoDisk as Disk>⟧.image result }
+        ensures begins { BeginsHonest ⟦<NoDisk as Disk>⟧ result }
     {
         NoDisk
     }

@@ -1,6 +1,7 @@
 //! One byte decides: what was written before is on the device first.
 ghost use Rattle.std.specs.Prelude.{◌≡◌, ◌⊎◌, ◌+◌, ◌<◌, ◌≤◌, List, ℕ, IsTrue, OnOk, IfErr, length, slice_index};
-ghost use Rattle.oa_disk.specs.Disk.{LeavesOnly, LeavesStep, Follows, Counts, Torn};
+ghost use Rattle.oa_disk.specs.After.{AfterWrites};
+ghost use Rattle.oa_disk.specs.Disk.{LeavesOnly, LeavesStep, Follows, Torn};
 ghost use Rattle.oa_disk.specs.Switch.{MaySwitch, HasSwitched};
 
 use crate::{DeviceFault, Disk};
@@ -16,12 +17,7 @@ pub fn flip<D: Disk>(disk: &mut D, at: u64, value: u8) -> Result<(), DeviceFault
     ensures done { OnOk result (IsTrue (D.is_honest disk.old)
         → (c : List ℕ) → D.image disk.new c → Torn at 1 (D.contents disk.old) c × (slice_index c at ≡ value)) }
 
-    ensures size { D.size_of disk.new ≡ D.size_of disk.old }
-    ensures honest { D.is_honest disk.new ≡ D.is_honest disk.old }
-    ensures counts { Counts (D.failures_of disk.old) (D.failures_of disk.new) result }
-    ensures fault { IfErr result (λ e. e ≡ DeviceFault.Write) }
-    // three calls
-    ensures calls { IsTrue (D.is_honest disk.old) → D.moment disk.new ≤ D.moment disk.old + 6 }
+    ensures after { AfterWrites D.Disk 3 disk.old disk.new result }
 {
     disk.sync()?;
     disk.write_at(at, &[value])?;
@@ -47,12 +43,7 @@ pub fn write_then_flip<D: Disk>(
     ensures done { OnOk result (IsTrue (D.is_honest disk.old)
         → Follows (HasSwitched at bytes.now switch value) (D.image disk.old) (D.image disk.new)) }
 
-    ensures size { D.size_of disk.new ≡ D.size_of disk.old }
-    ensures honest { D.is_honest disk.new ≡ D.is_honest disk.old }
-    ensures counts { Counts (D.failures_of disk.old) (D.failures_of disk.new) result }
-    ensures fault { IfErr result (λ e. e ≡ DeviceFault.Write) }
-    // four calls
-    ensures calls { IsTrue (D.is_honest disk.old) → D.moment disk.new ≤ D.moment disk.old + 8 }
+    ensures after { AfterWrites D.Disk 4 disk.old disk.new result }
 {
     disk.write_at(at, bytes)?;
     flip(disk, switch, value)

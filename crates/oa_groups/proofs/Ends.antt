@@ -8,7 +8,8 @@ use Rattle.oa_groups.specs.Faults.{IsFaultIn, IsWholeBefore}
 use Rattle.oa_groups.specs.Going.{Faulted, Going, IsCut, IsEnd, IsGroup, Underway}
 use Rattle.oa_groups.specs.Groups.{groups_of, joined, rest_of}
 use Rattle.oa_groups.specs.Runs.{AllHoldState, CallsFor, InTurn, IsRun, Run}
-use Rattle.oa_groups.specs.Served.{Goes, IsServed}
+use Rattle.oa_groups.specs.Served.{IsServed}
+use Rattle.oa_store.specs.Writing.{Goes}
 use Rattle.oa_groups.specs.Turns.{Entry, Turns, body_of, reply_of}
 use Rattle.oa_groups.proofs.Called.{calls_none}
 use Rattle.oa_groups.proofs.Entries.{cut_last, either, ends_after, group_ends, joined_push, run_append}

@@ -15,17 +15,17 @@ use Rattle.oa_groups.specs.Faults.{IsWholeBefore}
 use Rattle.oa_groups.specs.Going.{IsCut, IsCutBefore, IsGroup, Going, Faulted, Underway}
 use Rattle.oa_groups.specs.Groups.{BeginsAlone, events_in, fills, is_full, joined}
 use Rattle.oa_groups.specs.Runs.{AllHoldState, CallsFor, HoldsState, InTurn, IsAfter, IsRun, Run}
-use Rattle.oa_groups.specs.Served.{Goes}
+use Rattle.oa_store.specs.Writing.{Goes}
 use Rattle.oa_groups.specs.Turns.{Entry, Turns, body_of, entry, reply_of}
 use Rattle.oa_groups.proofs.Called.{calls_behind, calls_events, calls_more, calls_none, calls_one, none_or_some, turn_push}
-use Rattle.oa_groups.proofs.Entries.{apart_group, cut_apart, cut_before, cut_ends, cut_flushed, cut_holds, cut_one, either, events_push, full_group, group_ends}
-use Rattle.oa_groups.proofs.Entries.{joined_push, run_append, run_replays}
+use Rattle.oa_groups.proofs.Entries.{apart_group, cut_apart, cut_before, cut_ends, cut_flushed, cut_holds, cut_one, either, events_push, full_group, group_ends, joined_push, run_append, run_replays}
 use Rattle.oa_groups.proofs.Running.{after_all, after_fewer, after_more, run_more, run_on, run_started}
 
 -- no call of the device
 pub goes_nowhere : {D : Type 0} {g : Ghosts D} (store : Store D g) → Goes store store
 goes_nowhere store = record {
   honest = refl;
+  size = refl;
   failures = omega arith;
   shape = refl;
   stops = λ was is. absurd (true≢false (sym is ∙ was));
@@ -37,6 +37,7 @@ goes_nowhere store = record {
 pub goes_on : {D : Type 0} {g : Ghosts D} (old mid new : Store D g) → Goes old mid → Goes mid new → Goes old new
 goes_on {D} {g} old mid new one two = record {
   honest = two.honest ∙ one.honest;
+  size = two.size ∙ one.size;
   failures = omega (arith, one.failures, two.failures);
   shape = two.shape ∙ one.shape;
   stops = λ was is small. by (mid.stopped) refl was is small;
@@ -198,12 +199,12 @@ module _ {S R : Type 0} (t : Turns S R) where
         mark = was.mark;
         in_turn = was.in_turn;
         calls = called_by asked new one;
-        all = λ begins. let before = was.all begins in record { shape = one.goes.shape ∙ before.shape; has = one.library ∙ before.has; all = one.each (t.held was.committed) none_made before.all };
+        all = λ begins. let before = was.all begins in record { shape = one.goes.shape ∙ before.shape; has = one.carries.library ∙ before.has; all = one.carries.each one.going (t.held was.committed) none_made before.all };
         moments = λ begins. let before = was.moments begins in (
           before.0,
           subst (λ (l : List (List (Entry R))). IsRun t g.moment g.image_since start.store.disk new.store.disk first l (length was.groups) before.0) (append-nil was.groups)
               (run_on t g.moment g.image_since first start.store.disk old.store.disk new.store.disk was.groups [] (length was.groups) before.0 (λ c. InBank c (t.held was.committed)) before.1
-              (one.any_moment (t.held was.committed) none_made (was.all begins).all)
+              (one.carries.any_moment (t.held was.committed) none_made (was.all begins).all)
               (λ c is. after_more t (length was.groups) first was.groups [] c (after_all t first was.groups was.committed c was.stands (under begins c is)))),
         );
       }
@@ -236,15 +237,15 @@ module _ {S R : Type 0} (t : Turns S R) where
           let before = was.moments begins in (
             before.0,
             run_on t g.moment g.image_since first start.store.disk old.store.disk new.store.disk was.groups (was.held ∷ []) (length was.groups) before.0 Either before.1
-                (one.any_moment (t.held was.committed) makes (was.all begins).all) (has begins),
+                (one.commits.any_moment (t.held was.committed) (t.held old.state) makes (was.all begins).all) (has begins),
           )
 
       committed_now : (told : List R) (new : Desk S R D g) → new.store.stopped ≡ false → IsSettled t told old new → Begins → AllHoldState t new.store old.state
       committed_now told new going one begins =
           let before = was.all begins in record {
             shape = one.goes.shape ∙ before.shape ∙ ap Two (sym was.same_bank);
-            has = one.library ∙ before.has ∙ sym was.same;
-            all = one.each going (t.held was.committed) makes before.all;
+            has = one.commits.library ∙ before.has ∙ sym was.same;
+            all = one.commits.each going (t.held was.committed) (t.held old.state) makes before.all;
           }
 
       ended_by : (told : List R) (new : Desk S R D g) → IsSettled t told old new → (new.store.disk ≡ was.mark) ⊎ CallsFor t was.committed was.held

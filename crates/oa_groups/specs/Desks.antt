@@ -2,14 +2,13 @@
 use Rattle.std.specs.Prelude.{◌≡◌, ◌≢◌, ◌⊎◌, ◌+◌, ◌-◌, ◌<◌, ◌≤◌, ℕ, IsTrue, true, false, List, [], ◌∷◌, ◌++◌, length, map}
 use Rattle.oa_disk.specs.Disk.{LeavesOnly}
 use Rattle.oa_disk.specs.declared.disk.Disk.{Ghosts}
-use Rattle.oa_journal.specs.Replays.{Replays}
 use Rattle.oa_journal.specs.Shapes.{ample_bytes, body_bytes}
 use Rattle.oa_store.specs.declared.store.Store.{Store}
 use Rattle.oa_table.specs.Tables.{TableValue}
-use Rattle.oa_keeper.specs.Kept.{AllHold, LeavesEither, LeavesTable}
+use Rattle.oa_keeper.specs.Holding.{Carries, Commits, LeavesCommitted}
 use Rattle.oa_groups.specs.Groups.{fills}
 use Rattle.oa_groups.specs.Runs.{AllHoldState, HoldsState, MakesEvent}
-use Rattle.oa_groups.specs.Served.{Goes}
+use Rattle.oa_store.specs.Writing.{Goes}
 use Rattle.oa_groups.specs.Turns.{Entry, Turns, entry}
 
 -- pending: the replies that are held back; events: the bytes of the events that are not committed yet
@@ -25,32 +24,9 @@ pub record IsDue {S R D : Type 0} {g : Ghosts D} (t : Turns S R) (store : Store 
   pub short : body_bytes store.bank.shape - store.bank.gate < ample_bytes
   pub makes : MakesEvent t state body
 
--- Images hold this table: what is held of the state where no event is in hand, and while some are, what they held before the first.
-abbrev pub IsCommitted : List ℕ → TableValue → TableValue → Type 0
-IsCommitted events held committed = length events ≡ 0 → held ≡ committed
-
--- A stop at any moment of a call leaves what was committed before it.
-abbrev pub LeavesCommitted : {D : Type 0} {g : Ghosts D} → List ℕ → TableValue → Store D g → Store D g → Type 0
-LeavesCommitted events held old new =
-    (committed : TableValue) → IsCommitted events held committed → AllHold old committed → LeavesTable old new committed
-
 -- A stop at any moment of a call leaves an image of which this holds.
 abbrev pub LeavesState : {D : Type 0} {g : Ghosts D} → Store D g → Store D g → (List ℕ → Type 0) → Type 0
 LeavesState {D} {g} old new P = LeavesOnly g.moment g.image_since old.disk new.disk P
-
--- After the call each image holds what was committed before it.
-abbrev pub KeepsCommitted : {D : Type 0} {g : Ghosts D} → List ℕ → TableValue → Store D g → Store D g → Type 0
-KeepsCommitted events held old new =
-    (committed : TableValue) → IsCommitted events held committed → AllHold old committed → AllHold new committed
-
--- A stop at any moment of a commit leaves what was committed before it, or what is held of the state with the events in hand.
-abbrev pub LeavesGroupOrNot : {D : Type 0} {g : Ghosts D} → List ℕ → TableValue → Store D g → Store D g → Type 0
-LeavesGroupOrNot events held old new =
-    (committed : TableValue) → Replays events committed held → AllHold old committed → LeavesEither old new committed held
-
--- After the commit each image holds the latter.
-abbrev pub CommitsGroup : {D : Type 0} {g : Ghosts D} → List ℕ → TableValue → Store D g → Store D g → Type 0
-CommitsGroup events held old new = (committed : TableValue) → Replays events committed held → AllHold old committed → AllHold new held
 
 -- One request is answered by a turn, and its reply and its event are held. The images go on to hold what they held, which is
 -- what is held of the state while no event is in hand.
@@ -63,9 +39,7 @@ pub record IsHeld {S R D : Type 0} {g : Ghosts D} (t : Turns S R) (asked : Entry
   pub going : new.store.stopped ≡ false
   -- the device is called for a checkpoint alone
   pub calls : (new.store.disk ≡ old.store.disk) ⊎ IsDue t old.store old.state old.events asked.body
-  pub any_moment : LeavesCommitted old.events (t.held old.state) old.store new.store
-  pub each : KeepsCommitted old.events (t.held old.state) old.store new.store
-  pub library : new.store.library.items ≡ old.store.library.items
+  pub carries : Carries old.events (t.held old.state) old.store new.store
   pub goes : Goes old.store new.store
 
 -- The group in hand ends, and its replies are told: as they are, or, where it could not be committed, taken back.
@@ -77,9 +51,7 @@ pub record IsSettled {S R D : Type 0} {g : Ghosts D} (t : Turns S R) (told : Lis
   -- with four calls of the device at most, and no checkpoint
   pub calls : IsTrue (g.is_honest old.store.disk) → g.moment new.store.disk ≤ g.moment old.store.disk + 8
   pub chosen : new.store.chosen ≡ old.store.chosen
-  pub any_moment : LeavesGroupOrNot old.events (t.held old.state) old.store new.store
-  pub each : new.store.stopped ≡ false → CommitsGroup old.events (t.held old.state) old.store new.store
-  pub library : new.store.library.items ≡ old.store.library.items
+  pub commits : Commits old.events old.store new.store
   pub goes : Goes old.store new.store
 
 -- The checkpoint before a request's event was due, and failed: the group ends with this request, and is taken back. A turn without an

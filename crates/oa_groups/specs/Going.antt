@@ -5,7 +5,7 @@ use Rattle.oa_groups.specs.Desks.{Desk}
 use Rattle.oa_groups.specs.Faults.{IsWholeBefore}
 use Rattle.oa_groups.specs.Groups.{cut, events_in, groups_of, joined, rest_of}
 use Rattle.oa_groups.specs.Runs.{AllHoldState, CallsFor, HasMoments, InTurn, Run}
-use Rattle.oa_groups.specs.Served.{Goes}
+use Rattle.oa_store.specs.Writing.{Goes}
 use Rattle.oa_groups.specs.Turns.{Entry, Turns, body_of, reply_of}
 
 -- Which groups are whole is known, whatever comes later.

@@ -1,7 +1,7 @@
 -- What a call answers that takes a list of requests, and what a stop at any moment of it leaves.
-use Rattle.std.specs.Prelude.{◌≡◌, ℕ, ◌≤◌, true, false, List, [], ◌∷◌, ◌++◌, length, map}
-use Rattle.oa_disk.specs.Disk.{HasCounted}
+use Rattle.std.specs.Prelude.{◌≡◌, ℕ, true, false, List, [], ◌∷◌, ◌++◌, length, map}
 use Rattle.oa_disk.specs.declared.disk.Disk.{Ghosts}
+use Rattle.oa_store.specs.Writing.{Goes}
 use Rattle.oa_store.specs.declared.store.Store.{Store}
 use Rattle.oa_groups.specs.Faults.{IsFaultIn}
 use Rattle.oa_groups.specs.Groups.{groups_of, joined}
@@ -17,17 +17,6 @@ pub record Served {S R : Type 0} (t : Turns S R) (size : ℕ) (first : S) (bodie
   pub groups_are : groups_of t.alone size (joined (groups ++ faulted)) ≡ groups ++ faulted
   pub fault : (group : List (Entry R)) → faulted ≡ group ∷ [] → IsFaultIn t size first groups group others
   pub replies_are : replies ≡ map reply_of (joined groups) ++ (map (λ asked. t.faulted asked.body) (joined faulted) ++ map t.failed others)
-
--- What every call says of the device, and of the store's format, which stays.
-pub record Goes {D : Type 0} {g : Ghosts D} (old new : Store D g) : Type 0 where
-  pub honest : g.is_honest new.disk ≡ g.is_honest old.disk
-  pub failures : g.failures_of old.disk ≤ g.failures_of new.disk
-  pub shape : new.bank.shape ≡ old.bank.shape
-  -- it stops only where a call has failed, and then for good
-  pub stops : old.stopped ≡ false → new.stopped ≡ true → HasCounted (g.failures_of old.disk) (g.failures_of new.disk)
-  pub stays : old.stopped ≡ true → (new.stopped ≡ true) × (new.disk ≡ old.disk)
-  -- no failed call goes untold
-  pub unfailed : new.stopped ≡ false → g.failures_of new.disk ≡ g.failures_of old.disk
 
 -- A call on a store that has not stopped: its replies are served, and there are the moments of its groups.
 pub record IsServed {S R D : Type 0} {g : Ghosts D} (t : Turns S R) (size : ℕ) (old new : Store D g) (before after : S)

@@ -1,16 +1,13 @@
 //! One bank, where it stands on a disk.
-ghost use Rattle.std.specs.Prelude.{◌≡◌, ◌↔◌, ◌+◌, ◌*◌, ◌-◌, ◌^◌, ◌<◌, ◌≤◌, List, ℕ, Bool, true, false, IsTrue, length, OnOk, OnErr, IfOk, IfErr};
-ghost use Rattle.std.specs.Prelude.{IsErrOf};
+ghost use Rattle.std.specs.Prelude.{◌≡◌, ◌+◌, ◌-◌, ◌^◌, ◌<◌, ◌≤◌, ℕ, true, false, IsTrue, length, OnOk, IfOk, IsErrOf};
 ghost use Rattle.std.specs.Int.{div_ceil};
-ghost use Rattle.oa_disk.specs.Disk.{LeavesStep, HasCounted, Counts, Follows};
+ghost use Rattle.oa_disk.specs.After.{AfterAttempt, AfterCalls, AfterWrites, Leaves};
 ghost use Rattle.oa_disk.specs.declared.disk.DeviceFault.{DeviceFault};
 ghost use Rattle.oa_image.specs.Tables.{is_numbered};
-ghost use Rattle.oa_table.specs.Tables.{unlocked_table};
-ghost use Rattle.oa_journal.specs.Bank.{from_place, Apart, IsBank, HasLibrary};
+ghost use Rattle.oa_journal.specs.Bank.{from_place, Apart, HasLibrary};
 ghost use Rattle.oa_journal.specs.Banks.{first_gate};
 ghost use Rattle.oa_journal.specs.Damages.{HasNoHeader, IsDamagedBank};
 ghost use Rattle.oa_journal.specs.Reads.{OnlyReads};
-ghost use Rattle.oa_journal.specs.Replies.{IsCaused};
 ghost use Rattle.oa_journal.specs.Shapes.{body_bytes, shape_of, IsShape};
 
 use crate::Shape;
@@ -100,7 +97,8 @@ pub struct Bank {
 impl Bank {
     ghost use Rattle.oa_journal.specs.declared.bank.AppendFault.{AppendFault};
     ghost use Rattle.oa_journal.specs.declared.bank.BankFault.{BankFault};
-    ghost use Rattle.oa_journal.specs.Append.{group_of, IsAt, IsWithOrWithout, IsWith, TornBank};
+    ghost use Rattle.oa_journal.specs.Append.{group_of, IsAt, IsWithOrWithout, IsWith};
+    ghost use Rattle.oa_journal.specs.BankCalls.{LiesWithin, MovesGate, ReadsBank, RefusesBank, RefusesGroup, WritesBank};
 
     /// The bank whose head and whose body, of so many bytes, stand at these places of a disk; in format 1, which is read alone, the body
     /// has 16,777,184. Until it is written or read, its room is 1: no group fits.
@@ -147,28 +145,15 @@ impl Bank {
         requires some { 0 < length buffer.old }
         requires fits { first_gate library.now table.now < body_bytes self.old.shape }
         requires numbered { is_numbered table.now ≡ true }
-        requires inside { self.old.head + 32 ≤ D.size_of disk.old }
-        requires body_inside { self.old.body + body_bytes self.old.shape ≤ D.size_of disk.old }
+        requires lies { LiesWithin (D.size_of disk.old) self.old }
 
-        ensures any_moment { IsTrue (D.is_honest disk.old)
-            → LeavesStep D.moment D.image_since D.image disk.old disk.new (TornBank self.old.head self.old.body (body_bytes self.old.shape)) }
-        // At `Ok` it is what a read gives.
-        ensures written { OnOk result (IsTrue (D.is_honest disk.old)
-            → IsBank self.old.shape (from_place self.old.head (D.contents disk.new)) (from_place self.old.body (D.contents disk.new))
-            library.now (unlocked_table table.now) (first_gate library.now table.now)) }
-        ensures others { IsTrue (D.is_honest disk.old)
-            → TornBank self.old.head self.old.body (body_bytes self.old.shape) (D.contents disk.old) (D.contents disk.new) }
-        ensures bank { OnOk result (IsAt self.old.shape self.old.head self.old.body (first_gate library.now table.now) self.old.stopped self.new) }
+        // Until it is synced, a crash may leave any bytes of it; what stands outside stays.
+        ensures writes { WritesBank D.Disk self.old library.now table.now disk.old disk.new result }
+        ensures gate { MovesGate (first_gate library.now table.now) self.old self.new result }
         ensures buffer { length buffer.new ≡ length buffer.old }
-
-        ensures stopped { OnErr result (IsAt self.old.shape self.old.head self.old.body self.old.gate true self.new) }
-        ensures fault { IfErr result (λ e. e ≡ DeviceFault.Write) }
-        ensures size { D.size_of disk.new ≡ D.size_of disk.old }
-        ensures honest { D.is_honest disk.new ≡ D.is_honest disk.old }
-        ensures counts { Counts (D.failures_of disk.old) (D.failures_of disk.new) result }
-        // at most a call for the head, and one for each piece of the body that the buffer takes
-        ensures calls { IsTrue (D.is_honest disk.old) → D.moment disk.new
-            ≤ D.moment disk.old + 2 * (1 + div_ceil (1 + first_gate library.now table.now) (length buffer.old)) }
+        // At most a call for the head, and one for each piece of the body that the buffer takes.
+        ensures after { AfterWrites D.Disk (1 + div_ceil (1 + first_gate library.now table.now) (length buffer.old)) disk.old disk.new
+            result }
     {
         is_table(table);
         let header = header_bytes(self.shape, library.len() as u32, table.image_size() as u32);
@@ -194,26 +179,18 @@ impl Bank {
         alloc: Global,
         disk: &mut D,
     ) -> Result<Vec<u8>, BankFault>
-        requires inside { self.old.head + 32 ≤ D.size_of disk.old }
-        requires body_inside { self.old.body + body_bytes self.old.shape ≤ D.size_of disk.old }
+        requires lies { LiesWithin (D.size_of disk.old) self.old }
 
         ensures found { IfOk result (λ library. IsTrue (D.is_honest disk.new)
             → HasLibrary self.old.shape (from_place self.old.head (D.contents disk.old)) (from_place self.old.body (D.contents disk.old))
             library.items) }
         ensures bank { OnOk result (self.new ≡ self.old) }
         // `Damaged` for the head alone.
-        ensures damaged { (at : ℕ) → IsErrOf result (BankFault.Damaged at) → (self.new ≡ self.old) × (at ≡ self.old.head)
-            × (IsTrue (D.is_honest disk.new) → HasNoHeader self.old.shape (from_place self.old.head (D.contents disk.old))) }
-        ensures memory { IsErrOf result BankFault.Memory → self.new ≡ self.old }
-        ensures device { (fault : DeviceFault) → IsErrOf result (BankFault.Device fault)
-            → IsAt self.old.shape self.old.head self.old.body self.old.gate true self.new × (fault ≡ DeviceFault.Read) }
-        ensures cause { IfErr result (IsCaused (D.failures_of disk.old) (D.failures_of disk.new)) }
-
+        ensures head { (at : ℕ) → IsErrOf result (BankFault.Damaged at) → at ≡ self.old.head }
+        ensures refused { RefusesBank D.Disk (λ at. HasNoHeader self.old.shape (from_place self.old.head (D.contents disk.old)))
+            self.old self.new disk.old disk.new result }
         ensures reads { IsTrue (D.is_honest disk.new) → OnlyReads D.contents D.image D.moment D.image_since disk.old disk.new }
-        ensures size { D.size_of disk.new ≡ D.size_of disk.old }
-        ensures honest { IsTrue (D.is_honest disk.new) → IsTrue (D.is_honest disk.old) }
-        ensures unfailed { OnOk result (D.failures_of disk.new ≡ D.failures_of disk.old) }
-        ensures failures { D.failures_of disk.old ≤ D.failures_of disk.new }
+        ensures after { AfterCalls D.Disk disk.old disk.new result }
         // at most two calls
         ensures calls { IsTrue (D.is_honest disk.new) → D.moment disk.new ≤ D.moment disk.old + 4 }
     {
@@ -235,32 +212,16 @@ impl Bank {
         buffer: Vec<u8>,
     ) -> Result<(Vec<u8>, Table, Vec<u8>), BankFault>
         requires some { 5 ≤ length buffer.items }
-        requires inside { self.old.head + 32 ≤ D.size_of disk.old }
-        requires body_inside { self.old.body + body_bytes self.old.shape ≤ D.size_of disk.old }
+        requires lies { LiesWithin (D.size_of disk.old) self.old }
 
-        ensures found { IfOk result (λ r. IsTrue (D.is_honest disk.new)
-            → IsBank self.old.shape (from_place self.old.head (D.contents disk.old)) (from_place self.old.body (D.contents disk.old))
-            r.0.items r.1 self.new.gate) }
-        ensures numbered { IfOk result (λ r. is_numbered r.1 ≡ true) }
-        ensures unlocked { IfOk result (λ r. unlocked_table r.1 ≡ r.1) }
+        ensures found { IfOk result (λ r. ReadsBank D.Disk self.old self.new disk.old disk.new r.0.items r.1) }
         ensures buffer { IfOk result (λ r. length r.2.items ≡ length buffer.items) }
         ensures bank { OnOk result (IsAt self.old.shape self.old.head self.old.body self.new.gate self.old.stopped self.new) }
         // `Damaged` with the place on the disk of the first part that fails.
-        ensures damaged { (at : ℕ) → IsErrOf result (BankFault.Damaged at) → (self.new ≡ self.old)
-            × (IsTrue (D.is_honest disk.new) → IsDamagedBank self.old.shape self.old.head self.old.body (D.contents disk.old) at) }
-        ensures memory { IsErrOf result BankFault.Memory → self.new ≡ self.old }
-        ensures device { (fault : DeviceFault) → IsErrOf result (BankFault.Device fault)
-            → IsAt self.old.shape self.old.head self.old.body self.old.gate true self.new × (fault ≡ DeviceFault.Read) }
-        ensures cause { IfErr result (IsCaused (D.failures_of disk.old) (D.failures_of disk.new)) }
-
+        ensures refused { RefusesBank D.Disk (IsDamagedBank self.old.shape self.old.head self.old.body (D.contents disk.old)) self.old
+            self.new disk.old disk.new result }
         ensures reads { IsTrue (D.is_honest disk.new) → OnlyReads D.contents D.image D.moment D.image_since disk.old disk.new }
-        ensures size { D.size_of disk.new ≡ D.size_of disk.old }
-        ensures honest { IsTrue (D.is_honest disk.new) → IsTrue (D.is_honest disk.old) }
-        ensures unfailed { OnOk result (D.failures_of disk.new ≡ D.failures_of disk.old) }
-        ensures failures { D.failures_of disk.old ≤ D.failures_of disk.new }
-        // at most four calls, and one for two bytes of snapshot and groups
-        ensures calls { IfOk result (λ r. IsTrue (D.is_honest disk.new)
-            → D.moment disk.new + length r.0.items ≤ D.moment disk.old + (8 + self.new.gate)) }
+        ensures after { AfterCalls D.Disk disk.old disk.new result }
     {
         match bank_at(alloc, disk, self.shape, self.head, self.body, buffer) {
             Ok((library, table, gate, buffer)) => {
@@ -292,30 +253,16 @@ impl Bank {
         requires some { 5 < length frame.old }
         requires inside { self.old.body + body_bytes self.old.shape ≤ D.size_of disk.old }
 
-        // A crash at any moment leaves what it might have left, with the group or without it.
-        ensures any_moment { IsTrue (D.is_honest disk.old)
-            → LeavesStep D.moment D.image_since D.image disk.old disk.new
-            (IsWithOrWithout self.old.shape self.old.head self.old.body self.old.gate (group_of frame.old)) }
-        // And at `Ok` with it.
-        ensures done { OnOk result (IsTrue (D.is_honest disk.old)
-            → Follows (IsWith self.old.shape self.old.head self.old.body self.old.gate (group_of frame.old)) (D.image disk.old) (D.image disk.new)) }
+        // A crash at any moment leaves what it might have left, with the group or without it; and at `Ok` with it.
+        ensures leaves { Leaves D.Disk (IsWithOrWithout self.old.shape self.old.head self.old.body self.old.gate (group_of frame.old))
+            (IsWith self.old.shape self.old.head self.old.body self.old.gate (group_of frame.old)) disk.old disk.new result }
         ensures gate { OnOk result (IsAt self.old.shape self.old.head self.old.body (self.old.gate + length frame.old) false self.new) }
+        ensures stops { (fault : DeviceFault) → IsErrOf result (AppendFault.Device fault)
+            → IsAt self.old.shape self.old.head self.old.body self.old.gate true self.new }
         ensures kept { group_of frame.new ≡ group_of frame.old }
-
-        ensures full { IsErrOf result AppendFault.Full ↔ ((self.old.stopped ≡ false) × (body_bytes self.old.shape ≤ self.old.gate + length frame.old)) }
-        ensures full_same { IsErrOf result AppendFault.Full → (disk.new ≡ disk.old) × (self.new ≡ self.old) }
-        ensures stopped { IsErrOf result AppendFault.Stopped ↔ (self.old.stopped ≡ true) }
-        ensures stopped_same { IsErrOf result AppendFault.Stopped → (disk.new ≡ disk.old) × (self.new ≡ self.old) }
-        ensures device { (fault : DeviceFault) → IsErrOf result (AppendFault.Device fault)
-            → IsAt self.old.shape self.old.head self.old.body self.old.gate true self.new × (fault ≡ DeviceFault.Write)
-            × HasCounted (D.failures_of disk.old) (D.failures_of disk.new) }
-
-        ensures size { D.size_of disk.new ≡ D.size_of disk.old }
-        ensures honest { D.is_honest disk.new ≡ D.is_honest disk.old }
-        ensures unfailed { OnOk result (D.failures_of disk.new ≡ D.failures_of disk.old) }
-        ensures failures { D.failures_of disk.old ≤ D.failures_of disk.new }
-        // at most four calls
-        ensures calls { IsTrue (D.is_honest disk.old) → D.moment disk.new ≤ D.moment disk.old + 8 }
+        ensures refused { RefusesGroup frame.old self.old self.new disk.old disk.new result }
+        // At most four calls.
+        ensures after { AfterAttempt D.Disk AppendFault.Device 4 disk.old disk.new result }
     {
         if self.stopped {
             return Err(AppendFault::Stopped);

@@ -1,6 +1,7 @@
 //! A group behind a closed gate, which is opened once the group is on the device.
 ghost use Rattle.std.specs.Prelude.{◌≡◌, ◌+◌, ◌*◌, ◌^◌, ◌<◌, ◌≤◌, List, ℕ, IsTrue, length, OnOk, IfOk, IfErr};
 ghost use Rattle.std.specs.Int.{div_ceil};
+ghost use Rattle.oa_disk.specs.After.{AfterWrites};
 ghost use Rattle.oa_disk.specs.Disk.{Holds, LeavesStep, Follows, Counts};
 ghost use Rattle.oa_disk.specs.Switch.{MaySwitch, HasSwitched};
 ghost use Rattle.oa_disk.specs.declared.disk.DeviceFault.{DeviceFault};
@@ -38,13 +39,9 @@ pub(crate) fn append_group<D: Disk>(
     ensures done { OnOk result (IsTrue (D.is_honest disk.old)
         → Follows (HasSwitched (gate + 1) (sealed (group_of frame.old)) gate 1) (D.image disk.old) (D.image disk.new)) }
 
-    ensures size { D.size_of disk.new ≡ D.size_of disk.old }
-    ensures honest { D.is_honest disk.new ≡ D.is_honest disk.old }
-    ensures counts { Counts (D.failures_of disk.old) (D.failures_of disk.new) result }
-    ensures fault { IfErr result (λ e. e ≡ DeviceFault.Write) }
+    ensures after { AfterWrites D.Disk 4 disk.old disk.new result }
     ensures long { length frame.new ≡ length frame.old }
     ensures kept { group_of frame.new ≡ group_of frame.old }
-    ensures calls { IsTrue (D.is_honest disk.old) → D.moment disk.new ≤ D.moment disk.old + 8 }
 {
     seal(frame);
     write_then_flip(disk, gate + 1, frame, gate, 1)

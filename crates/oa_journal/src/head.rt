@@ -1,13 +1,15 @@
 //! The head of a bank.
 ghost use Rattle.std.specs.Prelude.{◌≡◌, ◌↔◌, ◌+◌, ◌^◌, ◌<◌, ◌≤◌, ℕ, List, IsTrue, length, take, drop, slice_index, OnOk, IfOk, IfErr, IsErr, IsErrOf};
+ghost use Rattle.oa_disk.specs.After.{AfterCalls};
 ghost use Rattle.oa_disk.specs.declared.disk.DeviceFault.{DeviceFault};
+ghost use Rattle.oa_journal.specs.BankCalls.{FindsHead, RefusesHead};
 ghost use Rattle.oa_journal.specs.declared.bank.BankFault.{BankFault};
 ghost use Rattle.oa_journal.specs.declared.shape.Shape.{Shape as AShape};
-ghost use Rattle.oa_journal.specs.Bank.{from_place, HasHeader, HasHead};
-ghost use Rattle.oa_journal.specs.Damages.{HasNoHeader, IsDamagedHead};
+ghost use Rattle.oa_journal.specs.Bank.{from_place, HasHeader};
+ghost use Rattle.oa_journal.specs.Damages.{HasNoHeader};
 ghost use Rattle.oa_journal.specs.Reads.{OnlyReads};
 ghost use Rattle.oa_journal.specs.Replies.{IsCaused};
-ghost use Rattle.oa_journal.specs.Shapes.{body_bytes, disk_bytes, format_of, told_size, IsShape};
+ghost use Rattle.oa_journal.specs.Shapes.{body_bytes, format_of, told_size, IsShape};
 
 use crate::layout::head_bytes;
 use crate::{BankFault, Shape};
@@ -85,11 +87,8 @@ pub(crate) fn head_at<D: Disk>(disk: &mut D, place: u64) -> Result<Head, BankFau
     ensures device { (fault : DeviceFault) → IsErrOf result (BankFault.Device fault) → fault ≡ DeviceFault.Read }
 
     ensures reads { IsTrue (D.is_honest disk.new) → OnlyReads D.contents D.image D.moment D.image_since disk.old disk.new }
-    ensures size { D.size_of disk.new ≡ D.size_of disk.old }
-    ensures honest { IsTrue (D.is_honest disk.new) → IsTrue (D.is_honest disk.old) }
+    ensures after { AfterCalls D.Disk disk.old disk.new result }
     ensures cause { IfErr result (IsCaused (D.failures_of disk.old) (D.failures_of disk.new)) }
-    ensures unfailed { OnOk result (D.failures_of disk.new ≡ D.failures_of disk.old) }
-    ensures failures { D.failures_of disk.old ≤ D.failures_of disk.new }
     ensures calls { IsTrue (D.is_honest disk.new) → D.moment disk.new ≤ D.moment disk.old + 2 }
 {
     let mut bytes = [0; 32];
@@ -105,21 +104,11 @@ pub(crate) fn head_at<D: Disk>(disk: &mut D, place: u64) -> Result<Head, BankFau
 pub fn read_head<D: Disk>(disk: &mut D, place: u64) -> Result<Head, BankFault>
     requires { place + 32 ≤ D.size_of disk.old }
 
-    ensures found { IfOk result (λ h. IsTrue (D.is_honest disk.new)
-        → HasHead h.shape place (D.contents disk.old) h.library h.snapshot) }
-    ensures known { IfOk result (λ h. IsShape h.shape × (h.library + h.snapshot < body_bytes h.shape)) }
-    ensures room { IfOk result (λ h. disk_bytes h.shape ≤ D.size_of disk.old) }
-    ensures damaged { (at : ℕ) → IsErrOf result (BankFault.Damaged at)
-        → (at ≡ place) × (IsTrue (D.is_honest disk.new) → IsDamagedHead place (D.contents disk.old)) }
-    ensures memory { IsErrOf result BankFault.Memory → ⊥ }
-    ensures device { (fault : DeviceFault) → IsErrOf result (BankFault.Device fault) → fault ≡ DeviceFault.Read }
-
+    ensures found { IfOk result (λ h. FindsHead D.Disk place disk.old disk.new h) }
+    ensures refused { RefusesHead D.Disk place disk.old disk.new result }
     ensures reads { IsTrue (D.is_honest disk.new) → OnlyReads D.contents D.image D.moment D.image_since disk.old disk.new }
-    ensures size { D.size_of disk.new ≡ D.size_of disk.old }
-    ensures honest { IsTrue (D.is_honest disk.new) → IsTrue (D.is_honest disk.old) }
-    ensures cause { IfErr result (IsCaused (D.failures_of disk.old) (D.failures_of disk.new)) }
-    ensures unfailed { OnOk result (D.failures_of disk.new ≡ D.failures_of disk.old) }
-    ensures failures { D.failures_of disk.old ≤ D.failures_of disk.new }
+    ensures after { AfterCalls D.Disk disk.old disk.new result }
+    // one call
     ensures calls { IsTrue (D.is_honest disk.new) → D.moment disk.new ≤ D.moment disk.old + 2 }
 {
     let head = match head_at(disk, place) {

@@ -1,5 +1,6 @@
 //! Bytes of a disk that were read ahead: a reader in pieces.
 ghost use Rattle.std.specs.Prelude.{◌≡◌, ◌↔◌, ◌+◌, ◌-◌, ◌^◌, ◌<◌, ◌≤◌, ℕ, List, IsTrue, length, take, drop, OnOk, OnErr, IfErr, IsErrOf};
+ghost use Rattle.oa_disk.specs.After.{AfterCalls};
 ghost use Rattle.oa_disk.specs.Disk.{Holds};
 ghost use Rattle.oa_disk.specs.declared.disk.DeviceFault.{DeviceFault};
 ghost use Rattle.oa_journal.specs.declared.bank.BankFault.{BankFault};
@@ -25,11 +26,8 @@ fn read_front<D: Disk>(
     ensures device { (fault : DeviceFault) → IsErrOf result (BankFault.Device fault) → fault ≡ DeviceFault.Read }
 
     ensures reads { IsTrue (D.is_honest disk.new) → OnlyReads D.contents D.image D.moment D.image_since disk.old disk.new }
-    ensures size { D.size_of disk.new ≡ D.size_of disk.old }
-    ensures honest { IsTrue (D.is_honest disk.new) → IsTrue (D.is_honest disk.old) }
+    ensures after { AfterCalls D.Disk disk.old disk.new result }
     ensures cause { IfErr result (IsCaused (D.failures_of disk.old) (D.failures_of disk.new)) }
-    ensures unfailed { OnOk result (D.failures_of disk.new ≡ D.failures_of disk.old) }
-    ensures failures { D.failures_of disk.old ≤ D.failures_of disk.new }
     ensures calls { IsTrue (D.is_honest disk.new) → D.moment disk.new ≤ D.moment disk.old + 2 }
 {
     disk.read_at(at, &mut buffer[..count])?;
@@ -94,11 +92,8 @@ impl Window {
         ensures device { (fault : DeviceFault) → IsErrOf result (BankFault.Device fault) → fault ≡ DeviceFault.Read }
 
         ensures reads { IsTrue (D.is_honest disk.new) → OnlyReads D.contents D.image D.moment D.image_since disk.old disk.new }
-        ensures size { D.size_of disk.new ≡ D.size_of disk.old }
-        ensures honest { IsTrue (D.is_honest disk.new) → IsTrue (D.is_honest disk.old) }
+        ensures after { AfterCalls D.Disk disk.old disk.new result }
         ensures cause { IfErr result (IsCaused (D.failures_of disk.old) (D.failures_of disk.new)) }
-        ensures unfailed { OnOk result (D.failures_of disk.new ≡ D.failures_of disk.old) }
-        ensures failures { D.failures_of disk.old ≤ D.failures_of disk.new }
         ensures kept { length self.new.buffer.items ≡ length self.old.buffer.items }
         ensures calls { IsTrue (D.is_honest disk.new) → D.moment disk.new ≤ D.moment disk.old + 2 }
     {

@@ -5,7 +5,8 @@ use Rattle.oa_disk.specs.declared.disk.Disk.{Ghosts}
 use Rattle.oa_disk.specs.Moments.{chained, weakened}
 use Rattle.oa_groups.specs.Desks.{Desk, IsSettled, IsTaken, LeavesState}
 use Rattle.oa_groups.specs.Groups.{fills}
-use Rattle.oa_groups.specs.Served.{Goes, IsServed}
+use Rattle.oa_groups.specs.Served.{IsServed}
+use Rattle.oa_store.specs.Writing.{Goes}
 use Rattle.oa_groups.specs.Turns.{entry}
 use Rattle.oa_groups.proofs.Called.{none_or_some}
 use Rattle.oa_groups.proofs.Ends.{underway_ended}
@@ -13,6 +14,7 @@ use Rattle.oa_groups.proofs.Takes.{goes_on, underway_start, underway_taken}
 use Rattle.oa_journal.specs.Replays.{Replays}
 use Rattle.oa_groups.specs.Runs.{AllHoldState, HoldsState}
 use Rattle.oa_idl.specs.Canonical.{canonical}
+use Rattle.oa_keeper.specs.Holding.{Commits}
 use Rattle.oa_keeper.specs.Kept.{AllHold, LeavesEither, LeavesTable}
 use Rattle.oa_record.specs.Replacement.{is_replacement}
 use Rattle.oa_turn.proofs.SameLibrary.{plain_library, turn_bank}
@@ -84,11 +86,9 @@ module _ {D : Type 0} {g : Ghosts D} (only : (d : D) (c : List ℕ) → IsTrue (
     }))));
   }
 
-  module _ (on : mid.stopped ≡ false) (new : Store D g) (due : ReplyValue) (events : List ℕ) (turn : IsHeldBack body due start events before after) (then : Goes mid new) (stays_on : new.library.items ≡ mid.library.items)
+  module _ (on : mid.stopped ≡ false) (new : Store D g) (due : ReplyValue) (events : List ℕ) (turn : IsHeldBack body due start events before after) (then : Goes mid new)
       (holds : (committed : TableValue) → (length start ≡ 0 → held_of before ≡ committed) → AllHold old committed → AllHold mid committed)
-      (either : (committed now : TableValue) → Replays events committed now → AllHold mid committed → LeavesEither mid new committed now)
-      (each : new.stopped ≡ false → (committed now : TableValue) → Replays events committed now → AllHold mid committed → AllHold new now)
-      (calls : CallsWhereDue old mid before start body) (still : length events ≡ 0 → (new.disk ≡ mid.disk) × (new.stopped ≡ false)) (four : IsTrue (g.is_honest mid.disk) → g.moment new.disk ≤ g.moment mid.disk + 8) (chosen : new.chosen ≡ mid.chosen) where
+      (commits : Commits events mid new) (calls : CallsWhereDue old mid before start body) (still : length events ≡ 0 → (new.disk ≡ mid.disk) × (new.stopped ≡ false)) (four : IsTrue (g.is_honest mid.disk) → g.moment new.disk ≤ g.moment mid.disk + 8) (chosen : new.chosen ≡ mid.chosen) where
     replays : Replays events (held_of before) (held_of after)
     replays =
         let added : events ≡ turn.event = turn.added ∙ ap (λ (l : List ℕ). l ++ turn.event) empty in
@@ -98,7 +98,7 @@ module _ {D : Type 0} {g : Ghosts D} (only : (d : D) (c : List ℕ) → IsTrue (
     meanwhile_table all =
         chained g.moment g.image_since old.disk mid.disk new.disk (λ c. IsStoreIn old.bank.shape c old.library.items (held_of before)) (λ c. IsStoreIn mid.bank.shape c mid.library.items (held_of before) ⊎ IsStoreIn mid.bank.shape c mid.library.items (held_of after))
         (λ c. IsStoreIn old.bank.shape c old.library.items (held_of before) ⊎ IsStoreIn old.bank.shape c old.library.items (held_of after)) (leaves (held_of before) (λ none. refl) all)
-        (either (held_of before) (held_of after) replays (holds (held_of before) (λ none. refl) all)) (λ c is. inl is)
+        (commits.any_moment (held_of before) (held_of after) replays (holds (held_of before) (λ none. refl) all)) (λ c is. inl is)
         (λ c is. subst (λ (s : Shape). IsStoreIn s c old.library.items (held_of before) ⊎ IsStoreIn s c old.library.items (held_of after)) first.shape
         (subst (λ (l : List ℕ). IsStoreIn mid.bank.shape c l (held_of before) ⊎ IsStoreIn mid.bank.shape c l (held_of after)) stays is))
 
@@ -114,7 +114,7 @@ module _ {D : Type 0} {g : Ghosts D} (only : (d : D) (c : List ℕ) → IsTrue (
       reply = due;
       event = turn.event;
       mid = desk mid after (due ∷ []) events;
-      held = record { turn = turn.asked; plain = plain; pending = refl; events = turn.added; going = on; calls = calls; any_moment = leaves; each = holds; library = stays; goes = first };
+      held = record { turn = turn.asked; plain = plain; pending = refl; events = turn.added; going = on; calls = calls; carries = record { any_moment = leaves; each = λ going. holds; library = stays }; goes = first };
       full = full_one (length events);
       settled = settled;
     })))
@@ -150,9 +150,7 @@ module _ {D : Type 0} {g : Ghosts D} (only : (d : D) (c : List ℕ) → IsTrue (
         quiet = still;
         calls = four;
         chosen = chosen;
-        any_moment = λ committed makes all. either committed (held_of after) makes all;
-        each = λ going. absurd (true≢false (sym stopped ∙ going));
-        library = stays_on;
+        commits = commits;
         goes = then;
       });
     }
@@ -165,7 +163,7 @@ module _ {D : Type 0} {g : Ghosts D} (only : (d : D) (c : List ℕ) → IsTrue (
       doubt = λ no stopped. absurd (true≢false (sym stopped ∙ going));
       replaced = λ no yes alone. absurd (true≢false (sym alone ∙ plain));
       any_moment = λ no. meanwhile;
-      each = λ no yes all. has_state (due, turn.asked.turn) all new (goes_on old mid new first then).shape (stays_on ∙ stays) (each yes (held_of before) (held_of after) replays (holds (held_of before) (λ none. refl) all.all));
+      each = λ no yes all. has_state (due, turn.asked.turn) all new (goes_on old mid new first then).shape (commits.library ∙ stays) (commits.each yes (held_of before) (held_of after) replays (holds (held_of before) (λ none. refl) all.all));
       goes = goes_on old mid new first then;
       quiet = λ no kind none. silent none;
       refused = λ no yes kind. absurd (true≢false (sym kind ∙ plain));
@@ -176,9 +174,7 @@ module _ {D : Type 0} {g : Ghosts D} (only : (d : D) (c : List ℕ) → IsTrue (
         quiet = still;
         calls = four;
         chosen = chosen;
-        any_moment = λ committed makes all. either committed (held_of after) makes all;
-        each = λ yes committed makes all. each yes committed (held_of after) makes all;
-        library = stays_on;
+        commits = commits;
         goes = then;
       });
     }

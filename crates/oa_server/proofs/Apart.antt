@@ -6,7 +6,7 @@ use Rattle.oa_frame.specs.Framings.{Frames}
 use Rattle.oa_frame.specs.Sessions as sessions
 use Rattle.oa_frame.specs.declared.session.Served.{Served}
 use Rattle.oa_groups.specs.Desks.{Desk, IsEnded, IsFlushed, IsIdle, IsOver, IsReplaced, IsTaken}
-use Rattle.oa_groups.specs.Served.{Goes}
+use Rattle.oa_store.specs.Writing.{Goes}
 use Rattle.oa_groups.specs.Turns.{Turns, entry}
 use Rattle.oa_groups.proofs.Takes.{goes_on}
 use Rattle.oa_record.specs.Replacement.{is_replacement}

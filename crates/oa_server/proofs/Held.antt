@@ -9,6 +9,7 @@ use Rattle.oa_groups.proofs.Called.{none_or_some}
 use Rattle.oa_image.proofs.Lengths.{event_bytes}
 use Rattle.oa_journal.specs.Shapes.{ample_bytes, body_bytes}
 use Rattle.oa_keeper.proofs.Committed.{one_event}
+use Rattle.oa_keeper.specs.Holding.{Carries}
 use Rattle.oa_store.specs.declared.store.Store.{Store}
 use Rattle.oa_table.specs.declared.fault.TableFault.{TableFault}
 use Rattle.oa_server.specs.Hands.{CallsWhereDue}
@@ -34,6 +35,15 @@ use Rattle.oa_turn.specs.Turns.{Ordinary}
 use Rattle.oa_turn.proofs.Allowed.{is_allowed}
 use Rattle.oa_turn.proofs.Eventless.{has_event, undone}
 use Rattle.oa_turn.proofs.Changing.{done, drafted, refused}
+
+-- what was committed stands, however what is held is named
+pub carried : {D : Type 0} {g : Ghosts D} {held also : TableValue} (frame : List ℕ) (old new : Store D g) → held ≡ also
+    → Carries frame held old new → Carries frame also old new
+carried frame old new same is = record {
+  any_moment = λ committed first all. is.any_moment committed (λ none. same ∙ first none) all;
+  each = λ going committed first all. is.each going committed (λ none. same ∙ first none) all;
+  library = is.library;
+}
 
 -- no events
 no_events : (before after : TableValue) → after ≡ before → Replays [] before after

@@ -5,7 +5,8 @@ use Rattle.oa_disk.specs.Moments.{weakened}
 use Rattle.oa_disk.specs.declared.disk.Disk.{Ghosts}
 use Rattle.oa_groups.specs.Desks.{Desk, IsEnded, IsFlushed, IsTaken, LeavesState}
 use Rattle.oa_groups.specs.Runs.{AllHoldState, HoldsState}
-use Rattle.oa_groups.specs.Served.{Goes, IsServed}
+use Rattle.oa_groups.specs.Served.{IsServed}
+use Rattle.oa_store.specs.Writing.{Goes}
 use Rattle.oa_groups.specs.Simple.{no_event}
 use Rattle.oa_groups.proofs.Ends.{underway_ended}
 use Rattle.oa_groups.proofs.Takes.{goes_nowhere, underway_start, underway_taken}
@@ -184,9 +185,7 @@ module _ {D : Type 0} {g : Ghosts D} (old mid new : Store D g) (was : old.stoppe
       quiet = last.settled.quiet;
       calls = last.settled.calls;
       chosen = last.settled.chosen;
-      any_moment = last.settled.any_moment;
-      each = last.settled.each;
-      library = last.settled.library;
+      commits = last.settled.commits;
       goes = last.settled.goes;
     };
   })

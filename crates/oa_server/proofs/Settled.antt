@@ -4,10 +4,10 @@ use Rattle.std.proofs.Common.{sym, ◌∙◌, arith}
 use Rattle.oa_disk.specs.declared.disk.Disk.{Ghosts}
 use Rattle.oa_groups.specs.Desks.{IsHeld, IsSettled}
 use Rattle.oa_groups.specs.Groups.{fills}
-use Rattle.oa_groups.specs.Served.{Goes}
+use Rattle.oa_store.specs.Writing.{Goes}
 use Rattle.oa_groups.specs.Turns.{entry}
 use Rattle.oa_journal.specs.Replays.{Replays}
-use Rattle.oa_keeper.specs.Kept.{AllHold, LeavesEither, LeavesTable}
+use Rattle.oa_keeper.specs.Holding.{Carries, Commits}
 use Rattle.oa_record.specs.Replacement.{is_replacement}
 use Rattle.oa_record.specs.Replies.{ReplyValue}
 use Rattle.oa_store.specs.declared.store.Store.{Store}
@@ -22,47 +22,34 @@ pub few_held : (size count bytes : ℕ) → fills size count bytes ≡ false →
 unfolding fills
 few_held size count bytes small = search rules
 
-module _ {D : Type 0} {g : Ghosts D} (old new : Store D g) (was : old.stopped ≡ false) where
-  -- what a call says of the device
-  pub goes : g.is_honest new.disk ≡ g.is_honest old.disk → g.failures_of old.disk ≤ g.failures_of new.disk → new.bank.shape ≡ old.bank.shape
-      → (new.stopped ≡ true → g.failures_of new.disk < 2 ^ 64 - 1 → g.failures_of old.disk < g.failures_of new.disk)
-      → (new.stopped ≡ false → g.failures_of new.disk ≡ g.failures_of old.disk) → Goes old new
-  goes honest failures shape stops unfailed =
-      record { honest = honest; failures = failures; shape = shape; stops = λ going. stops; stays = λ stopped. absurd (true≢false (sym stopped ∙ was)); unfailed = unfailed }
+module _ {D : Type 0} {g : Ghosts D} (old new : Store D g) (state : State) (pending : List ReplyValue) (events events' : List ℕ) (says : Goes old new)
+    (commits : Commits events old new) (quiet : length events ≡ 0 → (new.disk ≡ old.disk) × (new.stopped ≡ false))
+    (calls : IsTrue (g.is_honest old.disk) → g.moment new.disk ≤ g.moment old.disk + 8) (chosen : new.chosen ≡ old.chosen) where
+  -- the group is committed
+  pub settled : events' ≡ [] → new.stopped ≡ false → IsSettled requests pending (desk old state pending events) (desk new state [] events')
+  settled empty going = record {
+    state = refl;
+    well = λ goes_on. (refl, refl, empty);
+    broken = λ stopped. absurd (true≢false (sym stopped ∙ going));
+    quiet = quiet;
+    calls = calls;
+    chosen = chosen;
+    commits = commits;
+    goes = says;
+  }
 
-  module _ (state : State) (pending : List ReplyValue) (events events' : List ℕ) (says : Goes old new) (library : new.library.items ≡ old.library.items)
-      (any_moment : (committed now : TableValue) → Replays events committed now → AllHold old committed → LeavesEither old new committed now)
-      (each : new.stopped ≡ false → (committed now : TableValue) → Replays events committed now → AllHold old committed → AllHold new now) (quiet : length events ≡ 0 → (new.disk ≡ old.disk) × (new.stopped ≡ false))
-      (calls : IsTrue (g.is_honest old.disk) → g.moment new.disk ≤ g.moment old.disk + 8) (chosen : new.chosen ≡ old.chosen) where
-    -- the group is committed
-    pub settled : events' ≡ [] → new.stopped ≡ false → IsSettled requests pending (desk old state pending events) (desk new state [] events')
-    settled empty going = record {
-      state = refl;
-      well = λ goes_on. (refl, refl, empty);
-      broken = λ stopped. absurd (true≢false (sym stopped ∙ going));
-      quiet = quiet;
-      calls = calls;
-      chosen = chosen;
-      any_moment = λ committed replays all. any_moment committed (held_of state) replays all;
-      each = λ goes_on committed replays all. each goes_on committed (held_of state) replays all;
-      library = library;
-      goes = says;
-    }
-
-    -- it is taken back
-    pub taken_back : (told : List ReplyValue) → told ≡ map withdrawn pending → new.stopped ≡ true → IsSettled requests told (desk old state pending events) (desk new state [] events')
-    taken_back told back stopped = record {
-      state = refl;
-      well = λ goes_on. absurd (true≢false (sym stopped ∙ goes_on));
-      broken = λ stops. back;
-      quiet = quiet;
-      calls = calls;
-      chosen = chosen;
-      any_moment = λ committed replays all. any_moment committed (held_of state) replays all;
-      each = λ goes_on committed replays all. each goes_on committed (held_of state) replays all;
-      library = library;
-      goes = says;
-    }
+  -- it is taken back
+  pub taken_back : (told : List ReplyValue) → told ≡ map withdrawn pending → new.stopped ≡ true → IsSettled requests told (desk old state pending events) (desk new state [] events')
+  taken_back told back stopped = record {
+    state = refl;
+    well = λ goes_on. absurd (true≢false (sym stopped ∙ goes_on));
+    broken = λ stops. back;
+    quiet = quiet;
+    calls = calls;
+    chosen = chosen;
+    commits = commits;
+    goes = says;
+  }
 
 -- nothing in hand
 pub ready_none : {D : Type 0} {g : Ghosts D} (store : Store D g) (size places : ℕ) → 1 ≤ size → size ≤ places → IsReady store size places [] []
@@ -80,18 +67,14 @@ ready_at store size places pending events some place none empty = rw (none, empt
 -- a request is held
 pub held_one : {D : Type 0} {g : Ghosts D} (old new : Store D g) (body : List ℕ) (reply : ReplyValue) (before after : State) (pending pending' : List ReplyValue) (events events' : List ℕ)
     (turn : IsHeldBack body reply events events' before after) → pending' ≡ pending ++ reply ∷ [] → new.stopped ≡ false
-    → ((committed : TableValue) → (length events ≡ 0 → held_of before ≡ committed) → AllHold old committed → LeavesTable old new committed)
-    → ((committed : TableValue) → (length events ≡ 0 → held_of before ≡ committed) → AllHold old committed → AllHold new committed)
-    → CallsWhereDue old new before events body → Goes old new → is_replacement body ≡ false → new.library.items ≡ old.library.items → IsHeld requests (entry body reply turn.event) (desk old before pending events) (desk new after pending' events')
-held_one old new body reply before after pending pending' events events' turn more going any_moment each calls says plain library = record {
+    → Carries events (held_of before) old new → CallsWhereDue old new before events body → Goes old new → is_replacement body ≡ false → IsHeld requests (entry body reply turn.event) (desk old before pending events) (desk new after pending' events')
+held_one old new body reply before after pending pending' events events' turn more going carries calls says plain = record {
   turn = turn.asked;
   plain = plain;
   pending = more;
   events = turn.added;
   going = going;
   calls = calls;
-  any_moment = any_moment;
-  each = each;
-  library = library;
+  carries = carries;
   goes = says;
 }

@@ -1,7 +1,8 @@
 -- What one body is answered over a store, and what a stop at any moment of that leaves.
 use Rattle.std.specs.Prelude.{◌≡◌, ◌⊎◌, ℕ, true, false, List, [], ◌∷◌, map}
 use Rattle.oa_disk.specs.declared.disk.Disk.{Ghosts}
-use Rattle.oa_groups.specs.Served.{Goes, IsServed}
+use Rattle.oa_groups.specs.Served.{IsServed}
+use Rattle.oa_store.specs.Writing.{Goes}
 use Rattle.oa_groups.specs.Desks.{IsReplaced, LeavesState}
 use Rattle.oa_groups.specs.Runs.{AllHoldState, HoldsState}
 use Rattle.oa_groups.specs.Turns.{entry}

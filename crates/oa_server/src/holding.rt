@@ -1,16 +1,16 @@
 //! A turn over a store: the event that it makes is held in a frame until its group ends.
 ghost use Rattle.std.specs.Prelude.{◌≡◌, ◌-◌, ◌<◌, ◌≤◌, ◌++◌, List, ℕ, false, length, true, IfOk, IsErr, IsErrOf, IsOk, OnErr, OnOk};
-ghost use Rattle.oa_groups.specs.Desks.{KeepsCommitted, LeavesCommitted};
-ghost use Rattle.oa_groups.specs.Served.{Goes};
 ghost use Rattle.oa_image.specs.Events.{event as an_event, event_image};
 ghost use Rattle.oa_journal.specs.Replays.{Replays};
 ghost use Rattle.oa_journal.specs.Shapes.{ample_bytes, body_bytes};
+ghost use Rattle.oa_keeper.specs.Holding.{CallsForRoom, Carries, IsOpenFor, StopsAtWrite};
 ghost use Rattle.oa_keeper.specs.Kept.{HasRoom};
 ghost use Rattle.oa_keeper.specs.declared.fault.KeepFault.{KeepFault};
 ghost use Rattle.oa_model.specs.Limits.{max_event_bytes};
 ghost use Rattle.oa_record.specs.Replacement.{is_replacement};
 ghost use Rattle.oa_server.specs.Hands.{CallsWhereDue, HasBanks, IsDueFor};
 ghost use Rattle.oa_server.specs.Requests.{HasTurn, IsHeldBack};
+ghost use Rattle.oa_store.specs.Writing.{Goes};
 ghost use Rattle.oa_table.specs.Events.{BringsNoLocks};
 ghost use Rattle.oa_turn.specs.Decisions.{MakesChange};
 ghost use Rattle.oa_turn.specs.Events.{held_of};
@@ -36,8 +36,7 @@ pub(crate) fn turn_held<D: Disk>(
     body: &[u8],
 ) -> Result<Reply, Broken>
     requires plain { is_replacement body.now ≡ false }
-    requires goes_on { store.old.stopped ≡ false }
-    requires room { HasRoom frame.old store.old }
+    requires open { IsOpenFor frame.old store.old }
     requires banks { HasBanks store.old host.old }
     ensures turn { IfOk result (λ reply. IsHeldBack body.now reply frame.old frame.new host.old host.new) }
     ensures failed { OnErr result (HasTurn body.now host.old host.new) }
@@ -45,15 +44,13 @@ pub(crate) fn turn_held<D: Disk>(
     // The device is called for a checkpoint alone, where one is due before an event of the body.
     ensures calls { CallsWhereDue store.old store.new host.old frame.old body.now }
     ensures due { OnErr result (IsDueFor store.old host.old frame.old body.now) }
-    ensures any_moment { LeavesCommitted frame.old (held_of host.old) store.old store.new }
-    ensures each { store.new.stopped ≡ false → KeepsCommitted frame.old (held_of host.old) store.old store.new }
+    ensures carries { Carries frame.old (held_of host.old) store.old store.new }
     // No checkpoint is made that is not due.
     ensures undue { ample_bytes ≤ body_bytes store.old.bank.shape - store.old.bank.gate → store.new.disk ≡ store.old.disk }
     ensures room { store.new.stopped ≡ false → HasRoom frame.new store.new }
     ensures going { OnOk result (store.new.stopped ≡ false) }
     ensures stops { OnErr result (store.new.stopped ≡ true) }
     ensures goes { Goes store.old store.new }
-    ensures library { store.new.library.items ≡ store.old.library.items }
     ensures banks { HasBanks store.new host.new }
 {
     match host.plan(body) {
@@ -71,8 +68,7 @@ fn hold<D: Disk>(
 ) -> Result<Reply, Broken>
     requires unlocked { BringsNoLocks planned.event }
     requires allowed { IsOk (allowed host.old.bank planned.event host.old.table) }
-    requires goes_on { store.old.stopped ≡ false }
-    requires room { HasRoom frame.old store.old }
+    requires open { IsOpenFor frame.old store.old }
     requires banks { HasBanks store.old host.old }
     ensures turn { IfOk result (λ reply. (body : List ℕ) → is_replacement body ≡ false → IsPlanned host.old body planned
         → IsHeldBack body reply frame.old frame.new host.old host.new) }
@@ -83,15 +79,13 @@ fn hold<D: Disk>(
         → CallsWhereDue store.old store.new host.old frame.old body }
     ensures due { OnErr result ((body : List ℕ) → is_replacement body ≡ false → IsPlanned host.old body planned
         → IsDueFor store.old host.old frame.old body) }
-    ensures any_moment { LeavesCommitted frame.old (held_of host.old) store.old store.new }
-    ensures each { store.new.stopped ≡ false → KeepsCommitted frame.old (held_of host.old) store.old store.new }
+    ensures carries { Carries frame.old (held_of host.old) store.old store.new }
     // No checkpoint is made that is not due.
     ensures undue { ample_bytes ≤ body_bytes store.old.bank.shape - store.old.bank.gate → store.new.disk ≡ store.old.disk }
     ensures room { store.new.stopped ≡ false → HasRoom frame.new store.new }
     ensures going { OnOk result (store.new.stopped ≡ false) }
     ensures stops { OnErr result (store.new.stopped ≡ true) }
     ensures goes { Goes store.old store.new }
-    ensures library { store.new.library.items ≡ store.old.library.items }
     ensures banks { HasBanks store.new host.new }
 {
     one_request();
@@ -115,30 +109,20 @@ fn hold_change<D: Disk>(
 ) -> Result<(), KeepFault>
     requires unlocked { BringsNoLocks event }
     requires allowed { IsOk (allowed host.old.bank event host.old.table) }
-    requires goes_on { store.old.stopped ≡ false }
-    requires room { HasRoom frame.old store.old }
+    requires open { IsOpenFor frame.old store.old }
     requires banks { HasBanks store.old host.old }
     ensures change { MakesChange event host.old host.new result }
     ensures replays { OnOk result (Replays (event_image event) (held_of host.old) (held_of host.new)) }
     ensures small { OnOk result (length (event_image event) ≤ max_event_bytes) }
     ensures some { OnOk result (0 < length (event_image event)) }
-    // It is the first event of a group before which the device is called.
-    ensures quiet { 0 < length frame.old → store.new.disk ≡ store.old.disk }
-    ensures first { IsErrOf result KeepFault.Write → length frame.old ≡ 0 }
-    ensures due { IsErrOf result KeepFault.Write → body_bytes store.old.bank.shape - store.old.bank.gate < ample_bytes }
+    // It is the first event of a group before which the device is called, and no checkpoint is made that is not due.
+    ensures calls { CallsForRoom frame.old frame.new store.old store.new result }
     ensures is { an_event.Is event }
     ensures event { OnOk result (frame.new ≡ frame.old ++ event_image event) }
     ensures same { OnErr result (frame.new ≡ frame.old) }
-    ensures any_moment { LeavesCommitted frame.old (held_of host.old) store.old store.new }
-    ensures each { store.new.stopped ≡ false → KeepsCommitted frame.old (held_of host.old) store.old store.new }
-    // No checkpoint is made that is not due.
-    ensures undue { ample_bytes ≤ body_bytes store.old.bank.shape - store.old.bank.gate → store.new.disk ≡ store.old.disk }
-    ensures room { store.new.stopped ≡ false → HasRoom frame.new store.new }
-    ensures going { (IsErrOf result KeepFault.Write → ⊥) → store.new.stopped ≡ false }
-    ensures stops { IsErrOf result KeepFault.Write → store.new.stopped ≡ true }
+    ensures carries { Carries frame.old (held_of host.old) store.old store.new }
+    ensures stops { StopsAtWrite store.old store.new result }
     ensures goes { Goes store.old store.new }
-    ensures library { store.new.library.items ≡ store.old.library.items }
-    ensures shape { store.new.bank.shape ≡ store.old.bank.shape }
 {
     is_event(&event);
     make_room(store, host.table(), frame)?;

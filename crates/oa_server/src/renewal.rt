@@ -2,7 +2,7 @@
 ghost use Rattle.std.specs.Prelude.{◌≡◌, ◌⊎◌, false, true, IfOk, OnErr, OnOk};
 ghost use Rattle.oa_groups.specs.Desks.{LeavesState};
 ghost use Rattle.oa_groups.specs.Runs.{AllHoldState, HoldsState};
-ghost use Rattle.oa_groups.specs.Served.{Goes};
+ghost use Rattle.oa_store.specs.Writing.{Goes};
 ghost use Rattle.oa_record.specs.Replies.{ReplyValue};
 ghost use Rattle.oa_server.specs.Hands.{HasBanks};
 ghost use Rattle.oa_server.specs.Requests.{requests};

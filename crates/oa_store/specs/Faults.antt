@@ -3,7 +3,7 @@ use Rattle.std.specs.Prelude.{◌≡◌, ◌≢◌, ◌⊎◌, ℕ, ◌+◌, ◌
 use Rattle.oa_disk.specs.Disk.{HasCounted, Only}
 use Rattle.oa_disk.specs.declared.disk.DeviceFault.{DeviceFault}
 use Rattle.oa_disk.specs.declared.disk.DeviceFault.TheVariants as devices
-use Rattle.oa_image.specs.Tables.{table_image}
+use Rattle.oa_image.specs.Tables.{reserved_bytes, table_image}
 use Rattle.oa_model.specs.Limits.{max_library_bytes}
 use Rattle.oa_table.specs.Tables.{TableValue}
 use Rattle.oa_journal.specs.declared.shape.Shape.{Shape}
@@ -14,7 +14,7 @@ use Rattle.oa_store.specs.declared.fault.OpenFault.{OpenFault}
 use Rattle.oa_store.specs.declared.fault.OpenFault.TheVariants.{NotAStore, OldFormat, LibraryDiffers, Damaged, Device, Memory}
 use Rattle.oa_store.specs.declared.fault.UpgradeFault.{UpgradeFault}
 use Rattle.oa_store.specs.declared.fault.UpgradeFault.TheVariants as upgrades
-use Rattle.oa_store.specs.Stores.{beside_table, body_place, head_place, IsFormatted, IsForeign, IsStoreIn}
+use Rattle.oa_store.specs.Stores.{body_place, head_place, IsFormatted, IsForeign, IsStoreIn}
 
 -- it says what stands on the disk
 abbrev pub IsRefusal : OpenFault → Type 0
@@ -169,7 +169,7 @@ pub record IsTooLarge (bank : ℕ) (contents : List ℕ) : Type 0 where
   pub library : List ℕ
   pub table : TableValue
   pub store : IsStoreIn One contents library table
-  pub large : (max_library_bytes < length library) ⊎ (bank < length (table_image table) + beside_table)
+  pub large : (max_library_bytes < length library) ⊎ (bank < length (table_image table) + reserved_bytes)
 
 -- What a refusal of an upgrade to bodies of a size says of a disk of this size and these contents. Memory is asked for once a head of
 -- format 1 is found.

@@ -2,8 +2,8 @@
 ghost use Rattle.std.specs.Prelude.{◌≡◌, ◌≢◌, ◌⊎◌, ◌↔◌, ◌+◌, ◌*◌, ◌-◌, ◌^◌, ◌<◌, ◌≤◌, List, ℕ, true, IsTrue, length, slice_index, OnOk, IfErr};
 ghost use Rattle.std.specs.Prelude.{IsErrOf};
 ghost use Rattle.std.specs.Int.{div_ceil};
-ghost use Rattle.oa_disk.specs.Disk.{LeavesOnly, LeavesStep, HasCounted, Counts, Torn};
-ghost use Rattle.oa_disk.specs.declared.disk.DeviceFault.{DeviceFault};
+ghost use Rattle.oa_disk.specs.After.{AfterAttempt, AfterWrites};
+ghost use Rattle.oa_disk.specs.Disk.{LeavesOnly, LeavesStep, Torn};
 ghost use Rattle.oa_model.specs.Limits.{max_library_bytes};
 ghost use Rattle.oa_table.specs.Tables.{first_table, unlocked_table};
 ghost use Rattle.oa_image.specs.Tables.{is_numbered};
@@ -12,6 +12,7 @@ ghost use Rattle.oa_journal.specs.declared.shape.Shape.TheVariants.{Two};
 ghost use Rattle.oa_store.specs.Stores.{IsStoreAt};
 ghost use Rattle.oa_store.specs.Calls.{format_calls};
 ghost use Rattle.oa_store.specs.Changes.{IsFormatting, HasBank};
+ghost use Rattle.oa_store.specs.Making.{RefusesSmall};
 ghost use Rattle.oa_journal.specs.Banks.{first_gate};
 
 use crate::FormatFault;
@@ -28,11 +29,7 @@ fn close<D: Disk>(disk: &mut D) -> Result<(), DeviceFault>
     ensures any_moment { IsTrue (D.is_honest disk.old)
         → LeavesStep D.moment D.image_since D.image disk.old disk.new (Torn 0 1) }
     ensures done { OnOk result (IsTrue (D.is_honest disk.old) → (c : List ℕ) → D.image disk.new c → slice_index c 0 ≡ 0) }
-    ensures size { D.size_of disk.new ≡ D.size_of disk.old }
-    ensures honest { D.is_honest disk.new ≡ D.is_honest disk.old }
-    ensures counts { Counts (D.failures_of disk.old) (D.failures_of disk.new) result }
-    ensures fault { IfErr result (λ e. e ≡ DeviceFault.Write) }
-    ensures calls { IsTrue (D.is_honest disk.old) → D.moment disk.new ≤ D.moment disk.old + 4 }
+    ensures after { AfterWrites D.Disk 2 disk.old disk.new result }
 {
     disk.write_at(0, &[0])?;
     disk.sync()
@@ -57,12 +54,7 @@ fn fill<D: Disk>(
         ⊎ HasBank size library.now (unlocked_table table.now) (first_gate library.now table.now) c) }
     ensures done { OnOk result (IsTrue (D.is_honest disk.old) → (c : List ℕ) → D.image disk.new c
         → HasBank size library.now (unlocked_table table.now) (first_gate library.now table.now) c × (slice_index c 0 ≡ 1)) }
-    ensures size { D.size_of disk.new ≡ D.size_of disk.old }
-    ensures honest { D.is_honest disk.new ≡ D.is_honest disk.old }
-    ensures counts { Counts (D.failures_of disk.old) (D.failures_of disk.new) result }
-    ensures fault { IfErr result (λ e. e ≡ DeviceFault.Write) }
-    ensures calls { IsTrue (D.is_honest disk.old) → D.moment disk.new
-        ≤ D.moment disk.old + 2 * (5 + div_ceil (1 + first_gate library.now table.now) (length buffer.old)) }
+    ensures after { AfterWrites D.Disk (5 + div_ceil (1 + first_gate library.now table.now) (length buffer.old)) disk.old disk.new result }
 {
     bank_of(Shape::Two(size), 0).start(disk, buffer, library, table)?;
     disk.write_at(SELECTOR, &[0])?;
@@ -87,16 +79,9 @@ pub fn format<D: Disk>(
         → LeavesOnly D.moment D.image_since disk.old disk.new (IsFormatting size (D.image disk.old) library.now) }
     ensures done { OnOk result (IsTrue (D.is_honest disk.old) → (c : List ℕ) → D.image disk.new c
         → IsStoreAt (Two size) 0 (first_gate library.now first_table) library.now first_table c) }
-    ensures small { IsErrOf result FormatFault.TooSmall ↔ (D.size_of disk.old < 33562624 + 2 * size) }
-    ensures small_same { IsErrOf result FormatFault.TooSmall → disk.new ≡ disk.old }
+    ensures small { RefusesSmall D.Disk FormatFault.TooSmall size disk.old disk.new result }
     ensures memory { IsErrOf result FormatFault.Memory → disk.new ≡ disk.old }
-    ensures device { (fault : DeviceFault) → IsErrOf result (FormatFault.Device fault)
-        → (fault ≡ DeviceFault.Write) × HasCounted (D.failures_of disk.old) (D.failures_of disk.new) }
-    ensures size { D.size_of disk.new ≡ D.size_of disk.old }
-    ensures honest { D.is_honest disk.new ≡ D.is_honest disk.old }
-    ensures unfailed { OnOk result (D.failures_of disk.new ≡ D.failures_of disk.old) }
-    ensures failures { D.failures_of disk.old ≤ D.failures_of disk.new }
-    ensures calls { IsTrue (D.is_honest disk.old) → D.moment disk.new ≤ D.moment disk.old + 2 * format_calls library.now }
+    ensures after { AfterAttempt D.Disk FormatFault.Device (format_calls library.now) disk.old disk.new result }
 {
     if disk.size() < Shape::Two(size).disk_bytes() {
         return Err(FormatFault::TooSmall);

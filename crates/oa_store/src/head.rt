@@ -1,5 +1,6 @@
 //! The bytes before the banks: the first one, and the selector.
 ghost use Rattle.std.specs.Prelude.{◌≡◌, ◌⊎◌, ◌+◌, ◌-◌, ◌^◌, ◌<◌, ◌≤◌, ℕ, List, Option, IsTrue, length, vec_capacity, slice_index, OnOk, IfOk, IfErr, IsErrOf};
+ghost use Rattle.oa_disk.specs.After.{AfterCalls};
 ghost use Rattle.oa_disk.specs.Disk.{Counts, Only};
 ghost use Rattle.oa_disk.specs.declared.disk.DeviceFault.{DeviceFault};
 ghost use Rattle.oa_model.specs.Limits.{max_library_bytes};
@@ -91,10 +92,7 @@ pub(crate) fn find_bank<D: Disk>(disk: &mut D) -> Result<u8, OpenFault>
         → IsForeign (D.size_of disk.old) (D.contents disk.old) }
     ensures contents { OnOk result (IsTrue (D.is_honest disk.new) → D.contents disk.new ≡ D.contents disk.old) }
     ensures reads { IsTrue (D.is_honest disk.new) → WritesNothing D.image D.moment D.image_since disk.old disk.new }
-    ensures size { D.size_of disk.new ≡ D.size_of disk.old }
-    ensures honest { IsTrue (D.is_honest disk.new) → IsTrue (D.is_honest disk.old) }
-    ensures unfailed { OnOk result (D.failures_of disk.new ≡ D.failures_of disk.old) }
-    ensures failures { D.failures_of disk.old ≤ D.failures_of disk.new }
+    ensures after { AfterCalls D.Disk disk.old disk.new result }
     ensures cause { IfErr result (IsCaused (D.failures_of disk.old) (D.failures_of disk.new)) }
     ensures tells { IfErr result (λ e. IsTrue (D.is_honest disk.new) → Tells (D.contents disk.old) (D.image disk.old) (D.image disk.new) e) }
     // at most three calls
@@ -132,10 +130,7 @@ pub(crate) fn find_head<D: Disk>(disk: &mut D) -> Result<(u8, Head), OpenFault>
     ensures any { IfErr result IsHead }
     ensures contents { OnOk result (IsTrue (D.is_honest disk.new) → D.contents disk.new ≡ D.contents disk.old) }
     ensures reads { IsTrue (D.is_honest disk.new) → WritesNothing D.image D.moment D.image_since disk.old disk.new }
-    ensures size { D.size_of disk.new ≡ D.size_of disk.old }
-    ensures honest { IsTrue (D.is_honest disk.new) → IsTrue (D.is_honest disk.old) }
-    ensures unfailed { OnOk result (D.failures_of disk.new ≡ D.failures_of disk.old) }
-    ensures failures { D.failures_of disk.old ≤ D.failures_of disk.new }
+    ensures after { AfterCalls D.Disk disk.old disk.new result }
     ensures cause { IfErr result (IsCaused (D.failures_of disk.old) (D.failures_of disk.new)) }
     ensures tells { IfErr result (λ e. IsTrue (D.is_honest disk.new) → Tells (D.contents disk.old) (D.image disk.old) (D.image disk.new) e) }
     ensures calls { IsTrue (D.is_honest disk.new) → D.moment disk.new ≤ D.moment disk.old + 8 }
@@ -180,10 +175,7 @@ pub(crate) fn find_room<D: Disk>(alloc: Global, disk: &mut D) -> Result<Room, Op
     ensures early { IfErr result (λ e. IsTrue (D.is_honest disk.new) → IsForeign (D.size_of disk.old) (D.contents disk.old) → IsEarly e) }
     ensures contents { OnOk result (IsTrue (D.is_honest disk.new) → D.contents disk.new ≡ D.contents disk.old) }
     ensures reads { IsTrue (D.is_honest disk.new) → WritesNothing D.image D.moment D.image_since disk.old disk.new }
-    ensures size { D.size_of disk.new ≡ D.size_of disk.old }
-    ensures honest { IsTrue (D.is_honest disk.new) → IsTrue (D.is_honest disk.old) }
-    ensures unfailed { OnOk result (D.failures_of disk.new ≡ D.failures_of disk.old) }
-    ensures failures { D.failures_of disk.old ≤ D.failures_of disk.new }
+    ensures after { AfterCalls D.Disk disk.old disk.new result }
     ensures cause { IfErr result (IsCaused (D.failures_of disk.old) (D.failures_of disk.new)) }
     ensures tells { IfErr result (λ e. IsTrue (D.is_honest disk.new) → Tells (D.contents disk.old) (D.image disk.old) (D.image disk.new) e) }
     ensures calls { IsTrue (D.is_honest disk.new) → D.moment disk.new ≤ D.moment disk.old + 8 }

@@ -20,5 +20,5 @@ pub use fault::{CheckpointFault, CommitFault, FormatFault, OpenFault, UpgradeFau
 pub use formatting::format;
 pub use head::STORE_BYTES;
 pub use opening::inspect;
-pub use store::{AMPLE_ROOM, BESIDE_TABLE, Store};
+pub use store::Store;
 pub use upgrading::upgrade;

@@ -2,6 +2,7 @@
 ghost use Rattle.std.specs.Prelude.{◌≡◌, ◌↔◌, ◌+◌, ◌-◌, ◌^◌, ◌<◌, ◌≤◌, ℕ, List, true, false, Some, None, IsTrue, OnOk, IfOk, IfErr};
 ghost use Rattle.std.specs.Prelude.{IsErrOf, length, vec_capacity};
 ghost use Rattle.oa_model.specs.Limits.{max_library_bytes};
+ghost use Rattle.oa_disk.specs.After.{AfterCalls};
 ghost use Rattle.oa_disk.specs.Disk.{Only};
 ghost use Rattle.oa_image.specs.Tables.{is_numbered};
 ghost use Rattle.oa_table.specs.Tables.{unlocked_table};
@@ -14,6 +15,7 @@ ghost use Rattle.oa_journal.specs.declared.shape.Shape.TheVariants.{Two};
 ghost use Rattle.oa_store.specs.declared.fault.OpenFault.{OpenFault};
 ghost use Rattle.oa_store.specs.Calls.{piece_bytes};
 ghost use Rattle.oa_store.specs.Faults.{IsEarly, IsLate, IfDamaged, IsCaused, Says, Tells};
+ghost use Rattle.oa_store.specs.Openings.{FindsAny, RefusesAny};
 ghost use Rattle.oa_store.specs.Reads.{WritesNothing};
 ghost use Rattle.oa_store.specs.Stores.{body_place, head_place, IsForeign, IsFormatted, IsStoreAt, IsStore};
 
@@ -54,10 +56,7 @@ fn read_library<D: Disk>(alloc: Global, disk: &mut D, bank: &mut Bank) -> Result
     ensures cause { IfErr result (IsCaused (D.failures_of disk.old) (D.failures_of disk.new)) }
     ensures contents { IsTrue (D.is_honest disk.new) → D.contents disk.new ≡ D.contents disk.old }
     ensures reads { IsTrue (D.is_honest disk.new) → WritesNothing D.image D.moment D.image_since disk.old disk.new }
-    ensures size { D.size_of disk.new ≡ D.size_of disk.old }
-    ensures honest { IsTrue (D.is_honest disk.new) → IsTrue (D.is_honest disk.old) }
-    ensures unfailed { OnOk result (D.failures_of disk.new ≡ D.failures_of disk.old) }
-    ensures failures { D.failures_of disk.old ≤ D.failures_of disk.new }
+    ensures after { AfterCalls D.Disk disk.old disk.new result }
     ensures calls { IsTrue (D.is_honest disk.new) → D.moment disk.new ≤ D.moment disk.old + 4 }
 {
     match bank.read_library(alloc, disk) {
@@ -91,10 +90,7 @@ fn read_all<D: Disk>(
     ensures cause { IfErr result (IsCaused (D.failures_of disk.old) (D.failures_of disk.new)) }
     ensures contents { IsTrue (D.is_honest disk.new) → D.contents disk.new ≡ D.contents disk.old }
     ensures reads { IsTrue (D.is_honest disk.new) → WritesNothing D.image D.moment D.image_since disk.old disk.new }
-    ensures size { D.size_of disk.new ≡ D.size_of disk.old }
-    ensures honest { IsTrue (D.is_honest disk.new) → IsTrue (D.is_honest disk.old) }
-    ensures unfailed { OnOk result (D.failures_of disk.new ≡ D.failures_of disk.old) }
-    ensures failures { D.failures_of disk.old ≤ D.failures_of disk.new }
+    ensures after { AfterCalls D.Disk disk.old disk.new result }
     ensures calls { IfOk result (λ r. IsTrue (D.is_honest disk.new)
         → D.moment disk.new + length r.0.items ≤ D.moment disk.old + (8 + bank.new.gate)) }
 {
@@ -146,9 +142,7 @@ pub(crate) fn find_store<D: Disk>(
     ensures says { IfErr result (λ e. IsTrue (D.is_honest disk.new)
         → Says (Some library.now) (D.size_of disk.old) (D.contents disk.old) e) }
     ensures early { IfErr result (λ e. IsTrue (D.is_honest disk.new) → IsForeign (D.size_of disk.old) (D.contents disk.old) → IsEarly e) }
-    ensures size { D.size_of disk.new ≡ D.size_of disk.old }
-    ensures honest { IsTrue (D.is_honest disk.new) → IsTrue (D.is_honest disk.old) }
-    ensures unfailed { OnOk result (D.failures_of disk.new ≡ D.failures_of disk.old) }
+    ensures after { AfterCalls D.Disk disk.old disk.new result }
     ensures cause { IfErr result (IsCaused (D.failures_of disk.old) (D.failures_of disk.new)) }
     ensures tells { IfErr result (λ e. IsTrue (D.is_honest disk.new) → Tells (D.contents disk.old) (D.image disk.old) (D.image disk.new) e) }
     ensures calls { IfOk result (λ f. IsTrue (D.is_honest disk.new)
@@ -212,10 +206,7 @@ pub(crate) fn look<D: Disk>(
     ensures cause { IfErr result (IsCaused (D.failures_of disk.old) (D.failures_of disk.new)) }
     ensures contents { IsTrue (D.is_honest disk.new) → D.contents disk.new ≡ D.contents disk.old }
     ensures reads { IsTrue (D.is_honest disk.new) → WritesNothing D.image D.moment D.image_since disk.old disk.new }
-    ensures size { D.size_of disk.new ≡ D.size_of disk.old }
-    ensures honest { IsTrue (D.is_honest disk.new) → IsTrue (D.is_honest disk.old) }
-    ensures unfailed { OnOk result (D.failures_of disk.new ≡ D.failures_of disk.old) }
-    ensures failures { D.failures_of disk.old ≤ D.failures_of disk.new }
+    ensures after { AfterCalls D.Disk disk.old disk.new result }
     ensures calls { IfOk result (λ r. IsTrue (D.is_honest disk.new)
         → D.moment disk.new + length r.0.items ≤ D.moment disk.old + (8 + r.2.gate)) }
 {
@@ -229,24 +220,10 @@ pub(crate) fn look<D: Disk>(
 /// The library and the table of the store that is on the disk, whichever library it is, in either format. It writes nothing, and begins
 /// with a sync.
 pub fn inspect<D: Disk>(alloc: Global, disk: &mut D) -> Result<(Vec<u8>, Table), OpenFault>
-    ensures found { IfOk result (λ r. IsTrue (D.is_honest disk.new) → (c : List ℕ) → D.image disk.new c → IsStore c r.0.items r.1) }
-    ensures contents { IfOk result (λ r. IsTrue (D.is_honest disk.new) → IsStore (D.contents disk.old) r.0.items r.1) }
-    ensures numbered { IfOk result (λ r. is_numbered r.1 ≡ true) }
-    ensures unlocked { IfOk result (λ r. unlocked_table r.1 ≡ r.1) }
-    ensures says { IfErr result (λ e. IsTrue (D.is_honest disk.new) → Says None (D.size_of disk.old) (D.contents disk.old) e) }
-    ensures early { IfErr result (λ e. IsTrue (D.is_honest disk.new) → IsForeign (D.size_of disk.old) (D.contents disk.old) → IsEarly e) }
-    ensures any_library { IsErrOf result OpenFault.LibraryDiffers → ⊥ }
-    ensures any_format { IsErrOf result OpenFault.OldFormat → ⊥ }
+    ensures found { IfOk result (λ r. FindsAny D.Disk disk.old disk.new r.0.items r.1) }
+    ensures refused { IfErr result (λ e. RefusesAny D.Disk disk.old disk.new e) }
     ensures reads { IsTrue (D.is_honest disk.new) → WritesNothing D.image D.moment D.image_since disk.old disk.new }
-    ensures size { D.size_of disk.new ≡ D.size_of disk.old }
-    ensures honest { IsTrue (D.is_honest disk.new) → IsTrue (D.is_honest disk.old) }
-    ensures unfailed { OnOk result (D.failures_of disk.new ≡ D.failures_of disk.old) }
-    ensures cause { IfErr result (IsCaused (D.failures_of disk.old) (D.failures_of disk.new)) }
-    // Read is told once all that was written is on the device, and Write where the sync at the start failed.
-    ensures tells { IfErr result (λ e. IsTrue (D.is_honest disk.new) → Tells (D.contents disk.old) (D.image disk.old) (D.image disk.new) e) }
-    // at most eight calls, and one for two bytes of snapshot and groups
-    ensures calls { IfOk result (λ r. IsTrue (D.is_honest disk.new) → (is : IsStore (D.contents disk.old) r.0.items r.1)
-        × (D.moment disk.new + length r.0.items ≤ D.moment disk.old + (16 + is.1.1))) }
+    ensures after { AfterCalls D.Disk disk.old disk.new result }
 {
     let (chosen, head) = match find_head(disk) {
         Ok(found) => found,

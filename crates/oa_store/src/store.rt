@@ -1,37 +1,24 @@
 //! A store that is open.
-ghost use Rattle.std.specs.Prelude.{◌≡◌, ◌↔◌, ◌+◌, ◌*◌, ◌-◌, ◌^◌, ◌<◌, ◌≤◌, List, ℕ, Bool, true, false, Some, IsTrue, length, OnOk, OnErr};
-ghost use Rattle.std.specs.Prelude.{IfOk, IfErr, IsErr, IsErrOf, vec_capacity};
-ghost use Rattle.oa_disk.specs.Disk.{LeavesStep, HasCounted, Follows};
-ghost use Rattle.oa_disk.specs.declared.disk.DeviceFault.{DeviceFault};
+ghost use Rattle.std.specs.Prelude.{◌≡◌, ◌↔◌, ◌+◌, ◌*◌, ◌-◌, ◌<◌, ◌≤◌, false, true, IsTrue, length, IfErr, IfOk, vec_capacity};
+ghost use Rattle.oa_disk.specs.After.{AfterCalls, Leaves};
 ghost use Rattle.oa_model.specs.Limits.{max_library_bytes};
-ghost use Rattle.oa_table.specs.Tables.{TableValue, unlocked_table};
-ghost use Rattle.oa_image.specs.Tables.{is_numbered, table_image};
-ghost use Rattle.oa_journal.specs.Shapes.{body_bytes, disk_bytes, format_of};
-ghost use Rattle.oa_journal.specs.declared.shape.Shape.TheVariants.{Two};
+ghost use Rattle.oa_table.specs.Tables.{unlocked_table};
+ghost use Rattle.oa_image.specs.Tables.{is_numbered, reserved_bytes, table_image};
+ghost use Rattle.oa_journal.specs.Shapes.{ample_bytes, body_bytes, disk_bytes, format_of};
 ghost use Rattle.oa_journal.specs.Append.{group_of};
 ghost use Rattle.oa_journal.specs.Banks.{first_gate};
-ghost use Rattle.oa_store.specs.declared.fault.CommitFault.{CommitFault};
-ghost use Rattle.oa_store.specs.declared.fault.CheckpointFault.{CheckpointFault};
-ghost use Rattle.oa_store.specs.declared.fault.OpenFault.{OpenFault};
 ghost use Rattle.oa_store.specs.Calls.{piece_bytes, checkpoint_calls};
 ghost use Rattle.oa_store.specs.Changes.{IsCommit, IsCommitted, IsReplacement, IsReplaced, IsSwitch, IsSwitched};
-ghost use Rattle.oa_store.specs.Faults.{IsRefusal, IsEarly, IsCaused, Says, Tells};
 ghost use Rattle.oa_store.specs.Reads.{WritesNothing};
-ghost use Rattle.oa_store.specs.Stores.{ample_room, beside_table, body_place, head_place, IsForeign, IsStoreAt, IsNewStore};
+ghost use Rattle.oa_store.specs.Stores.{body_place, head_place};
 
 use crate::opening::find_store;
 use crate::switching::switch_to;
 use crate::{CheckpointFault, CommitFault, OpenFault};
 use oa_disk::Disk;
-use oa_journal::{AppendFault, Bank};
+use oa_journal::{AMPLE_BYTES, AppendFault, Bank};
 use oa_table::Table;
 use std::alloc::Global;
-
-/// How many bytes the bank in use has at least from its closed gate on, where no checkpoint is due.
-pub const AMPLE_ROOM: u32 = 4_718_597;
-
-/// How many bytes of a body stay beside the image of a table, at least.
-pub const BESIDE_TABLE: u32 = 5_242_880;
 
 /// A store over a disk. Two banks take turns: a commit adds a group to the one that the selector names, a checkpoint goes on in the
 /// other. After a fault of the device it has stopped: it makes no further call, and what it answers then is `Stopped`.
@@ -57,40 +44,23 @@ pub struct Store<D: Disk> {
 }
 
 impl<D: Disk> Store<D> {
+    ghost use Rattle.oa_store.specs.declared.fault.CommitFault.{CommitFault};
+    ghost use Rattle.oa_store.specs.declared.fault.CheckpointFault.{CheckpointFault};
+    ghost use Rattle.oa_store.specs.Openings.{FindsStore, RefusesDisk, Starts};
+    ghost use Rattle.oa_store.specs.Writing.{AddsGroup, Goes, StopsAtFault, SwitchesBank};
+
     /// Opens the store of this library that is on the disk, and answers its table, which has no locks. It writes nothing, and begins with
     /// a sync. A refusal hands the disk back.
     pub fn open(alloc: Global, disk: D, library: &[u8]) -> Result<(Store<D>, Table), (D, OpenFault)>
         requires { length library.now ≤ max_library_bytes }
 
-        // Each image at the end is a store of the answered table, and of that alone.
-        ensures found { IfOk result (λ r. IsTrue (D.is_honest r.0.disk) → (c : List ℕ) → D.image r.0.disk c
-            → IsStoreAt r.0.bank.shape r.0.chosen r.0.bank.gate library.now r.1 c) }
-        // So are the contents at the start, and they of no other.
-        ensures contents { IfOk result (λ r. IsTrue (D.is_honest r.0.disk)
-            → IsStoreAt r.0.bank.shape r.0.chosen r.0.bank.gate library.now r.1 (D.contents disk)) }
-        ensures only { IfOk result (λ r. IsTrue (D.is_honest r.0.disk) → (table : TableValue) → IsNewStore (D.contents disk) library.now table
-            → table ≡ r.1) }
-        // A refusal is true of the contents at the start, and they are no store of this library.
-        ensures says { IfErr result (λ e. IsTrue (D.is_honest e.0) → Says (Some library.now) (D.size_of disk) (D.contents disk) e.1) }
-        ensures refused { IfErr result (λ e. IsRefusal e.1 → IsTrue (D.is_honest e.0) → (table : TableValue)
-            → IsNewStore (D.contents disk) library.now table → ⊥) }
-        // A disk that is too small or not formatted is found to be that before memory is taken.
-        ensures early { IfErr result (λ e. IsTrue (D.is_honest e.0) → IsForeign (D.size_of disk) (D.contents disk) → IsEarly e.1) }
-        ensures starts { IfOk result (λ r. (r.0.stopped ≡ false) × (r.0.library.items ≡ library.now) × (is_numbered r.1 ≡ true)) }
-        ensures unlocked { IfOk result (λ r. unlocked_table r.1 ≡ r.1) }
+        ensures found { IfOk result (λ r. FindsStore D.Disk library.now disk r.0 r.1) }
+        ensures starts { IfOk result (λ r. Starts library.now r.0 r.1) }
+        ensures refused { IfErr result (λ e. RefusesDisk D.Disk library.now disk e.0 e.1) }
         ensures reads { IfOk result (λ r. IsTrue (D.is_honest r.0.disk) → WritesNothing D.image D.moment D.image_since disk r.0.disk) }
         ensures reads_err { IfErr result (λ e. IsTrue (D.is_honest e.0) → WritesNothing D.image D.moment D.image_since disk e.0) }
-        ensures honest { IfOk result (λ r. IsTrue (D.is_honest r.0.disk) → IsTrue (D.is_honest disk)) }
-        ensures honest_err { IfErr result (λ e. IsTrue (D.is_honest e.0) → IsTrue (D.is_honest disk)) }
-        ensures size { IfOk result (λ r. D.size_of r.0.disk ≡ D.size_of disk) }
-        ensures size_err { IfErr result (λ e. D.size_of e.0 ≡ D.size_of disk) }
-        ensures unfailed { IfOk result (λ r. D.failures_of r.0.disk ≡ D.failures_of disk) }
-        ensures cause { IfErr result (λ e. IsCaused (D.failures_of disk) (D.failures_of e.0) e.1) }
-        // Read is told once all that was written is on the device, and Write where the sync at the start failed.
-        ensures tells { IfErr result (λ e. IsTrue (D.is_honest e.0) → Tells (D.contents disk) (D.image disk) (D.image e.0) e.1) }
-        // At most ten calls, and one for two bytes of snapshot and groups.
-        ensures calls { IfOk result (λ r. IsTrue (D.is_honest r.0.disk)
-            → D.moment r.0.disk + length library.now ≤ D.moment disk + (20 + r.0.bank.gate)) }
+        ensures after { IfOk result (λ r. AfterCalls D.Disk disk r.0.disk result) }
+        ensures after_err { IfErr result (λ e. AfterCalls D.Disk disk e.0 result) }
     {
         let mut disk = disk;
         match find_store(alloc, &mut disk, library) {
@@ -125,9 +95,9 @@ impl<D: Disk> Store<D> {
 
     /// Whether a checkpoint is to be made before the next group.
     pub fn checkpoint_due(&self) -> bool
-        ensures { IsTrue result ↔ (body_bytes self.now.bank.shape - self.now.bank.gate < ample_room) }
+        ensures { IsTrue result ↔ (body_bytes self.now.bank.shape - self.now.bank.gate < ample_bytes) }
     {
-        self.room() < AMPLE_ROOM
+        self.room() < AMPLE_BYTES
     }
 
     /// Whether a call of the device has failed, after which the store makes no further one.
@@ -160,31 +130,13 @@ impl<D: Disk> Store<D> {
         requires some { 5 < length frame.old }
         requires fits { self.old.bank.gate + length frame.old < body_bytes self.old.bank.shape }
 
-        // A crash at any moment leaves the store of before, with the group or without it.
-        ensures any_moment { IsTrue (D.is_honest self.old.disk)
-            → LeavesStep D.moment D.image_since D.image self.old.disk self.new.disk
-            (IsCommit self.old.bank.shape self.old.chosen self.old.bank.gate (group_of frame.old)) }
-        // And at `Ok` with it.
-        ensures done { OnOk result (IsTrue (D.is_honest self.old.disk)
-            → Follows (IsCommitted self.old.bank.shape self.old.chosen self.old.bank.gate (group_of frame.old)) (D.image self.old.disk)
-            (D.image self.new.disk)) }
-        ensures gate { OnOk result (self.new.bank.gate ≡ self.old.bank.gate + (5 + length (group_of frame.old))) }
-        ensures refused { OnErr result (self.new.bank.gate ≡ self.old.bank.gate) }
+        // A crash at any moment leaves the store of before, with the group or without it; and at `Ok` with it.
+        ensures leaves { Leaves D.Disk (IsCommit self.old.bank.shape self.old.chosen self.old.bank.gate (group_of frame.old))
+            (IsCommitted self.old.bank.shape self.old.chosen self.old.bank.gate (group_of frame.old)) self.old.disk self.new.disk result }
+        ensures adds { AddsGroup frame.old self.old self.new result }
         ensures kept { group_of frame.new ≡ group_of frame.old }
-        ensures chosen { self.new.chosen ≡ self.old.chosen }
-        ensures shape { self.new.bank.shape ≡ self.old.bank.shape }
-        ensures library { self.new.library.items ≡ self.old.library.items }
-        ensures goes_on { OnOk result (self.new.stopped ≡ false) }
-        ensures stops { OnErr result (self.new.stopped ≡ true) }
-        ensures stopped { IsErrOf result CommitFault.Stopped ↔ (self.old.stopped ≡ true) }
-        ensures stopped_same { self.old.stopped ≡ true → self.new.disk ≡ self.old.disk }
-        ensures fault { (fault : DeviceFault) → IsErrOf result (CommitFault.Device fault) → fault ≡ DeviceFault.Write }
-        ensures cause { IsErr result → self.old.stopped ≡ false
-            → HasCounted (D.failures_of self.old.disk) (D.failures_of self.new.disk) }
-        ensures honest { D.is_honest self.new.disk ≡ D.is_honest self.old.disk }
-        ensures unfailed { OnOk result (D.failures_of self.new.disk ≡ D.failures_of self.old.disk) }
-        ensures failures { D.failures_of self.old.disk ≤ D.failures_of self.new.disk }
-        ensures size { D.size_of self.new.disk ≡ D.size_of self.old.disk }
+        ensures stops { StopsAtFault CommitFault.Stopped CommitFault.Device self.old self.new result }
+        ensures goes { Goes self.old self.new }
         // At most four calls.
         ensures calls { IsTrue (D.is_honest self.old.disk) → D.moment self.new.disk ≤ D.moment self.old.disk + 8 }
     {
@@ -206,35 +158,19 @@ impl<D: Disk> Store<D> {
     ///
     /// That the table, its locks apart, is the committed one is a premise of what the images hold, not a condition of the call.
     pub fn checkpoint(&mut self, table: &Table) -> Result<(), CheckpointFault>
-        requires fits { length (table_image table.now) + beside_table ≤ body_bytes self.old.bank.shape }
+        requires fits { length (table_image table.now) + reserved_bytes ≤ body_bytes self.old.bank.shape }
         requires numbered { is_numbered table.now ≡ true }
 
-        // A crash at any moment leaves a store of the same table.
-        ensures any_moment { IsTrue (D.is_honest self.old.disk)
-            → LeavesStep D.moment D.image_since D.image self.old.disk self.new.disk
+        // A crash at any moment leaves a store of the same table; and at `Ok` in the other bank.
+        ensures leaves { Leaves D.Disk
             (IsSwitch self.old.bank.shape self.old.chosen self.old.bank.gate self.old.bank.shape (first_gate self.old.library.items table.now)
-            self.old.library.items (unlocked_table table.now)) }
-        // And at `Ok` in the other bank.
-        ensures done { OnOk result (IsTrue (D.is_honest self.old.disk)
-            → Follows (IsSwitched self.old.bank.shape self.old.chosen self.old.bank.gate self.old.bank.shape (first_gate self.old.library.items table.now)
-            self.old.library.items (unlocked_table table.now)) (D.image self.old.disk) (D.image self.new.disk)) }
-        ensures gate { OnOk result (self.new.bank.gate ≡ first_gate self.old.library.items table.now) }
-        ensures room { OnOk result (ample_room ≤ body_bytes self.new.bank.shape - self.new.bank.gate) }
-        ensures shape { self.new.bank.shape ≡ self.old.bank.shape }
-        ensures chosen { OnOk result (self.new.chosen ≡ 1 - self.old.chosen) }
-        ensures refused { OnErr result ((self.new.chosen ≡ self.old.chosen) × (self.new.bank.gate ≡ self.old.bank.gate)) }
-        ensures library { self.new.library.items ≡ self.old.library.items }
-        ensures goes_on { OnOk result (self.new.stopped ≡ false) }
-        ensures stopped { IsErrOf result CheckpointFault.Stopped ↔ (self.old.stopped ≡ true) }
-        ensures stopped_same { self.old.stopped ≡ true → (self.new.disk ≡ self.old.disk) × (self.new.stopped ≡ true) }
-        ensures device { (fault : DeviceFault) → IsErrOf result (CheckpointFault.Device fault)
-            → (self.new.stopped ≡ true) × (fault ≡ DeviceFault.Write) }
-        ensures cause { (fault : DeviceFault) → IsErrOf result (CheckpointFault.Device fault)
-            → HasCounted (D.failures_of self.old.disk) (D.failures_of self.new.disk) }
-        ensures honest { D.is_honest self.new.disk ≡ D.is_honest self.old.disk }
-        ensures unfailed { OnOk result (D.failures_of self.new.disk ≡ D.failures_of self.old.disk) }
-        ensures failures { D.failures_of self.old.disk ≤ D.failures_of self.new.disk }
-        ensures size { D.size_of self.new.disk ≡ D.size_of self.old.disk }
+            self.old.library.items (unlocked_table table.now))
+            (IsSwitched self.old.bank.shape self.old.chosen self.old.bank.gate self.old.bank.shape
+            (first_gate self.old.library.items table.now) self.old.library.items (unlocked_table table.now))
+            self.old.disk self.new.disk result }
+        ensures switches { SwitchesBank self.old.library.items table.now self.old self.new result }
+        ensures stops { StopsAtFault CheckpointFault.Stopped CheckpointFault.Device self.old self.new result }
+        ensures goes { Goes self.old self.new }
         ensures calls { IsTrue (D.is_honest self.old.disk)
             → D.moment self.new.disk ≤ D.moment self.old.disk + 2 * checkpoint_calls self.old.library.items table.now }
     {
@@ -264,37 +200,20 @@ impl<D: Disk> Store<D> {
 
     /// The same with another library, which later checkpoints then have too. Its bytes are kept in room that `open` has reserved.
     pub fn checkpoint_with(&mut self, library: &[u8], table: &Table) -> Result<(), CheckpointFault>
-        requires fits { length (table_image table.now) + beside_table ≤ body_bytes self.old.bank.shape }
+        requires fits { length (table_image table.now) + reserved_bytes ≤ body_bytes self.old.bank.shape }
         requires numbered { is_numbered table.now ≡ true }
         requires short { length library.now ≤ max_library_bytes }
 
-        // A crash at any moment leaves the store of before, or one of the other library and the same table.
-        ensures any_moment { IsTrue (D.is_honest self.old.disk)
-            → LeavesStep D.moment D.image_since D.image self.old.disk self.new.disk
+        // A crash at any moment leaves the store of before, or one of the other library and the same table; and at `Ok` the latter.
+        ensures leaves { Leaves D.Disk
             (IsReplacement self.old.bank.shape self.old.chosen self.old.bank.gate self.old.bank.shape (first_gate library.now table.now)
-            self.old.library.items library.now (unlocked_table table.now)) }
-        // And at `Ok` the latter.
-        ensures done { OnOk result (IsTrue (D.is_honest self.old.disk)
-            → Follows (IsReplaced self.old.bank.shape self.old.chosen self.old.bank.gate self.old.bank.shape (first_gate library.now table.now)
-            self.old.library.items library.now (unlocked_table table.now)) (D.image self.old.disk) (D.image self.new.disk)) }
-        ensures gate { OnOk result (self.new.bank.gate ≡ first_gate library.now table.now) }
-        ensures room { OnOk result (ample_room ≤ body_bytes self.new.bank.shape - self.new.bank.gate) }
-        ensures shape { self.new.bank.shape ≡ self.old.bank.shape }
-        ensures chosen { OnOk result (self.new.chosen ≡ 1 - self.old.chosen) }
-        ensures refused { OnErr result ((self.new.chosen ≡ self.old.chosen) × (self.new.bank.gate ≡ self.old.bank.gate)) }
-        ensures library { OnOk result (self.new.library.items ≡ library.now) }
-        ensures library_kept { OnErr result (self.new.library.items ≡ self.old.library.items) }
-        ensures goes_on { OnOk result (self.new.stopped ≡ false) }
-        ensures stopped { IsErrOf result CheckpointFault.Stopped ↔ (self.old.stopped ≡ true) }
-        ensures stopped_same { self.old.stopped ≡ true → (self.new.disk ≡ self.old.disk) × (self.new.stopped ≡ true) }
-        ensures device { (fault : DeviceFault) → IsErrOf result (CheckpointFault.Device fault)
-            → (self.new.stopped ≡ true) × (fault ≡ DeviceFault.Write) }
-        ensures cause { (fault : DeviceFault) → IsErrOf result (CheckpointFault.Device fault)
-            → HasCounted (D.failures_of self.old.disk) (D.failures_of self.new.disk) }
-        ensures honest { D.is_honest self.new.disk ≡ D.is_honest self.old.disk }
-        ensures unfailed { OnOk result (D.failures_of self.new.disk ≡ D.failures_of self.old.disk) }
-        ensures failures { D.failures_of self.old.disk ≤ D.failures_of self.new.disk }
-        ensures size { D.size_of self.new.disk ≡ D.size_of self.old.disk }
+            self.old.library.items library.now (unlocked_table table.now))
+            (IsReplaced self.old.bank.shape self.old.chosen self.old.bank.gate self.old.bank.shape (first_gate library.now table.now)
+            self.old.library.items library.now (unlocked_table table.now))
+            self.old.disk self.new.disk result }
+        ensures switches { SwitchesBank library.now table.now self.old self.new result }
+        ensures stops { StopsAtFault CheckpointFault.Stopped CheckpointFault.Device self.old self.new result }
+        ensures goes { Goes self.old self.new }
         ensures calls { IsTrue (D.is_honest self.old.disk)
             → D.moment self.new.disk ≤ D.moment self.old.disk + 2 * checkpoint_calls library.now table.now }
     {

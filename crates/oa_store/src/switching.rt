@@ -1,8 +1,8 @@
 //! Going on in the other bank.
 ghost use Rattle.std.specs.Prelude.{◌≡◌, ◌+◌, ◌*◌, ◌-◌, ◌^◌, ◌<◌, ◌≤◌, List, ℕ, IsTrue, length, OnOk, IfOk, IfErr, true, false};
 ghost use Rattle.std.specs.Int.{div_ceil};
-ghost use Rattle.oa_disk.specs.Disk.{LeavesStep, Counts, Follows};
-ghost use Rattle.oa_disk.specs.declared.disk.DeviceFault.{DeviceFault};
+ghost use Rattle.oa_disk.specs.After.{AfterWrites};
+ghost use Rattle.oa_disk.specs.Disk.{LeavesStep, Follows};
 ghost use Rattle.oa_image.specs.Tables.{is_numbered};
 ghost use Rattle.oa_table.specs.Tables.{unlocked_table};
 ghost use Rattle.oa_journal.specs.Append.{IsAt};
@@ -44,13 +44,8 @@ pub(crate) fn switch_to<D: Disk>(
     ensures bank { IfOk result (IsAt (Two size) (head_place (1 - chosen)) (body_place (Two size) (1 - chosen))
         (first_gate library.now table.now) false) }
     ensures buffer { length buffer.new ≡ length buffer.old }
-    ensures fault { IfErr result (λ e. e ≡ DeviceFault.Write) }
-    ensures size { D.size_of disk.new ≡ D.size_of disk.old }
-    ensures honest { D.is_honest disk.new ≡ D.is_honest disk.old }
-    ensures counts { Counts (D.failures_of disk.old) (D.failures_of disk.new) result }
     // at most a call for the head, one for each piece of the body, a sync, the selector and a sync
-    ensures calls { IsTrue (D.is_honest disk.old) → D.moment disk.new
-        ≤ D.moment disk.old + 2 * (4 + div_ceil (1 + first_gate library.now table.now) (length buffer.old)) }
+    ensures after { AfterWrites D.Disk (4 + div_ceil (1 + first_gate library.now table.now) (length buffer.old)) disk.old disk.new result }
 {
     let other = 1 - chosen;
     let mut bank = bank_of(Shape::Two(size), other);

@@ -1,24 +1,25 @@
 //! Bringing a store of format 1 to format 2.
 ghost use Rattle.std.specs.Prelude.{◌≡◌, ◌⊎◌, ◌↔◌, ◌+◌, ◌*◌, ◌-◌, ◌^◌, ◌<◌, ◌≤◌, List, ℕ, None, IsTrue, length, OnOk, OnErr, IfOk, IfErr};
 ghost use Rattle.std.specs.Prelude.{IsErr, IsErrOf, true};
-ghost use Rattle.oa_disk.specs.Disk.{LeavesStep, HasCounted, Follows, Only};
-ghost use Rattle.oa_disk.specs.declared.disk.DeviceFault.{DeviceFault};
+ghost use Rattle.oa_disk.specs.After.{AfterCalls};
+ghost use Rattle.oa_disk.specs.Disk.{LeavesStep, Only};
 ghost use Rattle.oa_image.specs.Tables.{is_numbered, table_image};
 ghost use Rattle.oa_table.specs.Tables.{TableValue};
 ghost use Rattle.oa_journal.specs.declared.shape.Shape.TheVariants.{One, Two};
 ghost use Rattle.oa_store.specs.declared.fault.UpgradeFault.{UpgradeFault};
 ghost use Rattle.oa_store.specs.Calls.{piece_bytes, checkpoint_calls};
 ghost use Rattle.oa_store.specs.Changes.{IsUpgrade};
-ghost use Rattle.oa_store.specs.Faults.{of_opening, IsCausedUpgrade, IsRefusedUpgrade, SaysOld, TellsOld};
+ghost use Rattle.oa_store.specs.Faults.{of_opening, IsCausedUpgrade, SaysOld, TellsOld};
+ghost use Rattle.oa_store.specs.Making.{RefusesSmall, RefusesUpgrade};
 ghost use Rattle.oa_store.specs.Reads.{WritesNothing};
 ghost use Rattle.oa_store.specs.Stores.{IsForeign, IsStoreAt, IsStoreIn};
 
 use crate::head::{buffer, find_head};
 use crate::opening::look;
-use crate::store::BESIDE_TABLE;
 use crate::switching::switch_to;
 use crate::{OpenFault, UpgradeFault};
 use oa_disk::Disk;
+use oa_image::RESERVED_BYTES;
 use oa_image::laws::images_are_counted;
 use oa_journal::Shape;
 use oa_model::MAX_LIBRARY_BYTES;
@@ -63,10 +64,7 @@ fn find_old<D: Disk>(alloc: Global, disk: &mut D) -> Result<Old, UpgradeFault>
         → TellsOld (D.contents disk.old) (D.image disk.old) (D.image disk.new) e) }
     ensures small { IsErrOf result UpgradeFault.TooSmall → ⊥ }
     ensures reads { IsTrue (D.is_honest disk.new) → WritesNothing D.image D.moment D.image_since disk.old disk.new }
-    ensures size { D.size_of disk.new ≡ D.size_of disk.old }
-    ensures honest { IsTrue (D.is_honest disk.new) → IsTrue (D.is_honest disk.old) }
-    ensures unfailed { OnOk result (D.failures_of disk.new ≡ D.failures_of disk.old) }
-    ensures failures { D.failures_of disk.old ≤ D.failures_of disk.new }
+    ensures after { AfterCalls D.Disk disk.old disk.new result }
 {
     let (chosen, head) = match find_head(disk) {
         Ok(found) => found,
@@ -104,24 +102,13 @@ pub fn upgrade<D: Disk>(alloc: Global, disk: &mut D, size: u32) -> Result<(), Up
     ensures done { OnOk result (IsTrue (D.is_honest disk.new) → (library : List ℕ) × (table : TableValue)
         × IsStoreIn One (D.contents disk.old) library table
         × ((c : List ℕ) → D.image disk.new c → IsStoreIn (Two size) c library table)) }
-    ensures small { IsErrOf result UpgradeFault.TooSmall ↔ (D.size_of disk.old < 33562624 + 2 * size) }
-    ensures small_same { IsErrOf result UpgradeFault.TooSmall → disk.new ≡ disk.old }
-    // A refusal is true of the contents at the start.
-    ensures says { IfErr result (λ e. IsTrue (D.is_honest disk.new) → SaysOld size (D.size_of disk.old) (D.contents disk.old) e) }
-    // But for a write or a sync that failed, it comes before the first write.
-    ensures refused { IfErr result (λ e. IsRefusedUpgrade e → IsTrue (D.is_honest disk.new)
-        → WritesNothing D.image D.moment D.image_since disk.old disk.new) }
-    ensures cause { IfErr result (IsCausedUpgrade (D.failures_of disk.old) (D.failures_of disk.new)) }
-    ensures tells { IfErr result (λ e. IsTrue (D.is_honest disk.new)
-        → TellsOld (D.contents disk.old) (D.image disk.old) (D.image disk.new) e) }
+    ensures small { RefusesSmall D.Disk UpgradeFault.TooSmall size disk.old disk.new result }
+    ensures refused { IfErr result (λ e. RefusesUpgrade D.Disk size disk.old disk.new e) }
     // at most the calls of a reading, as `inspect` makes them, and those of a checkpoint
     ensures calls { OnOk result (IsTrue (D.is_honest disk.new) → (library : List ℕ) × (table : TableValue) × (chosen : ℕ) × (gate : ℕ)
         × IsStoreAt One chosen gate library table (D.contents disk.old)
         × (D.moment disk.new + length library ≤ D.moment disk.old + (16 + gate) + 2 * checkpoint_calls library table)) }
-    ensures size { D.size_of disk.new ≡ D.size_of disk.old }
-    ensures honest { IsTrue (D.is_honest disk.new) → IsTrue (D.is_honest disk.old) }
-    ensures unfailed { OnOk result (D.failures_of disk.new ≡ D.failures_of disk.old) }
-    ensures failures { D.failures_of disk.old ≤ D.failures_of disk.new }
+    ensures after { AfterCalls D.Disk disk.old disk.new result }
 {
     if disk.size() < Shape::Two(size).disk_bytes() {
         return Err(UpgradeFault::TooSmall);
@@ -134,7 +121,7 @@ pub fn upgrade<D: Disk>(alloc: Global, disk: &mut D, size: u32) -> Result<(), Up
     if old.library.len() > MAX_LIBRARY_BYTES {
         return Err(UpgradeFault::Damaged(0));
     }
-    if old.table.image_size() > u64::from(size - BESIDE_TABLE) {
+    if old.table.image_size() > u64::from(size - RESERVED_BYTES) {
         return Err(UpgradeFault::Damaged(0));
     }
     let Old {

@@ -10,8 +10,8 @@ use Rattle.oa_journal.proofs.opening.read_groups.Goals as goal
 pub groups-preserved : goal.groups-preserved
 groups-preserved g c =
     let disk = g.D.Disk.contents c.args.disk.now in
-    let before = λ (h : IsTrue (g.D.Disk.is_honest c.is_open-in-groups.new.disk)). c.in-Ok-is_open.ensures.honest h in
-    let first = λ (h : IsTrue (g.D.Disk.is_honest c.is_open-in-groups.new.disk)). c.in-Ok-read_group.ensures.honest (before h) in
+    let before = λ (h : IsTrue (g.D.Disk.is_honest c.is_open-in-groups.new.disk)). c.in-Ok-is_open.ensures.after.honest h in
+    let first = λ (h : IsTrue (g.D.Disk.is_honest c.is_open-in-groups.new.disk)). c.in-Ok-read_group.ensures.after.honest (before h) in
     record {
       inside = c.in-Ok-read_group.ensures.inside;
       numbered = c.in-Ok-read_group.ensures.numbered c.groups.invariant.numbered;
@@ -31,9 +31,9 @@ groups-preserved g c =
       shown = λ h. subst (λ (d : List ℕ). Holds d c.is_open-in-groups.new.window.from (take c.is_open-in-groups.new.window.len c.is_open-in-groups.new.window.buffer.items)) (sym (c.in-Ok-is_open.ensures.reads h).contents_stay) (c.in-Ok-is_open.ensures.shown h);
       reads = λ h. reads_on g.D.Disk.contents g.D.Disk.image g.D.Disk.moment g.D.Disk.image_since c.args.disk.now c.groups.disk c.is_open-in-groups.new.disk (c.groups.invariant.reads (first h))
           (reads_on g.D.Disk.contents g.D.Disk.image g.D.Disk.moment g.D.Disk.image_since c.groups.disk c.read_group.new.disk c.is_open-in-groups.new.disk (c.in-Ok-read_group.ensures.reads (before h)) (c.in-Ok-is_open.ensures.reads h));
-      size = c.in-Ok-is_open.ensures.size ∙ c.in-Ok-read_group.ensures.size ∙ c.groups.invariant.size;
+      size = c.in-Ok-is_open.ensures.after.size ∙ c.in-Ok-read_group.ensures.after.size ∙ c.groups.invariant.size;
       honest = λ h. c.groups.invariant.honest (first h);
-      unfailed = c.in-Ok-is_open.ensures.unfailed ∙ c.in-Ok-read_group.ensures.unfailed ∙ c.groups.invariant.unfailed;
+      unfailed = c.in-Ok-is_open.ensures.after.unfailed ∙ c.in-Ok-read_group.ensures.after.unfailed ∙ c.groups.invariant.unfailed;
     }
 
 pub returns-clause-found : goal.returns-clause-found

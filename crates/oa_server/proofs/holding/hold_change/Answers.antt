@@ -1,27 +1,19 @@
-use Rattle.std.proofs.Common.{ap, ◌∙◌}
+use Rattle.std.proofs.Common.{ap}
 use Rattle.oa_image.proofs.Lengths.{event_bytes}
 use Rattle.oa_keeper.proofs.Committed.{one_event}
 use Rattle.oa_table.specs.Tables.{unlocked_table}
 use Rattle.oa_turn.proofs.Allowed.{is_allowed}
+use Rattle.oa_server.proofs.Held.{carried}
 use Rattle.oa_server.proofs.holding.hold_change.Goals as goal
 
-pub returns-in_err-make_room-clause-any_moment : goal.returns-in_err-make_room-clause-any_moment
-returns-in_err-make_room-clause-any_moment g c committed first all = c.make_room.ensures.any_moment committed (λ none. ap unlocked_table c.table.ensures.table ∙ first none) all
+pub returns-in_err-make_room-clause-carries : goal.returns-in_err-make_room-clause-carries
+returns-in_err-make_room-clause-carries g c = carried c.args.frame.now c.args.store.now c.make_room.new.store (ap unlocked_table c.table.ensures.table) c.make_room.ensures.carries
 
-pub returns-in_err-make_room-clause-each : goal.returns-in_err-make_room-clause-each
-returns-in_err-make_room-clause-each g c going committed first all = c.make_room.ensures.each going committed (λ none. ap unlocked_table c.table.ensures.table ∙ first none) all
+pub returns-in_err-add_change-clause-carries : goal.returns-in_err-add_change-clause-carries
+returns-in_err-add_change-clause-carries g c = carried c.args.frame.now c.args.store.now c.make_room.new.store (ap unlocked_table c.table.ensures.table) c.make_room.ensures.carries
 
-pub returns-in_err-add_change-clause-any_moment : goal.returns-in_err-add_change-clause-any_moment
-returns-in_err-add_change-clause-any_moment g c committed first all = c.make_room.ensures.any_moment committed (λ none. ap unlocked_table c.table.ensures.table ∙ first none) all
-
-pub returns-in_err-add_change-clause-each : goal.returns-in_err-add_change-clause-each
-returns-in_err-add_change-clause-each g c going committed first all = c.make_room.ensures.each going committed (λ none. ap unlocked_table c.table.ensures.table ∙ first none) all
-
-pub returns-clause-any_moment : goal.returns-clause-any_moment
-returns-clause-any_moment g c committed first all = c.make_room.ensures.any_moment committed (λ none. ap unlocked_table c.table.ensures.table ∙ first none) all
-
-pub returns-clause-each : goal.returns-clause-each
-returns-clause-each g c going committed first all = c.make_room.ensures.each going committed (λ none. ap unlocked_table c.table.ensures.table ∙ first none) all
+pub returns-clause-carries : goal.returns-clause-carries
+returns-clause-carries g c = carried c.args.frame.now c.args.store.now c.make_room.new.store (ap unlocked_table c.table.ensures.table) c.make_room.ensures.carries
 
 pub returns-clause-replays : goal.returns-clause-replays
 returns-clause-replays g c = one_event c.args.event c.args.host.now.table c.add_change.new.host.table c.is_event.ensures c.in_ok-add_change.ensures.change.0

@@ -1,23 +1,23 @@
-use Rattle.std.proofs.Common.{ap, sym, ◌∙◌}
+use Rattle.std.proofs.Common.{ap, rules, sym, ◌∙◌}
 use Rattle.oa_keeper.proofs.Committed.{nothing_called}
 use Rattle.oa_turn.specs.Events.{held_of}
 use Rattle.oa_turn.proofs.SameLibrary.{ordinary_bank}
-use Rattle.oa_server.proofs.Held.{answered}
+use Rattle.oa_server.proofs.Held.{answered, carried}
 use Rattle.oa_server.proofs.holding.turn_held.Goals as goal
 
 pub returns-in-Answered-clause-turn : goal.returns-in-Answered-clause-turn
 returns-in-Answered-clause-turn g c = answered c.args.body.now c.in-Answered.reply c.args.frame.now c.args.host.now c.plan.new.self c.requires.plain c.in-Answered.ensures.plans.0 c.in-Answered.ensures.plans.1 c.in-Answered.ensures.quiet
 
-pub returns-in-Answered-clause-any_moment : goal.returns-in-Answered-clause-any_moment
-returns-in-Answered-clause-any_moment g c committed first each =
-    let store = c.args.store.now in
-    nothing_called g.D.Disk.moment g.D.Disk.image_since store.disk (g.D.Disk.image store.disk) store.bank.shape store.chosen store.bank.gate store.library.items committed (λ f left. g.met.D.Disk.only_now store.disk f each.0 left) each.1
+pub returns-in-Answered-clause-carries : goal.returns-in-Answered-clause-carries
+returns-in-Answered-clause-carries g c =
+    let store = c.args.store.now in record {
+      any_moment = λ committed first each. nothing_called g.D.Disk.moment g.D.Disk.image_since store.disk (g.D.Disk.image store.disk) store.bank.shape store.chosen store.bank.gate store.library.items committed (λ f left. g.met.D.Disk.only_now store.disk f each.0 left) each.1;
+      each = search rules;
+      library = search rules;
+    }
 
-pub returns-in-Change-clause-any_moment : goal.returns-in-Change-clause-any_moment
-returns-in-Change-clause-any_moment g c committed first each = c.hold.ensures.any_moment committed (λ none. ap held_of c.in-Change.ensures.plans.2 ∙ first none) each
-
-pub returns-in-Change-clause-each : goal.returns-in-Change-clause-each
-returns-in-Change-clause-each g c going committed first each = c.hold.ensures.each going committed (λ none. ap held_of c.in-Change.ensures.plans.2 ∙ first none) each
+pub returns-in-Change-clause-carries : goal.returns-in-Change-clause-carries
+returns-in-Change-clause-carries g c = carried c.args.frame.now c.args.store.now c.hold.new.store (ap held_of c.in-Change.ensures.plans.2) c.hold.ensures.carries
 
 pub returns-in-Answered-clause-banks : goal.returns-in-Answered-clause-banks
 returns-in-Answered-clause-banks g c = c.requires.banks ∙ sym (ordinary_bank c.args.host.now c.plan.new.self c.args.body.now c.in-Answered.reply c.in-Answered.ensures.plans.0)

@@ -19,7 +19,7 @@ returns-in-Ok-clause-any_moment g c =
     let table = c.table.result.now in
     let text = c.text_of.result.now in
     let held = ap unlocked_table c.table.ensures.table in
-    rw c.replace_library.ensures (meanwhile {g = g.D.Disk} c.args.store.now c.checkpoint_with.new.self before after text (first_gate text table) (unlocked_table table) c.text_of.ensures.text held held refl c.checkpoint_with.ensures.any_moment)
+    rw c.replace_library.ensures (meanwhile {g = g.D.Disk} c.args.store.now c.checkpoint_with.new.self before after text (first_gate text table) (unlocked_table table) c.text_of.ensures.text held held refl c.checkpoint_with.ensures.leaves.any_moment)
 
 pub returns-in-Ok-clause-each : goal.returns-in-Ok-clause-each
 returns-in-Ok-clause-each g c going =
@@ -29,7 +29,7 @@ returns-in-Ok-clause-each g c going =
     let text = c.text_of.result.now in
     let held = ap unlocked_table c.table.ensures.table in
     rw c.replace_library.ensures (at_last {g = g.D.Disk} c.args.store.now c.checkpoint_with.new.self before after text (first_gate text table) (unlocked_table table) c.text_of.ensures.text held held refl
-    c.checkpoint_with.ensures.shape c.in-Ok.ensures.chosen c.in-Ok.ensures.gate c.in-Ok.ensures.library c.checkpoint_with.ensures.honest c.in-Ok.ensures.done)
+    c.checkpoint_with.ensures.goes.shape c.in-Ok.ensures.switches.chosen c.in-Ok.ensures.switches.gate c.in-Ok.ensures.switches.library c.checkpoint_with.ensures.goes.honest c.in-Ok.ensures.leaves.done)
 
 pub returns-in-Err-Device : goal.returns-in-Err-Device
 returns-in-Err-Device g c =
@@ -38,12 +38,12 @@ returns-in-Err-Device g c =
     let table = c.table.result.now in
     let text = c.text_of.result.now in
     let held = ap unlocked_table c.table.ensures.table in
-    let stopped = (c.in-Err-Device.ensures.device c.in-Err-Device.field-0-0 (search rules)).0 in
+    let stopped = c.in-Err-Device.ensures.stops.stops in
     record {
       turn = tt;
       failed = (refusal (tag_at c.args.body.now) s_ok None, rw c.replace_library-in-Err-Device.ensures (replaces before c.args.body.now (refusal (tag_at c.args.body.now) s_ok None) c.in-Renewed.library after c.in-Renewed.ensures refl refl), refl);
       same = rw c.replace_library-in-Err-Device.ensures refl;
-      any_moment = rw c.replace_library-in-Err-Device.ensures (meanwhile {g = g.D.Disk} c.args.store.now c.checkpoint_with.new.self before after text (first_gate text table) (unlocked_table table) c.text_of.ensures.text held held refl c.checkpoint_with.ensures.any_moment);
+      any_moment = rw c.replace_library-in-Err-Device.ensures (meanwhile {g = g.D.Disk} c.args.store.now c.checkpoint_with.new.self before after text (first_gate text table) (unlocked_table table) c.text_of.ensures.text held held refl c.checkpoint_with.ensures.leaves.any_moment);
       each = λ going. absurd (true≢false (sym stopped ∙ going));
       quiet = tt;
       going = tt;

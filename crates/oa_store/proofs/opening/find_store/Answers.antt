@@ -15,7 +15,7 @@ returns-in-Err-clause-says g c h = c.in-Err.ensures.says h (Some c.args.library.
 
 pub returns-in-Err-read_library-clause-says : goal.returns-in-Err-read_library-clause-says
 returns-in-Err-read_library-clause-says g c h =
-    let h1 = c.read_library.ensures.honest h in
+    let h1 = c.read_library.ensures.after.honest h in
     let contents = g.D.Disk.contents c.args.disk.now in
     let found = c.in-Ok.ensures.found h1 in
     let chosen = c.in-Ok.found.chosen in
@@ -26,8 +26,8 @@ returns-in-Err-read_library-clause-says g c h =
 
 pub returns-in-Ok-read_all-clause-found : goal.returns-in-Ok-read_all-clause-found
 returns-in-Ok-read_all-clause-found g c h =
-    let h2 = c.read_all.ensures.honest h in
-    let h1 = c.read_library.ensures.honest h2 in
+    let h2 = c.read_all.ensures.after.honest h in
+    let h1 = c.read_library.ensures.after.honest h2 in
     let contents = g.D.Disk.contents c.args.disk.now in
     let found = c.in-Ok.ensures.found h1 in
     let chosen = c.in-Ok.found.chosen in
@@ -51,8 +51,8 @@ returns-in-Ok-read_all-clause-found g c h =
 
 pub returns-in-Err-read_all-clause-says : goal.returns-in-Err-read_all-clause-says
 returns-in-Err-read_all-clause-says g c h =
-    let h2 = c.read_all.ensures.honest h in
-    let h1 = c.read_library.ensures.honest h2 in
+    let h2 = c.read_all.ensures.after.honest h in
+    let h1 = c.read_library.ensures.after.honest h2 in
     let contents = g.D.Disk.contents c.args.disk.now in
     let found = c.in-Ok.ensures.found h1 in
     let chosen = c.in-Ok.found.chosen in
@@ -75,8 +75,8 @@ returns-in-Err-read_all-clause-says g c h =
 
 pub returns-in-Ok-read_all-clause-calls : goal.returns-in-Ok-read_all-clause-calls
 returns-in-Ok-read_all-clause-calls g c h =
-    let h2 = c.read_all.ensures.honest h in
-    let h1 = c.read_library.ensures.honest h2 in
+    let h2 = c.read_all.ensures.after.honest h in
+    let h1 = c.read_library.ensures.after.honest h2 in
     let contents = g.D.Disk.contents c.args.disk.now in
     let chosen = c.in-Ok.found.chosen in
     let shape = c.in-Ok.found.head.shape in

@@ -20,7 +20,7 @@ pub returns-in-Err-look-clause-says : goal.returns-in-Err-look-clause-says
 returns-in-Err-look-clause-says g c h bank =
     let size = g.D.Disk.size_of c.args.disk.now in
     let contents = g.D.Disk.contents c.args.disk.now in
-    let h1 = c.look.ensures.honest h in
+    let h1 = c.look.ensures.after.honest h in
     let found = c.in-Ok.ensures.found h1 in
     let stay = c.in-Ok.ensures.contents h1 in
     let chosen = c.in-Ok.found.0 in

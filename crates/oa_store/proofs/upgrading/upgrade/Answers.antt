@@ -1,4 +1,4 @@
-use Rattle.std.proofs.Common.{inl, ◌-◌, ◌∙◌, List, ℕ, sym, subst}
+use Rattle.std.proofs.Common.{inl, ◌-◌, ◌∙◌, List, ℕ, sym, subst, rules}
 use Rattle.oa_disk.specs.Moments.{chained}
 use Rattle.oa_table.specs.Tables.{unlocked_table}
 use Rattle.oa_journal.specs.Banks.{first_gate}
@@ -16,8 +16,8 @@ returns-in-Ok-switch_to-clause-any_moment g c h =
     let first = g.D.Disk.contents old in
     let table = c.in-Ok.old.table in
     let library = c.in-Ok.old.library.items in
-    let h1 = sym c.switch_to.ensures.honest ∙ h in
-    let h0 = c.find_old.ensures.honest h1 in
+    let h1 = sym c.switch_to.ensures.after.honest ∙ h in
+    let h0 = c.find_old.ensures.after.honest h1 in
     let found = c.in-Ok.ensures.found h1 in
     let reads = c.find_old.ensures.reads h1 in
     let P : List ℕ → Type 0 = λ f. (d : List ℕ) × g.D.Disk.image old d × IsUpgrade size d f in
@@ -40,8 +40,8 @@ returns-clause-any_moment g c h =
     let first = g.D.Disk.contents old in
     let table = c.in-Ok.old.table in
     let library = c.in-Ok.old.library.items in
-    let h1 = sym c.switch_to.ensures.honest ∙ h in
-    let h0 = c.find_old.ensures.honest h1 in
+    let h1 = sym c.switch_to.ensures.after.honest ∙ h in
+    let h0 = c.find_old.ensures.after.honest h1 in
     let found = c.in-Ok.ensures.found h1 in
     let reads = c.find_old.ensures.reads h1 in
     let P : List ℕ → Type 0 = λ f. (d : List ℕ) × g.D.Disk.image old d × IsUpgrade size d f in
@@ -64,8 +64,8 @@ returns-in-Ok-switch_to-clause-done g c h =
     let first = g.D.Disk.contents old in
     let table = c.in-Ok.old.table in
     let library = c.in-Ok.old.library.items in
-    let h1 = sym c.switch_to.ensures.honest ∙ h in
-    let h0 = c.find_old.ensures.honest h1 in
+    let h1 = sym c.switch_to.ensures.after.honest ∙ h in
+    let h0 = c.find_old.ensures.after.honest h1 in
     let found = c.in-Ok.ensures.found h1 in (
       library,
       table,
@@ -79,5 +79,10 @@ returns-in-Ok-switch_to-clause-done g c h =
           ),
     )
 
-pub returns-in-Err-clause-says : goal.returns-in-Err-clause-says
-returns-in-Err-clause-says g c h = c.in-Err.ensures.says h c.args.size
+pub returns-in-Err-clause-refused : goal.returns-in-Err-clause-refused
+returns-in-Err-clause-refused g c = record {
+  says = λ h. c.in-Err.ensures.says h c.args.size;
+  refused = search rules;
+  cause = search rules;
+  tells = search rules;
+}

@@ -1,4 +1,4 @@
-use Rattle.std.proofs.Common.{sym, subst}
+use Rattle.std.proofs.Common.{sym, subst, rules}
 use Rattle.oa_disk.specs.declared.record.Record.{Record}
 use Rattle.oa_disk.specs.Record.{history_of}
 use Rattle.oa_disk.specs.History.{IsWhole}
@@ -8,5 +8,8 @@ use Rattle.oa_disk.proofs.file.FileDisk.begin.Goals as goal
 pub invariant_of-result-clause-whole : goal.invariant_of-result-clause-whole
 invariant_of-result-clause-whole g c = subst (λ (r : Record). IsWhole c.args.size (history_of r)) (sym c.beginning-history.ensures) (beginning_whole g.held c.args.size)
 
-pub returns-clause-settled : goal.returns-clause-settled
-returns-clause-settled g c = beginning_settled g.held c.args.size _ c.beginning-history.ensures
+pub returns-clause-begins : goal.returns-clause-begins
+returns-clause-begins g c = record {
+  honest = search rules;
+  settled = beginning_settled g.held c.args.size _ c.beginning-history.ensures;
+}

@@ -1,4 +1,4 @@
-use Rattle.std.proofs.Common.{◌+◌, ◌≤◌, Bool, IsTrue, [], length, refl, sym, ◌∙◌, ap, subst, arith}
+use Rattle.std.proofs.Common.{◌+◌, ◌≤◌, Bool, IsTrue, [], length, refl, rules, sym, ◌∙◌, ap, subst, arith}
 use Rattle.std.proofs.lemmas.Result.{on_ok_weaker}
 use Rattle.oa_disk.specs.declared.call.Call.TheVariants.{Read}
 use Rattle.oa_disk.specs.declared.record.Record.{Record}
@@ -23,18 +23,16 @@ returns-clause-stays c h =
     let some = some_read _ c.get.result self.history _ _ _ c.get.ensures.noted in
     read_stays self.size (history_of self.history) self.whole _ (ap (λ (r : Record). history_of r) some.1)
 
-pub returns-clause-kept : goal.returns-clause-kept
-returns-clause-kept c =
-    let old = c.args.self.now.history in
-    on_ok_weaker c.get.result (λ is h holds. subst (λ (b : Bool). IsTrue b) (sym (ap (λ (r : Record). r.honest) is)) (holds_agrees (contents_after old.first old.calls old.written) c.args.at c.get.new.bytes old.honest h holds)) (at_ok _ _ c.get.result c.get.ensures.noted)
-
 pub returns-clause-time : goal.returns-clause-time
 returns-clause-time c h =
     let self = c.args.self.now in
     let some = some_read _ c.get.result self.history _ _ _ c.get.ensures.noted in
     time_is self.size (history_of self.history) self.whole Read [] refl _ (ap (λ (r : Record). history_of r) some.1)
 
-pub returns-clause-honest_err : goal.returns-clause-honest_err
-returns-clause-honest_err c =
-    let old = c.args.self.now.history in
-    at_err _ _ _ c.get.result (λ e is. ap (λ (r : Record). r.honest) is.0 ∙ agrees_none (contents_after old.first old.calls old.written) c.args.at old.honest) c.get.ensures.noted
+pub returns-clause-honest : goal.returns-clause-honest
+returns-clause-honest c =
+    let old = c.args.self.now.history in record {
+      before = search rules;
+      kept = on_ok_weaker c.get.result (λ is h holds. subst (λ (b : Bool). IsTrue b) (sym (ap (λ (r : Record). r.honest) is)) (holds_agrees (contents_after old.first old.calls old.written) c.args.at c.get.new.bytes old.honest h holds)) (at_ok _ _ c.get.result c.get.ensures.noted);
+      same = at_err _ _ _ c.get.result (λ e is. ap (λ (r : Record). r.honest) is.0 ∙ agrees_none (contents_after old.first old.calls old.written) c.args.at old.honest) c.get.ensures.noted;
+    }

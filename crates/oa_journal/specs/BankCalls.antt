@@ -1,0 +1,80 @@
+-- What the calls of a bank that stands on a disk answer.
+use Rattle.std.specs.Prelude.{◌≡◌, ◌↔◌, ℕ, ◌+◌, ◌≤◌, ◌<◌, IsTrue, true, false, List, length, Result, OnOk, OnErr, IfErr, IsErrOf}
+use Rattle.oa_disk.specs.Disk.{LeavesStep}
+use Rattle.oa_disk.specs.declared.disk.DeviceFault.{DeviceFault}
+use Rattle.oa_disk.specs.declared.disk.DeviceFault.TheVariants.{Read}
+use Rattle.oa_disk.specs.declared.disk.Disk.{Ghosts}
+use Rattle.oa_image.specs.Tables.{is_numbered}
+use Rattle.oa_journal.specs.Append.{IsAt, TornBank}
+use Rattle.oa_journal.specs.Bank.{from_place, HasHead, IsBank}
+use Rattle.oa_journal.specs.Banks.{first_gate}
+use Rattle.oa_journal.specs.Damages.{IsDamagedHead}
+use Rattle.oa_journal.specs.Replies.{IsCaused}
+use Rattle.oa_journal.specs.Shapes.{body_bytes, disk_bytes, IsShape}
+use Rattle.oa_journal.specs.declared.bank.AppendFault.{AppendFault}
+use Rattle.oa_journal.specs.declared.bank.AppendFault.TheVariants as appends
+use Rattle.oa_journal.specs.declared.bank.Bank.{Bank}
+use Rattle.oa_journal.specs.declared.bank.BankFault.{BankFault}
+use Rattle.oa_journal.specs.declared.bank.BankFault.TheVariants.{Damaged, Device, Memory}
+use Rattle.oa_journal.specs.declared.head.Head.{Head}
+use Rattle.oa_table.specs.Tables.{TableValue, unlocked_table}
+
+-- head and body lie on a disk of this size
+pub record LiesWithin (size : ℕ) (bank : Bank) : Type 0 where
+  pub head : bank.head + 32 ≤ size
+  pub body : bank.body + body_bytes bank.shape ≤ size
+
+-- The bank is written with a library and a table, and without groups.
+pub record WritesBank {D T E : Type 0} (g : Ghosts D) (bank : Bank) (library : List ℕ) (table : TableValue) (old new : D)
+    (result : Result T E) : Type 0 where
+  pub any_moment : IsTrue (g.is_honest old)
+      → LeavesStep g.moment g.image_since g.image old new (TornBank bank.head bank.body (body_bytes bank.shape))
+  -- At `Ok` it is what a read gives.
+  pub written : OnOk result (IsTrue (g.is_honest old)
+      → IsBank bank.shape (from_place bank.head (g.contents new)) (from_place bank.body (g.contents new))
+      library (unlocked_table table) (first_gate library table))
+  pub others : IsTrue (g.is_honest old) → TornBank bank.head bank.body (body_bytes bank.shape) (g.contents old) (g.contents new)
+
+-- The bank knows its closed gate there, or has stopped.
+pub record MovesGate {T E : Type 0} (gate : ℕ) (old new : Bank) (result : Result T E) : Type 0 where
+  pub moved : OnOk result (IsAt old.shape old.head old.body gate old.stopped new)
+  pub stopped : OnErr result (IsAt old.shape old.head old.body old.gate true new)
+
+-- Why a bank was not read: it is damaged in this way at a place, or memory or the device is wanting. After a fault of the device the bank
+-- has stopped.
+pub record RefusesBank {D T : Type 0} (g : Ghosts D) (damage : ℕ → Type 0) (before after : Bank) (old new : D)
+    (result : Result T BankFault) : Type 0 where
+  pub damaged : (at : ℕ) → IsErrOf result (Damaged at) → (after ≡ before) × (IsTrue (g.is_honest new) → damage at)
+  pub memory : IsErrOf result Memory → after ≡ before
+  pub device : (fault : DeviceFault) → IsErrOf result (Device fault)
+      → IsAt before.shape before.head before.body before.gate true after × (fault ≡ Read)
+  pub cause : IfErr result (IsCaused (g.failures_of old) (g.failures_of new))
+
+-- The bank was read: this library, and this table after its groups.
+pub record ReadsBank {D : Type 0} (g : Ghosts D) (before after : Bank) (old new : D) (library : List ℕ) (table : TableValue) : Type 0 where
+  pub found : IsTrue (g.is_honest new) → IsBank before.shape (from_place before.head (g.contents old))
+      (from_place before.body (g.contents old)) library table after.gate
+  pub numbered : is_numbered table ≡ true
+  pub unlocked : unlocked_table table ≡ table
+  -- at most four calls, and one for two bytes of snapshot and groups
+  pub calls : IsTrue (g.is_honest new) → g.moment new + length library ≤ g.moment old + (8 + after.gate)
+
+-- The head of a bank stands at this place, and the disk has room for two such banks.
+pub record FindsHead {D : Type 0} (g : Ghosts D) (place : ℕ) (old new : D) (head : Head) : Type 0 where
+  pub found : IsTrue (g.is_honest new) → HasHead head.shape place (g.contents old) head.library head.snapshot
+  pub known : IsShape head.shape × (head.library + head.snapshot < body_bytes head.shape)
+  pub room : disk_bytes head.shape ≤ g.size_of old
+
+-- There is none at this place. No memory is wanted.
+pub record RefusesHead {D T : Type 0} (g : Ghosts D) (place : ℕ) (old new : D) (result : Result T BankFault) : Type 0 where
+  pub damaged : (at : ℕ) → IsErrOf result (Damaged at) → (at ≡ place) × (IsTrue (g.is_honest new) → IsDamagedHead place (g.contents old))
+  pub memory : IsErrOf result Memory → ⊥
+  pub device : (fault : DeviceFault) → IsErrOf result (Device fault) → fault ≡ Read
+  pub cause : IfErr result (IsCaused (g.failures_of old) (g.failures_of new))
+
+-- The group of a frame has no room, or the bank has stopped: nothing has changed.
+pub record RefusesGroup {D T : Type 0} (frame : List ℕ) (before after : Bank) (old new : D) (result : Result T AppendFault) : Type 0 where
+  pub full : IsErrOf result appends.Full ↔ ((before.stopped ≡ false) × (body_bytes before.shape ≤ before.gate + length frame))
+  pub full_same : IsErrOf result appends.Full → (new ≡ old) × (after ≡ before)
+  pub stopped : IsErrOf result appends.Stopped ↔ (before.stopped ≡ true)
+  pub stopped_same : IsErrOf result appends.Stopped → (new ≡ old) × (after ≡ before)

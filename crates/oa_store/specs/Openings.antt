@@ -1,0 +1,58 @@
+-- What an opening and an inspection answer of a disk. All is said of one that is honest at the end, but for what stands in memory.
+use Rattle.std.specs.Prelude.{◌≡◌, ℕ, ◌+◌, ◌≤◌, IsTrue, true, false, List, length, Option, Some, None}
+use Rattle.oa_disk.specs.declared.disk.Disk.{Ghosts}
+use Rattle.oa_image.specs.Tables.{is_numbered}
+use Rattle.oa_store.specs.declared.fault.OpenFault.{OpenFault}
+use Rattle.oa_store.specs.declared.fault.OpenFault.TheVariants.{LibraryDiffers, OldFormat}
+use Rattle.oa_store.specs.declared.store.Store.{Store}
+use Rattle.oa_store.specs.Faults.{IsCaused, IsEarly, IsRefusal, Says, Tells}
+use Rattle.oa_store.specs.Stores.{IsForeign, IsNewStore, IsStore, IsStoreAt}
+use Rattle.oa_table.specs.Tables.{TableValue, unlocked_table}
+
+-- A store of this library was opened on the disk, with its table.
+pub record FindsStore {D : Type 0} (g : Ghosts D) (library : List ℕ) (disk : D) (store : Store D g) (table : TableValue) : Type 0 where
+  -- Each image at the end is a store of the table, and of that alone.
+  pub found : IsTrue (g.is_honest store.disk) → (c : List ℕ) → g.image store.disk c
+      → IsStoreAt store.bank.shape store.chosen store.bank.gate library table c
+  -- So are the contents at the start, and they of no other.
+  pub contents : IsTrue (g.is_honest store.disk) → IsStoreAt store.bank.shape store.chosen store.bank.gate library table (g.contents disk)
+  pub only : IsTrue (g.is_honest store.disk) → (other : TableValue) → IsNewStore (g.contents disk) library other → other ≡ table
+  -- at most ten calls, and one for two bytes of snapshot and groups
+  pub calls : IsTrue (g.is_honest store.disk) → g.moment store.disk + length library ≤ g.moment disk + (20 + store.bank.gate)
+
+-- The store goes on, has this library, and its table is in order and has no locks.
+pub record Starts {D : Type 0} {g : Ghosts D} (library : List ℕ) (store : Store D g) (table : TableValue) : Type 0 where
+  pub goes_on : store.stopped ≡ false
+  pub has : store.library.items ≡ library
+  pub numbered : is_numbered table ≡ true
+  pub unlocked : unlocked_table table ≡ table
+
+-- The disk is no store of this library that can be opened.
+pub record RefusesDisk {D : Type 0} (g : Ghosts D) (library : List ℕ) (disk back : D) (fault : OpenFault) : Type 0 where
+  -- A refusal is true of the contents at the start, and they are no store of this library.
+  pub says : IsTrue (g.is_honest back) → Says (Some library) (g.size_of disk) (g.contents disk) fault
+  pub refused : IsRefusal fault → IsTrue (g.is_honest back) → (table : TableValue) → IsNewStore (g.contents disk) library table → ⊥
+  -- A disk that is too small or not formatted is found to be that before memory is taken.
+  pub early : IsTrue (g.is_honest back) → IsForeign (g.size_of disk) (g.contents disk) → IsEarly fault
+  pub cause : IsCaused (g.failures_of disk) (g.failures_of back) fault
+  -- Read is told once all that was written is on the device, and Write where the sync at the start failed.
+  pub tells : IsTrue (g.is_honest back) → Tells (g.contents disk) (g.image disk) (g.image back) fault
+
+-- A store of some library was found in some format, with its table.
+pub record FindsAny {D : Type 0} (g : Ghosts D) (disk new : D) (library : List ℕ) (table : TableValue) : Type 0 where
+  pub found : IsTrue (g.is_honest new) → (c : List ℕ) → g.image new c → IsStore c library table
+  pub contents : IsTrue (g.is_honest new) → IsStore (g.contents disk) library table
+  pub numbered : is_numbered table ≡ true
+  pub unlocked : unlocked_table table ≡ table
+  -- at most eight calls, and one for two bytes of snapshot and groups
+  pub calls : IsTrue (g.is_honest new) → (is : IsStore (g.contents disk) library table)
+      × (g.moment new + length library ≤ g.moment disk + (16 + is.1.1))
+
+-- The disk is no store, whichever library is wanted.
+pub record RefusesAny {D : Type 0} (g : Ghosts D) (disk new : D) (fault : OpenFault) : Type 0 where
+  pub says : IsTrue (g.is_honest new) → Says None (g.size_of disk) (g.contents disk) fault
+  pub early : IsTrue (g.is_honest new) → IsForeign (g.size_of disk) (g.contents disk) → IsEarly fault
+  pub any_library : fault ≡ LibraryDiffers → ⊥
+  pub any_format : fault ≡ OldFormat → ⊥
+  pub cause : IsCaused (g.failures_of disk) (g.failures_of new) fault
+  pub tells : IsTrue (g.is_honest new) → Tells (g.contents disk) (g.image disk) (g.image new) fault

@@ -1,0 +1,48 @@
+-- What the calls of an open store that write leave of it.
+use Rattle.std.specs.Prelude.{◌≡◌, ◌↔◌, ℕ, ◌+◌, ◌-◌, ◌≤◌, true, false, List, length, Result, OnOk, OnErr, IsErrOf}
+use Rattle.oa_disk.specs.Disk.{HasCounted}
+use Rattle.oa_disk.specs.declared.disk.DeviceFault.{DeviceFault}
+use Rattle.oa_disk.specs.declared.disk.DeviceFault.TheVariants.{Write}
+use Rattle.oa_disk.specs.declared.disk.Disk.{Ghosts}
+use Rattle.oa_journal.specs.Append.{group_of}
+use Rattle.oa_journal.specs.Banks.{first_gate}
+use Rattle.oa_journal.specs.Shapes.{ample_bytes, body_bytes}
+use Rattle.oa_store.specs.declared.store.Store.{Store}
+use Rattle.oa_table.specs.Tables.{TableValue}
+
+-- What every call says of the device, and of the store's format, which stays.
+pub record Goes {D : Type 0} {g : Ghosts D} (old new : Store D g) : Type 0 where
+  pub honest : g.is_honest new.disk ≡ g.is_honest old.disk
+  pub size : g.size_of new.disk ≡ g.size_of old.disk
+  pub failures : g.failures_of old.disk ≤ g.failures_of new.disk
+  pub shape : new.bank.shape ≡ old.bank.shape
+  -- it stops only where a call has failed, and then for good
+  pub stops : old.stopped ≡ false → new.stopped ≡ true → HasCounted (g.failures_of old.disk) (g.failures_of new.disk)
+  pub stays : old.stopped ≡ true → (new.stopped ≡ true) × (new.disk ≡ old.disk)
+  -- no failed call goes untold
+  pub unfailed : new.stopped ≡ false → g.failures_of new.disk ≡ g.failures_of old.disk
+
+-- The store goes on exactly where `Ok` is answered. One fault says that it had stopped before, and the others that a write has failed.
+pub record StopsAtFault {D T E : Type 0} {g : Ghosts D} (late : E) (device : DeviceFault → E) (old new : Store D g)
+    (result : Result T E) : Type 0 where
+  pub goes_on : OnOk result (new.stopped ≡ false)
+  pub stops : OnErr result (new.stopped ≡ true)
+  pub stopped : IsErrOf result late ↔ (old.stopped ≡ true)
+  pub fault : (fault : DeviceFault) → IsErrOf result (device fault) → fault ≡ Write
+
+-- The bank in use has the group of a frame more, or nothing has changed in memory.
+pub record AddsGroup {D T E : Type 0} {g : Ghosts D} (frame : List ℕ) (old new : Store D g) (result : Result T E) : Type 0 where
+  pub gate : OnOk result (new.bank.gate ≡ old.bank.gate + (5 + length (group_of frame)))
+  pub refused : OnErr result (new.bank.gate ≡ old.bank.gate)
+  pub chosen : new.chosen ≡ old.chosen
+  pub library : new.library.items ≡ old.library.items
+
+-- The other bank is in use, with this text of a library and this table, or nothing has changed in memory.
+pub record SwitchesBank {D T E : Type 0} {g : Ghosts D} (text : List ℕ) (table : TableValue) (old new : Store D g)
+    (result : Result T E) : Type 0 where
+  pub gate : OnOk result (new.bank.gate ≡ first_gate text table)
+  pub room : OnOk result (ample_bytes ≤ body_bytes new.bank.shape - new.bank.gate)
+  pub chosen : OnOk result (new.chosen ≡ 1 - old.chosen)
+  pub refused : OnErr result ((new.chosen ≡ old.chosen) × (new.bank.gate ≡ old.bank.gate))
+  pub library : OnOk result (new.library.items ≡ text)
+  pub library_kept : OnErr result (new.library.items ≡ old.library.items)

@@ -1,5 +1,5 @@
 -- What an opening of a disk that holds a state makes.
-use Rattle.std.proofs.Common.{◌≡◌, ◌⊎◌, inl, inr, ⊎_elim, ℕ, List, IsTrue, [], refl, sym, ◌∙◌, ap, subst}
+use Rattle.std.proofs.Common.{◌≡◌, inl, ⊎_elim, ℕ, List, IsTrue, [], refl, sym, ◌∙◌, ap, subst}
 use Rattle.oa_disk.specs.Disk.{NothingPending}
 use Rattle.oa_disk.specs.declared.disk.Disk.{Ghosts}
 use Rattle.oa_groups.specs.Runs.{HoldsState}
@@ -10,7 +10,6 @@ use Rattle.oa_journal.specs.Shapes.{body_bytes}
 use Rattle.oa_server.specs.Laws.{OpenedBegins}
 use Rattle.oa_turn.specs.Beginnings.{CanBegin}
 use Rattle.oa_server.specs.Openings.{Finds, IsNotOpened, IsOpened}
-use Rattle.oa_turn.specs.Events.{held_of}
 use Rattle.oa_server.specs.Requests.{opened, requests}
 use Rattle.oa_turn.specs.States.{State, state_of}
 use Rattle.oa_server.specs.Storages.{OverStore, bank_of}
@@ -22,7 +21,7 @@ use Rattle.oa_store.specs.declared.store.Store.{Store}
 use Rattle.oa_table.specs.Tables.{TableValue}
 use Rattle.oa_history.specs.Kept.{Sits}
 
-same_state : (a b : State) → a.bank ≡ b.bank → a.library ≡ b.library → a.table ≡ b.table → a ≡ b
+pub same_state : (a b : State) → a.bank ≡ b.bank → a.library ≡ b.library → a.table ≡ b.table → a ≡ b
 same_state a b bank library table =
     ap (λ (n : ℕ). state_of n a.library a.table) bank
     ∙ ap (λ (l : TreeValue). state_of b.bank l a.table) library

@@ -1,5 +1,10 @@
 pub mod Calls
+pub mod Crashed
+pub mod Few
 pub mod Found
 pub mod Leaving
 pub mod Living
 pub mod Reading
+pub mod Switched
+pub mod TakenUp
+pub mod Withstanding

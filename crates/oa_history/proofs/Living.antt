@@ -1,4 +1,4 @@
--- One session more, and what is told at last.
+-- One step more, and what is told at last.
 use Rattle.std.proofs.Common.{◌≡◌, ℕ, ◌+◌, ◌<◌, List, [], ◌∷◌, ◌++◌, take, length, get_or, refl, sym, ◌∙◌, ap, subst}
 use Rattle.std.proofs.lemmas.List.{take_more}
 use Rattle.oa_disk.specs.declared.disk.Disk.{Ghosts}
@@ -15,30 +15,30 @@ use Rattle.oa_store.specs.OneStore.{one_store}
 use Rattle.oa_store.specs.Stores.{IsStore}
 use Rattle.oa_table.specs.Tables.{TableValue}
 use Rattle.oa_history.specs.Kept.{Sits}
-use Rattle.oa_history.specs.Lived.{IsStopped, Lives}
+use Rattle.oa_history.specs.Lived.{IsStepped, Lives}
 use Rattle.oa_history.specs.declared.session.Heard.{Heard}
-use Rattle.oa_history.specs.declared.session.Session.{Session}
+use Rattle.oa_history.specs.declared.session.Step.{Step}
 
-lives_push : (found : List ℕ) (before : State) (sessions : List Session) (heard : List Heard) (left : List ℕ) (mid : State) (session : Session) (told : Heard) (image : List ℕ) (after : State)
-    → Lives found before sessions heard left mid → IsStopped session told left mid image after → Lives found before (sessions ++ session ∷ []) (heard ++ told ∷ []) image after
-lives_push found before [] [] left mid session told image after same one = (
+lives_push : (found : List ℕ) (before : State) (steps : List Step) (heard : List Heard) (left : List ℕ) (mid : State) (step : Step) (told : Heard) (image : List ℕ) (after : State)
+    → Lives found before steps heard left mid → IsStepped step told left mid image after → Lives found before (steps ++ step ∷ []) (heard ++ told ∷ []) image after
+lives_push found before [] [] left mid step told image after same one = (
   image,
   after,
-  subst (λ (s : State). IsStopped session told found s image after) (sym same.1) (subst (λ (l : List ℕ). IsStopped session told l mid image after) (sym same.0) one),
+  subst (λ (s : State). IsStepped step told found s image after) (sym same.1) (subst (λ (l : List ℕ). IsStepped step told l mid image after) (sym same.0) one),
   (refl, refl),
 )
-lives_push found before [] (h ∷ hs) left mid session told image after none one = absurd none
-lives_push found before (s ∷ ss) [] left mid session told image after none one = absurd none
-lives_push found before (s ∷ ss) (h ∷ hs) left mid session told image after all one = (all.0, all.1, all.2, lives_push all.0 all.1 ss hs left mid session told image after all.3 one)
+lives_push found before [] (h ∷ hs) left mid step told image after none one = absurd none
+lives_push found before (s ∷ ss) [] left mid step told image after none one = absurd none
+lives_push found before (s ∷ ss) (h ∷ hs) left mid step told image after all one = (all.0, all.1, all.2, lives_push all.0 all.1 ss hs left mid step told image after all.3 one)
 
 -- the first i + 1 of them
-pub lives_more : (found : List ℕ) (before : State) (sessions : List Session) (i : ℕ) (heard all : List Heard) (left : List ℕ) (mid : State) (session : Session) (told : Heard) (image : List ℕ) (after : State)
-    → i < length sessions → get_or sessions i session ≡ session → all ≡ heard ++ told ∷ []
-    → Lives found before (take i sessions) heard left mid → IsStopped session told left mid image after → Lives found before (take (i + 1) sessions) all image after
-lives_more found before sessions i heard all left mid session told image after within is all_are lives one =
-    let here : take (i + 1) sessions ≡ take i sessions ++ session ∷ [] = rw (take_more sessions i session within, is) refl in
-    subst (λ (hs : List Heard). Lives found before (take (i + 1) sessions) hs image after) (sym all_are)
-    (subst (λ (ss : List Session). Lives found before ss (heard ++ told ∷ []) image after) (sym here) (lives_push found before (take i sessions) heard left mid session told image after lives one))
+pub lives_more : (found : List ℕ) (before : State) (steps : List Step) (i : ℕ) (heard all : List Heard) (left : List ℕ) (mid : State) (step : Step) (told : Heard) (image : List ℕ) (after : State)
+    → i < length steps → get_or steps i step ≡ step → all ≡ heard ++ told ∷ []
+    → Lives found before (take i steps) heard left mid → IsStepped step told left mid image after → Lives found before (take (i + 1) steps) all image after
+lives_more found before steps i heard all left mid step told image after within is all_are lives one =
+    let here : take (i + 1) steps ≡ take i steps ++ step ∷ [] = rw (take_more steps i step within, is) refl in
+    subst (λ (hs : List Heard). Lives found before (take (i + 1) steps) hs image after) (sym all_are)
+    (subst (λ (ss : List Step). Lives found before ss (heard ++ told ∷ []) image after) (sym here) (lives_push found before (take i steps) heard left mid step told image after lives one))
 
 -- a store that a session is begun over holds the state
 pub over_all : {D : Type 0} {g : Ghosts D} (disk : D) (storage : Storage D g) (state : State) → OverStore storage (λ store. Sits disk store state) → OverStore storage (λ store. AllHoldState requests store state)
@@ -52,3 +52,7 @@ shown_library image text table state shown holds = (one_store image text (canoni
 pub shown_table : (image text : List ℕ) (table : TableValue) (state : State) → opened state ≡ state → IsStore image text table → HoldsState requests state image → table ≡ state.table
 shown_table image text table state unlocked shown holds =
     (one_store image text (canonical state.library) table (held_of state) shown (Two state.bank, holds)).table_same ∙ ap (λ (s : State). s.table) unlocked
+
+-- and where it was not opened again, without its locks
+pub shown_held : (image text : List ℕ) (table : TableValue) (state : State) → IsStore image text table → HoldsState requests state image → table ≡ held_of state
+shown_held image text table state shown holds = (one_store image text (canonical state.library) table (held_of state) shown (Two state.bank, holds)).table_same

@@ -1,10 +1,7 @@
 -- What a store shows of a state that its disk holds.
-use Rattle.std.proofs.Common.{◌≡◌, ◌⊎◌, ⊎_elim, inl, inr, ℕ, Bool, true, false, List, [], ◌∷◌, Option, None, length, map, refl, sym, ◌∙◌, ap, subst, arith}
+use Rattle.std.proofs.Common.{◌≡◌, ⊎_elim, inl, inr, ℕ, Bool, true, false, List, [], ◌∷◌, Option, None, Some, length, map, refl, sym, ◌∙◌, ap, subst, arith}
 use Rattle.std.specs.List.{list_any}
 use Rattle.std.specs.Prelude.{if◌then◌else◌}
-use Rattle.oa_disk.specs.Memory.{contents_of, history_of, image_since_of, moments_of}
-use Rattle.oa_disk.specs.Replaying.{only_now}
-use Rattle.oa_disk.specs.declared.memory.MemoryDisk.{MemoryDisk}
 use Rattle.oa_idl.specs.Canonical.{canonical}
 use Rattle.oa_idl.specs.IsTree.{IsTree}
 use Rattle.oa_idl.specs.Marked.{mark_first, marked, marked_entries, marked_item}
@@ -14,17 +11,17 @@ use Rattle.oa_idl.specs.declared.items.Item.TheVariants.{Interface, Coclass}
 use Rattle.oa_idl.specs.declared.parts.Entry.{Entry}
 use Rattle.oa_journal.specs.Bank.{HasHeader, from_place}
 use Rattle.oa_journal.specs.Banks.{bank_header}
-use Rattle.oa_journal.specs.Damages.{IsDamagedBody, not_damaged}
+use Rattle.oa_journal.specs.Damages.{IsDamagedBody, bank_library, not_damaged, one_library}
 use Rattle.oa_journal.specs.Unique.{one_head}
 use Rattle.oa_journal.specs.declared.shape.Shape.{Shape}
-use Rattle.oa_store.specs.Faults.{IsRefusal, Says}
-use Rattle.oa_store.specs.Stores.{IsFormatted, IsStoreAt, IsStoreIn, body_place, head_place}
+use Rattle.oa_journal.specs.declared.shape.Shape.TheVariants.{One, Two}
+use Rattle.oa_store.specs.Faults.{IsDamaged, IsRefusal, Says}
+use Rattle.oa_store.specs.Stores.{IsForeign, IsFormatted, IsStoreAt, IsStoreIn, body_place, head_place}
 use Rattle.oa_store.specs.declared.fault.OpenFault.{OpenFault}
 use Rattle.oa_store.specs.declared.fault.OpenFault.TheVariants.{NotAStore, OldFormat, LibraryDiffers, Damaged, Device, Memory}
 use Rattle.oa_table.specs.Tables.{TableValue}
 use Rattle.oa_typelib.specs.Checked.{IsChecked}
 use Rattle.oa_checks.specs.IsLibrary.{IsLibrary}
-use Rattle.oa_history.specs.Kept.{IsSettled}
 
 -- ---- a store is not refused by whoever wants any library
 
@@ -33,16 +30,23 @@ header_of : (shape : Shape) (head body : ℕ → ℕ) (offset : ℕ) → IsDamag
 header_of shape head body offset (inl snapshot) = (snapshot.0, snapshot.1, snapshot.2)
 header_of shape head body offset (inr group) = (group.0, group.1, group.3.has)
 
+never_both : (bank : ℕ) → Two bank ≡ One → ⊥
+never_both bank e = cc e
+
 module _ (size : ℕ) (contents : List ℕ) (shape : Shape) (text : List ℕ) (table : TableValue) (long : length contents ≡ size) (is : IsStoreIn shape contents text table) where
   -- the store's bank is the one that the selector names
   its_bank : (chosen : ℕ) → IsFormatted chosen contents → IsStoreAt shape chosen is.1 text table contents
   its_bank chosen head = subst (λ (k : ℕ). IsStoreAt shape k is.1 text table contents) (sym is.2.head.selected ∙ head.selected) is.2
 
-  pub shown_to_all : (e : OpenFault) → IsRefusal e → Says None size contents e → ⊥
-  shown_to_all NotAStore r says = ⊎_elim (λ lt. absurd (omega (arith, lt, long, is.2.head.size))) (λ none. none is.2.head.formatted) says
-  shown_to_all OldFormat r says = says
-  shown_to_all LibraryDiffers r says = says
-  shown_to_all (Damaged place) r says = ⊎_elim
+  -- a head that the bank has, in whichever format, is that of the store
+  its_shape : (chosen : ℕ) (other : Shape) (l s : ℕ) → IsStoreAt shape chosen is.1 text table contents → HasHeader other (from_place (head_place chosen) contents) l s → shape ≡ other
+  its_shape chosen other l s store has =
+      let head = from_place (head_place chosen) contents in
+      (one_head head shape (length text) _ other l s (bank_header shape head (from_place (body_place shape chosen) contents) text table is.1 store.bank) has).shape_same
+
+  -- it is damaged for nobody
+  never_damaged : (wanted : Option (List ℕ)) (place : ℕ) → IsDamaged wanted contents place → ⊥
+  never_damaged wanted place says = ⊎_elim
       (λ none.
       let store = its_bank none.chosen none.head in
       none.none shape (length text) _ (record { room = store.room; has = bank_header shape (from_place (head_place none.chosen) contents) (from_place (body_place shape none.chosen) contents) text table is.1 store.bank }))
@@ -50,12 +54,36 @@ module _ (size : ℕ) (contents : List ℕ) (shape : Shape) (text : List ℕ) (t
       let store = its_bank rest.chosen rest.head in
       let head = from_place (head_place rest.chosen) contents in
       let has = header_of rest.shape head (from_place (body_place rest.shape rest.chosen) contents) rest.offset rest.damaged in
-      let same : shape ≡ rest.shape = (one_head head shape (length text) _ rest.shape has.0 has.1 (bank_header shape head (from_place (body_place shape rest.chosen) contents) text table is.1 store.bank) has.2).shape_same in
-      let here = subst (λ (s : Shape). IsStoreAt s rest.chosen is.1 text table contents) same store in
+      let here = subst (λ (s : Shape). IsStoreAt s rest.chosen is.1 text table contents) (its_shape rest.chosen rest.shape has.0 has.1 store has.2) store in
       not_damaged rest.shape head (from_place (body_place rest.shape rest.chosen) contents) rest.offset text table is.1 rest.damaged here.bank)
       says
+
+  never_foreign : IsForeign size contents → ⊥
+  never_foreign says = ⊎_elim (λ lt. absurd (omega (arith, lt, long, is.2.head.size))) (λ none. none is.2.head.formatted) says
+
+  pub shown_to_all : (e : OpenFault) → IsRefusal e → Says None size contents e → ⊥
+  shown_to_all NotAStore r says = never_foreign says
+  shown_to_all OldFormat r says = says
+  shown_to_all LibraryDiffers r says = says
+  shown_to_all (Damaged place) r says = never_damaged None place says
   shown_to_all (Device fault) r says = absurd r
   shown_to_all Memory r says = absurd r
+
+  -- nor is it refused by whoever wants its own one, where it is in format 2
+  pub opened_by_its_own : (bank : ℕ) → shape ≡ Two bank → (e : OpenFault) → IsRefusal e → Says (Some text) size contents e → ⊥
+  opened_by_its_own bank new NotAStore r says = never_foreign says
+  opened_by_its_own bank new OldFormat r says =
+      let old : shape ≡ One = its_shape says.chosen One says.library says.snapshot (its_bank says.chosen says.head) says.has.has in
+      never_both bank (sym new ∙ old)
+  opened_by_its_own bank new LibraryDiffers r says =
+      let store = its_bank says.chosen says.head in
+      let here = subst (λ (s : Shape). IsStoreAt s says.chosen is.1 text table contents) (its_shape says.chosen says.shape (length says.other) says.has.snapshot store says.has.has) store in
+      let head = from_place (head_place says.chosen) contents in
+      let body = from_place (body_place says.shape says.chosen) contents in
+      says.differs (one_library says.shape head body says.other text says.has (bank_library says.shape head body text table is.1 here.bank))
+  opened_by_its_own bank new (Damaged place) r says = never_damaged (Some text) place says
+  opened_by_its_own bank new (Device fault) r says = absurd r
+  opened_by_its_own bank new Memory r says = absurd r
 
 -- ---- the library that is read from the canonical text of one is that one
 
@@ -90,8 +118,3 @@ module _ (one_tree : (text : List ℕ) (s t : TreeValue) → IsTree text s → I
   library_again text library t checked same is =
       let tree : is.tree ≡ t = one_tree (canonical t) is.tree t (subst (λ (l : List ℕ). IsTree l is.tree) same is.stands) (read t checked) in
       is.says ∙ ap marked tree ∙ library_marked t checked
-
--- ---- a copy of a disk
-
-pub copied : (disk : MemoryDisk) (moment : ℕ) (c : List ℕ) → IsSettled disk → moment ≡ moments_of disk → image_since_of disk moment c → c ≡ contents_of disk
-copied disk moment c settled is left = settled.alone c (only_now (history_of disk) c (subst (λ (n : ℕ). image_since_of disk n c) is left))

@@ -14,7 +14,7 @@ use Rattle.oa_server.specs.declared.server.Server.{Server}
 use Rattle.oa_store.specs.Faults.{IsRefusal}
 use Rattle.oa_store.specs.declared.store.Store.{Store}
 use Rattle.oa_history.specs.declared.fault.HistoryFault.{HistoryFault}
-use Rattle.oa_history.specs.declared.fault.HistoryFault.TheVariants.{Format, Open, Text, Memory}
+use Rattle.oa_history.specs.declared.fault.HistoryFault.TheVariants.{Format, Open, Checkpoint, Text, Memory}
 
 -- A disk that was just made, or found after a crash: its clock stands at 0, and a crash leaves what a read gives.
 pub record IsSettled (disk : MemoryDisk) : Type 0 where
@@ -40,5 +40,6 @@ pub record Begins {D : Type 0} {g : Ghosts D} (disk : D) (server : Server D g) (
 abbrev pub IsWanting : HistoryFault → Type 0
 IsWanting (Format fault) = ⊤
 IsWanting (Open fault) = IsRefusal fault → ⊥
+IsWanting (Checkpoint fault) = ⊤
 IsWanting (Text fault) = ⊤
 IsWanting Memory = ⊤

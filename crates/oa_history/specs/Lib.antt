@@ -1,2 +1,5 @@
+pub mod Between
 pub mod Kept
 pub mod Lived
+pub mod OneGroup
+pub mod Survived

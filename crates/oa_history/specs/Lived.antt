@@ -1,4 +1,4 @@
--- What sessions come to that are stopped, each begun on what the stop of the one before has left.
+-- What sessions come to that are stopped, and checkpoints between them, each begun on what the stop before it has left.
 use Rattle.std.specs.Prelude.{◌≡◌, ℕ, ◌+◌, ◌≤◌, nat_le, min, Bool, false, if◌then◌else◌, List, [], ◌∷◌, ◌++◌, map, length}
 use Rattle.oa_disk.specs.Memory.{contents_of, moments_of, IsTornAt}
 use Rattle.oa_disk.specs.declared.disk.Disk.{Ghosts}
@@ -15,13 +15,16 @@ use Rattle.oa_turn.specs.States.{State}
 use Rattle.oa_server.specs.Storages.{OverStore, Serves, disk_of}
 use Rattle.oa_server.specs.declared.server.Server.{Server}
 use Rattle.oa_server.specs.declared.storage.Storage.{Storage}
+use Rattle.oa_history.specs.Between.{IsCheckpointed}
 use Rattle.oa_history.specs.Kept.{Begins}
 use Rattle.oa_history.specs.declared.history.Lived.{Lived}
 use Rattle.oa_history.specs.declared.session.Answer.{Answer}
 use Rattle.oa_history.specs.declared.session.Call.{Call}
 use Rattle.oa_history.specs.declared.session.Heard.{Heard}
 use Rattle.oa_history.specs.declared.session.Opened.{Opened}
-use Rattle.oa_history.specs.declared.session.Session.{Session}
+use Rattle.oa_history.specs.declared.session.Session.{Session as Played}
+use Rattle.oa_history.specs.declared.session.Step.{Step}
+use Rattle.oa_history.specs.declared.session.Step.TheVariants.{Session, Checkpoint}
 
 -- ---- a session and its stop
 
@@ -82,7 +85,7 @@ pub record Stops (stop : ℕ) (calls : List Call) (answers : List Answer) (befor
 
 -- A session that was asked, and what was heard of it, from a disk with these contents, a store of the state before, to what its stop has left,
 -- a store of the state after.
-pub record IsStopped (session : Session) (heard : Heard) (found : List ℕ) (before : State) (left : List ℕ) (after : State) : Type 0 where
+pub record IsStopped (session : Played) (heard : Heard) (found : List ℕ) (before : State) (left : List ℕ) (after : State) : Type 0 where
   -- a server was opened on a disk that holds what was found, and serves the state before
   pub start : MemoryDisk
   pub holds_found : contents_of start ≡ found
@@ -97,22 +100,28 @@ pub record IsStopped (session : Session) (heard : Heard) (found : List ℕ) (bef
   pub stops : Stops session.moment session.calls.items heard.answers.items before after
   pub holds : HoldsState requests after left
 
--- one session after another, each on what the one before has left
-abbrev pub Lives : List ℕ → State → List Session → List Heard → List ℕ → State → Type 0
+-- A session is played, or a checkpoint is made, which has no calls and leaves the state.
+abbrev pub IsStepped : Step → Heard → List ℕ → State → List ℕ → State → Type 0
+IsStepped (Session session) heard found before left after = IsStopped session heard found before left after
+IsStepped (Checkpoint stop) heard found before left after =
+    IsCheckpointed found stop heard.disk left before × (heard.answers.items ≡ []) × (after ≡ before)
+
+-- one step after another, each on what the one before has left
+abbrev pub Lives : List ℕ → State → List Step → List Heard → List ℕ → State → Type 0
 Lives found before [] [] left after = (found ≡ left) × (before ≡ after)
-Lives found before (session ∷ sessions) (heard ∷ others) left after =
-    (image : List ℕ) × (mid : State) × IsStopped session heard found before image mid × Lives image mid sessions others left after
+Lives found before (step ∷ steps) (heard ∷ others) left after =
+    (image : List ℕ) × (mid : State) × IsStepped step heard found before image mid × Lives image mid steps others left after
 Lives found before [] (heard ∷ others) left after = ⊥
-Lives found before (session ∷ sessions) [] left after = ⊥
+Lives found before (step ∷ steps) [] left after = ⊥
 
 -- What is played on a new store of a state, and told at last: a server that serves the state that is left, over a store that holds it; the
 -- store's library, and its table.
-pub record IsLived (state : State) (sessions : List Session) (lived : Lived) : Type 0 where
+pub record IsLived (state : State) (steps : List Step) (lived : Lived) : Type 0 where
   pub new : List ℕ
   pub holds : HoldsState requests state new
   pub left : List ℕ
   pub last : State
-  pub lives : Lives new state sessions lived.heard.items left last
+  pub lives : Lives new state steps lived.heard.items left last
   pub serves : lived.opened.server.clerk.host ≡ last
   pub over : OverStore lived.opened.server.clerk.storage (λ store. AllHoldState requests store last)
   pub library : lived.library.items ≡ canonical last.library

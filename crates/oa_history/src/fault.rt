@@ -3,7 +3,7 @@ ghost use Rattle.std.specs.Prelude.{◌≡◌};
 ghost use Rattle.oa_history.specs.declared.fault.HistoryFault.TheVariants.{Memory};
 
 use oa_keeps::TextError;
-use oa_store::{FormatFault, OpenFault};
+use oa_store::{CheckpointFault, FormatFault, OpenFault};
 use std::alloc::{AllocError, AllocFailed};
 use thiserror::Error;
 
@@ -16,6 +16,9 @@ pub enum HistoryFault {
     /// A store was not opened, since memory was refused or a call of the device failed.
     #[error("not opened: {0}")]
     Open(OpenFault),
+    /// A checkpoint was not made, since a call of the device failed.
+    #[error("no checkpoint: {0}")]
+    Checkpoint(CheckpointFault),
     /// The text of a store's library was not read.
     #[error("library: {0}")]
     Text(TextError),

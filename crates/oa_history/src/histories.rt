@@ -1,5 +1,5 @@
-//! One session in which an object is made, stopped before anything of it is kept, and at its end.
-use crate::{Call, Session, relive};
+//! A session in which an object is made, and a checkpoint, stopped before anything of the session is kept, and at their ends.
+use crate::{Call, Session, Step, Stop, relive};
 use oa_disk::{MemoryDisk, Tear};
 use oa_idl::parse;
 use oa_typelib::check;
@@ -21,28 +21,30 @@ const CREATE: [u8; 24] = [
 const END: u64 = 0xffff_ffff;
 
 /// A session that makes an object, stopped at the moment.
-fn session(alloc: Global, moment: u64, tear: Tear) -> Option<Session> {
+fn session(alloc: Global, moment: u64, tear: Tear) -> Option<Step> {
     let mut body = Vec::new(alloc);
     body.extend_from_slice(&CREATE).ok()?;
     let mut bodies = Vec::new(alloc);
     bodies.push(body).ok()?;
     let mut calls = Vec::new(alloc);
     calls.push(Call::new(bodies, 1)).ok()?;
-    Some(Session {
+    Some(Step::Session(Session {
         calls,
         moment,
         tear,
-    })
+    }))
 }
 
-/// The number of the next object, behind a session that was stopped at the moment and another one that was stopped at its end.
+/// The number of the next object, behind a session and a checkpoint that were stopped at the moment, and another session that was stopped
+/// at its end.
 fn next_of(alloc: Global, moment: u64, tear: Tear) -> Option<u32> {
     let library = check(alloc, parse(alloc, SMALL).ok()?).ok()?;
     let disk = MemoryDisk::new(alloc, 75_505_664, 100, 4000).ok()?;
-    let mut sessions = Vec::new(alloc);
-    sessions.push(session(alloc, moment, tear)?).ok()?;
-    sessions.push(session(alloc, END, Tear::Lost)?).ok()?;
-    let lived = relive(alloc, &library, disk, &sessions).ok()?;
+    let mut steps = Vec::new(alloc);
+    steps.push(session(alloc, moment, tear)?).ok()?;
+    steps.push(Step::Checkpoint(Stop { moment, tear })).ok()?;
+    steps.push(session(alloc, END, Tear::Lost)?).ok()?;
+    let lived = relive(alloc, &library, disk, &steps).ok()?;
     Some(lived.table.next())
 }
 

@@ -1,15 +1,27 @@
-//! Sessions of a server on a disk in memory, one after another, each stopped at a moment of its disk's clock.
+//! Sessions of a server on a disk in memory, as calls: one after another, each stopped at a moment of its disk's clock (`relive`), and one over
+//! a disk that fails from some call on (`survive`). Their contracts are what a reader of the proofs begins with.
 #![tactic(auto)]
 
+mod checkpointing;
+mod failing;
 mod fault;
+mod formatting;
 #[cfg(test)]
 mod histories;
 mod history;
+pub mod laws;
 mod opening;
+#[cfg(test)]
+mod script;
 mod session;
 mod stopping;
+mod surviving;
 
+pub use checkpointing::checkpointed;
+pub use failing::{Fused, Told, withstood};
 pub use fault::HistoryFault;
+pub use formatting::formatted;
 pub use history::{Lived, relive};
-pub use session::{Answer, Call, Heard, Opened, Session};
+pub use session::{Answer, Call, Heard, Opened, Session, Step, Stop};
 pub use stopping::stopped;
+pub use surviving::{Survived, survive};

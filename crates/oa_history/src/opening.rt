@@ -7,7 +7,9 @@ ghost use Rattle.oa_server.specs.Requests.{requests};
 ghost use Rattle.oa_turn.specs.States.{State, state_of};
 ghost use Rattle.oa_store.specs.Stores.{IsStore};
 ghost use Rattle.oa_table.specs.Tables.{first_table};
+ghost use Rattle.oa_typelib.specs.Checked.{IsChecked};
 ghost use Rattle.oa_history.specs.Kept.{Begins, IsKept, IsSettled, IsWanting};
+ghost use Rattle.oa_history.specs.declared.fault.HistoryFault.TheVariants.{Memory};
 
 use crate::{HistoryFault, Opened};
 use oa_disk::{MemoryDisk, Tear};
@@ -40,13 +42,20 @@ pub(crate) fn begun(
     Ok(disk.crash(disk.moments(), Tear::Kept)?)
 }
 
+/// A disk that holds what is read of this one, all of it on the device.
+fn copied(disk: &MemoryDisk) -> Result<MemoryDisk, HistoryFault>
+    ensures contents { IfOk result (λ copy. contents_of copy ≡ contents_of disk.now) }
+    ensures wanting { IfErr result (λ fault. fault ≡ Memory) }
+{
+    Ok(disk.crash(disk.moments(), Tear::Kept)?)
+}
+
 /// The text of the library, and the table, of the store that the disk holds. A copy of the disk is read, so that its clock stays.
 pub(crate) fn shown(alloc: Global, disk: &MemoryDisk) -> Result<(Vec<u8>, Table), HistoryFault>
-    requires { IsSettled disk.now }
     ensures shown { IfOk result (λ r. IsStore (contents_of disk.now) r.0.items r.1) }
     ensures wanting { IfErr result (λ fault. (state : State) → HoldsState requests state (contents_of disk.now) → IsWanting fault) }
 {
-    let mut copy = disk.crash(disk.moments(), Tear::Kept)?;
+    let mut copy = copied(disk)?;
     match inspect(alloc, &mut copy) {
         Ok(shown) => Ok(shown),
         Err(fault) => Err(HistoryFault::Open(fault)),
@@ -54,10 +63,10 @@ pub(crate) fn shown(alloc: Global, disk: &MemoryDisk) -> Result<(Vec<u8>, Table)
 }
 
 /// The library of the store that the disk holds.
-fn library_on(alloc: Global, disk: &MemoryDisk) -> Result<Library, HistoryFault>
-    requires { IsSettled disk.now }
-    ensures kept { IfOk result (λ library. (state : State) → IsKept disk.now state → library ≡ state.library) }
-    ensures wanting { IfErr result (λ fault. (state : State) → IsKept disk.now state → IsWanting fault) }
+pub(crate) fn library_on(alloc: Global, disk: &MemoryDisk) -> Result<Library, HistoryFault>
+    ensures kept { IfOk result (λ library. (state : State) → HoldsState requests state (contents_of disk.now)
+        → IsChecked state.library → library ≡ state.library) }
+    ensures wanting { IfErr result (λ fault. (state : State) → HoldsState requests state (contents_of disk.now) → IsWanting fault) }
 {
     one_tree();
     marked_is_read();

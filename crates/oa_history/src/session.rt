@@ -38,6 +38,20 @@ pub struct Session {
     pub tear: Tear,
 }
 
+/// Where a checkpoint is stopped: at a moment of its disk's clock, as a session is.
+#[derive(Clone, Copy, Debug, PartialEq, Eq)]
+pub struct Stop {
+    pub moment: u64,
+    pub tear: Tear,
+}
+
+/// What is done on a store: a session of a server, or a checkpoint between two of them.
+#[derive(Drop)]
+pub enum Step {
+    Session(Session),
+    Checkpoint(Stop),
+}
+
 /// What a call was answered, and the moment at which it had returned.
 #[derive(Drop)]
 pub struct Answer {
@@ -45,7 +59,7 @@ pub struct Answer {
     pub moment: u64,
 }
 
-/// What was heard of a session: the answer of each call, and its disk as it was at its end.
+/// What was heard of a session: the answer of each call, and its disk as it was at its end. A checkpoint has no calls.
 #[derive(Drop)]
 pub struct Heard {
     pub answers: Vec<Answer>,

@@ -6,46 +6,43 @@ use Rattle.oa_journal.specs.Shapes.{default_bank_bytes}
 use Rattle.oa_turn.specs.States.{state_of}
 use Rattle.oa_table.specs.Tables.{first_table}
 use Rattle.oa_history.specs.Lived.{Lives}
-use Rattle.oa_history.specs.declared.session.Session.{Session}
+use Rattle.oa_history.specs.declared.session.Step.{Step}
 use Rattle.oa_history.proofs.Living.{lives_more, over_all, shown_library, shown_table}
 use Rattle.oa_history.proofs.history.relive.Goals as goal
 
-pub sessions-init : goal.sessions-init
-sessions-init c =
+pub steps-init : goal.steps-init
+steps-init c =
     let disk = c.in_ok-disk.disk in
     let kept = c.in_ok-disk.ensures.kept in
     record { settled = c.in_ok-disk.ensures.settled; lives = (contents_of disk, kept.holds, state_of default_bank_bytes c.args.library.now first_table, rw (c.new-heard.ensures.items) (refl, refl), kept) }
 
-pub stopped-requires : goal.stopped-requires
-stopped-requires c = c.sessions.invariant.settled
+pub stepped-requires : goal.stepped-requires
+stepped-requires c = c.steps.invariant.settled
 
-pub sessions-preserved : goal.sessions-preserved
-sessions-preserved c =
-    let lives = c.sessions.invariant.lives in
-    let told = c.in_ok-told.ensures.stopped lives.2 lives.4 in
+pub steps-preserved : goal.steps-preserved
+steps-preserved c =
+    let lives = c.steps.invariant.lives in
+    let told = c.in_ok-told.ensures.stepped lives.2 lives.4 in
     record {
       settled = c.in_ok-told.ensures.settled;
       lives = (
         lives.0,
         lives.1,
         told.0,
-        lives_more lives.0 (state_of default_bank_bytes c.args.library.now first_table) c.args.sessions.now c.sessions.session-index c.sessions.heard.items c.push.new.self.items (contents_of c.sessions.disk) lives.2
-            c.session-item.result c.in_ok-told.told (contents_of c.in_ok-told.left) told.0 c.sessions-test.true (sym c.session-item.is) c.in_ok-push.ensures.items lives.3 told.1,
+        lives_more lives.0 (state_of default_bank_bytes c.args.library.now first_table) c.args.steps.now c.steps.step-index c.steps.heard.items c.push.new.self.items (contents_of c.steps.disk) lives.2
+            c.step-item.result c.in_ok-told.told (contents_of c.in_ok-told.left) told.0 c.steps-test.true (sym c.step-item.is) c.in_ok-push.ensures.items lives.3 told.1,
         told.2,
       );
     }
 
-pub shown-requires : goal.shown-requires
-shown-requires c = c.sessions.invariant.settled
-
 pub reopened-requires : goal.reopened-requires
-reopened-requires c = c.sessions.invariant.settled
+reopened-requires c = c.steps.invariant.settled
 
 pub returns-clause-lived : goal.returns-clause-lived
 returns-clause-lived c =
-    let lives = c.sessions.invariant.lives in
+    let lives = c.steps.invariant.lives in
     let first = state_of default_bank_bytes c.args.library.now first_table in
-    let disk = c.sessions.disk in
+    let disk = c.steps.disk in
     let kept = lives.4 in
     let begins = c.in_ok-opened.ensures.begins lives.2 kept in
     record {
@@ -53,7 +50,7 @@ returns-clause-lived c =
       holds = lives.1;
       left = contents_of disk;
       last = lives.2;
-      lives = subst (λ (ss : List Session). Lives lives.0 first ss c.sessions.heard.items (contents_of disk) lives.2) (take_all c.sessions.session-index c.args.sessions.now c.sessions-test.false) lives.3;
+      lives = subst (λ (ss : List Step). Lives lives.0 first ss c.steps.heard.items (contents_of disk) lives.2) (take_all c.steps.step-index c.args.steps.now c.steps-test.false) lives.3;
       serves = begins.host;
       over = over_all disk c.in_ok-opened.opened.server.clerk.storage lives.2 begins.over;
       library = shown_library (contents_of disk) c.in_ok-text.text.items c.in_ok-text.table lives.2 c.in_ok-text.ensures.shown kept.holds;
@@ -64,10 +61,10 @@ pub returns-in_err-disk-clause-wanting : goal.returns-in_err-disk-clause-wanting
 returns-in_err-disk-clause-wanting c = let p = err_from_is_err_and c.from_residual.result c.from_residual.ensures.1 in rw (p.1, p.2) c.in_err-disk.ensures.wanting
 
 pub returns-in_err-told-clause-wanting : goal.returns-in_err-told-clause-wanting
-returns-in_err-told-clause-wanting c = let p = err_from_is_err_and c.from_residual-in_err-told.result c.from_residual-in_err-told.ensures.1 in let lives = c.sessions.invariant.lives in rw (p.1, p.2) (c.in_err-told.ensures.wanting lives.2 lives.4)
+returns-in_err-told-clause-wanting c = let p = err_from_is_err_and c.from_residual-in_err-told.result c.from_residual-in_err-told.ensures.1 in let lives = c.steps.invariant.lives in rw (p.1, p.2) (c.in_err-told.ensures.wanting lives.2 lives.4)
 
 pub returns-in_err-text-clause-wanting : goal.returns-in_err-text-clause-wanting
-returns-in_err-text-clause-wanting c = let p = err_from_is_err_and c.from_residual-in_err-text.result c.from_residual-in_err-text.ensures.1 in let lives = c.sessions.invariant.lives in rw (p.1, p.2) (c.in_err-text.ensures.wanting lives.2 lives.4.holds)
+returns-in_err-text-clause-wanting c = let p = err_from_is_err_and c.from_residual-in_err-text.result c.from_residual-in_err-text.ensures.1 in let lives = c.steps.invariant.lives in rw (p.1, p.2) (c.in_err-text.ensures.wanting lives.2 lives.4.holds)
 
 pub returns-in_err-opened-clause-wanting : goal.returns-in_err-opened-clause-wanting
-returns-in_err-opened-clause-wanting c = let p = err_from_is_err_and c.from_residual-in_err-opened.result c.from_residual-in_err-opened.ensures.1 in let lives = c.sessions.invariant.lives in rw (p.1, p.2) (c.in_err-opened.ensures.wanting lives.2 lives.4)
+returns-in_err-opened-clause-wanting c = let p = err_from_is_err_and c.from_residual-in_err-opened.result c.from_residual-in_err-opened.ensures.1 in let lives = c.steps.invariant.lives in rw (p.1, p.2) (c.in_err-opened.ensures.wanting lives.2 lives.4)

@@ -9,9 +9,9 @@ use Rattle.oa_history.specs.Kept.{IsKept, IsSettled}
 use Rattle.oa_history.specs.Lived.{Lives}
 use Rattle.oa_history.proofs.history.relive.Given as goal
 
-abbrev pub invariant-sessions : goal.invariant-sessions
-invariant-sessions l = record {
+abbrev pub invariant-steps : goal.invariant-steps
+invariant-steps l = record {
   settled : IsSettled l.disk;
   lives : (new : List ℕ) × HoldsState requests (state_of default_bank_bytes l.library first_table) new
-      × (state : State) × Lives new (state_of default_bank_bytes l.library first_table) (take l.session-index l.sessions) l.heard.items (contents_of l.disk) state × IsKept l.disk state;
+      × (state : State) × Lives new (state_of default_bank_bytes l.library first_table) (take l.step-index l.steps) l.heard.items (contents_of l.disk) state × IsKept l.disk state;
 }

@@ -7,9 +7,9 @@ use Rattle.oa_history.proofs.Reading.{library_again}
 use Rattle.oa_history.proofs.opening.library_on.Goals as goal
 
 pub returns-in-Ok-clause-kept : goal.returns-in-Ok-clause-kept
-returns-in-Ok-clause-kept c state kept =
-    let text = shown_library (contents_of c.args.disk.now) c.in_ok-text.text.items _ state c.in_ok-text.ensures.shown kept.holds in
-    library_again c.one_tree.ensures (is_read c.marked_is_read.ensures) c.as_slice.result.now c.in-Ok.library state.library kept.begins.checked (c.as_slice.ensures.value ∙ text) c.in-Ok.ensures.1
+returns-in-Ok-clause-kept c state holds checked =
+    let text = shown_library (contents_of c.args.disk.now) c.in_ok-text.text.items _ state c.in_ok-text.ensures.shown holds in
+    library_again c.one_tree.ensures (is_read c.marked_is_read.ensures) c.as_slice.result.now c.in-Ok.library state.library checked (c.as_slice.ensures.value ∙ text) c.in-Ok.ensures.1
 
 pub returns-in_err-text-clause-wanting : goal.returns-in_err-text-clause-wanting
-returns-in_err-text-clause-wanting c = let p = err_from_is_err_and c.from_residual.result c.from_residual.ensures.1 in rw (p.1, p.2) (λ state kept. c.in_err-text.ensures.wanting state kept.holds)
+returns-in_err-text-clause-wanting c = let p = err_from_is_err_and c.from_residual.result c.from_residual.ensures.1 in rw (p.1, p.2) (λ state holds. c.in_err-text.ensures.wanting state holds)

@@ -7,7 +7,7 @@ pub returns-in-Ok-clause-begins : goal.returns-in-Ok-clause-begins
 returns-in-Ok-clause-begins c state kept =
     let disk = c.args.disk in
     let library = c.in_ok-library.library in
-    let same = c.in_ok-library.ensures.kept state kept in
+    let same = c.in_ok-library.ensures.kept state kept.holds kept.begins.checked in
     let clerk = c.in-Ok.server.clerk in
     record {
       host = serves disk library state c.requires.alone (λ d. refl) kept.holds kept.unlocked same clerk.storage clerk.host c.in-Ok.ensures.library c.in-Ok.ensures.bank c.in-Ok.ensures.opened;
@@ -16,7 +16,7 @@ returns-in-Ok-clause-begins c state kept =
 
 pub returns-clause-wanting : goal.returns-clause-wanting
 returns-clause-wanting c state kept r =
-    never_refused c.args.disk c.in_ok-library.library state c.requires.alone (λ d. refl) kept.holds kept.unlocked (c.in_ok-library.ensures.kept state kept) kept.begins _ c.in-Err.fault c.in-Err.ensures.refused r
+    never_refused c.args.disk c.in_ok-library.library state c.requires.alone (λ d. refl) kept.holds kept.unlocked (c.in_ok-library.ensures.kept state kept.holds kept.begins.checked) kept.begins _ c.in-Err.fault c.in-Err.ensures.refused r
 
 pub returns-in_err-library-clause-wanting : goal.returns-in_err-library-clause-wanting
-returns-in_err-library-clause-wanting c = let p = err_from_is_err_and c.from_residual.result c.from_residual.ensures.1 in rw (p.1, p.2) (λ state kept. c.in_err-library.ensures.wanting state kept)
+returns-in_err-library-clause-wanting c = let p = err_from_is_err_and c.from_residual.result c.from_residual.ensures.1 in rw (p.1, p.2) (λ state kept. c.in_err-library.ensures.wanting state kept.holds)

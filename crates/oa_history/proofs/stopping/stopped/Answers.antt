@@ -1,4 +1,4 @@
-use Rattle.std.proofs.Common.{ℕ, refl, sym, subst, arith, min}
+use Rattle.std.proofs.Common.{ℕ, refl, subst, arith, min}
 use Rattle.std.proofs.lemmas.Result.{err_from_is_err_and}
 use Rattle.oa_disk.specs.Memory.{IsTornAt, contents_of, history_of, moments_of}
 use Rattle.oa_disk.specs.Replaying.{since_falls}

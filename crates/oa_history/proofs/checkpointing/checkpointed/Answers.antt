@@ -1,0 +1,38 @@
+use Rattle.std.proofs.Common.{ℕ, ◌≤◌, ◌-◌, min, subst, arith, refl}
+use Rattle.oa_disk.specs.Memory.{IsTornAt, contents_of, history_of, image_of, image_since_of, moments_of}
+use Rattle.oa_disk.specs.Replaying.{since_falls}
+use Rattle.oa_disk.specs.declared.memory.MemoryDisk.{MemoryDisk}
+use Rattle.oa_idl.specs.Canonical.{canonical}
+use Rattle.oa_journal.specs.Banks.{first_gate}
+use Rattle.oa_journal.specs.declared.shape.Shape.TheVariants.{Two}
+use Rattle.oa_turn.specs.Events.{held_of}
+use Rattle.oa_store.specs.Stores.{IsStoreAt}
+use Rattle.oa_history.proofs.Switched.{moved, next_is, state_at, still_holds}
+use Rattle.oa_history.proofs.checkpointing.checkpointed.Goals as goal
+
+pub returns-clause-checkpointed : goal.returns-clause-checkpointed
+returns-clause-checkpointed c state kept =
+    let disk = c.args.disk in
+    let store = c.in_ok-store.store in
+    let table = c.in_ok-store.table in
+    let text = store.library.items in
+    let next = first_gate text table in
+    let opened = c.in_ok-store.ensures.opened in
+    let new = c.checkpoint.new.self in
+    let end = c.into_disk-disk.result in
+    let image = contents_of c.in_ok-left.left in
+    let from : moments_of disk ≤ c.min.result = omega (arith, c.requires.start) in
+    let since = subst (λ (d : MemoryDisk). image_since_of d (moments_of disk) image) c.into_disk-disk.ensures (since_falls (history_of end) (moments_of disk) c.min.result image from c.in_ok-left.ensures.left) in
+    let holds = still_holds _ disk state kept.holds store text table opened.contents opened.found opened.unlocked new next c.requires.alone opened.reads (c.in_default.ensures.leaves.any_moment refl) image since in
+    let torn = subst (λ (n : ℕ). IsTornAt end c.args.stop.tear (min c.args.stop.moment n) image) c.moments.ensures
+    (subst (λ (n : ℕ). IsTornAt end c.args.stop.tear n image) c.min.ensures c.in_ok-left.ensures.torn) in (
+      record {
+        chosen = store.chosen;
+        gate = store.bank.gate;
+        was = state_at _ disk state kept.holds store text table opened.contents store.chosen store.bank.gate (contents_of disk) opened.contents;
+        is = λ l here. subst (λ (n : ℕ). IsStoreAt (Two state.bank) (1 - store.chosen) n (canonical state.library) (held_of state) l) (next_is _ disk state kept.holds store text table opened.contents)
+            (moved _ disk state kept.holds store text table opened.contents opened.found opened.unlocked new next (c.in_default.ensures.leaves.done refl) l (subst (λ (d : MemoryDisk). image_of d l) c.into_disk-disk.ensures here));
+        torn = torn;
+      },
+      record { holds = holds; begins = kept.begins; unlocked = kept.unlocked },
+    )

@@ -1,0 +1,37 @@
+use Rattle.std.proofs.Common.{List, ℕ, true≢false, refl, sym, ◌∙◌, ap, subst}
+use Rattle.std.proofs.lemmas.Result.{err_from_is_err_and}
+use Rattle.oa_disk.specs.Memory.{contents_of}
+use Rattle.oa_idl.specs.Canonical.{canonical}
+use Rattle.oa_journal.specs.declared.shape.Shape.TheVariants.{Two}
+use Rattle.oa_turn.specs.Events.{held_of}
+use Rattle.oa_store.specs.Stores.{IsStoreAt, IsStoreIn}
+use Rattle.oa_history.proofs.Switched.{fits}
+use Rattle.oa_history.proofs.checkpointing.opened_store.Goals as goal
+
+pub returns-in_err-library-clause-wanting : goal.returns-in_err-library-clause-wanting
+returns-in_err-library-clause-wanting c = let p = err_from_is_err_and c.from_residual.result c.from_residual.ensures.1 in rw (p.1, p.2) (λ state kept. c.in_err-library.ensures.wanting state kept.holds)
+
+pub returns-in-Err-clause-wanting : goal.returns-in-Err-clause-wanting
+returns-in-Err-clause-wanting c state kept r =
+    let text = c.text.ensures.text ∙ ap canonical (c.in_ok-library.ensures.kept state kept.holds kept.begins.checked) in
+    c.in-Err.ensures.refused.refused r refl (held_of state) (state.bank, subst (λ (l : List ℕ). IsStoreIn (Two state.bank) (contents_of c.args.disk) l (held_of state)) (sym text) kept.holds)
+
+pub returns-then-not-has_room-clause-wanting : goal.returns-then-not-has_room-clause-wanting
+returns-then-not-has_room-clause-wanting c state kept r =
+    let store = c.in-Ok.found.0 in
+    let table = c.in-Ok.found.1 in
+    let room = fits _ c.args.disk state kept.holds store c.text.result.now table (c.in-Ok.ensures.found.contents refl) kept.unlocked kept.begins in
+    absurd (true≢false (sym (c.has_room.ensures.1 room) ∙ c.if-not-has_room.true))
+
+pub returns-clause-opened : goal.returns-clause-opened
+returns-clause-opened c =
+    let store = c.in-Ok.found.0 in
+    let table = c.in-Ok.found.1 in
+    let starts = c.in-Ok.ensures.starts in
+    record {
+      contents = subst (λ (l : List ℕ). IsStoreAt store.bank.shape store.chosen store.bank.gate l table (contents_of c.args.disk)) (sym starts.has) (c.in-Ok.ensures.found.contents refl);
+      found = λ image is. subst (λ (l : List ℕ). IsStoreAt store.bank.shape store.chosen store.bank.gate l table image) (sym starts.has) (c.in-Ok.ensures.found.found refl image is);
+      unlocked = starts.unlocked;
+      numbered = starts.numbered;
+      reads = c.in-Ok.ensures.reads refl;
+    }

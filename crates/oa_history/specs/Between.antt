@@ -1,0 +1,45 @@
+-- What stands beside sessions: a new store, and a checkpoint.
+use Rattle.std.specs.Prelude.{◌≡◌, ◌⊎◌, ℕ, ◌-◌, true, min, List}
+use Rattle.oa_disk.specs.Disk.{Torn}
+use Rattle.oa_disk.specs.Memory.{IsTornAt, image_of, moments_of}
+use Rattle.oa_disk.specs.declared.crash.Tear.{Tear}
+use Rattle.oa_disk.specs.declared.disk.Disk.{Ghosts}
+use Rattle.oa_disk.specs.declared.memory.MemoryDisk.{MemoryDisk}
+use Rattle.oa_idl.specs.Canonical.{canonical}
+use Rattle.oa_idl.specs.Trees.{TreeValue}
+use Rattle.oa_image.specs.Tables.{is_numbered}
+use Rattle.oa_journal.specs.Banks.{first_gate}
+use Rattle.oa_journal.specs.Shapes.{default_bank_bytes}
+use Rattle.oa_journal.specs.declared.shape.Shape.TheVariants.{Two}
+use Rattle.oa_turn.specs.Events.{held_of}
+use Rattle.oa_turn.specs.States.{State}
+use Rattle.oa_store.specs.Changes.{IsNoneOrFirst}
+use Rattle.oa_store.specs.Reads.{WritesNothing}
+use Rattle.oa_store.specs.Stores.{IsStoreAt}
+use Rattle.oa_store.specs.declared.store.Store.{Store}
+use Rattle.oa_table.specs.Tables.{TableValue, unlocked_table}
+use Rattle.oa_history.specs.declared.session.Stop.{Stop}
+
+-- A disk that held this was formatted with the library, and stopped: it holds the same but for the first byte, or no store, or the new
+-- one; and that is what a crash of the disk at the moment of the stop leaves, as the tear says.
+pub record IsFormatted (found : List ℕ) (library : TreeValue) (moment : ℕ) (tear : Tear) (disk : MemoryDisk) (left : List ℕ) : Type 0 where
+  pub either : Torn 0 1 found left ⊎ IsNoneOrFirst default_bank_bytes (canonical library) left
+  pub torn : IsTornAt disk tear (min moment (moments_of disk)) left
+
+-- A store was opened on the disk: what is read is that store, and each image is, once it was opened, which wrote nothing.
+pub record IsFoundStore {D : Type 0} {g : Ghosts D} (disk : D) (store : Store D g) (table : TableValue) : Type 0 where
+  pub contents : IsStoreAt store.bank.shape store.chosen store.bank.gate store.library.items table (g.contents disk)
+  pub found : (c : List ℕ) → g.image store.disk c → IsStoreAt store.bank.shape store.chosen store.bank.gate store.library.items table c
+  pub unlocked : unlocked_table table ≡ table
+  pub numbered : is_numbered table ≡ true
+  pub reads : WritesNothing g.image g.moment g.image_since disk store.disk
+
+-- The store of the state that was found in one bank stands in the other one, without groups, once the last call of the disk has ended; what
+-- is left is what a crash of the disk at the moment of the stop leaves, as the tear says.
+pub record IsCheckpointed (found : List ℕ) (stop : Stop) (disk : MemoryDisk) (left : List ℕ) (state : State) : Type 0 where
+  pub chosen : ℕ
+  pub gate : ℕ
+  pub was : IsStoreAt (Two state.bank) chosen gate (canonical state.library) (held_of state) found
+  pub is : (c : List ℕ) → image_of disk c
+      → IsStoreAt (Two state.bank) (1 - chosen) (first_gate (canonical state.library) (held_of state)) (canonical state.library) (held_of state) c
+  pub torn : IsTornAt disk stop.tear (min stop.moment (moments_of disk)) left

@@ -1,0 +1,66 @@
+//! A checkpoint between two sessions, and its stop.
+ghost use Rattle.std.specs.Prelude.{◌≡◌, ◌↔◌, IsTrue, IfOk, IfErr};
+ghost use Rattle.oa_disk.specs.Memory.{contents_of};
+ghost use Rattle.oa_journal.specs.Shapes.{body_bytes};
+ghost use Rattle.oa_image.specs.Tables.{FitsBank};
+ghost use Rattle.oa_turn.specs.States.{State};
+ghost use Rattle.oa_history.specs.Kept.{IsKept, IsSettled, IsWanting};
+ghost use Rattle.oa_history.specs.Between.{IsCheckpointed, IsFoundStore};
+
+use crate::opening::library_on;
+use crate::{HistoryFault, Stop};
+use oa_disk::MemoryDisk;
+use oa_image::RESERVED_BYTES;
+use oa_image::laws::images_are_counted;
+use oa_store::{OpenFault, Store};
+use oa_table::Table;
+use std::alloc::Global;
+
+/// Whether the table's image leaves what has to be free of the store's banks.
+fn has_room(store: &Store<MemoryDisk>, table: &Table) -> bool
+    ensures { IsTrue result ↔ FitsBank (body_bytes store.now.bank.shape) table.now }
+{
+    images_are_counted();
+    table.image_size().saturating_add(u64::from(RESERVED_BYTES)) <= u64::from(store.bank_size())
+}
+
+/// Opens the store on the disk with its own library. As by a server it is refused where its table leaves too little room in a bank.
+fn opened_store(alloc: Global, disk: MemoryDisk) -> Result<(Store<MemoryDisk>, Table), HistoryFault>
+    ensures opened { IfOk result (λ r. IsFoundStore disk r.0 r.1) }
+    ensures room { IfOk result (λ r. FitsBank (body_bytes r.0.bank.shape) r.1) }
+    ensures wanting { IfErr result (λ fault. (state : State) → IsKept disk state → IsWanting fault) }
+{
+    let library = library_on(alloc, &disk)?;
+    library.is_checked();
+    let (store, table) = match Store::open(alloc, disk, library.text()) {
+        Ok(found) => found,
+        Err((_, fault)) => return Err(HistoryFault::Open(fault)),
+    };
+    if !has_room(&store, &table) {
+        return Err(HistoryFault::Open(OpenFault::Damaged(0)));
+    }
+    Ok((store, table))
+}
+
+/// Opens the store on the disk with its own library, makes a checkpoint of its table, and stops. Answers the disk as it was at
+/// the end, and the disk that the stop has left.
+pub fn checkpointed(
+    alloc: Global,
+    disk: MemoryDisk,
+    stop: Stop,
+) -> Result<(MemoryDisk, MemoryDisk), HistoryFault>
+    requires { IsSettled disk }
+    ensures settled { IfOk result (λ r. IsSettled r.1) }
+    ensures checkpointed { IfOk result (λ r. (state : State) → IsKept disk state
+        → IsCheckpointed (contents_of disk) stop r.0 (contents_of r.1) state × IsKept r.1 state) }
+    ensures wanting { IfErr result (λ fault. (state : State) → IsKept disk state → IsWanting fault) }
+{
+    let (store, table) = opened_store(alloc, disk)?;
+    let mut store = store;
+    if let Err(fault) = store.checkpoint(&table) {
+        return Err(HistoryFault::Checkpoint(fault));
+    }
+    let disk = store.into_disk();
+    let left = disk.crash(stop.moment.min(disk.moments()), stop.tear)?;
+    Ok((disk, left))
+}

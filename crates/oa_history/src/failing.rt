@@ -1,0 +1,98 @@
+//! Calls of a server over a disk that fails from some call on.
+ghost use Rattle.std.specs.Prelude.{◌≡◌, IfOk, IfErr};
+ghost use Rattle.oa_turn.specs.States.{State};
+ghost use Rattle.oa_history.specs.Kept.{IsKept, IsSettled, IsWanting};
+ghost use Rattle.oa_history.specs.Survived.{AnsweredBy, BeginsOver, HoldsAlone, IsWithstood};
+ghost use Rattle.oa_history.specs.declared.fault.HistoryFault.TheVariants.{Memory};
+
+use crate::opening::library_on;
+use crate::{Call, HistoryFault};
+use oa_disk::{DeviceFault, Disk, FuseDisk, MemoryDisk};
+use oa_record::Reply;
+use oa_server::Server;
+use oa_server::laws::{
+    a_stop_keeps_what_was_answered, an_opening_finds_what_was_kept, sessions_go_on,
+};
+use oa_store::OpenFault;
+use std::alloc::Global;
+
+/// What a call was answered, and how often a call of the disk had failed when it had returned.
+#[derive(Drop)]
+pub struct Told {
+    pub replies: Vec<Reply>,
+    pub failures: u64,
+}
+
+/// A server that was opened on a disk in memory by way of one that fails from some call on.
+#[derive(Drop)]
+pub struct Fused {
+    pub server: Server<FuseDisk<MemoryDisk>>,
+}
+
+/// A server over the disk, or the fault of the device that kept it from being opened, with the disk.
+fn opened_through(
+    alloc: Global,
+    disk: MemoryDisk,
+    first_failing: u64,
+) -> Result<Result<Fused, (MemoryDisk, DeviceFault)>, HistoryFault>
+    requires { IsSettled disk }
+    ensures begins { IfOk result (λ outcome. IfOk outcome (λ fused. (state : State) → IsKept disk state
+        → BeginsOver disk first_failing fused.server state)) }
+    ensures refused { IfOk result (λ outcome. IfErr outcome (λ e. (state : State) → IsKept disk state → HoldsAlone e.0 state)) }
+    ensures wanting { IfErr result (λ fault. (state : State) → IsKept disk state → IsWanting fault) }
+{
+    an_opening_finds_what_was_kept::<FuseDisk<MemoryDisk>>();
+    let library = library_on(alloc, &disk)?;
+    let fuse = FuseDisk::new(disk, first_failing);
+    match Server::open(alloc, fuse, library) {
+        Ok(server) => Ok(Ok(Fused { server })),
+        Err((back, fault)) => match fault {
+            OpenFault::Device(device) => Ok(Err((back.into_inner(), device))),
+            _ => Err(HistoryFault::Open(fault)),
+        },
+    }
+}
+
+/// Makes the calls of a server, one after another.
+fn told_by(
+    alloc: Global,
+    server: &mut Server<FuseDisk<MemoryDisk>>,
+    calls: &[Call],
+) -> Result<Vec<Told>, HistoryFault>
+    ensures answered { IfOk result (λ told. AnsweredBy server.old calls.now told.items server.new) }
+    ensures wanting { IfErr result (λ fault. fault ≡ Memory) }
+{
+    let mut told = Vec::new(alloc);
+    'calls: for call in calls {
+        let replies = server.run(call.bodies.as_slice(), call.group)?;
+        let failures = server.disk().failures();
+        told.push(Told { replies, failures })?;
+    }
+    Ok(told)
+}
+
+/// Opens the store on the disk with its own library, makes the calls, and hands the disk back; from call number `first_failing` of the disk
+/// on, each call of it fails. Answers what each call of the server was told, or the fault of the device that the opening has met.
+pub fn withstood(
+    alloc: Global,
+    disk: MemoryDisk,
+    calls: &[Call],
+    first_failing: u64,
+) -> Result<(Result<Vec<Told>, DeviceFault>, MemoryDisk), HistoryFault>
+    requires { IsSettled disk }
+    ensures withstood { IfOk result (λ r. (before : State) → IsKept disk before
+        → IsWithstood disk first_failing calls.now r.0 before r.1) }
+    ensures wanting { IfErr result (λ fault. (before : State) → IsKept disk before → IsWanting fault) }
+{
+    sessions_go_on::<FuseDisk<MemoryDisk>>();
+    a_stop_keeps_what_was_answered::<FuseDisk<MemoryDisk>>();
+    match opened_through(alloc, disk, first_failing)? {
+        Ok(fused) => {
+            let Fused { mut server } = fused;
+            let told = told_by(alloc, &mut server, calls)?;
+            let back = server.into_disk().into_inner();
+            Ok((Ok(told), back))
+        }
+        Err((back, fault)) => Ok((Err(fault), back)),
+    }
+}

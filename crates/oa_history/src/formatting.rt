@@ -1,0 +1,41 @@
+//! A new store whose making is stopped.
+ghost use Rattle.std.specs.Prelude.{◌≡◌, ◌≤◌, IfOk, IfErr};
+ghost use Rattle.oa_disk.specs.Memory.{contents_of, moments_of};
+ghost use Rattle.oa_journal.specs.Shapes.{default_bank_bytes};
+ghost use Rattle.oa_turn.specs.States.{state_of};
+ghost use Rattle.oa_table.specs.Tables.{first_table};
+ghost use Rattle.oa_history.specs.Between.{IsFormatted};
+ghost use Rattle.oa_history.specs.Kept.{IsKept, IsSettled, IsWanting};
+
+use crate::HistoryFault;
+use oa_disk::{MemoryDisk, Tear};
+use oa_journal::DEFAULT_BANK_BYTES;
+use oa_server::laws::what_was_served_is_served_again;
+use oa_store::format;
+use oa_typelib::Library;
+use std::alloc::Global;
+
+/// Formats the disk with the library, and stops at the moment. Answers the disk as it was at the end, and the disk that the stop has left:
+/// that holds what was there but for the first byte, or no store, or the new store; and at the end the new store.
+pub fn formatted(
+    alloc: Global,
+    disk: MemoryDisk,
+    library: &Library,
+    moment: u64,
+    tear: Tear,
+) -> Result<(MemoryDisk, MemoryDisk), HistoryFault>
+    requires { IsSettled disk }
+    ensures settled { IfOk result (λ r. IsSettled r.1) }
+    ensures formatted { IfOk result (λ r. IsFormatted (contents_of disk) library.now moment tear r.0 (contents_of r.1)) }
+    ensures kept { IfOk result (λ r. moments_of r.0 ≤ moment → IsKept r.1 (state_of default_bank_bytes library.now first_table)) }
+    ensures wanting { IfErr result IsWanting }
+{
+    library.is_checked();
+    what_was_served_is_served_again();
+    let mut disk = disk;
+    if let Err(fault) = format(alloc, &mut disk, library.text(), DEFAULT_BANK_BYTES) {
+        return Err(HistoryFault::Format(fault));
+    }
+    let left = disk.crash(moment.min(disk.moments()), tear)?;
+    Ok((disk, left))
+}

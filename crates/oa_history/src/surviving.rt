@@ -1,0 +1,83 @@
+//! What is found behind calls over a disk that fails.
+ghost use Rattle.std.specs.Prelude.{◌≡◌, IfOk, IfErr};
+ghost use Rattle.oa_disk.specs.Memory.{contents_of, image_of};
+ghost use Rattle.oa_groups.specs.Runs.{HoldsState};
+ghost use Rattle.oa_journal.specs.Shapes.{default_bank_bytes};
+ghost use Rattle.oa_turn.specs.Beginnings.{CanBegin};
+ghost use Rattle.oa_server.specs.Requests.{opened, requests};
+ghost use Rattle.oa_turn.specs.States.{State, state_of};
+ghost use Rattle.oa_table.specs.Tables.{first_table};
+ghost use Rattle.oa_history.specs.Kept.{IsWanting};
+ghost use Rattle.oa_history.specs.Survived.{IsSurvived, IsTakenUp};
+
+use crate::opening::{begun, library_on, shown};
+use crate::{Call, HistoryFault, Opened, Told, withstood};
+use oa_disk::{DeviceFault, MemoryDisk};
+use oa_idl::laws::{marked_is_read, one_tree};
+use oa_server::Server;
+use oa_server::laws::{an_opening_finds_what_was_kept, what_was_served_is_served_again};
+use oa_table::Table;
+use oa_typelib::Library;
+use std::alloc::Global;
+
+/// What calls were told over a disk that fails from some call on, and what was found on it then.
+#[derive(Drop)]
+pub struct Survived {
+    /// What each call of the server was told, or the fault of the device that its opening has met.
+    pub told: Result<Vec<Told>, DeviceFault>,
+    /// The canonical text of the library that was found.
+    pub library: Vec<u8>,
+    /// The table of objects that was found.
+    pub table: Table,
+    /// A server that was opened on the disk that was handed back.
+    pub opened: Opened,
+}
+
+/// Opens the store that the disk holds, whatever is pending on it, with its own library.
+pub(crate) fn taken_up(alloc: Global, disk: MemoryDisk) -> Result<Opened, HistoryFault>
+    ensures taken { IfOk result (λ r. (state : State) → HoldsState requests state (contents_of disk) → CanBegin state
+        → IsTakenUp disk r.server (opened state)) }
+    ensures wanting { IfErr result (λ fault. (state : State) → HoldsState requests state (contents_of disk) → CanBegin state
+        → IsWanting fault) }
+{
+    one_tree();
+    marked_is_read();
+    an_opening_finds_what_was_kept::<MemoryDisk>();
+    let library = library_on(alloc, &disk)?;
+    match Server::open(alloc, disk, library) {
+        Ok(server) => Ok(Opened { server }),
+        Err((_, fault)) => Err(HistoryFault::Open(fault)),
+    }
+}
+
+/// Formats the disk with the library, opens a server on it, makes the calls, and takes the disk back; from call number `first_failing` of
+/// the disk on, which is counted from the opening's first, each call of it fails. Then the disk is opened as it was handed back, and there
+/// no call fails.
+///
+/// The replies are those of a run, group for group, up to the group in which the device fails: all of that is answered STG_E_WRITEFAULT,
+/// and what comes behind it E_FAIL, without a call of the disk. What is found then is the state after all groups that were answered, with
+/// the one in which the device failed or without it, whole or not at all. Where the opening has met the fault, it is the state of before.
+///
+/// An Err says what it says of `relive`.
+pub fn survive(
+    alloc: Global,
+    library: &Library,
+    disk: MemoryDisk,
+    calls: &[Call],
+    first_failing: u64,
+) -> Result<Survived, HistoryFault>
+    ensures survived { IfOk result (IsSurvived (state_of default_bank_bytes library.now first_table) calls.now first_failing) }
+    ensures wanting { IfErr result IsWanting }
+{
+    what_was_served_is_served_again();
+    let disk = begun(alloc, disk, library)?;
+    let (told, back) = withstood(alloc, disk, calls, first_failing)?;
+    let (text, table) = shown(alloc, &back)?;
+    let opened = taken_up(alloc, back)?;
+    Ok(Survived {
+        told,
+        library: text,
+        table,
+        opened,
+    })
+}

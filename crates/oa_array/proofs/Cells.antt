@@ -4,7 +4,7 @@ use Rattle.std.proofs.lemmas.Option.{slice_get-get_or, slice_get_past, unwrap_or
 use Rattle.std.proofs.Common.{get_or-set_same, get_or-set_other}
 use Rattle.oa_model.specs.declared.bound.Bound.{Bound}
 use Rattle.oa_array.specs.Boxes.{InBounds, box_size, position_of}
-use Rattle.oa_array.specs.Arrays.{ArrayValue, cell_at, with_cell, with_first, kept_by_position, redimensioned}
+use Rattle.oa_array.specs.Arrays.{ArrayValue, array_element, with_cell, with_first, kept_by_position, redimensioned}
 use Rattle.oa_array.proofs.Places.{position-below, same_list}
 use Rattle.oa_array.proofs.Redim.{length-kept, get-kept}
 
@@ -18,8 +18,8 @@ module _ {X : Type 0} where
       slice_get-get_or (set cells i cell) j cell (omega (arith, length-set {A = X} cells i cell, h)) ∙ ap Some (rw get_or-set_other) ∙ sym (slice_get-get_or cells j cell h)
 
   pub put_one : (a : ArrayValue X) (index other : List ℤ) (cell : X) → length a.cells ≡ box_size a.bounds → InBounds a.bounds index
-      → InBounds a.bounds other → (cell_at (with_cell a index cell) index ≡ Some cell)
-      × ((other ≡ index → ⊥) → cell_at (with_cell a index cell) other ≡ cell_at a other)
+      → InBounds a.bounds other → (array_element (with_cell a index cell) index ≡ Some cell)
+      × ((other ≡ index → ⊥) → array_element (with_cell a index cell) other ≡ array_element a other)
   put_one a index other cell whole here there =
       let i = position-below a.bounds index here in
       let j = position-below a.bounds other there in (
@@ -35,7 +35,7 @@ module _ {X : Type 0} where
   pub redim_kept : (a : ArrayValue X) (blank : X) (bound : Bound) (index old : List ℤ) → length a.cells ≡ box_size a.bounds
       → InBounds (with_first bound a.bounds) index → InBounds a.bounds old
       → position_of (with_first bound a.bounds) index ≡ position_of a.bounds old
-      → cell_at (redimensioned blank bound a) index ≡ cell_at a old
+      → array_element (redimensioned blank bound a) index ≡ array_element a old
   redim_kept a blank bound index old whole here there e =
       let new = with_first bound a.bounds in
       let i = position-below new index here in
@@ -45,7 +45,7 @@ module _ {X : Type 0} where
 
   pub redim_fresh : (a : ArrayValue X) (blank : X) (bound : Bound) (index : List ℤ) → length a.cells ≡ box_size a.bounds
       → InBounds (with_first bound a.bounds) index → box_size a.bounds ≤ position_of (with_first bound a.bounds) index
-      → cell_at (redimensioned blank bound a) index ≡ Some blank
+      → array_element (redimensioned blank bound a) index ≡ Some blank
   redim_fresh a blank bound index whole here past =
       let new = with_first bound a.bounds in
       kept_get blank (box_size new) a.cells (position_of new index) (position-below new index here)

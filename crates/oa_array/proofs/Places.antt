@@ -12,7 +12,7 @@ use Rattle.std.specs.List.{range_with_len}
 use Rattle.std.specs.Cmp.{int_cmp_is}
 use Rattle.std.specs.Cmp.Lexicographic.{slice_cmp}
 use Rattle.oa_model.specs.declared.bound.Bound.{Bound}
-use Rattle.oa_array.specs.Boxes.{IsWithin, InBounds, members, box_size, comes_before, position_of}
+use Rattle.oa_array.specs.Boxes.{IsWithin, InBounds, index_lists, box_size, comes_before, position_of}
 use Rattle.oa_array.proofs.Counting.{count-append, count-map, count_all, count_none, get_left, get_right, option_map-Some, same_inside}
 
 -- index lists that begin with one index, and those that begin with the n indices from low + a on
@@ -147,21 +147,21 @@ row_found low rest a (suc n) p index e =
 -- ---- the definitions, one dimension after another
 
 pub box_size-nil : box_size [] ≡ 1
-unfolding box_size members
+unfolding box_size index_lists
 box_size-nil = refl
 
 pub box_size-cons : (bound : Bound) (rest : List Bound) → box_size (bound ∷ rest) ≡ bound.count * box_size rest
-unfolding box_size members
-box_size-cons bound rest = length-rows bound.lower (members rest) 0 bound.count
+unfolding box_size index_lists
+box_size-cons bound rest = length-rows bound.lower (index_lists rest) 0 bound.count
 
 pub position_of-nil : position_of [] [] ≡ 0
-unfolding position_of members
+unfolding position_of index_lists
 position_of-nil = refl
 
 pub position_of-cons : (bound : Bound) (rest : List Bound) (above : ℕ) (tail : List ℤ) → above < bound.count
     → position_of (bound ∷ rest) ((bound.lower +ℤ pos above) ∷ tail) ≡ above * box_size rest + position_of rest tail
-unfolding position_of box_size members
-position_of-cons bound rest above tail h = count_rows bound.lower above tail (members rest) 0 bound.count above (zero-add above) h
+unfolding position_of box_size index_lists
+position_of-cons bound rest above tail h = count_rows bound.lower above tail (index_lists rest) 0 bound.count above (zero-add above) h
 
 pub IsWithin-at : (bound : Bound) (above : ℕ) → above < bound.count → IsWithin bound (bound.lower +ℤ pos above)
 IsWithin-at bound above h = (omega (arith, ints), omega (arith, ints, h))
@@ -184,47 +184,47 @@ position-below (bound ∷ rest) (i ∷ tail) h =
     let P : ℤ → Type 0 = λ j. position_of (bound ∷ rest) (j ∷ tail) < box_size (bound ∷ rest) in
     subst P (sym w.1.0) (omega (arith, box_size-cons bound rest, position_of-cons bound rest w.0 tail w.1.1, mul-add-lt w.0 (box_size rest) (position_of rest tail) bound.count w.1.1 (position-below rest tail h.1)))
 
-member-nil : slice_get (members []) (position_of [] []) ≡ Some []
-unfolding members position_of
+member-nil : slice_get (index_lists []) (position_of [] []) ≡ Some []
+unfolding index_lists position_of
 member-nil = refl
 
 member-cons : (bound : Bound) (rest : List Bound) (above place : ℕ) (tail : List ℤ) → above < bound.count
-    → slice_get (members rest) place ≡ Some tail → slice_get (members (bound ∷ rest))
+    → slice_get (index_lists rest) place ≡ Some tail → slice_get (index_lists (bound ∷ rest))
     (above * box_size rest + place) ≡ Some ((bound.lower +ℤ pos above) ∷ tail)
-unfolding members box_size
+unfolding index_lists box_size
 member-cons bound rest above place tail h e =
     let begin = λ (t : List ℤ). (bound.lower +ℤ pos (0 + above)) ∷ t in
-    at_row bound.lower (members rest) 0 bound.count above place h (slice_get_within (members rest) place tail e)
-    ∙ slice_get-map begin (members rest) place ∙ ap (option_map begin) e ∙ ap (λ k. Some ((bound.lower +ℤ pos k) ∷ tail)) (zero-add above)
+    at_row bound.lower (index_lists rest) 0 bound.count above place h (slice_get_within (index_lists rest) place tail e)
+    ∙ slice_get-map begin (index_lists rest) place ∙ ap (option_map begin) e ∙ ap (λ k. Some ((bound.lower +ℤ pos k) ∷ tail)) (zero-add above)
 
 -- an index list within the bounds is the member at its position
 pub member_at : (bounds : List Bound) (index : List ℤ) → InBounds bounds index
-    → slice_get (members bounds) (position_of bounds index) ≡ Some index
+    → slice_get (index_lists bounds) (position_of bounds index) ≡ Some index
 member_at [] [] h = member-nil
 member_at [] (i ∷ index) h = absurd h
 member_at (bound ∷ rest) [] h = absurd h
 member_at (bound ∷ rest) (i ∷ tail) h =
     let w = IsWithin-above bound i h.0 in
-    let P : ℤ → Type 0 = λ j. slice_get (members (bound ∷ rest)) (position_of (bound ∷ rest) (j ∷ tail)) ≡ Some (j ∷ tail) in
-    subst P (sym w.1.0) (ap (slice_get (members (bound ∷ rest))) (position_of-cons bound rest w.0 tail w.1.1) ∙ member-cons bound rest w.0 (position_of rest tail) tail w.1.1 (member_at rest tail h.1))
+    let P : ℤ → Type 0 = λ j. slice_get (index_lists (bound ∷ rest)) (position_of (bound ∷ rest) (j ∷ tail)) ≡ Some (j ∷ tail) in
+    subst P (sym w.1.0) (ap (slice_get (index_lists (bound ∷ rest))) (position_of-cons bound rest w.0 tail w.1.1) ∙ member-cons bound rest w.0 (position_of rest tail) tail w.1.1 (member_at rest tail h.1))
 
-found-nil : (index : List ℤ) (place : ℕ) → slice_get (members []) place ≡ Some index → InBounds [] index × (position_of [] index ≡ place)
-unfolding members position_of
+found-nil : (index : List ℤ) (place : ℕ) → slice_get (index_lists []) place ≡ Some index → InBounds [] index × (position_of [] index ≡ place)
+unfolding index_lists position_of
 found-nil [] zero e = (tt, refl)
 found-nil (i ∷ index) zero e = absurd cc
 found-nil index (suc place) e = absurd (none-some index e)
 
-found-cons : (bound : Bound) (rest : List Bound) (index : List ℤ) (place : ℕ) → slice_get (members (bound ∷ rest)) place ≡ Some index
-    → StandsAt bound.lower (members rest) 0 bound.count place index
-unfolding members
-found-cons bound rest index place e = row_found bound.lower (members rest) 0 bound.count place index e
+found-cons : (bound : Bound) (rest : List Bound) (index : List ℤ) (place : ℕ) → slice_get (index_lists (bound ∷ rest)) place ≡ Some index
+    → StandsAt bound.lower (index_lists rest) 0 bound.count place index
+unfolding index_lists
+found-cons bound rest index place e = row_found bound.lower (index_lists rest) 0 bound.count place index e
 
-box_size-members : (bounds : List Bound) → length (members bounds) ≡ box_size bounds
+box_size-members : (bounds : List Bound) → length (index_lists bounds) ≡ box_size bounds
 unfolding box_size
 box_size-members bounds = refl
 
 found-here : (bound : Bound) (rest : List Bound) (index : List ℤ) (place : ℕ)
-    (s : StandsAt bound.lower (members rest) 0 bound.count place index) → InBounds rest s.tail × (position_of rest s.tail ≡ s.below)
+    (s : StandsAt bound.lower (index_lists rest) 0 bound.count place index) → InBounds rest s.tail × (position_of rest s.tail ≡ s.below)
     → InBounds (bound ∷ rest) index × (position_of (bound ∷ rest) index ≡ place)
 found-here bound rest index place s below =
     let list : index ≡ (bound.lower +ℤ pos s.above) ∷ s.tail = s.list ∙ ap (λ k. (bound.lower +ℤ pos k) ∷ s.tail) (zero-add s.above) in
@@ -233,7 +233,7 @@ found-here bound rest index place s below =
     subst P (sym list) ((IsWithin-at bound s.above s.inside, below.0), omega (arith, position_of-cons bound rest s.above s.tail s.inside, below.1, s.place, size))
 
 -- and every member lies in the bounds, at the place that is its position
-pub member_found : (bounds : List Bound) (index : List ℤ) (place : ℕ) → slice_get (members bounds) place ≡ Some index
+pub member_found : (bounds : List Bound) (index : List ℤ) (place : ℕ) → slice_get (index_lists bounds) place ≡ Some index
     → InBounds bounds index × (position_of bounds index ≡ place)
 member_found [] index place e = found-nil index place e
 member_found (bound ∷ rest) index place e =
@@ -244,4 +244,4 @@ member_found (bound ∷ rest) index place e =
 pub same_list : (bounds : List Bound) (x y : List ℤ) → InBounds bounds x → InBounds bounds y → position_of bounds x ≡ position_of bounds y
     → x ≡ y
 same_list bounds x y hx hy e =
-    same_inside x y (sym (member_at bounds x hx) ∙ ap (slice_get (members bounds)) e ∙ member_at bounds y hy)
+    same_inside x y (sym (member_at bounds x hx) ∙ ap (slice_get (index_lists bounds)) e ∙ member_at bounds y hy)

@@ -17,7 +17,7 @@ pub record ArrayValue (X : Type 0) : Type 0 where
   pub locks : ℕ
 
 -- there are arrays of a type that has an sfType, of at least one bound, and of no more bounds and cells than the limits say
-pub record IsShape (elem : VarType) (bounds : List Bound) : Type 0 where
+pub record IsArrayShape (elem : VarType) (bounds : List Bound) : Type 0 where
   pub typed : IsSome (sf_type_of elem)
   pub some : 0 < length bounds
   pub few : length bounds ≤ max_dimensions
@@ -30,13 +30,13 @@ with_first bound bounds = bound ∷ drop 1 bounds
 module _ {X : Type 0} where
   -- what holds of every array: it has one cell for each member of its box, and each of the type
   pub record IsArray (fits : X → VarType → Type 0) (a : ArrayValue X) : Type 0 where
-    pub shape : IsShape a.elem a.bounds
+    pub shape : IsArrayShape a.elem a.bounds
     pub whole : length a.cells ≡ box_size a.bounds
     pub typed : All (λ cell. fits cell a.elem) a.cells
 
   -- the cell of an index list within the bounds
-  abbrev pub cell_at : ArrayValue X → List ℤ → Option X
-  cell_at a index = slice_get a.cells (position_of a.bounds index)
+  abbrev pub array_element : ArrayValue X → List ℤ → Option X
+  array_element a index = slice_get a.cells (position_of a.bounds index)
 
   -- the same array with another cell there
   abbrev pub with_cell : ArrayValue X → List ℤ → X → ArrayValue X

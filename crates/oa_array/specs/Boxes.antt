@@ -18,13 +18,13 @@ abbrev pub indices : Bound → List ℤ
 indices bound = map (λ k. bound.lower +ℤ pos k) (range_with_len 0 bound.count)
 
 -- the box of the bounds: all index lists that lie in them, those with the lowest first index first
-unfoldable pub members : List Bound → List (List ℤ)
-members [] = [] ∷ []
-members (bound ∷ rest) = flat_map (λ i. map (λ tail. i ∷ tail) (members rest)) (indices bound)
+unfoldable pub index_lists : List Bound → List (List ℤ)
+index_lists [] = [] ∷ []
+index_lists (bound ∷ rest) = flat_map (λ i. map (λ tail. i ∷ tail) (index_lists rest)) (indices bound)
 
 -- how many index lists lie in the bounds
 unfoldable pub box_size : List Bound → ℕ
-box_size bounds = length (members bounds)
+box_size bounds = length (index_lists bounds)
 
 -- the first place at which two index lists differ decides
 abbrev pub comes_before : List ℤ → List ℤ → Bool
@@ -32,4 +32,4 @@ comes_before x y = is_lt (slice_cmp int_cmp x y)
 
 -- the position of an index list: how many members of the box come before it
 unfoldable pub position_of : List Bound → List ℤ → ℕ
-position_of bounds index = count_by (λ member. comes_before member index) (members bounds)
+position_of bounds index = count_by (λ member. comes_before member index) (index_lists bounds)

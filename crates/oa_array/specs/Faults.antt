@@ -5,23 +5,23 @@ use Rattle.oa_model.specs.declared.bound.Bound.{Bound}
 use Rattle.oa_model.specs.declared.hresult.HResult.{HResult}
 use Rattle.oa_model.specs.declared.var_type.VarType.{VarType}
 use Rattle.oa_model.specs.Codes.{disp_e_badindex, disp_e_typemismatch, disp_e_arrayislocked, e_invalidarg, e_unexpected, e_outofmemory}
-use Rattle.oa_array.specs.Arrays.{ArrayValue, IsShape, with_first}
+use Rattle.oa_array.specs.Arrays.{ArrayValue, IsArrayShape, with_first}
 use Rattle.oa_array.specs.Boxes.{InBounds, box_size}
 use Rattle.oa_array.specs.declared.fault.ArrayFault.{ArrayFault}
 use Rattle.oa_array.specs.declared.fault.ArrayFault.TheVariants.{BadIndex, TypeMismatch, IsLocked, InvalidArgument, Unexpected, Memory}
 
-abbrev pub code_of : ArrayFault → HResult
-code_of BadIndex = disp_e_badindex
-code_of TypeMismatch = disp_e_typemismatch
-code_of IsLocked = disp_e_arrayislocked
-code_of InvalidArgument = e_invalidarg
-code_of Unexpected = e_unexpected
-code_of Memory = e_outofmemory
+abbrev pub array_code : ArrayFault → HResult
+array_code BadIndex = disp_e_badindex
+array_code TypeMismatch = disp_e_typemismatch
+array_code IsLocked = disp_e_arrayislocked
+array_code InvalidArgument = e_invalidarg
+array_code Unexpected = e_unexpected
+array_code Memory = e_outofmemory
 
 -- no such array, or no memory for it
 abbrev pub RefusesCreate : VarType → List Bound → ArrayFault → Type 0
-RefusesCreate elem bounds InvalidArgument = IsShape elem bounds → ⊥
-RefusesCreate elem bounds Memory = IsShape elem bounds
+RefusesCreate elem bounds InvalidArgument = IsArrayShape elem bounds → ⊥
+RefusesCreate elem bounds Memory = IsArrayShape elem bounds
 RefusesCreate elem bounds _ = ⊥
 
 module _ {X : Type 0} where

@@ -2,7 +2,7 @@
 ghost use Rattle.std.specs.Prelude.{◌≡◌, ◌↔◌, ◌+◌, ◌-◌, ◌<◌, ◌≤◌, ◌⊎◌, Some, length, slice_get, All, MatchOption, MatchResult, IfOk};
 ghost use Rattle.std.specs.Prelude.{replicate};
 ghost use Rattle.oa_array.specs.Boxes.{InBounds, box_size};
-ghost use Rattle.oa_array.specs.Arrays.{ArrayValue, IsShape, IsArray, cell_at, with_cell, with_locks, with_first, all_cells};
+ghost use Rattle.oa_array.specs.Arrays.{ArrayValue, IsArrayShape, IsArray, array_element, with_cell, with_locks, with_first, all_cells};
 ghost use Rattle.oa_array.specs.Arrays.{kept_by_position, redimensioned};
 ghost use Rattle.oa_array.specs.Faults.{RefusesCreate, RefusesPut, RefusesRedim};
 ghost use Rattle.std.specs.Ordering.{eq_of_both, on};
@@ -26,8 +26,8 @@ use std::marker::Model;
 /// How many cells an array of this type and these bounds has. None where there is no such array: without an sfType, with no bound
 /// or more than 16, or of more than 65,536 cells.
 pub fn cell_count(elem: VarType, bounds: &[Bound]) -> Option<usize>
-    ensures { MatchOption result (IsShape elem bounds.now → ⊥)
-        (λ n. IsShape elem bounds.now × (n ≡ box_size bounds.now)) }
+    ensures { MatchOption result (IsArrayShape elem bounds.now → ⊥)
+        (λ n. IsArrayShape elem bounds.now × (n ≡ box_size bounds.now)) }
 {
     let (first, others) = bounds.split_first()?;
     if bounds.len() > MAX_DIMENSIONS || elem.sf_type().is_none() {
@@ -67,7 +67,7 @@ impl<T: Cell> SafeArray<T> {
         bounds: &[Bound],
     ) -> Result<SafeArray<T>, ArrayFault>
         ensures { MatchResult result
-            (λ a. IsShape elem bounds.now × (a ≡ all_cells elem bounds.now (T.zero_of elem)))
+            (λ a. IsArrayShape elem bounds.now × (a ≡ all_cells elem bounds.now (T.zero_of elem)))
             (λ fault. RefusesCreate elem bounds.now fault) }
     {
         let count = cell_count(elem, bounds).ok_or(ArrayFault::InvalidArgument)?;
@@ -78,7 +78,7 @@ impl<T: Cell> SafeArray<T> {
 
     /// An array of given cells, in the order of their positions, without locks.
     pub fn of_cells(elem: VarType, bounds: Vec<Bound>, cells: Cells<T>) -> SafeArray<T>
-        requires shape { IsShape elem bounds.items }
+        requires shape { IsArrayShape elem bounds.items }
         requires count { length cells ≡ box_size bounds.items }
         requires fits { All (λ cell. T.Fits cell elem) cells }
         ensures { result ≡ record { elem = elem; bounds = bounds.items; cells = cells; locks = 0 } }
@@ -124,7 +124,7 @@ impl<T: Cell> SafeArray<T> {
     /// the bounds.
     pub fn element(&self, index: &[i32]) -> Result<&T, ArrayFault>
         ensures { MatchResult result
-            (λ cell. InBounds self.now.bounds index.now × (cell_at self.now index.now ≡ Some cell.now))
+            (λ cell. InBounds self.now.bounds index.now × (array_element self.now index.now ≡ Some cell.now))
             (λ fault. (InBounds self.now.bounds index.now → ⊥) × (fault ≡ ArrayFault.BadIndex)) }
     {
         let place = position(self.bounds.as_slice(), index, self.cells.len()).ok_or(
@@ -140,7 +140,7 @@ impl<T: Cell> SafeArray<T> {
     pub fn put_element(&mut self, index: &[i32], value: T) -> Result<T, (T, ArrayFault)>
         ensures { MatchResult result
             (λ was. InBounds self.old.bounds index.now × T.Fits value self.old.elem
-            × (cell_at self.old index.now ≡ Some was) × (self.new ≡ with_cell self.old index.now value))
+            × (array_element self.old index.now ≡ Some was) × (self.new ≡ with_cell self.old index.now value))
             (λ refused. (refused.0 ≡ value) × RefusesPut T.Fits self.old index.now value refused.1 × (self.new ≡ self.old)) }
     {
         let Some(place) = position(self.bounds.as_slice(), index, self.cells.len()) else {

@@ -1,7 +1,7 @@
 //! Why a call on an array is refused.
 ghost use Rattle.std.specs.Prelude.{◌≡◌};
 ghost use Rattle.oa_array.specs.declared.fault.ArrayFault.TheVariants.{Memory};
-ghost use Rattle.oa_array.specs.Faults.{code_of};
+ghost use Rattle.oa_array.specs.Faults.{array_code};
 
 use oa_model::HResult;
 use std::alloc::AllocError;
@@ -33,7 +33,7 @@ pub enum ArrayFault {
 impl ArrayFault {
     /// The code of a reply with this refusal (MS-ERREF section 2.1).
     pub fn code(self) -> HResult
-        ensures { result ≡ code_of self }
+        ensures { result ≡ array_code self }
     {
         match self {
             ArrayFault::BadIndex => HResult::DISP_E_BADINDEX,

@@ -1,14 +1,14 @@
 //! Laws of the definitions, each the contract of a function with an empty body.
 ghost use Rattle.std.specs.Prelude.{◌≡◌, ℕ, ◌+◌, ◌*◌, ◌<◌, ◌≤◌, ◌↔◌, ℤ, pos, ◌+ℤ◌, List, [], ◌∷◌, length, slice_get, Some};
 ghost use Rattle.oa_model.specs.declared.bound.Bound.{Bound};
-ghost use Rattle.oa_array.specs.Boxes.{InBounds, members, box_size, position_of};
-ghost use Rattle.oa_array.specs.Arrays.{ArrayValue, cell_at, with_cell, with_first, redimensioned};
+ghost use Rattle.oa_array.specs.Boxes.{InBounds, index_lists, box_size, position_of};
+ghost use Rattle.oa_array.specs.Arrays.{ArrayValue, array_element, with_cell, with_first, redimensioned};
 
 /// In the list of all members of a box there stands, at each place, the index list that lies in the bounds and has that place as its
 /// position: each of them once, the smaller ones before it.
 pub fn members_stand_at_their_positions()
     ensures { (bounds : List Bound) (index : List ℤ) (place : ℕ) →
-        (slice_get (members bounds) place ≡ Some index) ↔ (InBounds bounds index × (position_of bounds index ≡ place)) }
+        (slice_get (index_lists bounds) place ≡ Some index) ↔ (InBounds bounds index × (position_of bounds index ≡ place)) }
 {}
 
 /// How many members a box has is the product of the counts.
@@ -28,8 +28,8 @@ pub fn position_is_a_sum_of_products()
 pub fn put_changes_one_cell<T>()
     ensures { (a : ArrayValue T) (index other : List ℤ) (cell : T) → length a.cells ≡ box_size a.bounds →
         InBounds a.bounds index → InBounds a.bounds other →
-        (cell_at (with_cell a index cell) index ≡ Some cell)
-        × ((other ≡ index → ⊥) → cell_at (with_cell a index cell) other ≡ cell_at a other) }
+        (array_element (with_cell a index cell) index ≡ Some cell)
+        × ((other ≡ index → ⊥) → array_element (with_cell a index cell) other ≡ array_element a other) }
 {}
 
 /// After a redimension an index list of the new box has the cell of the old one at its position, or the zero where there was none.
@@ -37,8 +37,8 @@ pub fn redimension_keeps_cells_by_position<T>()
     ensures kept { (a : ArrayValue T) (zero : T) (bound : Bound) (index old : List ℤ) → length a.cells ≡ box_size a.bounds →
         InBounds (with_first bound a.bounds) index → InBounds a.bounds old →
         position_of (with_first bound a.bounds) index ≡ position_of a.bounds old →
-        cell_at (redimensioned zero bound a) index ≡ cell_at a old }
+        array_element (redimensioned zero bound a) index ≡ array_element a old }
     ensures fresh { (a : ArrayValue T) (zero : T) (bound : Bound) (index : List ℤ) → length a.cells ≡ box_size a.bounds →
         InBounds (with_first bound a.bounds) index → box_size a.bounds ≤ position_of (with_first bound a.bounds) index →
-        cell_at (redimensioned zero bound a) index ≡ Some zero }
+        array_element (redimensioned zero bound a) index ≡ Some zero }
 {}

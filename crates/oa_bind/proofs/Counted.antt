@@ -13,7 +13,7 @@ use Rattle.oa_model.specs.declared.hresult.HResult.{HResult}
 use Rattle.oa_idl.specs.declared.parts.Parameter.{Parameter}
 use Rattle.oa_typelib.specs.declared.access.Kind.{Kind}
 use Rattle.oa_bind.specs.declared.fault.BindFault.{BindFault}
-use Rattle.oa_bind.specs.Given.{Given, IsGiven, by_position, dispid_at, index_of, is_parameter}
+use Rattle.oa_bind.specs.Given.{Given, IsGiven, by_position, dispid_of_argument, argument_index, is_parameter}
 use Rattle.oa_bind.specs.Names.{is_consistent, most, names_none, names_well, repeats, well_named}
 use Rattle.oa_bind.specs.Refusals.{◌>>=◌, unless, unless_at}
 
@@ -75,22 +75,22 @@ not_by_place positions parameters (negsuc n) h = refl
 not_by_place positions parameters (pos n) h = (both_false (not (nat_lt n parameters)) (nat_lt n positions) h).1
 
 by_name : (named : List ℤ) (count j : ℕ) (parameters : ℕ) (blank : ℤ) → repeats named ≡ false → position_from (names_none (by_position named count) parameters) 0 named ≡ None → j < length named
-    → index_of named count (get_or named j blank) ≡ Some j
-unfolding index_of
+    → argument_index named count (get_or named j blank) ≡ Some j
+unfolding argument_index
 by_name named count j parameters blank once known within =
     let off = not_by_place (by_position named count) parameters (get_or named j blank) (never_found (names_none (by_position named count) parameters) 0 named j blank known within) in
     let there : position_from (λ n. int_eq n (get_or named j blank)) 0 named ≡ Some j = found_there 0 named j blank once within ∙ ap Some (omega arith) in
     rw (off, there) refl
 
-by_turn : (named : List ℤ) (count j : ℕ) → length named ≤ j → j < count → index_of named count (pos (count - 1 - j)) ≡ Some j
-unfolding index_of
+by_turn : (named : List ℤ) (count j : ℕ) → length named ≤ j → j < count → argument_index named count (pos (count - 1 - j)) ≡ Some j
+unfolding argument_index
 by_turn named count j past within =
     let on : nat_lt (count - 1 - j) (count - length named) ≡ true = lt-ltb (count - 1 - j) (count - length named) (omega (arith, past, within)) in
     let back : count - 1 - (count - 1 - j) ≡ j = omega (arith, within) in
     rw (on, back) refl
 
 counts : (parameters : List Parameter) (kind : Kind) (call : Given) (j : ℕ) → well_named parameters kind call.named (length call.arguments) ≡ Ok tt → j < length call.arguments
-    → index_of call.named (length call.arguments) (dispid_at call.named (length call.arguments) j) ≡ Some j
+    → argument_index call.named (length call.arguments) (dispid_of_argument call.named (length call.arguments) j) ≡ Some j
 unfolding well_named
 counts parameters kind call j h within =
     let count = length call.arguments in
@@ -101,13 +101,13 @@ counts parameters kind call j h within =
     by (nat_lt j (length call.named)) refl fine.1 known
   where
     by : (b : Bool) → nat_lt j (length call.named) ≡ b → repeats call.named ≡ false → position_from (names_none (by_position call.named (length call.arguments)) (length parameters)) 0 call.named ≡ None
-        → index_of call.named (length call.arguments) (dispid_at call.named (length call.arguments) j) ≡ Some j
+        → argument_index call.named (length call.arguments) (dispid_of_argument call.named (length call.arguments) j) ≡ Some j
     by true is once known = by_name call.named (length call.arguments) j (length parameters) _ once known (grind (arith, nat_tests, is))
     by false is once known =
         let past : length call.named ≤ j = ltb-false j (length call.named) is in
         rw (get_or_past call.named j (pos (length call.arguments - 1 - j)) past) (by_turn call.named (length call.arguments) j past within)
 
 pub argument_counts : (parameters : List Parameter) (kind : Kind) (call : Given) (i : ℕ) (id : ℤ) → well_named parameters kind call.named (length call.arguments) ≡ Ok tt → IsGiven call i id
-    → index_of call.named (length call.arguments) id ≡ Some i
+    → argument_index call.named (length call.arguments) id ≡ Some i
 argument_counts parameters kind call i id fine is =
-    subst (λ d. index_of call.named (length call.arguments) d ≡ Some i) is.named (counts parameters kind call i fine is.there)
+    subst (λ d. argument_index call.named (length call.arguments) d ≡ Some i) is.named (counts parameters kind call i fine is.there)

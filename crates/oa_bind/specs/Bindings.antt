@@ -13,15 +13,15 @@ use Rattle.oa_variant.specs.declared.scalar.Scalar.TheVariants as scalars
 use Rattle.oa_variant.specs.declared.variant.Variant.{Variant}
 use Rattle.oa_variant.specs.declared.variant.Variant.TheVariants.{One, Array}
 use Rattle.oa_coerce.specs.Answers.{coerced_scalar, coerced}
-use Rattle.oa_coerce.specs.Refusals.{code_of}
+use Rattle.oa_coerce.specs.Refusals.{coercion_code}
 use Rattle.oa_coerce.specs.declared.fault.CoerceFault.{CoerceFault}
 use Rattle.oa_checks.specs.Defaults.{default_value}
 use Rattle.oa_typelib.specs.MemberValues.{MemberValue}
 use Rattle.oa_typelib.specs.declared.access.Kind.{Kind}
 use Rattle.oa_typelib.specs.declared.access.Kind.TheVariants.{Get, Put}
 use Rattle.oa_bind.specs.declared.fault.BindFault.{BindFault}
-use Rattle.oa_bind.specs.Calls.{CallValue}
-use Rattle.oa_bind.specs.Given.{Given, argument_for, at, index_of, new_value_id}
+use Rattle.oa_bind.specs.Calls.{BoundCallValue}
+use Rattle.oa_bind.specs.Given.{Given, argument_for, at, argument_index, new_value_id}
 use Rattle.oa_bind.specs.Names.{complete, well_named}
 use Rattle.oa_bind.specs.Refusals.{◌>>=◌, each_at, refused, refused_at}
 
@@ -38,42 +38,42 @@ abbrev pub missing_value : Parameter → Scalar
 missing_value p = unwrap_or (default_value p) (without_default (scalar_type p.value_type))
 
 -- what is coerced, or its refusal with the argument's index
-abbrev pub told : {A : Type 0} → ℕ → Result A CoerceFault → Result A BindFault
-told i (Ok value) = Ok value
-told i (Err fault) = refused_at (code_of fault) i
+abbrev pub told_of_argument : {A : Type 0} → ℕ → Result A CoerceFault → Result A BindFault
+told_of_argument i (Ok value) = Ok value
+told_of_argument i (Err fault) = refused_at (coercion_code fault) i
 
 -- the value of a parameter of a type by an argument: an array is of no such type, also of VARIANT
-abbrev pub value_by : VarType → ℕ → Variant → Result Scalar BindFault
-value_by t i (One s) = told i (coerced_scalar s t)
-value_by t i (Array a) = refused_at disp_e_typemismatch i
+abbrev pub value_by_argument : VarType → ℕ → Variant → Result Scalar BindFault
+value_by_argument t i (One s) = told_of_argument i (coerced_scalar s t)
+value_by_argument t i (Array a) = refused_at disp_e_typemismatch i
 
-abbrev pub value_of : Parameter → Option (ℕ × Variant) → Result Scalar BindFault
-value_of p None = Ok (missing_value p)
-value_of p (Some (i, argument)) = value_by (scalar_type p.value_type) i argument
+abbrev pub value_of_parameter : Parameter → Option (ℕ × Variant) → Result Scalar BindFault
+value_of_parameter p None = Ok (missing_value p)
+value_of_parameter p (Some (i, argument)) = value_by_argument (scalar_type p.value_type) i argument
 
 abbrev pub parameter_value : Given → ℕ → Parameter → Result Scalar BindFault
-parameter_value call place p = value_of p (argument_for call place)
+parameter_value call place p = value_of_parameter p (argument_for call place)
 
 -- the new value of a put, where an ERROR that says that it is missing is a value
 abbrev pub new_value_of : ValueType → Option ℕ → Option Variant → Result (Option Variant) BindFault
 new_value_of declared None argument = refused e_invalidarg
 new_value_of declared (Some i) None = refused e_invalidarg
-new_value_of declared (Some i) (Some argument) = told i (coerced argument declared) >>= λ value. Ok (Some value)
+new_value_of declared (Some i) (Some argument) = told_of_argument i (coerced argument declared) >>= λ value. Ok (Some value)
 
-abbrev pub new_value : Given → ValueType → Kind → Result (Option Variant) BindFault
-new_value call declared Get = Ok None
-new_value call declared Put =
-    let i = index_of call.named (length call.arguments) new_value_id in
+abbrev pub given_new_value : Given → ValueType → Kind → Result (Option Variant) BindFault
+given_new_value call declared Get = Ok None
+given_new_value call declared Put =
+    let i = argument_index call.named (length call.arguments) new_value_id in
     new_value_of declared i (at i call.arguments)
 
 -- the names and the number of the arguments first, then the missing ones, then the parameters' values by place, and last the new value
-unfoldable pub bound : List Parameter → ValueType → Kind → Given → Result CallValue BindFault
-bound parameters declared kind call = do
+unfoldable pub bound_call : List Parameter → ValueType → Kind → Given → Result BoundCallValue BindFault
+bound_call parameters declared kind call = do
   named ← well_named parameters kind call.named (length call.arguments)
   full ← complete parameters call
   key ← each_at (parameter_value call) 0 parameters
-  value ← new_value call declared kind
+  value ← given_new_value call declared kind
   Ok (record { key = key; value = value })
 
-abbrev pub bound_to : MemberValue → Kind → Given → Result CallValue BindFault
-bound_to member kind call = bound member.parameters member.value_type kind call
+abbrev pub bound_to : MemberValue → Kind → Given → Result BoundCallValue BindFault
+bound_to member kind call = bound_call member.parameters member.value_type kind call

@@ -4,6 +4,6 @@ use Rattle.oa_variant.specs.declared.scalar.Scalar.{Scalar}
 use Rattle.oa_variant.specs.declared.variant.Variant.{Variant}
 
 -- the values of the parameters in their order, and of a put the new value
-pub record CallValue : Type 0 where
+pub record BoundCallValue : Type 0 where
   pub key : List Scalar
   pub value : Option Variant

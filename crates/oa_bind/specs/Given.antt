@@ -14,8 +14,8 @@ pub record Given : Type 0 where
   pub arguments : List Variant
 
 -- the arguments of a call, by the two lists
-abbrev pub call_of : List ℤ → List Variant → Given
-call_of named arguments = record { named = named; arguments = arguments }
+abbrev pub given_call : List ℤ → List Variant → Given
+given_call named arguments = record { named = named; arguments = arguments }
 
 -- the DISPID of a put's new value (DISPID_PROPERTYPUT, MS-OAUT section 2.2.32.1)
 abbrev pub new_value_id : ℤ
@@ -23,13 +23,13 @@ new_value_id = negsuc 2
 
 -- the DISPID that the argument at an index is given for: its name, or the place of a parameter, which is the parameter's DISPID (this
 -- project's choice)
-abbrev pub dispid_at : List ℤ → ℕ → ℕ → ℤ
-dispid_at named count i = get_or named i (pos (count - 1 - i))
+abbrev pub dispid_of_argument : List ℤ → ℕ → ℕ → ℤ
+dispid_of_argument named count i = get_or named i (pos (count - 1 - i))
 
 -- the argument at an index is given for a DISPID: the triples of index, DISPID and argument as a relation
 pub record IsGiven (call : Given) (i : ℕ) (id : ℤ) : Type 0 where
   pub there : i < length call.arguments
-  pub named : dispid_at call.named (length call.arguments) i ≡ id
+  pub named : dispid_of_argument call.named (length call.arguments) i ≡ id
 
 -- how many arguments are given by position
 abbrev pub by_position : List ℤ → ℕ → ℕ
@@ -42,8 +42,8 @@ is_parameter n (negsuc other) = false
 
 -- The index of the argument that is given for a DISPID, of so many arguments: of the one by position, else of the first with that name.
 -- That these are the triples, each once, are the laws `argument_is_given` and `each_argument_counts`.
-unfoldable pub index_of : List ℤ → ℕ → ℤ → Option ℕ
-index_of named count id =
+unfoldable pub argument_index : List ℤ → ℕ → ℤ → Option ℕ
+argument_index named count id =
     if is_parameter (by_position named count) id
     then Some (count - 1 - unsigned_abs id)
     else position_from (λ n. int_eq n id) 0 named
@@ -68,10 +68,10 @@ argument_at (Some i) arguments = if_not_missing i (slice_get arguments i)
 
 -- the argument for the parameter at a place, with its index; none where it says that it is missing
 abbrev pub argument_for : Given → ℕ → Option (ℕ × Variant)
-argument_for call place = argument_at (index_of call.named (length call.arguments) (pos place)) call.arguments
+argument_for call place = argument_at (argument_index call.named (length call.arguments) (pos place)) call.arguments
 
 -- the arguments that are given for none of the first n parameters stay
 abbrev pub Stay : List ℤ → List Variant → List Variant → ℕ → Type 0
 Stay named old new n =
-    (j : ℕ) → ((place : ℕ) → place < n → index_of named (length old) (pos place) ≢ Some j)
+    (j : ℕ) → ((place : ℕ) → place < n → argument_index named (length old) (pos place) ≢ Some j)
     → slice_get new j ≡ slice_get old j

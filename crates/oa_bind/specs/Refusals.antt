@@ -29,9 +29,9 @@ abbrev pub lacks_memory : BindFault
 lacks_memory = record { code = e_outofmemory; index = None }
 
 -- what a call says of an answer, as its result shows it: it is that one, or want of memory
-abbrev pub Answers : {A B : Type 0} → (A → B) → Result B BindFault → Result A BindFault → Type 0
-Answers shown answer (Ok x) = answer ≡ Ok (shown x)
-Answers shown answer (Err fault) = (fault ≡ lacks_memory) ⊎ (answer ≡ Err fault)
+abbrev pub BindsAs : {A B : Type 0} → (A → B) → Result B BindFault → Result A BindFault → Type 0
+BindsAs shown answer (Ok x) = answer ≡ Ok (shown x)
+BindsAs shown answer (Err fault) = (fault ≡ lacks_memory) ⊎ (answer ≡ Err fault)
 
 -- Over the members of a list with their places, of which the first is given: whether a test passes at one of them, ..
 unfoldable pub any_at : {X : Type 0} → (ℕ → X → Bool) → ℕ → List X → Bool

@@ -4,13 +4,13 @@ ghost use Rattle.oa_model.specs.Limits.{max_arguments};
 ghost use Rattle.oa_typelib.specs.Bindable.{IsBindable};
 ghost use Rattle.oa_checks.specs.Defaults.{default_value};
 ghost use Rattle.oa_variant.specs.Variants.{HasZero};
-ghost use Rattle.oa_bind.specs.Bindings.{bound, bound_to};
-ghost use Rattle.oa_bind.specs.Given.{call_of};
-ghost use Rattle.oa_bind.specs.Refusals.{Answers};
+ghost use Rattle.oa_bind.specs.Bindings.{bound_call, bound_to};
+ghost use Rattle.oa_bind.specs.Given.{given_call};
+ghost use Rattle.oa_bind.specs.Refusals.{BindsAs};
 
 use crate::names::{check_complete, check_names};
 use crate::values::{key, new_value};
-use crate::{BindFault, Call};
+use crate::{BindFault, BoundCall};
 use oa_idl::Parameter;
 use oa_model::ValueType;
 use oa_typelib::{Kind, Member};
@@ -33,10 +33,10 @@ pub fn bind(
     kind: Kind,
     arguments: Vec<Variant>,
     named: &[i32],
-) -> Result<Call, BindFault>
+) -> Result<BoundCall, BindFault>
     requires bindable { IsBindable member.now }
     requires named { length named.now ≤ max_arguments }
-    ensures { Answers (λ c. c) (bound_to member.now kind (record { named = named.now; arguments = arguments.items })) result }
+    ensures { BindsAs (λ c. c) (bound_to member.now kind (record { named = named.now; arguments = arguments.items })) result }
 {
     bind_parts(
         alloc,
@@ -50,7 +50,7 @@ pub fn bind(
 }
 
 /// The same of a property with these parameters, these values of their defaults and this type of values.
-#[tactic(auto, unfolding(crate::specs::Bindings::bound))]
+#[tactic(auto, unfolding(crate::specs::Bindings::bound_call))]
 fn bind_parts(
     alloc: Global,
     parameters: &[Parameter],
@@ -59,16 +59,16 @@ fn bind_parts(
     kind: Kind,
     mut arguments: Vec<Variant>,
     named: &[i32],
-) -> Result<Call, BindFault>
+) -> Result<BoundCall, BindFault>
     requires defaults { defaults.now ≡ map default_value parameters.now }
     requires few { length parameters.now ≤ 16 }
     requires zero { HasZero declared }
     requires named { length named.now ≤ max_arguments }
-    ensures { Answers (λ c. c) (bound parameters.now declared kind (call_of named.now arguments.items)) result }
+    ensures { BindsAs (λ c. c) (bound_call parameters.now declared kind (given_call named.now arguments.items)) result }
 {
     check_names(parameters, kind, named, arguments.len())?;
     check_complete(parameters, named, arguments.as_slice())?;
     let key = key(alloc, parameters, defaults, named, &mut arguments)?;
     let value = new_value(alloc, declared, kind, named, &mut arguments)?;
-    Ok(Call { key, value })
+    Ok(BoundCall { key, value })
 }

@@ -4,17 +4,17 @@ use std::marker::Model;
 
 /// A call of a property: which of its values is meant, and for a put what it is to be.
 #[derive(Drop)]
-pub struct Call {
+pub struct BoundCall {
     /// The values of the parameters in their order, each of its parameter's type.
     pub key: Vec<Scalar>,
     /// The new value of a put, of the property's type; None in a get.
     pub value: Option<Variant>,
 }
 
-impl Model for Call {
-    ghost use Rattle.oa_bind.specs.Calls.{CallValue};
+impl Model for BoundCall {
+    ghost use Rattle.oa_bind.specs.Calls.{BoundCallValue};
 
-    ghost Value = { CallValue };
+    ghost Value = { BoundCallValue };
 
     ghost view = { λ c. record { key = c.key.items; value = c.value } };
 }

@@ -2,7 +2,7 @@
 ghost use Rattle.std.specs.Prelude.{◌≡◌, ◌≢◌, ◌<◌, ◌≤◌, ℕ, length, slice_get, Some, IfSome};
 ghost use Rattle.std.specs.List.{position_from};
 ghost use Rattle.std.specs.Ordering.{int_eq};
-ghost use Rattle.oa_bind.specs.Given.{index_of, is_parameter, says_missing};
+ghost use Rattle.oa_bind.specs.Given.{argument_index, is_parameter, says_missing};
 
 use oa_variant::{Scalar, Variant};
 
@@ -20,10 +20,10 @@ pub(crate) fn is_parameter(n: usize, id: i32) -> bool
 }
 
 /// The index of the argument that is given for a DISPID, of so many arguments.
-#[tactic(auto, unfolding(crate::specs::Given::index_of))]
+#[tactic(auto, unfolding(crate::specs::Given::argument_index))]
 pub(crate) fn index_of(named: &[i32], count: usize, id: i32) -> Option<usize>
     requires { length named.now ≤ count }
-    ensures value { result ≡ index_of named.now count id }
+    ensures value { result ≡ argument_index named.now count id }
     ensures within { IfSome result (λ i. i < count) }
 {
     if is_parameter(count - named.len(), id) {

@@ -2,13 +2,13 @@
 ghost use Rattle.std.specs.Prelude.{◌≡◌, ◌≤◌, ℕ, ℤ, List, length, Ok, Some};
 ghost use Rattle.oa_idl.specs.declared.parts.Parameter.{Parameter as AParameter};
 ghost use Rattle.oa_typelib.specs.declared.access.Kind.{Kind as AKind};
-ghost use Rattle.oa_bind.specs.Given.{Given, IsGiven, index_of};
+ghost use Rattle.oa_bind.specs.Given.{Given, IsGiven, argument_index};
 ghost use Rattle.oa_bind.specs.Names.{well_named};
 
 /// The argument that a DISPID finds is given for it; so an argument is given for one DISPID alone.
 pub fn argument_is_given()
     ensures found { (call : Given) (i : ℕ) (id : ℤ) → length call.named ≤ length call.arguments
-        → index_of call.named (length call.arguments) id ≡ Some i → IsGiven call i id }
+        → argument_index call.named (length call.arguments) id ≡ Some i → IsGiven call i id }
     ensures alone { (call : Given) (i : ℕ) (id other : ℤ) → IsGiven call i id → IsGiven call i other → id ≡ other }
 {}
 
@@ -17,5 +17,5 @@ pub fn argument_is_given()
 pub fn each_argument_counts()
     ensures { (parameters : List AParameter) (kind : AKind) (call : Given) (i : ℕ) (id : ℤ)
         → well_named parameters kind call.named (length call.arguments) ≡ Ok tt → IsGiven call i id
-        → index_of call.named (length call.arguments) id ≡ Some i }
+        → argument_index call.named (length call.arguments) id ≡ Some i }
 {}

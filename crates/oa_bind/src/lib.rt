@@ -15,5 +15,5 @@ mod names;
 mod values;
 
 pub use binding::bind;
-pub use call::Call;
+pub use call::BoundCall;
 pub use fault::BindFault;

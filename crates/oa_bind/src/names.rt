@@ -2,7 +2,7 @@
 ghost use Rattle.std.specs.Prelude.{◌≡◌, ◌≤◌, ◌<◌, length, true, IfSome, OnOk};
 ghost use Rattle.std.specs.List.{position_from};
 ghost use Rattle.oa_model.specs.Limits.{max_arguments};
-ghost use Rattle.oa_bind.specs.Given.{call_of};
+ghost use Rattle.oa_bind.specs.Given.{given_call};
 ghost use Rattle.oa_bind.specs.Names.{complete, is_consistent, lacks, most, names_none, repeats, well_named};
 ghost use Rattle.oa_bind.specs.Refusals.{any_at};
 
@@ -78,7 +78,7 @@ fn first_unknown(named: &[i32], positions: usize, parameters: usize) -> Option<u
 fn lacks(named: &[i32], arguments: &[Variant], place: usize, parameter: &Parameter) -> bool
     requires place { place < 16 }
     requires named { length named.now ≤ length arguments.now }
-    ensures { result ≡ lacks (call_of named.now arguments.now) place parameter.now }
+    ensures { result ≡ lacks (given_call named.now arguments.now) place parameter.now }
 {
     if is_optional(parameter) {
         return false;
@@ -94,7 +94,7 @@ fn lacks(named: &[i32], arguments: &[Variant], place: usize, parameter: &Paramet
 fn any_lacks(parameters: &[Parameter], named: &[i32], arguments: &[Variant]) -> bool
     requires few { length parameters.now ≤ 16 }
     requires named { length named.now ≤ length arguments.now }
-    ensures { result ≡ any_at (lacks (call_of named.now arguments.now)) 0 parameters.now }
+    ensures { result ≡ any_at (lacks (given_call named.now arguments.now)) 0 parameters.now }
 {
     'parameters: for place in 0..parameters.len() {
         if lacks(named, arguments, place, &parameters[place]) {
@@ -139,7 +139,7 @@ pub(crate) fn check_complete(
 ) -> Result<(), BindFault>
     requires few { length parameters.now ≤ 16 }
     requires named { length named.now ≤ length arguments.now }
-    ensures { result ≡ complete parameters.now (call_of named.now arguments.now) }
+    ensures { result ≡ complete parameters.now (given_call named.now arguments.now) }
 {
     if any_lacks(parameters, named, arguments) {
         return Err(BindFault::of(HResult::DISP_E_PARAMNOTOPTIONAL));

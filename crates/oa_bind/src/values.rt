@@ -3,9 +3,9 @@ ghost use Rattle.std.specs.Prelude.{◌≡◌, ◌≢◌, ◌≤◌, ◌<◌, �
 ghost use Rattle.oa_coerce.specs.Answers.{coerced};
 ghost use Rattle.oa_checks.specs.Defaults.{default_value};
 ghost use Rattle.oa_variant.specs.Variants.{HasZero};
-ghost use Rattle.oa_bind.specs.Bindings.{missing_value, new_value, parameter_value, scalar_type, told, value_by, without_default};
-ghost use Rattle.oa_bind.specs.Given.{Stay, call_of, index_of};
-ghost use Rattle.oa_bind.specs.Refusals.{Answers, each_at};
+ghost use Rattle.oa_bind.specs.Bindings.{missing_value, given_new_value, parameter_value, scalar_type, told_of_argument, value_by_argument, without_default};
+ghost use Rattle.oa_bind.specs.Given.{Stay, given_call, argument_index};
+ghost use Rattle.oa_bind.specs.Refusals.{BindsAs, each_at};
 
 use crate::BindFault;
 use crate::given::{MISSING, NEW_VALUE, index_of, says_missing, take};
@@ -55,7 +55,7 @@ fn missing_value(
 /// The value of a parameter of a type, by the argument at an index. Takes no memory.
 fn value_by(to: VarType, i: usize, argument: Variant) -> Result<Scalar, BindFault>
     requires { i < 32 }
-    ensures { result ≡ value_by to i argument }
+    ensures { result ≡ value_by_argument to i argument }
 {
     match argument {
         Variant::One(scalar) => match coerce_scalar(scalar, to) {
@@ -79,8 +79,8 @@ fn value(
     requires place { place < 16 }
     requires named { length named.now ≤ length arguments.old.items }
     requires few { length arguments.old.items ≤ 17 }
-    ensures value { Answers (λ s. s) (parameter_value (call_of named.now arguments.old.items) place parameter.now) result }
-    ensures others { (j : ℕ) → index_of named.now (length arguments.old.items) (pos place) ≢ Some j
+    ensures value { BindsAs (λ s. s) (parameter_value (given_call named.now arguments.old.items) place parameter.now) result }
+    ensures others { (j : ℕ) → argument_index named.now (length arguments.old.items) (pos place) ≢ Some j
         → slice_get arguments.new.items j ≡ slice_get arguments.old.items j }
     ensures len { length arguments.new.items ≡ length arguments.old.items }
 {
@@ -106,7 +106,7 @@ pub(crate) fn key(
     requires short { length parameters.now ≤ 16 }
     requires named { length named.now ≤ length arguments.old.items }
     requires few { length arguments.old.items ≤ 17 }
-    ensures key { Answers (λ v. v.items) (each_at (parameter_value (call_of named.now arguments.old.items)) 0 parameters.now) result }
+    ensures key { BindsAs (λ v. v.items) (each_at (parameter_value (given_call named.now arguments.old.items)) 0 parameters.now) result }
     ensures others { OnOk result (Stay named.now arguments.old.items arguments.new.items (length parameters.now)) }
     ensures len { length arguments.new.items ≡ length arguments.old.items }
 {
@@ -134,7 +134,7 @@ fn new_value_by(
 ) -> Result<Variant, BindFault>
     requires zero { HasZero declared }
     requires few { i < 32 }
-    ensures { Answers (λ v. v) (told i (coerced argument declared)) result }
+    ensures { BindsAs (λ v. v) (told_of_argument i (coerced argument declared)) result }
 {
     match coerce(alloc, argument, declared) {
         Ok(value) => Ok(value),
@@ -159,7 +159,7 @@ pub(crate) fn new_value(
     requires zero { HasZero declared }
     requires named { length named.now ≤ length arguments.old.items }
     requires few { length arguments.old.items ≤ 17 }
-    ensures { Answers (λ v. v) (new_value (call_of named.now arguments.old.items) declared kind) result }
+    ensures { BindsAs (λ v. v) (given_new_value (given_call named.now arguments.old.items) declared kind) result }
 {
     match kind {
         Kind::Get => Ok(None),

@@ -6,7 +6,7 @@ use Rattle.std.proofs.lemmas.List.{append_assoc, length-append, length-map, take
 use Rattle.std.proofs.lemmas.Nat.{from_le_bytes-to_le_bytes_4}
 use Rattle.oa_cells.specs.Windows.{values}
 use Rattle.oa_cells.proofs.Full.{values_of_full}
-use Rattle.oa_bstr.specs.Block.{block_of, text_of, IsBlock}
+use Rattle.oa_bstr.specs.Block.{block_of, block_text, IsBlock}
 use Rattle.oa_model.specs.Limits.{max_text_bytes}
 
 abbrev pub zeros : List ℕ
@@ -24,17 +24,17 @@ unfolding block_of
 parts bytes = refl
 
 pub is_block : (row : List (Option ℕ)) (bytes : List ℕ) → row ≡ map Some (block_of bytes) → length bytes ≤ max_text_bytes
-    → IsBlock row × (text_of row ≡ bytes)
+    → IsBlock row × (block_text row ≡ bytes)
 is_block row bytes e short =
     let read : values row ≡ block_of bytes = ap values e ∙ values_of_full (block_of bytes) in
     let behind : drop 4 (block_of bytes) ≡ bytes ++ zeros = ap (drop 4) (parts bytes) ∙ drop_at (to_le_bytes w32 (length bytes)) (bytes ++ zeros) 4 (length-count (length bytes)) in
     let count : length bytes ≡ length (block_of bytes) - 6 = omega (arith, length-block bytes) in
-    let text : text_of row ≡ bytes = ap (λ all. take (length all - 6) (drop 4 all)) read ∙ ap (take (length (block_of bytes) - 6)) behind ∙ take_at bytes zeros (length (block_of bytes) - 6) count in
+    let text : block_text row ≡ bytes = ap (λ all. take (length all - 6) (drop 4 all)) read ∙ ap (take (length (block_of bytes) - 6)) behind ∙ take_at bytes zeros (length (block_of bytes) - 6) count in
     (record { whole = e ∙ ap (λ t. map Some (block_of t)) (sym text); short = rw text short }, text)
 
 module _ (row : List (Option ℕ)) (block : IsBlock row) where
   abbrev text : List ℕ
-  text = text_of row
+  text = block_text row
 
   abbrev all : List ℕ
   all = block_of text

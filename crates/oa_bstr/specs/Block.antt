@@ -10,10 +10,10 @@ unfoldable pub block_of : List ℕ → List ℕ
 block_of bytes = to_le_bytes w32 (length bytes) ++ (bytes ++ 0 ∷ 0 ∷ [])
 
 -- the text in a block: what stands between the 4 bytes of the count and the 2 of the zero
-abbrev pub text_of : List (Option ℕ) → List ℕ
-text_of row = take (length (values row) - 6) (drop 4 (values row))
+abbrev pub block_text : List (Option ℕ) → List ℕ
+block_text row = take (length (values row) - 6) (drop 4 (values row))
 
 -- each place of the block holds a byte, and these are the block of its text
 pub record IsBlock (row : List (Option ℕ)) : Type 0 where
-  pub whole : row ≡ map Some (block_of (text_of row))
-  pub short : length (text_of row) ≤ max_text_bytes
+  pub whole : row ≡ map Some (block_of (block_text row))
+  pub short : length (block_text row) ≤ max_text_bytes

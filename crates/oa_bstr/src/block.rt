@@ -1,6 +1,6 @@
 //! The block of a text: how it is made, read and freed.
 ghost use Rattle.std.specs.Prelude.{◌≡◌, ◌+◌, ◌≤◌, length, take, IfOk};
-ghost use Rattle.oa_bstr.specs.Block.{block_of, text_of, IsBlock};
+ghost use Rattle.oa_bstr.specs.Block.{block_of, block_text, IsBlock};
 ghost use Rattle.oa_model.specs.Limits.{max_text_bytes};
 
 use oa_cells::{Partial, Row};
@@ -14,7 +14,7 @@ const ZERO_BYTES: usize = 2;
 /// A new block of a text.
 pub(crate) fn new_block(alloc: Global, bytes: &[u8]) -> Result<Row<u8>, AllocError>
     requires { length bytes.now ≤ max_text_bytes }
-    ensures { IfOk result (λ r. IsBlock r × (text_of r ≡ bytes.now)) }
+    ensures { IfOk result (λ r. IsBlock r × (block_text r ≡ bytes.now)) }
 {
     let count = bytes.len() as u32;
     let mut part = Partial::vacant(alloc, COUNT_BYTES + bytes.len() + ZERO_BYTES, 0)?;
@@ -26,8 +26,8 @@ pub(crate) fn new_block(alloc: Global, bytes: &[u8]) -> Result<Row<u8>, AllocErr
 
 /// The first `len` bytes of a block.
 fn begin(row: &Row<u8>, len: usize) -> &[u8]
-    requires { IsBlock row.now × (len ≤ length (text_of row.now) + 6) }
-    ensures bytes { result.now ≡ take len (block_of (text_of row.now)) }
+    requires { IsBlock row.now × (len ≤ length (block_text row.now) + 6) }
+    ensures bytes { result.now ≡ take len (block_of (block_text row.now)) }
     ensures long { length result.now ≡ len }
 {
     row.first(len)
@@ -36,7 +36,7 @@ fn begin(row: &Row<u8>, len: usize) -> &[u8]
 /// How many bytes the text in a block has, by its count.
 pub(crate) fn count(row: &Row<u8>) -> u32
     requires { IsBlock row.now }
-    ensures { result ≡ length (text_of row.now) }
+    ensures { result ≡ length (block_text row.now) }
 {
     let head = begin(row, COUNT_BYTES);
     u32::from_le_bytes([head[0], head[1], head[2], head[3]])
@@ -45,7 +45,7 @@ pub(crate) fn count(row: &Row<u8>) -> u32
 /// The text in a block.
 pub(crate) fn text(row: &Row<u8>) -> &[u8]
     requires { IsBlock row.now }
-    ensures bytes { result.now ≡ text_of row.now }
+    ensures bytes { result.now ≡ block_text row.now }
     ensures short { length result.now ≤ max_text_bytes }
 {
     let end = COUNT_BYTES + count(row) as usize;

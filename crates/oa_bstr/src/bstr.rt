@@ -7,7 +7,7 @@ ghost use Rattle.std.specs.Cmp.{partial_equiv_from_equiv, partial_order_from_tot
 ghost use Rattle.std.specs.Cmp.Rules.{comparing};
 ghost use Rattle.std.specs.Ordering.{as_partial_cmp, eq_by_cmp};
 ghost use Rattle.std.proofs.lemmas.Cmp.{eq_by_cmp_equiv};
-ghost use Rattle.oa_bstr.specs.Block.{text_of, IsBlock};
+ghost use Rattle.oa_bstr.specs.Block.{block_text, IsBlock};
 ghost use Rattle.oa_model.specs.Limits.{max_text_bytes};
 ghost use Rattle.oa_bstr.specs.Text.{bytes_of, unit_of, text_cmp, texts_total};
 ghost use Rattle.oa_bstr.specs.declared.error.BstrError.TheVariants.{TooLong};
@@ -32,7 +32,7 @@ pub struct Bstr {
 impl Model for Bstr {
     ghost Value = { Option (List ℕ) };
 
-    ghost view = { λ b. option_map text_of b.row };
+    ghost view = { λ b. option_map block_text b.row };
 
     ghost invariant = { λ b. IfSome b.row IsBlock };
 }

@@ -2,13 +2,13 @@
 use Rattle.std.specs.Prelude.{◌≡◌, ℕ, List, [], ◌∷◌, ◌++◌, map, replicate, Option, Some, None}
 
 -- empty places, then values, then empty places
-pub record Window (X : Type 0) : Type 0 where
+pub record FilledWindow (X : Type 0) : Type 0 where
   pub before : ℕ
   pub items : List X
   pub after : ℕ
 
 module _ {X : Type 0} where
-  abbrev pub IsWindow : Window X → ℕ → List X → ℕ → Type 0
+  abbrev pub IsWindow : FilledWindow X → ℕ → List X → ℕ → Type 0
   IsWindow window before items after = (window.before ≡ before) × (window.items ≡ items) × (window.after ≡ after)
 
   -- the values of a row, in order

@@ -1,6 +1,6 @@
 //! A block that is being filled or emptied.
 ghost use Rattle.std.specs.Prelude.{◌≡◌, ℕ, ◌+◌, ◌-◌, ◌<◌, ◌≤◌, List, [], ◌∷◌, ◌++◌, Some, map, length, take, IfOk};
-ghost use Rattle.oa_cells.specs.Windows.{Window, values, laid, IsWindow};
+ghost use Rattle.oa_cells.specs.Windows.{FilledWindow, values, laid, IsWindow};
 
 use crate::row::Row;
 use std::alloc::{AllocError, Global};
@@ -17,7 +17,7 @@ pub struct Partial<T> {
 }
 
 impl<T> Model for Partial<T> {
-    ghost Value = { Window T };
+    ghost Value = { FilledWindow T };
 
     ghost view = { λ p. record { before = p.from; items = values p.row; after = p.len - p.to } };
 

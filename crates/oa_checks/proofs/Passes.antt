@@ -15,10 +15,10 @@ use Rattle.oa_checks.specs.declared.fault.CheckError.TheVariants.{DuplicateName,
 use Rattle.oa_checks.specs.declared.fault.CheckError.TheVariants.{GetPutDisagree, ArrayParameter, BadDefault, TextTooLong, Memory}
 use Rattle.oa_checks.specs.declared.repeats.Distinct.{Distinct}
 use Rattle.oa_checks.specs.declared.repeats.Distinct.TheVariants.{All, Repeat}
-use Rattle.oa_checks.specs.Keys.{Tells, repeat_of}
+use Rattle.oa_checks.specs.Keys.{TellsDistinct, repeat_of}
 use Rattle.oa_checks.specs.Repeats.{repeat_at, first_repeat, first_answer}
-use Rattle.oa_checks.specs.Breaches.{UnlessMemory, Refuses, repeated_name, inner_breach, item_breach}
-use Rattle.oa_checks.specs.Libraries.{same, same_name, name_of, as_interface, interface_named}
+use Rattle.oa_checks.specs.Breaches.{UnlessMemory, RefusesBreach, repeated_name, inner_breach, item_breach}
+use Rattle.oa_checks.specs.Libraries.{same, same_name, item_name, as_interface, interface_named}
 use Rattle.std.specs.List.{list_any}
 use Rattle.oa_checks.proofs.Lists.{list_any-map, repeat_by_place, repeat_at-map, position-map, position_finds, length-mapped}
 
@@ -73,11 +73,11 @@ module _ {X Y : Type 0} (f : X → Y) (xs : List X) (i : ℕ) where
   mapped_all h = ap (map f) (take_all i xs h)
 
 -- ---- whether an item's name is one of those before
-any_name : (k : List ℕ) (before : List Item) → list_any (λ (other : Item). same k (folded_name (name_of other))) before ≡ list_any (same k) (map (λ i. folded_name (name_of i)) before)
-any_name k before = sym (list_any-map (λ (i : Item). folded_name (name_of i)) (same k) before)
+any_name : (k : List ℕ) (before : List Item) → list_any (λ (other : Item). same k (folded_name (item_name other))) before ≡ list_any (same k) (map (λ i. folded_name (item_name i)) before)
+any_name k before = sym (list_any-map (λ (i : Item). folded_name (item_name i)) (same k) before)
 
-pub item_breach_by_names : (before : List Item) (x : Item) (names : List (List ℕ)) → names ≡ map (λ i. folded_name (name_of i)) before → (if list_any (same (folded_name (name_of x))) names then Some (name_of x) else inner_breach x) ≡ item_breach before x
-item_breach_by_names before x names e = rw (e, any_name (folded_name (name_of x)) before) refl
+pub item_breach_by_names : (before : List Item) (x : Item) (names : List (List ℕ)) → names ≡ map (λ i. folded_name (item_name i)) before → (if list_any (same (folded_name (item_name x))) names then Some (item_name x) else inner_breach x) ≡ item_breach before x
+item_breach_by_names before x names e = rw (e, any_name (folded_name (item_name x)) before) refl
 
 -- ---- a repeated name by its place among the folded ones
 map_twice : {A B C : Type 0} (f : A → B) (g : B → C) (xs : List A) → map g (map f xs) ≡ map (λ x. g (f x)) xs
@@ -92,24 +92,24 @@ name_repeat names keys e =
     p ∙ ap (λ ks. option_and_then (slice_get (map (λ (n : Bor (List ℕ)). n.now) names)) (repeat_at same [] ks)) (sym m) ∙ ap (option_and_then (slice_get (map (λ (n : Bor (List ℕ)). n.now) names))) q
 
 -- ---- the interface of a name, by the place of the folded name
-pub interface_by_place : (items : List Item) (names : List (List ℕ)) (name : List ℕ) → names ≡ map (λ i. folded_name (name_of i)) items → interface_named items name ≡ option_and_then as_interface (option_and_then (slice_get items) (position (same (folded_name name)) names))
+pub interface_by_place : (items : List Item) (names : List (List ℕ)) (name : List ℕ) → names ≡ map (λ i. folded_name (item_name i)) items → interface_named items name ≡ option_and_then as_interface (option_and_then (slice_get items) (position (same (folded_name name)) names))
 interface_by_place items names name e =
-    let p = position-map (λ (i : Item). folded_name (name_of i)) (same (folded_name name)) items in
-    let f = position_finds (λ (i : Item). same_name name (name_of i)) items in
+    let p = position-map (λ (i : Item). folded_name (item_name i)) (same (folded_name name)) items in
+    let f = position_finds (λ (i : Item). same_name name (item_name i)) items in
     rw (e, p) (ap (option_and_then as_interface) (sym f))
 
 -- ---- an error that `?` hands on
-pub refused : {X : Type 0} (breach : Option CheckError) (P : X → Type 0) (e : CheckError) (r : Result X CheckError) → IsErr r → IsErrAnd r (λ e'. e' ≡ e) → UnlessMemory e (breach ≡ Some e) → Refuses breach P r
+pub refused : {X : Type 0} (breach : Option CheckError) (P : X → Type 0) (e : CheckError) (r : Result X CheckError) → IsErr r → IsErrAnd r (λ e'. e' ≡ e) → UnlessMemory e (breach ≡ Some e) → RefusesBreach breach P r
 refused breach P e (Ok x) is and h = absurd (true≢false (sym is))
 refused breach P e (Err e') is and h = subst (λ (d : CheckError). UnlessMemory d (breach ≡ Some d)) (sym and) h
 
 -- ---- what a search for a repeated key told
 module _ {K : Type 0} (eq : K → K → Bool) (keys : List K) where
-  pub told_none : (d : Distinct K) → Tells eq keys d → repeat_of d ≡ None → repeat_at eq [] keys ≡ None
+  pub told_none : (d : Distinct K) → TellsDistinct eq keys d → repeat_of d ≡ None → repeat_at eq [] keys ≡ None
   told_none (All seen) h is = h.0
   told_none (Repeat place) h is = absurd (cc)
 
-  pub told_some : (d : Distinct K) (place : ℕ) → Tells eq keys d → repeat_of d ≡ Some place → (repeat_at eq [] keys ≡ Some place) × (place < length keys)
+  pub told_some : (d : Distinct K) (place : ℕ) → TellsDistinct eq keys d → repeat_of d ≡ Some place → (repeat_at eq [] keys ≡ Some place) × (place < length keys)
   told_some (All seen) place h is = absurd (cc)
   told_some (Repeat n) place h is = let e : n ≡ place = cc in (h.0 ∙ ap (λ m. Some m) e, rw (← e) h.1)
 
@@ -133,7 +133,7 @@ module _ (names : List (Bor (List ℕ))) (keys : List (Vec ℕ Global)) (same_ke
   one_name_repeats place x h is = sym (name_repeat names keys same_keys ∙ ap (option_and_then (slice_get (map (λ (n : Bor (List ℕ)). n.now) names))) h.0 ∙ slice_get-map (λ (n : Bor (List ℕ)). n.now) names place ∙ ap (option_map (λ (n : Bor (List ℕ)). n.now)) (slice_get_read names (length names) place x refl (within_names place h.1) is))
 
 -- ---- whether a name is an interface's
-pub interface_by_key : (items : List Item) (names : List (List ℕ)) (name key : List ℕ) (o : Option ℕ) → names ≡ map (λ i. folded_name (name_of i)) items → key ≡ folded_name name → o ≡ position (same key) names → interface_named items name ≡ option_and_then as_interface (option_and_then (slice_get items) o)
+pub interface_by_key : (items : List Item) (names : List (List ℕ)) (name key : List ℕ) (o : Option ℕ) → names ≡ map (λ i. folded_name (item_name i)) items → key ≡ folded_name name → o ≡ position (same key) names → interface_named items name ≡ option_and_then as_interface (option_and_then (slice_get items) o)
 interface_by_key items names name key o e k p = interface_by_place items names name e ∙ sym (rw (p, k) refl)
 
 pub some_copied : {X : Type 0} (o : Option (Bor X)) → is_some (option_copied o) ≡ is_some o

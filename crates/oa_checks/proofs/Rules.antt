@@ -12,7 +12,7 @@ use Rattle.oa_model.specs.Types.{vt_of_value}
 use Rattle.oa_idl.specs.declared.parts.Literal.{Literal}
 use Rattle.oa_idl.specs.declared.parts.Literal.TheVariants as literals
 use Rattle.oa_idl.specs.declared.parts.Parameter.{Parameter}
-use Rattle.oa_checks.specs.Agreement.{same_type, same_literal, is_optional, same_parameter, agree}
+use Rattle.oa_checks.specs.Agreement.{same_value_type, same_literal, is_optional, same_parameter, agree}
 use Rattle.oa_checks.specs.Breaches.{broken_by}
 use Rattle.oa_checks.specs.DeclarationValues.{DeclarationValue}
 use Rattle.oa_checks.specs.Declarations.{own_parameters, type_of_value}
@@ -61,7 +61,7 @@ literal_symm (literals.Bool a) (literals.Bool b) = bool_eq_equiv.symm a b
 literals_equiv : IsEquivalence same_literal
 literals_equiv = record { refl = literal_refl; symm = literal_symm; congr = literal_congr }
 
-types_equiv : IsEquivalence same_type
+types_equiv : IsEquivalence same_value_type
 types_equiv = on_equiv vt_of_value nat_eq_equiv
 
 parameters_equiv : IsEquivalence same_parameter

@@ -14,11 +14,11 @@ use Rattle.oa_checks.specs.Declarations.{own_parameters, type_of_value}
 use Rattle.oa_checks.specs.Libraries.{same, same_name}
 
 -- equal types: no two have one number
-abbrev pub same_type : ValueType → ValueType → Bool
-same_type s t = nat_eq (vt_of_value s) (vt_of_value t)
+abbrev pub same_value_type : ValueType → ValueType → Bool
+same_value_type s t = nat_eq (vt_of_value s) (vt_of_value t)
 
 abbrev pub same_result : Option ValueType → Option ValueType → Bool
-same_result = option_eq same_type
+same_result = option_eq same_value_type
 
 abbrev pub same_literal : Literal → Literal → Bool
 same_literal (literals.Number y) (literals.Number z) = int_eq y z
@@ -36,7 +36,7 @@ is_optional p = p.is_optional || is_some p.default
 -- the same name, A to Z folded, type, flags and default
 unfoldable pub same_parameter : Parameter → Parameter → Bool
 same_parameter p q =
-    same_name p.name q.name && same_type p.value_type q.value_type && beq p.is_in q.is_in && beq (is_optional p) (is_optional q)
+    same_name p.name q.name && same_value_type p.value_type q.value_type && beq p.is_in q.is_in && beq (is_optional p) (is_optional q)
     && same_default p.default q.default
 
 -- the same id, type of what the property holds, and parameters, without the new value of a put

@@ -20,7 +20,7 @@ use Rattle.oa_checks.specs.Agreement.{agree, is_optional}
 use Rattle.oa_checks.specs.DeclarationValues.{DeclarationValue}
 use Rattle.oa_checks.specs.Declarations.{declarations, are_one_member, is_form, own_parameters, new_value}
 use Rattle.oa_checks.specs.Defaults.{default_of}
-use Rattle.oa_checks.specs.Libraries.{same, same_name, name_of, guid_of, interface_named, marked}
+use Rattle.oa_checks.specs.Libraries.{same, same_name, item_name, item_guid, interface_named, marked}
 use Rattle.oa_checks.specs.Repeats.{first_repeat, first_answer, first_after}
 use Rattle.oa_checks.specs.declared.fault.CheckError.{CheckError}
 use Rattle.oa_checks.specs.declared.fault.CheckError.TheVariants.{DuplicateName, DuplicateId, DuplicateGuid, UnknownInterface}
@@ -48,11 +48,11 @@ inner_breach (Coclass c) = repeated_name (map (λ (e : Entry). e.interface) c.en
 -- an item's own name, else the first name inside it
 abbrev pub item_breach : List Item → Item → Option (List ℕ)
 item_breach before item =
-    if list_any (λ (other : Item). same_name (name_of item) (name_of other)) before then Some (name_of item) else inner_breach item
+    if list_any (λ (other : Item). same_name (item_name item) (item_name other)) before then Some (item_name item) else inner_breach item
 
 -- the same by the folded names of the items before
 abbrev pub repeated_in : List (List ℕ) → Item → Option (List ℕ)
-repeated_in seen item = if list_any (same (folded_name (name_of item))) seen then Some (name_of item) else inner_breach item
+repeated_in seen item = if list_any (same (folded_name (item_name item))) seen then Some (item_name item) else inner_breach item
 
 abbrev pub name_breach : List Item → Option (List ℕ)
 name_breach items = first_after item_breach [] items
@@ -80,7 +80,7 @@ id_breach items = first_answer (in_interface (first_broken shares_id)) items
 -- ---- the first GUID that repeats the library's or that of an item before
 
 abbrev pub guid_breach : List ℕ → List Item → Option (List ℕ)
-guid_breach library items = first_repeat same (λ guid. guid) [] (library ∷ map guid_of items)
+guid_breach library items = first_repeat same (λ guid. guid) [] (library ∷ map item_guid items)
 
 -- ---- the first entry of a coclass that names no interface
 
@@ -181,6 +181,6 @@ UnlessMemory (BadDefault n) P = P
 UnlessMemory TextTooLong P = P
 
 -- A value only where there is no breach, and else the breach.
-abbrev pub Refuses : {X : Type 0} → Option CheckError → (X → Type 0) → Result X CheckError → Type 0
-Refuses breach P (Ok x) = (breach ≡ None) × P x
-Refuses breach P (Err e) = UnlessMemory e (breach ≡ Some e)
+abbrev pub RefusesBreach : {X : Type 0} → Option CheckError → (X → Type 0) → Result X CheckError → Type 0
+RefusesBreach breach P (Ok x) = (breach ≡ None) × P x
+RefusesBreach breach P (Err e) = UnlessMemory e (breach ≡ Some e)

@@ -4,9 +4,9 @@ use Rattle.oa_checks.specs.declared.repeats.Distinct.{Distinct}
 use Rattle.oa_checks.specs.declared.repeats.Distinct.TheVariants.{All, Repeat}
 use Rattle.oa_checks.specs.Repeats.{repeat_at}
 
-abbrev pub Tells : {K : Type 0} → (K → K → Bool) → List K → Distinct K → Type 0
-Tells eq keys (All seen) = (repeat_at eq [] keys ≡ None) × (seen.keys ≡ keys)
-Tells eq keys (Repeat place) = (repeat_at eq [] keys ≡ Some place) × (place < length keys)
+abbrev pub TellsDistinct : {K : Type 0} → (K → K → Bool) → List K → Distinct K → Type 0
+TellsDistinct eq keys (All seen) = (repeat_at eq [] keys ≡ None) × (seen.keys ≡ keys)
+TellsDistinct eq keys (Repeat place) = (repeat_at eq [] keys ≡ Some place) × (place < length keys)
 
 abbrev pub repeat_of : {K : Type 0} → Distinct K → Option ℕ
 repeat_of (All seen) = None

@@ -21,17 +21,17 @@ same = pointwise nat_eq
 abbrev pub same_name : List ℕ → List ℕ → Bool
 same_name a b = same (folded_name a) (folded_name b)
 
-abbrev pub name_of : Item → List ℕ
-name_of (Interface i) = i.name
-name_of (Coclass c) = c.name
+abbrev pub item_name : Item → List ℕ
+item_name (Interface i) = i.name
+item_name (Coclass c) = c.name
 
-abbrev pub guid_of : Item → List ℕ
-guid_of (Interface i) = i.guid
-guid_of (Coclass c) = c.guid
+abbrev pub item_guid : Item → List ℕ
+item_guid (Interface i) = i.guid
+item_guid (Coclass c) = c.guid
 
 -- the items' names, A to Z folded
 abbrev pub folded_names : List Item → List (List ℕ)
-folded_names items = map (λ i. folded_name (name_of i)) items
+folded_names items = map (λ i. folded_name (item_name i)) items
 
 abbrev pub as_interface : Item → Option InterfaceValue
 as_interface (Interface i) = Some i
@@ -43,11 +43,11 @@ as_class (Coclass c) = Some c
 
 -- the interface that has a name; interfaces and coclasses have no name in common
 abbrev pub interface_named : List Item → List ℕ → Option InterfaceValue
-interface_named items name = option_and_then as_interface (find (λ i. same_name name (name_of i)) items)
+interface_named items name = option_and_then as_interface (find (λ i. same_name name (item_name i)) items)
 
 -- the interface and the coclass with a GUID; no two items have one in common
 abbrev pub item_with : List Item → List ℕ → Option Item
-item_with items guid = find (λ i. same guid (guid_of i)) items
+item_with items guid = find (λ i. same guid (item_guid i)) items
 
 abbrev pub interface_of : TreeValue → List ℕ → Option InterfaceValue
 interface_of tree guid = option_and_then as_interface (item_with tree.items guid)

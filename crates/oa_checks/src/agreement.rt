@@ -1,7 +1,7 @@
 //! When the get and the put of a property agree.
 ghost use Rattle.std.specs.Prelude.{◌≡◌};
 ghost use Rattle.std.specs.Cmp.Lexicographic.{pointwise};
-ghost use Rattle.oa_checks.specs.Agreement.{same_type, same_result, same_literal, same_default, is_optional, same_parameter, agree};
+ghost use Rattle.oa_checks.specs.Agreement.{same_value_type, same_result, same_literal, same_default, is_optional, same_parameter, agree};
 ghost use Rattle.oa_checks.specs.Libraries.{same_name};
 
 use crate::declaration::Declaration;
@@ -16,7 +16,7 @@ pub fn is_same_name(a: &Name, b: &Name) -> bool
 }
 
 fn same_type(a: ValueType, b: ValueType) -> bool
-    ensures { result ≡ same_type a b }
+    ensures { result ≡ same_value_type a b }
 {
     a.vt() == b.vt()
 }

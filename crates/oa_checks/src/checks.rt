@@ -2,12 +2,12 @@
 ghost use Rattle.std.specs.Prelude.{◌≡◌, ◌++◌, ◌∷◌, [], IfOk, is_some, map};
 ghost use Rattle.std.specs.Option.{option_map, option_or};
 ghost use Rattle.oa_model.specs.Folding.{folded_name};
-ghost use Rattle.oa_checks.specs.Breaches.{Refuses, repeated_in, repeated_name, declared_breach, inner_breach, name_breach, id_breach};
+ghost use Rattle.oa_checks.specs.Breaches.{RefusesBreach, repeated_in, repeated_name, declared_breach, inner_breach, name_breach, id_breach};
 ghost use Rattle.oa_checks.specs.Breaches.{guid_breach, unknown_name, entry_breach, interface_breach, form_breach};
 ghost use Rattle.oa_checks.specs.Breaches.{array_breach, default_breach, form_breaches, key_breaches, tree_breach};
 ghost use Rattle.oa_checks.specs.Declarations.{declarations};
 ghost use Rattle.oa_checks.specs.Libraries.{folded_names};
-ghost use Rattle.oa_checks.specs.Libraries.{name_of, guid_of, interface_named};
+ghost use Rattle.oa_checks.specs.Libraries.{item_name, item_guid, interface_named};
 ghost use Rattle.oa_checks.specs.Repeats.{first_answer, first_after};
 ghost use Rattle.oa_checks.specs.Taken.{repeated_by, takes_reading, takes_setting, with_taken};
 ghost use Rattle.oa_checks.specs.declared.fault.CheckError.TheVariants.{DuplicateName, DuplicateId, DuplicateGuid, UnknownInterface};
@@ -26,7 +26,7 @@ use std::alloc::{AllocError, Global};
 use uuid::Uuid;
 
 pub fn item_name(item: &Item) -> &Name
-    ensures { result.now ≡ name_of item.now }
+    ensures { result.now ≡ item_name item.now }
 {
     match item {
         Item::Interface(interface) => &interface.name,
@@ -35,7 +35,7 @@ pub fn item_name(item: &Item) -> &Name
 }
 
 fn item_guid(item: &Item) -> Uuid
-    ensures { result ≡ guid_of item.now }
+    ensures { result ≡ item_guid item.now }
 {
     match item {
         Item::Interface(interface) => interface.guid,
@@ -86,7 +86,7 @@ fn first_repeated<'a>(alloc: Global, names: &[&'a Name]) -> Result<Option<&'a Na
 
 /// Refuses names of which one repeats one before it.
 fn check_repeated(alloc: Global, names: &[&Name]) -> Result<(), CheckError>
-    ensures { Refuses (option_map DuplicateName (repeated_name (map (λ n. n.now) names.now))) (λ _. Unit {0}) result }
+    ensures { RefusesBreach (option_map DuplicateName (repeated_name (map (λ n. n.now) names.now))) (λ _. Unit {0}) result }
 {
     match first_repeated(alloc, names)? {
         Some(name) => Err(CheckError::DuplicateName(WrittenName::copy(alloc, name)?)),
@@ -100,7 +100,7 @@ fn admit_declaration(
     taken: &mut Taken,
     declaration: &Declaration<'_>,
 ) -> Result<(), CheckError>
-    ensures refuses { Refuses (option_map DuplicateName (repeated_by taken.old.reading taken.old.setting declaration.now))
+    ensures refuses { RefusesBreach (option_map DuplicateName (repeated_by taken.old.reading taken.old.setting declaration.now))
         (λ _. (taken.new.reading ≡ with_taken takes_reading declaration.now taken.old.reading)
         × (taken.new.setting ≡ with_taken takes_setting declaration.now taken.old.setting)) result }
 {
@@ -112,7 +112,7 @@ fn admit_declaration(
 }
 
 fn check_declared(alloc: Global, all: &[Declaration<'_>]) -> Result<(), CheckError>
-    ensures { Refuses (option_map DuplicateName (first_after declared_breach [] all.now)) (λ _. Unit {0}) result }
+    ensures { RefusesBreach (option_map DuplicateName (first_after declared_breach [] all.now)) (λ _. Unit {0}) result }
 {
     let mut taken = Taken::new(alloc);
     for declaration in all {
@@ -122,21 +122,21 @@ fn check_declared(alloc: Global, all: &[Declaration<'_>]) -> Result<(), CheckErr
 }
 
 fn check_interface_names(alloc: Global, interface: &Interface) -> Result<(), CheckError>
-    ensures { Refuses (option_map DuplicateName (first_after declared_breach [] (declarations interface.now))) (λ _. Unit {0}) result }
+    ensures { RefusesBreach (option_map DuplicateName (first_after declared_breach [] (declarations interface.now))) (λ _. Unit {0}) result }
 {
     let all = declarations(alloc, interface)?;
     check_declared(alloc, all.as_slice())
 }
 
 fn check_coclass_names(alloc: Global, class: &Coclass) -> Result<(), CheckError>
-    ensures { Refuses (option_map DuplicateName (repeated_name (map (λ e. e.interface) class.now.entries))) (λ _. Unit {0}) result }
+    ensures { RefusesBreach (option_map DuplicateName (repeated_name (map (λ e. e.interface) class.now.entries))) (λ _. Unit {0}) result }
 {
     let names = entry_names(alloc, class.entries.as_slice())?;
     check_repeated(alloc, names.as_slice())
 }
 
 fn check_inner_names(alloc: Global, item: &Item) -> Result<(), CheckError>
-    ensures { Refuses (option_map DuplicateName (inner_breach item.now)) (λ _. Unit {0}) result }
+    ensures { RefusesBreach (option_map DuplicateName (inner_breach item.now)) (λ _. Unit {0}) result }
 {
     match item {
         Item::Interface(interface) => check_interface_names(alloc, interface),
@@ -146,8 +146,8 @@ fn check_inner_names(alloc: Global, item: &Item) -> Result<(), CheckError>
 
 /// Adds an item's name to those of the items before it.
 fn admit(alloc: Global, seen: &mut Names, item: &Item) -> Result<(), CheckError>
-    ensures refuses { Refuses (option_map DuplicateName (repeated_in seen.old item.now))
-        (λ _. seen.new ≡ seen.old ++ folded_name (name_of item.now) ∷ []) result }
+    ensures refuses { RefusesBreach (option_map DuplicateName (repeated_in seen.old item.now))
+        (λ _. seen.new ≡ seen.old ++ folded_name (item_name item.now) ∷ []) result }
 {
     let name = item_name(item);
     if !seen.insert(folded(alloc, name)?)? {
@@ -158,7 +158,7 @@ fn admit(alloc: Global, seen: &mut Names, item: &Item) -> Result<(), CheckError>
 
 /// The items' names, which differ, as do the names inside each.
 pub(crate) fn check_names(alloc: Global, items: &[Item]) -> Result<Names, CheckError>
-    ensures { Refuses (option_map DuplicateName (name_breach items.now)) (λ names. names ≡ folded_names items.now) result }
+    ensures { RefusesBreach (option_map DuplicateName (name_breach items.now)) (λ names. names ≡ folded_names items.now) result }
 {
     let mut seen = Names::new(alloc);
     for item in items {
@@ -169,7 +169,7 @@ pub(crate) fn check_names(alloc: Global, items: &[Item]) -> Result<Names, CheckE
 
 /// No two members of an interface have one DISPID.
 pub(crate) fn check_ids(alloc: Global, items: &[Item]) -> Result<(), CheckError>
-    ensures { Refuses (option_map DuplicateId (id_breach items.now)) (λ _. Unit {0}) result }
+    ensures { RefusesBreach (option_map DuplicateId (id_breach items.now)) (λ _. Unit {0}) result }
 {
     match check_members(alloc, MemberCheck::Ids, items)? {
         Some(name) => Err(CheckError::DuplicateId(WrittenName::copy(alloc, name)?)),
@@ -178,7 +178,7 @@ pub(crate) fn check_ids(alloc: Global, items: &[Item]) -> Result<(), CheckError>
 }
 
 fn all_guids(alloc: Global, library: Uuid, items: &[Item]) -> Result<Vec<Uuid>, AllocError>
-    ensures { IfOk result (λ v. v.items ≡ library ∷ map guid_of items.now) }
+    ensures { IfOk result (λ v. v.items ≡ library ∷ map item_guid items.now) }
 {
     let mut guids = Vec::new(alloc);
     guids.push(library)?;
@@ -190,7 +190,7 @@ fn all_guids(alloc: Global, library: Uuid, items: &[Item]) -> Result<Vec<Uuid>, 
 
 /// The items' GUIDs, which differ from each other and from the library's.
 pub(crate) fn check_guids(alloc: Global, library: Uuid, items: &[Item]) -> Result<Guids, CheckError>
-    ensures { Refuses (option_map DuplicateGuid (guid_breach library items.now)) (λ guids. guids ≡ map guid_of items.now) result }
+    ensures { RefusesBreach (option_map DuplicateGuid (guid_breach library items.now)) (λ guids. guids ≡ map item_guid items.now) result }
 {
     let guids = all_guids(alloc, library, items)?;
     match told_apart(alloc, all_guids(alloc, library, items)?)? {
@@ -225,7 +225,7 @@ fn check_entries(
     entries: &[Entry],
 ) -> Result<(), CheckError>
     requires { names.now ≡ folded_names items.now }
-    ensures { Refuses (option_map UnknownInterface (first_answer (unknown_name items.now) entries.now)) (λ _. Unit {0}) result }
+    ensures { RefusesBreach (option_map UnknownInterface (first_answer (unknown_name items.now) entries.now)) (λ _. Unit {0}) result }
 {
     for entry in entries {
         if !is_interface(alloc, names, items, &entry.interface)? {
@@ -237,7 +237,7 @@ fn check_entries(
 
 fn check_item(alloc: Global, names: &Names, items: &[Item], item: &Item) -> Result<(), CheckError>
     requires { names.now ≡ folded_names items.now }
-    ensures { Refuses (option_map UnknownInterface (entry_breach items.now item.now)) (λ _. Unit {0}) result }
+    ensures { RefusesBreach (option_map UnknownInterface (entry_breach items.now item.now)) (λ _. Unit {0}) result }
 {
     match item {
         Item::Interface(_) => Ok(()),
@@ -252,7 +252,7 @@ pub(crate) fn check_interfaces(
     items: &[Item],
 ) -> Result<(), CheckError>
     requires { names.now ≡ folded_names items.now }
-    ensures { Refuses (option_map UnknownInterface (interface_breach items.now)) (λ _. Unit {0}) result }
+    ensures { RefusesBreach (option_map UnknownInterface (interface_breach items.now)) (λ _. Unit {0}) result }
 {
     for item in items {
         check_item(alloc, names, items, item)?;
@@ -262,7 +262,7 @@ pub(crate) fn check_interfaces(
 
 /// The get and the put of each property agree.
 pub(crate) fn check_forms(alloc: Global, items: &[Item]) -> Result<(), CheckError>
-    ensures { Refuses (option_map GetPutDisagree (form_breach items.now)) (λ _. Unit {0}) result }
+    ensures { RefusesBreach (option_map GetPutDisagree (form_breach items.now)) (λ _. Unit {0}) result }
 {
     match check_members(alloc, MemberCheck::Forms, items)? {
         Some(name) => Err(CheckError::GetPutDisagree(WrittenName::copy(alloc, name)?)),
@@ -272,7 +272,7 @@ pub(crate) fn check_forms(alloc: Global, items: &[Item]) -> Result<(), CheckErro
 
 /// No parameter of a property is an array.
 pub(crate) fn check_arrays(alloc: Global, items: &[Item]) -> Result<(), CheckError>
-    ensures { Refuses (option_map ArrayParameter (array_breach items.now)) (λ _. Unit {0}) result }
+    ensures { RefusesBreach (option_map ArrayParameter (array_breach items.now)) (λ _. Unit {0}) result }
 {
     match check_members(alloc, MemberCheck::Arrays, items)? {
         Some(name) => Err(CheckError::ArrayParameter(WrittenName::copy(alloc, name)?)),
@@ -282,7 +282,7 @@ pub(crate) fn check_arrays(alloc: Global, items: &[Item]) -> Result<(), CheckErr
 
 /// Each default has a value of its parameter's type, and no new value has one.
 pub(crate) fn check_defaults(alloc: Global, items: &[Item]) -> Result<(), CheckError>
-    ensures { Refuses (option_map BadDefault (default_breach items.now)) (λ _. Unit {0}) result }
+    ensures { RefusesBreach (option_map BadDefault (default_breach items.now)) (λ _. Unit {0}) result }
 {
     match check_members(alloc, MemberCheck::Defaults, items)? {
         Some(name) => Err(CheckError::BadDefault(WrittenName::copy(alloc, name)?)),
@@ -292,7 +292,7 @@ pub(crate) fn check_defaults(alloc: Global, items: &[Item]) -> Result<(), CheckE
 
 /// The forms of properties and the parameters, after names, DISPIDs and interfaces.
 fn check_form_kinds(alloc: Global, items: &[Item]) -> Result<(), CheckError>
-    ensures { Refuses (form_breaches items.now) (λ _. Unit {0}) result }
+    ensures { RefusesBreach (form_breaches items.now) (λ _. Unit {0}) result }
 {
     check_forms(alloc, items)?;
     check_arrays(alloc, items)?;
@@ -309,8 +309,8 @@ pub struct Checked {
 
 /// Names, DISPIDs and GUIDs.
 fn check_keys(alloc: Global, tree: &Tree) -> Result<Checked, CheckError>
-    ensures { Refuses (key_breaches tree.now)
-        (λ c. (c.names ≡ folded_names tree.now.items) × (c.guids ≡ map guid_of tree.now.items)) result }
+    ensures { RefusesBreach (key_breaches tree.now)
+        (λ c. (c.names ≡ folded_names tree.now.items) × (c.guids ≡ map item_guid tree.now.items)) result }
 {
     let items = items_of(tree);
     let names = check_names(alloc, items)?;
@@ -322,7 +322,7 @@ fn check_keys(alloc: Global, tree: &Tree) -> Result<Checked, CheckError>
 /// The entries of coclasses, the forms of properties and the parameters, after the names of all items.
 fn check_contents(alloc: Global, tree: &Tree, names: &Names) -> Result<(), CheckError>
     requires { names.now ≡ folded_names tree.now.items }
-    ensures { Refuses (option_or (option_map UnknownInterface (interface_breach tree.now.items)) (form_breaches tree.now.items))
+    ensures { RefusesBreach (option_or (option_map UnknownInterface (interface_breach tree.now.items)) (form_breaches tree.now.items))
         (λ _. Unit {0}) result }
 {
     let items = items_of(tree);
@@ -332,8 +332,8 @@ fn check_contents(alloc: Global, tree: &Tree, names: &Names) -> Result<(), Check
 
 /// All checks of a tree but that of its text's length, in their order.
 pub fn check_tree(alloc: Global, tree: &Tree) -> Result<Checked, CheckError>
-    ensures { Refuses (tree_breach tree.now)
-        (λ c. (c.names ≡ folded_names tree.now.items) × (c.guids ≡ map guid_of tree.now.items)) result }
+    ensures { RefusesBreach (tree_breach tree.now)
+        (λ c. (c.names ≡ folded_names tree.now.items) × (c.guids ≡ map item_guid tree.now.items)) result }
 {
     let checked = check_keys(alloc, tree)?;
     check_contents(alloc, tree, &checked.names)?;

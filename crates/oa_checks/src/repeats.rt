@@ -1,6 +1,6 @@
 //! Lists whose keys have to differ.
 ghost use Rattle.std.specs.Prelude.{◌≡◌, [], IfOk};
-ghost use Rattle.oa_checks.specs.Keys.{Tells, repeat_of};
+ghost use Rattle.oa_checks.specs.Keys.{TellsDistinct, repeat_of};
 ghost use Rattle.oa_checks.specs.Repeats.{places_before};
 
 use indexmap::{IndexMap, IndexSet};
@@ -29,7 +29,7 @@ pub(crate) fn told_apart<K: Eq + Hash + Drop>(
     alloc: Global,
     keys: Vec<K>,
 ) -> Result<Distinct<K>, AllocError>
-    ensures { IfOk result (Tells K.eq keys.items) }
+    ensures { IfOk result (TellsDistinct K.eq keys.items) }
 {
     let mut seen = IndexSet::new(alloc);
     for key in keys {

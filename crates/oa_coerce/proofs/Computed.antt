@@ -7,17 +7,17 @@ use Rattle.oa_model.specs.declared.var_type.VarType.{VarType}
 use Rattle.oa_model.specs.declared.var_type.VarType.TheVariants as types
 use Rattle.oa_model.specs.declared.var_type.ValueType.{ValueType}
 use Rattle.oa_model.specs.declared.var_type.ValueType.TheVariants as kinds
-use Rattle.oa_variant.specs.Keys.{number_of}
+use Rattle.oa_variant.specs.Keys.{key_number}
 use Rattle.oa_variant.specs.Scalars.{type_of, same_type, IsScalar}
 use Rattle.oa_variant.specs.declared.scalar.Scalar.{Scalar}
 use Rattle.oa_variant.specs.declared.scalar.Scalar.TheVariants as scalars
 use Rattle.oa_variant.specs.declared.variant.Variant.{Variant}
 use Rattle.oa_variant.specs.declared.variant.Variant.TheVariants.{One, Array}
-use Rattle.oa_coerce.specs.Numbers.{counts_units, places_of, number_in, IsNearest}
+use Rattle.oa_coerce.specs.Numbers.{counts_units, decimal_places, number_in, IsNearest}
 use Rattle.oa_coerce.specs.Coercions.{rule_for, Makes, MakesValue, CoercesScalar, Coerces}
-use Rattle.oa_coerce.specs.Refusals.{RefusesScalar, Refuses}
+use Rattle.oa_coerce.specs.Refusals.{RefusesScalar, RefusesCoercion}
 use Rattle.oa_coerce.specs.Answers.{nearest_count, of_count, answer_by, coerced_scalar, one, value_by, coerced, is_memory, IsScalarAnswer}
-use Rattle.oa_coerce.specs.Answers.{IsAnswer}
+use Rattle.oa_coerce.specs.Answers.{IsCoercion}
 use Rattle.oa_coerce.specs.declared.fault.CoerceFault.{CoerceFault}
 use Rattle.oa_coerce.specs.declared.fault.CoerceFault.TheVariants.{Overflow, TypeMismatch, Memory}
 use Rattle.oa_coerce.specs.declared.rule.Rule.{Rule}
@@ -27,7 +27,7 @@ use Rattle.oa_coerce.proofs.Rules.{by_rule, made_back}
 use Rattle.oa_coerce.proofs.Lifted.{lifted, lowered}
 
 -- a scalar of an integer type, or of CY, has a number in the range of its type
-ranged : (m : Scalar) → counts_units (type_of m) ≡ true → IsScalar m → in_range (type_of m) (number_of m) ≡ true
+ranged : (m : Scalar) → counts_units (type_of m) ≡ true → IsScalar m → in_range (type_of m) (key_number m) ≡ true
 ranged (scalars.I1 (pos n)) u h = lt-ltb n (2 ^ 7) (omega (arith, h.sfits))
 ranged (scalars.I1 (negsuc n)) u h = lt-ltb n (2 ^ 7) (omega (arith, h.sfits))
 ranged (scalars.I2 (pos n)) u h = lt-ltb n (2 ^ 15) (omega (arith, h.sfits))
@@ -54,7 +54,7 @@ ranged (scalars.Decimal d) u h = absurd (false≢true u)
 
 -- and each number in the range of such a type is that of a scalar of it
 made_of : (to : VarType) (n : ℤ) → counts_units to ≡ true → in_range to n ≡ true
-    → IsScalar (of_count to n) × (type_of (of_count to n) ≡ to) × (number_of (of_count to n) ≡ n)
+    → IsScalar (of_count to n) × (type_of (of_count to n) ≡ to) × (key_number (of_count to n) ≡ n)
 made_of types.I1 (pos n) u e = (record { sfits = ltb-true n (2 ^ 7) e }, refl, refl)
 made_of types.I1 (negsuc n) u e = (record { sfits = ltb-true n (2 ^ 7) e }, refl, refl)
 made_of types.I2 (pos n) u e = (record { sfits = ltb-true n (2 ^ 15) e }, refl, refl)
@@ -86,10 +86,10 @@ made_of types.Decimal n u e = absurd (false≢true u)
 made_of types.Variant n u e = absurd (false≢true u)
 
 -- a number in range is made by Nearest
-in_range_is_made : (s : Scalar) (to : VarType) → counts_units to ≡ true → (n : ℤ) → n ≡ nearest_count (number_in s) (places_of to)
+in_range_is_made : (s : Scalar) (to : VarType) → counts_units to ≡ true → (n : ℤ) → n ≡ nearest_count (number_in s) (decimal_places to)
     → in_range to n ≡ true → Makes Nearest s to (of_count to n)
 in_range_is_made s to u n e fits = let m = made_of to n u fits in
-    (m.0, m.1, subst (IsNearest (number_in s) (places_of to)) (sym (m.2 ∙ e)) (computed_is_nearest (number_in s) (places_of to)))
+    (m.0, m.1, subst (IsNearest (number_in s) (decimal_places to)) (sym (m.2 ∙ e)) (computed_is_nearest (number_in s) (decimal_places to)))
 
 -- telling results apart
 abbrev scalar_in : Result Scalar CoerceFault → Scalar → Scalar
@@ -120,8 +120,8 @@ scalar_answer s made to = by_rule (λ r. Makes r s to made → answer_by r s to 
     (λ _ h. ap Ok (sym h))
     (λ _ h. ap Ok (sym h))
     (λ units h.
-    let n = nearest_count (number_in s) (places_of to) in
-    let same = one_nearest (number_in s) (places_of to) (number_of made) n h.2 (computed_is_nearest (number_in s) (places_of to)) in
+    let n = nearest_count (number_in s) (decimal_places to) in
+    let same = one_nearest (number_in s) (decimal_places to) (key_number made) n h.2 (computed_is_nearest (number_in s) (decimal_places to)) in
     let of_made = ap counts_units h.1 ∙ units in
     let fits : in_range to n ≡ true = (λ i. in_range (sym h.1 i) (sym same i)) ∙ ranged made of_made h.0 in
     cond-true (in_range to n) (Ok (of_count to n)) (Err Overflow) fits ∙ ap Ok ((λ i. of_count (sym h.1 i) (sym same i)) ∙ made_back made of_made))
@@ -134,7 +134,7 @@ unfolding coerced_scalar
 answer_scalar s made to = by_rule (λ r. answer_by r s to ≡ Ok made → Makes r s to made) (type_of s) to
     (λ _ h. sym (ap (λ r. scalar_in r s) h))
     (λ _ h. sym (ap (λ r. scalar_in r s) h))
-    (λ units. let n = nearest_count (number_in s) (places_of to) in
+    (λ units. let n = nearest_count (number_in s) (decimal_places to) in
     cond_both (in_range to n) (Ok (of_count to n)) (Err Overflow) (λ a. a ≡ Ok made → Makes Nearest s to made)
     (λ fits h. subst (Makes Nearest s to) (ap (λ r. scalar_in r s) h) (in_range_is_made s to units n refl fits))
     (λ _ h. absurd (false≢true (ap is_scalar h))))
@@ -147,7 +147,7 @@ unfolding coerced_scalar
 scalar_refused s to Overflow h = by_rule (λ r. r ≡ Nearest → ((made : Scalar) → Makes r s to made → ⊥) → answer_by r s to ≡ Err Overflow) (type_of s) to
     (λ _ e none. absurd (false≢true (ap is_nearest e)))
     (λ _ e none. absurd (false≢true (ap is_nearest e)))
-    (λ units e none. let n = nearest_count (number_in s) (places_of to) in
+    (λ units e none. let n = nearest_count (number_in s) (decimal_places to) in
     cond_both (in_range to n) (Ok (of_count to n)) (Err Overflow) (λ a. a ≡ Err Overflow)
     (λ fits. absurd (none (of_count to n) (in_range_is_made s to units n refl fits)))
     (λ _. refl))
@@ -214,7 +214,7 @@ not_nearest : (test : Bool) (r q : Rule) → is_nearest r ≡ false → is_neare
 not_nearest true r q e f h = false≢true (sym e ∙ ap is_nearest h)
 not_nearest false r q e f h = false≢true (sym f ∙ ap is_nearest h)
 
-pub value_refused : (v : Variant) (to : ValueType) (f : CoerceFault) → Refuses v to f → is_memory f ≡ false → coerced v to ≡ Err f
+pub value_refused : (v : Variant) (to : ValueType) (f : CoerceFault) → RefusesCoercion v to f → is_memory f ≡ false → coerced v to ≡ Err f
 unfolding coerced
 value_refused (One s) (kinds.One to) Overflow h m =
     of_one s to ∙ ap one (scalar_refused s to Overflow (h.0, λ x k. h.1 (One x) (lifted (rule_for (type_of s) to) s to x k)))
@@ -231,6 +231,6 @@ scalar_result s to (Ok made) h g = scalar_answer s made to h
 scalar_result s to (Err e) h g = scalar_refused s to e.1 g.1
 
 pub value_result : (v : Variant) (to : ValueType) (r : Result Variant (Variant × CoerceFault)) → IfOk r (λ made. Coerces v to made) →
-    IfErr r (λ e. (e.0 ≡ v) × Refuses v to e.1) → IsAnswer (coerced v to) r
+    IfErr r (λ e. (e.0 ≡ v) × RefusesCoercion v to e.1) → IsCoercion (coerced v to) r
 value_result v to (Ok made) h g = value_answer v made to h
 value_result v to (Err e) h g = λ m. value_refused v to e.1 g.1 m

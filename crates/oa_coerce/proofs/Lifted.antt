@@ -3,14 +3,14 @@ use Rattle.std.specs.Prelude.{◌≡◌, ℤ}
 use Rattle.std.proofs.Common.{refl, ap, subst}
 use Rattle.oa_model.specs.declared.var_type.VarType.{VarType}
 use Rattle.oa_model.specs.declared.var_type.ValueType.TheVariants as kinds
-use Rattle.oa_variant.specs.Keys.{number_of}
+use Rattle.oa_variant.specs.Keys.{key_number}
 use Rattle.oa_variant.specs.Scalars.{type_of, zero_of, IsScalar}
 use Rattle.oa_variant.specs.declared.scalar.Scalar.{Scalar}
 use Rattle.oa_variant.specs.declared.variant.Variant.{Variant}
 use Rattle.oa_variant.specs.declared.variant.Variant.TheVariants.{One, Array}
-use Rattle.oa_coerce.specs.Numbers.{number_in, places_of, IsNearest}
+use Rattle.oa_coerce.specs.Numbers.{number_in, decimal_places, IsNearest}
 use Rattle.oa_coerce.specs.Coercions.{rule_for, Makes, MakesValue}
-use Rattle.oa_coerce.specs.Refusals.{RefusesScalar, Refuses}
+use Rattle.oa_coerce.specs.Refusals.{RefusesScalar, RefusesCoercion}
 use Rattle.oa_coerce.specs.declared.fault.CoerceFault.{CoerceFault}
 use Rattle.oa_coerce.specs.declared.fault.CoerceFault.TheVariants.{Overflow, TypeMismatch, Memory}
 use Rattle.oa_coerce.specs.declared.rule.Rule.{Rule}
@@ -41,14 +41,14 @@ lowered NoRule s to (One m) h = absurd h
 lowered NoRule s to (Array a) h = absurd h
 
 -- where no scalar of the type has the nearest number, none is made
-pub none_in_range : (s : Scalar) (to : VarType) (n : ℤ) (r : Rule) → r ≡ Nearest → IsNearest (number_in s) (places_of to) n →
-    ((made : Scalar) → IsScalar made → type_of made ≡ to → number_of made ≡ n → ⊥) → (made : Scalar) → Makes r s to made → ⊥
+pub none_in_range : (s : Scalar) (to : VarType) (n : ℤ) (r : Rule) → r ≡ Nearest → IsNearest (number_in s) (decimal_places to) n →
+    ((made : Scalar) → IsScalar made → type_of made ≡ to → key_number made ≡ n → ⊥) → (made : Scalar) → Makes r s to made → ⊥
 none_in_range s to n r e near none made h =
     let m : Makes Nearest s to made = subst (λ x. Makes x s to made) e h in
-    none made m.0 m.1 (one_nearest (number_in s) (places_of to) (number_of made) n m.2 near)
+    none made m.0 m.1 (one_nearest (number_in s) (decimal_places to) (key_number made) n m.2 near)
 
 -- a refused scalar is a refused value
-pub refused_too : (s : Scalar) (to : VarType) (f : CoerceFault) → RefusesScalar s to f → Refuses (One s) (kinds.One to) f
+pub refused_too : (s : Scalar) (to : VarType) (f : CoerceFault) → RefusesScalar s to f → RefusesCoercion (One s) (kinds.One to) f
 refused_too s to Overflow h = (h.0, λ made g. let m = lowered (rule_for (type_of s) to) s to made g in h.1 m.0 m.2)
 refused_too s to TypeMismatch h = h
 refused_too s to Memory h = absurd h

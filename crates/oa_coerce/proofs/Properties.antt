@@ -7,14 +7,14 @@ use Rattle.oa_model.specs.declared.var_type.VarType.{VarType}
 use Rattle.oa_model.specs.declared.var_type.VarType.TheVariants as types
 use Rattle.oa_model.specs.declared.var_type.ValueType.{ValueType}
 use Rattle.oa_model.specs.declared.var_type.ValueType.TheVariants as kinds
-use Rattle.oa_variant.specs.Keys.{number_of}
+use Rattle.oa_variant.specs.Keys.{key_number}
 use Rattle.oa_variant.specs.Scalars.{type_of, same_type, fits_type, zero_of}
 use Rattle.oa_variant.specs.Variants.{fits_declared}
 use Rattle.oa_variant.specs.declared.scalar.Scalar.{Scalar}
 use Rattle.oa_variant.specs.declared.scalar.Scalar.TheVariants as scalars
 use Rattle.oa_variant.specs.declared.variant.Variant.{Variant}
 use Rattle.oa_variant.specs.declared.variant.Variant.TheVariants.{One, Array}
-use Rattle.oa_coerce.specs.Numbers.{places_of, number_in, IsNearest}
+use Rattle.oa_coerce.specs.Numbers.{decimal_places, number_in, IsNearest}
 use Rattle.oa_coerce.specs.Coercions.{rule_for, Makes, MakesValue, CoercesScalar, Coerces}
 use Rattle.oa_coerce.specs.declared.rule.Rule.TheVariants.{Unchanged, Zero, NoRule}
 use Rattle.oa_coerce.proofs.Nearest.{one_nearest, nearest_itself}
@@ -27,7 +27,7 @@ one_scalar : (s a b : Scalar) (to : VarType) → CoercesScalar s to a → Coerce
 one_scalar s a b to = by_rule (λ r. Makes r s to a → Makes r s to b → a ≡ b) (type_of s) to
     (λ _ of_a of_b. of_a ∙ sym of_b)
     (λ _ of_a of_b. of_a ∙ sym of_b)
-    (λ units of_a of_b. same_scalar a b to units of_a.1 of_b.1 (one_nearest (number_in s) (places_of to) (number_of a) (number_of b) of_a.2 of_b.2))
+    (λ units of_a of_b. same_scalar a b to units of_a.1 of_b.1 (one_nearest (number_in s) (decimal_places to) (key_number a) (key_number b) of_a.2 of_b.2))
     (λ _ _ of_a of_b. of_a ∙ sym of_b)
     (λ _ _ of_a of_b. of_a ∙ sym of_b)
     (λ none _. absurd none)
@@ -98,7 +98,7 @@ answer_fits (Array x) made (kinds.Array to) =
 -- integers stay
 
 -- a value of an integer type is a count of ones
-counts_ones : (s : Scalar) → is_integer_type (type_of s) ≡ true → number_in s ≡ record { count = number_of s; scale = 0 }
+counts_ones : (s : Scalar) → is_integer_type (type_of s) ≡ true → number_in s ≡ record { count = key_number s; scale = 0 }
 counts_ones (scalars.I1 z) u = refl
 counts_ones (scalars.I2 z) u = refl
 counts_ones (scalars.I4 z) u = refl
@@ -117,7 +117,7 @@ counts_ones (scalars.Error n) u = absurd (false≢true u)
 counts_ones (scalars.Bstr t) u = absurd (false≢true u)
 counts_ones (scalars.Decimal d) u = absurd (false≢true u)
 
-no_places : (t : VarType) → is_integer_type t ≡ true → places_of t ≡ 0
+no_places : (t : VarType) → is_integer_type t ≡ true → decimal_places t ≡ 0
 no_places types.Cy u = absurd (false≢true u)
 no_places types.Empty u = refl
 no_places types.Null u = refl
@@ -141,13 +141,13 @@ other_type : (t u : VarType) → is_integer_type t ≡ true → is_integer_type 
 other_type t u integer not_u e = false≢true (sym not_u ∙ (ap is_integer_type (sym e) ∙ integer))
 
 pub integers_stay : (s made : Scalar) (to : VarType) → is_integer_type (type_of s) ≡ true → is_integer_type to ≡ true
-    → CoercesScalar s to made → number_of made ≡ number_of s
-integers_stay s made to from into = by_rule (λ r. Makes r s to made → number_of made ≡ number_of s) (type_of s) to
-    (λ _ h. ap number_of h)
+    → CoercesScalar s to made → key_number made ≡ key_number s
+integers_stay s made to from into = by_rule (λ r. Makes r s to made → key_number made ≡ key_number s) (type_of s) to
+    (λ _ h. ap key_number h)
     (λ empty h. absurd (other_type (type_of s) types.Empty from refl (are_same (type_of s) types.Empty empty)))
-    (λ _ h. let near = subst (λ p. IsNearest (number_in s) p (number_of made)) (no_places to into) h.2 in
-    one_nearest (record { count = number_of s; scale = 0 }) 0 (number_of made) (number_of s)
-    (subst (λ x. IsNearest x 0 (number_of made)) (counts_ones s from) near) (nearest_itself (number_of s) 0))
+    (λ _ h. let near = subst (λ p. IsNearest (number_in s) p (key_number made)) (no_places to into) h.2 in
+    one_nearest (record { count = key_number s; scale = 0 }) 0 (key_number made) (key_number s)
+    (subst (λ x. IsNearest x 0 (key_number made)) (counts_ones s from) near) (nearest_itself (key_number s) 0))
     (λ _ e h. absurd (other_type to types.Decimal into refl e))
     (λ _ e h. absurd (other_type to types.Bool into refl e))
     (λ none. absurd none)

@@ -8,7 +8,7 @@ use Rattle.oa_model.specs.Types.{is_signed_type}
 use Rattle.oa_model.specs.contracts.var_type.VarType.{the_type as var_type}
 use Rattle.oa_model.specs.declared.var_type.VarType.{VarType}
 use Rattle.oa_model.specs.declared.var_type.VarType.TheVariants as types
-use Rattle.oa_variant.specs.Keys.{number_of}
+use Rattle.oa_variant.specs.Keys.{key_number}
 use Rattle.oa_variant.specs.Scalars.{type_of, same_type}
 use Rattle.oa_variant.specs.declared.scalar.Scalar.{Scalar}
 use Rattle.oa_variant.specs.declared.scalar.Scalar.TheVariants as scalars
@@ -46,7 +46,7 @@ by_rule P from to unchanged zero nearest exact truth none =
     let h = and_parts (is_signed_integer from) (same_type to types.Bool) both in truth h.0 (are_same to types.Bool h.1)) (λ _. none))))))
 
 -- a scalar of an integer type, or of CY, is its type and its number
-pub made_back : (s : Scalar) → counts_units (type_of s) ≡ true → of_count (type_of s) (number_of s) ≡ s
+pub made_back : (s : Scalar) → counts_units (type_of s) ≡ true → of_count (type_of s) (key_number s) ≡ s
 made_back (scalars.I1 z) u = refl
 made_back (scalars.I2 z) u = refl
 made_back (scalars.I4 z) u = refl
@@ -65,7 +65,7 @@ made_back (scalars.Error n) u = absurd (false≢true u)
 made_back (scalars.Bstr t) u = absurd (false≢true u)
 made_back (scalars.Decimal d) u = absurd (false≢true u)
 
-pub same_scalar : (a b : Scalar) (to : VarType) → counts_units to ≡ true → type_of a ≡ to → type_of b ≡ to → number_of a ≡ number_of b
+pub same_scalar : (a b : Scalar) (to : VarType) → counts_units to ≡ true → type_of a ≡ to → type_of b ≡ to → key_number a ≡ key_number b
     → a ≡ b
 same_scalar a b to u of_a of_b n =
     let t = ap of_count (of_a ∙ sym of_b) in

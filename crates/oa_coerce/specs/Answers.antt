@@ -15,7 +15,7 @@ use Rattle.oa_variant.specs.declared.scalar.Scalar.{Scalar}
 use Rattle.oa_variant.specs.declared.scalar.Scalar.TheVariants as scalars
 use Rattle.oa_variant.specs.declared.variant.Variant.{Variant}
 use Rattle.oa_variant.specs.declared.variant.Variant.TheVariants.{One}
-use Rattle.oa_coerce.specs.Numbers.{places_of, signed, number_in, as_decimal}
+use Rattle.oa_coerce.specs.Numbers.{decimal_places, signed, number_in, as_decimal}
 use Rattle.oa_coerce.specs.Coercions.{rule_for, rule_of}
 use Rattle.oa_coerce.specs.declared.fault.CoerceFault.{CoerceFault}
 use Rattle.oa_coerce.specs.declared.fault.CoerceFault.TheVariants.{Overflow, TypeMismatch, Memory}
@@ -52,7 +52,7 @@ within_range to n = if in_range to n then Ok (of_count to n) else Err Overflow
 abbrev pub answer_by : Rule → Scalar → VarType → Result Scalar CoerceFault
 answer_by Unchanged s to = Ok s
 answer_by Zero s to = Ok (zero_of to)
-answer_by Nearest s to = within_range to (nearest_count (number_in s) (places_of to))
+answer_by Nearest s to = within_range to (nearest_count (number_in s) (decimal_places to))
 answer_by Exact s to = Ok (scalars.Decimal (as_decimal (number_in s)))
 answer_by ToTruth s to = Ok (scalars.Bool (not (int_eq (number_in s).count (pos 0))))
 answer_by NoRule s to = Err TypeMismatch
@@ -84,6 +84,6 @@ is_memory Memory = true
 is_memory f = false
 
 -- the same for a value, where want of memory says nothing
-abbrev pub IsAnswer : Result Variant CoerceFault → Result Variant (Variant × CoerceFault) → Type 0
-IsAnswer answer (Ok made) = answer ≡ Ok made
-IsAnswer answer (Err back) = is_memory back.1 ≡ false → answer ≡ Err back.1
+abbrev pub IsCoercion : Result Variant CoerceFault → Result Variant (Variant × CoerceFault) → Type 0
+IsCoercion answer (Ok made) = answer ≡ Ok made
+IsCoercion answer (Err back) = is_memory back.1 ≡ false → answer ≡ Err back.1

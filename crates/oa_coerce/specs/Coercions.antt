@@ -7,14 +7,14 @@ use Rattle.oa_model.specs.declared.var_type.VarType.{VarType}
 use Rattle.oa_model.specs.declared.var_type.VarType.TheVariants as types
 use Rattle.oa_model.specs.declared.var_type.ValueType.{ValueType}
 use Rattle.oa_model.specs.declared.var_type.ValueType.TheVariants as kinds
-use Rattle.oa_variant.specs.Keys.{number_of}
+use Rattle.oa_variant.specs.Keys.{key_number}
 use Rattle.oa_variant.specs.Scalars.{type_of, same_type, zero_of, IsScalar}
 use Rattle.oa_variant.specs.Variants.{value_type_of, zero_value}
 use Rattle.oa_variant.specs.declared.scalar.Scalar.{Scalar}
 use Rattle.oa_variant.specs.declared.scalar.Scalar.TheVariants as scalars
 use Rattle.oa_variant.specs.declared.variant.Variant.{Variant}
 use Rattle.oa_variant.specs.declared.variant.Variant.TheVariants.{One}
-use Rattle.oa_coerce.specs.Numbers.{counts_units, is_number_type, places_of, number_in, as_decimal, IsNearest}
+use Rattle.oa_coerce.specs.Numbers.{counts_units, is_number_type, decimal_places, number_in, as_decimal, IsNearest}
 use Rattle.oa_coerce.specs.declared.rule.Rule.{Rule}
 use Rattle.oa_coerce.specs.declared.rule.Rule.TheVariants.{Unchanged, Zero, Nearest, Exact, ToTruth, NoRule}
 
@@ -34,7 +34,7 @@ rule_for from to =
 abbrev pub Makes : Rule → Scalar → VarType → Scalar → Type 0
 Makes Unchanged s to made = made ≡ s
 Makes Zero s to made = made ≡ zero_of to
-Makes Nearest s to made = IsScalar made × (type_of made ≡ to) × IsNearest (number_in s) (places_of to) (number_of made)
+Makes Nearest s to made = IsScalar made × (type_of made ≡ to) × IsNearest (number_in s) (decimal_places to) (key_number made)
 Makes Exact s to made = made ≡ scalars.Decimal (as_decimal (number_in s))
 Makes ToTruth s to made = made ≡ scalars.Bool (not (int_eq (number_in s).count (pos 0)))
 Makes NoRule s to made = ⊥

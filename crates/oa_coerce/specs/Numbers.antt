@@ -5,7 +5,7 @@ use Rattle.oa_model.specs.Integers.{is_integer_type}
 use Rattle.oa_model.specs.declared.var_type.VarType.{VarType}
 use Rattle.oa_model.specs.declared.var_type.VarType.TheVariants as types
 use Rattle.oa_variant.specs.Decimals.{DecimalValue}
-use Rattle.oa_variant.specs.Keys.{number_of}
+use Rattle.oa_variant.specs.Keys.{key_number}
 use Rattle.oa_variant.specs.Scalars.{type_of, same_type}
 use Rattle.oa_variant.specs.declared.scalar.Scalar.{Scalar}
 use Rattle.oa_variant.specs.declared.scalar.Scalar.TheVariants as scalars
@@ -16,9 +16,9 @@ abbrev pub counts_units : VarType → Bool
 counts_units t = is_integer_type t || same_type t types.Cy
 
 -- the unit is 1 / 10^places
-abbrev pub places_of : VarType → ℕ
-places_of types.Cy = 4
-places_of t = 0
+abbrev pub decimal_places : VarType → ℕ
+decimal_places types.Cy = 4
+decimal_places t = 0
 
 abbrev pub is_number_type : VarType → Bool
 is_number_type t = counts_units t || same_type t types.Decimal
@@ -33,7 +33,7 @@ signed true n = neg_ℤ (pos n)
 abbrev pub number_in : Scalar → Number
 number_in (scalars.Decimal d) = record { count = signed d.negative d.magnitude; scale = d.scale }
 number_in (scalars.Bool b) = record { count = signed b (if b then 1 else 0); scale = 0 }
-number_in s = record { count = number_of s; scale = places_of (type_of s) }
+number_in s = record { count = key_number s; scale = decimal_places (type_of s) }
 
 -- how far n units of 1 / 10^places are from a number, in units of 1 / 10^(scale + places)
 abbrev pub distance : Number → ℕ → ℤ → ℕ

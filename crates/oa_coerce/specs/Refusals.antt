@@ -14,10 +14,10 @@ use Rattle.oa_coerce.specs.declared.fault.CoerceFault.{CoerceFault}
 use Rattle.oa_coerce.specs.declared.fault.CoerceFault.TheVariants.{Overflow, TypeMismatch, Memory}
 use Rattle.oa_coerce.specs.declared.rule.Rule.TheVariants.{Zero, Nearest, NoRule}
 
-abbrev pub code_of : CoerceFault → HResult
-code_of Overflow = disp_e_overflow
-code_of TypeMismatch = disp_e_typemismatch
-code_of Memory = e_outofmemory
+abbrev pub coercion_code : CoerceFault → HResult
+coercion_code Overflow = disp_e_overflow
+coercion_code TypeMismatch = disp_e_typemismatch
+coercion_code Memory = e_outofmemory
 
 -- numbers are wanted and no scalar of the type has the nearest one; there is no rule; no scalar takes memory
 abbrev pub RefusesScalar : Scalar → VarType → CoerceFault → Type 0
@@ -30,7 +30,7 @@ IsArrayType (kinds.One t) = ⊥
 IsArrayType (kinds.Array t) = Unit {0}
 
 -- the same of values, where the zero of an array type takes memory
-abbrev pub Refuses : Variant → ValueType → CoerceFault → Type 0
-Refuses v to Overflow = (rule_of (value_type_of v) to ≡ Nearest) × ((made : Variant) → Coerces v to made → ⊥)
-Refuses v to TypeMismatch = rule_of (value_type_of v) to ≡ NoRule
-Refuses v to Memory = (rule_of (value_type_of v) to ≡ Zero) × IsArrayType to
+abbrev pub RefusesCoercion : Variant → ValueType → CoerceFault → Type 0
+RefusesCoercion v to Overflow = (rule_of (value_type_of v) to ≡ Nearest) × ((made : Variant) → Coerces v to made → ⊥)
+RefusesCoercion v to TypeMismatch = rule_of (value_type_of v) to ≡ NoRule
+RefusesCoercion v to Memory = (rule_of (value_type_of v) to ≡ Zero) × IsArrayType to

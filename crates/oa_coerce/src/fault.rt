@@ -1,6 +1,6 @@
 //! Why a value is refused.
 ghost use Rattle.std.specs.Prelude.{◌≡◌};
-ghost use Rattle.oa_coerce.specs.Refusals.{code_of};
+ghost use Rattle.oa_coerce.specs.Refusals.{coercion_code};
 
 use oa_model::HResult;
 use thiserror::Error;
@@ -22,7 +22,7 @@ pub enum CoerceFault {
 impl CoerceFault {
     /// The code of a reply with this refusal (MS-ERREF section 2.1).
     pub fn code(self) -> HResult
-        ensures { result ≡ code_of self }
+        ensures { result ≡ coercion_code self }
     {
         match self {
             CoerceFault::Overflow => HResult::DISP_E_OVERFLOW,

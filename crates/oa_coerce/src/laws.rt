@@ -5,14 +5,14 @@ ghost use Rattle.oa_model.specs.declared.var_type.VarType.{VarType as AType};
 ghost use Rattle.oa_model.specs.declared.var_type.VarType.TheVariants as types;
 ghost use Rattle.oa_model.specs.declared.var_type.ValueType.{ValueType as AValueType};
 ghost use Rattle.oa_model.specs.declared.var_type.ValueType.TheVariants as kinds;
-ghost use Rattle.oa_variant.specs.Keys.{number_of};
+ghost use Rattle.oa_variant.specs.Keys.{key_number};
 ghost use Rattle.oa_variant.specs.Scalars.{type_of, fits_type, IsScalar};
 ghost use Rattle.oa_variant.specs.Variants.{value_type_of, fits_declared};
 ghost use Rattle.oa_variant.specs.declared.scalar.Scalar.{Scalar as AScalar};
 ghost use Rattle.oa_variant.specs.declared.variant.Variant.{Variant as AVariant};
 ghost use Rattle.oa_coerce.specs.Numbers.{counts_units, IsNearest};
 ghost use Rattle.oa_coerce.specs.Coercions.{CoercesScalar, Coerces};
-ghost use Rattle.oa_coerce.specs.Refusals.{RefusesScalar, Refuses};
+ghost use Rattle.oa_coerce.specs.Refusals.{RefusesScalar, RefusesCoercion};
 ghost use Rattle.oa_coerce.specs.Answers.{coerced_scalar, coerced, is_memory};
 ghost use Rattle.oa_coerce.specs.declared.fault.CoerceFault.{CoerceFault as AFault};
 ghost use Rattle.oa_coerce.specs.declared.number.Number.{Number as ANumber};
@@ -42,7 +42,7 @@ pub fn answer_fits()
 /// From one integer type to another the number stays.
 pub fn integers_stay()
     ensures { (s made : AScalar) (to : AType) → is_integer_type (type_of s) ≡ true → is_integer_type to ≡ true →
-        CoercesScalar s to made → number_of made ≡ number_of s }
+        CoercesScalar s to made → key_number made ≡ key_number s }
 {}
 
 /// A value of an integer type or of CY that became a DECIMAL becomes itself again.
@@ -60,5 +60,5 @@ pub fn scalar_answer_is_coercion()
 /// The computed answer for a value is what it becomes, or its refusal, want of memory aside.
 pub fn answer_is_coercion()
     ensures made { (v made : AVariant) (to : AValueType) → Coerces v to made ↔ (coerced v to ≡ Ok made) }
-    ensures refused { (v : AVariant) (to : AValueType) (f : AFault) → Refuses v to f → is_memory f ≡ false → coerced v to ≡ Err f }
+    ensures refused { (v : AVariant) (to : AValueType) (f : AFault) → RefusesCoercion v to f → is_memory f ≡ false → coerced v to ≡ Err f }
 {}

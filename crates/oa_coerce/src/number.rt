@@ -1,6 +1,6 @@
 //! Numbers, and their rounding to units.
 ghost use Rattle.std.specs.Prelude.{◌≡◌, ◌≤◌, ◌<◌, ◌^◌, unsigned_abs, IfSome, IsNone, IsTrue};
-ghost use Rattle.oa_variant.specs.Keys.{number_of};
+ghost use Rattle.oa_variant.specs.Keys.{key_number};
 ghost use Rattle.oa_variant.specs.Scalars.{type_of, IsScalar};
 ghost use Rattle.oa_variant.specs.declared.scalar.Scalar.{Scalar as AScalar};
 ghost use Rattle.oa_coerce.specs.Numbers.{number_in, counts_units, IsNearest, IsNearestWhole};
@@ -76,8 +76,8 @@ pub(crate) fn nearest(number: Number, places: u8) -> i128
 /// The scalar of an integer type, or of CY, whose count of units this is; None where the type has no such scalar.
 pub(crate) fn with_count(to: VarType, count: i128) -> Option<Scalar>
     requires { IsTrue (counts_units to) }
-    ensures some { IfSome result (λ made. (type_of made ≡ to) × (number_of made ≡ count)) }
-    ensures none { IsNone result → (made : AScalar) → IsScalar made → type_of made ≡ to → number_of made ≡ count → ⊥ }
+    ensures some { IfSome result (λ made. (type_of made ≡ to) × (key_number made ≡ count)) }
+    ensures none { IsNone result → (made : AScalar) → IsScalar made → type_of made ≡ to → key_number made ≡ count → ⊥ }
 {
     match to {
         VarType::I1 => i8::try_from(count).ok().map(Scalar::I1),

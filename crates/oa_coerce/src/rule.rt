@@ -1,6 +1,6 @@
 //! The rule that two types pick.
 ghost use Rattle.std.specs.Prelude.{◌≡◌, ◌≤◌};
-ghost use Rattle.oa_coerce.specs.Numbers.{counts_units, places_of};
+ghost use Rattle.oa_coerce.specs.Numbers.{counts_units, decimal_places};
 ghost use Rattle.oa_coerce.specs.Coercions.{rule_for};
 
 use oa_model::VarType;
@@ -31,7 +31,7 @@ pub(crate) fn counts_units(one: VarType) -> bool
 
 /// How many decimal places that unit has.
 pub(crate) fn places(one: VarType) -> u8
-    ensures value { result ≡ places_of one }
+    ensures value { result ≡ decimal_places one }
     ensures few { result ≤ 4 }
 {
     if one == VarType::Cy { 4 } else { 0 }

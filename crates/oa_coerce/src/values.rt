@@ -2,8 +2,8 @@
 ghost use Rattle.std.specs.Prelude.{◌≡◌, IfOk, IfErr};
 ghost use Rattle.oa_variant.specs.Variants.{HasZero};
 ghost use Rattle.oa_coerce.specs.Coercions.{CoercesScalar, Coerces};
-ghost use Rattle.oa_coerce.specs.Refusals.{RefusesScalar, Refuses};
-ghost use Rattle.oa_coerce.specs.Answers.{coerced_scalar, coerced, IsScalarAnswer, IsAnswer};
+ghost use Rattle.oa_coerce.specs.Refusals.{RefusesScalar, RefusesCoercion};
+ghost use Rattle.oa_coerce.specs.Answers.{coerced_scalar, coerced, IsScalarAnswer, IsCoercion};
 
 use crate::CoerceFault;
 use crate::number::{nearest, number_in, with_count};
@@ -56,8 +56,8 @@ pub fn coerce(
 ) -> Result<Variant, (Variant, CoerceFault)>
     requires { HasZero declared }
     ensures made { IfOk result (λ made. Coerces value declared made) }
-    ensures refused { IfErr result (λ e. (e.0 ≡ value) × Refuses value declared e.1) }
-    ensures answer { IsAnswer (coerced value declared) result }
+    ensures refused { IfErr result (λ e. (e.0 ≡ value) × RefusesCoercion value declared e.1) }
+    ensures answer { IsCoercion (coerced value declared) result }
 {
     value_by_rule(alloc, value, declared)
 }
@@ -70,7 +70,7 @@ fn value_by_rule(
 ) -> Result<Variant, (Variant, CoerceFault)>
     requires { HasZero declared }
     ensures made { IfOk result (λ made. Coerces value declared made) }
-    ensures refused { IfErr result (λ e. (e.0 ≡ value) × Refuses value declared e.1) }
+    ensures refused { IfErr result (λ e. (e.0 ≡ value) × RefusesCoercion value declared e.1) }
 {
     if value.fits(declared) {
         return Ok(value);

@@ -1,6 +1,6 @@
 -- A call that a record has taken, or has not.
 use Rattle.std.proofs.Common.{◌≡◌, ℕ, List, Result, Ok, Err, OnOk, OnErr, refl, sym, ◌∙◌, ap}
-use Rattle.oa_disk.specs.declared.call.Call.{Call}
+use Rattle.oa_disk.specs.declared.call.DeviceCall.{DeviceCall}
 use Rattle.oa_disk.specs.declared.disk.DeviceFault.{DeviceFault}
 use Rattle.oa_disk.specs.declared.layers.Layers.{Layers}
 use Rattle.oa_disk.specs.declared.ledger.Ledger.{Ledger}
@@ -26,11 +26,11 @@ on_err_weaker (Err e) f a = f a
 module _ (first : Layers) (old new : Ledger) where
   pub is_history : (h : History) → h.first ≡ laid first → new.calls.items ≡ h.calls → new.written.items ≡ h.written → history first new ≡ h
   is_history h is_first is_calls is_written =
-      ap (λ (c : List Call). record { first = laid first; calls = c; written = new.written.items }) is_calls
+      ap (λ (c : List DeviceCall). record { first = laid first; calls = c; written = new.written.items }) is_calls
       ∙ ap (λ (w : List ℕ). record { first = laid first; calls = h.calls; written = w }) is_written
       ∙ ap (λ (l : List ℕ). record { first = l; calls = h.calls; written = h.written }) (sym is_first)
 
-module _ (first : Layers) (call : Call) (bytes : List ℕ) (fault : DeviceFault) (old new : Ledger) (r : Result (Unit {0}) DeviceFault)
+module _ (first : Layers) (call : DeviceCall) (bytes : List ℕ) (fault : DeviceFault) (old new : Ledger) (r : Result (Unit {0}) DeviceFault)
     (is : Enters call bytes fault old new r) where
   pub recorded : OnOk r (history first new ≡ with_call (history first old) call bytes)
   recorded = both r (λ calls written.

@@ -8,11 +8,11 @@ use Rattle.std.proofs.lemmas.List.{get_or-take, get_or-drop, length-take-le, ext
 use Rattle.std.proofs.lemmas.List.FromFn.{length-map-range_with_len}
 use Rattle.std.proofs.lemmas.Nat.{mod_below}
 use Rattle.std.specs.List.{range_with_len}
-use Rattle.oa_disk.specs.Disk.{Holds, AllBytes, Only}
-use Rattle.oa_disk.specs.History.{IsWhole, contents_of, image_of}
-use Rattle.oa_disk.specs.declared.call.Call.TheVariants.{Read}
+use Rattle.oa_disk.specs.Disk.{HasBytesAt, AllBytes, Only}
+use Rattle.oa_disk.specs.History.{IsHistory, contents_of, image_of}
+use Rattle.oa_disk.specs.declared.call.DeviceCall.TheVariants.{Read}
 use Rattle.oa_disk.specs.declared.record.Record.{Record}
-use Rattle.oa_disk.specs.Record.{noted, beginning, bytes_of, history_of}
+use Rattle.oa_disk.specs.Record.{noted, beginning, file_bytes, history_of}
 use Rattle.oa_disk.specs.Replay.{IsImage, AllInside, synced, agrees}
 
 -- the parts of what a call has noted
@@ -53,14 +53,14 @@ agrees_same disk at bytes is = (bytes_eq-Decides (take (length bytes) (drop at d
 
 -- a disk that agrees with the bytes has them
 pub agrees_holds : (disk : List ℕ) (at : ℕ) (bytes : List ℕ) (b : Bool) → at + length bytes ≤ length disk
-    → IsTrue (b && agrees disk at bytes) → Holds disk at bytes
+    → IsTrue (b && agrees disk at bytes) → HasBytesAt disk at bytes
 agrees_holds disk at bytes b inside is = let same = agrees_same disk at bytes (and_parts b (agrees disk at bytes) is).1 in record {
   within = inside;
   each = λ i lt. sym (get_or-take (length bytes) (drop at disk) i 0 lt ∙ get_or-drop at disk i 0) ∙ ap (λ (l : List ℕ). get_or l i 0) same;
 }
 
 -- a disk that has the bytes agrees with them
-pub holds_agrees : (disk : List ℕ) (at : ℕ) (bytes : List ℕ) (b : Bool) → IsTrue b → Holds disk at bytes
+pub holds_agrees : (disk : List ℕ) (at : ℕ) (bytes : List ℕ) (b : Bool) → IsTrue b → HasBytesAt disk at bytes
     → IsTrue (b && agrees disk at bytes)
 unfolding agrees
 holds_agrees disk at bytes true is holds = (bytes_eq-Decides (take (length bytes) (drop at disk)) bytes).1 same
@@ -87,7 +87,7 @@ module _ (held : ℕ → ℕ) (size : ℕ) where
   no_call : AllInside size []
   no_call k at count is = absurd (cc)
 
-  pub beginning_whole : IsWhole size (history_of (beginning held size))
+  pub beginning_whole : IsHistory size (history_of (beginning held size))
   beginning_whole = record {
     bytes_of_first = all_bytes (range_with_len 0 size);
     size_of_first = length-map-range_with_len (λ i. held i % 256) 0 size;
@@ -97,4 +97,4 @@ module _ (held : ℕ → ℕ) (size : ℕ) where
   }
 
   pub beginning_settled : (r : Record) → r ≡ beginning held size → Only (contents_of (history_of r)) (image_of (history_of r))
-  beginning_settled r is = subst (λ (x : Record). Only (contents_of (history_of x)) (image_of (history_of x))) (sym is) (first_only (bytes_of held size))
+  beginning_settled r is = subst (λ (x : Record). Only (contents_of (history_of x)) (image_of (history_of x))) (sym is) (first_only (file_bytes held size))

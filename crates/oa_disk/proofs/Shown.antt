@@ -3,11 +3,11 @@ use Rattle.std.proofs.Common.{◌≡◌, ◌⊎◌, inl, inr, ℕ, ◌+◌, ◌-
 use Rattle.std.proofs.Common.{min, max}
 use Rattle.std.proofs.lemmas.Bool.{cases_lt}
 use Rattle.std.proofs.lemmas.List.{length-take-le, get_or-take, get_or-drop}
-use Rattle.oa_disk.specs.Disk.{Holds}
+use Rattle.oa_disk.specs.Disk.{HasBytesAt}
 use Rattle.oa_disk.specs.Overwritten.{length-overwritten, overwritten_below, overwritten_in, overwritten_above}
 use Rattle.oa_disk.specs.Replay.{overwritten}
 
-module _ (disk window bytes : List ℕ) (at to : ℕ) (inside : to + length bytes ≤ length disk) (holds : Holds disk at window) (low high : ℕ)
+module _ (disk window bytes : List ℕ) (at to : ℕ) (inside : to + length bytes ≤ length disk) (holds : HasBytesAt disk at window) (low high : ℕ)
     (is_low : low ≡ max to at) (is_high : high ≡ min (to + length bytes) (at + length window)) where
   long : length (overwritten disk to bytes) ≡ length disk
   long = length-overwritten disk bytes to inside
@@ -20,7 +20,7 @@ module _ (disk window bytes : List ℕ) (at to : ℕ) (inside : to + length byte
   beside none i lt (inr from) (inl before) = absurd (omega (arith, none, is_low, is_high))
   beside none i lt (inr from) (inr above) = overwritten_above disk bytes to inside (at + i) above ∙ holds.each i lt
 
-  pub shown_out : high ≤ low → Holds (overwritten disk to bytes) at window
+  pub shown_out : high ≤ low → HasBytesAt (overwritten disk to bytes) at window
   shown_out none = record {
     within = omega (arith, long, holds.within);
     each = λ i lt. beside none i lt (cases_lt (at + i) to) (cases_lt (at + i) (to + length bytes));
@@ -61,7 +61,7 @@ module _ (disk window bytes : List ℕ) (at to : ℕ) (inside : to + length byte
         )
 
     pub shown_in : (new : List ℕ) → new ≡ overwritten window (low - at) (take (high - to - (low - to)) (drop (low - to) bytes))
-        → Holds (overwritten disk to bytes) at new
+        → HasBytesAt (overwritten disk to bytes) at new
     shown_in new is = record {
       within = omega (arith, long, holds.within, ap length is, length-overwritten window (take (high - to - (low - to)) (drop (low - to) bytes)) (low - at) fits);
       each = λ i lt. at_each i (omega (arith, lt, ap length is, length-overwritten window (take (high - to - (low - to)) (drop (low - to) bytes)) (low - at) fits)) (cases_lt (at + i) low) (cases_lt (at + i) high) ∙ ap (λ (l : List ℕ). get_or l i 0) (sym is);

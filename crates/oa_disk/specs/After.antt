@@ -3,14 +3,14 @@ use Rattle.std.specs.Prelude.{◌≡◌, ℕ, ◌+◌, ◌*◌, ◌≤◌, IsTru
 use Rattle.oa_disk.specs.declared.disk.DeviceFault.{DeviceFault}
 use Rattle.oa_disk.specs.declared.disk.DeviceFault.TheVariants.{Write}
 use Rattle.oa_disk.specs.declared.disk.Disk.{Ghosts}
-use Rattle.oa_disk.specs.Disk.{Counts, Follows, HasCounted, LeavesStep, NothingPending}
+use Rattle.oa_disk.specs.Disk.{CountsFailures, Follows, HasCounted, LeavesStep, NothingPending}
 
 -- Writes and syncs, so many at most, which end with the first that fails.
 pub record AfterWrites {D T : Type 0} (g : Ghosts D) (most : ℕ) (old new : D) (result : Result T DeviceFault) : Type 0 where
   pub size : g.size_of new ≡ g.size_of old
   -- it is as honest as it was
   pub honest : g.is_honest new ≡ g.is_honest old
-  pub counts : Counts (g.failures_of old) (g.failures_of new) result
+  pub counts : CountsFailures (g.failures_of old) (g.failures_of new) result
   pub fault : IfErr result (λ e. e ≡ Write)
   pub calls : IsTrue (g.is_honest old) → g.moment new ≤ g.moment old + 2 * most
 

@@ -3,7 +3,7 @@ use Rattle.std.specs.Prelude.{◌≡◌, ◌⊎◌, ℕ, ◌+◌, ◌-◌, ◌^�
 use Rattle.oa_disk.specs.declared.disk.DeviceFault.{DeviceFault}
 
 -- the disk has these bytes from this place on
-pub record Holds (disk : List ℕ) (at : ℕ) (bytes : List ℕ) : Type 0 where
+pub record HasBytesAt (disk : List ℕ) (at : ℕ) (bytes : List ℕ) : Type 0 where
   pub within : at + length bytes ≤ length disk
   pub each : (i : ℕ) → i < length bytes → slice_index disk (at + i) ≡ slice_index bytes i
 
@@ -41,7 +41,7 @@ pub record Stays (old new : List ℕ) (before after : List ℕ → Type 0) : Typ
   pub stay : (c : List ℕ) → before c → after c
 
 -- an unsynced write of n bytes, whole or in part: no image falls away
-pub record Writes (at n : ℕ) (old new : List ℕ) (before after : List ℕ → Type 0) : Type 0 where
+pub record WritesUnsynced (at n : ℕ) (old new : List ℕ) (before after : List ℕ → Type 0) : Type 0 where
   pub others : Torn at n old new
   pub images : Follows (Torn at n) before after
   pub stay : (c : List ℕ) → before c → after c
@@ -82,7 +82,7 @@ HasCounted before now = now < 2 ^ 64 - 1 → before < now
 
 -- One call, or a run of calls that ends with the first that fails: a failure counts once, unless the count stands at its greatest
 -- value, and without one nothing counts.
-pub record Counts {T E : Type 0} (before now : ℕ) (result : Result T E) : Type 0 where
+pub record CountsFailures {T E : Type 0} (before now : ℕ) (result : Result T E) : Type 0 where
   pub later : before ≤ now
   pub failed : IsErr result → HasCounted before now
   pub once : now ≤ before + 1
@@ -90,12 +90,12 @@ pub record Counts {T E : Type 0} (before now : ℕ) (result : Result T E) : Type
 
 -- A failure is of this kind, and is counted.
 pub record FailsAs {T : Type 0} (kind : DeviceFault) (before now : ℕ) (result : Result T DeviceFault) : Type 0 where
-  pub counts : Counts before now result
+  pub counts : CountsFailures before now result
   pub fault : IfErr result (λ e. e ≡ kind)
 
 -- A read of these bytes is honest now only where the disk was before it; and it was if one that succeeds gives what is there. A read that
 -- fails changes nothing of that.
 pub record ReadsHonestly {T E : Type 0} (contents : List ℕ) (at : ℕ) (bytes : List ℕ) (was is : Bool) (result : Result T E) : Type 0 where
   pub before : IsTrue is → IsTrue was
-  pub kept : OnOk result (IsTrue was → Holds contents at bytes → IsTrue is)
+  pub kept : OnOk result (IsTrue was → HasBytesAt contents at bytes → IsTrue is)
   pub same : OnErr result (is ≡ was)

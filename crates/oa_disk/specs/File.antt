@@ -4,8 +4,8 @@ use Rattle.oa_disk.specs.declared.file.FileDisk.{FileDisk}
 use Rattle.oa_disk.specs.declared.record.Record.{Record}
 use Rattle.oa_disk.specs.Record.{beginning}
 
-abbrev pub size_of : FileDisk → ℕ
-size_of disk = disk.size
+abbrev pub file_size : FileDisk → ℕ
+file_size disk = disk.size
 
 abbrev pub failures_of : FileDisk → ℕ
 failures_of disk = disk.failures
@@ -15,11 +15,11 @@ abbrev pub record_of : FileDisk → Record
 record_of disk = disk.history
 
 -- it has met no call, and its record begins with this byte at each place
-pub record IsHeld (held : ℕ → ℕ) (disk : FileDisk) : Type 0 where
+pub record HasMetNoCall (held : ℕ → ℕ) (disk : FileDisk) : Type 0 where
   pub record_is : disk.history ≡ beginning held disk.size
   pub failures : disk.failures ≡ 0
 
 -- it has met no call, and its record begins with so many zeros
 pub record IsZeros (size : ℕ) (disk : FileDisk) : Type 0 where
   pub bytes : disk.size ≡ size
-  pub zeros : IsHeld (λ _. 0) disk
+  pub zeros : HasMetNoCall (λ _. 0) disk

@@ -20,7 +20,7 @@ failures_with failures f = min (failures f.disk + f.refused) (2 ^ 64 - 1)
 
 -- A call takes one of those that are left, and the fuse itself refuses none. With none left it fails, and the disk within
 -- is as it was.
-pub record Spends {D E : Type 0} (old new : FuseDisk D) (result : Result (Unit {0}) E) : Type 0 where
+pub record SpendsFuse {D E : Type 0} (old new : FuseDisk D) (result : Result (Unit {0}) E) : Type 0 where
   pub left : new.calls_left ≡ old.calls_left - 1
   pub passed : 0 < old.calls_left → new.refused ≡ old.refused
   pub blown : old.calls_left ≡ 0 → IsErr result

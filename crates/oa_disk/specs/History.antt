@@ -1,35 +1,35 @@
 -- A disk by its history: what it held at first, and the calls since. A disk in memory and a file both are such a disk.
 use Rattle.std.specs.Prelude.{◌≡◌, ℕ, ◌+◌, ◌*◌, ◌≤◌, List, [], ◌∷◌, ◌++◌, length, drop, Option, slice_get}
 use Rattle.oa_disk.specs.Disk.{AllBytes}
-use Rattle.oa_disk.specs.declared.call.Call.{Call}
-use Rattle.oa_disk.specs.declared.call.Call.TheVariants.{Read, Write, Sync}
-use Rattle.oa_disk.specs.Replay.{State, IsImage, IsImageOfSome, states, last_state, synced, count_all, AllInside}
+use Rattle.oa_disk.specs.declared.call.DeviceCall.{DeviceCall}
+use Rattle.oa_disk.specs.declared.call.DeviceCall.TheVariants.{Read, Write, Sync}
+use Rattle.oa_disk.specs.Replay.{DiskState, IsImage, IsImageOfSome, states, last_state, synced, count_all, AllInside}
 
 -- what was there at first, the calls in their order, and the bytes of all writes, one behind the other
 pub record History : Type 0 where
   pub first : List ℕ
-  pub calls : List Call
+  pub calls : List DeviceCall
   pub written : List ℕ
 
-abbrev pub state_of : History → State
-state_of h = last_state (synced h.first) h.calls h.written
+abbrev pub disk_state : History → DiskState
+disk_state h = last_state (synced h.first) h.calls h.written
 
 abbrev pub contents_of : History → List ℕ
-contents_of h = (state_of h).contents
+contents_of h = (disk_state h).contents
 
 -- what a crash may leave now
 abbrev pub image_of : History → List ℕ → Type 0
-image_of h = IsImage (state_of h)
+image_of h = IsImage (disk_state h)
 
 -- the last moment: moment 0 is the start, `2k - 1` lies within call k, and `2k` comes after it
 abbrev pub moment_of : History → ℕ
 moment_of h = 2 * length h.calls
 
 -- the contents at each moment, with the ranges that are pending
-abbrev pub states_of : History → List State
+abbrev pub states_of : History → List DiskState
 states_of h = synced h.first ∷ states (synced h.first) h.calls h.written
 
-abbrev pub state_at : History → ℕ → Option State
+abbrev pub state_at : History → ℕ → Option DiskState
 state_at h moment = slice_get (states_of h) moment
 
 -- what a crash at some moment from t on might have left
@@ -37,11 +37,11 @@ abbrev pub image_since_of : History → ℕ → List ℕ → Type 0
 image_since_of h t = IsImageOfSome (drop t (states_of h))
 
 -- one call more, and the bytes that it wrote
-abbrev pub with_call : History → Call → List ℕ → History
+abbrev pub with_call : History → DeviceCall → List ℕ → History
 with_call h call bytes = record { first = h.first; calls = h.calls ++ call ∷ []; written = h.written ++ bytes }
 
 -- the history of a disk of that size: each write lies inside it, and the bytes of each are there
-pub record IsWhole (size : ℕ) (h : History) : Type 0 where
+pub record IsHistory (size : ℕ) (h : History) : Type 0 where
   pub bytes_of_first : AllBytes h.first
   pub size_of_first : length h.first ≡ size
   pub bytes_of_all : AllBytes h.written
@@ -49,7 +49,7 @@ pub record IsWhole (size : ℕ) (h : History) : Type 0 where
   pub inside : AllInside size h.calls
 
 -- a call of such a disk, and the bytes that it wrote
-abbrev pub Fits : ℕ → Call → List ℕ → Type 0
+abbrev pub Fits : ℕ → DeviceCall → List ℕ → Type 0
 Fits size Read bytes = bytes ≡ []
 Fits size (Write at count) bytes = (count ≡ length bytes) × (at + count ≤ size) × AllBytes bytes
 Fits size Sync bytes = bytes ≡ []

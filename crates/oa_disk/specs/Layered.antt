@@ -1,8 +1,8 @@
 -- Writes, one over the other, over zeros.
 use Rattle.std.specs.Prelude.{ℕ, List}
-use Rattle.oa_disk.specs.declared.call.Call.{Call}
+use Rattle.oa_disk.specs.declared.call.DeviceCall.{DeviceCall}
 use Rattle.oa_disk.specs.Replay.{zeros}
 use Rattle.oa_disk.specs.History.{History}
 
-abbrev pub layered : ℕ → List Call → List ℕ → History
+abbrev pub layered : ℕ → List DeviceCall → List ℕ → History
 layered size calls written = record { first = zeros size; calls = calls; written = written }

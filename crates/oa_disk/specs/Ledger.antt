@@ -1,10 +1,10 @@
 -- What a disk in memory is made of.
 use Rattle.std.specs.Prelude.{◌≡◌, ℕ, ◌+◌, ◌<◌, ◌≤◌, ◌↔◌, List, [], ◌∷◌, ◌++◌, length, Result, IsOk, OnOk, OnErr, IfErr}
-use Rattle.oa_disk.specs.declared.call.Call.{Call}
+use Rattle.oa_disk.specs.declared.call.DeviceCall.{DeviceCall}
 use Rattle.oa_disk.specs.declared.disk.DeviceFault.{DeviceFault}
 use Rattle.oa_disk.specs.declared.layers.Layers.{Layers}
 use Rattle.oa_disk.specs.declared.ledger.Ledger.{Ledger}
-use Rattle.oa_disk.specs.Disk.{Counts}
+use Rattle.oa_disk.specs.Disk.{CountsFailures}
 use Rattle.oa_disk.specs.History.{History, contents_of}
 use Rattle.oa_disk.specs.Layered.{layered}
 
@@ -18,7 +18,7 @@ history first ledger = record { first = laid first; calls = ledger.calls.items; 
 
 -- The call is served exactly where there is room for it and for the bytes that it writes. Then it is the last of the
 -- record, else the count of failures alone changes.
-pub record Enters (call : Call) (bytes : List ℕ) (fault : DeviceFault) (old new : Ledger)
+pub record Enters (call : DeviceCall) (bytes : List ℕ) (fault : DeviceFault) (old new : Ledger)
     (result : Result (Unit {0}) DeviceFault) : Type 0 where
   pub serves : IsOk result ↔ ((length old.calls.items < old.most_calls) × (length old.written.items + length bytes ≤ old.most_bytes))
   pub calls : OnOk result (new.calls.items ≡ old.calls.items ++ call ∷ [])
@@ -27,7 +27,7 @@ pub record Enters (call : Call) (bytes : List ℕ) (fault : DeviceFault) (old ne
   pub written_err : OnErr result (new.written.items ≡ old.written.items)
   pub calls_room : new.most_calls ≡ old.most_calls
   pub bytes_room : new.most_bytes ≡ old.most_bytes
-  pub counts : Counts old.failures new.failures result
+  pub counts : CountsFailures old.failures new.failures result
   pub fault_is : IfErr result (λ e. e ≡ fault)
 
 -- no call is recorded, and there is room for so many calls and so many written bytes

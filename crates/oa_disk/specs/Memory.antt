@@ -1,9 +1,9 @@
 -- What a MemoryDisk shows.
 use Rattle.std.specs.Prelude.{◌≡◌, ℕ, ◌+◌, ◌<◌, ◌≤◌, ◌↔◌, List, length, Option, Result, IsOk, OnOk, OnErr}
 use Rattle.oa_disk.specs.declared.memory.MemoryDisk.{MemoryDisk}
-use Rattle.oa_disk.specs.declared.call.Call.{Call}
+use Rattle.oa_disk.specs.declared.call.DeviceCall.{DeviceCall}
 use Rattle.oa_disk.specs.declared.crash.Tear.{Tear}
-use Rattle.oa_disk.specs.Replay.{State}
+use Rattle.oa_disk.specs.Replay.{DiskState}
 use Rattle.oa_disk.specs.History.{History, with_call}
 use Rattle.oa_disk.specs.History as known
 use Rattle.oa_disk.specs.Ledger.{laid, history, IsEmpty}
@@ -17,7 +17,7 @@ abbrev pub contents_of : MemoryDisk → List ℕ
 contents_of disk = known.contents_of (history_of disk)
 
 -- the contents at this moment, and the ranges that are pending
-abbrev pub state_at : MemoryDisk → ℕ → Option State
+abbrev pub state_at : MemoryDisk → ℕ → Option DiskState
 state_at disk moment = known.state_at (history_of disk) moment
 
 -- the last moment
@@ -34,7 +34,7 @@ image_since_of disk t = known.image_since_of (history_of disk) t
 
 -- The call is served exactly where there is room for it and for the bytes that it writes. Then it is the last of the
 -- record, else the record is as before, and with it the contents.
-pub record IsRecorded {E : Type 0} (call : Call) (bytes : List ℕ) (old new : MemoryDisk) (result : Result (Unit {0}) E) : Type 0 where
+pub record IsRecorded {E : Type 0} (call : DeviceCall) (bytes : List ℕ) (old new : MemoryDisk) (result : Result (Unit {0}) E) : Type 0 where
   pub serves : IsOk result ↔ ((length old.ledger.calls.items < old.ledger.most_calls)
       × (length old.ledger.written.items + length bytes ≤ old.ledger.most_bytes))
   pub recorded : OnOk result (history_of new ≡ with_call (history_of old) call bytes)

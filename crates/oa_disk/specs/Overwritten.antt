@@ -3,7 +3,7 @@ use Rattle.std.proofs.Common.{◌≡◌, ◌⊎◌, inl, inr, ℕ, zero, suc, �
 use Rattle.std.proofs.Common.{sym, ◌∙◌, ap, arith, length-append, length-drop}
 use Rattle.std.proofs.lemmas.Bool.{cases_lt}
 use Rattle.std.proofs.lemmas.List.{length-take-le, get_or_append_left, get_or-append_right, get_or-take, get_or-drop}
-use Rattle.oa_disk.specs.Disk.{Holds, Torn, AllBytes}
+use Rattle.oa_disk.specs.Disk.{HasBytesAt, Torn, AllBytes}
 use Rattle.oa_disk.specs.Replay.{overwritten}
 
 pub take_bytes : (n : ℕ) (xs : List ℕ) → AllBytes xs → AllBytes (take n xs)
@@ -61,7 +61,7 @@ module _ (disk bytes : List ℕ) (at : ℕ) (inside : at + length bytes ≤ leng
       ∙ get_or-drop (at + length bytes) disk (i - at - length bytes) 0
       ∙ ap (λ (k : ℕ). get_or disk k 0) same
 
-  pub overwritten_holds : Holds (overwritten disk at bytes) at bytes
+  pub overwritten_holds : HasBytesAt (overwritten disk at bytes) at bytes
   overwritten_holds = record { within = omega (arith, length-overwritten, inside); each = overwritten_in }
 
   at_each : AllBytes bytes → (i : ℕ) → (i < at) ⊎ (at ≤ i) → (i < at + length bytes) ⊎ (at + length bytes ≤ i)

@@ -2,11 +2,11 @@
 use Rattle.std.specs.Prelude.{◌≡◌, ◌⊎◌, ℕ, ◌+◌, ◌<◌, ◌≤◌, Bool, bytes_eq, List, [], ◌∷◌, ◌++◌, length, take, drop, replicate, slice_index}
 use Rattle.std.specs.Prelude.{slice_get, Some}
 use Rattle.oa_disk.specs.Disk.{AllBytes}
-use Rattle.oa_disk.specs.declared.call.Call.{Call}
-use Rattle.oa_disk.specs.declared.call.Call.TheVariants.{Read, Write, Sync}
+use Rattle.oa_disk.specs.declared.call.DeviceCall.{DeviceCall}
+use Rattle.oa_disk.specs.declared.call.DeviceCall.TheVariants.{Read, Write, Sync}
 
 -- what a read gives, and the ranges that are not on the disk for sure
-pub record State : Type 0 where
+pub record DiskState : Type 0 where
   pub contents : List ℕ
   pub pending : List (ℕ × ℕ)
 
@@ -20,67 +20,67 @@ IsOutside [] i = Unit {0}
 IsOutside (range ∷ ranges) i = ((i < range.0) ⊎ (range.0 + range.1 ≤ i)) × IsOutside ranges i
 
 -- any bytes in the pending ranges, the contents outside
-pub record IsImage (state : State) (image : List ℕ) : Type 0 where
+pub record IsImage (state : DiskState) (image : List ℕ) : Type 0 where
   pub size : length image ≡ length state.contents
   pub outside : (i : ℕ) → IsOutside state.pending i → slice_index image i ≡ slice_index state.contents i
   pub bytes : AllBytes image
 
 -- how many bytes the call has written
-abbrev pub count_of : Call → ℕ
+abbrev pub count_of : DeviceCall → ℕ
 count_of Read = 0
 count_of (Write at count) = count
 count_of Sync = 0
 
-abbrev pub within : State → Call → State
-within state Read = state
-within state (Write at count) = record { contents = state.contents; pending = (at, count) ∷ state.pending }
-within state Sync = state
+abbrev pub during_call : DiskState → DeviceCall → DiskState
+during_call state Read = state
+during_call state (Write at count) = record { contents = state.contents; pending = (at, count) ∷ state.pending }
+during_call state Sync = state
 
-abbrev pub after : State → Call → List ℕ → State
-after state Read bytes = state
-after state (Write at count) bytes = record { contents = overwritten state.contents at bytes; pending = (at, count) ∷ state.pending }
-after state Sync bytes = record { contents = state.contents; pending = [] }
+abbrev pub after_call : DiskState → DeviceCall → List ℕ → DiskState
+after_call state Read bytes = state
+after_call state (Write at count) bytes = record { contents = overwritten state.contents at bytes; pending = (at, count) ∷ state.pending }
+after_call state Sync bytes = record { contents = state.contents; pending = [] }
 
 -- two states for each call: within it and after it
-abbrev pub states : State → List Call → List ℕ → List State
+abbrev pub states : DiskState → List DeviceCall → List ℕ → List DiskState
 states state [] bytes = []
 states state (call ∷ calls) bytes =
-    within state call ∷ after state call (take (count_of call) bytes)
-    ∷ states (after state call (take (count_of call) bytes)) calls (drop (count_of call) bytes)
+    during_call state call ∷ after_call state call (take (count_of call) bytes)
+    ∷ states (after_call state call (take (count_of call) bytes)) calls (drop (count_of call) bytes)
 
-abbrev pub last_state : State → List Call → List ℕ → State
+abbrev pub last_state : DiskState → List DeviceCall → List ℕ → DiskState
 last_state state [] bytes = state
-last_state state (call ∷ calls) bytes = last_state (after state call (take (count_of call) bytes)) calls (drop (count_of call) bytes)
+last_state state (call ∷ calls) bytes = last_state (after_call state call (take (count_of call) bytes)) calls (drop (count_of call) bytes)
 
 -- how many bytes all the calls have written
-abbrev pub count_all : List Call → ℕ
+abbrev pub count_all : List DeviceCall → ℕ
 count_all [] = 0
 count_all (call ∷ calls) = count_of call + count_all calls
 
 -- each write lies inside the disk
-abbrev pub AllInside : ℕ → List Call → Type 0
+abbrev pub AllInside : ℕ → List DeviceCall → Type 0
 AllInside size calls = (k at count : ℕ) → slice_get calls k ≡ Some (Write at count) → at + count ≤ size
 
 -- the call is inside
-abbrev pub OneInside : ℕ → Call → Type 0
+abbrev pub OneInside : ℕ → DeviceCall → Type 0
 OneInside size Read = Unit {0}
 OneInside size (Write at count) = at + count ≤ size
 OneInside size Sync = Unit {0}
 
 -- none of them is a sync
-abbrev pub NoSync : List Call → Type 0
+abbrev pub NoSync : List DeviceCall → Type 0
 NoSync calls = (k : ℕ) → slice_get calls k ≡ Some Sync → ⊥
 
 -- nothing is pending
-abbrev pub synced : List ℕ → State
+abbrev pub synced : List ℕ → DiskState
 synced contents = record { contents = contents; pending = [] }
 
-abbrev pub IsImageOfSome : List State → List ℕ → Type 0
+abbrev pub IsImageOfSome : List DiskState → List ℕ → Type 0
 IsImageOfSome [] image = ⊥
 IsImageOfSome (state ∷ rest) image = IsImage state image ⊎ IsImageOfSome rest image
 
 -- what a read gives after these calls
-abbrev pub contents_after : List ℕ → List Call → List ℕ → List ℕ
+abbrev pub contents_after : List ℕ → List DeviceCall → List ℕ → List ℕ
 contents_after first calls written = (last_state (synced first) calls written).contents
 
 -- the disk has these bytes there

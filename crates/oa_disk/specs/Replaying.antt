@@ -3,74 +3,74 @@ use Rattle.std.proofs.Common.{◌≡◌, inl, inr, ℕ, zero, suc, ◌*◌, ◌�
 use Rattle.std.proofs.Common.{length-drop}
 use Rattle.std.proofs.lemmas.List.{length-take-le}
 use Rattle.oa_disk.specs.Disk.{AllBytes}
-use Rattle.oa_disk.specs.declared.call.Call.{Call}
-use Rattle.oa_disk.specs.declared.call.Call.TheVariants.{Read, Write, Sync}
-use Rattle.oa_disk.specs.Replay.{State, IsImage, IsImageOfSome, AllInside, states, last_state, within, after, synced, count_of, count_all}
-use Rattle.oa_disk.specs.History.{History, IsWhole, contents_of, image_of, moment_of, image_since_of}
+use Rattle.oa_disk.specs.declared.call.DeviceCall.{DeviceCall}
+use Rattle.oa_disk.specs.declared.call.DeviceCall.TheVariants.{Read, Write, Sync}
+use Rattle.oa_disk.specs.Replay.{DiskState, IsImage, IsImageOfSome, AllInside, states, last_state, during_call, after_call, synced, count_of, count_all}
+use Rattle.oa_disk.specs.History.{History, IsHistory, contents_of, image_of, moment_of, image_since_of}
 use Rattle.oa_disk.specs.Overwritten.{take_bytes, drop_bytes, overwritten_bytes, length-overwritten}
 
-pub length-states : (calls : List Call) (state : State) (bytes : List ℕ) → length (states state calls bytes) ≡ 2 * length calls
+pub length-states : (calls : List DeviceCall) (state : DiskState) (bytes : List ℕ) → length (states state calls bytes) ≡ 2 * length calls
 length-states [] state bytes = refl
 length-states (call ∷ calls) state bytes =
-    omega (arith, length-states calls (after state call (take (count_of call) bytes)) (drop (count_of call) bytes))
+    omega (arith, length-states calls (after_call state call (take (count_of call) bytes)) (drop (count_of call) bytes))
 
 -- the last state is one of those from any moment on
-pub counts_last : (calls : List Call) (state : State) (bytes c : List ℕ) (t : ℕ) → t ≤ 2 * length calls
+pub counts_last : (calls : List DeviceCall) (state : DiskState) (bytes c : List ℕ) (t : ℕ) → t ≤ 2 * length calls
     → IsImage (last_state state calls bytes) c
     → IsImageOfSome (drop t (state ∷ states state calls bytes)) c
 counts_last [] state bytes c zero le is = inl is
 counts_last [] state bytes c (suc t) le is = absurd (omega arith)
 counts_last (call ∷ calls) state bytes c zero le is =
-    inr (inr (counts_last calls (after state call (take (count_of call) bytes)) (drop (count_of call) bytes) c zero (omega arith) is))
+    inr (inr (counts_last calls (after_call state call (take (count_of call) bytes)) (drop (count_of call) bytes) c zero (omega arith) is))
 counts_last (call ∷ calls) state bytes c (suc zero) le is =
-    inr (counts_last calls (after state call (take (count_of call) bytes)) (drop (count_of call) bytes) c zero (omega arith) is)
+    inr (counts_last calls (after_call state call (take (count_of call) bytes)) (drop (count_of call) bytes) c zero (omega arith) is)
 counts_last (call ∷ calls) state bytes c (suc (suc t)) le is =
-    counts_last calls (after state call (take (count_of call) bytes)) (drop (count_of call) bytes) c t (omega arith) is
+    counts_last calls (after_call state call (take (count_of call) bytes)) (drop (count_of call) bytes) c t (omega arith) is
 
 -- since the last moment there is only the last state
-only_at_length : (calls : List Call) (state : State) (bytes c : List ℕ)
+only_at_length : (calls : List DeviceCall) (state : DiskState) (bytes c : List ℕ)
     → IsImageOfSome (drop (length (states state calls bytes)) (state ∷ states state calls bytes)) c
     → IsImage (last_state state calls bytes) c
 only_at_length [] state bytes c (inl is) = is
 only_at_length [] state bytes c (inr none) = absurd none
 only_at_length (call ∷ calls) state bytes c left =
-    only_at_length calls (after state call (take (count_of call) bytes)) (drop (count_of call) bytes) c left
+    only_at_length calls (after_call state call (take (count_of call) bytes)) (drop (count_of call) bytes) c left
 
 -- what is left since a later moment is left since the first
-since_first : (all : List State) (c : List ℕ) (t : ℕ) → IsImageOfSome (drop t all) c → IsImageOfSome all c
+since_first : (all : List DiskState) (c : List ℕ) (t : ℕ) → IsImageOfSome (drop t all) c → IsImageOfSome all c
 since_first all c zero is = is
 since_first [] c (suc t) is = is
 since_first (state ∷ rest) c (suc t) is = inr (since_first rest c t is)
 
-earlier : (all : List State) (c : List ℕ) (s t : ℕ) → s ≤ t → IsImageOfSome (drop t all) c → IsImageOfSome (drop s all) c
+earlier : (all : List DiskState) (c : List ℕ) (s t : ℕ) → s ≤ t → IsImageOfSome (drop t all) c → IsImageOfSome (drop s all) c
 earlier all c zero t le is = since_first all c t is
 earlier all c (suc s) zero le is = absurd (omega arith)
 earlier [] c (suc s) (suc t) le is = is
 earlier (state ∷ rest) c (suc s) (suc t) le is = earlier rest c s t (omega arith) is
 
-pub after_bytes : (state : State) (call : Call) (more : List ℕ) → AllBytes state.contents → AllBytes more
-    → AllBytes (after state call more).contents
+pub after_bytes : (state : DiskState) (call : DeviceCall) (more : List ℕ) → AllBytes state.contents → AllBytes more
+    → AllBytes (after_call state call more).contents
 after_bytes state Read more old new = old
 after_bytes state (Write at count) more old new = overwritten_bytes state.contents at more old new
 after_bytes state Sync more old new = old
 
 -- calls leave bytes
-pub state_bytes : (calls : List Call) (state : State) (bytes : List ℕ) → AllBytes state.contents → AllBytes bytes
+pub state_bytes : (calls : List DeviceCall) (state : DiskState) (bytes : List ℕ) → AllBytes state.contents → AllBytes bytes
     → AllBytes (last_state state calls bytes).contents
 state_bytes [] state bytes old new = old
 state_bytes (call ∷ calls) state bytes old new =
-    state_bytes calls (after state call (take (count_of call) bytes)) (drop (count_of call) bytes)
+    state_bytes calls (after_call state call (take (count_of call) bytes)) (drop (count_of call) bytes)
     (after_bytes state call (take (count_of call) bytes) old (take_bytes (count_of call) bytes new))
     (drop_bytes (count_of call) bytes new)
 
-within_contents : (state : State) (call : Call) → (within state call).contents ≡ state.contents
+within_contents : (state : DiskState) (call : DeviceCall) → (during_call state call).contents ≡ state.contents
 within_contents state Read = refl
 within_contents state (Write at count) = refl
 within_contents state Sync = refl
 
-one_size : (state : State) (call : Call) (calls : List Call) (bytes : List ℕ) (size : ℕ) → length state.contents ≡ size
+one_size : (state : DiskState) (call : DeviceCall) (calls : List DeviceCall) (bytes : List ℕ) (size : ℕ) → length state.contents ≡ size
     → AllInside size (call ∷ calls) → count_all (call ∷ calls) ≤ length bytes
-    → length (after state call (take (count_of call) bytes)).contents ≡ size
+    → length (after_call state call (take (count_of call) bytes)).contents ≡ size
 one_size state Read calls bytes size is inside fits = is
 one_size state (Write at n) calls bytes size is inside fits =
     let long : length (take n bytes) ≡ n = length-take-le n bytes (omega arith) in
@@ -78,25 +78,25 @@ one_size state (Write at n) calls bytes size is inside fits =
 one_size state Sync calls bytes size is inside fits = is
 
 -- calls keep the size
-pub state_size : (calls : List Call) (state : State) (bytes : List ℕ) (size : ℕ) → length state.contents ≡ size → AllInside size calls
+pub state_size : (calls : List DeviceCall) (state : DiskState) (bytes : List ℕ) (size : ℕ) → length state.contents ≡ size → AllInside size calls
     → count_all calls ≤ length bytes → length (last_state state calls bytes).contents ≡ size
 state_size [] state bytes size is inside fits = is
 state_size (call ∷ calls) state bytes size is inside fits =
-    state_size calls (after state call (take (count_of call) bytes))
+    state_size calls (after_call state call (take (count_of call) bytes))
     (drop (count_of call) bytes) size (one_size state call calls bytes size is inside fits) (λ k. inside (suc k))
     (omega (arith, length-drop (count_of call) bytes))
 
-some_size : (calls : List Call) (state : State) (bytes c : List ℕ) (size : ℕ) → length state.contents ≡ size → AllInside size calls
+some_size : (calls : List DeviceCall) (state : DiskState) (bytes c : List ℕ) (size : ℕ) → length state.contents ≡ size → AllInside size calls
     → count_all calls ≤ length bytes → IsImageOfSome (state ∷ states state calls bytes) c → length c ≡ size
 some_size calls state bytes c size is inside fits (inl image) = image.size ∙ is
 some_size [] state bytes c size is inside fits (inr none) = absurd none
 some_size (call ∷ calls) state bytes c size is inside fits (inr (inl image)) = image.size ∙ ap length (within_contents state call) ∙ is
 some_size (call ∷ calls) state bytes c size is inside fits (inr (inr some)) =
-    some_size calls (after state call (take (count_of call) bytes))
+    some_size calls (after_call state call (take (count_of call) bytes))
     (drop (count_of call) bytes) c size (one_size state call calls bytes size is inside fits) (λ k. inside (suc k))
     (omega (arith, length-drop (count_of call) bytes)) some
 
-module _ (size : ℕ) (h : History) (whole : IsWhole size h) where
+module _ (size : ℕ) (h : History) (whole : IsHistory size h) where
   pub contents_size : length (contents_of h) ≡ size
   contents_size = state_size h.calls (synced h.first) h.written size whole.size_of_first whole.inside (omega (arith, whole.count_of_all))
 

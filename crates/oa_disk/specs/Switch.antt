@@ -1,13 +1,13 @@
--- Bytes that one byte, the switch, makes count: a journal's frame behind its gate, a bank and the selector. This project's choice.
+-- Bytes that one byte, the switch, makes count: a journal's batch behind its gate, a bank and the selector. This project's choice.
 use Rattle.std.proofs.Common.{◌≡◌, ◌⊎◌, ℕ, ◌+◌, ◌<◌, ◌≤◌, List, length, get_or, ◌∙◌, arith, ⊎_elim}
-use Rattle.oa_disk.specs.Disk.{Holds, Torn}
+use Rattle.oa_disk.specs.Disk.{HasBytesAt, Torn}
 use Rattle.oa_disk.specs.Ranges.{Torn_trans, Torn_within, Holds_above, Holds_below}
 
 -- the bytes were written whole, and then the switch, which may hold any byte
 pub record IsSwitching (at : ℕ) (bytes : List ℕ) (switch : ℕ) (old new : List ℕ) : Type 0 where
   pub mid : List ℕ
   pub written : Torn at (length bytes) old mid
-  pub whole : Holds mid at bytes
+  pub whole : HasBytesAt mid at bytes
   pub switched : Torn switch 1 mid new
 
 -- any bytes in the range, or these bytes and any switch
@@ -20,7 +20,7 @@ HasSwitched at bytes switch value old new = IsSwitching at bytes switch old new 
 
 -- The switch stands outside the bytes: they stay.
 pub switching_holds : (at : ℕ) (bytes : List ℕ) (switch : ℕ) (old new : List ℕ) → (switch < at) ⊎ (at + length bytes ≤ switch)
-    → IsSwitching at bytes switch old new → Holds new at bytes
+    → IsSwitching at bytes switch old new → HasBytesAt new at bytes
 switching_holds at bytes switch old new apart is = ⊎_elim
     (λ lt. Holds_above switch 1 at bytes is.mid new (omega arith) is.switched is.whole)
     (λ le. Holds_below switch 1 at bytes is.mid new le is.switched is.whole) apart

@@ -2,7 +2,7 @@
 
 /// A call that a disk has met.
 #[derive(Clone, Copy, Debug, PartialEq, Eq)]
-pub enum Call {
+pub enum DeviceCall {
     Read,
     /// The first byte and the number of bytes.
     Write(usize, usize),

@@ -2,9 +2,9 @@
 ghost use Rattle.std.specs.Prelude.{◌≡◌, ℕ, ◌+◌, ◌*◌, ◌<◌, ◌≤◌, ◌∷◌, length, drop, Some, slice_get, replicate, OnOk, IfOk};
 ghost use Rattle.oa_disk.specs.Ledger.{laid};
 ghost use Rattle.oa_disk.specs.Replay.{AllInside, contents_after, count_all, overwritten};
-ghost use Rattle.oa_disk.specs.Tear.{torn, rest_of, torn_all, IsLastSync, IsTorn};
+ghost use Rattle.oa_disk.specs.Tear.{torn, tear_behind, torn_all, IsLastSync, IsTorn};
 
-use crate::Call;
+use crate::DeviceCall;
 use crate::layers::Layers;
 use std::alloc::{AllocError, Global};
 
@@ -31,7 +31,7 @@ fn tear_range(
 ) -> Result<(), AllocError>
     requires { at + length bytes.now ≤ disk.old.size }
     ensures bytes { OnOk result (laid disk.new ≡ torn tear.old (laid disk.old) at bytes.now) }
-    ensures rest { OnOk result (tear.new ≡ rest_of tear.old (length bytes.now)) }
+    ensures rest { OnOk result (tear.new ≡ tear_behind tear.old (length bytes.now)) }
     ensures size { disk.new.size ≡ disk.old.size }
 {
     match *tear {
@@ -50,12 +50,12 @@ fn tear_range(
 }
 
 /// The number of calls up to the last sync, and with it.
-fn last_sync(calls: &[Call]) -> usize
+fn last_sync(calls: &[DeviceCall]) -> usize
     ensures { IsLastSync calls.now result }
 {
     let mut end = 0;
     for (i, call) in calls.iter().enumerate() {
-        if let Call::Sync = *call {
+        if let DeviceCall::Sync = *call {
             end = i + 1;
         }
     }
@@ -63,7 +63,7 @@ fn last_sync(calls: &[Call]) -> usize
 }
 
 /// Makes the calls again, and says how many bytes they wrote.
-fn replay(disk: &mut Layers, calls: &[Call], written: &[u8]) -> Result<usize, AllocError>
+fn replay(disk: &mut Layers, calls: &[DeviceCall], written: &[u8]) -> Result<usize, AllocError>
     requires inside { AllInside disk.old.size calls.now }
     requires written { count_all calls.now ≤ length written.now }
     ensures contents { OnOk result (laid disk.new ≡ contents_after (laid disk.old) calls.now written.now) }
@@ -72,7 +72,7 @@ fn replay(disk: &mut Layers, calls: &[Call], written: &[u8]) -> Result<usize, Al
 {
     let mut from = 0;
     for call in calls {
-        if let Call::Write(at, count) = *call {
+        if let DeviceCall::Write(at, count) = *call {
             disk.put(at, &written[from..from + count])?;
             from += count;
         }
@@ -84,7 +84,7 @@ fn replay(disk: &mut Layers, calls: &[Call], written: &[u8]) -> Result<usize, Al
 fn tear_all(
     alloc: Global,
     disk: &mut Layers,
-    calls: &[Call],
+    calls: &[DeviceCall],
     written: &[u8],
     tear: Tear,
 ) -> Result<(), AllocError>
@@ -96,7 +96,7 @@ fn tear_all(
     let mut tear = tear;
     let mut from = 0;
     for call in calls {
-        if let Call::Write(at, count) = *call {
+        if let DeviceCall::Write(at, count) = *call {
             tear_range(alloc, disk, at, &written[from..from + count], &mut tear)?;
             from += count;
         }
@@ -108,7 +108,7 @@ fn tear_all(
 pub(crate) fn leave_at(
     alloc: Global,
     disk: &mut Layers,
-    calls: &[Call],
+    calls: &[DeviceCall],
     written: &[u8],
     moment: u64,
     tear: Tear,

@@ -1,6 +1,6 @@
 //! A disk as a store sees it: what a read gives, and what a crash may leave.
 ghost use Rattle.std.specs.Prelude.{◌≡◌, ◌+◌, ◌-◌, ◌^◌, ◌≤◌, List, ℕ, Bool, IsTrue, length, OnOk, OnErr, IfErr};
-ghost use Rattle.oa_disk.specs.Disk.{FailsAs, Holds, ReadsHonestly, Torn, Reaches, Stays, Writes, Syncs, TakesTime};
+ghost use Rattle.oa_disk.specs.Disk.{FailsAs, HasBytesAt, ReadsHonestly, Torn, Reaches, Stays, WritesUnsynced, Syncs, TakesTime};
 
 use thiserror::Error;
 
@@ -53,7 +53,7 @@ pub trait Disk {
     /// Fills the buffer with the bytes from that place on. After an `Err` the buffer may hold anything.
     fn read_at(&mut self, at: u64, bytes: &mut [u8]) -> Result<(), DeviceFault>
         requires { at + length bytes.old ≤ size_of self.old }
-        ensures read { OnOk result (IsTrue (is_honest self.new) → Holds (contents self.old) at bytes.new) }
+        ensures read { OnOk result (IsTrue (is_honest self.new) → HasBytesAt (contents self.old) at bytes.new) }
         ensures stays { IsTrue (is_honest self.old) → Stays (contents self.old) (contents self.new) (image self.old) (image self.new) }
         ensures time { IsTrue (is_honest self.old) → TakesTime moment image_since image self.old self.new }
         ensures size { size_of self.new ≡ size_of self.old }
@@ -64,8 +64,8 @@ pub trait Disk {
     /// whatever is answered.
     fn write_at(&mut self, at: u64, bytes: &[u8]) -> Result<(), DeviceFault>
         requires { at + length bytes.now ≤ size_of self.old }
-        ensures written { OnOk result (IsTrue (is_honest self.old) → Holds (contents self.new) at bytes.now) }
-        ensures writes { IsTrue (is_honest self.old) → Writes at (length bytes.now) (contents self.old) (contents self.new)
+        ensures written { OnOk result (IsTrue (is_honest self.old) → HasBytesAt (contents self.new) at bytes.now) }
+        ensures writes { IsTrue (is_honest self.old) → WritesUnsynced at (length bytes.now) (contents self.old) (contents self.new)
             (image self.old) (image self.new) }
         ensures any_bytes { OnOk result (IsTrue (is_honest self.old)
             → Reaches (Torn at (length bytes.now)) (image self.old) (image self.new)) }

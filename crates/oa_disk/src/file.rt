@@ -1,11 +1,11 @@
 //! A file of the operating system as a disk.
 ghost use Rattle.std.specs.Prelude.{◌≡◌, ◌+◌, ◌-◌, ◌^◌, ◌<◌, ◌≤◌, [], ℕ, List, length, OnOk, IfOk, IfErr, IsTrue};
-ghost use Rattle.oa_disk.specs.Disk.{Counts};
-ghost use Rattle.oa_disk.specs.History.{IsWhole};
+ghost use Rattle.oa_disk.specs.Disk.{CountsFailures};
+ghost use Rattle.oa_disk.specs.History.{IsHistory};
 ghost use Rattle.oa_disk.specs.Record.{history_of};
 
 use crate::record::Record;
-use crate::{Call, DeviceFault, Disk};
+use crate::{DeviceCall, DeviceFault, Disk};
 use std::fs::{self, File, OpenFile, OpenOptions};
 use std::io;
 use std::os::unix::fs::FileExt;
@@ -25,18 +25,18 @@ pub struct FileDisk {
     failures: u64,
     history: Record,
     ghost counted: { failures < 2 ^ 64 },
-    ghost whole: { IsWhole size (history_of history) },
+    ghost whole: { IsHistory size (history_of history) },
 }
 
 impl FileDisk {
     ghost use Rattle.oa_disk.specs.After.{BeginsHonest};
-    ghost use Rattle.oa_disk.specs.File.{size_of, failures_of, record_of, IsHeld, IsZeros};
+    ghost use Rattle.oa_disk.specs.File.{file_size, failures_of, record_of, HasMetNoCall, IsZeros};
 
     /// Opens a file that is there for reading and writing, and not for appending, as `over` does. There is a beginning from which all that
     /// is said of the disk is true: what the file held. (`over` says it of each beginning: beside a path no caller can hand on a value that
     /// only clauses name.)
     pub fn open<R: Files<File = File>>(rt: &R, path: &str) -> io::Result<FileDisk>
-        ensures held { IfOk result (λ disk. (held : ℕ → ℕ) × IsHeld held disk) }
+        ensures held { IfOk result (λ disk. (held : ℕ → ℕ) × HasMetNoCall held disk) }
         ensures begins { IfOk result (BeginsHonest ⟦<FileDisk as Disk>⟧) }
     {
         FileDisk::over(OpenOptions::new().read(true).write(true).open(rt, path)?)
@@ -64,7 +64,7 @@ impl FileDisk {
     /// among them.
     pub fn over(file: File) -> io::Result<FileDisk>
         ghost held: { ℕ → ℕ }
-        ensures held { IfOk result (IsHeld held) }
+        ensures held { IfOk result (HasMetNoCall held) }
         ensures begins { IfOk result (BeginsHonest ⟦<FileDisk as Disk>⟧) }
     {
         if !file.metadata()?.is_file() {
@@ -80,8 +80,8 @@ impl FileDisk {
     /// A file of which this is the beginning.
     fn begin(file: File, size: u64) -> FileDisk
         ghost held: { ℕ → ℕ }
-        ensures size { size_of result ≡ size }
-        ensures held { IsHeld held result }
+        ensures size { file_size result ≡ size }
+        ensures held { HasMetNoCall held result }
         ensures begins { BeginsHonest ⟦<FileDisk as Disk>⟧ result }
     {
         let history = Record::beginning(&size);
@@ -97,37 +97,37 @@ impl FileDisk {
 /// What the three calls do, each with its answer and what it notes.
 impl FileDisk {
     ghost use Rattle.std.specs.Prelude.{MatchResult};
-    ghost use Rattle.oa_disk.specs.declared.call.Call.TheVariants.{Read, Write, Sync};
+    ghost use Rattle.oa_disk.specs.declared.call.DeviceCall.TheVariants.{Read, Write, Sync};
     ghost use Rattle.oa_disk.specs.Record.{noted};
-    ghost use Rattle.oa_disk.specs.File.{size_of, failures_of, record_of};
+    ghost use Rattle.oa_disk.specs.File.{file_size, failures_of, record_of};
 
     /// A read that fails is noted as one of no bytes.
     fn get(&mut self, at: u64, bytes: &mut [u8]) -> Result<(), DeviceFault>
         ensures noted { MatchResult result
             (λ _. record_of self.new ≡ noted (record_of self.old) Read [] at bytes.new)
             (λ e. (record_of self.new ≡ noted (record_of self.old) Read [] at []) × (e ≡ DeviceFault.Read)) }
-        ensures size { size_of self.new ≡ size_of self.old }
-        ensures counts { Counts (failures_of self.old) (failures_of self.new) result }
+        ensures size { file_size self.new ≡ file_size self.old }
+        ensures counts { CountsFailures (failures_of self.old) (failures_of self.new) result }
     {
         if self.file.read_exact_at(bytes, at).is_err() {
-            self.history = self.history.with(&Call::Read, &[], &at, &[]);
+            self.history = self.history.with(&DeviceCall::Read, &[], &at, &[]);
             self.failures = self.failures.saturating_add(1);
             return Err(DeviceFault::Read);
         }
-        self.history = self.history.with(&Call::Read, &[], &at, bytes);
+        self.history = self.history.with(&DeviceCall::Read, &[], &at, bytes);
         Ok(())
     }
 
     /// A write is noted as such, whatever is answered.
     fn put(&mut self, at: u64, bytes: &[u8]) -> Result<(), DeviceFault>
-        requires { at + length bytes.now ≤ size_of self.old }
+        requires { at + length bytes.now ≤ file_size self.old }
         ensures noted { record_of self.new ≡ noted (record_of self.old) (Write at (length bytes.now)) bytes.now 0 [] }
-        ensures size { size_of self.new ≡ size_of self.old }
-        ensures counts { Counts (failures_of self.old) (failures_of self.new) result }
+        ensures size { file_size self.new ≡ file_size self.old }
+        ensures counts { CountsFailures (failures_of self.old) (failures_of self.new) result }
         ensures fault { IfErr result (λ e. e ≡ DeviceFault.Write) }
     {
         let answer = self.file.write_all_at(bytes, at);
-        let call = Call::Write(at as usize, bytes.len());
+        let call = DeviceCall::Write(at as usize, bytes.len());
         self.history = self.history.with(&call, bytes, &0, &[]);
         if answer.is_err() {
             self.failures = self.failures.saturating_add(1);
@@ -141,15 +141,15 @@ impl FileDisk {
         ensures noted { MatchResult result
             (λ _. record_of self.new ≡ noted (record_of self.old) Sync [] 0 [])
             (λ e. (record_of self.new ≡ noted (record_of self.old) Read [] 0 []) × (e ≡ DeviceFault.Write)) }
-        ensures size { size_of self.new ≡ size_of self.old }
-        ensures counts { Counts (failures_of self.old) (failures_of self.new) result }
+        ensures size { file_size self.new ≡ file_size self.old }
+        ensures counts { CountsFailures (failures_of self.old) (failures_of self.new) result }
     {
         if self.file.sync_data().is_err() {
-            self.history = self.history.with(&Call::Read, &[], &0, &[]);
+            self.history = self.history.with(&DeviceCall::Read, &[], &0, &[]);
             self.failures = self.failures.saturating_add(1);
             return Err(DeviceFault::Write);
         }
-        self.history = self.history.with(&Call::Sync, &[], &0, &[]);
+        self.history = self.history.with(&DeviceCall::Sync, &[], &0, &[]);
         Ok(())
     }
 }

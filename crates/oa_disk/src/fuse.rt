@@ -1,7 +1,7 @@
 //! A disk that fails from some call on.
 ghost use Rattle.std.specs.Prelude.{◌≡◌, ◌+◌, ◌-◌, ◌^◌, ◌<◌, ◌≤◌, ◌↔◌, List, ℕ, length, IsTrue, OnOk, OnErr, IfErr, IsErr};
 ghost use Rattle.oa_disk.specs.Counting.{min_below};
-ghost use Rattle.oa_disk.specs.Disk.{Counts, FailsAs, Holds, ReadsHonestly, Torn, Reaches, Stays, Writes, Syncs, TakesTime};
+ghost use Rattle.oa_disk.specs.Disk.{CountsFailures, FailsAs, HasBytesAt, ReadsHonestly, Torn, Reaches, Stays, WritesUnsynced, Syncs, TakesTime};
 ghost use Rattle.oa_disk.specs.Fuse.{failures_with};
 
 use crate::{DeviceFault, Disk};
@@ -19,7 +19,7 @@ fn spend(calls_left: &mut u64, refused: &mut u64, fault: DeviceFault) -> Result<
     ensures spent { calls_left.new ≡ calls_left.old - 1 }
     ensures kind { IfErr result (λ e. e ≡ fault) }
     ensures same { OnOk result (refused.new ≡ refused.old) }
-    ensures counts { Counts refused.old refused.new result }
+    ensures counts { CountsFailures refused.old refused.new result }
 {
     if *calls_left == 0 {
         *refused = refused.saturating_add(1);
@@ -66,7 +66,7 @@ impl<D: Disk> FuseDisk<D> {
 /// and the call fails, and each call takes one of those that are left. A call that is passed on is made once: the time of the
 /// disk within goes on by two moments at most.
 impl<D: Disk> Disk for FuseDisk<D> {
-    ghost use Rattle.oa_disk.specs.Fuse.{Spends};
+    ghost use Rattle.oa_disk.specs.Fuse.{SpendsFuse};
 
     ghost size_of = { λ f. D.size_of f.disk };
 
@@ -106,8 +106,8 @@ impl<D: Disk> Disk for FuseDisk<D> {
 
     fn read_at(&mut self, at: u64, bytes: &mut [u8]) -> Result<(), DeviceFault>
         requires { at + length bytes.old ≤ D.size_of self.old.disk }
-        ensures spends { Spends self.old self.new result }
-        ensures read { OnOk result (IsTrue (D.is_honest self.new.disk) → Holds (D.contents self.old.disk) at bytes.new) }
+        ensures spends { SpendsFuse self.old self.new result }
+        ensures read { OnOk result (IsTrue (D.is_honest self.new.disk) → HasBytesAt (D.contents self.old.disk) at bytes.new) }
         ensures stays { IsTrue (D.is_honest self.old.disk)
             → Stays (D.contents self.old.disk) (D.contents self.new.disk) (D.image self.old.disk) (D.image self.new.disk) }
         ensures time { IsTrue (D.is_honest self.old.disk) → TakesTime D.moment D.image_since D.image self.old.disk self.new.disk }
@@ -121,10 +121,10 @@ impl<D: Disk> Disk for FuseDisk<D> {
 
     fn write_at(&mut self, at: u64, bytes: &[u8]) -> Result<(), DeviceFault>
         requires { at + length bytes.now ≤ D.size_of self.old.disk }
-        ensures spends { Spends self.old self.new result }
-        ensures written { OnOk result (IsTrue (D.is_honest self.old.disk) → Holds (D.contents self.new.disk) at bytes.now) }
+        ensures spends { SpendsFuse self.old self.new result }
+        ensures written { OnOk result (IsTrue (D.is_honest self.old.disk) → HasBytesAt (D.contents self.new.disk) at bytes.now) }
         ensures writes { IsTrue (D.is_honest self.old.disk)
-            → Writes at (length bytes.now) (D.contents self.old.disk) (D.contents self.new.disk) (D.image self.old.disk)
+            → WritesUnsynced at (length bytes.now) (D.contents self.old.disk) (D.contents self.new.disk) (D.image self.old.disk)
             (D.image self.new.disk) }
         ensures any_bytes { OnOk result (IsTrue (D.is_honest self.old.disk)
             → Reaches (Torn at (length bytes.now)) (D.image self.old.disk) (D.image self.new.disk)) }
@@ -138,7 +138,7 @@ impl<D: Disk> Disk for FuseDisk<D> {
     }
 
     fn sync(&mut self) -> Result<(), DeviceFault>
-        ensures spends { Spends self.old self.new result }
+        ensures spends { SpendsFuse self.old self.new result }
         ensures syncs { OnOk result (IsTrue (D.is_honest self.old.disk)
             → Syncs (D.contents self.old.disk) (D.contents self.new.disk) (D.image self.new.disk)) }
         ensures images { IsTrue (D.is_honest self.old.disk) → (c : List ℕ) → D.image self.new.disk c → D.image self.old.disk c }

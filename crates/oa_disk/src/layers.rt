@@ -1,11 +1,11 @@
 //! A row of bytes that takes memory for what was written alone.
 ghost use Rattle.std.specs.Prelude.{◌≡◌, ℕ, ◌+◌, ◌-◌, ◌^◌, ◌<◌, ◌≤◌, List, length, replicate, OnOk, IfOk};
-ghost use Rattle.oa_disk.specs.Disk.{Holds};
-ghost use Rattle.oa_disk.specs.History.{IsWhole};
+ghost use Rattle.oa_disk.specs.Disk.{HasBytesAt};
+ghost use Rattle.oa_disk.specs.History.{IsHistory};
 ghost use Rattle.oa_disk.specs.Layered.{layered};
 ghost use Rattle.oa_disk.specs.Replay.{AllInside, contents_after, count_all, overwritten, zeros};
 
-use crate::Call;
+use crate::DeviceCall;
 use std::alloc::{AllocError, Global};
 
 /// So many zeros, and over them writes, each over those before it.
@@ -13,11 +13,11 @@ use std::alloc::{AllocError, Global};
 pub struct Layers {
     pub size: usize,
     /// The writes.
-    pub calls: Vec<Call>,
+    pub calls: Vec<DeviceCall>,
     /// Their bytes, one behind the other.
     pub written: Vec<u8>,
     pub ghost fits: { size < 2 ^ 64 },
-    pub ghost whole: { IsWhole size (layered size calls.items written.items) },
+    pub ghost whole: { IsHistory size (layered size calls.items written.items) },
 }
 
 impl Layers {
@@ -54,14 +54,14 @@ impl Layers {
     {
         self.calls.reserve(1)?;
         self.written.extend_from_slice(bytes)?;
-        self.calls.push_reserved(Call::Write(at, bytes.len()));
+        self.calls.push_reserved(DeviceCall::Write(at, bytes.len()));
         Ok(())
     }
 
     /// Fills the buffer with the bytes from that place on.
     pub(crate) fn give(&self, at: usize, bytes: &mut [u8])
         requires { at + length bytes.old ≤ self.now.size }
-        ensures bytes { Holds (laid self.now) at bytes.new }
+        ensures bytes { HasBytesAt (laid self.now) at bytes.new }
         ensures len { length bytes.new ≡ length bytes.old }
     {
         clear(bytes);
@@ -88,8 +88,8 @@ fn put(window: &mut [u8], at: usize, bytes: &[u8])
 fn show(window: &mut [u8], at: usize, to: usize, bytes: &[u8])
     requires window { at + length window.old < 2 ^ 64 }
     requires bytes { to + length bytes.now < 2 ^ 64 }
-    ensures shown { (disk : List ℕ) → to + length bytes.now ≤ length disk → Holds disk at window.old
-        → Holds (overwritten disk to bytes.now) at window.new }
+    ensures shown { (disk : List ℕ) → to + length bytes.now ≤ length disk → HasBytesAt disk at window.old
+        → HasBytesAt (overwritten disk to bytes.now) at window.new }
     ensures len { length window.new ≡ length window.old }
 {
     let low = to.max(at);
@@ -100,17 +100,17 @@ fn show(window: &mut [u8], at: usize, to: usize, bytes: &[u8])
 }
 
 /// Makes the calls in the window, which begins at that place of a disk.
-pub(crate) fn overlay(window: &mut [u8], at: usize, calls: &[Call], written: &[u8])
+pub(crate) fn overlay(window: &mut [u8], at: usize, calls: &[DeviceCall], written: &[u8])
     requires window { at + length window.old < 2 ^ 64 }
     requires inside { AllInside (2 ^ 64 - 1) calls.now }
     requires written { count_all calls.now ≤ length written.now }
-    ensures shown { (disk : List ℕ) → AllInside (length disk) calls.now → Holds disk at window.old
-        → Holds (contents_after disk calls.now written.now) at window.new }
+    ensures shown { (disk : List ℕ) → AllInside (length disk) calls.now → HasBytesAt disk at window.old
+        → HasBytesAt (contents_after disk calls.now written.now) at window.new }
     ensures len { length window.new ≡ length window.old }
 {
     let mut from = 0;
     for call in calls {
-        if let Call::Write(to, count) = *call {
+        if let DeviceCall::Write(to, count) = *call {
             show(window, at, to, &written[from..from + count]);
             from += count;
         }

@@ -1,13 +1,13 @@
 //! A record of the calls that a disk in memory has served.
 ghost use Rattle.std.specs.Prelude.{◌≡◌, ◌≤◌, length, vec_capacity, IfOk, ◌^◌, ◌<◌};
 
-use crate::{Call, DeviceFault};
+use crate::{DeviceCall, DeviceFault};
 use std::alloc::{AllocError, Global};
 
 /// So many calls at most, whose writes have so many bytes at most in all, and a count of the calls past that.
 #[derive(Drop)]
 pub struct Ledger {
-    pub calls: Vec<Call>,
+    pub calls: Vec<DeviceCall>,
     /// The bytes of all writes, one behind the other.
     pub written: Vec<u8>,
     pub most_calls: usize,
@@ -44,7 +44,7 @@ impl Ledger {
     /// that fault, and is counted.
     pub(crate) fn enter(
         &mut self,
-        call: Call,
+        call: DeviceCall,
         bytes: &[u8],
         fault: DeviceFault,
     ) -> Result<(), DeviceFault>

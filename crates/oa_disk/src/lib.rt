@@ -19,7 +19,7 @@ mod no_disk;
 mod record;
 mod switching;
 
-pub use call::Call;
+pub use call::DeviceCall;
 pub use crash::Tear;
 pub use disk::{DeviceFault, Disk};
 pub use file::FileDisk;

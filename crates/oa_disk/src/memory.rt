@@ -1,14 +1,14 @@
 //! A disk in memory that can be made to crash at any moment.
 ghost use Rattle.std.specs.Prelude.{◌≡◌, ◌+◌, ◌*◌, ◌-◌, ◌<◌, ◌≤◌, [], length, true, List, ℕ, IsTrue, OnOk, OnErr, IfOk, IfErr, Some};
-ghost use Rattle.oa_disk.specs.Disk.{Holds, Torn, Reaches, NothingPending, FailsAs, Stays, Writes, Syncs, TakesTime};
-ghost use Rattle.oa_disk.specs.History.{IsWhole};
+ghost use Rattle.oa_disk.specs.Disk.{HasBytesAt, Torn, Reaches, NothingPending, FailsAs, Stays, WritesUnsynced, Syncs, TakesTime};
+ghost use Rattle.oa_disk.specs.History.{IsHistory};
 ghost use Rattle.oa_disk.specs.Ledger.{laid, history, IsEmpty};
-ghost use Rattle.oa_disk.specs.Replay.{State, IsImage, zeros};
+ghost use Rattle.oa_disk.specs.Replay.{DiskState, IsImage, zeros};
 
 use crate::crash::leave_at;
 use crate::layers::{Layers, overlay};
 use crate::ledger::Ledger;
-use crate::{Call, DeviceFault, Disk, Tear};
+use crate::{DeviceCall, DeviceFault, Disk, Tear};
 use std::alloc::{AllocError, Global};
 
 /// A disk in memory. It keeps each call that it served, so that it can be made to crash at any moment: moment 0 is its start,
@@ -21,7 +21,7 @@ pub struct MemoryDisk {
     first: Layers,
     /// What it has served since.
     ledger: Ledger,
-    ghost whole: { IsWhole first.size (history first ledger) },
+    ghost whole: { IsHistory first.size (history first ledger) },
 }
 
 impl MemoryDisk {
@@ -58,7 +58,7 @@ impl MemoryDisk {
     pub fn crash(&self, moment: u64, tear: Tear) -> Result<MemoryDisk, AllocError>
         requires { moment ≤ moments_of self.now }
         ensures torn { IfOk result (λ disk. IsTornAt self.now tear moment (contents_of disk)) }
-        ensures image { IfOk result (λ disk. (state : State) × (state_at self.now moment ≡ Some state) × IsImage state (contents_of disk)) }
+        ensures image { IfOk result (λ disk. (state : DiskState) × (state_at self.now moment ≡ Some state) × IsImage state (contents_of disk)) }
         ensures left { IfOk result (λ disk. ⟦<MemoryDisk as Disk>⟧.image_since self.now moment (contents_of disk)) }
         ensures size { IfOk result (λ disk. ⟦<MemoryDisk as Disk>⟧.size_of disk ≡ ⟦<MemoryDisk as Disk>⟧.size_of self.now) }
         ensures fresh { IfOk result (IsFresh self.now.ledger.most_calls self.now.ledger.most_bytes) }
@@ -113,7 +113,7 @@ impl MemoryDisk {
     /// Fills the buffer with what it holds from that place on.
     fn show(&self, at: usize, bytes: &mut [u8])
         requires { at + length bytes.old ≤ self.now.first.size }
-        ensures bytes { Holds (contents_of self.now) at bytes.new }
+        ensures bytes { HasBytesAt (contents_of self.now) at bytes.new }
         ensures len { length bytes.new ≡ length bytes.old }
     {
         self.first.give(at, bytes);
@@ -124,7 +124,7 @@ impl MemoryDisk {
 /// Each call has the clauses of the trait, and one more: it is served exactly where the record has room for it, and then it
 /// is recorded; else the count of failures alone changes.
 impl Disk for MemoryDisk {
-    ghost use Rattle.oa_disk.specs.declared.call.Call.TheVariants.{Read, Write, Sync};
+    ghost use Rattle.oa_disk.specs.declared.call.DeviceCall.TheVariants.{Read, Write, Sync};
     ghost use Rattle.oa_disk.specs.Memory.{history_of, contents_of, moments_of, image_of, image_since_of, IsRecorded};
     ghost use Rattle.oa_disk.specs.Replaying.{contents_is_image, images_have_size, since_have_size, counts_now, since_falls, only_now};
     ghost use Rattle.oa_disk.specs.Counting.{below_all};
@@ -168,13 +168,13 @@ impl Disk for MemoryDisk {
     fn read_at(&mut self, at: u64, bytes: &mut [u8]) -> Result<(), DeviceFault>
         requires { at + length bytes.old ≤ self.old.first.size }
         ensures recorded { IsRecorded Read [] self.old self.new result }
-        ensures read { OnOk result (Holds (contents_of self.old) at bytes.new) }
+        ensures read { OnOk result (HasBytesAt (contents_of self.old) at bytes.new) }
         ensures stays { Stays (contents_of self.old) (contents_of self.new) (image_of self.old) (image_of self.new) }
         ensures time { TakesTime moments_of image_since_of image_of self.old self.new }
         ensures size { self.new.first.size ≡ self.old.first.size }
         ensures fails { FailsAs DeviceFault.Read self.old.ledger.failures self.new.ledger.failures result }
     {
-        self.ledger.enter(Call::Read, &[], DeviceFault::Read)?;
+        self.ledger.enter(DeviceCall::Read, &[], DeviceFault::Read)?;
         self.show(at as usize, bytes);
         Ok(())
     }
@@ -182,15 +182,15 @@ impl Disk for MemoryDisk {
     fn write_at(&mut self, at: u64, bytes: &[u8]) -> Result<(), DeviceFault>
         requires { at + length bytes.now ≤ self.old.first.size }
         ensures recorded { IsRecorded (Write at (length bytes.now)) bytes.now self.old self.new result }
-        ensures written { OnOk result (Holds (contents_of self.new) at bytes.now) }
-        ensures writes { Writes at (length bytes.now) (contents_of self.old) (contents_of self.new) (image_of self.old)
+        ensures written { OnOk result (HasBytesAt (contents_of self.new) at bytes.now) }
+        ensures writes { WritesUnsynced at (length bytes.now) (contents_of self.old) (contents_of self.new) (image_of self.old)
             (image_of self.new) }
         ensures any_bytes { OnOk result (Reaches (Torn at (length bytes.now)) (image_of self.old) (image_of self.new)) }
         ensures time { TakesTime moments_of image_since_of image_of self.old self.new }
         ensures size { self.new.first.size ≡ self.old.first.size }
         ensures fails { FailsAs DeviceFault.Write self.old.ledger.failures self.new.ledger.failures result }
     {
-        let call = Call::Write(at as usize, bytes.len());
+        let call = DeviceCall::Write(at as usize, bytes.len());
         self.ledger.enter(call, bytes, DeviceFault::Write)
     }
 
@@ -203,6 +203,6 @@ impl Disk for MemoryDisk {
         ensures size { self.new.first.size ≡ self.old.first.size }
         ensures fails { FailsAs DeviceFault.Write self.old.ledger.failures self.new.ledger.failures result }
     {
-        self.ledger.enter(Call::Sync, &[], DeviceFault::Write)
+        self.ledger.enter(DeviceCall::Sync, &[], DeviceFault::Write)
     }
 }

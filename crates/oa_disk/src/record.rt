@@ -1,9 +1,9 @@
 //! A record of a file's calls and their answers, which only clauses read. It has no bytes, and its methods do nothing.
 ghost use Rattle.std.specs.Prelude.{◌≡◌, ℕ, List, Bool};
 ghost use Rattle.std.specs.Borrow.{ftrue};
-ghost use Rattle.oa_disk.specs.declared.call.Call.{Call as Called};
+ghost use Rattle.oa_disk.specs.declared.call.DeviceCall.{DeviceCall as Called};
 
-use crate::Call;
+use crate::DeviceCall;
 use std::marker::Model;
 
 #[derive(Drop)]
@@ -33,7 +33,13 @@ impl Record {
     }
 
     /// One call more, with the bytes that it wrote, and those that it gave from that place on.
-    pub(crate) fn with(&self, _call: &Call, _written: &[u8], _at: &u64, _given: &[u8]) -> Record
+    pub(crate) fn with(
+        &self,
+        _call: &DeviceCall,
+        _written: &[u8],
+        _at: &u64,
+        _given: &[u8],
+    ) -> Record
         ensures { result ≡ noted self.now _call.now _written.now _at.now _given.now }
     {
         Record {}

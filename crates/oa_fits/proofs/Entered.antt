@@ -14,7 +14,7 @@ use Rattle.oa_typelib.specs.Checked.{IsChecked}
 use Rattle.oa_checks.specs.DeclarationValues.{DeclarationValue}
 use Rattle.oa_checks.specs.Declarations.{type_of_value}
 use Rattle.oa_checks.specs.Libraries.{as_interface, class_of, default_interface, has_interface, if_entered, interface_named}
-use Rattle.oa_checks.specs.Libraries.{interface_of, name_of, same_name, selected, selected_in}
+use Rattle.oa_checks.specs.Libraries.{interface_of, item_name, same_name, selected, selected_in}
 use Rattle.oa_typelib.specs.MemberValues.{MemberValue}
 use Rattle.oa_typelib.specs.Members.{answer, forms_with, has_form, if_formed, is_method, kind_asked, main_form, member_in, method_fault}
 use Rattle.oa_typelib.specs.Members.{property_answer, property_in, property_of, property_with}
@@ -37,13 +37,13 @@ unfolding IsOwn
 default_own library class found is h = by (find (λ (e : Entry). e.is_default) class.entries) refl h
   where
     on : (e : Entry) (o : Option Item) → find (λ (x : Entry). x.is_default) class.entries ≡ Some e
-        → find (λ i. same_name e.interface (name_of i)) library.items ≡ o → option_and_then as_interface o ≡ Some found
+        → find (λ i. same_name e.interface (item_name i)) library.items ≡ o → option_and_then as_interface o ≡ Some found
         → (interface_of library found.guid ≡ Some found) × (has_interface class found ≡ true)
     on e None there named k = absurd (none-some found k)
     on e (Some item) there named k =
-        let r = found_at (λ i. same_name e.interface (name_of i)) library.items item named in
+        let r = found_at (λ i. same_name e.interface (item_name i)) library.items item named in
         let entry = found_at (λ (x : Entry). x.is_default) class.entries e there in
-        let own = ap (λ (i : Item). same_name e.interface (name_of i)) (sym (was_interface item found k)) ∙ r.2 in (
+        let own = ap (λ (i : Item). same_name e.interface (item_name i)) (sym (was_interface item found k)) ∙ r.2 in (
           interface_found library is found (mapped_in as_interface library.items r.0 item found r.1 k),
           at_any (λ (x : Entry). same_name x.interface found.name) class.entries entry.0 e entry.1 own,
         )
@@ -52,7 +52,7 @@ default_own library class found is h = by (find (λ (e : Entry). e.is_default) c
         → option_and_then (λ (e : Entry). interface_named library.items e.interface) o ≡ Some found
         → (interface_of library found.guid ≡ Some found) × (has_interface class found ≡ true)
     by None there named = absurd (none-some found named)
-    by (Some e) there named = on e (find (λ i. same_name e.interface (name_of i)) library.items) there refl named
+    by (Some e) there named = on e (find (λ i. same_name e.interface (item_name i)) library.items) there refl named
 
 entered_own : (library : TreeValue) (class : CoclassValue) (guid : List ℕ) (found : InterfaceValue)
     → option_and_then (if_entered class) (interface_of library guid) ≡ Some found → IsOwn library class found

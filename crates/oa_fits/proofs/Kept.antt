@@ -25,7 +25,7 @@ use Rattle.oa_table.specs.declared.event.Event.TheVariants.{Create, Release, Put
 use Rattle.oa_table.specs.declared.fault.TableFault.{TableFault}
 use Rattle.oa_table.specs.declared.fault.TableFault.TheVariants.{Array, WrongNumber}
 use Rattle.oa_table.specs.declared.name.CellName.{CellName}
-use Rattle.oa_table.specs.Elements.{element_put, locked_value, redimensioned_value, released_value}
+use Rattle.oa_table.specs.Elements.{with_element_put, locked_value, redimensioned_value, released_value}
 use Rattle.oa_table.specs.Events.{applied, changed_if_live, on_object, released_if_live, with_object}
 use Rattle.oa_table.specs.Locks.{with_lock, without_lock}
 use Rattle.oa_table.specs.Objects.{any_locked, changed_if_put, locks_of_cell, with_change, with_put, with_value}
@@ -113,7 +113,7 @@ one_type : (a b : ArrayValue Scalar) → a.elem ≡ b.elem → Alike (AnArray a)
 one_type a b e (kinds.One t) = refl
 one_type a b e (kinds.Array t) = ap (λ x. same_type x t) e
 
-element_leaves : (index : List ℤ) (element : Scalar) → LeavesType (element_put index element)
+element_leaves : (index : List ℤ) (element : Scalar) → LeavesType (with_element_put index element)
 element_leaves index element (One s) = tt
 element_leaves index element (AnArray a) = by (in_bounds a.bounds index) (fits_type element a.elem)
   where
@@ -272,7 +272,7 @@ module _ (library : TreeValue) where
   event_kept exact table (Release number) fit brings = release_kept table number fit
   event_kept exact table (Put name value) fit brings =
       on_kept name.object table (with_put name.place value) (λ object is. put_kept name.place value object exact (put_here name.place value (object_at name.object table) object brings is)) fit
-  event_kept exact table (PutElement name index value) fit brings = cell_kept name table (element_put index value) (element_leaves index value) fit
+  event_kept exact table (PutElement name index value) fit brings = cell_kept name table (with_element_put index value) (element_leaves index value) fit
   event_kept exact table (Redim name bound) fit brings = cell_kept name table (redimensioned_value bound) (redim_leaves bound) fit
 
   pub lock_kept : (table : TableValue) (name : CellName) → Fits table → IfOk (with_lock name table) Fits

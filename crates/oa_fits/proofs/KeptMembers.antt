@@ -17,14 +17,14 @@ use Rattle.oa_idl.specs.Values.{CoclassValue, InterfaceValue}
 use Rattle.oa_idl.specs.declared.items.Item.{Item}
 use Rattle.oa_idl.specs.declared.items.Item.TheVariants.{Interface}
 use Rattle.oa_idl.specs.declared.parts.Parameter.{Parameter}
-use Rattle.oa_checks.specs.Agreement.{agree, is_optional, same_default, same_parameter, same_result, same_type}
+use Rattle.oa_checks.specs.Agreement.{agree, is_optional, same_default, same_parameter, same_result, same_value_type}
 use Rattle.oa_checks.specs.Breaches.{clashes, declared_breach, broken_by, first_broken, form_breaches, guid_breach, id_breach, in_interface}
 use Rattle.oa_checks.specs.Breaches.{interface_breach, key_breaches, name_breach, repeated_name, shares_id, text_breach, tree_breach}
 use Rattle.oa_typelib.specs.Checked.{IsChecked}
 use Rattle.oa_checks.specs.DeclarationValues.{DeclarationValue}
 use Rattle.oa_checks.specs.Declarations.{are_one_member, declarations, is_put, own_parameters, type_of_value}
 use Rattle.oa_typelib.specs.Descriptions.{interfaces_of}
-use Rattle.oa_keeps.specs.Keeps.{DeclaresAll, IsKeptBy, Keeps}
+use Rattle.oa_keeps.specs.Keeps.{DeclaresAll, IsKeptBy, KeepsLibrary}
 use Rattle.oa_checks.specs.Repeats.{Has}
 use Rattle.oa_checks.specs.Libraries.{as_interface, class_of, has_interface, if_entered, interface_of, same_name}
 use Rattle.oa_typelib.specs.MemberValues.{MemberValue}
@@ -136,7 +136,7 @@ parameter_type : (p q : Parameter) → same_parameter p q ≡ true → p.value_t
 unfolding same_parameter
 parameter_type p q is =
     let a = same_name p.name q.name in
-    let b = same_type p.value_type q.value_type in
+    let b = same_value_type p.value_type q.value_type in
     let c = beq p.is_in q.is_in in
     let d = beq (is_optional p) (is_optional q) in
     types_are p.value_type q.value_type (and_parts a b (and_parts (a && b) c (and_parts ((a && b) && c) d (and_parts (((a && b) && c) && d) (same_default p.default q.default) is).0).0).0).1
@@ -237,7 +237,7 @@ has_property was now one keeps id m h = by (main_form (forms_with id was)) refl 
     by (Some d) main k = on d (is_method d.kind) (type_of_value d) main refl refl k
 
 -- ---- what a coclass has
-pub kept_class : (new old : TreeValue) → IsChecked new → Keeps new old → (class : List ℕ) → is_some (class_of old class) ≡ true → is_some (class_of new class) ≡ true
+pub kept_class : (new old : TreeValue) → IsChecked new → KeepsLibrary new old → (class : List ℕ) → is_some (class_of old class) ≡ true → is_some (class_of new class) ≡ true
 kept_class new old is keeps class h = by (class_of old class) refl h
   where
     by : (o : Option CoclassValue) → class_of old class ≡ o → is_some o ≡ true → is_some (class_of new class) ≡ true
@@ -252,7 +252,7 @@ properties_of new is now was there declares =
     let r = in_mapped as_interface new.items there.0 now there.1 in
     has_property was now (one_member new r.0 now is (r.2 ∙ ap (λ (x : Item). Some x) (was_interface r.1 now r.3))) declares
 
-pub kept_entered : (new old : TreeValue) → IsChecked new → Keeps new old → (class guid : List ℕ) (was : InterfaceValue) → entered old class guid ≡ Some was → EntersStill new class guid was
+pub kept_entered : (new old : TreeValue) → IsChecked new → KeepsLibrary new old → (class guid : List ℕ) (was : InterfaceValue) → entered old class guid ≡ Some was → EntersStill new class guid was
 kept_entered new old is keeps class guid was h = by (class_of old class) refl h
   where
     on : (c : CoclassValue) (i : InterfaceValue) (b : Bool) → class_of old class ≡ Some c → interface_of old guid ≡ Some i → has_interface c i ≡ b → (if b then Some i else None) ≡ Some was → EntersStill new class guid was

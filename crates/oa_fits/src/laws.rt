@@ -8,7 +8,7 @@ ghost use Rattle.oa_table.specs.Events.{applied};
 ghost use Rattle.oa_table.specs.Locks.{with_lock, without_lock};
 ghost use Rattle.oa_table.specs.Tables.{TableValue, first_table, unlocked_table};
 ghost use Rattle.oa_typelib.specs.Checked.{IsChecked};
-ghost use Rattle.oa_keeps.specs.Keeps.{Keeps};
+ghost use Rattle.oa_keeps.specs.Keeps.{KeepsLibrary};
 ghost use Rattle.oa_checks.specs.Libraries.{selected_in};
 ghost use Rattle.oa_typelib.specs.Members.{member_in, property_in};
 ghost use Rattle.oa_typelib.specs.declared.access.Access.{Access as AnAccess};
@@ -44,5 +44,5 @@ pub fn calls_reach_what_fits()
 
 /// A table that a library can have is one that each library can have that keeps it.
 pub fn kept_fits()
-    ensures { (new old : TreeValue) → IsChecked new → Keeps new old → (table : TableValue) → fits old table ≡ true → fits new table ≡ true }
+    ensures { (new old : TreeValue) → IsChecked new → KeepsLibrary new old → (table : TableValue) → fits old table ≡ true → fits new table ≡ true }
 {}

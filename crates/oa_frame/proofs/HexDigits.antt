@@ -12,7 +12,7 @@ use lib.Seq.{take-add}
 use Rattle.hex.specs.Hex.{decode_of, decode_pairs, encode_lower, encode_with, lower_digits, pair_value}
 use Rattle.hex.specs.declared.error.FromHexError.{FromHexError}
 use Rattle.hex.proofs.HexLemmas.{decode_of-even}
-use Rattle.oa_frame.specs.Digits.{HasValue}
+use Rattle.oa_frame.specs.Digits.{HasDigitValue}
 use Rattle.hex.proofs.Pairs.{decode_err, decode_step, prepend}
 use Rattle.oa_stream.specs.Sink.{Output, Writes, Breaks}
 use Rattle.oa_stream.proofs.Stretches.{writes_nothing, writes_then, breaks_after, breaks_before}
@@ -65,8 +65,8 @@ abbrev pub IsDecoded : List ℕ → List ℕ → ℕ → Type 0
 IsDecoded text out i = decode_pairs 0 text ≡ prepend (take i out) (decode_pairs (2 * i) (drop (2 * i) text))
 
 -- one value more
-pub value_more : (text values : List ℕ) (from k v : ℕ) → k < length values → HasValue (slice_index text (from + k)) v
-    → ((j : ℕ) → j < k → HasValue (slice_index text (from + j)) (slice_index values j)) → (j : ℕ) → j < k + 1 → HasValue (slice_index text (from + j)) (slice_index (slice_set values k v) j)
+pub value_more : (text values : List ℕ) (from k v : ℕ) → k < length values → HasDigitValue (slice_index text (from + k)) v
+    → ((j : ℕ) → j < k → HasDigitValue (slice_index text (from + j)) (slice_index values j)) → (j : ℕ) → j < k + 1 → HasDigitValue (slice_index text (from + j)) (slice_index (slice_set values k v) j)
 value_more text values from k v room here so_far j below = elim (cases_lt j k) [
   | inl less ↦ rw (get_or-set_other values k j v 0 (λ e. let same = e in absurd (omega (arith, less, same)))) (so_far j less)
   | inr top ↦
@@ -96,26 +96,26 @@ pair_bad text out i true false fits pair so_far bad h = is_err text out i _ refl
 
 -- one pair more of a block that begins at some pair
 pub joined_more : (text out : List ℕ) (at k v : ℕ) (good is : Bool) (high low : ℕ) → 2 * (at + k) + 1 < length text → at + k < length out
-    → (is ≡ true → (c d : ℕ) → HasValue c high → HasValue d low → (i : ℕ) → pair_value c d i ≡ Ok v)
-    → HasValue (slice_index text (2 * at + 2 * k)) high → HasValue (slice_index text (2 * at + (2 * k + 1))) low
+    → (is ≡ true → (c d : ℕ) → HasDigitValue c high → HasDigitValue d low → (i : ℕ) → pair_value c d i ≡ Ok v)
+    → HasDigitValue (slice_index text (2 * at + 2 * k)) high → HasDigitValue (slice_index text (2 * at + (2 * k + 1))) low
     → (good ≡ true → IsDecoded text out (at + k)) → (good && is) ≡ true → IsDecoded text (slice_set out (at + k) v) (at + (k + 1))
 joined_more text out at k v good is high low fits room pair of_high of_low so_far h =
     let one : 2 * at + 2 * k ≡ 2 * (at + k) = omega arith in
     let two : 2 * at + (2 * k + 1) ≡ 2 * (at + k) + 1 = omega arith in
     let next : at + k + 1 ≡ at + (k + 1) = omega arith in
-    let first = subst (λ (i : ℕ). HasValue (slice_index text i) high) one of_high in
-    let second = subst (λ (i : ℕ). HasValue (slice_index text i) low) two of_low in
+    let first = subst (λ (i : ℕ). HasDigitValue (slice_index text i) high) one of_high in
+    let second = subst (λ (i : ℕ). HasDigitValue (slice_index text i) low) two of_low in
     subst (IsDecoded text (slice_set out (at + k) v)) next (pair_more text out (at + k) v good is fits room (λ e. pair e _ _ first second) so_far h)
 
 pub joined_bad : (text out : List ℕ) (at k : ℕ) (good is : Bool) (high low : ℕ) → 2 * (at + k) + 1 < length text
-    → (is ≡ false → (c d : ℕ) → HasValue c high → HasValue d low → (i : ℕ) → IsErr (pair_value c d i))
-    → HasValue (slice_index text (2 * at + 2 * k)) high → HasValue (slice_index text (2 * at + (2 * k + 1))) low
+    → (is ≡ false → (c d : ℕ) → HasDigitValue c high → HasDigitValue d low → (i : ℕ) → IsErr (pair_value c d i))
+    → HasDigitValue (slice_index text (2 * at + 2 * k)) high → HasDigitValue (slice_index text (2 * at + (2 * k + 1))) low
     → (good ≡ true → IsDecoded text out (at + k)) → (good ≡ false → IsErr (decode_pairs 0 text)) → (good && is) ≡ false → IsErr (decode_pairs 0 text)
 joined_bad text out at k good is high low fits pair of_high of_low so_far bad h =
     let one : 2 * at + 2 * k ≡ 2 * (at + k) = omega arith in
     let two : 2 * at + (2 * k + 1) ≡ 2 * (at + k) + 1 = omega arith in
-    let first = subst (λ (i : ℕ). HasValue (slice_index text i) high) one of_high in
-    let second = subst (λ (i : ℕ). HasValue (slice_index text i) low) two of_low in
+    let first = subst (λ (i : ℕ). HasDigitValue (slice_index text i) high) one of_high in
+    let second = subst (λ (i : ℕ). HasDigitValue (slice_index text i) low) two of_low in
     pair_bad text out (at + k) good is fits (λ e. pair e _ _ first second) so_far bad h
 
 -- all pairs

@@ -3,7 +3,7 @@ use Rattle.std.proofs.Common.{◌≡◌, ℕ, ◌+◌, ◌≤◌, Bool, true, Li
 use Rattle.std.proofs.lemmas.List.{append-nil, length-append}
 use Rattle.oa_stream.specs.Sink.{Output, Writes, Breaks}
 use Rattle.oa_frame.specs.Framings.{Frames}
-use Rattle.oa_frame.specs.Sessions.{HasLeft, Run, TurnOf, but_last, joined, spelled_all}
+use Rattle.oa_frame.specs.Sessions.{HasLeft, BodiesTurned, TurnOf, but_last, joined, spelled_all}
 use Rattle.oa_frame.proofs.Spelled.{spelled_append}
 
 -- ---- replies but the last
@@ -68,7 +68,7 @@ module _ (f : Frames) (alone : List ℕ → Bool) where
   nothing_handed = no_bytes f.spelled
 
   -- one body more
-  pub left_push : {S : Type 0} (turn : TurnOf S) (old mid : S) (gone before : ℕ) (bodies : List (List ℕ)) (handed : List (List (List ℕ))) (body : List ℕ) (replies : List (List ℕ)) → Run turn old bodies handed mid
+  pub left_push : {S : Type 0} (turn : TurnOf S) (old mid : S) (gone before : ℕ) (bodies : List (List ℕ)) (handed : List (List (List ℕ))) (body : List ℕ) (replies : List (List ℕ)) → BodiesTurned turn old bodies handed mid
       → HasLeft f alone gone before bodies handed
       → (alone body ≡ true → before + length (spelled_all f.spelled (joined handed)) + length (spelled_all f.spelled (but_last replies)) ≤ gone) → HasLeft f alone gone before (bodies ++ body ∷ []) (handed ++ replies ∷ [])
   left_push turn old mid gone before [] [] body replies r left here = (λ is. let now = here is in omega (arith, now, nothing_handed), tt)

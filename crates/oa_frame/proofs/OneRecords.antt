@@ -6,11 +6,11 @@ use Rattle.std.specs.Int.{w32, from_le_bytes}
 use Rattle.oa_model.specs.Limits.{max_request_bytes}
 use Rattle.oa_frame.specs.declared.ends.End.{End}
 use Rattle.oa_frame.specs.declared.ends.End.TheVariants.{Closed, Cut, TooLong, BadHex, ReadFault, WriteFault}
-use Rattle.oa_frame.specs.Framings.{Length, NextRecord, RecordStop, Says, records}
+use Rattle.oa_frame.specs.Framings.{Length, NextRecord, RecordStop, SaysLength, records}
 use Rattle.oa_frame.proofs.OneReading.{IsDecided}
 
 -- the number that four bytes say, and what follows them
-one_head : (bytes head head' more more' : List ℕ) (n n' : ℕ) → Says head n → Says head' n' → bytes ≡ head ++ more → bytes ≡ head' ++ more' → (n ≡ n') × (more ≡ more')
+one_head : (bytes head head' more more' : List ℕ) (n n' : ℕ) → SaysLength head n → SaysLength head' n' → bytes ≡ head ++ more → bytes ≡ head' ++ more' → (n ≡ n') × (more ≡ more')
 one_head bytes head head' more more' n n' s s' e e' =
     let both = sym e ∙ e' in
     let same : head ≡ head' = sym (take_at head more 4 s.four) ∙ ap (take 4) both ∙ take_at head' more' 4 s'.four in
@@ -30,7 +30,7 @@ head_end n = if nat_lt n 1 then Closed else (if nat_lt max_request_bytes n then 
 record_end : List ℕ → End
 record_end bytes = if nat_lt (length bytes) 1 then Closed else (if nat_lt (length bytes) 4 then Cut else head_end (from_le_bytes w32 (take 4 bytes)))
 
-long : (bytes head more : List ℕ) (n : ℕ) → Says head n → bytes ≡ head ++ more → record_end bytes ≡ head_end n
+long : (bytes head more : List ℕ) (n : ℕ) → SaysLength head n → bytes ≡ head ++ more → record_end bytes ≡ head_end n
 unfolding record_end
 long bytes head more n s e =
     let four = s.four in

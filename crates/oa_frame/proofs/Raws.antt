@@ -8,15 +8,15 @@ use Rattle.oa_model.specs.Limits.{max_request_bytes}
 use Rattle.oa_stream.specs.Source.{Input, later}
 use Rattle.oa_frame.specs.declared.ends.End.TheVariants.{Cut, ReadFault}
 use Rattle.oa_frame.specs.Known.{Known}
-use Rattle.oa_frame.specs.Framings.{records, Says}
-use Rattle.oa_frame.specs.Records.{Spends}
+use Rattle.oa_frame.specs.Framings.{records, SaysLength}
+use Rattle.oa_frame.specs.Records.{SpendsCalls}
 use Rattle.oa_frame.specs.Paces.{Paced}
 
 later_sum : (m k x : ℕ) → m ≤ k → later (k - m) (later (m - 0) x) ≡ later k x
 later_sum m k x h = omega (arith, h)
 
-pub two_paced : (fault : Bool) (four n m k : ℕ) (a b c : Input) → four ≡ 4 → n ≤ max_request_bytes → Spends false four 0 m a b
-    → Spends fault n m k b c → Paced fault a c
+pub two_paced : (fault : Bool) (four n m k : ℕ) (a b c : Input) → four ≡ 4 → n ≤ max_request_bytes → SpendsCalls false four 0 m a b
+    → SpendsCalls fault n m k b c → Paced fault a c
 two_paced fault four n m k a b c f h p q = record {
   tries = k;
   most = q.high;
@@ -25,7 +25,7 @@ two_paced fault four n m k a b c f h p q = record {
   on = λ s. let e = p.pace s in (q.on (p.steady s) (omega (arith, e, f, h)), q.steady (p.steady s));
 }
 
-pub known_cut : (a b c : Option (List ℕ)) (head part : List ℕ) (n : ℕ) → Says head n → 0 < n → n ≤ max_request_bytes → length part < n
+pub known_cut : (a b c : Option (List ℕ)) (head part : List ℕ) (n : ℕ) → SaysLength head n → 0 < n → n ≤ max_request_bytes → length part < n
     → Consumes a b head → Consumes b c part → IsAtEnd c → Known (records.Stop Cut) a c
 known_cut None b c head part n s some short few p q e = tt
 known_cut (Some x) None c head part n s some short few p q e = absurd p
@@ -46,7 +46,7 @@ known_lost (Some x) (Some y) None head part p q = absurd q
 known_lost (Some x) (Some y) (Some z) head part p q = (head ++ part, p ∙ ap (λ l. head ++ l) q ∙ sym (append_assoc head part z))
 
 -- a record that was read ahead whole
-pub record_ahead : (a c : Option (List ℕ)) (front body bytes : List ℕ) (n : ℕ) → Says (take 4 front) n → 0 < n → n ≤ max_request_bytes
+pub record_ahead : (a c : Option (List ℕ)) (front body bytes : List ℕ) (n : ℕ) → SaysLength (take 4 front) n → 0 < n → n ≤ max_request_bytes
     → 4 + n ≤ length front
     → take (length bytes) body ≡ bytes → bytes ≡ slice_range front 4 (4 + n) → Consumes a c (take (4 + n) front) → Known (λ x rest. records.Next x (take n body) rest) a c
 record_ahead None c front body bytes n s some short within e f p = tt

@@ -19,14 +19,14 @@ use Rattle.oa_frame.specs.declared.framing.Framing.TheVariants.{HexLines, Record
 use Rattle.std.proofs.lemmas.Bool.{false≢true}
 use Rattle.oa_frame.specs.Framings.{Frames, frames, is_read_fault}
 use Rattle.oa_frame.specs.Paces.{HasCause, Paced}
-use Rattle.oa_frame.specs.Sessions.{TurnOf, EndOf, Run, Bodies, ReadTo, spelled_all, joined, last_reply, Calls, Told, Fails, Session, Going}
-use Rattle.oa_frame.specs.Sessions.{HandsOn, Closes, Answers, Finishes, Parts, but_last, step, step_by}
+use Rattle.oa_frame.specs.Sessions.{TurnOf, EndOf, BodiesTurned, Bodies, ReadTo, spelled_all, joined, last_reply, CallsReader, AllHaveLeft, WriterFails, Session, SessionSoFar}
+use Rattle.oa_frame.specs.Sessions.{HandsOn, Closes, AnswersBody, Finishes, PartsBefore, but_last, step, step_by}
 use Rattle.oa_frame.specs.Sessions.Halt.{Between, At, Undone}
 use Rattle.oa_frame.proofs.Left.{breaks_more, but_few, gone_is, kept_less, left_more, left_push, torn_is, writes_more}
 use Rattle.oa_frame.proofs.Spelled.{spelled_append, joined_more, latest_more}
 
 run_more : {S : Type 0} (turn : TurnOf S) (old mid new : S) (bodies : List (List ℕ)) (handed : List (List (List ℕ))) (body : List ℕ) (replies : List (List ℕ))
-    → Run turn old bodies handed mid → turn mid body replies new → Run turn old (bodies ++ body ∷ []) (handed ++ replies ∷ []) new
+    → BodiesTurned turn old bodies handed mid → turn mid body replies new → BodiesTurned turn old (bodies ++ body ∷ []) (handed ++ replies ∷ []) new
 run_more turn old mid new [] [] body replies r t = (new, subst (λ from. turn from body replies new) r t, refl)
 run_more turn old mid new [] (x ∷ xs) body replies r t = absurd r
 run_more turn old mid new (x ∷ xs) [] body replies r t = absurd r
@@ -65,7 +65,7 @@ known_start f None = tt
 known_start f (Some x) = refl
 
 -- no body was read
-no_calls : (i : Input) → Calls 0 0 i i
+no_calls : (i : Input) → CallsReader 0 0 i i
 no_calls i = record { each = []; one_each = refl; few = All-nil _; clock = none i.calls }
   where
     none : (n : ℕ) → n ≡ later 0 n
@@ -81,7 +81,7 @@ later_more : (m n a b c : ℕ) → b ≡ later (m + 0) a → c ≡ later n b →
 later_more m n a b c e f = omega (arith, e, f)
 
 -- one more was
-calls_more : (requests : ℕ) (i j k : Input) (n : ℕ) → Calls requests 0 i j → n ≤ max_read_calls → k.calls ≡ later n j.calls → Calls (requests + 1) 0 i k
+calls_more : (requests : ℕ) (i j k : Input) (n : ℕ) → CallsReader requests 0 i j → n ≤ max_read_calls → k.calls ≡ later n j.calls → CallsReader (requests + 1) 0 i k
 calls_more requests i j k n c few clock = record {
   each = c.each ++ n ∷ [];
   one_each = length-append c.each (n ∷ []) ∙ ap (λ l. l + 1) c.one_each;
@@ -93,10 +93,10 @@ calls_more requests i j k n c few clock = record {
     behind_none m n a c e = omega (arith, e)
 
 -- what came behind the last
-calls_over : (requests : ℕ) (i j k : Input) (n : ℕ) → Calls requests 0 i j → k.calls ≡ later n j.calls → Calls requests n i k
+calls_over : (requests : ℕ) (i j k : Input) (n : ℕ) → CallsReader requests 0 i j → k.calls ≡ later n j.calls → CallsReader requests n i k
 calls_over requests i j k n c clock = record { each = c.each; one_each = c.one_each; few = c.few; clock = later_more (sum c.each) n i.calls j.calls k.calls c.clock clock }
 
-pub going_start : {S : Type 0} (f : Frames) (alone : List ℕ → Bool) (turn : TurnOf S) (i : Input) (o : Output) (state : S) → o.broken ≡ false → Going f alone turn i i o o state state 0
+pub going_start : {S : Type 0} (f : Frames) (alone : List ℕ → Bool) (turn : TurnOf S) (i : Input) (o : Output) (state : S) → o.broken ≡ false → SessionSoFar f alone turn i i o o state state 0
 unfolding spelled_all joined
 going_start f alone turn i o state h = record { bodies = []; handed = []; run = refl; count = refl; read = known_start f i.left; calls = no_calls i; lines = writes_nothing o h; apart = tt }
 
@@ -104,7 +104,7 @@ going_start f alone turn i o state h = record { bodies = []; handed = []; run = 
 same_lines : (a b c : Output) (xs : List ℕ) → Writes a b xs → Writes b c [] → Writes a c xs
 same_lines a b c xs p q = subst (Writes a c) (append-nil xs) (writes_then a b c xs [] p q)
 
-module _ {S : Type 0} (f : Frames) (alone : List ℕ → Bool) (turn : TurnOf S) (ends : EndOf S) (last : List ℕ) (i i' i'' : Input) (o o' : Output) (old mid : S) (requests : ℕ) (h : Going f alone turn i i' o o' old mid requests) where
+module _ {S : Type 0} (f : Frames) (alone : List ℕ → Bool) (turn : TurnOf S) (ends : EndOf S) (last : List ℕ) (i i' i'' : Input) (o o' : Output) (old mid : S) (requests : ℕ) (h : SessionSoFar f alone turn i i' o o' old mid requests) where
   one_more : (body : List ℕ) → requests + 1 ≡ length (h.bodies ++ body ∷ [])
   one_more body = let e = h.count in rw (length-append h.bodies (body ∷ [])) (omega (arith, e))
 
@@ -118,7 +118,7 @@ module _ {S : Type 0} (f : Frames) (alone : List ℕ → Bool) (turn : TurnOf S)
   -- a body was read and answered, and the replies were put
   pub going_on : (p q : Output) (new : S) (body : List ℕ) (replies : List (List ℕ)) → Known (λ bytes rest. f.Next bytes body rest) i'.left i''.left → Paced false i' i'' → turn mid body replies new → Writes o' p []
       → Writes p q (spelled_all f.spelled replies) → (alone body ≡ true → length q.kept + length (spelled_all f.spelled (but_last replies)) ≤ length (spelled_all f.spelled replies))
-      → Going f alone turn i i'' o q old new (requests + 1)
+      → SessionSoFar f alone turn i i'' o q old new (requests + 1)
   going_on p q new body replies n pace t v w own =
       let lines : Writes o q (spelled_all f.spelled (joined (h.handed ++ replies ∷ []))) = subst (Writes o q) (sym (more_spelled replies)) (writes_then o p q _ _ (same_lines o o' p _ h.lines v) w) in
       let long = more_long replies in
@@ -211,7 +211,7 @@ module _ {S : Type 0} (f : Frames) (alone : List ℕ → Bool) (turn : TurnOf S)
   end_long held = ap length (end_spelled held) ∙ length-append (spelled_all f.spelled (joined h.handed)) (spelled_all f.spelled held)
 
   -- the writer failed in what was held before a body that comes alone
-  pub going_undone : (p q : Output) (new : S) (body : List ℕ) (e : Unwritten) → Parts f alone ends (Err e) body p q mid new → Known (λ bytes rest. f.Next bytes body rest) i'.left i''.left → Paced false i' i'' → Writes o' p [] → length p.kept ≤ p.back
+  pub going_undone : (p q : Output) (new : S) (body : List ℕ) (e : Unwritten) → PartsBefore f alone ends (Err e) body p q mid new → Known (λ bytes rest. f.Next bytes body rest) i'.left i''.left → Paced false i' i'' → Writes o' p [] → length p.kept ≤ p.back
       → Session f alone turn ends last i i'' o q old new (record { requests = requests; why = WriteFault })
   going_undone p q new body e (inr together) n pace v keeps = absurd (false≢true together.fine)
   going_undone p q new body e (inl w) n pace v keeps =
@@ -244,7 +244,7 @@ module _ {S : Type 0} (f : Frames) (alone : List ℕ → Bool) (turn : TurnOf S)
 
   -- all replies have left the writer where nothing is kept back
   closing : (p q : Output) (why end : End) (held : List (List ℕ)) → Writes o' p [] → length p.kept ≤ p.back → HandsOn f.spelled why end (held ++ last_reply last end) p q
-      → Told f last why (At end) h.handed held o q ⊎ Fails f alone last why (At end) h.bodies h.handed held o q
+      → AllHaveLeft f last why (At end) h.handed held o q ⊎ WriterFails f alone last why (At end) h.bodies h.handed held o q
   closing p q why end held v keeps (inl c) =
       let all = subst (Writes o q) (sym (end_spelled (held ++ last_reply last end))) (writes_then o p q _ _ (same_lines o o' p _ h.lines v) c.1) in
       let gone : all.gone ≡ o.kept ++ spelled_all f.spelled (joined h.handed ++ (held ++ last_reply last end)) = sym (append-nil all.gone) ∙ ap (λ l. all.gone ++ l) (sym c.2.nothing) ∙ sym all.whole in
@@ -302,11 +302,11 @@ behind (Err e) o q bytes b = length b.lost
 
 -- Of the replies at a body that comes alone no more than its own are among them.
 pub record Stepped {S : Type 0} (f : Frames) (alone : List ℕ → Bool) (turn : TurnOf S) (ends : EndOf S) (result : Result (Unit {0}) Unwritten) (body : List ℕ) (o q : Output) (old new : S) : Type 0 where
-  pub answers : Answers f (step alone turn ends) result body o q old new
+  pub answers : AnswersBody f (step alone turn ends) result body o q old new
   pub own : alone body ≡ true → behind result o q (spelled_all f.spelled answers.replies) answers.put + length (spelled_all f.spelled (but_last answers.replies)) ≤ length (spelled_all f.spelled answers.replies)
 
 pub stepped : {S : Type 0} (f : Frames) (alone : List ℕ → Bool) (turn : TurnOf S) (ends : EndOf S) (u : Unit {0}) (result : Result (Unit {0}) Unwritten) (body : List ℕ) (o p q : Output) (old mid new : S)
-    → ((a b c : S) (held own : List (List ℕ)) (body : List ℕ) → ends a held b → alone body ≡ true → turn b body own c → length own ≤ 1) → Parts f alone ends (Ok u) body o p old mid → Answers f turn result body p q mid new
+    → ((a b c : S) (held own : List (List ℕ)) (body : List ℕ) → ends a held b → alone body ≡ true → turn b body own c → length own ≤ 1) → PartsBefore f alone ends (Ok u) body o p old mid → AnswersBody f turn result body p q mid new
     → Stepped f alone turn ends result body o q old new
 stepped f alone turn ends u (Ok v) body o p q old mid new one (inl a) b =
     let few = one old mid new a.held b.replies body a.ended a.is b.turned in
@@ -378,6 +378,6 @@ no_call n = omega arith
 
 -- what was held was put before a body that comes alone, and all was handed on, or the writer failed then
 pub parted_on : {S : Type 0} (f : Frames) (alone : List ℕ → Bool) (ends : EndOf S) (u : Unit {0}) (result : Result (Unit {0}) Unwritten) (body : List ℕ) (o p q : Output) (old new : S) → alone body ≡ true → Finishes f ends (Ok u) o p old new
-    → Delivers result p q → Parts f alone ends result body o q old new
+    → Delivers result p q → PartsBefore f alone ends result body o q old new
 parted_on f alone ends u (Ok v) body o p q old new is a d = inl (record { is = is; held = a.held; ended = a.ended; put = (writes_late o p q _ a.put d.0, d.1) })
 parted_on f alone ends u (Err e) body o p q old new is a d = inl (record { is = is; held = a.held; ended = a.ended; put = breaks_late o p q _ a.put d })

@@ -12,7 +12,7 @@ use Rattle.oa_frame.specs.declared.framing.Framing.TheVariants.{HexLines, Record
 use Rattle.oa_frame.specs.declared.framing.Read.{Read}
 use Rattle.oa_frame.specs.declared.framing.Read.TheVariants as read
 use Rattle.oa_frame.specs.Known.{Known}
-use Rattle.oa_frame.specs.Lines.{FirstLine, IsLong, IsPart}
+use Rattle.oa_frame.specs.Lines.{FirstLine, IsLong, IsPartOfLine}
 
 -- A framing. Next: the bytes begin with this body, and the rest follows it. Stop: this ends the bodies where these bytes are left, of which
 -- the others are left after it was read. Can: this may end them at the body with this number, whatever the reader gives. spelled: how a
@@ -43,7 +43,7 @@ LineStop end.Closed bytes rest = ((bytes ≡ []) × (rest ≡ [])) ⊎ FirstLine
 LineStop end.Cut bytes rest = ⊥
 LineStop end.TooLong bytes rest = IsLong bytes rest
 LineStop (end.BadHex line) bytes rest = IsBad bytes rest
-LineStop end.ReadFault bytes rest = IsPart bytes rest
+LineStop end.ReadFault bytes rest = IsPartOfLine bytes rest
 LineStop end.WriteFault bytes rest = ⊥
 
 abbrev pub LineCan : ℕ → End → Type 0
@@ -59,14 +59,14 @@ abbrev pub hex_lines : Frames
 hex_lines = record { Next = NextLine; Stop = LineStop; Can = LineCan; spelled = λ reply. encode_lower reply ++ 10 ∷ [] }
 
 -- four bytes that say this number, the lowest first
-pub record Says (head : List ℕ) (n : ℕ) : Type 0 where
+pub record SaysLength (head : List ℕ) (n : ℕ) : Type 0 where
   pub four : length head ≡ 4
   pub says : from_le_bytes w32 head ≡ n
 
 -- a length above 0, and so many bytes
 pub record NextRecord (bytes body rest : List ℕ) : Type 0 where
   pub head : List ℕ
-  pub says : Says head (length body)
+  pub says : SaysLength head (length body)
   pub some : 0 < length body
   pub short : length body ≤ max_request_bytes
   pub whole : bytes ≡ head ++ (body ++ rest)
@@ -75,19 +75,19 @@ pub record NextRecord (bytes body rest : List ℕ) : Type 0 where
 pub record Length (fact : ℕ → Type 0) (bytes rest : List ℕ) : Type 0 where
   pub head : List ℕ
   pub n : ℕ
-  pub says : Says head n
+  pub says : SaysLength head n
   pub is : fact n
   pub whole : bytes ≡ head ++ rest
 
 -- the input ends inside a record
-pub record IsCut (bytes rest : List ℕ) : Type 0 where
+pub record EndsInRecord (bytes rest : List ℕ) : Type 0 where
   pub nothing : rest ≡ []
   pub some : 0 < length bytes
   pub few : (length bytes < 4) ⊎ ((more : List ℕ) × Length (λ n. (0 < n) × (n ≤ max_request_bytes) × (length more < n)) bytes more)
 
 abbrev pub RecordStop : End → List ℕ → List ℕ → Type 0
 RecordStop end.Closed bytes rest = ((bytes ≡ []) × (rest ≡ [])) ⊎ Length (λ n. n ≡ 0) bytes rest
-RecordStop end.Cut bytes rest = IsCut bytes rest
+RecordStop end.Cut bytes rest = EndsInRecord bytes rest
 RecordStop end.TooLong bytes rest = Length (λ n. max_request_bytes < n) bytes rest
 RecordStop (end.BadHex line) bytes rest = ⊥
 RecordStop end.ReadFault bytes rest = (part : List ℕ) × (bytes ≡ part ++ rest)
@@ -122,10 +122,10 @@ Hands (read.Ends why) old new = Writes old new []
 Hands read.Unwritten old new = Breaks old new []
 
 -- the buffer holds the body
-abbrev pub IsWithin : Read → List ℕ → Type 0
-IsWithin (read.Body n) buffer = n ≤ length buffer
-IsWithin (read.Ends why) buffer = ⊤
-IsWithin read.Unwritten buffer = ⊤
+abbrev pub FitsBuffer : Read → List ℕ → Type 0
+FitsBuffer (read.Body n) buffer = n ≤ length buffer
+FitsBuffer (read.Ends why) buffer = ⊤
+FitsBuffer read.Unwritten buffer = ⊤
 
 abbrev pub is_read_fault : End → Bool
 is_read_fault end.Closed = false
@@ -135,13 +135,13 @@ is_read_fault (end.BadHex line) = false
 is_read_fault end.ReadFault = true
 is_read_fault end.WriteFault = false
 
-abbrev pub is_fault : Read → Bool
-is_fault (read.Body n) = false
-is_fault (read.Ends why) = is_read_fault why
-is_fault read.Unwritten = false
+abbrev pub ends_in_read_fault : Read → Bool
+ends_in_read_fault (read.Body n) = false
+ends_in_read_fault (read.Ends why) = is_read_fault why
+ends_in_read_fault read.Unwritten = false
 
 -- the writer did not fail
-abbrev pub IsRead : Read → Type 0
-IsRead (read.Body n) = ⊤
-IsRead (read.Ends why) = ⊤
-IsRead read.Unwritten = ⊥
+abbrev pub WriterStands : Read → Type 0
+WriterStands (read.Body n) = ⊤
+WriterStands (read.Ends why) = ⊤
+WriterStands read.Unwritten = ⊥

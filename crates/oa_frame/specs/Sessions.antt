@@ -23,7 +23,7 @@ abbrev pub EndOf : Type 0 → Type 1
 EndOf S = S → List (List ℕ) → S → Type 0
 
 -- A body that comes alone: first what was held is handed out, as where no further body comes, and then the body is answered.
-pub record IsApart {S : Type 0} (turn : TurnOf S) (ends : EndOf S) (old : S) (body : List ℕ) (replies : List (List ℕ)) (new : S) : Type 0 where
+pub record AnswersAlone {S : Type 0} (turn : TurnOf S) (ends : EndOf S) (old : S) (body : List ℕ) (replies : List (List ℕ)) (new : S) : Type 0 where
   pub held : List (List ℕ)
   pub own : List (List ℕ)
   pub between : S
@@ -32,7 +32,7 @@ pub record IsApart {S : Type 0} (turn : TurnOf S) (ends : EndOf S) (old : S) (bo
   pub are : replies ≡ held ++ own
 
 abbrev pub step_by : {S : Type 0} → Bool → TurnOf S → EndOf S → TurnOf S
-step_by true turn ends old body replies new = IsApart turn ends old body replies new
+step_by true turn ends old body replies new = AnswersAlone turn ends old body replies new
 step_by false turn ends old body replies new = turn old body replies new
 
 -- what is done at a body, whether it comes alone or not
@@ -47,11 +47,11 @@ pub data Halt : Type 0 where
   Undone : List ℕ → Halt
 
 -- one body after another, with the replies that were handed out at each
-abbrev pub Run : {S : Type 0} → TurnOf S → S → List (List ℕ) → List (List (List ℕ)) → S → Type 0
-Run turn old [] [] new = new ≡ old
-Run {S} turn old (body ∷ bodies) (replies ∷ handed) new = (mid : S) × turn old body replies mid × Run turn mid bodies handed new
-Run turn old [] (replies ∷ handed) new = ⊥
-Run turn old (body ∷ bodies) [] new = ⊥
+abbrev pub BodiesTurned : {S : Type 0} → TurnOf S → S → List (List ℕ) → List (List (List ℕ)) → S → Type 0
+BodiesTurned turn old [] [] new = new ≡ old
+BodiesTurned {S} turn old (body ∷ bodies) (replies ∷ handed) new = (mid : S) × turn old body replies mid × BodiesTurned turn mid bodies handed new
+BodiesTurned turn old [] (replies ∷ handed) new = ⊥
+BodiesTurned turn old (body ∷ bodies) [] new = ⊥
 
 -- all replies that were handed out, and those of them that were last
 unfoldable pub joined : List (List (List ℕ)) → List (List ℕ)
@@ -109,7 +109,7 @@ given_last last (At why) handed held = held ++ last_reply last why
 given_last last (Undone body) handed held = held
 
 -- a body was answered: the replies that were handed out were put, or the writer failed in them
-pub record Answers {S : Type 0} (f : Frames) (turn : TurnOf S) (result : Result (Unit {0}) Unwritten) (body : List ℕ)
+pub record AnswersBody {S : Type 0} (f : Frames) (turn : TurnOf S) (result : Result (Unit {0}) Unwritten) (body : List ℕ)
     (out out' : Output) (old new : S) : Type 0 where
   pub replies : List (List ℕ)
   pub turned : turn old body replies new
@@ -148,8 +148,8 @@ pub record IsTogether {S : Type 0} (alone : List ℕ → Bool) (result : Result 
   pub still : out' ≡ out
   pub same : new ≡ old
 
-abbrev pub Parts : {S : Type 0} → Frames → (List ℕ → Bool) → EndOf S → Result (Unit {0}) Unwritten → List ℕ → Output → Output → S → S → Type 0
-Parts f alone ends result body out out' old new = IsParted f alone ends result body out out' old new ⊎ IsTogether alone result body out out' old new
+abbrev pub PartsBefore : {S : Type 0} → Frames → (List ℕ → Bool) → EndOf S → Result (Unit {0}) Unwritten → List ℕ → Output → Output → S → S → Type 0
+PartsBefore f alone ends result body out out' old new = IsParted f alone ends result body out out' old new ⊎ IsTogether alone result body out out' old new
 
 -- the bytes begin with the records of these bodies, and the rest follows them
 abbrev pub Bodies : Frames → List ℕ → List (List ℕ) → List ℕ → Type 0
@@ -169,26 +169,26 @@ CanStop f alone requests (At why) = f.Can (requests + 1) why
 CanStop f alone requests (Undone body) = alone body ≡ true
 
 -- no fault of the reader ended the reading, unless the records were used up
-abbrev pub IsSound : ℕ → Halt → Type 0
-IsSound requests Between = ⊤
-IsSound requests (At why) = why ≡ ReadFault → requests ≡ max_records
-IsSound requests (Undone body) = ⊤
+abbrev pub ReaderStands : ℕ → Halt → Type 0
+ReaderStands requests Between = ⊤
+ReaderStands requests (At why) = why ≡ ReadFault → requests ≡ max_records
+ReaderStands requests (Undone body) = ⊤
 
 -- How often the reader was called: for each body that was read, no more often than the limit, and so often after the last of them.
-pub record Calls (requests over : ℕ) (old new : Input) : Type 0 where
+pub record CallsReader (requests over : ℕ) (old new : Input) : Type 0 where
   pub each : List ℕ
   pub one_each : length each ≡ requests
   pub few : All (λ n. n ≤ max_read_calls) each
   pub clock : new.calls ≡ later (sum each + over) old.calls
 
 -- a read fault has a cause, and a reader that failed is told: it failed, or was called as often as may be, or the records were used up
-abbrev pub IsCaused : ℕ → Halt → ℕ → Bool → Type 0
-IsCaused requests Between over faulted = faulted ≡ false
-IsCaused requests (Undone body) over faulted = faulted ≡ false
-IsCaused requests (At why) over faulted = HasCause (is_read_fault why) over faulted ⊎ (requests ≡ max_records)
+abbrev pub HasReaderCause : ℕ → Halt → ℕ → Bool → Type 0
+HasReaderCause requests Between over faulted = faulted ≡ false
+HasReaderCause requests (Undone body) over faulted = faulted ≡ false
+HasReaderCause requests (At why) over faulted = HasCause (is_read_fault why) over faulted ⊎ (requests ≡ max_records)
 
 -- all replies have left the writer
-pub record Told (f : Frames) (last : List ℕ) (why : End) (stop : Halt)
+pub record AllHaveLeft (f : Frames) (last : List ℕ) (why : End) (stop : Halt)
     (handed : List (List (List ℕ))) (held : List (List ℕ)) (old new : Output) : Type 0 where
   pub ended : stop ≡ At why
   pub reached : Appends old.reached new.reached (old.kept ++ spelled_all f.spelled (joined handed ++ (held ++ last_reply last why)))
@@ -198,7 +198,7 @@ pub record Told (f : Frames) (last : List ℕ) (why : End) (stop : Halt)
 -- The writer failed: no more than a first part of these replies has left it, and it had promised no room for all of them. What is lost is
 -- no more than it may keep back and the replies that it was given last: so no further body was answered once it had failed. Nor is any
 -- reply lost that was due before a body that comes alone and was answered: all of them had left the writer first.
-pub record Fails (f : Frames) (alone : List ℕ → Bool) (last : List ℕ) (why : End) (stop : Halt) (bodies : List (List ℕ))
+pub record WriterFails (f : Frames) (alone : List ℕ → Bool) (last : List ℕ) (why : End) (stop : Halt) (bodies : List (List ℕ))
     (handed : List (List (List ℕ))) (held : List (List ℕ)) (old new : Output) : Type 0 where
   pub ended : why ≡ WriteFault
   pub torn : Breaks old new (spelled_all f.spelled (joined handed ++ finals last stop held))
@@ -217,26 +217,26 @@ pub record Session {S : Type 0} (f : Frames) (alone : List ℕ → Bool) (turn :
   pub mid : S
   pub stop : Halt
   pub over : ℕ
-  pub run : Run turn old bodies handed mid
+  pub run : BodiesTurned turn old bodies handed mid
   pub ended : ends mid held new
   pub count : served.requests ≡ length bodies
   pub read : Known (ReadTo f stop bodies) input.left input'.left
   pub can : CanStop f alone served.requests stop
-  pub calls : Calls served.requests over input input'
+  pub calls : CallsReader served.requests over input input'
   pub few : over ≤ max_read_calls
-  pub cause : IsCaused served.requests stop over input'.faulted
-  pub sound : input.steady ≡ true → IsSound served.requests stop
-  pub written : Told f last served.why stop handed held out out' ⊎ Fails f alone last served.why stop bodies handed held out out'
+  pub cause : HasReaderCause served.requests stop over input'.faulted
+  pub sound : input.steady ≡ true → ReaderStands served.requests stop
+  pub written : AllHaveLeft f last served.why stop handed held out out' ⊎ WriterFails f alone last served.why stop bodies handed held out out'
 
 -- the same so far
-pub record Going {S : Type 0} (f : Frames) (alone : List ℕ → Bool) (turn : TurnOf S) (input input' : Input)
+pub record SessionSoFar {S : Type 0} (f : Frames) (alone : List ℕ → Bool) (turn : TurnOf S) (input input' : Input)
     (out out' : Output) (old now : S) (requests : ℕ) : Type 0 where
   pub bodies : List (List ℕ)
   pub handed : List (List (List ℕ))
-  pub run : Run turn old bodies handed now
+  pub run : BodiesTurned turn old bodies handed now
   pub count : requests ≡ length bodies
   pub read : Known (λ bytes rest. Bodies f bytes bodies rest) input.left input'.left
-  pub calls : Calls requests 0 input input'
+  pub calls : CallsReader requests 0 input input'
   pub lines : Writes out out' (spelled_all f.spelled (joined handed))
   pub apart : HasLeft f alone (length lines.gone) (length out.kept) bodies handed
 

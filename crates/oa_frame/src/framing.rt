@@ -2,7 +2,7 @@
 ghost use Rattle.std.specs.Prelude.{◌≡◌, ◌+◌, ◌≤◌, false, vec_capacity};
 ghost use Rattle.oa_model.specs.Limits.{max_request_bytes, max_line_characters};
 ghost use Rattle.oa_stream.specs.Ahead.{ahead};
-ghost use Rattle.oa_frame.specs.Framings.{Hands, Inputs, IsWithin, frames, is_fault};
+ghost use Rattle.oa_frame.specs.Framings.{Hands, Inputs, FitsBuffer, frames, ends_in_read_fault};
 ghost use Rattle.oa_frame.specs.Paces.{Paced};
 
 use crate::End;
@@ -49,9 +49,9 @@ pub fn read_body<R: Source + Drop, W: Sink>(
     requires unbroken_writer { (W.out writer.old).broken ≡ false }
     ensures capacity { vec_capacity line.old ≤ vec_capacity line.new }
     ensures buffer { vec_capacity body.old ≤ vec_capacity body.new }
-    ensures within { IsWithin result body.new.items }
+    ensures within { FitsBuffer result body.new.items }
     ensures input { Inputs (frames framing) result number body.new.items (ahead R.input reader.old).left (ahead R.input reader.new).left }
-    ensures paced { Paced (is_fault result) (ahead R.input reader.old) (ahead R.input reader.new) }
+    ensures paced { Paced (ends_in_read_fault result) (ahead R.input reader.old) (ahead R.input reader.new) }
     ensures output { Hands result (W.out writer.old) (W.out writer.new) }
 {
     match framing {

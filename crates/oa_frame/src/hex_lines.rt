@@ -4,9 +4,9 @@ ghost use Rattle.std.specs.Prelude.{Ok, IfSome, IsErr, IsNone};
 ghost use Rattle.hex.specs.Hex.{decode_of, pair_value};
 ghost use Rattle.oa_model.specs.Limits.{max_request_bytes, max_line_characters};
 ghost use Rattle.oa_stream.specs.Ahead.{ahead};
-ghost use Rattle.oa_frame.specs.Digits.{HasValue};
+ghost use Rattle.oa_frame.specs.Digits.{HasDigitValue};
 ghost use Rattle.oa_frame.specs.Lines.{DecodesLine, without_return};
-ghost use Rattle.oa_frame.specs.Framings.{Hands, Inputs, IsWithin, hex_lines, is_fault};
+ghost use Rattle.oa_frame.specs.Framings.{Hands, Inputs, FitsBuffer, hex_lines, ends_in_read_fault};
 ghost use Rattle.oa_frame.specs.Paces.{Paced};
 
 use crate::buffer::lengthen;
@@ -32,9 +32,9 @@ pub(crate) fn read_hex<R: Source + Drop, W: Sink>(
     requires unbroken_writer { (W.out writer.old).broken ≡ false }
     ensures capacity { vec_capacity line.old ≤ vec_capacity line.new }
     ensures buffer { vec_capacity body.old ≤ vec_capacity body.new }
-    ensures within { IsWithin result body.new.items }
+    ensures within { FitsBuffer result body.new.items }
     ensures input { Inputs hex_lines result number body.new.items (ahead R.input reader.old).left (ahead R.input reader.new).left }
-    ensures paced { Paced (is_fault result) (ahead R.input reader.old) (ahead R.input reader.new) }
+    ensures paced { Paced (ends_in_read_fault result) (ahead R.input reader.old) (ahead R.input reader.new) }
     ensures output { Hands result (W.out writer.old) (W.out writer.new) }
 {
     if let Some(place) = memchr(b'\n', reader.buffered()) {
@@ -119,7 +119,7 @@ fn decode(line: &[u8], buffer: &mut [u8]) -> Option<usize>
 /// The values of the digits of a block, which stand side by side: so many are read at a time.
 fn values_at(line: &[u8], from: usize) -> [u8; 32]
     requires { from + 32 ≤ length line.now }
-    ensures { (k : ℕ) → k < 32 → HasValue (slice_index line.now (from + k)) (slice_index result k) }
+    ensures { (k : ℕ) → k < 32 → HasDigitValue (slice_index line.now (from + k)) (slice_index result k) }
 {
     let mut values = [0u8; 32];
     'digits: for k in 0..32 {
@@ -138,8 +138,8 @@ fn pair(high: u8, low: u8) -> (u8, bool)
 
 /// The byte of two digits with these values, where they are digits.
 fn join(high: u8, low: u8) -> (u8, bool)
-    ensures some { result.1 ≡ true → (c d : ℕ) → HasValue c high → HasValue d low → (i : ℕ) → pair_value c d i ≡ Ok result.0 }
-    ensures none { result.1 ≡ false → (c d : ℕ) → HasValue c high → HasValue d low → (i : ℕ) → IsErr (pair_value c d i) }
+    ensures some { result.1 ≡ true → (c d : ℕ) → HasDigitValue c high → HasDigitValue d low → (i : ℕ) → pair_value c d i ≡ Ok result.0 }
+    ensures none { result.1 ≡ false → (c d : ℕ) → HasDigitValue c high → HasDigitValue d low → (i : ℕ) → IsErr (pair_value c d i) }
 {
     (
         high.wrapping_mul(16).wrapping_add(low),
@@ -149,7 +149,7 @@ fn join(high: u8, low: u8) -> (u8, bool)
 
 /// The value of a digit; 16 or more for what is none.
 fn digit(c: u8) -> u8
-    ensures { HasValue c result }
+    ensures { HasDigitValue c result }
 {
     let number = c.wrapping_sub(b'0');
     let letter = c.wrapping_sub(b'A').min(c.wrapping_sub(b'a'));

@@ -1,10 +1,10 @@
 //! Lines of a reader.
 ghost use Rattle.std.specs.Prelude.{◌≡◌, ◌≤◌, ◌+◌, ◌++◌, [], false, length, vec_capacity};
 ghost use Rattle.oa_model.specs.Limits.{max_line_characters};
-ghost use Rattle.oa_stream.specs.Ahead.{ahead, held};
+ghost use Rattle.oa_stream.specs.Ahead.{ahead, read_ahead};
 ghost use Rattle.oa_stream.specs.Sink.{IsHandedOn};
 ghost use Rattle.oa_frame.specs.Known.{Known};
-ghost use Rattle.oa_frame.specs.Lines.{Finds, Keeps, Pieces, is_lost, without_return};
+ghost use Rattle.oa_frame.specs.Lines.{FindsLine, FindsAtEnd, TakesPieces, is_lost, without_return};
 ghost use Rattle.oa_frame.specs.Paces.{Paced};
 ghost use Rattle.oa_frame.specs.declared.lines.Found.TheVariants as Found;
 
@@ -52,7 +52,7 @@ pub(crate) fn read_line<R: Source + Drop, W: Sink>(
     requires unbroken { (ahead R.input reader.old).faulted ≡ false }
     requires quiet { IsHandedOn (W.out writer.now) }
     ensures capacity { vec_capacity line.old ≤ vec_capacity line.new }
-    ensures found { Known (λ bytes rest. Finds result bytes line.new.items rest)
+    ensures found { Known (λ bytes rest. FindsLine result bytes line.new.items rest)
         (ahead R.input reader.old).left (ahead R.input reader.new).left }
     ensures paced { Paced (is_lost result) (ahead R.input reader.old) (ahead R.input reader.new) }
 {
@@ -83,8 +83,8 @@ fn take_piece<R: Source + Drop>(reader: &mut Ahead<R>, line: &mut Vec<u8>) -> Pi
     requires short { length line.old.items ≤ max_line_characters + 1 }
     ensures capacity { vec_capacity line.old ≤ vec_capacity line.new }
     ensures short { length line.new.items ≤ max_line_characters + 1 }
-    ensures piece { Pieces result (held reader.old) (ahead R.input reader.old) (ahead R.input reader.new)
-        line.old.items line.new.items (held reader.new) }
+    ensures piece { TakesPieces result (read_ahead reader.old) (ahead R.input reader.old) (ahead R.input reader.new)
+        line.old.items line.new.items (read_ahead reader.new) }
 {
     let front = reader.buffered();
     match memchr(b'\n', front) {
@@ -134,7 +134,7 @@ fn whole(line: &mut Vec<u8>) -> Found
 
 /// The input ended.
 fn ended(line: &[u8]) -> Found
-    ensures { Keeps result line.now }
+    ensures { FindsAtEnd result line.now }
 {
     if line.is_empty() {
         Found::End

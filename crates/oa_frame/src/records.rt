@@ -2,12 +2,12 @@
 ghost use Rattle.std.specs.Prelude.{◌≡◌, ◌≤◌, ◌<◌, ◌+◌, [], ℕ, List, Option, false, length, take, vec_capacity, IfSome};
 ghost use Rattle.std.specs.Io.KnownBytes.{Consumes};
 ghost use Rattle.oa_model.specs.Limits.{max_read_calls, max_request_bytes};
-ghost use Rattle.oa_stream.specs.Ahead.{ahead, held};
+ghost use Rattle.oa_stream.specs.Ahead.{ahead, read_ahead};
 ghost use Rattle.oa_stream.specs.Sink.{IsHandedOn};
 ghost use Rattle.oa_stream.specs.Source.{Input};
-ghost use Rattle.oa_frame.specs.Framings.{Hands, Inputs, IsRead, IsWithin, Says, is_fault, records};
+ghost use Rattle.oa_frame.specs.Framings.{Hands, Inputs, WriterStands, FitsBuffer, SaysLength, ends_in_read_fault, records};
 ghost use Rattle.oa_frame.specs.Paces.{Paced};
-ghost use Rattle.oa_frame.specs.Records.{Fetches, Gets, Spends, is_gone};
+ghost use Rattle.oa_frame.specs.Records.{Fetches, Gets, SpendsCalls, is_gone};
 
 use crate::buffer::lengthen;
 use crate::lines::MAX_READ_CALLS;
@@ -39,9 +39,9 @@ pub(crate) fn read_record<R: Source + Drop, W: Sink>(
     requires unbroken { (ahead R.input reader.old).faulted ≡ false }
     requires unbroken_writer { (W.out writer.old).broken ≡ false }
     ensures buffer { vec_capacity body.old ≤ vec_capacity body.new }
-    ensures within { IsWithin result body.new.items }
+    ensures within { FitsBuffer result body.new.items }
     ensures input { Inputs records result number body.new.items (ahead R.input reader.old).left (ahead R.input reader.new).left }
-    ensures paced { Paced (is_fault result) (ahead R.input reader.old) (ahead R.input reader.new) }
+    ensures paced { Paced (ends_in_read_fault result) (ahead R.input reader.old) (ahead R.input reader.new) }
     ensures output { Hands result (W.out writer.old) (W.out writer.new) }
 {
     if let Some(n) = whole_record(reader.buffered()) {
@@ -80,7 +80,7 @@ fn put_front(body: &mut [u8], bytes: &[u8])
 /// How many bytes the body of the first record has, where all of it stands here and it is no end.
 fn whole_record(front: &[u8]) -> Option<usize>
     ensures within { IfSome result (λ n. (0 < n) × (n ≤ max_request_bytes) × (4 + n ≤ length front.now)) }
-    ensures says { IfSome result (λ n. Says (take 4 front.now) n) }
+    ensures says { IfSome result (λ n. SaysLength (take 4 front.now) n) }
 {
     match front.split_first_chunk::<4>() {
         None => None,
@@ -106,10 +106,10 @@ fn read_waiting<R: Source + Drop, W: Sink>(
     requires unbroken { (ahead R.input reader.old).faulted ≡ false }
     requires quiet { IsHandedOn (W.out writer.now) }
     ensures buffer { vec_capacity body.old ≤ vec_capacity body.new }
-    ensures within { IsWithin result body.new.items }
+    ensures within { FitsBuffer result body.new.items }
     ensures input { Inputs records result number body.new.items (ahead R.input reader.old).left (ahead R.input reader.new).left }
-    ensures paced { Paced (is_fault result) (ahead R.input reader.old) (ahead R.input reader.new) }
-    ensures read { IsRead result }
+    ensures paced { Paced (ends_in_read_fault result) (ahead R.input reader.old) (ahead R.input reader.new) }
+    ensures read { WriterStands result }
 {
     let _ = number; // only the contract speaks of it
     let mut head = [0u8; 4];
@@ -138,12 +138,12 @@ fn read_content<R: Source + Drop, W: Sink>(
     requires quiet { IsHandedOn (W.out writer.now) }
     requires few { calls ≤ max_read_calls }
     ensures buffer { vec_capacity body.old ≤ vec_capacity body.new }
-    ensures within { IsWithin result body.new.items }
-    ensures input { (number : ℕ) (bytes : Option (List ℕ)) (head : List ℕ) → Says head n → Consumes bytes (ahead R.input reader.old).left head
+    ensures within { FitsBuffer result body.new.items }
+    ensures input { (number : ℕ) (bytes : Option (List ℕ)) (head : List ℕ) → SaysLength head n → Consumes bytes (ahead R.input reader.old).left head
         → Inputs records result number body.new.items bytes (ahead R.input reader.new).left }
-    ensures paced { (start : Input) → Spends false 4 0 calls start (ahead R.input reader.old)
-        → Paced (is_fault result) start (ahead R.input reader.new) }
-    ensures read { IsRead result }
+    ensures paced { (start : Input) → SpendsCalls false 4 0 calls start (ahead R.input reader.old)
+        → Paced (ends_in_read_fault result) start (ahead R.input reader.new) }
+    ensures read { WriterStands result }
 {
     if n == 0 {
         return Read::Ends(End::Closed);
@@ -170,12 +170,12 @@ fn read_bytes<R: Source + Drop, W: Sink>(
     requires quiet { IsHandedOn (W.out writer.now) }
     requires few { calls ≤ max_read_calls }
     ensures len { length body.new ≡ length body.old }
-    ensures within { IsWithin result body.new }
-    ensures input { (number : ℕ) (bytes : Option (List ℕ)) (head : List ℕ) → Says head n → Consumes bytes (ahead R.input reader.old).left head
+    ensures within { FitsBuffer result body.new }
+    ensures input { (number : ℕ) (bytes : Option (List ℕ)) (head : List ℕ) → SaysLength head n → Consumes bytes (ahead R.input reader.old).left head
         → Inputs records result number body.new bytes (ahead R.input reader.new).left }
-    ensures paced { (start : Input) → Spends false 4 0 calls start (ahead R.input reader.old)
-        → Paced (is_fault result) start (ahead R.input reader.new) }
-    ensures read { IsRead result }
+    ensures paced { (start : Input) → SpendsCalls false 4 0 calls start (ahead R.input reader.old)
+        → Paced (ends_in_read_fault result) start (ahead R.input reader.new) }
+    ensures read { WriterStands result }
 {
     match fill_up(reader, writer, &mut body[..n], &mut calls) {
         Got::All => Read::Body(n),
@@ -196,7 +196,7 @@ fn fill_up<R: Source + Drop, W: Sink>(
     requires few { calls.old ≤ max_read_calls }
     ensures len { length out.new ≡ length out.old }
     ensures gets { Gets result (ahead R.input reader.old).left (ahead R.input reader.new).left out.new }
-    ensures spends { Spends (is_gone result) (length out.new) calls.old calls.new (ahead R.input reader.old) (ahead R.input reader.new) }
+    ensures spends { SpendsCalls (is_gone result) (length out.new) calls.old calls.new (ahead R.input reader.old) (ahead R.input reader.new) }
 {
     let mut at = fetch(reader, out, 0);
     'calls: while at < out.len() && *calls < MAX_READ_CALLS {
@@ -215,7 +215,7 @@ fn fill_up<R: Source + Drop, W: Sink>(
 fn fetch<R: Source + Drop>(reader: &mut Ahead<R>, out: &mut [u8], at: usize) -> usize
     requires { at ≤ length out.old }
     ensures len { length out.new ≡ length out.old }
-    ensures fetches { Fetches result at (held reader.old) (held reader.new)
+    ensures fetches { Fetches result at (read_ahead reader.old) (read_ahead reader.new)
         (ahead R.input reader.old) (ahead R.input reader.new) out.old out.new }
 {
     let front = reader.buffered();

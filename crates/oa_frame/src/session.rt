@@ -4,7 +4,7 @@ ghost use Rattle.oa_model.specs.Limits.{max_request_bytes, max_line_characters};
 ghost use Rattle.oa_stream.specs.Ahead.{ahead};
 ghost use Rattle.oa_stream.specs.Sink.{IsHandedOn, Puts};
 ghost use Rattle.oa_frame.specs.Framings.{frames};
-ghost use Rattle.oa_frame.specs.Sessions.{Abandons, Answers, Closes, Finishes, HandsOn, Parts, Session, is_answered, last_reply, spelled_all, step};
+ghost use Rattle.oa_frame.specs.Sessions.{Abandons, AnswersBody, Closes, Finishes, HandsOn, PartsBefore, Session, is_answered, last_reply, spelled_all, step};
 
 use crate::writing::put_reply;
 use crate::{End, Framing, Read, read_body};
@@ -40,7 +40,7 @@ pub trait Responder {
         requires ready { ready self.old }
         requires unbroken { (W.out writer.old).broken ≡ false }
         requires apart { alone body.now ≡ true → IsHandedOn (W.out writer.old) }
-        ensures answers { Answers (frames framing) turn result body.now (W.out writer.old) (W.out writer.new) self.old self.new }
+        ensures answers { AnswersBody (frames framing) turn result body.now (W.out writer.old) (W.out writer.new) self.old self.new }
         ensures ready { ready self.new };
 
     /// No further body comes, or one that comes alone: writes the replies that are still held.
@@ -153,7 +153,7 @@ fn part_before<S: Responder, W: Sink>(
 ) -> Result<(), Unwritten>
     requires ready { S.ready server.old }
     requires unbroken { (W.out writer.old).broken ≡ false }
-    ensures parts { Parts (frames framing) S.alone S.ends result body.now (W.out writer.old) (W.out writer.new) server.old server.new }
+    ensures parts { PartsBefore (frames framing) S.alone S.ends result body.now (W.out writer.old) (W.out writer.new) server.old server.new }
     ensures ready { S.ready server.new }
 {
     if !server.comes_alone(body) {

@@ -2,8 +2,8 @@
 use Rattle.std.proofs.Common.{◌≡◌, ◌⊎◌, inl, inr, ◌<◌, List, [], ◌∷◌, ◌++◌, length, refl, sym, ◌∙◌, ap, subst, arith, length-append}
 use Rattle.std.proofs.Common.{append_assoc}
 use Rattle.oa_groups.specs.Groups.{events_in}
-use Rattle.oa_groups.specs.Runs.{CallsFor, InTurn, MakesEvent, Run}
-use Rattle.oa_groups.specs.Turns.{Entry, Turns}
+use Rattle.oa_groups.specs.Runs.{CallsFor, InTurn, MakesEvent, TurnsOver}
+use Rattle.oa_groups.specs.Turns.{Exchange, Turns}
 use Rattle.oa_groups.proofs.Entries.{run_append}
 
 pub none_or_some : {X : Type 0} (xs : List X) → (length xs ≡ 0) ⊎ (0 < length xs)
@@ -12,34 +12,34 @@ none_or_some (x ∷ xs) = inr (omega arith)
 
 module _ {S R : Type 0} (t : Turns S R) where
   -- more of them
-  pub calls_more : (first : S) (entries more : List (Entry R)) → CallsFor t first entries → CallsFor t first (entries ++ more)
+  pub calls_more : (first : S) (entries more : List (Exchange R)) → CallsFor t first entries → CallsFor t first (entries ++ more)
   calls_more first entries more is = record {
     front = is.front;
     asked = is.asked;
     back = is.back ++ more;
-    are = ap (λ (l : List (Entry R)). l ++ more) is.are ∙ append_assoc is.front (is.asked ∷ is.back) more;
+    are = ap (λ (l : List (Exchange R)). l ++ more) is.are ∙ append_assoc is.front (is.asked ∷ is.back) more;
     state = is.state;
     run = is.run;
     calls = is.calls;
   }
 
   -- and others before them
-  pub calls_behind : (first : S) (before : List (Entry R)) (mid : S) (entries : List (Entry R)) → Run t first before mid → CallsFor t mid entries → CallsFor t first (before ++ entries)
+  pub calls_behind : (first : S) (before : List (Exchange R)) (mid : S) (entries : List (Exchange R)) → TurnsOver t first before mid → CallsFor t mid entries → CallsFor t first (before ++ entries)
   calls_behind first before mid entries run is = record {
     front = before ++ is.front;
     asked = is.asked;
     back = is.back;
-    are = ap (λ (l : List (Entry R)). before ++ l) is.are ∙ sym (append_assoc before is.front (is.asked ∷ is.back));
+    are = ap (λ (l : List (Exchange R)). before ++ l) is.are ∙ sym (append_assoc before is.front (is.asked ∷ is.back));
     state = is.state;
     run = run_append t first before mid is.front is.state run is.run;
     calls = is.calls;
   }
 
-  pub calls_one : (state : S) (asked : Entry R) → MakesEvent t state asked.body → CallsFor t state (asked ∷ [])
+  pub calls_one : (state : S) (asked : Exchange R) → MakesEvent t state asked.body → CallsFor t state (asked ∷ [])
   calls_one state asked makes = record { front = []; asked = asked; back = []; are = refl; state = state; run = refl; calls = inl makes }
 
   -- where some have an event, one of them makes it
-  pub calls_events : (first : S) (entries : List (Entry R)) (last : S) → Run t first entries last → 0 < length (events_in entries) → CallsFor t first entries
+  pub calls_events : (first : S) (entries : List (Exchange R)) (last : S) → TurnsOver t first entries last → 0 < length (events_in entries) → CallsFor t first entries
   calls_events first [] last run some = absurd (omega (arith, some))
   calls_events first (asked ∷ entries) last run some = by (none_or_some asked.event) (λ rest. calls_events run.0 entries last run.2 rest)
     where
@@ -59,15 +59,15 @@ module _ {S R : Type 0} (t : Turns S R) where
   pub calls_none : (state : S) → CallsFor t state [] → ⊥
   calls_none state is = by is.front is.are
     where
-      by : (front : List (Entry R)) → [] ≡ front ++ is.asked ∷ is.back → ⊥
+      by : (front : List (Exchange R)) → [] ≡ front ++ is.asked ∷ is.back → ⊥
       by [] are = absurd (cc)
       by (x ∷ front) are = absurd (cc)
 
   -- one group more
-  pub turn_push : {D : Type 0} (old : D) (before : S) (groups : List (List (Entry R))) (mid : D) (state : S) (group : List (Entry R)) (new : D) (after : S)
-      → InTurn t old before groups mid state → Run t state group after → (new ≡ mid) ⊎ CallsFor t state group → InTurn t old before (groups ++ group ∷ []) new after
+  pub turn_push : {D : Type 0} (old : D) (before : S) (groups : List (List (Exchange R))) (mid : D) (state : S) (group : List (Exchange R)) (new : D) (after : S)
+      → InTurn t old before groups mid state → TurnsOver t state group after → (new ≡ mid) ⊎ CallsFor t state group → InTurn t old before (groups ++ group ∷ []) new after
   turn_push {D} old before [] mid state group new after was run calls =
-      (new, after, subst (λ (s : S). Run t s group after) was.1 run, at_first calls, (refl, refl))
+      (new, after, subst (λ (s : S). TurnsOver t s group after) was.1 run, at_first calls, (refl, refl))
     where
       at_first : (new ≡ mid) ⊎ CallsFor t state group → (new ≡ old) ⊎ CallsFor t before group
       at_first (inl same) = inl (same ∙ was.0)

@@ -5,12 +5,12 @@ use Rattle.oa_disk.specs.declared.disk.Disk.{Ghosts}
 use Rattle.oa_store.specs.declared.store.Store.{Store}
 use Rattle.oa_groups.specs.Desks.{Desk, IsEnded}
 use Rattle.oa_groups.specs.Faults.{IsFaultIn, IsWholeBefore}
-use Rattle.oa_groups.specs.Going.{Faulted, Going, IsCut, IsEnd, IsGroup, Underway}
+use Rattle.oa_groups.specs.Going.{Faulted, Going, IsCut, IsEnd, IsNextGroup, Underway}
 use Rattle.oa_groups.specs.Groups.{groups_of, joined, rest_of}
-use Rattle.oa_groups.specs.Runs.{AllHoldState, CallsFor, InTurn, IsRun, Run}
+use Rattle.oa_groups.specs.Runs.{AllHoldState, CallsFor, InTurn, IsRun, TurnsOver}
 use Rattle.oa_groups.specs.Served.{IsServed}
 use Rattle.oa_store.specs.Writing.{Goes}
-use Rattle.oa_groups.specs.Turns.{Entry, Turns, body_of, reply_of}
+use Rattle.oa_groups.specs.Turns.{Exchange, Turns, body_of, reply_of}
 use Rattle.oa_groups.proofs.Called.{calls_none}
 use Rattle.oa_groups.proofs.Entries.{cut_last, either, ends_after, group_ends, joined_push, run_append}
 use Rattle.oa_groups.proofs.Takes.{faulted_as, goes_on, going_as, going_breaks, going_ends, no_entry, some_entry}
@@ -32,16 +32,16 @@ module _ {S R : Type 0} (t : Turns S R) where
     served_all size now bodies out none going goes was =
         let empty : was.held ≡ [] = no_entry was.held (sym was.pending_are ∙ none) in
         let whole : joined was.groups ++ was.held ≡ joined (was.groups ++ []) =
-        ap (λ (l : List (Entry R)). joined was.groups ++ l) empty ∙ append-nil (joined was.groups) ∙ ap (λ (l : List (List (Entry R))). joined l) (sym (append-nil was.groups)) in
-        let at_last : was.committed ≡ now.state = subst (λ (l : List (Entry R)). Run t was.committed l now.state) empty was.runs in
+        ap (λ (l : List (Exchange R)). joined was.groups ++ l) empty ∙ append-nil (joined was.groups) ∙ ap (λ (l : List (List (Exchange R))). joined l) (sym (append-nil was.groups)) in
+        let at_last : was.committed ≡ now.state = subst (λ (l : List (Exchange R)). TurnsOver t was.committed l now.state) empty was.runs in
         record {
           groups = was.groups;
           faulted = [];
           others = [];
           served = record {
-            bodies_are = was.bodies_are ∙ ap (λ (l : List (Entry R)). map body_of l) whole ∙ sym (append-nil (map body_of (joined (was.groups ++ []))));
-            run = subst (λ (l : List (Entry R)). Run t first l now.state) whole (run_append t first (joined was.groups) was.committed was.held now.state was.stands was.runs);
-            groups_are = ap (λ (l : List (Entry R)). groups_of t.alone size l) (sym whole) ∙ was.cuts ∙ ap (λ (l : List (Entry R)). was.groups ++ rest_of l) empty;
+            bodies_are = was.bodies_are ∙ ap (λ (l : List (Exchange R)). map body_of l) whole ∙ sym (append-nil (map body_of (joined (was.groups ++ []))));
+            run = subst (λ (l : List (Exchange R)). TurnsOver t first l now.state) whole (run_append t first (joined was.groups) was.committed was.held now.state was.stands was.runs);
+            groups_are = ap (λ (l : List (Exchange R)). groups_of t.alone size l) (sym whole) ∙ was.cuts ∙ ap (λ (l : List (Exchange R)). was.groups ++ rest_of l) empty;
             fault = λ group is. absurd (no_group group is);
             replies_are = was.out_are ∙ sym (append-nil (map reply_of (joined was.groups)));
           };
@@ -50,15 +50,15 @@ module _ {S R : Type 0} (t : Turns S R) where
           in_turn = all_turn was.calls empty at_last;
           moments = λ begins.
               let run = was.moments begins in
-              (run.0, subst (λ (l : List (List (Entry R))). IsRun t g.moment g.image_since start.store.disk now.store.disk first l (length was.groups) run.0) (sym (append-nil was.groups)) run.1);
+              (run.0, subst (λ (l : List (List (Exchange R))). IsRun t g.moment g.image_since start.store.disk now.store.disk first l (length was.groups) run.0) (sym (append-nil was.groups)) run.1);
           all = λ is begins. subst (λ (s : S). AllHoldState t now.store s) at_last (was.all begins);
           goes = goes;
         }
       where
         all_turn : (now.store.disk ≡ was.mark) ⊎ CallsFor t was.committed was.held → was.held ≡ [] → was.committed ≡ now.state → InTurn t start.store.disk first (was.groups ++ []) now.store.disk now.state
-        all_turn (inr called) empty at_last = absurd (calls_none t was.committed (subst (λ (l : List (Entry R)). CallsFor t was.committed l) empty called))
+        all_turn (inr called) empty at_last = absurd (calls_none t was.committed (subst (λ (l : List (Exchange R)). CallsFor t was.committed l) empty called))
         all_turn (inl same) empty at_last =
-            subst (λ (l : List (List (Entry R))). InTurn t start.store.disk first l now.store.disk now.state) (sym (append-nil was.groups))
+            subst (λ (l : List (List (Exchange R))). InTurn t start.store.disk first l now.store.disk now.state) (sym (append-nil was.groups))
             (subst (λ (d : D). InTurn t start.store.disk first was.groups d now.state) (sym same) (subst (λ (s : S). InTurn t start.store.disk first was.groups was.mark s) at_last was.in_turn))
 
     -- or up to a fault
@@ -71,12 +71,12 @@ module _ {S R : Type 0} (t : Turns S R) where
           faulted = was.group ∷ [];
           others = was.others;
           served = record {
-            bodies_are = was.bodies_are ∙ ap (λ (l : List (Entry R)). map body_of l ++ was.others) (sym whole);
-            run = subst (λ (l : List (Entry R)). Run t first l now.state) (sym whole) (run_append t first (joined was.groups) was.committed was.group now.state was.stands was.runs);
-            groups_are = ap (λ (l : List (Entry R)). groups_of t.alone size l) whole ∙ was.cuts;
-            fault = λ group is. subst (λ (l : List (Entry R)). IsFaultIn t size first was.groups l was.others) (one_group was.group group is)
+            bodies_are = was.bodies_are ∙ ap (λ (l : List (Exchange R)). map body_of l ++ was.others) (sym whole);
+            run = subst (λ (l : List (Exchange R)). TurnsOver t first l now.state) (sym whole) (run_append t first (joined was.groups) was.committed was.group now.state was.stands was.runs);
+            groups_are = ap (λ (l : List (Exchange R)). groups_of t.alone size l) whole ∙ was.cuts;
+            fault = λ group is. subst (λ (l : List (Exchange R)). IsFaultIn t size first was.groups l was.others) (one_group was.group group is)
                 (record { state = was.committed; before = was.stands; called = was.called; ends = was.whole });
-            replies_are = was.replies_are ∙ ap (λ (l : List (Entry R)). map reply_of (joined was.groups) ++ (map (λ asked. t.faulted asked.body) l ++ map t.failed was.others)) (sym (append-nil was.group));
+            replies_are = was.replies_are ∙ ap (λ (l : List (Exchange R)). map reply_of (joined was.groups) ++ (map (λ asked. t.faulted asked.body) l ++ map t.failed was.others)) (sym (append-nil was.group));
           };
           well = λ is. absurd (true≢false (sym stopped ∙ is));
           fault = λ is. refl;
@@ -114,7 +114,7 @@ module _ {S R : Type 0} (t : Turns S R) where
         goes : Goes start.store new.store
         goes = goes_on start.store old.store new.store so_far.goes last.settled.goes
 
-        ends : IsGroup t.alone size was.groups was.held
+        ends : IsNextGroup t.alone size was.groups was.held
         ends = group_ends t.alone size was.groups was.held (some_entry was.held (λ none. last.some (was.pending_are ∙ none))) was.cuts
 
         by : (new.store.stopped ≡ false) ⊎ (new.store.stopped ≡ true) → Ends size new bodies (out ++ told)

@@ -10,13 +10,13 @@ use Rattle.oa_store.specs.Stores.{IsStoreIn}
 use Rattle.oa_store.specs.declared.store.Store.{Store}
 use Rattle.oa_table.specs.Tables.{TableValue}
 use Rattle.oa_keeper.proofs.Committed.{no_change}
-use Rattle.oa_groups.specs.Desks.{Desk, IsApart, IsDue, IsFailed, IsFlushed, IsHeld, IsOver, IsReplaced, IsSettled, IsTaken}
+use Rattle.oa_groups.specs.Desks.{Desk, IsApart, IsDue, FailsAtCheckpoint, IsFlushed, IsHeld, IsAfterFault, IsAnsweredAlone, IsSettled, IsTaken}
 use Rattle.oa_groups.specs.Faults.{IsWholeBefore}
-use Rattle.oa_groups.specs.Going.{IsCut, IsCutBefore, IsGroup, Going, Faulted, Underway}
+use Rattle.oa_groups.specs.Going.{IsCut, IsCutBefore, IsNextGroup, Going, Faulted, Underway}
 use Rattle.oa_groups.specs.Groups.{BeginsAlone, events_in, fills, is_full, joined}
-use Rattle.oa_groups.specs.Runs.{AllHoldState, CallsFor, HoldsState, InTurn, IsAfter, IsRun, Run}
+use Rattle.oa_groups.specs.Runs.{AllHoldState, CallsFor, HoldsState, InTurn, IsAfter, IsRun, TurnsOver}
 use Rattle.oa_store.specs.Writing.{Goes}
-use Rattle.oa_groups.specs.Turns.{Entry, Turns, body_of, entry, reply_of}
+use Rattle.oa_groups.specs.Turns.{Exchange, Turns, body_of, exchange, reply_of}
 use Rattle.oa_groups.proofs.Called.{calls_behind, calls_events, calls_more, calls_none, calls_one, none_or_some, turn_push}
 use Rattle.oa_groups.proofs.Entries.{apart_group, cut_apart, cut_before, cut_ends, cut_flushed, cut_holds, cut_one, either, events_push, full_group, group_ends, joined_push, run_append, run_replays}
 use Rattle.oa_groups.proofs.Running.{after_all, after_fewer, after_more, run_more, run_on, run_started}
@@ -59,23 +59,23 @@ no_bytes [] none = refl
 no_bytes (b ∷ bytes) none = absurd (omega (arith, none))
 
 -- a group that is not full at its fault has no event
-joined_events : {R : Type 0} (held : List (Entry R)) (asked : Entry R) → length (events_in held) ≡ 0 → asked.event ≡ [] → events_in (held ++ asked ∷ []) ≡ []
+joined_events : {R : Type 0} (held : List (Exchange R)) (asked : Exchange R) → length (events_in held) ≡ 0 → asked.event ≡ [] → events_in (held ++ asked ∷ []) ≡ []
 joined_events held asked none empty = events_push held asked ∙ ap (λ (l : List ℕ). events_in held ++ l) empty ∙ append-nil (events_in held) ∙ no_bytes (events_in held) none
 
-pub no_entry : {R : Type 0} (held : List (Entry R)) → map reply_of held ≡ [] → held ≡ []
+pub no_entry : {R : Type 0} (held : List (Exchange R)) → map reply_of held ≡ [] → held ≡ []
 no_entry [] is = refl
 no_entry (asked ∷ held) is = absurd (cc)
 
-pub some_entry : {R : Type 0} (held : List (Entry R)) → map reply_of held ≢ [] → 0 < length held
+pub some_entry : {R : Type 0} (held : List (Exchange R)) → map reply_of held ≢ [] → 0 < length held
 some_entry [] some = absurd (some refl)
 some_entry (asked ∷ held) some = omega arith
 
 module _ {S R : Type 0} (t : Turns S R) where
-  run_one : (old : S) (asked : Entry R) (new : S) → t.Turn asked old new → Run t old (asked ∷ []) new
+  run_one : (old : S) (asked : Exchange R) (new : S) → t.Turn asked old new → TurnsOver t old (asked ∷ []) new
   run_one old asked new turn = (new, turn, refl)
 
   -- the replies of a run, taken back
-  pub run_withdrawn : (old : S) (held : List (Entry R)) (new : S) → Run t old held new → map t.withdrawn (map reply_of held) ≡ map (λ asked. t.faulted asked.body) held
+  pub run_withdrawn : (old : S) (held : List (Exchange R)) (new : S) → TurnsOver t old held new → map t.withdrawn (map reply_of held) ≡ map (λ asked. t.faulted asked.body) held
   run_withdrawn old [] new run = refl
   run_withdrawn old (asked ∷ held) new run =
       ap (λ (r : R). r ∷ map t.withdrawn (map reply_of held)) (t.tells asked old run.0 run.1) ∙ ap (λ (l : List R). t.faulted asked.body ∷ l) (run_withdrawn run.0 held new run.2)
@@ -87,7 +87,7 @@ module _ {S R : Type 0} (t : Turns S R) where
     abbrev Begins : Type 0
     Begins = AllHoldState t start.store start.state
 
-    abbrev Moments : Desk S R D g → List (List (Entry R)) → ℕ → Type 0
+    abbrev Moments : Desk S R D g → List (List (Exchange R)) → ℕ → Type 0
     Moments now groups count = (moments : List ℕ) × IsRun t g.moment g.image_since start.store.disk now.store.disk first groups count moments
 
     -- an image with the store's banks and library has those of the state that its disk holds
@@ -121,8 +121,8 @@ module _ {S R : Type 0} (t : Turns S R) where
     }
 
     -- how the requests are cut may be said otherwise
-    pub going_as : {C : List (List (Entry R)) → List (Entry R) → Type 0} {now : Desk S R D g} {bodies : List (List ℕ)} {out : List R} (was : Going t C start now bodies out)
-        (C' : List (List (Entry R)) → List (Entry R) → Type 0) → C' was.groups was.held → Going t C' start now bodies out
+    pub going_as : {C : List (List (Exchange R)) → List (Exchange R) → Type 0} {now : Desk S R D g} {bodies : List (List ℕ)} {out : List R} (was : Going t C start now bodies out)
+        (C' : List (List (Exchange R)) → List (Exchange R) → Type 0) → C' was.groups was.held → Going t C' start now bodies out
     going_as was C' cuts = record {
       groups = was.groups;
       held = was.held;
@@ -143,7 +143,7 @@ module _ {S R : Type 0} (t : Turns S R) where
       moments = was.moments;
     }
 
-    module _ {C : List (List (Entry R)) → List (Entry R) → Type 0} {old : Desk S R D g} {bodies : List (List ℕ)} {out : List R} (was : Going t C start old bodies out) where
+    module _ {C : List (List (Exchange R)) → List (Exchange R) → Type 0} {old : Desk S R D g} {bodies : List (List ℕ)} {out : List R} (was : Going t C start old bodies out) where
       -- the events in hand make of what is committed what is held of the state
       makes : Replays old.events (t.held was.committed) (t.held old.state)
       makes = subst (λ (l : List ℕ). Replays l (t.held was.committed) (t.held old.state)) (sym was.events_are) (run_replays t was.committed was.held old.state was.runs)
@@ -164,7 +164,7 @@ module _ {S R : Type 0} (t : Turns S R) where
           (subst (λ (n : ℕ). IsStoreIn (Two n) c (t.text was.committed) (t.held old.state)) (sym was.same_bank) (held_as old.store was.committed (was.all begins) (t.held old.state) c is))
 
       -- so far, and for what this request calls
-      called_by : (asked : Entry R) (new : Desk S R D g) → IsHeld t asked old new → (new.store.disk ≡ was.mark) ⊎ CallsFor t was.committed (was.held ++ asked ∷ [])
+      called_by : (asked : Exchange R) (new : Desk S R D g) → IsHeld t asked old new → (new.store.disk ≡ was.mark) ⊎ CallsFor t was.committed (was.held ++ asked ∷ [])
       called_by asked new one = by one.calls was.calls
         where
           by : (new.store.disk ≡ old.store.disk) ⊎ IsDue t old.store old.state old.events asked.body → (old.store.disk ≡ was.mark) ⊎ CallsFor t was.committed was.held
@@ -182,13 +182,13 @@ module _ {S R : Type 0} (t : Turns S R) where
           by (inr some) = inr (calls_events t was.committed was.held old.state was.runs (subst (λ (l : List ℕ). 0 < length l) was.events_are some))
 
       -- a request more is held
-      going_held : (C' : List (List (Entry R)) → List (Entry R) → Type 0) (asked : Entry R) (new : Desk S R D g) → C' was.groups (was.held ++ asked ∷ []) → IsHeld t asked old new → Going t C' start new (bodies ++ asked.body ∷ []) out
+      going_held : (C' : List (List (Exchange R)) → List (Exchange R) → Type 0) (asked : Exchange R) (new : Desk S R D g) → C' was.groups (was.held ++ asked ∷ []) → IsHeld t asked old new → Going t C' start new (bodies ++ asked.body ∷ []) out
       going_held C' asked new cuts one = record {
         groups = was.groups;
         held = was.held ++ asked ∷ [];
         committed = was.committed;
         cuts = cuts;
-        bodies_are = ap (λ (l : List (List ℕ)). l ++ asked.body ∷ []) was.bodies_are ∙ sym (map-append body_of (joined was.groups ++ was.held) (asked ∷ [])) ∙ ap (λ (l : List (Entry R)). map body_of l) (append_assoc (joined was.groups) was.held (asked ∷ []));
+        bodies_are = ap (λ (l : List (List ℕ)). l ++ asked.body ∷ []) was.bodies_are ∙ sym (map-append body_of (joined was.groups ++ was.held) (asked ∷ [])) ∙ ap (λ (l : List (Exchange R)). map body_of l) (append_assoc (joined was.groups) was.held (asked ∷ []));
         out_are = was.out_are;
         pending_are = one.pending ∙ ap (λ (l : List R). l ++ asked.reply ∷ []) was.pending_are ∙ sym (map-append reply_of was.held (asked ∷ []));
         events_are = one.events ∙ ap (λ (l : List ℕ). l ++ asked.event) was.events_are ∙ sym (events_push was.held asked);
@@ -202,7 +202,7 @@ module _ {S R : Type 0} (t : Turns S R) where
         all = λ begins. let before = was.all begins in record { shape = one.goes.shape ∙ before.shape; has = one.carries.library ∙ before.has; all = one.carries.each one.going (t.held was.committed) none_made before.all };
         moments = λ begins. let before = was.moments begins in (
           before.0,
-          subst (λ (l : List (List (Entry R))). IsRun t g.moment g.image_since start.store.disk new.store.disk first l (length was.groups) before.0) (append-nil was.groups)
+          subst (λ (l : List (List (Exchange R))). IsRun t g.moment g.image_since start.store.disk new.store.disk first l (length was.groups) before.0) (append-nil was.groups)
               (run_on t g.moment g.image_since first start.store.disk old.store.disk new.store.disk was.groups [] (length was.groups) before.0 (λ c. InBank c (t.held was.committed)) before.1
               (one.carries.any_moment (t.held was.committed) none_made (was.all begins).all)
               (λ c is. after_more t (length was.groups) first was.groups [] c (after_all t first was.groups was.committed c was.stands (under begins c is)))),
@@ -210,7 +210,7 @@ module _ {S R : Type 0} (t : Turns S R) where
       }
 
       -- the test of the code is that of the cut
-      fills_as : (size : ℕ) (asked : Entry R) (new : Desk S R D g) → IsHeld t asked old new → fills size (length new.pending) (length new.events) ≡ is_full size (was.held ++ asked ∷ [])
+      fills_as : (size : ℕ) (asked : Exchange R) (new : Desk S R D g) → IsHeld t asked old new → fills size (length new.pending) (length new.events) ≡ is_full size (was.held ++ asked ∷ [])
       fills_as size asked new one =
           let group = was.held ++ asked ∷ [] in
           let count : length new.pending ≡ length group =
@@ -218,11 +218,11 @@ module _ {S R : Type 0} (t : Turns S R) where
           let bytes : new.events ≡ events_in group = one.events ∙ ap (λ (l : List ℕ). l ++ asked.event) was.events_are ∙ sym (events_push was.held asked) in
           ap (λ (n : ℕ). fills size n (length new.events)) count ∙ ap (λ (l : List ℕ). fills size (length group) (length l)) bytes
 
-      abbrev grown : List (List (Entry R))
+      abbrev grown : List (List (Exchange R))
       grown = was.groups ++ was.held ∷ []
 
-      stood : Run t first (joined grown) old.state
-      stood = subst (λ (l : List (Entry R)). Run t first l old.state) (sym (joined_push was.groups was.held)) (run_append t first (joined was.groups) was.committed was.held old.state was.stands was.runs)
+      stood : TurnsOver t first (joined grown) old.state
+      stood = subst (λ (l : List (Exchange R)). TurnsOver t first l old.state) (sym (joined_push was.groups was.held)) (run_append t first (joined was.groups) was.committed was.held old.state was.stands was.runs)
 
       abbrev Either : List ℕ → Type 0
       Either c = InBank c (t.held was.committed) ⊎ InBank c (t.held old.state)
@@ -258,7 +258,7 @@ module _ {S R : Type 0} (t : Turns S R) where
           by (inl same) (inr called) = inr called
 
       -- the group in hand was committed, and its replies are handed out
-      pub going_ends : (C' : List (List (Entry R)) → List (Entry R) → Type 0) (told : List R) (new : Desk S R D g) → new.store.stopped ≡ false → C' grown [] → IsSettled t told old new → Going t C' start new bodies (out ++ told)
+      pub going_ends : (C' : List (List (Exchange R)) → List (Exchange R) → Type 0) (told : List R) (new : Desk S R D g) → new.store.stopped ≡ false → C' grown [] → IsSettled t told old new → Going t C' start new bodies (out ++ told)
       going_ends C' told new going cuts one =
           let well = one.well going in
           record {
@@ -266,17 +266,17 @@ module _ {S R : Type 0} (t : Turns S R) where
             held = [];
             committed = new.state;
             cuts = cuts;
-            bodies_are = was.bodies_are ∙ ap (λ (l : List (Entry R)). map body_of l) (sym (joined_push was.groups was.held) ∙ sym (append-nil (joined grown)));
+            bodies_are = was.bodies_are ∙ ap (λ (l : List (Exchange R)). map body_of l) (sym (joined_push was.groups was.held) ∙ sym (append-nil (joined grown)));
             out_are = ap (λ (l : List R). l ++ told) was.out_are ∙ ap (λ (l : List R). map reply_of (joined was.groups) ++ l) (well.0 ∙ was.pending_are) ∙ sym (map-append reply_of (joined was.groups) was.held)
-                ∙ ap (λ (l : List (Entry R)). map reply_of l) (sym (joined_push was.groups was.held));
+                ∙ ap (λ (l : List (Exchange R)). map reply_of l) (sym (joined_push was.groups was.held));
             pending_are = well.1;
             events_are = well.2;
-            stands = subst (λ (s : S). Run t first (joined grown) s) (sym one.state) stood;
+            stands = subst (λ (s : S). TurnsOver t first (joined grown) s) (sym one.state) stood;
             runs = refl;
             same = refl;
             same_bank = refl;
             mark = new.store.disk;
-            in_turn = turn_push t start.store.disk first was.groups was.mark was.committed was.held new.store.disk new.state was.in_turn (subst (λ (s : S). Run t was.committed was.held s) (sym one.state) was.runs) (ended_by told new one);
+            in_turn = turn_push t start.store.disk first was.groups was.mark was.committed was.held new.store.disk new.state was.in_turn (subst (λ (s : S). TurnsOver t was.committed was.held s) (sym one.state) was.runs) (ended_by told new one);
             calls = inl refl;
             all = λ begins. subst (λ (s : S). AllHoldState t new.store s) (sym one.state) (committed_now told new going one begins);
             moments = λ begins.
@@ -289,7 +289,7 @@ module _ {S R : Type 0} (t : Turns S R) where
           }
 
       -- it could not be committed, and its replies are taken back
-      pub going_breaks : (size : ℕ) (W : S → List (Entry R) → List (List ℕ) → Type 0) (told : List R) (new : Desk S R D g) → W was.committed was.held [] → new.store.stopped ≡ true → IsGroup t.alone size was.groups was.held → IsSettled t told old new
+      pub going_breaks : (size : ℕ) (W : S → List (Exchange R) → List (List ℕ) → Type 0) (told : List R) (new : Desk S R D g) → W was.committed was.held [] → new.store.stopped ≡ true → IsNextGroup t.alone size was.groups was.held → IsSettled t told old new
           → Faulted t size W start new bodies (out ++ told)
       going_breaks size W told new whole stopped ends one = record {
         groups = was.groups;
@@ -303,9 +303,9 @@ module _ {S R : Type 0} (t : Turns S R) where
             ∙ ap (λ (l : List R). map reply_of (joined was.groups) ++ l)
             (one.broken stopped ∙ ap (λ (l : List R). map t.withdrawn l) was.pending_are ∙ run_withdrawn was.committed was.held old.state was.runs ∙ sym (append-nil (map (λ asked. t.faulted asked.body) was.held)));
         stands = was.stands;
-        runs = subst (λ (s : S). Run t was.committed was.held s) (sym one.state) was.runs;
+        runs = subst (λ (s : S). TurnsOver t was.committed was.held s) (sym one.state) was.runs;
         called = by (settled_by told new one);
-        in_turn = turn_push t start.store.disk first was.groups was.mark was.committed was.held new.store.disk new.state was.in_turn (subst (λ (s : S). Run t was.committed was.held s) (sym one.state) was.runs) (inr (by (settled_by told new one)));
+        in_turn = turn_push t start.store.disk first was.groups was.mark was.committed was.held new.store.disk new.state was.in_turn (subst (λ (s : S). TurnsOver t was.committed was.held s) (sym one.state) was.runs) (inr (by (settled_by told new one)));
         moments = during told new one;
       }
         where
@@ -314,9 +314,9 @@ module _ {S R : Type 0} (t : Turns S R) where
           by (inr called) = called
 
       -- the checkpoint before its event failed: the group ends with this request
-      going_fails : (size : ℕ) (body : List ℕ) (told : List R) (new : Desk S R D g) → IsCut t.alone size was.groups was.held → IsFailed t body told old new → Faulted t size (IsWholeBefore t size) start new (bodies ++ body ∷ []) (out ++ told)
+      going_fails : (size : ℕ) (body : List ℕ) (told : List R) (new : Desk S R D g) → IsCut t.alone size was.groups was.held → FailsAtCheckpoint t body told old new → Faulted t size (IsWholeBefore t size) start new (bodies ++ body ∷ []) (out ++ told)
       going_fails size body told new cuts one =
-          let asked : Entry R = entry body one.reply one.event in
+          let asked : Exchange R = exchange body one.reply one.event in
           let group = was.held ++ asked ∷ [] in
           record {
             groups = was.groups;
@@ -334,7 +334,7 @@ module _ {S R : Type 0} (t : Turns S R) where
               makes = one.due.makes;
             })));
             bodies_are = ap (λ (l : List (List ℕ)). l ++ body ∷ []) was.bodies_are ∙ sym (map-append body_of (joined was.groups ++ was.held) (asked ∷ []))
-                ∙ ap (λ (l : List (Entry R)). map body_of l) (append_assoc (joined was.groups) was.held (asked ∷ [])) ∙ sym (append-nil (map body_of (joined was.groups ++ group)));
+                ∙ ap (λ (l : List (Exchange R)). map body_of l) (append_assoc (joined was.groups) was.held (asked ∷ [])) ∙ sym (append-nil (map body_of (joined was.groups ++ group)));
             replies_are = ap (λ (l : List R). l ++ told) was.out_are
                 ∙ ap (λ (l : List R). map reply_of (joined was.groups) ++ l)
                 (one.told_are ∙ ap (λ (l : List R). map t.withdrawn l ++ t.faulted body ∷ []) was.pending_are
@@ -356,15 +356,15 @@ module _ {S R : Type 0} (t : Turns S R) where
           }
 
     -- after the fault
-    over_moments : (old new : Desk S R D g) (groups : List (List (Entry R))) (count : ℕ) → new.store.disk ≡ old.store.disk → (Begins → Moments old groups count) → Begins → Moments new groups count
+    over_moments : (old new : Desk S R D g) (groups : List (List (Exchange R))) (count : ℕ) → new.store.disk ≡ old.store.disk → (Begins → Moments old groups count) → Begins → Moments new groups count
     over_moments old new groups count same moments begins =
         let before = moments begins in (before.0, subst (λ (d : D). IsRun t g.moment g.image_since start.store.disk d first groups count before.0) (sym same) before.1)
 
-    turn_as : (old new : Desk S R D g) (groups : List (List (Entry R))) → new.store.disk ≡ old.store.disk → new.state ≡ old.state → InTurn t start.store.disk first groups old.store.disk old.state → InTurn t start.store.disk first groups new.store.disk new.state
+    turn_as : (old new : Desk S R D g) (groups : List (List (Exchange R))) → new.store.disk ≡ old.store.disk → new.state ≡ old.state → InTurn t start.store.disk first groups old.store.disk old.state → InTurn t start.store.disk first groups new.store.disk new.state
     turn_as old new groups disk state was =
         subst (λ (d : D). InTurn t start.store.disk first groups d new.state) (sym disk) (subst (λ (s : S). InTurn t start.store.disk first groups old.store.disk s) (sym state) was)
 
-    pub faulted_as : (size : ℕ) (W W' : S → List (Entry R) → List (List ℕ) → Type 0) → ((state : S) (group : List (Entry R)) (others : List (List ℕ)) → W state group others → W' state group others) → (old new : Desk S R D g) (bodies : List (List ℕ)) (replies more : List R) → more ≡ replies → new.store.disk ≡ old.store.disk → new.state ≡ old.state
+    pub faulted_as : (size : ℕ) (W W' : S → List (Exchange R) → List (List ℕ) → Type 0) → ((state : S) (group : List (Exchange R)) (others : List (List ℕ)) → W state group others → W' state group others) → (old new : Desk S R D g) (bodies : List (List ℕ)) (replies more : List R) → more ≡ replies → new.store.disk ≡ old.store.disk → new.state ≡ old.state
         → Faulted t size W start old bodies replies → Faulted t size W' start new bodies more
     faulted_as size W W' weaker old new bodies replies more told disk state was = record {
       groups = was.groups;
@@ -376,14 +376,14 @@ module _ {S R : Type 0} (t : Turns S R) where
       bodies_are = was.bodies_are;
       replies_are = told ∙ was.replies_are;
       stands = was.stands;
-      runs = subst (λ (s : S). Run t was.committed was.group s) (sym state) was.runs;
+      runs = subst (λ (s : S). TurnsOver t was.committed was.group s) (sym state) was.runs;
       called = was.called;
       in_turn = turn_as old new (was.groups ++ was.group ∷ []) disk state was.in_turn;
       moments = over_moments old new (was.groups ++ was.group ∷ []) (length was.groups) disk was.moments;
     }
 
-    faulted_more : (size : ℕ) (old new : Desk S R D g) (bodies : List (List ℕ)) (replies : List R) (body : List ℕ) → IsOver old new → (W : S → List (Entry R) → List (List ℕ) → Type 0)
-        → ((state : S) (group : List (Entry R)) (others : List (List ℕ)) → W state group others → IsWholeBefore t size state group (others ++ body ∷ [])) → Faulted t size W start old bodies replies
+    faulted_more : (size : ℕ) (old new : Desk S R D g) (bodies : List (List ℕ)) (replies : List R) (body : List ℕ) → IsAfterFault old new → (W : S → List (Exchange R) → List (List ℕ) → Type 0)
+        → ((state : S) (group : List (Exchange R)) (others : List (List ℕ)) → W state group others → IsWholeBefore t size state group (others ++ body ∷ [])) → Faulted t size W start old bodies replies
         → Faulted t size (IsWholeBefore t size) start new (bodies ++ body ∷ []) (replies ++ t.failed body ∷ [])
     faulted_more size old new bodies replies body over W then was = record {
       groups = was.groups;
@@ -397,7 +397,7 @@ module _ {S R : Type 0} (t : Turns S R) where
           ∙ ap (λ (l : List R). map reply_of (joined was.groups) ++ l) (append_assoc (map (λ asked. t.faulted asked.body) was.group) (map t.failed was.others) (t.failed body ∷ [])
           ∙ ap (λ (l : List R). map (λ asked. t.faulted asked.body) was.group ++ l) (sym (map-append t.failed was.others (body ∷ []))));
       stands = was.stands;
-      runs = subst (λ (s : S). Run t was.committed was.group s) (sym over.state) was.runs;
+      runs = subst (λ (s : S). TurnsOver t was.committed was.group s) (sym over.state) was.runs;
       called = was.called;
       in_turn = turn_as old new (was.groups ++ was.group ∷ []) over.disk over.state was.in_turn;
       moments = over_moments old new (was.groups ++ was.group ∷ []) (length was.groups) over.disk was.moments;
@@ -411,37 +411,37 @@ module _ {S R : Type 0} (t : Turns S R) where
     }
 
     -- more bodies behind the fault
-    still_whole : (size : ℕ) (body : List ℕ) (state : S) (group : List (Entry R)) (others : List (List ℕ)) → IsWholeBefore t size state group others → IsWholeBefore t size state group (others ++ body ∷ [])
+    still_whole : (size : ℕ) (body : List ℕ) (state : S) (group : List (Exchange R)) (others : List (List ℕ)) → IsWholeBefore t size state group others → IsWholeBefore t size state group (others ++ body ∷ [])
     still_whole size body state group others (inl whole) = inl whole
     still_whole size body state group (next ∷ others) (inr begins) = inr begins
     still_whole size body state group [] (inr begins) = absurd begins
 
-    abbrev Idle : ℕ → List (List (Entry R)) → List (Entry R) → Type 0
+    abbrev Idle : ℕ → List (List (Exchange R)) → List (Exchange R) → Type 0
     Idle size groups held = IsCutBefore t.alone size groups held × (held ≡ [])
 
     module _ {old : Desk S R D g} {bodies : List (List ℕ)} {out : List R} (size : ℕ) (was : Going t (Idle size) start old bodies out) where
       -- so many groups were answered, and nothing is in hand
-      idle_run : Run t first (joined was.groups) old.state
+      idle_run : TurnsOver t first (joined was.groups) old.state
       idle_run = let none = was.cuts.1 in
-          subst (λ (s : S). Run t first (joined was.groups) s) (subst (λ (l : List (Entry R)). Run t was.committed l old.state) none was.runs) was.stands
+          subst (λ (s : S). TurnsOver t first (joined was.groups) s) (subst (λ (l : List (Exchange R)). TurnsOver t was.committed l old.state) none was.runs) was.stands
 
       idle_turn : InTurn t start.store.disk first was.groups old.store.disk old.state
       idle_turn = subst (λ (d : D). InTurn t start.store.disk first was.groups d old.state) (sym (marked was.calls))
-          (subst (λ (s : S). InTurn t start.store.disk first was.groups was.mark s) (subst (λ (l : List (Entry R)). Run t was.committed l old.state) was.cuts.1 was.runs) was.in_turn)
+          (subst (λ (s : S). InTurn t start.store.disk first was.groups was.mark s) (subst (λ (l : List (Exchange R)). TurnsOver t was.committed l old.state) was.cuts.1 was.runs) was.in_turn)
         where
           marked : (old.store.disk ≡ was.mark) ⊎ CallsFor t was.committed was.held → old.store.disk ≡ was.mark
           marked (inl same) = same
-          marked (inr called) = absurd (calls_none t was.committed (subst (λ (l : List (Entry R)). CallsFor t was.committed l) was.cuts.1 called))
+          marked (inr called) = absurd (calls_none t was.committed (subst (λ (l : List (Exchange R)). CallsFor t was.committed l) was.cuts.1 called))
 
-      module _ (asked : Entry R) (told : List R) (new : Desk S R D g) (one : IsReplaced t asked told old new) where
-        abbrev more : List (List (Entry R))
+      module _ (asked : Exchange R) (told : List R) (new : Desk S R D g) (one : IsAnsweredAlone t asked told old new) where
+        abbrev more : List (List (Exchange R))
         more = was.groups ++ (asked ∷ []) ∷ []
 
         idle_all : Begins → AllHoldState t old.store old.state
-        idle_all begins = subst (λ (s : S). AllHoldState t old.store s) (subst (λ (l : List (Entry R)). Run t was.committed l old.state) was.cuts.1 was.runs) (was.all begins)
+        idle_all begins = subst (λ (s : S). AllHoldState t old.store s) (subst (λ (l : List (Exchange R)). TurnsOver t was.committed l old.state) was.cuts.1 was.runs) (was.all begins)
 
-        apart_run : Run t first (joined more) new.state
-        apart_run = subst (λ (l : List (Entry R)). Run t first l new.state) (sym (joined_push was.groups (asked ∷ [])))
+        apart_run : TurnsOver t first (joined more) new.state
+        apart_run = subst (λ (l : List (Exchange R)). TurnsOver t first l new.state) (sym (joined_push was.groups (asked ∷ [])))
             (run_append t first (joined was.groups) old.state (asked ∷ []) new.state idle_run (run_one old.state asked new.state one.turn))
 
         apart_has : (c : List ℕ) → HoldsState t old.state c ⊎ HoldsState t new.state c → IsAfter t (length was.groups) first more c
@@ -458,8 +458,8 @@ module _ {S R : Type 0} (t : Turns S R) where
 
         apart_bodies : bodies ++ asked.body ∷ [] ≡ map body_of (joined more ++ [])
         apart_bodies =
-            ap (λ (l : List (List ℕ)). l ++ asked.body ∷ []) (was.bodies_are ∙ ap (λ (l : List (Entry R)). map body_of (joined was.groups ++ l)) was.cuts.1 ∙ ap (λ (l : List (Entry R)). map body_of l) (append-nil (joined was.groups)))
-            ∙ sym (map-append body_of (joined was.groups) (asked ∷ [])) ∙ ap (λ (l : List (Entry R)). map body_of l) (sym (joined_push was.groups (asked ∷ [])) ∙ sym (append-nil (joined more)))
+            ap (λ (l : List (List ℕ)). l ++ asked.body ∷ []) (was.bodies_are ∙ ap (λ (l : List (Exchange R)). map body_of (joined was.groups ++ l)) was.cuts.1 ∙ ap (λ (l : List (Exchange R)). map body_of l) (append-nil (joined was.groups)))
+            ∙ sym (map-append body_of (joined was.groups) (asked ∷ [])) ∙ ap (λ (l : List (Exchange R)). map body_of l) (sym (joined_push was.groups (asked ∷ [])) ∙ sym (append-nil (joined more)))
 
         -- the device is called for a replacement that is done
         apart_done : t.is_done asked.reply ≡ true → CallsFor t old.state (asked ∷ [])
@@ -478,10 +478,10 @@ module _ {S R : Type 0} (t : Turns S R) where
           groups = more;
           held = [];
           committed = new.state;
-          cuts = cut_apart t.alone size was.groups asked one.alone (subst (λ (l : List (Entry R)). IsCutBefore t.alone size was.groups l) was.cuts.1 was.cuts.0);
+          cuts = cut_apart t.alone size was.groups asked one.alone (subst (λ (l : List (Exchange R)). IsCutBefore t.alone size was.groups l) was.cuts.1 was.cuts.0);
           bodies_are = apart_bodies;
           out_are = ap (λ (l : List R). l ++ told) was.out_are ∙ ap (λ (l : List R). map reply_of (joined was.groups) ++ l) (one.well going) ∙ sym (map-append reply_of (joined was.groups) (asked ∷ []))
-              ∙ ap (λ (l : List (Entry R)). map reply_of l) (sym (joined_push was.groups (asked ∷ [])));
+              ∙ ap (λ (l : List (Exchange R)). map reply_of l) (sym (joined_push was.groups (asked ∷ [])));
           pending_are = one.idle_still.0;
           events_are = one.idle_still.1;
           stands = apart_run;
@@ -509,9 +509,9 @@ module _ {S R : Type 0} (t : Turns S R) where
           group = asked ∷ [];
           others = [];
           committed = old.state;
-          cuts = apart_group t.alone size was.groups asked one.alone (subst (λ (l : List (Entry R)). IsCutBefore t.alone size was.groups l) was.cuts.1 was.cuts.0);
+          cuts = apart_group t.alone size was.groups asked one.alone (subst (λ (l : List (Exchange R)). IsCutBefore t.alone size was.groups l) was.cuts.1 was.cuts.0);
           whole = inl (inr (inr one.alone));
-          bodies_are = apart_bodies ∙ ap (λ (l : List (Entry R)). map body_of l) (append-nil (joined more) ∙ joined_push was.groups (asked ∷ [])) ∙ sym (append-nil (map body_of (joined was.groups ++ asked ∷ [])));
+          bodies_are = apart_bodies ∙ ap (λ (l : List (Exchange R)). map body_of l) (append-nil (joined more) ∙ joined_push was.groups (asked ∷ [])) ∙ sym (append-nil (map body_of (joined was.groups ++ asked ∷ [])));
           replies_are = ap (λ (l : List R). l ++ told) was.out_are ∙ ap (λ (l : List R). map reply_of (joined was.groups) ++ l) (one.broken stopped);
           stands = idle_run;
           runs = run_one old.state asked new.state one.turn;
@@ -532,10 +532,10 @@ module _ {S R : Type 0} (t : Turns S R) where
           cuts = (cut_before t.alone size was.groups was.held was.cuts, empty);
           bodies_are = was.bodies_are;
           out_are = was.out_are;
-          pending_are = idle.0 ∙ sym (ap (λ (l : List (Entry R)). map reply_of l) empty);
-          events_are = idle.1 ∙ sym (ap (λ (l : List (Entry R)). events_in l) empty);
+          pending_are = idle.0 ∙ sym (ap (λ (l : List (Exchange R)). map reply_of l) empty);
+          events_are = idle.1 ∙ sym (ap (λ (l : List (Exchange R)). events_in l) empty);
           stands = was.stands;
-          runs = subst (λ (s : S). Run t was.committed was.held s) (sym state) was.runs;
+          runs = subst (λ (s : S). TurnsOver t was.committed was.held s) (sym state) was.runs;
           same = ap t.text state ∙ was.same;
           same_bank = ap t.bank state ∙ was.same_bank;
           mark = was.mark;
@@ -554,10 +554,10 @@ module _ {S R : Type 0} (t : Turns S R) where
 
     -- a request that is a group of its own, behind those that were answered
     underway_then : (size : ℕ) (mid new : Desk S R D g) (bodies : List (List ℕ)) (body : List ℕ) (sent told : List R) → Going t (Idle size) start mid bodies sent → Goes start.store mid.store
-        → ((reply : R) × IsReplaced t (entry body reply []) told mid new) → Underway t size start new (bodies ++ body ∷ []) (sent ++ told)
+        → ((reply : R) × IsAnsweredAlone t (exchange body reply []) told mid new) → Underway t size start new (bodies ++ body ∷ []) (sent ++ told)
     underway_then size mid new bodies body sent told here goes due = record {
-      going = λ is. going_apart size here (entry body due.0 []) told new due.1 is;
-      broken = λ is. breaks_apart size here (entry body due.0 []) told new due.1 is;
+      going = λ is. going_apart size here (exchange body due.0 []) told new due.1 is;
+      broken = λ is. breaks_apart size here (exchange body due.0 []) told new due.1 is;
       goes = goes_on start.store mid.store new.store goes due.1.goes;
     }
 
@@ -604,7 +604,7 @@ module _ {S R : Type 0} (t : Turns S R) where
         → Underway t size start new (bodies ++ body ∷ []) (out ++ told)
     underway_taken size old new bodies out body told so_far (inl kept) =
         let was = so_far.going kept.was in
-        let asked : Entry R = entry body kept.reply kept.event in
+        let asked : Exchange R = exchange body kept.reply kept.event in
         let full : is_full size (was.held ++ asked ∷ []) ≡ false = sym (fills_as was size asked new kept.held) ∙ kept.short in
         let now : Going t (IsCut t.alone size) start new (bodies ++ body ∷ []) out = going_held was (IsCut t.alone size) asked new (cut_holds t.alone size was.groups was.held asked kept.held.plain was.cuts full) kept.held in
         record {
@@ -614,7 +614,7 @@ module _ {S R : Type 0} (t : Turns S R) where
         }
     underway_taken size old new bodies out body told so_far (inr (inl filled)) =
         let was = so_far.going filled.was in
-        let asked : Entry R = entry body filled.reply filled.event in
+        let asked : Exchange R = exchange body filled.reply filled.event in
         let group = was.held ++ asked ∷ [] in
         let full : is_full size group ≡ true = sym (fills_as was size asked filled.mid filled.held) ∙ filled.full in
         let between = goes_on start.store old.store filled.mid.store so_far.goes filled.held.goes in

@@ -9,7 +9,7 @@ use Rattle.oa_keeper.specs.Holding.{Carries, Commits, LeavesCommitted}
 use Rattle.oa_groups.specs.Groups.{fills}
 use Rattle.oa_groups.specs.Runs.{AllHoldState, HoldsState, MakesEvent}
 use Rattle.oa_store.specs.Writing.{Goes}
-use Rattle.oa_groups.specs.Turns.{Entry, Turns, entry}
+use Rattle.oa_groups.specs.Turns.{Exchange, Turns, exchange}
 
 -- pending: the replies that are held back; events: the bytes of the events that are not committed yet
 pub record Desk (S R D : Type 0) (g : Ghosts D) : Type 0 where
@@ -30,7 +30,7 @@ LeavesState {D} {g} old new P = LeavesOnly g.moment g.image_since old.disk new.d
 
 -- One request is answered by a turn, and its reply and its event are held. The images go on to hold what they held, which is
 -- what is held of the state while no event is in hand.
-pub record IsHeld {S R D : Type 0} {g : Ghosts D} (t : Turns S R) (asked : Entry R) (old new : Desk S R D g) : Type 0 where
+pub record IsHeld {S R D : Type 0} {g : Ghosts D} (t : Turns S R) (asked : Exchange R) (old new : Desk S R D g) : Type 0 where
   pub turn : t.Turn asked old.state new.state
   -- it is none that is a group of its own
   pub plain : t.alone asked.body ≡ false
@@ -56,10 +56,10 @@ pub record IsSettled {S R D : Type 0} {g : Ghosts D} (t : Turns S R) (told : Lis
 
 -- The checkpoint before a request's event was due, and failed: the group ends with this request, and is taken back. A turn without an
 -- event that changes nothing that images hold stands for the request.
-pub record IsFailed {S R D : Type 0} {g : Ghosts D} (t : Turns S R) (body : List ℕ) (told : List R) (old new : Desk S R D g) : Type 0 where
+pub record FailsAtCheckpoint {S R D : Type 0} {g : Ghosts D} (t : Turns S R) (body : List ℕ) (told : List R) (old new : Desk S R D g) : Type 0 where
   pub reply : R
   pub event : List ℕ
-  pub turn : t.Turn (entry body reply event) old.state new.state
+  pub turn : t.Turn (exchange body reply event) old.state new.state
   pub plain : t.alone body ≡ false
   pub due : IsDue t old.store old.state old.events body
   pub none : event ≡ []
@@ -70,7 +70,7 @@ pub record IsFailed {S R D : Type 0} {g : Ghosts D} (t : Turns S R) (body : List
   pub goes : Goes old.store new.store
 
 -- After a fault nothing is done.
-pub record IsOver {S R D : Type 0} {g : Ghosts D} (old new : Desk S R D g) : Type 0 where
+pub record IsAfterFault {S R D : Type 0} {g : Ghosts D} (old new : Desk S R D g) : Type 0 where
   pub was : old.store.stopped ≡ true
   pub is : new.store.stopped ≡ true
   pub disk : new.store.disk ≡ old.store.disk
@@ -79,7 +79,7 @@ pub record IsOver {S R D : Type 0} {g : Ghosts D} (old new : Desk S R D g) : Typ
 
 -- A request that is a group of its own is answered, with nothing in hand. It makes no event. Where it is done, the store goes on with the
 -- library of the new state; where it is not, the device is not called. A stop at any moment of it leaves the state before or the one after.
-pub record IsReplaced {S R D : Type 0} {g : Ghosts D} (t : Turns S R) (asked : Entry R) (told : List R)
+pub record IsAnsweredAlone {S R D : Type 0} {g : Ghosts D} (t : Turns S R) (asked : Exchange R) (told : List R)
     (old new : Desk S R D g) : Type 0 where
   pub turn : t.Turn asked old.state new.state
   pub alone : t.alone asked.body ≡ true
@@ -101,7 +101,7 @@ pub record IsKeptBack {S R D : Type 0} {g : Ghosts D} (t : Turns S R) (size : �
   pub was : old.store.stopped ≡ false
   pub reply : R
   pub event : List ℕ
-  pub held : IsHeld t (entry body reply event) old new
+  pub held : IsHeld t (exchange body reply event) old new
   pub short : fills size (length new.pending) (length new.events) ≡ false
   pub nothing : told ≡ []
 
@@ -112,18 +112,18 @@ pub record IsFilled {S R D : Type 0} {g : Ghosts D} (t : Turns S R) (size : ℕ)
   pub reply : R
   pub event : List ℕ
   pub mid : Desk S R D g
-  pub held : IsHeld t (entry body reply event) old mid
+  pub held : IsHeld t (exchange body reply event) old mid
   pub full : fills size (length mid.pending) (length mid.events) ≡ true
   pub settled : IsSettled t told mid new
 
 -- its checkpoint fails
 pub record IsFaulted {S R D : Type 0} {g : Ghosts D} (t : Turns S R) (body : List ℕ) (told : List R) (old new : Desk S R D g) : Type 0 where
   pub was : old.store.stopped ≡ false
-  pub failed : IsFailed t body told old new
+  pub failed : FailsAtCheckpoint t body told old new
 
 -- the device has failed before
 pub record IsTooLate {S R D : Type 0} {g : Ghosts D} (t : Turns S R) (body : List ℕ) (told : List R) (old new : Desk S R D g) : Type 0 where
-  pub over : IsOver old new
+  pub over : IsAfterFault old new
   pub told_is : told ≡ t.failed body ∷ []
 
 -- nothing was in hand
@@ -141,7 +141,7 @@ pub record IsLast {S R D : Type 0} {g : Ghosts D} (t : Turns S R) (told : List R
 
 -- the device has failed before
 pub record IsLeft {S R D : Type 0} {g : Ghosts D} (told : List R) (old new : Desk S R D g) : Type 0 where
-  pub over : IsOver old new
+  pub over : IsAfterFault old new
   pub nothing : told ≡ []
 
 -- The group in hand, if there is one, ends.
@@ -157,8 +157,8 @@ pub record IsApart {S R D : Type 0} {g : Ghosts D} (t : Turns S R) (body : List 
   pub after : List R
   pub told_are : told ≡ before ++ after
   pub flushed : IsFlushed t before old mid
-  pub going : mid.store.stopped ≡ false → (reply : R) × IsReplaced t (entry body reply []) after mid new
-  pub late : mid.store.stopped ≡ true → (after ≡ t.failed body ∷ []) × IsOver mid new
+  pub going : mid.store.stopped ≡ false → (reply : R) × IsAnsweredAlone t (exchange body reply []) after mid new
+  pub late : mid.store.stopped ≡ true → (after ≡ t.failed body ∷ []) × IsAfterFault mid new
 
 -- One request is taken, and these replies are handed out.
 abbrev pub IsTaken : {S R D : Type 0} {g : Ghosts D} → Turns S R → ℕ → List ℕ → List R → Desk S R D g → Desk S R D g → Type 0

@@ -4,42 +4,42 @@ use Rattle.oa_disk.specs.declared.disk.Disk.{Ghosts}
 use Rattle.oa_groups.specs.Desks.{Desk}
 use Rattle.oa_groups.specs.Faults.{IsWholeBefore}
 use Rattle.oa_groups.specs.Groups.{cut, events_in, groups_of, joined, rest_of}
-use Rattle.oa_groups.specs.Runs.{AllHoldState, CallsFor, HasMoments, InTurn, Run}
+use Rattle.oa_groups.specs.Runs.{AllHoldState, CallsFor, HasMoments, InTurn, TurnsOver}
 use Rattle.oa_store.specs.Writing.{Goes}
-use Rattle.oa_groups.specs.Turns.{Entry, Turns, body_of, reply_of}
+use Rattle.oa_groups.specs.Turns.{Exchange, Turns, body_of, reply_of}
 
 -- Which groups are whole is known, whatever comes later.
-abbrev pub IsCut : {R : Type 0} → (List ℕ → Bool) → ℕ → List (List (Entry R)) → List (Entry R) → Type 0
+abbrev pub IsCut : {R : Type 0} → (List ℕ → Bool) → ℕ → List (List (Exchange R)) → List (Exchange R) → Type 0
 IsCut {R} alone size groups held =
-    (later : List (Entry R)) → groups_of alone size (joined groups ++ (held ++ later)) ≡ groups ++ cut alone size held later
+    (later : List (Exchange R)) → groups_of alone size (joined groups ++ (held ++ later)) ≡ groups ++ cut alone size held later
 
 -- They are where a request comes next that is a group of its own.
-abbrev pub IsCutBefore : {R : Type 0} → (List ℕ → Bool) → ℕ → List (List (Entry R)) → List (Entry R) → Type 0
+abbrev pub IsCutBefore : {R : Type 0} → (List ℕ → Bool) → ℕ → List (List (Exchange R)) → List (Exchange R) → Type 0
 IsCutBefore {R} alone size groups held =
-    (asked : Entry R) (later : List (Entry R)) → alone asked.body ≡ true
+    (asked : Exchange R) (later : List (Exchange R)) → alone asked.body ≡ true
     → groups_of alone size (joined groups ++ (held ++ asked ∷ later)) ≡ groups ++ (rest_of held ++ (asked ∷ []) ∷ cut alone size [] later)
 
 -- The requests in hand are a group.
-abbrev pub IsGroup : {R : Type 0} → (List ℕ → Bool) → ℕ → List (List (Entry R)) → List (Entry R) → Type 0
-IsGroup alone size groups held = groups_of alone size (joined groups ++ held) ≡ groups ++ held ∷ []
+abbrev pub IsNextGroup : {R : Type 0} → (List ℕ → Bool) → ℕ → List (List (Exchange R)) → List (Exchange R) → Type 0
+IsNextGroup alone size groups held = groups_of alone size (joined groups ++ held) ≡ groups ++ held ∷ []
 
 -- The input ends with the requests in hand.
-abbrev pub IsEnd : {R : Type 0} → (List ℕ → Bool) → ℕ → List (List (Entry R)) → List (Entry R) → Type 0
+abbrev pub IsEnd : {R : Type 0} → (List ℕ → Bool) → ℕ → List (List (Exchange R)) → List (Exchange R) → Type 0
 IsEnd alone size groups held = groups_of alone size (joined groups ++ held) ≡ groups ++ rest_of held
 
 -- Some whole groups were answered, and the requests in hand are held. C says how the requests are cut.
-pub record Going {S R D : Type 0} {g : Ghosts D} (t : Turns S R) (C : List (List (Entry R)) → List (Entry R) → Type 0)
+pub record Going {S R D : Type 0} {g : Ghosts D} (t : Turns S R) (C : List (List (Exchange R)) → List (Exchange R) → Type 0)
     (start now : Desk S R D g) (bodies : List (List ℕ)) (out : List R) : Type 0 where
-  pub groups : List (List (Entry R))
-  pub held : List (Entry R)
+  pub groups : List (List (Exchange R))
+  pub held : List (Exchange R)
   pub committed : S
   pub cuts : C groups held
   pub bodies_are : bodies ≡ map body_of (joined groups ++ held)
   pub out_are : out ≡ map reply_of (joined groups)
   pub pending_are : now.pending ≡ map reply_of held
   pub events_are : now.events ≡ events_in held
-  pub stands : Run t start.state (joined groups) committed
-  pub runs : Run t committed held now.state
+  pub stands : TurnsOver t start.state (joined groups) committed
+  pub runs : TurnsOver t committed held now.state
   -- none of those in hand has replaced the library
   pub same : t.text now.state ≡ t.text committed
   pub same_bank : t.bank now.state ≡ t.bank committed
@@ -51,18 +51,18 @@ pub record Going {S R D : Type 0} {g : Ghosts D} (t : Turns S R) (C : List (List
   pub moments : HasMoments t start.store now.store start.state groups (length groups)
 
 -- A call of the device failed, in the group behind those that were answered. C says why it ends where it does, and what came behind it.
-pub record Faulted {S R D : Type 0} {g : Ghosts D} (t : Turns S R) (size : ℕ) (C : S → List (Entry R) → List (List ℕ) → Type 0)
+pub record Faulted {S R D : Type 0} {g : Ghosts D} (t : Turns S R) (size : ℕ) (C : S → List (Exchange R) → List (List ℕ) → Type 0)
     (start now : Desk S R D g) (bodies : List (List ℕ)) (replies : List R) : Type 0 where
-  pub groups : List (List (Entry R))
-  pub group : List (Entry R)
+  pub groups : List (List (Exchange R))
+  pub group : List (Exchange R)
   pub others : List (List ℕ)
   pub committed : S
-  pub cuts : IsGroup t.alone size groups group
+  pub cuts : IsNextGroup t.alone size groups group
   pub whole : C committed group others
   pub bodies_are : bodies ≡ map body_of (joined groups ++ group) ++ others
   pub replies_are : replies ≡ map reply_of (joined groups) ++ (map (λ asked. t.faulted asked.body) group ++ map t.failed others)
-  pub stands : Run t start.state (joined groups) committed
-  pub runs : Run t committed group now.state
+  pub stands : TurnsOver t start.state (joined groups) committed
+  pub runs : TurnsOver t committed group now.state
   pub called : CallsFor t committed group
   pub in_turn : InTurn t start.store.disk start.state (groups ++ group ∷ []) now.store.disk now.state
   pub moments : HasMoments t start.store now.store start.state (groups ++ group ∷ []) (length groups)

@@ -6,38 +6,38 @@ use Rattle.oa_journal.specs.declared.shape.Shape.TheVariants.{Two}
 use Rattle.oa_store.specs.Stores.{IsStoreIn}
 use Rattle.oa_store.specs.declared.store.Store.{Store}
 use Rattle.oa_groups.specs.Groups.{joined}
-use Rattle.oa_groups.specs.Turns.{Entry, Turns, entry}
+use Rattle.oa_groups.specs.Turns.{Exchange, Turns, exchange}
 
 -- the turns of a state, one after another
-abbrev pub Run : {S R : Type 0} → Turns S R → S → List (Entry R) → S → Type 0
-Run t old [] new = old ≡ new
-Run {S} t old (asked ∷ entries) new = (mid : S) × t.Turn asked old mid × Run t mid entries new
+abbrev pub TurnsOver : {S R : Type 0} → Turns S R → S → List (Exchange R) → S → Type 0
+TurnsOver t old [] new = old ≡ new
+TurnsOver {S} t old (asked ∷ entries) new = (mid : S) × t.Turn asked old mid × TurnsOver t mid entries new
 
 -- From this state some turn of the body makes an event.
 pub record MakesEvent {S R : Type 0} (t : Turns S R) (state : S) (body : List ℕ) : Type 0 where
   pub reply : R
   pub event : List ℕ
   pub after : S
-  pub turn : t.Turn (entry body reply event) state after
+  pub turn : t.Turn (exchange body reply event) state after
   pub some : 0 < length event
 
 -- One of these requests calls for the device, from the state before it in a run from this one: it makes an event, whether memory is found
 -- for it or not, or it replaces the library.
-pub record CallsFor {S R : Type 0} (t : Turns S R) (first : S) (entries : List (Entry R)) : Type 0 where
-  pub front : List (Entry R)
-  pub asked : Entry R
-  pub back : List (Entry R)
+pub record CallsFor {S R : Type 0} (t : Turns S R) (first : S) (entries : List (Exchange R)) : Type 0 where
+  pub front : List (Exchange R)
+  pub asked : Exchange R
+  pub back : List (Exchange R)
   pub are : entries ≡ front ++ asked ∷ back
   pub state : S
-  pub run : Run t first front state
+  pub run : TurnsOver t first front state
   pub calls : MakesEvent t state asked.body ⊎ ((t.alone asked.body ≡ true) × (t.is_done asked.reply ≡ true))
 
 -- Each group is answered on the disk, and from the state, with which the one before has ended. The device is called only in a group of
 -- which a request calls for it.
-abbrev pub InTurn : {S R D : Type 0} → Turns S R → D → S → List (List (Entry R)) → D → S → Type 0
+abbrev pub InTurn : {S R D : Type 0} → Turns S R → D → S → List (List (Exchange R)) → D → S → Type 0
 InTurn t old before [] new after = (new ≡ old) × (after ≡ before)
 InTurn {S} {R} {D} t old before (group ∷ groups) new after =
-    (mid : D) × (state : S) × Run t before group state × ((mid ≡ old) ⊎ CallsFor t before group) × InTurn t mid state groups new after
+    (mid : D) × (state : S) × TurnsOver t before group state × ((mid ≡ old) ⊎ CallsFor t before group) × InTurn t mid state groups new after
 
 -- the image is a store of what is held of the state
 abbrev pub HoldsState : {S R : Type 0} → Turns S R → S → List ℕ → Type 0
@@ -50,14 +50,14 @@ pub record AllHoldState {S R D : Type 0} {g : Ghosts D} (t : Turns S R) (store :
   pub all : AllHold store (t.held state)
 
 -- The image is a store of what is held of the state after so many of the groups, or more.
-pub record IsAfter {S R : Type 0} (t : Turns S R) (count : ℕ) (first : S) (groups : List (List (Entry R)))
+pub record IsAfter {S R : Type 0} (t : Turns S R) (count : ℕ) (first : S) (groups : List (List (Exchange R)))
     (image : List ℕ) : Type 0 where
-  pub done : List (List (Entry R))
-  pub later : List (List (Entry R))
+  pub done : List (List (Exchange R))
+  pub later : List (List (Exchange R))
   pub groups_are : groups ≡ done ++ later
   pub enough : count ≤ length done
   pub state : S
-  pub run : Run t first (joined done) state
+  pub run : TurnsOver t first (joined done) state
   pub holds : HoldsState t state image
 
 -- each is at least the one before it
@@ -68,7 +68,7 @@ Rises from (m ∷ moments) = (from ≤ m) × Rises m moments
 -- The moments of a run: number 0 is its start, and then there is one for each group that was answered. Each image since
 -- moment j is a store of the state after j groups of the run, or more.
 pub record IsRun {S R D : Type 0} (t : Turns S R) (moment : D → ℕ) (image_since : D → ℕ → List ℕ → Type 0) (old new : D)
-    (first : S) (groups : List (List (Entry R))) (count : ℕ) (moments : List ℕ) : Type 0 where
+    (first : S) (groups : List (List (Exchange R))) (count : ℕ) (moments : List ℕ) : Type 0 where
   pub start : slice_get moments 0 ≡ Some (moment old)
   pub rises : Rises (moment old) moments
   pub one_each : length moments ≡ count + 1
@@ -78,6 +78,6 @@ pub record IsRun {S R D : Type 0} (t : Turns S R) (moment : D → ℕ) (image_si
   pub before : (m : ℕ) (c : List ℕ) → m ≤ moment old → image_since new m c → image_since old m c ⊎ IsAfter t 0 first groups c
 
 -- Where each image holds the state at the start of a call on a store, there are moments of the run that it makes.
-abbrev pub HasMoments : {S R D : Type 0} {g : Ghosts D} → Turns S R → Store D g → Store D g → S → List (List (Entry R)) → ℕ → Type 0
+abbrev pub HasMoments : {S R D : Type 0} {g : Ghosts D} → Turns S R → Store D g → Store D g → S → List (List (Exchange R)) → ℕ → Type 0
 HasMoments {S} {R} {D} {g} t old new first groups count =
     AllHoldState t old first → (moments : List ℕ) × IsRun t g.moment g.image_since old.disk new.disk first groups count moments

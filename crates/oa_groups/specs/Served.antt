@@ -5,27 +5,27 @@ use Rattle.oa_store.specs.Writing.{Goes}
 use Rattle.oa_store.specs.declared.store.Store.{Store}
 use Rattle.oa_groups.specs.Faults.{IsFaultIn}
 use Rattle.oa_groups.specs.Groups.{groups_of, joined}
-use Rattle.oa_groups.specs.Runs.{AllHoldState, HasMoments, InTurn, Run}
-use Rattle.oa_groups.specs.Turns.{Entry, Turns, body_of, reply_of}
+use Rattle.oa_groups.specs.Runs.{AllHoldState, HasMoments, InTurn, TurnsOver}
+use Rattle.oa_groups.specs.Turns.{Exchange, Turns, body_of, reply_of}
 
 -- The replies to these bodies are those of a run, group for group. Where a call of the device failed, the run goes to the end
 -- of that group, all of which is answered by that; what comes behind it is not looked at.
-pub record Served {S R : Type 0} (t : Turns S R) (size : ℕ) (first : S) (bodies : List (List ℕ)) (replies : List R) (last : S)
-    (groups faulted : List (List (Entry R))) (others : List (List ℕ)) : Type 0 where
+pub record ServedInGroups {S R : Type 0} (t : Turns S R) (size : ℕ) (first : S) (bodies : List (List ℕ)) (replies : List R) (last : S)
+    (groups faulted : List (List (Exchange R))) (others : List (List ℕ)) : Type 0 where
   pub bodies_are : bodies ≡ map body_of (joined (groups ++ faulted)) ++ others
-  pub run : Run t first (joined (groups ++ faulted)) last
+  pub run : TurnsOver t first (joined (groups ++ faulted)) last
   pub groups_are : groups_of t.alone size (joined (groups ++ faulted)) ≡ groups ++ faulted
-  pub fault : (group : List (Entry R)) → faulted ≡ group ∷ [] → IsFaultIn t size first groups group others
+  pub fault : (group : List (Exchange R)) → faulted ≡ group ∷ [] → IsFaultIn t size first groups group others
   pub replies_are : replies ≡ map reply_of (joined groups) ++ (map (λ asked. t.faulted asked.body) (joined faulted) ++ map t.failed others)
 
 -- A call on a store that has not stopped: its replies are served, and there are the moments of its groups.
 pub record IsServed {S R D : Type 0} {g : Ghosts D} (t : Turns S R) (size : ℕ) (old new : Store D g) (before after : S)
     (bodies : List (List ℕ)) (replies : List R) : Type 0 where
-  pub groups : List (List (Entry R))
+  pub groups : List (List (Exchange R))
   -- the group in which the device failed
-  pub faulted : List (List (Entry R))
+  pub faulted : List (List (Exchange R))
   pub others : List (List ℕ)
-  pub served : Served t size before bodies replies after groups faulted others
+  pub served : ServedInGroups t size before bodies replies after groups faulted others
   pub well : new.stopped ≡ false → (faulted ≡ []) × (others ≡ [])
   pub fault : new.stopped ≡ true → length faulted ≡ 1
   -- what comes behind the fault's group calls nothing

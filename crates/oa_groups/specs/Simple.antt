@@ -2,7 +2,7 @@
 use Rattle.std.proofs.Common.{◌≡◌, ◌⊎◌, inl, inr, ◌==◌, Bool, true, false, true≢false, List, [], ◌∷◌, ℕ, drop, refl, sym, ap, ◌∙◌, subst}
 use Rattle.oa_journal.specs.Replays.{Replays}
 use Rattle.oa_table.specs.Tables.{TableValue}
-use Rattle.oa_groups.specs.Turns.{Entry, Turns}
+use Rattle.oa_groups.specs.Turns.{Exchange, Turns}
 
 pub record Kept : Type 0 where
   pub bank : ℕ
@@ -15,7 +15,7 @@ asks_library [] = false
 asks_library (b ∷ bytes) = b == 0
 
 -- its events make the new table
-pub record Changes (asked : Entry Bool) (old new : Kept) : Type 0 where
+pub record Changes (asked : Exchange Bool) (old new : Kept) : Type 0 where
   pub kind : asks_library asked.body ≡ false
   pub event : asked.event ≡ asked.body
   pub makes : Replays asked.body old.table new.table
@@ -24,14 +24,14 @@ pub record Changes (asked : Entry Bool) (old new : Kept) : Type 0 where
   pub told : asked.reply ≡ true
 
 -- its library takes the place of the other, and the table is carried
-pub record Replaces (asked : Entry Bool) (old new : Kept) : Type 0 where
+pub record ReplacesSimply (asked : Exchange Bool) (old new : Kept) : Type 0 where
   pub kind : asks_library asked.body ≡ true
   pub event : asked.event ≡ []
   pub is : new ≡ record { bank = old.bank; library = drop 1 asked.body; table = old.table }
   pub told : asked.reply ≡ true
 
 -- it is refused
-pub record Refuses (asked : Entry Bool) (old new : Kept) : Type 0 where
+pub record RefusesSimply (asked : Exchange Bool) (old new : Kept) : Type 0 where
   pub event : asked.event ≡ []
   pub same : new ≡ old
   pub told : asked.reply ≡ false
@@ -39,30 +39,30 @@ pub record Refuses (asked : Entry Bool) (old new : Kept) : Type 0 where
 pub no_event : (table : TableValue) → Replays [] table table
 no_event table = record { events = []; are = record { are = tt; whole = refl }; makes = refl }
 
-nothing : (asked : Entry Bool) (old new : TableValue) → asked.event ≡ [] → new ≡ old → Replays asked.event old new
+nothing : (asked : Exchange Bool) (old new : TableValue) → asked.event ≡ [] → new ≡ old → Replays asked.event old new
 nothing asked old new event same =
     let none = subst (λ (t : TableValue). Replays [] old t) (sym same) (no_event old) in
     subst (λ (l : List ℕ). Replays l old new) (sym event) none
 
-abbrev pub IsSimple : Entry Bool → Kept → Kept → Type 0
-IsSimple asked old new = Changes asked old new ⊎ (Replaces asked old new ⊎ Refuses asked old new)
+abbrev pub IsSimple : Exchange Bool → Kept → Kept → Type 0
+IsSimple asked old new = Changes asked old new ⊎ (ReplacesSimply asked old new ⊎ RefusesSimply asked old new)
 
-pub replays : (asked : Entry Bool) (old new : Kept) → IsSimple asked old new → Replays asked.event old.table new.table
+pub replays : (asked : Exchange Bool) (old new : Kept) → IsSimple asked old new → Replays asked.event old.table new.table
 replays asked old new (inl one) = subst (λ (l : List ℕ). Replays l old.table new.table) (sym one.event) one.makes
 replays asked old new (inr (inl one)) = nothing asked old.table new.table one.event (ap (λ (k : Kept). k.table) one.is)
 replays asked old new (inr (inr one)) = nothing asked old.table new.table one.event (ap (λ (k : Kept). k.table) one.same)
 
-pub leaves : (asked : Entry Bool) (old new : Kept) → IsSimple asked old new → asked.reply ≡ false → new ≡ old
+pub leaves : (asked : Exchange Bool) (old new : Kept) → IsSimple asked old new → asked.reply ≡ false → new ≡ old
 leaves asked old new (inl one) is = absurd (true≢false (sym one.told ∙ is))
 leaves asked old new (inr (inl one)) is = absurd (true≢false (sym one.told ∙ is))
 leaves asked old new (inr (inr one)) is = one.same
 
-pub stays : (asked : Entry Bool) (old new : Kept) → IsSimple asked old new → asks_library asked.body ≡ false → new.library ≡ old.library
+pub stays : (asked : Exchange Bool) (old new : Kept) → IsSimple asked old new → asks_library asked.body ≡ false → new.library ≡ old.library
 stays asked old new (inl one) plain = one.same
 stays asked old new (inr (inl one)) plain = absurd (true≢false (sym one.kind ∙ plain))
 stays asked old new (inr (inr one)) plain = ap (λ (k : Kept). k.library) one.same
 
-pub sized : (asked : Entry Bool) (old new : Kept) → IsSimple asked old new → new.bank ≡ old.bank
+pub sized : (asked : Exchange Bool) (old new : Kept) → IsSimple asked old new → new.bank ≡ old.bank
 sized asked old new (inl one) = one.same_bank
 sized asked old new (inr (inl one)) = ap (λ (k : Kept). k.bank) one.is
 sized asked old new (inr (inr one)) = ap (λ (k : Kept). k.bank) one.same

@@ -6,10 +6,10 @@ use Rattle.oa_groups.proofs.Calling.{chained, session_called, session_ended}
 use Rattle.oa_groups.proofs.Entries.{joined_two, run_append}
 use Rattle.oa_groups.specs.Groups.{joined}
 use Rattle.oa_groups.specs.Laws.{LateCallCounts}
-use Rattle.oa_groups.specs.Runs.{Run}
+use Rattle.oa_groups.specs.Runs.{TurnsOver}
 use Rattle.oa_groups.specs.Served.{IsServed}
-use Rattle.oa_groups.specs.Sessions.{Call as Called, IsCalled, IsSession, IsSessionOn, Sitting, answered_by, by_then}
-use Rattle.oa_groups.specs.Turns.{Entry}
+use Rattle.oa_groups.specs.Sessions.{AnsweredCall as Called, IsCalled, IsSession, IsSessionOn, Sitting, answered_by, by_then}
+use Rattle.oa_groups.specs.Turns.{Exchange}
 use Rattle.oa_record.specs.Replies.{ReplyValue}
 use Rattle.oa_server.specs.Requests.{failed, requests}
 use Rattle.oa_turn.specs.States.{State}
@@ -18,19 +18,19 @@ use Rattle.oa_server.specs.declared.storage.Storage.{Storage}
 use Rattle.oa_server.specs.declared.storage.Storage.TheVariants.{Disk, Memory}
 use Rattle.oa_store.specs.declared.store.Store.{Store}
 use Rattle.oa_history.specs.Kept.{Sits}
-use Rattle.oa_history.specs.Lived.{Made, Plays, bodies_of, call_of, heard_by}
+use Rattle.oa_history.specs.Lived.{Made, Plays, bodies_of, call_as_heard, heard_by}
 use Rattle.oa_history.specs.declared.session.Answer.{Answer}
-use Rattle.oa_history.specs.declared.session.Call.{Call}
+use Rattle.oa_history.specs.declared.session.ServerCall.{ServerCall}
 
 -- ---- a session under way
 
 -- Wherever the session will be stopped: what was answered by calls that had returned by then counts by the clock, too.
-abbrev pub CountsBy : State → List Call → List Answer → List (List (Entry ReplyValue)) → ℕ → Bool → State → List ℕ → Type 0
+abbrev pub CountsBy : State → List ServerCall → List Answer → List (List (Exchange ReplyValue)) → ℕ → Bool → State → List ℕ → Type 0
 CountsBy before calls answers groups total fault last moments =
     (stop : ℕ) → (count : ℕ) × Plays stop false before calls answers groups count fault last × (count ≤ total) × (count ≤ answered_by stop moments)
 
 -- A session was begun on the disk, and these calls were answered: it may go on, or the device has failed in it.
-pub record Underway {D : Type 0} {g : Ghosts D} (disk : D) (store : Store D g) (before : State) (calls : List Call) (answers : List Answer) (last : State) : Type 0 where
+pub record Underway {D : Type 0} {g : Ghosts D} (disk : D) (store : Store D g) (before : State) (calls : List ServerCall) (answers : List Answer) (last : State) : Type 0 where
   pub going : store.stopped ≡ false → (called : List (Called ReplyValue)) × (was : Sitting requests disk store before last called) × CountsBy before calls answers was.session.groups was.session.count false last was.session.moments
   pub late : store.stopped ≡ true → (called : List (Called ReplyValue)) × (was : IsSessionOn requests g disk store.disk before called last) × (was.stopped ≡ true) × CountsBy before calls answers was.groups was.count true last was.moments
 
@@ -57,8 +57,8 @@ heard_few stop moment here = by (nat_le moment stop)
 
 -- ---- the replies
 
-plays_push : (stop : ℕ) (was : Bool) (first : State) (calls : List Call) (answers : List Answer) (groups : List (List (Entry ReplyValue))) (count : ℕ) (fails : Bool) (mid : State) (call : Call) (answer : Answer) (own : List (List (Entry ReplyValue))) (here : ℕ) (is : Bool) (last : State)
-    → Plays stop was first calls answers groups count fails mid → IsCalled requests fails mid (call_of call answer) own here is last
+plays_push : (stop : ℕ) (was : Bool) (first : State) (calls : List ServerCall) (answers : List Answer) (groups : List (List (Exchange ReplyValue))) (count : ℕ) (fails : Bool) (mid : State) (call : ServerCall) (answer : Answer) (own : List (List (Exchange ReplyValue))) (here : ℕ) (is : Bool) (last : State)
+    → Plays stop was first calls answers groups count fails mid → IsCalled requests fails mid (call_as_heard call answer) own here is last
     → Plays stop was first (calls ++ call ∷ []) (answers ++ answer ∷ []) (groups ++ own) (count + heard_by stop answer.moment here) is last
 plays_push stop was first [] [] groups count fails mid call answer own here is last so_far called = (
   last,
@@ -67,8 +67,8 @@ plays_push stop was first [] [] groups count fails mid call answer own here is l
   [],
   here,
   0,
-  subst (λ (b : Bool). IsCalled requests b first (call_of call answer) own here is last) so_far.2 (subst (λ (s : State). IsCalled requests fails s (call_of call answer) own here is last) (sym so_far.3) called),
-  ap (λ (l : List (List (Entry ReplyValue))). l ++ own) so_far.0 ∙ sym (append-nil own),
+  subst (λ (b : Bool). IsCalled requests b first (call_as_heard call answer) own here is last) so_far.2 (subst (λ (s : State). IsCalled requests fails s (call_as_heard call answer) own here is last) (sym so_far.3) called),
+  ap (λ (l : List (List (Exchange ReplyValue))). l ++ own) so_far.0 ∙ sym (append-nil own),
   omega (arith, so_far.1),
   (refl, refl, refl, refl),
 )
@@ -82,13 +82,13 @@ plays_push stop was first (c ∷ cs) (a ∷ rest) groups count fails mid call an
   so_far.4,
   so_far.5 + heard_by stop answer.moment here,
   so_far.6,
-  ap (λ (l : List (List (Entry ReplyValue))). l ++ own) so_far.7 ∙ append_assoc so_far.2 so_far.3 own,
+  ap (λ (l : List (List (Exchange ReplyValue))). l ++ own) so_far.7 ∙ append_assoc so_far.2 so_far.3 own,
   omega (arith, so_far.8),
   plays_push stop so_far.1 so_far.0 cs rest so_far.3 so_far.5 fails mid call answer own here is last so_far.9 called,
 )
 
 -- a call behind a fault
-nothing : (call : Call) (answer : Answer) (last : State) → answer.replies.items ≡ map failed (bodies_of call) → IsCalled requests true last (call_of call answer) [] 0 true last
+nothing : (call : ServerCall) (answer : Answer) (last : State) → answer.replies.items ≡ map failed (bodies_of call) → IsCalled requests true last (call_as_heard call answer) [] 0 true last
 nothing call answer last told = record {
   answered = [];
   faulted = [];
@@ -109,13 +109,13 @@ nothing call answer last told = record {
 
 -- ---- a call
 
-module _ {D : Type 0} (g : Ghosts D) (disk : D) (before : State) (calls : List Call) (answers : List Answer) (call : Call) (answer : Answer) where
+module _ {D : Type 0} (g : Ghosts D) (disk : D) (before : State) (calls : List ServerCall) (answers : List Answer) (call : ServerCall) (answer : Answer) where
   module _ (old new : Store D g) (mid after : State) (called : List (Called ReplyValue)) (was : Sitting requests disk old before mid called) (is : IsServed requests call.group old new mid after (bodies_of call) answer.replies.items) (at : answer.moment ≡ g.moment new.disk)
       (so_far : CountsBy before calls answers was.session.groups was.session.count false mid was.session.moments) where
-    abbrev now : IsSession requests g.moment g.image_since disk new.disk before (called ++ (call_of call answer) ∷ []) after
-    now = session_called requests {g = g} disk old new before mid after called (call_of call answer) was is
+    abbrev now : IsSession requests g.moment g.image_since disk new.disk before (called ++ (call_as_heard call answer) ∷ []) after
+    now = session_called requests {g = g} disk old new before mid after called (call_as_heard call answer) was is
 
-    served : IsCalled requests false mid (call_of call answer) (is.groups ++ is.faulted) (length is.groups) new.stopped after
+    served : IsCalled requests false mid (call_as_heard call answer) (is.groups ++ is.faulted) (length is.groups) new.stopped after
     served = record {
       answered = is.groups;
       faulted = is.faulted;
@@ -142,20 +142,20 @@ module _ {D : Type 0} (g : Ghosts D) (disk : D) (before : State) (calls : List C
         by : (b : Bool) → nat_le answer.moment stop ≡ b → (so_far stop).0 + (if b then length is.groups else 0) ≤ answered_by stop now.moments
         by true le =
             let end : answer.moment ≤ stop = search (le, rules) in
-            let all : answered_by stop now.moments ≡ was.session.count + length is.groups = session_ended requests g.moment g.image_since disk new.disk before (called ++ (call_of call answer) ∷ []) after now stop (subst (λ (n : ℕ). n ≤ stop) at end) in
+            let all : answered_by stop now.moments ≡ was.session.count + length is.groups = session_ended requests g.moment g.image_since disk new.disk before (called ++ (call_as_heard call answer) ∷ []) after now stop (subst (λ (n : ℕ). n ≤ stop) at end) in
             omega (arith, all, (so_far stop).2)
         by false le =
-            let chain = chained requests {g = g} disk old new before mid after called (call_of call answer) was is in
+            let chain = chained requests {g = g} disk old new before mid after called (call_as_heard call answer) was is in
             let more = answered_more stop was.session.moments chain.1.0 chain.0 chain.1.1 in
             omega (arith, more, (so_far stop).3)
 
     -- without a fault it may go on
-    abbrev sits : new.stopped ≡ false → Sitting requests disk new before after (called ++ (call_of call answer) ∷ [])
+    abbrev sits : new.stopped ≡ false → Sitting requests disk new before after (called ++ (call_as_heard call answer) ∷ [])
     sits going = record {
       session = now;
       going = going;
       whole = let none : length is.faulted ≡ 0 = ap length (is.well going).0 in omega (arith, was.whole, length-append was.session.groups (is.groups ++ is.faulted), length-append is.groups is.faulted, none);
-      run = subst (λ (l : List (Entry ReplyValue)). Run requests before l after) (sym (joined_two was.session.groups (is.groups ++ is.faulted)))
+      run = subst (λ (l : List (Exchange ReplyValue)). TurnsOver requests before l after) (sym (joined_two was.session.groups (is.groups ++ is.faulted)))
           (run_append requests before (joined was.session.groups) mid (joined (is.groups ++ is.faulted)) after was.run is.served.run);
       all = is.all going was.all;
     }
@@ -163,18 +163,18 @@ module _ {D : Type 0} (g : Ghosts D) (disk : D) (before : State) (calls : List C
     underway_served : Underway disk new before (calls ++ call ∷ []) (answers ++ answer ∷ []) after
     underway_served = record {
       going = λ going. (
-        called ++ (call_of call answer) ∷ [],
+        called ++ (call_as_heard call answer) ∷ [],
         sits going,
         subst (λ (b : Bool). CountsBy before (calls ++ call ∷ []) (answers ++ answer ∷ []) now.groups now.count b after now.moments) going counts_served,
       );
-      late = λ stopped. (called ++ (call_of call answer) ∷ [], now, stopped, subst (λ (b : Bool). CountsBy before (calls ++ call ∷ []) (answers ++ answer ∷ []) now.groups now.count b after now.moments) stopped counts_served);
+      late = λ stopped. (called ++ (call_as_heard call answer) ∷ [], now, stopped, subst (λ (b : Bool). CountsBy before (calls ++ call ∷ []) (answers ++ answer ∷ []) now.groups now.count b after now.moments) stopped counts_served);
     }
 
   module _ (late_counts : LateCallCounts requests g) (now : D) (last : State) (called : List (Called ReplyValue)) (was : IsSessionOn requests g disk now before called last) (stopped : was.stopped ≡ true) (told : answer.replies.items ≡ map failed (bodies_of call))
       (so_far : CountsBy before calls answers was.groups was.count true last was.moments) where
-    pub counts_late : (session : IsSessionOn requests g disk now before (called ++ (call_of call answer) ∷ []) last) × (session.stopped ≡ true) × CountsBy before (calls ++ call ∷ []) (answers ++ answer ∷ []) session.groups session.count true last session.moments
+    pub counts_late : (session : IsSessionOn requests g disk now before (called ++ (call_as_heard call answer) ∷ []) last) × (session.stopped ≡ true) × CountsBy before (calls ++ call ∷ []) (answers ++ answer ∷ []) session.groups session.count true last session.moments
     counts_late =
-        let law = late_counts disk now before last called (call_of call answer) was stopped told in (
+        let law = late_counts disk now before last called (call_as_heard call answer) was stopped told in (
           law.0,
           law.1,
           λ stop.
@@ -183,7 +183,7 @@ module _ {D : Type 0} (g : Ghosts D) (disk : D) (before : State) (calls : List C
               let push = plays_push stop false before calls answers was.groups one.0 true last call answer [] 0 true last one.1 (nothing call answer last told) in
               let groups : was.groups ++ [] ≡ law.0.groups = append-nil was.groups ∙ sym law.2 in (
                 one.0 + heard_by stop answer.moment 0,
-                subst (λ (l : List (List (Entry ReplyValue))). Plays stop false before (calls ++ call ∷ []) (answers ++ answer ∷ []) l (one.0 + heard_by stop answer.moment 0) true last) groups push,
+                subst (λ (l : List (List (Exchange ReplyValue))). Plays stop false before (calls ++ call ∷ []) (answers ++ answer ∷ []) l (one.0 + heard_by stop answer.moment 0) true last) groups push,
                 omega (arith, one.2, few, law.3),
                 subst (λ (l : List ℕ). one.0 + heard_by stop answer.moment 0 ≤ answered_by stop l) (sym law.4) (omega (arith, one.3, few)),
               ),
@@ -203,7 +203,7 @@ module _ {D : Type 0} (g : Ghosts D) (disk : D) (before : State) (calls : List C
         late = λ again. subst (λ (s : State). (called : List (Called ReplyValue)) × (was : IsSessionOn requests g disk new.disk before called s) × (was.stopped ≡ true)
             × CountsBy before (calls ++ call ∷ []) (answers ++ answer ∷ []) was.groups was.count true s was.moments) (sym late.state)
             (subst (λ (d : D). (called : List (Called ReplyValue)) × (was : IsSessionOn requests g disk d before called mid) × (was.stopped ≡ true)
-            × CountsBy before (calls ++ call ∷ []) (answers ++ answer ∷ []) was.groups was.count true mid was.moments) (sym late.disk) (was.0 ++ (call_of call answer) ∷ [], counts.0, counts.1, counts.2));
+            × CountsBy before (calls ++ call ∷ []) (answers ++ answer ∷ []) was.groups was.count true mid was.moments) (sym late.disk) (was.0 ++ (call_as_heard call answer) ∷ [], counts.0, counts.1, counts.2));
       }
 
   pub on_storage : LateCallCounts requests g → (old new : Storage D g) (mid after : State) → OverStore old (λ store. Underway disk store before calls answers mid) → Serves call.group old new mid (bodies_of call) answer.replies.items after
@@ -223,10 +223,10 @@ none_on_store disk store before is = record {
 -- ---- all calls
 
 module _ {D : Type 0} (g : Ghosts D) (late_counts : LateCallCounts requests g) (disk : D) (before : State) where
-  goes_on : (old new : Storage D g) (mid last : State) (done calls : List Call) (told answers : List Answer) → OverStore old (λ store. Underway disk store before done told mid) → Made old mid calls answers new last
+  goes_on : (old new : Storage D g) (mid last : State) (done calls : List ServerCall) (told answers : List Answer) → OverStore old (λ store. Underway disk store before done told mid) → Made old mid calls answers new last
       → OverStore new (λ store. Underway disk store before (done ++ calls) (told ++ answers) last)
   goes_on old new mid last done [] told [] is made =
-      subst (λ (l : List Call). OverStore new (λ store. Underway disk store before l (told ++ []) last)) (sym (append-nil done))
+      subst (λ (l : List ServerCall). OverStore new (λ store. Underway disk store before l (told ++ []) last)) (sym (append-nil done))
       (subst (λ (l : List Answer). OverStore new (λ store. Underway disk store before done l last)) (sym (append-nil told))
       (subst (λ (s : State). OverStore new (λ store. Underway disk store before done told s)) (sym made.1)
       (subst (λ (s : Storage D g). OverStore s (λ store. Underway disk store before done told mid)) (sym made.0) is)))
@@ -234,7 +234,7 @@ module _ {D : Type 0} (g : Ghosts D) (late_counts : LateCallCounts requests g) (
   goes_on old new mid last done (c ∷ calls) told [] is made = absurd made
   goes_on old new mid last done (c ∷ calls) told (a ∷ answers) is made =
       let one = on_storage g disk before done told c a late_counts old made.0 mid made.1 is made.2 made.3 in
-      subst (λ (l : List Call). OverStore new (λ store. Underway disk store before l (told ++ a ∷ answers) last)) (append_assoc done (c ∷ []) calls)
+      subst (λ (l : List ServerCall). OverStore new (λ store. Underway disk store before l (told ++ a ∷ answers) last)) (append_assoc done (c ∷ []) calls)
       (subst (λ (l : List Answer). OverStore new (λ store. Underway disk store before ((done ++ c ∷ []) ++ calls) l last)) (append_assoc told (a ∷ []) answers)
       (goes_on made.0 new made.1 last (done ++ c ∷ []) calls (told ++ a ∷ []) answers one made.4))
 
@@ -242,13 +242,13 @@ module _ {D : Type 0} (g : Ghosts D) (late_counts : LateCallCounts requests g) (
   begun (Memory d) is = absurd is
   begun (Disk store) is = none_on_store disk store before is
 
-  pub all_made : (old new : Storage D g) (last : State) (calls : List Call) (answers : List Answer) → OverStore old (λ store. Sits disk store before) → Made old before calls answers new last
+  pub all_made : (old new : Storage D g) (last : State) (calls : List ServerCall) (answers : List Answer) → OverStore old (λ store. Sits disk store before) → Made old before calls answers new last
       → OverStore new (λ store. Underway disk store before calls answers last)
   all_made old new last calls answers is made = goes_on old new before last [] calls [] answers (begun old is) made
 
 -- ---- one call more is made
 
-pub made_push : {D : Type 0} {g : Ghosts D} (old : Storage D g) (first : State) (calls : List Call) (answers : List Answer) (mid : Storage D g) (state : State) (call : Call) (answer : Answer) (new : Storage D g) (last : State)
+pub made_push : {D : Type 0} {g : Ghosts D} (old : Storage D g) (first : State) (calls : List ServerCall) (answers : List Answer) (mid : Storage D g) (state : State) (call : ServerCall) (answer : Answer) (new : Storage D g) (last : State)
     → Made old first calls answers mid state → Serves call.group mid new state (bodies_of call) answer.replies.items last → answer.moment ≡ g.moment (disk_of new) → Made old first (calls ++ call ∷ []) (answers ++ answer ∷ []) new last
 made_push {D} {g} old first [] [] mid state call answer new last made serves at = (
   new,
@@ -262,10 +262,10 @@ made_push old first (c ∷ calls) [] mid state call answer new last made serves 
 made_push old first (c ∷ calls) (a ∷ answers) mid state call answer new last made serves at = (made.0, made.1, made.2, made.3, made_push made.0 made.1 calls answers mid state call answer new last made.4 serves at)
 
 -- the first i + 1 calls
-pub made_more : {D : Type 0} {g : Ghosts D} (old : Storage D g) (first : State) (calls : List Call) (i : ℕ) (answers all : List Answer) (mid : Storage D g) (state : State) (call : Call) (answer : Answer) (new : Storage D g) (last : State)
+pub made_more : {D : Type 0} {g : Ghosts D} (old : Storage D g) (first : State) (calls : List ServerCall) (i : ℕ) (answers all : List Answer) (mid : Storage D g) (state : State) (call : ServerCall) (answer : Answer) (new : Storage D g) (last : State)
     → i < length calls → get_or calls i call ≡ call → all ≡ answers ++ answer ∷ []
     → Made old first (take i calls) answers mid state → Serves call.group mid new state (bodies_of call) answer.replies.items last → answer.moment ≡ g.moment (disk_of new) → Made old first (take (i + 1) calls) all new last
 made_more old first calls i answers all mid state call answer new last within is all_are made serves at =
     let here : take (i + 1) calls ≡ take i calls ++ call ∷ [] = rw (take_more calls i call within, is) refl in
     subst (λ (l : List Answer). Made old first (take (i + 1) calls) l new last) (sym all_are)
-    (subst (λ (l : List Call). Made old first l (answers ++ answer ∷ []) new last) (sym here) (made_push old first (take i calls) answers mid state call answer new last made serves at))
+    (subst (λ (l : List ServerCall). Made old first l (answers ++ answer ∷ []) new last) (sym here) (made_push old first (take i calls) answers mid state call answer new last made serves at))

@@ -2,14 +2,14 @@
 use Rattle.std.proofs.Common.{rules, ◌≡◌, ℕ, suc, ◌+◌, ◌<◌, ◌≤◌, nat_le, ◌||◌, if◌then◌else◌, Bool, true, false, List, [], ◌∷◌, ◌++◌, map, length, refl, sym, ◌∙◌, ap, subst, arith, length-append}
 use Rattle.oa_model.specs.Limits.{group_bytes}
 use Rattle.oa_groups.specs.Groups.{cut, events_in, fills, is_full, joined, rest_of}
-use Rattle.oa_groups.specs.Turns.{Entry, Turns, body_of}
+use Rattle.oa_groups.specs.Turns.{Exchange, Turns, body_of}
 use Rattle.oa_history.specs.OneGroup.{FewAreOneGroup, NoneAlone}
 
-rest_few : {R : Type 0} (held : List (Entry R)) → length (rest_of held) ≤ 1
+rest_few : {R : Type 0} (held : List (Exchange R)) → length (rest_of held) ≤ 1
 rest_few [] = omega arith
 rest_few (asked ∷ held) = omega arith
 
-events_push : {R : Type 0} (held : List (Entry R)) (asked : Entry R) → length (events_in (held ++ asked ∷ [])) ≡ length (events_in held) + length asked.event
+events_push : {R : Type 0} (held : List (Exchange R)) (asked : Exchange R) → length (events_in (held ++ asked ∷ [])) ≡ length (events_in held) + length asked.event
 events_push [] asked = omega (arith, length-append asked.event [])
 events_push (x ∷ held) asked = omega (arith, events_push held asked, length-append x.event (events_in (held ++ asked ∷ [])), length-append x.event (events_in held))
 
@@ -24,7 +24,7 @@ filled_by_count size count bytes few is = by (nat_le size count) (nat_le group_b
     by false false one two is = absurd (cc is)
 
 module _ {R : Type 0} (alone : List ℕ → Bool) (size : ℕ) where
-  few_cut : (held entries : List (Entry R)) → length held + length entries ≤ size → length (events_in held) + length (events_in entries) < group_bytes → NoneAlone alone (map body_of entries) → length (cut alone size held entries) ≤ 1
+  few_cut : (held entries : List (Exchange R)) → length held + length entries ≤ size → length (events_in held) + length (events_in entries) < group_bytes → NoneAlone alone (map body_of entries) → length (cut alone size held entries) ≤ 1
   few_cut held [] short small none = rest_few held
   few_cut held (asked ∷ entries) short small none = rw none.0 (by (is_full size (held ++ asked ∷ [])) refl (λ few bytes. few_cut (held ++ asked ∷ []) entries few bytes none.1))
     where
@@ -45,7 +45,7 @@ module _ {R : Type 0} (alone : List ℕ → Bool) (size : ℕ) where
           here : size ≤ length (held ++ asked ∷ [])
           here = filled_by_count size (length (held ++ asked ∷ [])) (length (events_in (held ++ asked ∷ []))) (omega (arith, bytes, all, small)) full
 
-          last : (others : List (Entry R)) → length held + length (asked ∷ others) ≤ size → length ((held ++ asked ∷ []) ∷ cut alone size [] others) ≤ 1
+          last : (others : List (Exchange R)) → length held + length (asked ∷ others) ≤ size → length ((held ++ asked ∷ []) ∷ cut alone size [] others) ≤ 1
           last [] le = omega arith
           last (next ∷ others) le = absurd (omega (arith, here, long, le))
       by false going again = again (omega (arith, long, short)) (omega (arith, bytes, all, small))
@@ -65,7 +65,7 @@ few_are_one {S} {R} t was first call groups count is last called few none small 
     let entries = joined own in
     let within = none_front t.alone (map body_of entries) called.others (subst (λ (l : List (List ℕ)). NoneAlone t.alone l) served.bodies_are none) in
     let size : 0 + length entries ≤ call.size = omega (arith, few, ap length served.bodies_are, length-append (map body_of entries) called.others, length-map body_of entries) in
-    let bytes : length (events_in entries) < group_bytes = subst (λ (l : List (List (Entry R))). length (events_in (joined l)) < group_bytes) called.groups_are small in
+    let bytes : length (events_in entries) < group_bytes = subst (λ (l : List (List (Exchange R))). length (events_in (joined l)) < group_bytes) called.groups_are small in
     let from : 0 + length (events_in entries) < group_bytes = omega (arith, bytes) in
     let cut_few = few_cut t.alone call.size [] entries size from within in
-    subst (λ (l : List (List (Entry R))). length l ≤ 1) (served.groups_are ∙ sym called.groups_are) cut_few
+    subst (λ (l : List (List (Exchange R))). length l ≤ 1) (served.groups_are ∙ sym called.groups_are) cut_few

@@ -9,13 +9,13 @@ use Rattle.oa_idl.specs.Trees.{TreeValue}
 use Rattle.oa_journal.specs.Shapes.{body_bytes}
 use Rattle.oa_server.specs.Laws.{OpenedBegins}
 use Rattle.oa_turn.specs.Beginnings.{CanBegin}
-use Rattle.oa_server.specs.Openings.{Finds, IsNotOpened, IsOpened}
+use Rattle.oa_server.specs.Openings.{FindsState, IsNotOpened, IsOpened}
 use Rattle.oa_server.specs.Requests.{opened, requests}
 use Rattle.oa_turn.specs.States.{State, state_of}
 use Rattle.oa_server.specs.Storages.{OverStore, bank_of}
 use Rattle.oa_server.specs.declared.storage.Storage.{Storage}
 use Rattle.oa_server.specs.declared.storage.Storage.TheVariants.{Disk, Memory}
-use Rattle.oa_store.specs.Faults.{IsRefusal}
+use Rattle.oa_store.specs.Faults.{SpeaksOfContents}
 use Rattle.oa_store.specs.declared.fault.OpenFault.{OpenFault}
 use Rattle.oa_store.specs.declared.store.Store.{Store}
 use Rattle.oa_table.specs.Tables.{TableValue}
@@ -31,7 +31,7 @@ module _ {D : Type 0} {g : Ghosts D} (disk : D) (library : TreeValue) (state : S
     (holds : HoldsState requests state (g.contents disk)) (unlocked : opened state ≡ state) (is_its : library ≡ state.library) where
   found_is : (store : Store D g) (table : TableValue) → IsOpened g disk library store table → state_of (body_bytes store.bank.shape) library table ≡ state
   found_is store table is =
-      let finds : Finds (body_bytes store.bank.shape) library table state =
+      let finds : FindsState (body_bytes store.bank.shape) library table state =
       ⊎_elim (λ one. one) (λ two. two) ((is.found (honest store.disk)).one state state (λ c image. inl (subst (λ (l : List ℕ). HoldsState requests state l) (sym (alone c image)) holds))) in
       same_state (state_of (body_bytes store.bank.shape) library table) state finds.bank_is is_its (finds.table_is ∙ ap (λ (s : State). s.table) unlocked)
 
@@ -47,7 +47,7 @@ module _ {D : Type 0} {g : Ghosts D} (disk : D) (library : TreeValue) (state : S
   serves (Disk store) host library_is bank_is is = same_state host (state_of (body_bytes store.bank.shape) library host.table) bank_is library_is refl ∙ found_is store host.table is
 
   -- no refusal is true of it
-  pub never_refused : CanBegin state → (back : D) (fault : OpenFault) → IsNotOpened g disk back library fault → IsRefusal fault → ⊥
+  pub never_refused : CanBegin state → (back : D) (fault : OpenFault) → IsNotOpened g disk back library fault → SpeaksOfContents fault → ⊥
   never_refused begins back fault is refusal =
       let why = (is.told (honest back)).late refusal state state (λ c image. inl (subst (λ (l : List ℕ). HoldsState requests state l) (sym (alone c image)) holds)) begins begins in
       let text : canonical state.library ≡ canonical library = ap canonical (sym is_its) in

@@ -4,9 +4,9 @@ use Rattle.oa_disk.specs.declared.disk.Disk.{Ghosts}
 use Rattle.oa_groups.specs.Groups.{joined}
 use Rattle.oa_groups.specs.History.{MayBeLeft}
 use Rattle.oa_groups.specs.Laws.{EndCountsAll, LateCallCounts, OthersAreRun, StopKeepsAnswered}
-use Rattle.oa_groups.specs.Runs.{HoldsState, IsAfter, Run}
-use Rattle.oa_groups.specs.Sessions.{Call as Called, IsSessionOn, answered_by}
-use Rattle.oa_groups.specs.Turns.{Entry}
+use Rattle.oa_groups.specs.Runs.{HoldsState, IsAfter, TurnsOver}
+use Rattle.oa_groups.specs.Sessions.{AnsweredCall as Called, IsSessionOn, answered_by}
+use Rattle.oa_groups.specs.Turns.{Exchange}
 use Rattle.oa_idl.specs.Canonical.{canonical}
 use Rattle.oa_journal.specs.declared.shape.Shape.TheVariants.{Two}
 use Rattle.oa_record.specs.Replies.{ReplyValue}
@@ -23,7 +23,7 @@ use Rattle.oa_history.specs.Kept.{Sits}
 use Rattle.oa_history.specs.Lived.{Made, Stops}
 use Rattle.oa_history.proofs.Calls.{CountsBy, Underway, all_made}
 use Rattle.oa_history.specs.declared.session.Answer.{Answer}
-use Rattle.oa_history.specs.declared.session.Call.{Call}
+use Rattle.oa_history.specs.declared.session.ServerCall.{ServerCall}
 
 -- an image holds a state without its locks
 holds_opened : (state : State) (c : List ℕ) → HoldsState requests state c → HoldsState requests (opened state) c
@@ -33,16 +33,16 @@ opened_again : (state : State) → opened (opened state) ≡ opened state
 opened_again state = ap (λ (t : TableValue). record state { table = t }) (requests.reopens state).0
 
 -- an image that is left, and the state that it holds
-pub record Left (stop : ℕ) (calls : List Call) (answers : List Answer) (before : State) (c : List ℕ) : Type 0 where
+pub record Left (stop : ℕ) (calls : List ServerCall) (answers : List Answer) (before : State) (c : List ℕ) : Type 0 where
   pub after : State
   pub stops : Stops stop calls answers before after
   pub holds : HoldsState requests after c
   pub begins : CanBegin after
   pub unlocked : opened after ≡ after
 
-module _ (no_trace : OthersAreRun requests) (goes_on : (old new : State) (entries : List (Entry ReplyValue)) → CanBegin old → Run requests old entries new → CanBegin new) (opens : (state : State) → CanBegin state → CanBegin (opened state))
+module _ (no_trace : OthersAreRun requests) (goes_on : (old new : State) (entries : List (Exchange ReplyValue)) → CanBegin old → TurnsOver requests old entries new → CanBegin new) (opens : (state : State) → CanBegin state → CanBegin (opened state))
     {D : Type 0} (g : Ghosts D) (keeps : StopKeepsAnswered requests g) (counts_all : EndCountsAll requests g)
-    (disk : D) (calls : List Call) (answers : List Answer) (before : State) (begins : CanBegin before) (m stop : ℕ) (c : List ℕ) (start : g.moment disk ≤ m) where
+    (disk : D) (calls : List ServerCall) (answers : List Answer) (before : State) (begins : CanBegin before) (m stop : ℕ) (c : List ℕ) (start : g.moment disk ≤ m) where
   -- The image may be left by a stop at a moment: the one that was wanted, or the last one of the disk, where that comes before.
   session_leaves : (now : D) (last : State) (called : List (Called ReplyValue)) (fault : Bool) (session : IsSessionOn requests g disk now before called last)
       → CountsBy before calls answers session.groups session.count fault last session.moments

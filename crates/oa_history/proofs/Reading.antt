@@ -15,7 +15,7 @@ use Rattle.oa_journal.specs.Damages.{IsDamagedBody, bank_library, not_damaged, o
 use Rattle.oa_journal.specs.Unique.{one_head}
 use Rattle.oa_journal.specs.declared.shape.Shape.{Shape}
 use Rattle.oa_journal.specs.declared.shape.Shape.TheVariants.{One, Two}
-use Rattle.oa_store.specs.Faults.{IsDamaged, IsRefusal, Says}
+use Rattle.oa_store.specs.Faults.{IsDamaged, SpeaksOfContents, RefusalSays}
 use Rattle.oa_store.specs.Stores.{IsForeign, IsFormatted, IsStoreAt, IsStoreIn, body_place, head_place}
 use Rattle.oa_store.specs.declared.fault.OpenFault.{OpenFault}
 use Rattle.oa_store.specs.declared.fault.OpenFault.TheVariants.{NotAStore, OldFormat, LibraryDiffers, Damaged, Device, Memory}
@@ -61,7 +61,7 @@ module _ (size : ℕ) (contents : List ℕ) (shape : Shape) (text : List ℕ) (t
   never_foreign : IsForeign size contents → ⊥
   never_foreign says = ⊎_elim (λ lt. absurd (omega (arith, lt, long, is.2.head.size))) (λ none. none is.2.head.formatted) says
 
-  pub shown_to_all : (e : OpenFault) → IsRefusal e → Says None size contents e → ⊥
+  pub shown_to_all : (e : OpenFault) → SpeaksOfContents e → RefusalSays None size contents e → ⊥
   shown_to_all NotAStore r says = never_foreign says
   shown_to_all OldFormat r says = says
   shown_to_all LibraryDiffers r says = says
@@ -70,7 +70,7 @@ module _ (size : ℕ) (contents : List ℕ) (shape : Shape) (text : List ℕ) (t
   shown_to_all Memory r says = absurd r
 
   -- nor is it refused by whoever wants its own one, where it is in format 2
-  pub opened_by_its_own : (bank : ℕ) → shape ≡ Two bank → (e : OpenFault) → IsRefusal e → Says (Some text) size contents e → ⊥
+  pub opened_by_its_own : (bank : ℕ) → shape ≡ Two bank → (e : OpenFault) → SpeaksOfContents e → RefusalSays (Some text) size contents e → ⊥
   opened_by_its_own bank new NotAStore r says = never_foreign says
   opened_by_its_own bank new OldFormat r says =
       let old : shape ≡ One = its_shape says.chosen One says.library says.snapshot (its_bank says.chosen says.head) says.has.has in

@@ -19,7 +19,7 @@ use Rattle.oa_turn.specs.States.{State, state_of}
 use Rattle.oa_server.specs.Storages.{OverStore, bank_of}
 use Rattle.oa_server.specs.declared.storage.Storage.{Storage}
 use Rattle.oa_server.specs.declared.storage.Storage.TheVariants.{Disk, Memory}
-use Rattle.oa_store.specs.Faults.{IsRefusal, Says}
+use Rattle.oa_store.specs.Faults.{SpeaksOfContents, RefusalSays}
 use Rattle.oa_store.specs.Stores.{IsStoreIn}
 use Rattle.oa_store.specs.declared.fault.OpenFault.{OpenFault}
 use Rattle.oa_store.specs.declared.store.Store.{Store}
@@ -52,9 +52,9 @@ module _ {D : Type 0} {g : Ghosts D} (disk : D) (library : TreeValue) (state : S
 
   -- no refusal is true of it
   module _ (one_tree : (text : List ℕ) (s t : TreeValue) → IsTree text s → IsTree text t → s ≡ t) (read : (t : TreeValue) → IsChecked t → IsTree (canonical t) t) (long : length (g.contents disk) ≡ g.size_of disk) where
-    pub never_refused : (back : D) (fault : OpenFault) → IsNotOpened g disk back library fault → IsRefusal fault → ⊥
+    pub never_refused : (back : D) (fault : OpenFault) → IsNotOpened g disk back library fault → SpeaksOfContents fault → ⊥
     never_refused back fault is r = ⊎_elim
         (λ says. opened_by_its_own (g.size_of disk) (g.contents disk) (Two state.bank) (canonical state.library) (held_of state) long holds state.bank refl fault r
-        (subst (λ (l : TreeValue). Says (Some (canonical l)) (g.size_of disk) (g.contents disk) fault) is_its says))
+        (subst (λ (l : TreeValue). RefusalSays (Some (canonical l)) (g.size_of disk) (g.contents disk) fault) is_its says))
         (λ unfit. unfit.cannot (can_begin (same_library one_tree read) library (subst IsChecked (sym is_its) begins.checked) (g.contents disk) unfit.bank unfit.table unfit.holds state begins holds))
         (is.told (honest back)).says

@@ -4,7 +4,7 @@ use Rattle.std.proofs.lemmas.List.{append-nil, take_more}
 use Rattle.oa_disk.specs.declared.disk.Disk.{Ghosts}
 use Rattle.oa_groups.specs.Laws.{CallCounts, CallGoesOn, EndCountsAll, LateCallCounts, StopKeepsAnswered}
 use Rattle.oa_groups.specs.Runs.{IsAfter}
-use Rattle.oa_groups.specs.Sessions.{Call as Called, IsSessionOn, Sitting}
+use Rattle.oa_groups.specs.Sessions.{AnsweredCall as Called, IsSessionOn, Sitting}
 use Rattle.oa_record.specs.Replies.{ReplyValue}
 use Rattle.oa_server.specs.Requests.{requests}
 use Rattle.oa_turn.specs.States.{State}
@@ -16,7 +16,7 @@ use Rattle.oa_history.specs.Kept.{Sits}
 use Rattle.oa_history.specs.Lived.{bodies_of}
 use Rattle.oa_history.specs.Survived.{Answered, told_call, told_calls}
 use Rattle.oa_history.specs.declared.failing.Told.{Told}
-use Rattle.oa_history.specs.declared.session.Call.{Call}
+use Rattle.oa_history.specs.declared.session.ServerCall.{ServerCall}
 
 -- These calls were made since the start: the session may go on, or the device has failed in it.
 pub record AtWork {D : Type 0} {g : Ghosts D} (start : D) (store : Store D g) (before : State) (calls : List (Called ReplyValue)) (last : State) : Type 0 where
@@ -63,7 +63,7 @@ module _ {D : Type 0} (g : Ghosts D) (start : D) (before : State) where
     storage_more (Disk old) (Disk new) mid after calls call is serves = store_more old new mid after calls call is serves old.stopped refl
 
     -- all of them
-    pub all_answered : (old new : Storage D g) (mid last : State) (done : List (Called ReplyValue)) (calls : List Call) (told : List Told) → OverStore old (λ store. AtWork start store before done mid) → Answered old mid calls told new last
+    pub all_answered : (old new : Storage D g) (mid last : State) (done : List (Called ReplyValue)) (calls : List ServerCall) (told : List Told) → OverStore old (λ store. AtWork start store before done mid) → Answered old mid calls told new last
         → OverStore new (λ store. AtWork start store before (done ++ told_calls calls told) last)
     all_answered old new mid last done [] [] is answered =
         subst (λ (l : List (Called ReplyValue)). OverStore new (λ store. AtWork start store before l last)) (sym (append-nil done))
@@ -95,7 +95,7 @@ module _ {D : Type 0} (g : Ghosts D) (start : D) (before : State) where
 
 -- ---- one call more is made
 
-answered_push : {D : Type 0} {g : Ghosts D} (old : Storage D g) (first : State) (calls : List Call) (told : List Told) (mid : Storage D g) (state : State) (call : Call) (one : Told) (new : Storage D g) (last : State)
+answered_push : {D : Type 0} {g : Ghosts D} (old : Storage D g) (first : State) (calls : List ServerCall) (told : List Told) (mid : Storage D g) (state : State) (call : ServerCall) (one : Told) (new : Storage D g) (last : State)
     → Answered old first calls told mid state → Answered mid state (call ∷ []) (one ∷ []) new last → Answered old first (calls ++ call ∷ []) (told ++ one ∷ []) new last
 answered_push {D} {g} old first [] [] mid state call one new last so_far here =
     subst (λ (s : State). Answered old s (call ∷ []) (one ∷ []) new last) so_far.1 (subst (λ (s : Storage D g). Answered s state (call ∷ []) (one ∷ []) new last) so_far.0 here)
@@ -104,11 +104,11 @@ answered_push old first (c ∷ calls) [] mid state call one new last so_far here
 answered_push old first (c ∷ calls) (t ∷ told) mid state call one new last so_far here = (so_far.0, so_far.1, so_far.2, so_far.3, answered_push so_far.0 so_far.1 calls told mid state call one new last so_far.4 here)
 
 -- the first i + 1 calls
-pub answered_more : {D : Type 0} {g : Ghosts D} (old : Storage D g) (first : State) (calls : List Call) (i : ℕ) (told all : List Told) (mid : Storage D g) (state : State) (call : Call) (one : Told) (new : Storage D g) (last : State)
+pub answered_more : {D : Type 0} {g : Ghosts D} (old : Storage D g) (first : State) (calls : List ServerCall) (i : ℕ) (told all : List Told) (mid : Storage D g) (state : State) (call : ServerCall) (one : Told) (new : Storage D g) (last : State)
     → i < length calls → get_or calls i call ≡ call → all ≡ told ++ one ∷ [] → Answered old first (take i calls) told mid state → Serves call.group mid new state (bodies_of call) one.replies.items last
     → one.failures ≡ g.failures_of (disk_of new) → Answered old first (take (i + 1) calls) all new last
 answered_more old first calls i told all mid state call one new last within is all_are so_far serves count =
     let here : take (i + 1) calls ≡ take i calls ++ call ∷ [] = rw (take_more calls i call within, is) refl in
     subst (λ (l : List Told). Answered old first (take (i + 1) calls) l new last) (sym all_are)
-    (subst (λ (l : List Call). Answered old first l (told ++ one ∷ []) new last) (sym here)
+    (subst (λ (l : List ServerCall). Answered old first l (told ++ one ∷ []) new last) (sym here)
     (answered_push old first (take i calls) told mid state call one new last so_far (new, last, serves, count, (refl, refl))))

@@ -11,13 +11,13 @@ use Rattle.oa_server.specs.Requests.{opened, requests}
 use Rattle.oa_turn.specs.States.{State}
 use Rattle.oa_server.specs.Storages.{OverStore}
 use Rattle.oa_server.specs.declared.server.Server.{Server}
-use Rattle.oa_store.specs.Faults.{IsRefusal}
+use Rattle.oa_store.specs.Faults.{SpeaksOfContents}
 use Rattle.oa_store.specs.declared.store.Store.{Store}
 use Rattle.oa_history.specs.declared.fault.HistoryFault.{HistoryFault}
 use Rattle.oa_history.specs.declared.fault.HistoryFault.TheVariants.{Format, Open, Checkpoint, Text, Memory}
 
 -- A disk that was just made, or found after a crash: its clock stands at 0, and a crash leaves what a read gives.
-pub record IsSettled (disk : MemoryDisk) : Type 0 where
+pub record IsFreshDisk (disk : MemoryDisk) : Type 0 where
   pub start : moments_of disk ≡ 0
   pub alone : NothingPending contents_of image_of disk
 
@@ -32,14 +32,14 @@ pub record Sits {D : Type 0} {g : Ghosts D} (disk : D) (store : Store D g) (stat
   pub goes_on : store.stopped ≡ false
   pub sits : Sitting requests disk store state state []
 
-pub record Begins {D : Type 0} {g : Ghosts D} (disk : D) (server : Server D g) (state : State) : Type 0 where
+pub record BeginsServing {D : Type 0} {g : Ghosts D} (disk : D) (server : Server D g) (state : State) : Type 0 where
   pub host : server.clerk.host ≡ state
   pub over : OverStore server.clerk.storage (λ store. Sits disk store state)
 
 -- Why there is no history: memory is wanting, or room on the disk, or a call of it has failed. No opening was refused.
 abbrev pub IsWanting : HistoryFault → Type 0
 IsWanting (Format fault) = ⊤
-IsWanting (Open fault) = IsRefusal fault → ⊥
+IsWanting (Open fault) = SpeaksOfContents fault → ⊥
 IsWanting (Checkpoint fault) = ⊤
 IsWanting (Text fault) = ⊤
 IsWanting Memory = ⊤

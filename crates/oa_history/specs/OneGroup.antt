@@ -2,8 +2,8 @@
 use Rattle.std.specs.Prelude.{◌≡◌, ◌<◌, ◌≤◌, ℕ, Bool, false, List, [], ◌∷◌, length}
 use Rattle.oa_model.specs.Limits.{group_bytes}
 use Rattle.oa_groups.specs.Groups.{events_in, joined}
-use Rattle.oa_groups.specs.Sessions.{Call, IsCalled}
-use Rattle.oa_groups.specs.Turns.{Entry, Turns}
+use Rattle.oa_groups.specs.Sessions.{AnsweredCall, IsCalled}
+use Rattle.oa_groups.specs.Turns.{Exchange, Turns}
 
 -- none of these bodies is a group of its own
 abbrev pub NoneAlone : (List ℕ → Bool) → List (List ℕ) → Type 0
@@ -13,6 +13,6 @@ NoneAlone alone (body ∷ bodies) = (alone body ≡ false) × NoneAlone alone bo
 -- A call of no more bodies than a group has, none of which is a group of its own, is one group, unless its events fill one before its end.
 abbrev pub FewAreOneGroup : {S R : Type 0} → Turns S R → Type 0
 FewAreOneGroup {S} {R} t =
-    (was : Bool) (first : S) (call : Call R) (groups : List (List (Entry R))) (count : ℕ) (is : Bool) (last : S)
+    (was : Bool) (first : S) (call : AnsweredCall R) (groups : List (List (Exchange R))) (count : ℕ) (is : Bool) (last : S)
     → IsCalled t was first call groups count is last → length call.bodies ≤ call.size → NoneAlone t.alone call.bodies
     → length (events_in (joined groups)) < group_bytes → length groups ≤ 1

@@ -8,8 +8,8 @@ use Rattle.oa_disk.specs.declared.disk.Disk.{Ghosts}
 use Rattle.oa_disk.specs.declared.fuse.FuseDisk.{FuseDisk}
 use Rattle.oa_disk.specs.declared.memory.MemoryDisk.{MemoryDisk}
 use Rattle.oa_groups.specs.Runs.{AllHoldState, HoldsState, IsAfter}
-use Rattle.oa_groups.specs.Sessions.{Call as Called, Calls}
-use Rattle.oa_groups.specs.Turns.{Entry}
+use Rattle.oa_groups.specs.Sessions.{AnsweredCall as Called, ServesCalls}
+use Rattle.oa_groups.specs.Turns.{Exchange}
 use Rattle.oa_idl.specs.Canonical.{canonical}
 use Rattle.oa_record.specs.Replies.{ReplyValue}
 use Rattle.oa_server.specs.Openings.{IsOpened}
@@ -19,27 +19,27 @@ use Rattle.oa_turn.specs.States.{State}
 use Rattle.oa_server.specs.Storages.{OverStore, Serves, disk_of}
 use Rattle.oa_server.specs.declared.server.Server.{Server}
 use Rattle.oa_server.specs.declared.storage.Storage.{Storage}
-use Rattle.oa_history.specs.Kept.{Begins}
+use Rattle.oa_history.specs.Kept.{BeginsServing}
 use Rattle.oa_history.specs.Lived.{bodies_of}
 use Rattle.oa_history.specs.declared.failing.Fused.{Fused}
 use Rattle.oa_history.specs.declared.failing.Told.{Told}
-use Rattle.oa_history.specs.declared.session.Call.{Call}
+use Rattle.oa_history.specs.declared.session.ServerCall.{ServerCall}
 use Rattle.oa_history.specs.declared.surviving.Survived.{Survived}
 
 -- ---- the calls of a server
 
 -- one call as a part of a session
-abbrev pub told_call : Call → Told → Called ReplyValue
+abbrev pub told_call : ServerCall → Told → Called ReplyValue
 told_call call told = record { size = call.group; bodies = bodies_of call; replies = told.replies.items }
 
-abbrev pub told_calls : List Call → List Told → List (Called ReplyValue)
+abbrev pub told_calls : List ServerCall → List Told → List (Called ReplyValue)
 told_calls [] told = []
 told_calls (call ∷ calls) [] = []
 told_calls (call ∷ calls) (one ∷ told) = told_call call one ∷ told_calls calls told
 
 -- Calls of a server, each made where the one before has returned: what is said of each by `run`, and how often a call of the disk had
 -- failed when it had returned. Where one had failed before, the disk behind the call is the disk before it (`late`).
-abbrev pub Answered : {D : Type 0} {g : Ghosts D} → Storage D g → State → List Call → List Told → Storage D g → State → Type 0
+abbrev pub Answered : {D : Type 0} {g : Ghosts D} → Storage D g → State → List ServerCall → List Told → Storage D g → State → Type 0
 Answered old first [] [] new last = (new ≡ old) × (last ≡ first)
 Answered {D} {g} old first (call ∷ calls) (one ∷ told) new last =
     (mid : Storage D g) × (state : State) × Serves call.group old mid first (bodies_of call) one.replies.items state
@@ -47,7 +47,7 @@ Answered {D} {g} old first (call ∷ calls) (one ∷ told) new last =
 Answered old first [] (one ∷ told) new last = ⊥
 Answered old first (call ∷ calls) [] new last = ⊥
 
-abbrev pub AnsweredBy : {D : Type 0} {g : Ghosts D} → Server D g → List Call → List Told → Server D g → Type 0
+abbrev pub AnsweredBy : {D : Type 0} {g : Ghosts D} → Server D g → List ServerCall → List Told → Server D g → Type 0
 AnsweredBy old calls told new = Answered old.clerk.storage old.clerk.host calls told new.clerk.storage new.clerk.host
 
 -- ---- a disk that fails from some call on
@@ -58,15 +58,15 @@ pub record BeginsOver {g : Ghosts (FuseDisk MemoryDisk)} (disk : MemoryDisk) (fi
   pub fuse : FuseDisk MemoryDisk
   pub within : inner_of fuse ≡ disk
   pub passes : calls_left_of fuse ≡ first_failing - 1
-  pub begins : Begins fuse server state
+  pub begins : BeginsServing fuse server state
 
 -- each image holds the state
 abbrev pub HoldsAlone : MemoryDisk → State → Type 0
 HoldsAlone disk state = (c : List ℕ) → image_of disk c → HoldsState requests state c
 
 -- Such a server was opened, the calls were made, and it has handed the disk back.
-pub record IsPlayed (disk : MemoryDisk) (first_failing : ℕ) (calls : List Call) (told : List Told) (before : State)
-    (groups : List (List (Entry ReplyValue))) (count : ℕ) (back : MemoryDisk) : Type 0 where
+pub record IsPlayed (disk : MemoryDisk) (first_failing : ℕ) (calls : List ServerCall) (told : List Told) (before : State)
+    (groups : List (List (Exchange ReplyValue))) (count : ℕ) (back : MemoryDisk) : Type 0 where
   pub first : Fused
   pub begins : BeginsOver disk first_failing first.server before
   pub last : Fused
@@ -76,15 +76,15 @@ pub record IsPlayed (disk : MemoryDisk) (first_failing : ℕ) (calls : List Call
   -- answered by that, and all that comes behind it is refused.
   pub fault : Bool
   pub state : State
-  pub plays : Calls requests false before (told_calls calls told) groups count fault state
+  pub plays : ServesCalls requests false before (told_calls calls told) groups count fault state
   -- so many groups were answered: all, or all but that one
   pub all : fault ≡ false → length groups ≡ count
   pub all_but_one : fault ≡ true → length groups ≡ count + 1
 
 -- What calls over such a disk come to, and what it may hold when it is handed back.
-pub record IsWithstood (disk : MemoryDisk) (first_failing : ℕ) (calls : List Call) (told : Result (Vec Told) DeviceFault) (before : State)
+pub record IsWithstood (disk : MemoryDisk) (first_failing : ℕ) (calls : List ServerCall) (told : Result (Vec Told) DeviceFault) (before : State)
     (back : MemoryDisk) : Type 0 where
-  pub groups : List (List (Entry ReplyValue))
+  pub groups : List (List (Exchange ReplyValue))
   pub count : ℕ
   pub played : IfOk told (λ all. IsPlayed disk first_failing calls all.items before groups count back)
   -- no server was opened, and so there is no group
@@ -103,7 +103,7 @@ pub record IsTakenUp {D : Type 0} {g : Ghosts D} (disk : D) (server : Server D g
 
 -- Calls over a new store of a state, on a disk that fails from some call on; then the disk is opened as it was handed back, by way of
 -- nothing that fails.
-pub record IsSurvived (state : State) (calls : List Call) (first_failing : ℕ) (survived : Survived) : Type 0 where
+pub record IsSurvived (state : State) (calls : List ServerCall) (first_failing : ℕ) (survived : Survived) : Type 0 where
   pub new : MemoryDisk
   pub holds : HoldsAlone new state
   pub back : MemoryDisk

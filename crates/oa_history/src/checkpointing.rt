@@ -4,7 +4,7 @@ ghost use Rattle.oa_disk.specs.Memory.{contents_of};
 ghost use Rattle.oa_journal.specs.Shapes.{body_bytes};
 ghost use Rattle.oa_image.specs.Tables.{FitsBank};
 ghost use Rattle.oa_turn.specs.States.{State};
-ghost use Rattle.oa_history.specs.Kept.{IsKept, IsSettled, IsWanting};
+ghost use Rattle.oa_history.specs.Kept.{IsKept, IsFreshDisk, IsWanting};
 ghost use Rattle.oa_history.specs.Between.{IsCheckpointed, IsFoundStore};
 
 use crate::opening::library_on;
@@ -49,8 +49,8 @@ pub fn checkpointed(
     disk: MemoryDisk,
     stop: Stop,
 ) -> Result<(MemoryDisk, MemoryDisk), HistoryFault>
-    requires { IsSettled disk }
-    ensures settled { IfOk result (λ r. IsSettled r.1) }
+    requires { IsFreshDisk disk }
+    ensures settled { IfOk result (λ r. IsFreshDisk r.1) }
     ensures checkpointed { IfOk result (λ r. (state : State) → IsKept disk state
         → IsCheckpointed (contents_of disk) stop r.0 (contents_of r.1) state × IsKept r.1 state) }
     ensures wanting { IfErr result (λ fault. (state : State) → IsKept disk state → IsWanting fault) }

@@ -1,12 +1,12 @@
 //! Calls of a server over a disk that fails from some call on.
 ghost use Rattle.std.specs.Prelude.{◌≡◌, IfOk, IfErr};
 ghost use Rattle.oa_turn.specs.States.{State};
-ghost use Rattle.oa_history.specs.Kept.{IsKept, IsSettled, IsWanting};
+ghost use Rattle.oa_history.specs.Kept.{IsKept, IsFreshDisk, IsWanting};
 ghost use Rattle.oa_history.specs.Survived.{AnsweredBy, BeginsOver, HoldsAlone, IsWithstood};
 ghost use Rattle.oa_history.specs.declared.fault.HistoryFault.TheVariants.{Memory};
 
 use crate::opening::library_on;
-use crate::{Call, HistoryFault};
+use crate::{HistoryFault, ServerCall};
 use oa_disk::{DeviceFault, Disk, FuseDisk, MemoryDisk};
 use oa_record::Reply;
 use oa_server::Server;
@@ -35,7 +35,7 @@ fn opened_through(
     disk: MemoryDisk,
     first_failing: u64,
 ) -> Result<Result<Fused, (MemoryDisk, DeviceFault)>, HistoryFault>
-    requires { IsSettled disk }
+    requires { IsFreshDisk disk }
     ensures begins { IfOk result (λ outcome. IfOk outcome (λ fused. (state : State) → IsKept disk state
         → BeginsOver disk first_failing fused.server state)) }
     ensures refused { IfOk result (λ outcome. IfErr outcome (λ e. (state : State) → IsKept disk state → HoldsAlone e.0 state)) }
@@ -57,7 +57,7 @@ fn opened_through(
 fn told_by(
     alloc: Global,
     server: &mut Server<FuseDisk<MemoryDisk>>,
-    calls: &[Call],
+    calls: &[ServerCall],
 ) -> Result<Vec<Told>, HistoryFault>
     ensures answered { IfOk result (λ told. AnsweredBy server.old calls.now told.items server.new) }
     ensures wanting { IfErr result (λ fault. fault ≡ Memory) }
@@ -76,10 +76,10 @@ fn told_by(
 pub fn withstood(
     alloc: Global,
     disk: MemoryDisk,
-    calls: &[Call],
+    calls: &[ServerCall],
     first_failing: u64,
 ) -> Result<(Result<Vec<Told>, DeviceFault>, MemoryDisk), HistoryFault>
-    requires { IsSettled disk }
+    requires { IsFreshDisk disk }
     ensures withstood { IfOk result (λ r. (before : State) → IsKept disk before
         → IsWithstood disk first_failing calls.now r.0 before r.1) }
     ensures wanting { IfErr result (λ fault. (before : State) → IsKept disk before → IsWanting fault) }

@@ -4,8 +4,8 @@ ghost use Rattle.oa_disk.specs.Memory.{contents_of, moments_of};
 ghost use Rattle.oa_journal.specs.Shapes.{default_bank_bytes};
 ghost use Rattle.oa_turn.specs.States.{state_of};
 ghost use Rattle.oa_table.specs.Tables.{first_table};
-ghost use Rattle.oa_history.specs.Between.{IsFormatted};
-ghost use Rattle.oa_history.specs.Kept.{IsKept, IsSettled, IsWanting};
+ghost use Rattle.oa_history.specs.Between.{IsStoppedFormatting};
+ghost use Rattle.oa_history.specs.Kept.{IsKept, IsFreshDisk, IsWanting};
 
 use crate::HistoryFault;
 use oa_disk::{MemoryDisk, Tear};
@@ -24,9 +24,9 @@ pub fn formatted(
     moment: u64,
     tear: Tear,
 ) -> Result<(MemoryDisk, MemoryDisk), HistoryFault>
-    requires { IsSettled disk }
-    ensures settled { IfOk result (λ r. IsSettled r.1) }
-    ensures formatted { IfOk result (λ r. IsFormatted (contents_of disk) library.now moment tear r.0 (contents_of r.1)) }
+    requires { IsFreshDisk disk }
+    ensures settled { IfOk result (λ r. IsFreshDisk r.1) }
+    ensures formatted { IfOk result (λ r. IsStoppedFormatting (contents_of disk) library.now moment tear r.0 (contents_of r.1)) }
     ensures kept { IfOk result (λ r. moments_of r.0 ≤ moment → IsKept r.1 (state_of default_bank_bytes library.now first_table)) }
     ensures wanting { IfErr result IsWanting }
 {

@@ -1,5 +1,5 @@
 //! A session in which an object is made, and a checkpoint, stopped before anything of the session is kept, and at their ends.
-use crate::{Call, Session, Step, Stop, relive};
+use crate::{ServerCall, Session, Step, Stop, relive};
 use oa_disk::{MemoryDisk, Tear};
 use oa_idl::parse;
 use oa_typelib::check;
@@ -27,7 +27,7 @@ fn session(alloc: Global, moment: u64, tear: Tear) -> Option<Step> {
     let mut bodies = Vec::new(alloc);
     bodies.push(body).ok()?;
     let mut calls = Vec::new(alloc);
-    calls.push(Call::new(bodies, 1)).ok()?;
+    calls.push(ServerCall::new(bodies, 1)).ok()?;
     Some(Step::Session(Session {
         calls,
         moment,

@@ -4,7 +4,7 @@ ghost use Rattle.oa_disk.specs.Memory.{contents_of};
 ghost use Rattle.oa_journal.specs.Shapes.{default_bank_bytes};
 ghost use Rattle.oa_turn.specs.States.{State, state_of};
 ghost use Rattle.oa_table.specs.Tables.{first_table};
-ghost use Rattle.oa_history.specs.Kept.{IsKept, IsSettled, IsWanting};
+ghost use Rattle.oa_history.specs.Kept.{IsKept, IsFreshDisk, IsWanting};
 ghost use Rattle.oa_history.specs.Lived.{IsLived, IsStepped};
 
 use crate::opening::{begun, reopened, shown};
@@ -33,8 +33,8 @@ fn stepped(
     disk: MemoryDisk,
     step: &Step,
 ) -> Result<(Heard, MemoryDisk), HistoryFault>
-    requires { IsSettled disk }
-    ensures settled { IfOk result (λ r. IsSettled r.1) }
+    requires { IsFreshDisk disk }
+    ensures settled { IfOk result (λ r. IsFreshDisk r.1) }
     ensures stepped { IfOk result (λ r. (before : State) → IsKept disk before → (after : State)
         × IsStepped step.now r.0 (contents_of disk) before (contents_of r.1) after × IsKept r.1 after) }
     ensures wanting { IfErr result (λ fault. (before : State) → IsKept disk before → IsWanting fault) }

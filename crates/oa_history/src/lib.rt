@@ -22,6 +22,6 @@ pub use failing::{Fused, Told, withstood};
 pub use fault::HistoryFault;
 pub use formatting::formatted;
 pub use history::{Lived, relive};
-pub use session::{Answer, Call, Heard, Opened, Session, Step, Stop};
+pub use session::{Answer, Heard, Opened, ServerCall, Session, Step, Stop};
 pub use stopping::stopped;
 pub use surviving::{Survived, survive};

@@ -8,7 +8,7 @@ ghost use Rattle.oa_turn.specs.States.{State, state_of};
 ghost use Rattle.oa_store.specs.Stores.{IsStore};
 ghost use Rattle.oa_table.specs.Tables.{first_table};
 ghost use Rattle.oa_typelib.specs.Checked.{IsChecked};
-ghost use Rattle.oa_history.specs.Kept.{Begins, IsKept, IsSettled, IsWanting};
+ghost use Rattle.oa_history.specs.Kept.{BeginsServing, IsKept, IsFreshDisk, IsWanting};
 ghost use Rattle.oa_history.specs.declared.fault.HistoryFault.TheVariants.{Memory};
 
 use crate::{HistoryFault, Opened};
@@ -29,7 +29,7 @@ pub(crate) fn begun(
     disk: MemoryDisk,
     library: &Library,
 ) -> Result<MemoryDisk, HistoryFault>
-    ensures settled { IfOk result IsSettled }
+    ensures settled { IfOk result IsFreshDisk }
     ensures kept { IfOk result (λ disk. IsKept disk (state_of default_bank_bytes library.now first_table)) }
     ensures wanting { IfErr result IsWanting }
 {
@@ -79,8 +79,8 @@ pub(crate) fn library_on(alloc: Global, disk: &MemoryDisk) -> Result<Library, Hi
 
 /// Opens the store that the disk holds, with its own library.
 pub(crate) fn reopened(alloc: Global, disk: MemoryDisk) -> Result<Opened, HistoryFault>
-    requires { IsSettled disk }
-    ensures begins { IfOk result (λ opened. (state : State) → IsKept disk state → Begins disk opened.server state) }
+    requires { IsFreshDisk disk }
+    ensures begins { IfOk result (λ opened. (state : State) → IsKept disk state → BeginsServing disk opened.server state) }
     ensures wanting { IfErr result (λ fault. (state : State) → IsKept disk state → IsWanting fault) }
 {
     an_opening_finds_what_was_kept::<MemoryDisk>();

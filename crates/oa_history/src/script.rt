@@ -1,11 +1,11 @@
 //! One script in two sessions, with a checkpoint between them. Each of the three is stopped at every moment of its disk with each tear, and
 //! so is the opening behind each of these stops; and each session is played over disks that fail from each call on.
 ghost use Rattle.std.specs.Prelude.{◌≤◌, IfSome};
-ghost use Rattle.oa_history.specs.Kept.{IsSettled};
+ghost use Rattle.oa_history.specs.Kept.{IsFreshDisk};
 
 use crate::opening::begun;
 use crate::surviving::taken_up;
-use crate::{Call, Heard, Session, Stop, Told, checkpointed, stopped, withstood};
+use crate::{Heard, ServerCall, Session, Stop, Told, checkpointed, stopped, withstood};
 use oa_disk::{DeviceFault, MemoryDisk, Tear};
 use oa_idl::parse;
 use oa_model::HResult;
@@ -88,7 +88,7 @@ const TEARS: [Tear; 7] = [
 ];
 
 /// The requests of these lines, so many in each call, which is one group.
-fn calls_of(alloc: Global, lines: &[&str], group: usize) -> Option<Vec<Call>>
+fn calls_of(alloc: Global, lines: &[&str], group: usize) -> Option<Vec<ServerCall>>
     requires { 1 ≤ group }
 {
     let mut calls = Vec::new(alloc);
@@ -97,7 +97,7 @@ fn calls_of(alloc: Global, lines: &[&str], group: usize) -> Option<Vec<Call>>
         for line in part {
             bodies.push(hex::decode(alloc, *line).ok()?).ok()?;
         }
-        calls.push(Call::new(bodies, 7)).ok()?;
+        calls.push(ServerCall::new(bodies, 7)).ok()?;
     }
     Some(calls)
 }
@@ -131,14 +131,14 @@ fn place_of(text: &str, least: usize, most: usize) -> Option<usize> {
 
 /// A disk of zeros, with room for what is played on it.
 fn new_disk(alloc: Global) -> Option<MemoryDisk>
-    ensures { IfSome result IsSettled }
+    ensures { IfSome result IsFreshDisk }
 {
     MemoryDisk::new(alloc, 75_505_664, 200, 4000).ok()
 }
 
 /// A new store of the library.
 fn new_store(alloc: Global) -> Option<MemoryDisk>
-    ensures { IfSome result IsSettled }
+    ensures { IfSome result IsFreshDisk }
 {
     let library = check(alloc, parse(alloc, SMALL).ok()?).ok()?;
     begun(alloc, new_disk(alloc)?, &library).ok()
@@ -146,7 +146,7 @@ fn new_store(alloc: Global) -> Option<MemoryDisk>
 
 /// The disk once more, with what is read of it.
 fn again(disk: &MemoryDisk) -> Option<MemoryDisk>
-    ensures { IfSome result IsSettled }
+    ensures { IfSome result IsFreshDisk }
 {
     disk.crash(disk.moments(), Tear::Kept).ok()
 }
@@ -155,11 +155,11 @@ fn again(disk: &MemoryDisk) -> Option<MemoryDisk>
 fn played(
     alloc: Global,
     disk: &MemoryDisk,
-    calls: Vec<Call>,
+    calls: Vec<ServerCall>,
     moment: u64,
     tear: Tear,
 ) -> Option<(Heard, MemoryDisk)>
-    ensures { IfSome result (λ r. IsSettled r.1) }
+    ensures { IfSome result (λ r. IsFreshDisk r.1) }
 {
     let session = Session {
         calls,

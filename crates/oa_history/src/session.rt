@@ -8,29 +8,29 @@ use oa_server::Server;
 
 /// One call of a server: requests, of which so many are a group.
 #[derive(Drop)]
-pub struct Call {
+pub struct ServerCall {
     pub bodies: Vec<Vec<u8>>,
     pub group: usize,
     ghost some: { 1 ≤ group },
     ghost few: { group ≤ max_group },
 }
 
-impl Call {
+impl ServerCall {
     /// These requests, in groups of 1 to 1,024.
-    pub fn new(bodies: Vec<Vec<u8>>, group: usize) -> Call
+    pub fn new(bodies: Vec<Vec<u8>>, group: usize) -> ServerCall
         requires some { 1 ≤ group }
         requires few { group ≤ max_group }
         ensures bodies { result.bodies ≡ bodies }
         ensures group { result.group ≡ group }
     {
-        Call { bodies, group }
+        ServerCall { bodies, group }
     }
 }
 
 /// What a session asks, call by call, and where it is stopped.
 #[derive(Drop)]
 pub struct Session {
-    pub calls: Vec<Call>,
+    pub calls: Vec<ServerCall>,
     /// The moment of its stop, by its disk's clock, which begins at 0 with its opening: moment `2k - 1` lies within call k of the disk,
     /// and moment `2k` comes after it. A moment behind the session's end is its end.
     pub moment: u64,

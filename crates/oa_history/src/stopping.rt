@@ -2,12 +2,12 @@
 ghost use Rattle.std.specs.Prelude.{◌≡◌, IfOk, IfErr};
 ghost use Rattle.oa_disk.specs.Memory.{contents_of};
 ghost use Rattle.oa_turn.specs.States.{State};
-ghost use Rattle.oa_history.specs.Kept.{IsKept, IsSettled, IsWanting};
-ghost use Rattle.oa_history.specs.Lived.{IsStopped, MadeBy};
+ghost use Rattle.oa_history.specs.Kept.{IsKept, IsFreshDisk, IsWanting};
+ghost use Rattle.oa_history.specs.Lived.{IsHeardUntilStop, MadeBy};
 ghost use Rattle.oa_history.specs.declared.fault.HistoryFault.TheVariants.{Memory};
 
 use crate::opening::reopened;
-use crate::{Answer, Call, Heard, HistoryFault, Opened, Session};
+use crate::{Answer, Heard, HistoryFault, Opened, ServerCall, Session};
 use oa_disk::MemoryDisk;
 use oa_server::Server;
 use oa_server::laws::{
@@ -20,7 +20,7 @@ use std::alloc::Global;
 fn answered(
     alloc: Global,
     server: &mut Server<MemoryDisk>,
-    calls: &[Call],
+    calls: &[ServerCall],
 ) -> Result<Vec<Answer>, HistoryFault>
     ensures made { IfOk result (λ answers. MadeBy server.old calls.now answers.items server.new) }
     ensures wanting { IfErr result (λ fault. fault ≡ Memory) }
@@ -41,10 +41,10 @@ pub fn stopped(
     disk: MemoryDisk,
     session: &Session,
 ) -> Result<(Heard, MemoryDisk), HistoryFault>
-    requires { IsSettled disk }
-    ensures settled { IfOk result (λ r. IsSettled r.1) }
+    requires { IsFreshDisk disk }
+    ensures settled { IfOk result (λ r. IsFreshDisk r.1) }
     ensures stopped { IfOk result (λ r. (before : State) → IsKept disk before → (after : State)
-        × IsStopped session.now r.0 (contents_of disk) before (contents_of r.1) after × IsKept r.1 after) }
+        × IsHeardUntilStop session.now r.0 (contents_of disk) before (contents_of r.1) after × IsKept r.1 after) }
     ensures wanting { IfErr result (λ fault. (before : State) → IsKept disk before → IsWanting fault) }
 {
     no_trace_of_groups();

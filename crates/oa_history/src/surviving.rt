@@ -11,7 +11,7 @@ ghost use Rattle.oa_history.specs.Kept.{IsWanting};
 ghost use Rattle.oa_history.specs.Survived.{IsSurvived, IsTakenUp};
 
 use crate::opening::{begun, library_on, shown};
-use crate::{Call, HistoryFault, Opened, Told, withstood};
+use crate::{HistoryFault, Opened, ServerCall, Told, withstood};
 use oa_disk::{DeviceFault, MemoryDisk};
 use oa_idl::laws::{marked_is_read, one_tree};
 use oa_server::Server;
@@ -63,7 +63,7 @@ pub fn survive(
     alloc: Global,
     library: &Library,
     disk: MemoryDisk,
-    calls: &[Call],
+    calls: &[ServerCall],
     first_failing: u64,
 ) -> Result<Survived, HistoryFault>
     ensures survived { IfOk result (IsSurvived (state_of default_bank_bytes library.now first_table) calls.now first_failing) }

@@ -12,15 +12,15 @@ use Rattle.oa_idl.specs.declared.stop.ParseError.{ParseError}
 use Rattle.oa_idl.specs.declared.stop.ParseError.TheVariants as errors
 use Rattle.oa_idl.specs.Trees.{TreeValue}
 use Rattle.oa_idl.specs.Tokens.{AreTokens}
-use Rattle.oa_idl.specs.Forms.{Word, Then, ◌▸◌, nothing, Begins}
+use Rattle.oa_idl.specs.Forms.{Word, Then, ◌▸◌, nothing, BeginsWithWords}
 use Rattle.oa_idl.specs.Words.{passes, word_of, words_of}
-use Rattle.oa_idl.specs.Reading.Step.{Got, Stuck}
+use Rattle.oa_idl.specs.Reading.ReadStep.{Got, Stuck}
 use Rattle.oa_idl.specs.Grammar.{sign, library}
 use Rattle.oa_idl.specs.GrammarReading.{library_at}
-use Rattle.oa_idl.specs.Limits.{Keeps}
+use Rattle.oa_idl.specs.Limits.{KeepsLimit}
 use Rattle.oa_idl.specs.TextLimits.{limit_of}
 use Rattle.oa_idl.specs.Parsed.{IsParsed}
-use Rattle.oa_idl.specs.IsTree.{MayBeText, IsTree, place_after, Refused, AnyTree, BrokenAt, IsOver, IsAnswer, IsFound}
+use Rattle.oa_idl.specs.IsTree.{MayBeText, IsTree, place_after, Refused, AnyTree, BrokenAt, BreaksLimit, AnswersText, AnswersTree}
 use Rattle.oa_idl.proofs.Parses.{clash, begins_itself}
 use Rattle.oa_idl.proofs.OneList.{one_list}
 use Rattle.oa_idl.proofs.Whole.{library_parses}
@@ -59,7 +59,7 @@ closed_text : (t : TreeValue) (text : List Word) → library t text → Closed t
 closed_text t text f = closed_after text (λ a g. closed_after a (λ b h. closed_after b (λ c i. closed_after c (λ d j. closed_after d (λ e k. closed_after e (λ m l. closed_sign m l) k) j) i) h) g) f
 
 tree_is : (words : List Word) (t : TreeValue) (left : List Word) → Ended words → library_at words ≡ Got t left
-    → library t words × ((l : TreeLimit) → Keeps l t)
+    → library t words × ((l : TreeLimit) → KeepsLimit l t)
 tree_is words t left ended e =
     let h = (library_parses {n = length words}).takes words t left (omega arith) e in
     let c = closed_text t h.1.text h.1.form in
@@ -81,7 +81,7 @@ syntax_is text ts left place are e at =
       left = left;
       parts = h.parts;
       at = at ∙ place_is text ts h.front left h.parts;
-      never = λ t other _ f b. h.apart t other [] tt tt f (subst (Begins h.front left) (sym (append-nil other)) b);
+      never = λ t other _ f b. h.apart t other [] tt tt f (subst (BeginsWithWords h.front left) (sym (append-nil other)) b);
     }
 
 limit_is : (text : List ℕ) (ts : List Token) (left : List Word) (l : TreeLimit) → AreTokens 0 text ts
@@ -96,10 +96,10 @@ limit_is text ts left l are e =
       left = h.named.more;
       parts = h.parts ∙ ap (λ (ws : List Word). h.front ++ ws) h.named.is;
       named = h.named.named;
-      never = λ t other more k f b. h.apart t other [] tt (tree_keeps l t k) f (subst (λ (ws : List Word). Begins h.front ws (other ++ [])) (sym h.named.is) (more, append-nil other ∙ b));
+      never = λ t other more k f b. h.apart t other [] tt (tree_keeps l t k) f (subst (λ (ws : List Word). BeginsWithWords h.front ws (other ++ [])) (sym h.named.is) (more, append-nil other ∙ b));
     }
 
-limit_answer : (text : List ℕ) (l : TreeLimit) → IsOver l text → IsAnswer text (Err (errors.Limit (limit_of l)))
+limit_answer : (text : List ℕ) (l : TreeLimit) → BreaksLimit l text → AnswersText text (Err (errors.Limit (limit_of l)))
 limit_answer text limits.Name h = h
 limit_answer text limits.Interfaces h = h
 limit_answer text limits.Coclasses h = h
@@ -107,15 +107,15 @@ limit_answer text limits.Members h = h
 limit_answer text limits.Params h = h
 
 answer_is : (text : List ℕ) (ts : List Token) → AreTokens 0 text ts → MayBeText text → (r : Result TreeValue ParseError)
-    → IsParsed (length text) (ts ++ end_token (length text) ∷ []) (words_of text ts) r → IsAnswer text r
+    → IsParsed (length text) (ts ++ end_token (length text) ∷ []) (words_of text ts) r → AnswersText text r
 answer_is text ts are short (Ok t) p = let h = tree_is (words_of text ts) t p.0 (ended text 0 text ts are) p.1 in record { short = short; tokens = ts; are = are; form = h.0; kept = h.1 }
 answer_is text ts are short (Err (errors.Syntax place)) p = (short, syntax_is text ts p.0 place are p.1 p.2)
-answer_is text ts are short (Err (errors.Limit l)) p = subst (λ m. IsAnswer text (Err (errors.Limit m))) (sym p.2) (limit_answer text p.1 (short, limit_is text ts p.0 p.1 are p.3))
+answer_is text ts are short (Err (errors.Limit l)) p = subst (λ m. AnswersText text (Err (errors.Limit m))) (sym p.2) (limit_answer text p.1 (short, limit_is text ts p.0 p.1 are p.3))
 answer_is text ts are short (Err errors.Memory) p = short
 
 pub answered : (text bytes : List ℕ) (ts all : List Token) (r : Result TreeValue ParseError) → bytes ≡ text
     → all ≡ ts ++ end_token (length text) ∷ [] → AreTokens 0 text ts → MayBeText text
-    → IsParsed (length bytes) all (map (word_of bytes) all) r → IsAnswer text r
+    → IsParsed (length bytes) all (map (word_of bytes) all) r → AnswersText text r
 answered text bytes ts all r same more are short p =
     let a = subst (λ (b : List ℕ). IsParsed (length b) all (map (word_of b) all) r) same p in
     let b = subst (λ (us : List Token). IsParsed (length text) us (map (word_of text) us) r) more a in
@@ -138,7 +138,7 @@ unbroken text l t f h =
     let same = one_list 0 text f.tokens h.tokens f.are h.are in
     h.never t (words_of text f.tokens) h.left (f.kept l) f.form (ap (words_of text) same ∙ h.parts)
 
-pub found : (text : List ℕ) (r : Result TreeValue ParseError) → IsAnswer text r → (t : TreeValue) → IsTree text t → IsFound t r
+pub found : (text : List ℕ) (r : Result TreeValue ParseError) → AnswersText text r → (t : TreeValue) → IsTree text t → AnswersTree t r
 found text (Ok u) h t f = one_tree text u t h f
 found text (Err (errors.Syntax place)) h t f = refuted text place t f h.1
 found text (Err (errors.Limit texts.Text)) h t f = absurd (omega (arith, h, f.short))

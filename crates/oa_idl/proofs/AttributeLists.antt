@@ -3,8 +3,8 @@ use Rattle.std.proofs.Common.{◌≡◌, ℕ, Bool, true, List, Option, refl, sy
 use Rattle.std.specs.Prelude.{not, codes}
 use Rattle.oa_idl.specs.Forms.{Word, ◌▸◌, gathered, nowhere}
 use Rattle.oa_idl.specs.Words.{passes}
-use Rattle.oa_idl.specs.Reading.{Step, Reading, and_then, bind, give, gather_at}
-use Rattle.oa_idl.specs.Reading.Step.{Got, Stuck}
+use Rattle.oa_idl.specs.Reading.{ReadStep, Reading, and_then, bind, give, gather_at}
+use Rattle.oa_idl.specs.Reading.ReadStep.{Got, Stuck}
 use Rattle.oa_idl.specs.Grammar.{sign, next_attribute, last_attribute, attributes}
 use Rattle.oa_idl.specs.GrammarReading.{grown_at, next_at, next_grown_at, last_at, attributes_at}
 use Rattle.oa_idl.proofs.Parses.{Parses, Always, NoLimit, enough, said_parses, alike_parses, require_parses, with_parses, skip_parses}
@@ -12,7 +12,7 @@ use Rattle.oa_idl.proofs.Parses.{demand_parses, then_map, this_heads}
 use Rattle.oa_idl.proofs.Lists.{gather_parses}
 use Rattle.oa_idl.proofs.Heads.{sign_heads, this_some}
 
-module _ {S A B : Type 0} {attribute : A → List Word → Type 0} {may_come : S → A → Bool} {read : S → List Word → Step A}
+module _ {S A B : Type 0} {attribute : A → List Word → Type 0} {may_come : S → A → Bool} {read : S → List Word → ReadStep A}
     (grow : S → A → S) (full : S → Bool) (finish : S → Option B)
     (r : (n : ℕ) (s : S) → Parses n Always (λ x ws. (may_come s x ≡ true) × attribute x ws) NoLimit Always (read s))
     (not_full : (s : S) (x : A) → may_come s x ≡ true → not (full s) ≡ true)
@@ -33,7 +33,7 @@ module _ {S A B : Type 0} {attribute : A → List Word → Type 0} {may_come : S
     unfolding bind give
     regrow s next words = by_step (read s words)
       where
-        by_step : (o : Step A) → and_then (and_then o (λ x. give (grow s x))) next ≡ and_then o (λ x. next (grow s x))
+        by_step : (o : ReadStep A) → and_then (and_then o (λ x. give (grow s x))) next ≡ and_then o (λ x. next (grow s x))
         by_step (Got x left) = refl
         by_step (Stuck why left) = refl
 

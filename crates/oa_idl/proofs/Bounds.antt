@@ -19,7 +19,7 @@ use Rattle.oa_idl.specs.Trees.{TreeValue}
 use Rattle.oa_idl.specs.Words.{over, too_long}
 use Rattle.oa_idl.specs.Grammar.{one_more, no_entry, entry_grow, no_items, items_grow}
 use Rattle.oa_idl.specs.Limits.{IsShort, HasShortParameters, HasShortNames, one_interface, one_coclass, how_many, HasFewMembers}
-use Rattle.oa_idl.specs.Limits.{HasFewParameters, Keeps}
+use Rattle.oa_idl.specs.Limits.{HasFewParameters, KeepsLimit}
 use Rattle.oa_idl.proofs.Lists.{KeepsFrom}
 use Rattle.oa_idl.proofs.NameLimits.{over_is}
 use Rattle.oa_idl.proofs.ParameterTexts.{ParameterKeeps, ParameterKept, NoEndLimit}
@@ -101,7 +101,7 @@ items_keep l s (items.Coclass c ∷ xs) short few1 few2 few3 few4 = (
   items_keep l (items_grow s (items.Coclass c)) xs (λ e. (short e).1) (λ e. omega (arith, few1 e)) (λ e. omega (arith, few2 e)) (λ e. (few3 e).1) (λ e. (few4 e).1),
 )
 
-pub tree_keeps : (l : TreeLimit) (t : TreeValue) → Keeps l t → TreeKeeps l t
+pub tree_keeps : (l : TreeLimit) (t : TreeValue) → KeepsLimit l t → TreeKeeps l t
 tree_keeps limits.Name t k = (short_entry limits.Name t.name (λ _. k.0), items_keep limits.Name no_items t.items (λ _. k.1) (λ e. absurd cc) (λ e. absurd cc) (λ e. absurd cc) (λ e. absurd cc))
 tree_keeps limits.Interfaces t k = (short_entry limits.Interfaces t.name (λ e. absurd cc), items_keep limits.Interfaces no_items t.items (λ e. absurd cc) (λ _. omega (arith, k)) (λ e. absurd cc) (λ e. absurd cc) (λ e. absurd cc))
 tree_keeps limits.Coclasses t k = (short_entry limits.Coclasses t.name (λ e. absurd cc), items_keep limits.Coclasses no_items t.items (λ e. absurd cc) (λ e. absurd cc) (λ _. omega (arith, k)) (λ e. absurd cc) (λ e. absurd cc))
@@ -179,10 +179,10 @@ items_kept s (items.Coclass c ∷ xs) le1 le2 k =
           (tt, others.parameters);
     }
 
-pub tree_kept : (t : TreeValue) → TreeKept t → (l : TreeLimit) → Keeps l t
+pub tree_kept : (t : TreeValue) → TreeKept t → (l : TreeLimit) → KeepsLimit l t
 tree_kept t k l = by_limit l (items_kept no_items t.items (omega arith) (omega arith) k.1)
   where
-    by_limit : (l : TreeLimit) → KeptItems no_items t.items → Keeps l t
+    by_limit : (l : TreeLimit) → KeptItems no_items t.items → KeepsLimit l t
     by_limit limits.Name h = ((over_none limits.Name 1 0 t.name k.0).0, h.names)
     by_limit limits.Interfaces h = omega (arith, h.interfaces)
     by_limit limits.Coclasses h = omega (arith, h.coclasses)

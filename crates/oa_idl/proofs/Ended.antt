@@ -16,7 +16,7 @@ use Rattle.oa_idl.specs.Tokens.{front, closed, token, AreTokens}
 use Rattle.oa_idl.specs.Tokens.AreTokens.{End, Apart, Next, Rest}
 use Rattle.oa_idl.specs.Forms as forms
 use Rattle.oa_idl.specs.Words.{same_kind, passes, word_of, end_word, words_of}
-use Rattle.oa_idl.specs.IsTree.{place_of, place_after}
+use Rattle.oa_idl.specs.IsTree.{token_place, place_after}
 
 -- the last word is the end, and no other
 abbrev pub Ended : List forms.Word → Type 0
@@ -81,7 +81,7 @@ words_are text ts = map-append (word_of text) ts (end_token (length text) ∷ []
     last : word_of text (end_token (length text)) ≡ end_word
     last = rw (sub_self (length text)) refl
 
-past_end : (end : ℕ) (ts : List Token) (n : ℕ) → place_of end (slice_get (ts ++ end_token end ∷ []) n) ≡ place_of end (slice_get ts n)
+past_end : (end : ℕ) (ts : List Token) (n : ℕ) → token_place end (slice_get (ts ++ end_token end ∷ []) n) ≡ token_place end (slice_get ts n)
 past_end end [] zero = refl
 past_end end [] (suc n) = refl
 past_end end (t ∷ ts) zero = refl

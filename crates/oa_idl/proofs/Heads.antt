@@ -10,7 +10,7 @@ use Rattle.oa_model.specs.declared.var_type.VarType.{VarType}
 use Rattle.oa_idl.specs.declared.lexer.TokenKind.{TokenKind}
 use Rattle.oa_idl.specs.declared.lexer.TokenKind.TheVariants as kinds
 use Rattle.oa_idl.specs.Forms.{Word, Then, this, one}
-use Rattle.oa_idl.specs.Words.{same_kind, kind_of, passes, is_text, id_of, type_of, plain_type, if_cell, amount_of, characters_of}
+use Rattle.oa_idl.specs.Words.{same_kind, kind_of, passes, is_text, id_of, word_type, plain_type, if_cell, amount_of, characters_of}
 use Rattle.oa_idl.specs.Reading.{heads}
 use Rattle.oa_idl.specs.Grammar.{sign}
 use Rattle.oa_idl.proofs.Parses.{clash, test_cases, then_heads, this_heads}
@@ -70,9 +70,9 @@ no_type true in_array None is e = absurd cc
 no_type false in_array None is e = absurd cc
 no_type b in_array (Some t) is e = absurd cc
 
-pub type_no_sign : (s : List ℕ) → plain_type s ≡ None → (in_array : Bool) (t : VarType) (w : Word) → type_of in_array false w ≡ Some t
+pub type_no_sign : (s : List ℕ) → plain_type s ≡ None → (in_array : Bool) (t : VarType) (w : Word) → word_type in_array false w ≡ Some t
     → passes s w ≡ false
-unfolding passes type_of
+unfolding passes word_type
 type_no_sign s none in_array t w e = ⊎_elim (λ (p : passes s w ≡ true). absurd (clashing p)) (λ (p : passes s w ≡ false). p) (test_cases (passes s w))
   where
     clashing : passes s w ≡ true → ⊥

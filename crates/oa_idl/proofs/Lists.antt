@@ -6,10 +6,10 @@ use Rattle.std.proofs.Math.Logic.{⊎_elim}
 use Rattle.oa_idl.specs.declared.stop.TreeLimit.{TreeLimit}
 use Rattle.oa_idl.specs.declared.stop.Stop.{Stop}
 use Rattle.oa_idl.specs.declared.stop.Stop.TheVariants.{Syntax}
-use Rattle.oa_idl.specs.Forms.{Word, ◌▸◌, given, this, optional, with, listed, gathered, nowhere, Begins}
-use Rattle.oa_idl.specs.Reading.{Step, Reading, and_then, bind, give, fail, heads, done, choose, rest_of, perhaps_at, until, list_at}
+use Rattle.oa_idl.specs.Forms.{Word, ◌▸◌, given, this, optional, with, listed, gathered, nowhere, BeginsWithWords}
+use Rattle.oa_idl.specs.Reading.{ReadStep, Reading, and_then, bind, give, fail, heads, done, choose, later_words, perhaps_at, until, list_at}
 use Rattle.oa_idl.specs.Reading.{gather, gather_at}
-use Rattle.oa_idl.specs.Reading.Step.{Got, Stuck}
+use Rattle.oa_idl.specs.Reading.ReadStep.{Got, Stuck}
 use Rattle.oa_idl.proofs.Parses.{Parses, Always, NoLimit, clash, enough, stuck_at, syntax_stops, said_parses, alike_parses, with_parses}
 use Rattle.oa_idl.proofs.Parses.{given_parses, choose_parses, perhaps_parses, this_parses, then_heads, this_heads, add_fact, less_fact}
 
@@ -25,8 +25,8 @@ abbrev pub alone : {A B : Type 0} → B → List A × B
 alone b = ([], b)
 
 module _ {S A B : Type 0} {F : S → A → List Word → Type 0} {K : S → TreeLimit → A → Type 0} {P : S → A → Type 0} {item : S → List Word
-    → Step A}
-    {E : S → B → List Word → Type 0} {L : S → TreeLimit → B → Type 0} {Q : S → B → Type 0} {last : S → List Word → Step B}
+    → ReadStep A}
+    {E : S → B → List Word → Type 0} {L : S → TreeLimit → B → Type 0} {Q : S → B → Type 0} {last : S → List Word → ReadStep B}
     (grow : S → A → S) (test : Word → Bool) (apart : A → Word → Bool)
     (r : (n : ℕ) (s : S) → Parses n Always (F s) (K s) (P s) (item s))
     (e : (n : ℕ) (s : S) → Parses n Always (E s) (L s) (Q s) (last s))
@@ -100,7 +100,7 @@ module _ {S A B : Type 0} {F : S → A → List Word → Type 0} {K : S → Tree
             parts = left_is words why left w;
             named = syntax_stops words why left w;
             apart = λ p text more _ _ f b.
-                let empty : text ++ more ≡ [] = subst (λ (l : List Word). Begins [] l (text ++ more)) (sym gone) b in
+                let empty : text ++ more ≡ [] = subst (λ (l : List Word). BeginsWithWords [] l (text ++ more)) (sym gone) b in
                 let long = listed_some s p.0 p.1 text f in
                 absurd (omega (arith, long, ap length empty, length-append text more));
           };
@@ -181,8 +181,8 @@ module _ {S A B : Type 0} {F : S → A → List Word → Type 0} {K : S → Tree
 
 -- ---- where only the state is kept
 
-module _ {S A B : Type 0} {F : S → A → List Word → Type 0} {item : S → List Word → Step A} {E : S → B → List Word → Type 0} {last : S
-    → List Word → Step B}
+module _ {S A B : Type 0} {F : S → A → List Word → Type 0} {item : S → List Word → ReadStep A} {E : S → B → List Word → Type 0} {last : S
+    → List Word → ReadStep B}
     (grow : S → A → S) (test : Word → Bool)
     (r : (n : ℕ) (s : S) → Parses n Always (F s) NoLimit Always (item s))
     (e : (n : ℕ) (s : S) → Parses n Always (E s) NoLimit Always (last s))
@@ -201,12 +201,12 @@ module _ {S A B : Type 0} {F : S → A → List Word → Type 0} {item : S → L
     no_limits l s [] b = tt
     no_limits l s (x ∷ xs) b = (tt, no_limits l (grow s x) xs b)
 
-    at_end : (o : Step B) → and_then (and_then o (λ b. give ([], b))) (λ (p : List A × B). give p.1) ≡ o
+    at_end : (o : ReadStep B) → and_then (and_then o (λ b. give ([], b))) (λ (p : List A × B). give p.1) ≡ o
     unfolding give
     at_end (Got b left) = refl
     at_end (Stuck why left) = refl
 
-    put : (x : A) (o : Step (List A × B)) → and_then (and_then o (λ q. give (x ∷ q.0, q.1)))
+    put : (x : A) (o : ReadStep (List A × B)) → and_then (and_then o (λ q. give (x ∷ q.0, q.1)))
         (λ (p : List A × B). give p.1) ≡ and_then o (λ (p : List A × B). give p.1)
     unfolding give
     put x (Got q left) = refl
@@ -214,14 +214,14 @@ module _ {S A B : Type 0} {F : S → A → List Word → Type 0} {item : S → L
 
     after : (n : ℕ) (x : A) (t : S) (left : List Word)
         → and_then (until test nowhere item grow last n t left) (λ (p : List A × B). give p.1) ≡ gather test step last n t left
-        → and_then (and_then (until test nowhere item grow last n t (cond (heads (nowhere x) left) (rest_of left) left))
+        → and_then (and_then (until test nowhere item grow last n t (cond (heads (nowhere x) left) (later_words left) left))
         (λ q. give (x ∷ q.0, q.1))) (λ (p : List A × B). give p.1) ≡ gather test step last n t left
     after n x t left ih = rw (heads_nowhere x left) (put x (until test nowhere item grow last n t left) ∙ ih)
 
     by_item : (n : ℕ) (s : S) → ((t : S) (left : List Word) → and_then (until test nowhere item grow last n t left)
-        (λ (p : List A × B). give p.1) ≡ gather test step last n t left) → (o : Step A)
+        (λ (p : List A × B). give p.1) ≡ gather test step last n t left) → (o : ReadStep A)
         → and_then (and_then o (λ x left. and_then (until test nowhere item grow last n (grow s x)
-        (cond (heads (nowhere x) left) (rest_of left) left)) (λ q. give (x ∷ q.0, q.1))))
+        (cond (heads (nowhere x) left) (later_words left) left)) (λ q. give (x ∷ q.0, q.1))))
         (λ (p : List A × B). give p.1) ≡ and_then (and_then o (λ x. give (grow s x))) (λ t. gather test step last n t)
     unfolding give
     by_item n s ih (Got x left) = after n x (grow s x) left (ih (grow s x) left)

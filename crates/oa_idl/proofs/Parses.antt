@@ -8,11 +8,11 @@ use Rattle.oa_idl.specs.declared.stop.TreeLimit.{TreeLimit}
 use Rattle.oa_idl.specs.declared.stop.Stop.{Stop}
 use Rattle.oa_idl.specs.declared.stop.Stop.TheVariants.{Syntax, Memory}
 use Rattle.oa_idl.specs.declared.stop.Stop.TheVariants as stops
-use Rattle.oa_idl.specs.Forms.{Word, Then, ◌▸◌, nothing, given, this, one, optional, with, Begins}
-use Rattle.oa_idl.specs.Reading.{Step, Reading, and_then, bind, give, heads, done, choose, rest_of, this_at, meaning_of, unless_over}
+use Rattle.oa_idl.specs.Forms.{Word, Then, ◌▸◌, nothing, given, this, one, optional, with, BeginsWithWords}
+use Rattle.oa_idl.specs.Reading.{ReadStep, Reading, and_then, bind, give, heads, done, choose, later_words, this_at, meaning_of, unless_over}
 use Rattle.oa_idl.specs.Reading.{if_meant, one_at, perhaps_at, require, demand}
 use Rattle.oa_idl.specs.Words.{never_over, NamedAt}
-use Rattle.oa_idl.specs.Reading.Step.{Got, Stuck}
+use Rattle.oa_idl.specs.Reading.ReadStep.{Got, Stuck}
 
 -- ---- what the laws say
 
@@ -45,11 +45,11 @@ pub record Stops {C : Type 0} (R : C → Type 0) (F : C → List Word → Type 0
   pub front : List Word
   pub parts : words ≡ front ++ left
   pub named : StopsAt why left
-  pub apart : (c : C) (text more : List Word) → R c → Keeps K why c → F c text → Begins front left (text ++ more) → ⊥
+  pub apart : (c : C) (text more : List Word) → R c → Keeps K why c → F c text → BeginsWithWords front left (text ++ more) → ⊥
 
 -- R says which values are meant, K which of them keep a limit, and Q what is known of a value that was read
 pub record Parses (n : ℕ) {C : Type 0} (R : C → Type 0) (F : C → List Word → Type 0) (K : TreeLimit → C → Type 0) (Q : C → Type 0)
-    (read : List Word → Step C) : Type 0 where
+    (read : List Word → ReadStep C) : Type 0 where
   pub same : (x y : C) (a b s t : List Word) → R x → R y → F x a → F y b → a ++ s ≡ b ++ t → (x ≡ y) × (s ≡ t)
   pub takes : (words : List Word) (x : C) (left : List Word) → length words ≤ n → read words ≡ Got x left
       → (R x × Q x) × Takes (F x) words left
@@ -64,31 +64,31 @@ NoLimit l x = Unit {0}
 
 -- ---- steps and lists
 
-abbrev pub stuck_at : {A : Type 0} → Stop → List Word → Step A
+abbrev pub stuck_at : {A : Type 0} → Stop → List Word → ReadStep A
 stuck_at why left = Stuck why left
 
 abbrev some : {A : Type 0} → A → Option A
 some x = Some x
 
-abbrev pub got : {A : Type 0} → A → List Word → Step A
+abbrev pub got : {A : Type 0} → A → List Word → ReadStep A
 got x left = Got x left
 
 got_is : {A : Type 0} (x y : A) (s t : List Word) → got x s ≡ Got y t → (x ≡ y) × (s ≡ t)
 got_is x y s t e = (cc, cc)
 
-pub bind_got : {A B : Type 0} (r : Step A) (next : A → Reading B) (y : B) (t : List Word) → and_then r next ≡ Got y t
+pub bind_got : {A B : Type 0} (r : ReadStep A) (next : A → Reading B) (y : B) (t : List Word) → and_then r next ≡ Got y t
     → (x : A) × (s : List Word) × (r ≡ Got x s) × (next x s ≡ Got y t)
 bind_got (Got x s) next y t e = (x, s, refl, e)
 bind_got (Stuck why s) next y t e = absurd cc
 
 -- the first reading stopped, or the second did
-pub record Later {A B : Type 0} (r : Step A) (next : A → List Word → Step B) (why : Stop) (t : List Word) : Type 0 where
+pub record Later {A B : Type 0} (r : ReadStep A) (next : A → List Word → ReadStep B) (why : Stop) (t : List Word) : Type 0 where
   pub value : A
   pub left : List Word
   pub first : r ≡ Got value left
   pub second : next value left ≡ Stuck why t
 
-bind_stuck : {A B : Type 0} (r : Step A) (next : A → Reading B) (why : Stop) (t : List Word) → and_then r next ≡ Stuck why t
+bind_stuck : {A B : Type 0} (r : ReadStep A) (next : A → Reading B) (why : Stop) (t : List Word) → and_then r next ≡ Stuck why t
     → (r ≡ Stuck why t) ⊎ Later r next why t
 bind_stuck {A} {B} (Got x s) next why t e = inr (record { value = x; left = s; first = refl; second = e })
 bind_stuck {A} {B} (Stuck w s) next why t e = inl (same_stop w why s t e)
@@ -105,11 +105,11 @@ apart_cons : (w v : Word) (s t : List Word) → w ∷ s ≡ v ∷ t → (w ≡ v
 apart_cons w v s t e = (cc, cc)
 
 -- what begins with two stretches goes on after the first as the second does
-begins_after : (a b left words : List Word) → Begins (a ++ b) left words → (s : List Word) × (words ≡ a ++ s) × Begins b left s
+begins_after : (a b left words : List Word) → BeginsWithWords (a ++ b) left words → (s : List Word) × (words ≡ a ++ s) × BeginsWithWords b left s
 begins_after a b [] words e = (b, e, refl)
 begins_after a b (w ∷ left) words e = (b ++ w ∷ e.0, e.1 ∙ append_assoc a b (w ∷ e.0), (e.0, refl))
 
-begins_heads : (test : Word → Bool) (front left words other : List Word) → words ≡ front ++ left → Begins front left other
+begins_heads : (test : Word → Bool) (front left words other : List Word) → words ≡ front ++ left → BeginsWithWords front left other
     → heads test words ≡ heads test other
 begins_heads test front [] words other e b = ap (heads test) (e ∙ append-nil front ∙ sym b)
 begins_heads test [] (w ∷ left) words other e b = ap (heads test) e ∙ ap (heads test) (sym b.1)
@@ -136,7 +136,7 @@ this_parses {n} test = record {
     same_one a b s t f g e = (refl, (apart_cons f.word g.word s t (ap (λ (ws : List Word). ws ++ s) (sym f.parts) ∙ e ∙ ap (λ (ws : List Word). ws ++ t) g.parts)).1)
 
     takes_one : (words : List Word) (x : Unit {0}) (left : List Word)
-        → cond (heads test words) (got done (rest_of words)) (stuck_at Syntax words) ≡ Got x left
+        → cond (heads test words) (got done (later_words words)) (stuck_at Syntax words) ≡ Got x left
         → (Always x × Always x) × Takes (this test) words left
     takes_one [] x left e = absurd cc
     takes_one (w ∷ words) x left e = taken (test w) refl e
@@ -147,13 +147,13 @@ this_parses {n} test = record {
         taken false is e = absurd cc
 
     stops_one : (words : List Word) (why : Stop) (left : List Word)
-        → cond (heads test words) (got done (rest_of words)) (stuck_at Syntax words) ≡ Stuck why left
+        → cond (heads test words) (got done (later_words words)) (stuck_at Syntax words) ≡ Stuck why left
         → Stops Always (λ (_ : Unit {0}). this test) NoLimit words why left
     stops_one [] why left e = record {
       front = [];
       parts = left_is e;
       named = syntax_stops [] why left e;
-      apart = λ c text more _ _ f b. never text more f (subst (λ (l : List Word). Begins [] l (text ++ more)) (sym (left_is e)) b);
+      apart = λ c text more _ _ f b. never text more f (subst (λ (l : List Word). BeginsWithWords [] l (text ++ more)) (sym (left_is e)) b);
     }
       where
         left_is : stuck_at {A = Unit {0}} Syntax [] ≡ Stuck why left → [] ≡ left
@@ -170,7 +170,7 @@ this_parses {n} test = record {
           front = [];
           parts = left_is e;
           named = syntax_stops (w ∷ words) why left e;
-          apart = λ c text more _ _ f b. never text more f (subst (λ (l : List Word). Begins [] l (text ++ more)) (sym (left_is e)) b);
+          apart = λ c text more _ _ f b. never text more f (subst (λ (l : List Word). BeginsWithWords [] l (text ++ more)) (sym (left_is e)) b);
         }
           where
             left_is : stuck_at {A = Unit {0}} Syntax (w ∷ words) ≡ Stuck why left → w ∷ words ≡ left
@@ -229,7 +229,7 @@ with_known_parses {n} {m} {A} {C} {F} {K} {P} {H} {R} {G} {L} {Q} {read} {next} 
           parts = s.parts;
           named = s.named;
           apart = λ c text more h k f b.
-              s.apart f.value f.form.front (f.form.back ++ more) tt (keeps why f.value c f.form.back h f.form.second k) f.form.first (subst (Begins s.front left) (sym (regroup text f.form.front f.form.back more f.form.parts)) b);
+              s.apart f.value f.form.front (f.form.back ++ more) tt (keeps why f.value c f.form.back h f.form.second k) f.form.first (subst (BeginsWithWords s.front left) (sym (regroup text f.form.front f.form.back more f.form.parts)) b);
         }
 
     late : (words : List Word) (why : Stop) (left : List Word) → length words ≤ n → Later (read words) next why left
@@ -244,7 +244,7 @@ with_known_parses {n} {m} {A} {C} {F} {K} {P} {H} {R} {G} {L} {Q} {read} {next} 
           apart = λ c text more h k f b.
               let past = begins_after first.text s.front left (text ++ more) b in
               let one = r.same f.value d.value f.form.front first.text (f.form.back ++ more) past.0 tt tt f.form.first first.form (regroup text f.form.front f.form.back more f.form.parts ∙ past.1) in
-              s.apart c f.form.back more h k (subst (λ (v : A). G v c f.form.back) one.0 f.form.second) (subst (Begins s.front left) (sym one.1) past.2);
+              s.apart c f.form.back more h k (subst (λ (v : A). G v c f.form.back) one.0 f.form.second) (subst (BeginsWithWords s.front left) (sym one.1) past.2);
         }
 
 -- a part that says what follows
@@ -375,10 +375,10 @@ one_parses {n} {A} meaning over name_at = record {
 
     -- it stopped at the first word, which stands for nothing or breaks a limit
     at_first : (words : List Word) (why : Stop) (left : List Word) → words ≡ left → StopsAt why left
-        → ((x : A) (text more : List Word) → Keeps (λ l x. over x ≡ Some l → ⊥) why x → one meaning x text → Begins [] words (text ++ more)
+        → ((x : A) (text more : List Word) → Keeps (λ l x. over x ≡ Some l → ⊥) why x → one meaning x text → BeginsWithWords [] words (text ++ more)
         → ⊥)
         → Stops Always (one meaning) (λ l x. over x ≡ Some l → ⊥) words why left
-    at_first words why left e named never = record { front = []; parts = e; named = named; apart = λ x text more _ k f b. never x text more k f (subst (λ (l : List Word). Begins [] l (text ++ more)) (sym e) b) }
+    at_first words why left e named never = record { front = []; parts = e; named = named; apart = λ x text more _ k f b. never x text more k f (subst (λ (l : List Word). BeginsWithWords [] l (text ++ more)) (sym e) b) }
 
     stop_is : (v w : Stop) (s t : List Word) → stuck_at {A = A} v s ≡ Stuck w t → (v ≡ w) × (s ≡ t)
     stop_is v w s t e = (cc, cc)
@@ -388,7 +388,7 @@ one_parses {n} {A} meaning over name_at = record {
     stops_one [] why left e = at_first [] why left (stop_is Syntax why [] left e).1 (syntax_stops [] why left e) (λ x text more k f b. let z : f.word ∷ more ≡ [] = ap (λ (ws : List Word). ws ++ more) (sym f.parts) ∙ b in absurd cc)
     stops_one (w ∷ words) why left e = meant (meaning w) refl e
       where
-        first_word : (x : A) (text more : List Word) → one meaning x text → Begins [] (w ∷ words) (text ++ more) → meaning w ≡ Some x
+        first_word : (x : A) (text more : List Word) → one meaning x text → BeginsWithWords [] (w ∷ words) (text ++ more) → meaning w ≡ Some x
         first_word x text more f b =
             let k : f.word ∷ more ≡ w ∷ b.0 = ap (λ (ws : List Word). ws ++ more) (sym f.parts) ∙ b.1 in
             ap meaning (sym (apart_cons f.word w more b.0 k).0) ∙ f.is
@@ -492,8 +492,8 @@ perhaps_parses {n} {C} {R} {G} {L} {Q} {read} test free r =
     }
   where
     alike : (words : List Word) (v : Bool) → heads test words ≡ v
-        → cond (heads test words) (and_then (cond (heads test words) (got done (rest_of words)) (stuck_at Syntax words)) (λ _. read))
-        (read words) ≡ read (cond (heads test words) (rest_of words) words)
+        → cond (heads test words) (and_then (cond (heads test words) (got done (later_words words)) (stuck_at Syntax words)) (λ _. read))
+        (read words) ≡ read (cond (heads test words) (later_words words) words)
     alike words true is = rw is refl
     alike words false is = rw is refl
 
@@ -566,7 +566,7 @@ less_fact {F} text f = subst F (sym (f.parts ∙ ap (λ (ws : List Word). f.fron
 
 -- ---- a whole text
 
-pub begins_itself : (front left words : List Word) → words ≡ front ++ left → Begins front left words
+pub begins_itself : (front left words : List Word) → words ≡ front ++ left → BeginsWithWords front left words
 begins_itself front [] words e = e ∙ append-nil front
 begins_itself front (w ∷ left) words e = (left, e)
 

@@ -28,7 +28,7 @@ use Rattle.oa_idl.specs.Bytes.{is_in, run}
 use Rattle.oa_idl.specs.Tokens.{front}
 use Rattle.oa_idl.specs.Forms.{◌▸◌, nothing, one, optional, listed, nowhere}
 use Rattle.oa_idl.specs.Forms as forms
-use Rattle.oa_idl.specs.Words.{passes, name_of, is_printable, guid_of, part_of, id_of, amount_of, characters_of, type_of, type_named}
+use Rattle.oa_idl.specs.Words.{passes, name_of, is_printable, guid_of, part_of, id_of, amount_of, characters_of, word_type, type_named}
 use Rattle.oa_idl.specs.Words.{plain_type, unsigned_type}
 use Rattle.oa_idl.specs.Grammar.{sign, type_word, value_type, property_attribute, id_form, numbered, no_property, property_head, property}
 use Rattle.oa_idl.specs.Grammar.{amount, literal, parameter_attribute, no_parameter, parameter_head, parameter, method_attribute, no_method}
@@ -39,7 +39,7 @@ use Rattle.oa_idl.specs.Grammar.MethodAttribute.{MethodId, Propget, Propput}
 use Rattle.oa_idl.specs.Canonical.{type_text, value_type_text, result_text, named_text, character_text, literal_text, mark_text}
 use Rattle.oa_idl.specs.Canonical.{default_text, parameter_marks, parameter_text, further_text, parameters_text, id_text, readonly_text}
 use Rattle.oa_idl.specs.Canonical.{property_text, kind_text, list_text, method_text, digits_text}
-use Rattle.oa_idl.specs.Printable.{IsGuid, IsNameText, IsName, IsId, IsType, IsValueType, IsLiteral, IsDefault, IsParameter, IsProperty}
+use Rattle.oa_idl.specs.Printable.{IsGuid, IsNameText, IsName, IsId, IsType, IsValueType, IsLiteral, IsDefault, IsPrintableParameter, IsProperty}
 use Rattle.oa_idl.specs.Printable.{IsResult, IsMethod}
 use Rattle.oa_idl.proofs.PrintedTokens.{word, by_test, clash, is_not, EndsWord, AreDigits, number_front}
 use Rattle.oa_idl.proofs.PrintedParts.{decimal_is, number_is, guid_front, string_front, string_value}
@@ -54,15 +54,15 @@ unfolding name_of
 name_spelled name b x h ends = meant_word name_of name name b x h.0 ends (rw h.1 refl)
 
 type_means : (in_array unsigned : Bool) (t : VarType) (text : List ℕ) → type_named unsigned text ≡ Some t
-    → (in_array ≡ true → is_some (sf_type_of t) ≡ true) → type_of in_array unsigned (word kinds.Name text) ≡ Some t
-unfolding type_of
+    → (in_array ≡ true → is_some (sf_type_of t) ≡ true) → word_type in_array unsigned (word kinds.Name text) ≡ Some t
+unfolding word_type
 type_means true unsigned t text e some = rw (e, some refl) refl
 type_means false unsigned t text e some = rw e refl
 
 -- one word for a type
 plain_spelled : (in_array : Bool) (t : VarType) (text : List ℕ) (b : ℕ) (x : List ℕ) → IsNameText text → EndsWord (b ∷ x)
     → plain_type text ≡ Some t → (in_array ≡ true → is_some (sf_type_of t) ≡ true) → Spells (type_word in_array t) (text ++ b ∷ x) (b ∷ x)
-plain_spelled in_array t text b x is ends e some = said (λ ws f. inr f) (meant_word (type_of in_array false) t text b x is ends (type_means in_array false t text e some))
+plain_spelled in_array t text b x is ends e some = said (λ ws f. inr f) (meant_word (word_type in_array false) t text b x is ends (type_means in_array false t text e some))
 
 -- and `unsigned` before it
 unsigned_spelled : (in_array : Bool) (t : VarType) (text : List ℕ) (b : ℕ) (x : List ℕ) → IsNameText text → EndsWord (b ∷ x)
@@ -70,7 +70,7 @@ unsigned_spelled : (in_array : Bool) (t : VarType) (text : List ℕ) (b : ℕ) (
     → Spells (type_word in_array t) (codes "unsigned " ++ (text ++ b ∷ x)) (b ∷ x)
 unfolding is_in run passes
 unsigned_spelled in_array t text b x is ends e some = said (λ ws f. inl f)
-    (sign_word (codes "unsigned") (codes "unsigned") 32 (text ++ b ∷ x) (refl, refl) (refl, refl) refl ▹ blank (meant_word (type_of in_array true) t text b x is ends (type_means in_array true t text e some)))
+    (sign_word (codes "unsigned") (codes "unsigned") 32 (text ++ b ∷ x) (refl, refl) (refl, refl) refl ▹ blank (meant_word (word_type in_array true) t text b x is ends (type_means in_array true t text e some)))
 
 pub type_spelled : (in_array : Bool) (t : VarType) (b : ℕ) (x : List ℕ) → IsType in_array t → EndsWord (b ∷ x)
     → Spells (type_word in_array t) (type_text t ++ b ∷ x) (b ∷ x)
@@ -302,11 +302,11 @@ marked true true (Some v) t name b x h k n ends = let y = named_text (value_type
     (next_spelled _ (marks true true (Some v)) IsOptional refl (blank (optional_spelled 44 (codes " defaultvalue(" ++ (literal_text v ++ 41 ∷ 93 ∷ 32 ∷ y)) (comma_ends (codes " defaultvalue(" ++ (literal_text v ++ 41 ∷ 93 ∷ 32 ∷ y)))))
     (next_spelled _ (marks true true (Some v)) (HasDefault v) refl (blank (default_spelled v (93 ∷ 32 ∷ y) h)) (last_spelled _ (marks true true (Some v)) refl)))) ▹ typed_spelled t name b x k n ends))
 
-parameter_spelled : (p : Parameter) (b : ℕ) (x : List ℕ) → IsParameter p → EndsWord (b ∷ x)
+parameter_spelled : (p : Parameter) (b : ℕ) (x : List ℕ) → IsPrintableParameter p → EndsWord (b ∷ x)
     → Spells (parameter p) (parameter_text p ++ b ∷ x) (b ∷ x)
 parameter_spelled p b x h ends = marked p.is_in p.is_optional p.default p.value_type p.name b x h.0 h.1 h.2 ends
 
-parameter_before : (p : Parameter) (y : List ℕ) → IsParameter p → EndsWord y → Spells (parameter p) (parameter_text p ++ y) y
+parameter_before : (p : Parameter) (y : List ℕ) → IsPrintableParameter p → EndsWord y → Spells (parameter p) (parameter_text p ++ y) y
 parameter_before p [] h ends = absurd ends
 parameter_before p (b ∷ x) h ends = parameter_spelled p b x h ends
 
@@ -318,19 +318,19 @@ rest_ends (p ∷ ps) x = comma_ends (32 ∷ ((parameter_text p ++ flat_map furth
 right_spelled : (k : MethodKind) (n : ℕ) (x : List ℕ) → may_end k n ≡ true → Spells (last_parameter k n tt) (41 ∷ x) x
 right_spelled k n x e = said (λ ws f. (e, f)) right_mark
 
-further_spelled : (n : ℕ) (p : Parameter) (y : List ℕ) → 0 < n → IsParameter p → EndsWord y
+further_spelled : (n : ℕ) (p : Parameter) (y : List ℕ) → 0 < n → IsPrintableParameter p → EndsWord y
     → Spells (next_parameter n p) (further_text p ++ y) y
 unfolding further_text
 further_spelled n p y some h ends = subst (λ (c : Bool). Spells (separated c p) (codes ", " ++ (parameter_text p ++ y)) y) (sym (is_not n 0 (λ e. omega (arith, e, some)))) (comma_mark ▹ blank (parameter_before p y h ends))
 
-rest_spelled : (k : MethodKind) (n : ℕ) (ps : List Parameter) (x : List ℕ) → 0 < n → AllByRecursion IsParameter ps
+rest_spelled : (k : MethodKind) (n : ℕ) (ps : List Parameter) (x : List ℕ) → 0 < n → AllByRecursion IsPrintableParameter ps
     → may_end k (n + length ps) ≡ true → Spells (listed next_parameter one_more nowhere (last_parameter k) n ps tt)
     (flat_map further_text ps ++ 41 ∷ x) x
 rest_spelled k n [] x some h e = right_spelled k n x (subst (λ (m : ℕ). may_end k m ≡ true) (omega arith) e)
 rest_spelled k n (p ∷ ps) x some h e = at (append_assoc (further_text p) (flat_map further_text ps) (41 ∷ x))
     (further_spelled n p (flat_map further_text ps ++ 41 ∷ x) some h.0 (rest_ends ps x) ▹ left_out ▹ rest_spelled k (n + 1) ps x (omega arith) h.1 (subst (λ (m : ℕ). may_end k m ≡ true) (omega arith) e))
 
-parameters_spelled : (k : MethodKind) (ps : List Parameter) (x : List ℕ) → AllByRecursion IsParameter ps → may_end k (length ps) ≡ true
+parameters_spelled : (k : MethodKind) (ps : List Parameter) (x : List ℕ) → AllByRecursion IsPrintableParameter ps → may_end k (length ps) ≡ true
     → Spells (listed next_parameter one_more nowhere (last_parameter k) 0 ps tt) (parameters_text ps ++ 41 ∷ x) x
 unfolding parameters_text
 parameters_spelled k [] x h e = right_spelled k 0 x e

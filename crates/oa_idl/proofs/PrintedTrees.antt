@@ -22,14 +22,14 @@ use Rattle.oa_idl.specs.Bytes.{is_in, run}
 use Rattle.oa_idl.specs.Forms.{Word, ◌▸◌, nothing, given, this, one, optional, where_is, with, listed, nowhere}
 use Rattle.oa_idl.specs.Words.{passes, name_of, end_word}
 use Rattle.oa_idl.specs.Grammar.{sign, head_attribute, no_head, head, one_more, closing, property, method, methods, members, interface}
-use Rattle.oa_idl.specs.Grammar.{entry_word, named, entry_by, entry, entry_grow, no_entry, last_entry, coclass, item, Content, element}
+use Rattle.oa_idl.specs.Grammar.{entry_word, named, entry_by, entry, entry_grow, no_entry, last_entry, coclass, item, LibraryContent, element}
 use Rattle.oa_idl.specs.Grammar.{semicolon_after, no_items, elements_grow, items_in, elements, library}
 use Rattle.oa_idl.specs.Grammar.HeadAttribute.{Guid, Numbered}
-use Rattle.oa_idl.specs.Grammar.Content.{OfItem}
+use Rattle.oa_idl.specs.Grammar.LibraryContent.{OfItem}
 use Rattle.oa_idl.specs.Canonical.{property_text, method_text, entry_word_text, entry_text, digits_text, guid_text, title_text}
 use Rattle.oa_idl.specs.Canonical.{interface_line, properties_line, properties_text, methods_text, interface_text, coclass_text, item_text}
 use Rattle.oa_idl.specs.Canonical.{version_text, canonical}
-use Rattle.oa_idl.specs.Limits.{Keeps}
+use Rattle.oa_idl.specs.Limits.{KeepsLimit}
 use Rattle.oa_idl.specs.IsTree.{MayBeText, IsTree}
 use Rattle.oa_idl.specs.Printable.{IsGuid, IsVersion, IsName, IsProperty, IsMethod, AreEntries, IsItem, IsPrintable}
 use Rattle.oa_idl.proofs.PrintedTokens.{word, HasWords, EndsWord, tokens_at}
@@ -160,7 +160,7 @@ element_spelled : (i : Item) (x : List ℕ) → IsItem i → Spells (element (Of
 unfolding element
 element_spelled i x h = item_spelled i x h
 
-abbrev contents : List Item → List Content
+abbrev contents : List Item → List LibraryContent
 contents [] = []
 contents (i ∷ is) = OfItem i ∷ contents is
 
@@ -216,7 +216,7 @@ the_end = record { front = []; back = end_word ∷ []; parts = refl; first = inr
 closed_tree : (t : TreeValue) (ws : List Word) → opened t ws → library t (ws ++ end_word ∷ [])
 closed_tree t ws f = goes_on (end_word ∷ []) (λ a g. goes_on (end_word ∷ []) (λ b h. goes_on (end_word ∷ []) (λ c i. goes_on (end_word ∷ []) (λ d j. record { front = d; back = end_word ∷ []; parts = refl; first = j; second = the_end }) c i) b h) a g) ws f
 
-each_limit : (t : TreeValue) → IsPrintable t → (l : TreeLimit) → Keeps l t
+each_limit : (t : TreeValue) → IsPrintable t → (l : TreeLimit) → KeepsLimit l t
 each_limit t h limits.Name = h.short
 each_limit t h limits.Interfaces = h.interfaces
 each_limit t h limits.Coclasses = h.coclasses

@@ -31,7 +31,7 @@ use Rattle.oa_idl.specs.Forms.{one}
 use Rattle.oa_idl.specs.Forms as forms
 use Rattle.oa_idl.specs.Words.{same_kind, name_of, is_reserved, guid_of, below, number_of, value_of, part_of, part_from, id_of, id_from}
 use Rattle.oa_idl.specs.Words.{id_number, usable, is_hexadecimal, amount_of, amount_from, signed, characters_of, characters_from}
-use Rattle.oa_idl.specs.Words.{with_character, is_printable, is_escaped, type_of, type_named, plain_type, unsigned_type, if_cell, word_of}
+use Rattle.oa_idl.specs.Words.{with_character, is_printable, is_escaped, word_type, type_named, plain_type, unsigned_type, if_cell, word_of}
 use Rattle.oa_idl.specs.Words.{end_word, words_of}
 use Rattle.oa_idl.specs.Printable.{IsGuid, IsNameText, IsName, IsId, IsType, IsLiteral}
 use Rattle.oa_idl.proofs.PrintedTokens.{by_test, clash}
@@ -323,8 +323,8 @@ if_cell_is true (Some u) t h e =
     subst (IsType true) (some_is u t c.1) (cell_is u h c.0)
 if_cell_is false (Some u) t h e = subst (IsType false) (some_is u t e) (plain_is u h)
 
-pub type_read : (in_array unsigned : Bool) (t : VarType) (w : forms.Word) → type_of in_array unsigned w ≡ Some t → IsType in_array t
-unfolding type_of
+pub type_read : (in_array unsigned : Bool) (t : VarType) (w : forms.Word) → word_type in_array unsigned w ≡ Some t → IsType in_array t
+unfolding word_type
 type_read in_array unsigned t w e = if_cell_is in_array (type_named unsigned w.text) t (type_has unsigned w.text) (chosen (same_kind w.kind kinds.Name) (if_cell in_array (type_named unsigned w.text)) t e).1
 
 -- ---- strings

@@ -30,7 +30,7 @@ use Rattle.oa_idl.specs.declared.seen.ItemsSeen.{ItemsSeen}
 use Rattle.oa_idl.specs.MethodValues.{MethodValue}
 use Rattle.oa_idl.specs.Trees.{TreeValue}
 use Rattle.oa_idl.specs.Forms.{Word, Then, ◌▸◌, one, where_is, listed, nowhere}
-use Rattle.oa_idl.specs.Words.{part_of, id_of, amount_of, type_of, words_of}
+use Rattle.oa_idl.specs.Words.{part_of, id_of, amount_of, word_type, words_of}
 use Rattle.oa_idl.specs.Grammar.{sign, next_attribute, last_attribute, attributes, HeadAttribute, head_attribute, no_head, head_may}
 use Rattle.oa_idl.specs.Grammar.{head_grow, head_finish, head, type_word, value_type, PropertyAttribute, property_attribute, id_form}
 use Rattle.oa_idl.specs.Grammar.{no_property, property_may, property_grow, property_head_of, property_finish, property_head, property}
@@ -38,15 +38,15 @@ use Rattle.oa_idl.specs.Grammar.{one_more, closing, literal, ParameterAttribute,
 use Rattle.oa_idl.specs.Grammar.{parameter_grow, parameter_finish, parameter_head, head_of_parameter, typed, parameter, MethodAttribute}
 use Rattle.oa_idl.specs.Grammar.{method_attribute, no_method, method_may, method_grow, method_head_of, method_finish, method_head}
 use Rattle.oa_idl.specs.Grammar.{result_type, separated, next_parameter, may_end, last_parameter, method, methods, members, named, entry_by}
-use Rattle.oa_idl.specs.Grammar.{no_entry, entry_grow, entry, last_entry, guid_of_item, body, item, Content, element, semicolon_after}
+use Rattle.oa_idl.specs.Grammar.{no_entry, entry_grow, entry, last_entry, guid_of_item, body, item, LibraryContent, element, semicolon_after}
 use Rattle.oa_idl.specs.Grammar.{no_items, elements_grow, items_in, elements}
 use Rattle.oa_idl.specs.Grammar.HeadAttribute.{Guid, Numbered, HeadHelp}
 use Rattle.oa_idl.specs.Grammar.PropertyAttribute.{Id, Readonly, PropertyHelp}
 use Rattle.oa_idl.specs.Grammar.ParameterAttribute.{IsIn, IsOptional, HasDefault}
 use Rattle.oa_idl.specs.Grammar.MethodAttribute.{MethodId, Propget, Propput, MethodHelp}
-use Rattle.oa_idl.specs.Grammar.Content.{Import, OfItem}
+use Rattle.oa_idl.specs.Grammar.LibraryContent.{Import, OfItem}
 use Rattle.oa_idl.specs.IsTree.{IsTree}
-use Rattle.oa_idl.specs.Printable.{IsGuid, IsVersion, IsName, IsId, IsType, IsValueType, IsLiteral, IsDefault, IsParameter, IsProperty}
+use Rattle.oa_idl.specs.Printable.{IsGuid, IsVersion, IsName, IsId, IsType, IsValueType, IsLiteral, IsDefault, IsPrintableParameter, IsProperty}
 use Rattle.oa_idl.specs.Printable.{IsResult, IsMethod, AreEntries, IsItem, IsPrintable}
 use Rattle.oa_idl.proofs.ReadParts.{Fine, some_is, no_some, words_fine, name_read, id_read, amount_read, part_read, guid_read, type_read}
 use Rattle.oa_idl.proofs.ReadParts.{characters_read}
@@ -131,7 +131,7 @@ head_read counts b ws f = attributes_read (head_attribute counts) head_may head_
 -- ---- types and numbers
 
 type_word_read : (in_array : Bool) (t : VarType) (ws : List Word) → type_word in_array t ws → IsType in_array t
-type_word_read in_array t ws f = ⊎_elim (λ (k : (sign (codes "unsigned") ▸ one (type_of in_array true) t) ws). type_read in_array true t k.second.word k.second.is) (λ (k : one (type_of in_array false) t ws). type_read in_array false t k.word k.is) f
+type_word_read in_array t ws f = ⊎_elim (λ (k : (sign (codes "unsigned") ▸ one (word_type in_array true) t) ws). type_read in_array true t k.second.word k.second.is) (λ (k : one (word_type in_array false) t ws). type_read in_array false t k.word k.is) f
 
 value_type_read : (t : ValueType) (ws : List Word) → value_type t ws → IsValueType t
 unfolding value_type
@@ -188,13 +188,13 @@ parameter_head_read b ws f = attributes_read parameter_attribute parameter_may p
 typed_read : (p : Parameter) (ws : List Word) → typed p ws → AllFine ws → IsValueType p.value_type × IsName p.name
 typed_read p ws f h = (value_type_read p.value_type f.front f.first, name_read p.name f.second.front f.second.first (first_fine f.back f.second (second_fine ws f h)))
 
-parameter_read : (p : Parameter) (ws : List Word) → parameter p ws → AllFine ws → IsParameter p
+parameter_read : (p : Parameter) (ws : List Word) → parameter p ws → AllFine ws → IsPrintableParameter p
 unfolding parameter
 parameter_read p ws f h = ⊎_elim
     (λ (k : (parameter_head (head_of_parameter p) ▸ typed p) ws). let t = typed_read p k.back k.second (second_fine ws k h) in (parameter_head_read (head_of_parameter p) k.front k.first, t.0, t.1))
     (λ (k : where_is (head_of_parameter p ≡ no_parameter) (typed p) ws). let t = typed_read p ws k.1 h in (subst (λ (s : ParameterSeen). IsDefault s.default) (sym k.0) tt, t.0, t.1)) f
 
-separated_read : (first : Bool) (p : Parameter) (ws : List Word) → separated first p ws → AllFine ws → IsParameter p
+separated_read : (first : Bool) (p : Parameter) (ws : List Word) → separated first p ws → AllFine ws → IsPrintableParameter p
 separated_read true p ws f h = parameter_read p ws f h
 separated_read false p ws f h = parameter_read p f.back f.second (second_fine ws f h)
 
@@ -246,7 +246,7 @@ method_read m ws f h =
     let name = body.second in
     let b = second_fine name.back name.second (second_fine body.back name a) in
     let list = name.second.second in
-    let all = list_read next_parameter one_more nowhere (last_parameter m.kind) IsParameter (Unit {0}) tt (λ n p vs g k. separated_read (n == 0) p vs g k) (λ n vs g k. tt) 0 m.parameters list.front list.first (first_fine name.second.back list b) in (
+    let all = list_read next_parameter one_more nowhere (last_parameter m.kind) IsPrintableParameter (Unit {0}) tt (λ n p vs g k. separated_read (n == 0) p vs g k) (λ n vs g k. tt) 0 m.parameters list.front list.first (first_fine name.second.back list b) in (
       method_head_read (record { id = m.id; kind = m.kind }) f.front f.first,
       result_read m.kind m.value_type body.front body.first,
       name_read m.name name.front name.first (first_fine body.back name a),
@@ -297,16 +297,16 @@ item_read x ws f h = let g = f.form in body_read x (guid_of_item x) g.back g.sec
 
 -- ---- a library
 
-abbrev IsContent : Content → Type 0
+abbrev IsContent : LibraryContent → Type 0
 IsContent Import = Unit {0}
 IsContent (OfItem x) = IsItem x
 
-element_read : (s : ItemsSeen) (e : Content) (ws : List Word) → element e ws → AllFine ws → IsContent e
+element_read : (s : ItemsSeen) (e : LibraryContent) (ws : List Word) → element e ws → AllFine ws → IsContent e
 unfolding element
 element_read s Import ws f h = tt
 element_read s (OfItem x) ws f h = item_read x ws f h
 
-contents_read : (es : List Content) → AllByRecursion IsContent es → AllByRecursion IsItem (items_in es)
+contents_read : (es : List LibraryContent) → AllByRecursion IsContent es → AllByRecursion IsItem (items_in es)
 contents_read [] h = tt
 contents_read (Import ∷ es) h = contents_read es h.1
 contents_read (OfItem x ∷ es) h = (h.0, contents_read es h.1)

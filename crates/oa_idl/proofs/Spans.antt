@@ -12,7 +12,7 @@ use Rattle.oa_idl.specs.declared.lexer.TokenKind.TheVariants as kinds
 use Rattle.oa_idl.specs.declared.lexer.Token.{Token}
 use Rattle.oa_idl.specs.declared.lexer.Piece.{Piece}
 use Rattle.oa_idl.specs.declared.lexer.Piece.TheVariants.{Word, Gap}
-use Rattle.oa_idl.specs.Bytes.{is_in, run, end_from, one_more, closes, marks, IsWithin, group, is_guid}
+use Rattle.oa_idl.specs.Bytes.{is_in, run, end_from, one_more, closes, marks, EndsInside, group, is_guid}
 use Rattle.oa_idl.specs.Tokens.{closed, front, AreTokens, IsPiece, AreInOrder}
 use Rattle.oa_idl.specs.Tokens.AreTokens.{End, Apart, Next, Rest}
 
@@ -27,12 +27,12 @@ run_within p (b ∷ bs) = by_test (p b) (run p bs) (length bs) (run_within p bs)
     by_test true n m le = omega (arith, le)
     by_test false n m le = omega arith
 
-end_within : (close : Close) (marked : Bool) (bs : List ℕ) → IsWithin (end_from close marked bs) (length bs)
+end_within : (close : Close) (marked : Bool) (bs : List ℕ) → EndsInside (end_from close marked bs) (length bs)
 unfolding end_from
 end_within close marked [] = tt
 end_within close marked (b ∷ bs) = by_test (closes close marked b) (end_from close (marks close marked b) bs) (length bs) (end_within close (marks close marked b) bs)
   where
-    by_test : (is : Bool) (o : Option ℕ) (m : ℕ) → IsWithin o m → IsWithin (if is then Some 1 else one_more o) (suc m)
+    by_test : (is : Bool) (o : Option ℕ) (m : ℕ) → EndsInside o m → EndsInside (if is then Some 1 else one_more o) (suc m)
     by_test true o m le = omega arith
     by_test false None m le = tt
     by_test false (Some n) m le = omega (arith, le)
@@ -63,12 +63,12 @@ by_case : (b : Bool) (x y : Piece) (n : ℕ) → (b ≡ true → IsPiece x n) �
 by_case true x y n f g = f refl
 by_case false x y n f g = g refl
 
-text_within : (n : ℕ) (o : Option ℕ) (bs : List ℕ) → 0 < n → n ≤ length bs → IsWithin o (length (drop n bs))
+text_within : (n : ℕ) (o : Option ℕ) (bs : List ℕ) → 0 < n → n ≤ length bs → EndsInside o (length (drop n bs))
     → IsPiece (closed (Word kinds.Text) n o) (length bs)
 text_within n None bs lt some le = tt
 text_within n (Some k) bs lt some le = (omega (arith, lt), past n k bs some le)
 
-gap_within : (n : ℕ) (o : Option ℕ) (bs : List ℕ) → 0 < n → n ≤ length bs → IsWithin o (length (drop n bs))
+gap_within : (n : ℕ) (o : Option ℕ) (bs : List ℕ) → 0 < n → n ≤ length bs → EndsInside o (length (drop n bs))
     → IsPiece (closed Gap n o) (length bs)
 gap_within n None bs lt some le = tt
 gap_within n (Some k) bs lt some le = (omega (arith, lt), past n k bs some le)

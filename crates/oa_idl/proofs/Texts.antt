@@ -14,7 +14,7 @@ use Rattle.oa_idl.specs.declared.seen.HeadSeen.{HeadSeen}
 use Rattle.oa_idl.specs.declared.seen.PropertySeen.{PropertySeen}
 use Rattle.oa_idl.specs.declared.seen.PropertyHead.{PropertyHead}
 use Rattle.oa_idl.specs.Forms.{Word, ◌▸◌, one, either_of, where_is}
-use Rattle.oa_idl.specs.Words.{passes, plain_type, is_text, name_of, over, guid_of, part_of, id_of, type_of}
+use Rattle.oa_idl.specs.Words.{passes, plain_type, is_text, name_of, over, guid_of, part_of, id_of, word_type}
 use Rattle.oa_idl.specs.Reading.{bind, give, heads, done}
 use Rattle.oa_idl.specs.Grammar.{sign, help, HeadAttribute, head_attribute, no_head, head_may, head_grow, head_finish, head, type_word}
 use Rattle.oa_idl.specs.Grammar.{value_type, PropertyAttribute, id_form, property_attribute, no_property, property_may, property_grow}
@@ -201,15 +201,15 @@ head_parses {n} counts = attributes_parses head_grow head_full head_finish (λ n
 
 type_word_parses : {n : ℕ} (in_array : Bool) → Parses n Always (type_word in_array) NoLimit Always (type_word_at in_array)
 unfolding type_word_at
-type_word_parses in_array = choose_parses {A = λ t. sign (codes "unsigned") ▸ one (type_of in_array true) t} {B = one (type_of in_array false)} (passes (codes "unsigned"))
-    (λ t text more _ f is. ⊎_elim (λ (k : (sign (codes "unsigned") ▸ one (type_of in_array true) t) text). k) (λ (k : one (type_of in_array false) t text). absurd (clash is (plain_heads t text more k))) f)
-    (λ t text more _ f is. ⊎_elim (λ (k : (sign (codes "unsigned") ▸ one (type_of in_array true) t) text). absurd (clash (same_heads (codes "unsigned") text more k) is)) (λ (k : one (type_of in_array false) t text). k) f)
+type_word_parses in_array = choose_parses {A = λ t. sign (codes "unsigned") ▸ one (word_type in_array true) t} {B = one (word_type in_array false)} (passes (codes "unsigned"))
+    (λ t text more _ f is. ⊎_elim (λ (k : (sign (codes "unsigned") ▸ one (word_type in_array true) t) text). k) (λ (k : one (word_type in_array false) t text). absurd (clash is (plain_heads t text more k))) f)
+    (λ t text more _ f is. ⊎_elim (λ (k : (sign (codes "unsigned") ▸ one (word_type in_array true) t) text). absurd (clash (same_heads (codes "unsigned") text more k) is)) (λ (k : one (word_type in_array false) t text). k) f)
     (λ t text _ f. inl f) (λ t text _ f. inr f)
-    (skip_parses (passes (codes "unsigned")) (sure_parses (type_of in_array true))) (sure_parses (type_of in_array false))
+    (skip_parses (passes (codes "unsigned")) (sure_parses (word_type in_array true))) (sure_parses (word_type in_array false))
   where
-    plain_heads : (t : VarType) (text more : List Word) → one (type_of in_array false) t text
+    plain_heads : (t : VarType) (text more : List Word) → one (word_type in_array false) t text
         → heads (passes (codes "unsigned")) (text ++ more) ≡ false
-    plain_heads t text more k = one_heads (type_of in_array false) (passes (codes "unsigned")) t (λ w e. type_no_sign (codes "unsigned") unsigned_no_type in_array t w e) text more k
+    plain_heads t text more k = one_heads (word_type in_array false) (passes (codes "unsigned")) t (λ w e. type_no_sign (codes "unsigned") unsigned_no_type in_array t w e) text more k
 
 abbrev is_array : ValueType → Bool
 is_array (values.One t) = false
@@ -238,8 +238,8 @@ value_type_parses = choose_parses {A = λ v ws. (is_array v ≡ true) × array_f
     (fact_parses (end_part_parses cell_of (λ t. values.One t) (type_word_parses false) (λ l v h k. tt) (λ t. ((tt, refl), refl)) (λ t _. tt) (λ t v h. only_one t v h.0.1 h.1)))
   where
     word_heads : (t : VarType) (text more : List Word) → type_word false t text → heads (passes (codes "SAFEARRAY")) (text ++ more) ≡ false
-    word_heads t text more f = ⊎_elim (λ (k : (sign (codes "unsigned") ▸ one (type_of false true) t) text). sign_heads (codes "SAFEARRAY") (codes "unsigned") refl text more k)
-        (λ (k : one (type_of false false) t text). one_heads (type_of false false) (passes (codes "SAFEARRAY")) t (λ w e. type_no_sign (codes "SAFEARRAY") array_no_type false t w e) text more k) f
+    word_heads t text more f = ⊎_elim (λ (k : (sign (codes "unsigned") ▸ one (word_type false true) t) text). sign_heads (codes "SAFEARRAY") (codes "unsigned") refl text more k)
+        (λ (k : one (word_type false false) t text). one_heads (word_type false false) (passes (codes "SAFEARRAY")) t (λ w e. type_no_sign (codes "SAFEARRAY") array_no_type false t w e) text more k) f
 
     yes : (v : ValueType) (text more : List Word) → value_type v text → heads (passes (codes "SAFEARRAY")) (text ++ more) ≡ true
         → (is_array v ≡ true) × array_form v text
@@ -262,8 +262,8 @@ value_type_parses = choose_parses {A = λ v ws. (is_array v ≡ true) × array_f
 -- a type begins with no other sign
 type_word_heads : (a : List ℕ) → plain_type a ≡ None → bytes_eq (codes "unsigned") a ≡ false
     → (in_array : Bool) (t : VarType) (text more : List Word) → type_word in_array t text → heads (passes a) (text ++ more) ≡ false
-type_word_heads a none ne in_array t text more f = ⊎_elim (λ (k : (sign (codes "unsigned") ▸ one (type_of in_array true) t) text). sign_heads a (codes "unsigned") ne text more k)
-    (λ (k : one (type_of in_array false) t text). one_heads (type_of in_array false) (passes a) t (λ w e. type_no_sign a none in_array t w e) text more k) f
+type_word_heads a none ne in_array t text more f = ⊎_elim (λ (k : (sign (codes "unsigned") ▸ one (word_type in_array true) t) text). sign_heads a (codes "unsigned") ne text more k)
+    (λ (k : one (word_type in_array false) t text). one_heads (word_type in_array false) (passes a) t (λ w e. type_no_sign a none in_array t w e) text more k) f
 
 pub value_type_heads : (a : List ℕ) → plain_type a ≡ None → bytes_eq (codes "unsigned") a ≡ false → bytes_eq (codes "SAFEARRAY") a ≡ false
     → (v : ValueType) (text more : List Word) → value_type v text → heads (passes a) (text ++ more) ≡ false
@@ -272,7 +272,7 @@ value_type_heads a none ne other (values.One t) text more f = type_word_heads a 
 value_type_heads a none ne other (values.Array t) text more f = sign_heads a (codes "SAFEARRAY") other text more f
 
 type_word_some : (in_array : Bool) (t : VarType) (text : List Word) → type_word in_array t text → 0 < length text
-type_word_some in_array t text f = ⊎_elim (λ (k : (sign (codes "unsigned") ▸ one (type_of in_array true) t) text). this_some text k) (λ (k : one (type_of in_array false) t text). omega (arith, ap length k.parts)) f
+type_word_some in_array t text f = ⊎_elim (λ (k : (sign (codes "unsigned") ▸ one (word_type in_array true) t) text). this_some text k) (λ (k : one (word_type in_array false) t text). omega (arith, ap length k.parts)) f
 
 pub value_type_some : (v : ValueType) (text : List Word) → value_type v text → 0 < length text
 unfolding value_type

@@ -21,8 +21,8 @@ use Rattle.oa_idl.specs.Words.{passes, is_text, name_of, over, too_long}
 use Rattle.oa_idl.specs.Reading.{bind, give, heads, done, list_at}
 use Rattle.oa_idl.specs.Grammar.{sign, head, property, one_more, closing, methods, members, interface, entry_word, named, entry_by}
 use Rattle.oa_idl.specs.Grammar.{no_entry, entry_grow, entry, last_entry, coclass, guid_of_item, body, item, no_items}
-use Rattle.oa_idl.specs.Grammar.{items_grow, Content, importing, element, semicolon_after, elements_grow, items_in, elements, library}
-use Rattle.oa_idl.specs.Grammar.Content.{Import, OfItem}
+use Rattle.oa_idl.specs.Grammar.{items_grow, LibraryContent, importing, element, semicolon_after, elements_grow, items_in, elements, library}
+use Rattle.oa_idl.specs.Grammar.LibraryContent.{Import, OfItem}
 use Rattle.oa_idl.specs.GrammarReading.{property_at, closing_at, methods_at, ends_properties, members_at, interface_at, named_at, entry_at}
 use Rattle.oa_idl.specs.GrammarReading.{last_entry_at, entries_at, coclass_at, item_at, import_at, element_at, elements_within, elements_at}
 use Rattle.oa_idl.specs.GrammarReading.{library_at}
@@ -304,36 +304,36 @@ item_some x text f = omega (arith, this_some f.form.front f.form.first, ap lengt
 
 -- ---- imports
 
-abbrev pub ContentKeeps : ItemsSeen → TreeLimit → Content → Type 0
+abbrev pub ContentKeeps : ItemsSeen → TreeLimit → LibraryContent → Type 0
 ContentKeeps s l Import = Unit {0}
 ContentKeeps s l (OfItem x) = ItemKeeps s l x
 
-abbrev pub ContentKept : ItemsSeen → Content → Type 0
+abbrev pub ContentKept : ItemsSeen → LibraryContent → Type 0
 ContentKept s Import = Unit {0}
 ContentKept s (OfItem x) = ItemKept s x
 
-abbrev is_import : Content → Bool
+abbrev is_import : LibraryContent → Bool
 is_import Import = true
 is_import (OfItem x) = false
 
-abbrev item_in : Content → Item
+abbrev item_in : LibraryContent → Item
 item_in Import = items.Coclass (record { guid = []; name = []; entries = [] })
 item_in (OfItem x) = x
 
-import_heads : (e : Content) (text more : List Word) → element e text → heads (passes (codes "importlib")) (text ++ more) ≡ is_import e
+import_heads : (e : LibraryContent) (text more : List Word) → element e text → heads (passes (codes "importlib")) (text ++ more) ≡ is_import e
 unfolding element
 import_heads Import text more f = same_heads (codes "importlib") text more f
 import_heads (OfItem x) text more f = item_heads (codes "importlib") refl x text more f
 
-only_import : (e : Content) → Always e × (is_import e ≡ true) → e ≡ Import
+only_import : (e : LibraryContent) → Always e × (is_import e ≡ true) → e ≡ Import
 only_import Import h = refl
 only_import (OfItem x) h = absurd (clash h.1 refl)
 
-only_item : (e : Content) → Always e × (is_import e ≡ false) → e ≡ OfItem (item_in e)
+only_item : (e : LibraryContent) → Always e × (is_import e ≡ false) → e ≡ OfItem (item_in e)
 only_item Import h = absurd (clash refl h.1)
 only_item (OfItem x) h = refl
 
-item_keeps : (s : ItemsSeen) (l : TreeLimit) (e : Content) → Always e × (is_import e ≡ false) → ContentKeeps s l e
+item_keeps : (s : ItemsSeen) (l : TreeLimit) (e : LibraryContent) → Always e × (is_import e ≡ false) → ContentKeeps s l e
     → ItemKeeps s l (item_in e)
 item_keeps s l Import h k = absurd (clash refl h.1)
 item_keeps s l (OfItem x) h k = k
@@ -349,17 +349,17 @@ element_parses s = tagged_parses {F = element} (passes (codes "importlib")) is_i
     (branch_parses {F = element} (λ x. OfItem x) item_in only_item (λ a. ((tt, refl), refl)) (λ l c h k. item_keeps s l c h k) (λ a h. h) (item_parses s))
 
 element_heads : (a : List ℕ) → bytes_eq (codes "[") a ≡ false → bytes_eq (codes "importlib") a ≡ false
-    → (e : Content) (text more : List Word) → element e text → heads (passes a) (text ++ more) ≡ false
+    → (e : LibraryContent) (text more : List Word) → element e text → heads (passes a) (text ++ more) ≡ false
 unfolding element
 element_heads a x y Import text more f = sign_heads a (codes "importlib") y text more f
 element_heads a x y (OfItem i) text more f = item_heads a x i text more f
 
-element_some : (e : Content) (text : List Word) → element e text → 0 < length text
+element_some : (e : LibraryContent) (text : List Word) → element e text → 0 < length text
 unfolding element
 element_some Import text f = this_some text f
 element_some (OfItem x) text f = item_some x text f
 
-not_after : (y : Content) (words : List Word) → heads (passes (codes ";")) words ≡ false → heads (semicolon_after y) words ≡ false
+not_after : (y : LibraryContent) (words : List Word) → heads (passes (codes ";")) words ≡ false → heads (semicolon_after y) words ≡ false
 not_after Import [] h = refl
 not_after Import (w ∷ words) h = refl
 not_after (OfItem x) [] h = refl
@@ -378,13 +378,13 @@ ItemsKeep l s xs = KeepsFrom {B = Unit {0}} items_grow (λ s x. ItemKeeps s l x)
 abbrev pub ItemsKept : ItemsSeen → List Item → Type 0
 ItemsKept s xs = KeepsFrom {B = Unit {0}} items_grow ItemKept Nothing s xs tt
 
-contents_keep : (l : TreeLimit) (s : ItemsSeen) (es : List Content) → ItemsKeep l s (items_in es)
+contents_keep : (l : TreeLimit) (s : ItemsSeen) (es : List LibraryContent) → ItemsKeep l s (items_in es)
     → KeepsFrom {B = Unit {0}} elements_grow (λ s x. ContentKeeps s l x) Nothing s es tt
 contents_keep l s [] k = tt
 contents_keep l s (Import ∷ es) k = (tt, contents_keep l s es k)
 contents_keep l s (OfItem x ∷ es) k = (k.0, contents_keep l (items_grow s x) es k.1)
 
-contents_kept : (s : ItemsSeen) (es : List Content) → KeepsFrom {B = Unit {0}} elements_grow ContentKept Nothing s es tt
+contents_kept : (s : ItemsSeen) (es : List LibraryContent) → KeepsFrom {B = Unit {0}} elements_grow ContentKept Nothing s es tt
     → ItemsKept s (items_in es)
 contents_kept s [] k = tt
 contents_kept s (Import ∷ es) k = contents_kept s es k.1
@@ -392,12 +392,12 @@ contents_kept s (OfItem x ∷ es) k = (k.0, contents_kept (items_grow s x) es k.
 
 elements_parses : {n : ℕ} → Parses n Always elements (λ l xs. ItemsKeep l no_items xs) (λ xs. ItemsKept no_items xs) elements_at
 unfolding elements elements_at elements_within bind list_at
-elements_parses {n} = alike_parses {f = bind (list_at (passes (codes "}")) semicolon_after element_at elements_grow closing_at no_items) (λ (p : List Content × Unit {0}). give (items_in p.0))} (λ words. refl)
+elements_parses {n} = alike_parses {f = bind (list_at (passes (codes "}")) semicolon_after element_at elements_grow closing_at no_items) (λ (p : List LibraryContent × Unit {0}). give (items_in p.0))} (λ words. refl)
     (said_parses {F = λ xs. with whole (λ p. given (xs ≡ items_in p.0))} (λ c h. h) (λ c h. h) (λ c t h f. record { value = f.value.0; form = f.form }) (λ c t h f. record { value = both f.value tt; form = f.form }) (λ c h. h)
     (with_parses {G = λ p xs. given (xs ≡ items_in p.0)} contents_parses (enough whole n) (λ l p xs text _ g k. contents_keep l no_items p.0 (subst (λ (ys : List Item). ItemsKeep l no_items ys) g.fact k))
     (λ p. given_parses (items_in p.0) tt (λ kept. contents_kept no_items p.0 kept))))
   where
-    whole : List Content × Unit {0} → List Word → Type 0
+    whole : List LibraryContent × Unit {0} → List Word → Type 0
     whole p = listed (λ s. element) elements_grow semicolon_after closing no_items p.0 p.1
 
 -- a tree keeps a limit, step by step

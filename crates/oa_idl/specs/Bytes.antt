@@ -39,9 +39,9 @@ unfoldable pub end_from : Close → Bool → List ℕ → Option ℕ
 end_from close marked [] = None
 end_from close marked (b ∷ bs) = if closes close marked b then Some 1 else one_more (end_from close (marks close marked b) bs)
 
-abbrev pub IsWithin : Option ℕ → ℕ → Type 0
-IsWithin None len = Unit {0}
-IsWithin (Some n) len = n ≤ len
+abbrev pub EndsInside : Option ℕ → ℕ → Type 0
+EndsInside None len = Unit {0}
+EndsInside (Some n) len = n ≤ len
 
 -- n hexadecimal digits, and a hyphen
 unfoldable pub group : ℕ → List ℕ → Bool

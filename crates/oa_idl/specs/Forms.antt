@@ -88,9 +88,9 @@ abbrev pub gathered : {S A B : Type 0} → (S → A → Form) → (S → A → S
 gathered F grow apart E s b = Gathered_is F grow apart E s b
 
 -- the words begin with front and the first of left; or are front alone, where nothing is left
-abbrev pub Begins : List Word → List Word → List Word → Type 0
-Begins front [] words = words ≡ front
-Begins front (w ∷ left) words = (more : List Word) × (words ≡ front ++ w ∷ more)
+abbrev pub BeginsWithWords : List Word → List Word → List Word → Type 0
+BeginsWithWords front [] words = words ≡ front
+BeginsWithWords front (w ∷ left) words = (more : List Word) × (words ≡ front ++ w ∷ more)
 
 -- no word, after any item
 abbrev pub nowhere : {A : Type 0} → A → Word → Bool

@@ -27,7 +27,7 @@ use Rattle.oa_idl.specs.declared.seen.ParameterSeen.{ParameterSeen}
 use Rattle.oa_idl.specs.MethodValues.{MethodValue}
 use Rattle.oa_idl.specs.Trees.{TreeValue}
 use Rattle.oa_idl.specs.Forms.{Word, Form, ◌▸◌, nothing, given, this, one, optional, either_of, where_is, with, listed, gathered, nowhere}
-use Rattle.oa_idl.specs.Words.{passes, is_text, name_of, guid_of, part_of, id_of, type_of, amount_of, characters_of}
+use Rattle.oa_idl.specs.Words.{passes, is_text, name_of, guid_of, part_of, id_of, word_type, amount_of, characters_of}
 
 abbrev pub sign : List ℕ → Form
 sign s = this (passes s)
@@ -94,7 +94,7 @@ head counts h = attributes (head_attribute counts) head_may head_grow head_finis
 -- ---- type = a type word | "SAFEARRAY" "(" type word of an element ")"
 
 abbrev pub type_word : Bool → VarType → Form
-type_word in_array t = either_of (sign (codes "unsigned") ▸ one (type_of in_array true) t) (one (type_of in_array false) t)
+type_word in_array t = either_of (sign (codes "unsigned") ▸ one (word_type in_array true) t) (one (word_type in_array false) t)
 
 unfoldable pub value_type : ValueType → Form
 value_type (values.One t) = type_word false t
@@ -357,18 +357,18 @@ abbrev pub item : Item → Form
 item x = with (head false) (λ h. where_is (h.guid ≡ guid_of_item x) (body x))
 
 -- what stands in a library: an import, which is ignored, or an item
-pub data Content : Type 0 where
-  Import : Content
-  OfItem : Item → Content
+pub data LibraryContent : Type 0 where
+  Import : LibraryContent
+  OfItem : Item → LibraryContent
 
 abbrev pub importing : Form
 importing = sign (codes "importlib") ▸ sign (codes "(") ▸ this is_text ▸ sign (codes ")") ▸ sign (codes ";")
 
-unfoldable pub element : Content → Form
+unfoldable pub element : LibraryContent → Form
 element Import = importing
 element (OfItem x) = item x
 
-abbrev pub semicolon_after : Content → Word → Bool
+abbrev pub semicolon_after : LibraryContent → Word → Bool
 semicolon_after Import w = false
 semicolon_after (OfItem x) w = passes (codes ";") w
 
@@ -380,12 +380,12 @@ abbrev pub items_grow : ItemsSeen → Item → ItemsSeen
 items_grow s (items.Interface d) = record { interfaces = s.interfaces + 1; coclasses = s.coclasses }
 items_grow s (items.Coclass c) = record { interfaces = s.interfaces; coclasses = s.coclasses + 1 }
 
-abbrev pub elements_grow : ItemsSeen → Content → ItemsSeen
+abbrev pub elements_grow : ItemsSeen → LibraryContent → ItemsSeen
 elements_grow s Import = s
 elements_grow s (OfItem x) = items_grow s x
 
 -- the items alone
-abbrev pub items_in : List Content → List Item
+abbrev pub items_in : List LibraryContent → List Item
 items_in [] = []
 items_in (Import ∷ es) = items_in es
 items_in (OfItem x ∷ es) = x ∷ items_in es

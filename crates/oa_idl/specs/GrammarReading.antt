@@ -25,18 +25,18 @@ use Rattle.oa_idl.specs.declared.seen.EntriesSeen.{EntriesSeen}
 use Rattle.oa_idl.specs.declared.seen.ItemsSeen.{ItemsSeen}
 use Rattle.oa_idl.specs.Trees.{TreeValue}
 use Rattle.oa_idl.specs.Forms.{Word, nowhere}
-use Rattle.oa_idl.specs.Words.{passes, is_text, name_of, over, too_long, guid_of, part_of, id_of, type_of, amount_of, characters_of}
+use Rattle.oa_idl.specs.Words.{passes, is_text, name_of, over, too_long, guid_of, part_of, id_of, word_type, amount_of, characters_of}
 use Rattle.oa_idl.specs.Words.{never_over}
 use Rattle.oa_idl.specs.Reading.{Reading, ◌>>=◌, give, choose, require, demand, this_at, one_at, perhaps_at, until, list_at, gather_at}
 use Rattle.oa_idl.specs.Grammar.{HeadAttribute, no_head, head_grow, head_finish, PropertyAttribute, no_property, property_grow}
-use Rattle.oa_idl.specs.Grammar.{property_finish, one_more, entry_word, no_entry, entry_grow, no_items, semicolon_after, Content}
+use Rattle.oa_idl.specs.Grammar.{property_finish, one_more, entry_word, no_entry, entry_grow, no_items, semicolon_after, LibraryContent}
 use Rattle.oa_idl.specs.Grammar.{elements_grow, items_in, ParameterAttribute, no_parameter, parameter_grow, parameter_finish}
 use Rattle.oa_idl.specs.Grammar.{MethodAttribute, no_method, method_grow, method_finish, is_form, may_be_void, may_have_type, may_end}
 use Rattle.oa_idl.specs.Grammar.HeadAttribute.{Guid, Numbered, HeadHelp}
 use Rattle.oa_idl.specs.Grammar.PropertyAttribute.{Id, Readonly, PropertyHelp}
 use Rattle.oa_idl.specs.Grammar.ParameterAttribute.{IsIn, IsOptional, HasDefault}
 use Rattle.oa_idl.specs.Grammar.MethodAttribute.{MethodId, Propget, Propput, MethodHelp}
-use Rattle.oa_idl.specs.Grammar.Content.{Import, OfItem}
+use Rattle.oa_idl.specs.Grammar.LibraryContent.{Import, OfItem}
 
 abbrev pub sign_at : List ℕ → Reading (Unit {0})
 sign_at s = this_at (passes s)
@@ -97,8 +97,8 @@ head_at counts = attributes_at (head_attribute_at counts) head_grow head_full he
 
 unfoldable pub type_word_at : Bool → Reading VarType
 type_word_at in_array = choose (passes (codes "unsigned"))
-    (sign_at (codes "unsigned") >>= λ _. one_at (type_of in_array true) never_over)
-    (one_at (type_of in_array false) never_over)
+    (sign_at (codes "unsigned") >>= λ _. one_at (word_type in_array true) never_over)
+    (one_at (word_type in_array false) never_over)
 
 unfoldable pub value_type_at : Reading ValueType
 value_type_at = choose (passes (codes "SAFEARRAY"))
@@ -270,7 +270,7 @@ unfoldable pub import_at : Reading (Unit {0})
 import_at = sign_at (codes "importlib") >>= λ _. sign_at (codes "(") >>= λ _. this_at is_text >>= λ _. sign_at (codes ")") >>= λ _.
     sign_at (codes ";")
 
-unfoldable pub element_at : ItemsSeen → Reading Content
+unfoldable pub element_at : ItemsSeen → Reading LibraryContent
 element_at s = choose (passes (codes "importlib")) (import_at >>= λ _. give Import) (item_at s >>= λ x. give (OfItem x))
 
 -- the items of at most so many imports and items

@@ -9,10 +9,10 @@ use Rattle.oa_idl.specs.declared.stop.ParseError.{ParseError}
 use Rattle.oa_idl.specs.declared.stop.ParseError.TheVariants as errors
 use Rattle.oa_idl.specs.Trees.{TreeValue}
 use Rattle.oa_idl.specs.Tokens.{AreTokens}
-use Rattle.oa_idl.specs.Forms.{Word, Begins}
+use Rattle.oa_idl.specs.Forms.{Word, BeginsWithWords}
 use Rattle.oa_idl.specs.Words.{words_of, NamedAt}
 use Rattle.oa_idl.specs.Grammar.{library}
-use Rattle.oa_idl.specs.Limits.{Keeps}
+use Rattle.oa_idl.specs.Limits.{KeepsLimit}
 
 -- a text is not too long
 abbrev pub MayBeText : List ℕ → Type 0
@@ -24,15 +24,15 @@ pub record IsTree (text : List ℕ) (t : TreeValue) : Type 0 where
   pub tokens : List Token
   pub are : AreTokens 0 text tokens
   pub form : library t (words_of text tokens)
-  pub kept : (l : TreeLimit) → Keeps l t
+  pub kept : (l : TreeLimit) → KeepsLimit l t
 
-abbrev pub place_of : ℕ → Option Token → ℕ
-place_of end None = end
-place_of end (Some t) = t.start
+abbrev pub token_place : ℕ → Option Token → ℕ
+token_place end None = end
+token_place end (Some t) = t.start
 
 -- the place of the token after n others, or of the end
 abbrev pub place_after : ℕ → List Token → ℕ → ℕ
-place_after end tokens n = place_of end (slice_get tokens n)
+place_after end tokens n = token_place end (slice_get tokens n)
 
 -- no text of the grammar whose tree is in P begins with the tokens up to and with the one at this place
 pub record Refused (P : TreeValue → Type 0) (text : List ℕ) (place : ℕ) : Type 0 where
@@ -42,7 +42,7 @@ pub record Refused (P : TreeValue → Type 0) (text : List ℕ) (place : ℕ) : 
   pub left : List Word
   pub parts : words_of text tokens ≡ front ++ left
   pub at : place ≡ place_after (length text) tokens (length front)
-  pub never : (t : TreeValue) (other : List Word) → P t → library t other → Begins front left other → ⊥
+  pub never : (t : TreeValue) (other : List Word) → P t → library t other → BeginsWithWords front left other → ⊥
 
 abbrev pub AnyTree : TreeValue → Type 0
 AnyTree t = Unit {0}
@@ -56,25 +56,25 @@ pub record BrokenAt (l : TreeLimit) (text : List ℕ) : Type 0 where
   pub left : List Word
   pub parts : words_of text tokens ≡ front ++ word ∷ left
   pub named : NamedAt l word
-  pub never : (t : TreeValue) (other more : List Word) → Keeps l t → library t other → other ≡ front ++ word ∷ more → ⊥
+  pub never : (t : TreeValue) (other more : List Word) → KeepsLimit l t → library t other → other ≡ front ++ word ∷ more → ⊥
 
-abbrev pub IsOver : TreeLimit → List ℕ → Type 0
-IsOver l text = MayBeText text × BrokenAt l text
+abbrev pub BreaksLimit : TreeLimit → List ℕ → Type 0
+BreaksLimit l text = MayBeText text × BrokenAt l text
 
-abbrev pub IsAnswer : List ℕ → Result TreeValue ParseError → Type 0
-IsAnswer text (Ok t) = IsTree text t
-IsAnswer text (Err (errors.Syntax place)) = MayBeText text × Refused AnyTree text place
-IsAnswer text (Err (errors.Limit texts.Text)) = max_library_bytes < length text
-IsAnswer text (Err (errors.Limit texts.Name)) = IsOver limits.Name text
-IsAnswer text (Err (errors.Limit texts.Interfaces)) = IsOver limits.Interfaces text
-IsAnswer text (Err (errors.Limit texts.Coclasses)) = IsOver limits.Coclasses text
-IsAnswer text (Err (errors.Limit texts.Members)) = IsOver limits.Members text
-IsAnswer text (Err (errors.Limit texts.Params)) = IsOver limits.Params text
-IsAnswer text (Err errors.Memory) = MayBeText text
+abbrev pub AnswersText : List ℕ → Result TreeValue ParseError → Type 0
+AnswersText text (Ok t) = IsTree text t
+AnswersText text (Err (errors.Syntax place)) = MayBeText text × Refused AnyTree text place
+AnswersText text (Err (errors.Limit texts.Text)) = max_library_bytes < length text
+AnswersText text (Err (errors.Limit texts.Name)) = BreaksLimit limits.Name text
+AnswersText text (Err (errors.Limit texts.Interfaces)) = BreaksLimit limits.Interfaces text
+AnswersText text (Err (errors.Limit texts.Coclasses)) = BreaksLimit limits.Coclasses text
+AnswersText text (Err (errors.Limit texts.Members)) = BreaksLimit limits.Members text
+AnswersText text (Err (errors.Limit texts.Params)) = BreaksLimit limits.Params text
+AnswersText text (Err errors.Memory) = MayBeText text
 
 -- a text that has a tree is answered by it, or by want of memory
-abbrev pub IsFound : TreeValue → Result TreeValue ParseError → Type 0
-IsFound t (Ok u) = u ≡ t
-IsFound t (Err (errors.Syntax place)) = ⊥
-IsFound t (Err (errors.Limit l)) = ⊥
-IsFound t (Err errors.Memory) = Unit {0}
+abbrev pub AnswersTree : TreeValue → Result TreeValue ParseError → Type 0
+AnswersTree t (Ok u) = u ≡ t
+AnswersTree t (Err (errors.Syntax place)) = ⊥
+AnswersTree t (Err (errors.Limit l)) = ⊥
+AnswersTree t (Err errors.Memory) = Unit {0}

@@ -48,9 +48,9 @@ HasFewParameters (items.Interface d) = AllByRecursion (λ (m : MethodValue). len
 HasFewParameters (items.Coclass c) = Unit {0}
 
 -- a tree keeps one of the limits
-abbrev pub Keeps : TreeLimit → TreeValue → Type 0
-Keeps limits.Name t = IsShort t.name × AllByRecursion HasShortNames t.items
-Keeps limits.Interfaces t = how_many one_interface t.items ≤ max_interfaces
-Keeps limits.Coclasses t = how_many one_coclass t.items ≤ max_coclasses
-Keeps limits.Members t = AllByRecursion HasFewMembers t.items
-Keeps limits.Params t = AllByRecursion HasFewParameters t.items
+abbrev pub KeepsLimit : TreeLimit → TreeValue → Type 0
+KeepsLimit limits.Name t = IsShort t.name × AllByRecursion HasShortNames t.items
+KeepsLimit limits.Interfaces t = how_many one_interface t.items ≤ max_interfaces
+KeepsLimit limits.Coclasses t = how_many one_coclass t.items ≤ max_coclasses
+KeepsLimit limits.Members t = AllByRecursion HasFewMembers t.items
+KeepsLimit limits.Params t = AllByRecursion HasFewParameters t.items

@@ -8,7 +8,7 @@ use Rattle.oa_idl.specs.declared.stop.ParseError.{ParseError}
 use Rattle.oa_idl.specs.declared.stop.ParseError.TheVariants as errors
 use Rattle.oa_idl.specs.Trees.{TreeValue}
 use Rattle.oa_idl.specs.Forms.{Word}
-use Rattle.oa_idl.specs.Reading.Step.{Got, Stuck}
+use Rattle.oa_idl.specs.Reading.ReadStep.{Got, Stuck}
 use Rattle.oa_idl.specs.GrammarReading.{library_at}
 use Rattle.oa_idl.specs.TextLimits.{limit_of}
 use Rattle.oa_idl.specs.IsTree.{place_after}

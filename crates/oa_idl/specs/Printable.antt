@@ -70,8 +70,8 @@ abbrev pub IsDefault : Option Literal → Type 0
 IsDefault None = Unit {0}
 IsDefault (Some v) = IsLiteral v
 
-abbrev pub IsParameter : Parameter → Type 0
-IsParameter p = IsDefault p.default × IsValueType p.value_type × IsName p.name
+abbrev pub IsPrintableParameter : Parameter → Type 0
+IsPrintableParameter p = IsDefault p.default × IsValueType p.value_type × IsName p.name
 
 abbrev pub IsProperty : Property → Type 0
 IsProperty p = IsId p.id × IsValueType p.value_type × IsName p.name
@@ -81,7 +81,7 @@ IsResult k None = may_be_void k ≡ true
 IsResult k (Some t) = (may_have_type k ≡ true) × IsValueType t
 
 abbrev pub IsMethod : MethodValue → Type 0
-IsMethod m = IsId m.id × IsResult m.kind m.value_type × IsName m.name × AllByRecursion IsParameter m.parameters
+IsMethod m = IsId m.id × IsResult m.kind m.value_type × IsName m.name × AllByRecursion IsPrintableParameter m.parameters
     × (may_end m.kind (length m.parameters) ≡ true)
 
 -- one at least, and at most one default

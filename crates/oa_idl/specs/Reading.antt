@@ -8,14 +8,14 @@ use Rattle.oa_idl.specs.declared.stop.Stop.TheVariants as stops
 use Rattle.oa_idl.specs.declared.lexer.TokenKind.{TokenKind}
 use Rattle.oa_idl.specs.Forms.{Word}
 
-pub data Step (A : Type 0) : Type 0 where
-  Got : A → List Word → Step A
-  Stuck : Stop → List Word → Step A
+pub data ReadStep (A : Type 0) : Type 0 where
+  Got : A → List Word → ReadStep A
+  Stuck : Stop → List Word → ReadStep A
 
 abbrev pub Reading : Type 0 → Type 0
-Reading A = List Word → Step A
+Reading A = List Word → ReadStep A
 
-abbrev pub and_then : {A B : Type 0} → Step A → (A → Reading B) → Step B
+abbrev pub and_then : {A B : Type 0} → ReadStep A → (A → Reading B) → ReadStep B
 and_then (Got x left) next = next x left
 and_then (Stuck why left) next = Stuck why left
 
@@ -45,9 +45,9 @@ unfoldable pub choose : {A : Type 0} → (Word → Bool) → Reading A → Readi
 choose test one other words = if heads test words then one words else other words
 
 -- the words after the first
-abbrev pub rest_of : List Word → List Word
-rest_of [] = []
-rest_of (w ∷ words) = words
+abbrev pub later_words : List Word → List Word
+later_words [] = []
+later_words (w ∷ words) = words
 
 -- only where a fact holds
 unfoldable pub require : {A : Type 0} → Bool → Reading A → Reading A
@@ -60,21 +60,21 @@ demand (Some x) read words = read x words
 
 -- one word that passes a test
 unfoldable pub this_at : (Word → Bool) → Reading (Unit {0})
-this_at test words = if heads test words then Got done (rest_of words) else Stuck Syntax words
+this_at test words = if heads test words then Got done (later_words words) else Stuck Syntax words
 
 -- a word that may stand or not
 unfoldable pub perhaps_at : (Word → Bool) → Reading (Unit {0})
-perhaps_at test words = Got done (if heads test words then rest_of words else words)
+perhaps_at test words = Got done (if heads test words then later_words words else words)
 
 abbrev pub meaning_of : {A : Type 0} → (Word → Option A) → List Word → Option A
 meaning_of meaning [] = None
 meaning_of meaning (w ∷ words) = meaning w
 
-abbrev pub unless_over : {A : Type 0} → Option TreeLimit → A → List Word → Step A
-unless_over None x words = Got x (rest_of words)
+abbrev pub unless_over : {A : Type 0} → Option TreeLimit → A → List Word → ReadStep A
+unless_over None x words = Got x (later_words words)
 unless_over (Some l) x words = Stuck (stops.Limit l) words
 
-abbrev pub if_meant : {A : Type 0} → Option A → (A → Option TreeLimit) → List Word → Step A
+abbrev pub if_meant : {A : Type 0} → Option A → (A → Option TreeLimit) → List Word → ReadStep A
 if_meant None over words = Stuck Syntax words
 if_meant (Some x) over words = unless_over (over x) x words
 
@@ -105,11 +105,11 @@ unfoldable pub gather_at : {S B : Type 0} → (Word → Bool) → (S → Reading
 gather_at test step last s words = gather test step last (length words) s words
 
 -- What a call on a reader returned and left is what reading gives. Out of memory says nothing.
-abbrev pub Answers : {X Y : Type 0} → (X → Y) → Result X Stop → List Word → Step Y → Type 0
-Answers view (Ok x) new read = read ≡ Got (view x) new
-Answers view (Err Syntax) new read = read ≡ Stuck Syntax new
-Answers view (Err (stops.Limit l)) new read = read ≡ Stuck (stops.Limit l) new
-Answers view (Err Memory) new read = Unit {0}
+abbrev pub ReadsWords : {X Y : Type 0} → (X → Y) → Result X Stop → List Word → ReadStep Y → Type 0
+ReadsWords view (Ok x) new read = read ≡ Got (view x) new
+ReadsWords view (Err Syntax) new read = read ≡ Stuck Syntax new
+ReadsWords view (Err (stops.Limit l)) new read = read ≡ Stuck (stops.Limit l) new
+ReadsWords view (Err Memory) new read = Unit {0}
 
 -- what the next word is, and its bytes
 abbrev pub first_of : List Word → Option (TokenKind × List ℕ)

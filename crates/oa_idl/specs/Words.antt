@@ -78,8 +78,8 @@ if_cell in_array None = None
 if_cell true (Some t) = if is_some (sf_type_of t) then Some t else None
 if_cell false (Some t) = Some t
 
-unfoldable pub type_of : Bool → Bool → Word → Option VarType
-type_of in_array unsigned w = if same_kind w.kind kinds.Name then if_cell in_array (type_named unsigned w.text) else None
+unfoldable pub word_type : Bool → Bool → Word → Option VarType
+word_type in_array unsigned w = if same_kind w.kind kinds.Name then if_cell in_array (type_named unsigned w.text) else None
 
 -- ---- names
 

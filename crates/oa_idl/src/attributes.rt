@@ -3,7 +3,7 @@ ghost use Rattle.std.specs.Prelude.{codes};
 ghost use Rattle.oa_idl.specs.declared.seen.HeadSeen.{HeadSeen};
 ghost use Rattle.oa_idl.specs.declared.seen.PropertySeen.{PropertySeen};
 ghost use Rattle.oa_idl.specs.Words.{passes};
-ghost use Rattle.oa_idl.specs.Reading.{Answers, done, gather};
+ghost use Rattle.oa_idl.specs.Reading.{ReadsWords, done, gather};
 ghost use Rattle.oa_idl.specs.Grammar.{head_grow, head_finish, property_grow, property_finish};
 ghost use Rattle.oa_idl.specs.GrammarReading.{grown_at, next_grown_at, last_at, help_at, minor_at, head_attribute_at, head_full, head_at};
 ghost use Rattle.oa_idl.specs.GrammarReading.{signed_at, property_attribute_at, property_full, property_head_at};
@@ -16,7 +16,7 @@ use uuid::Uuid;
 
 #[tactic(auto, unfolding(crate::specs::Reading::bind, crate::specs::GrammarReading::help_at))]
 pub(crate) fn help(r: &mut Reader<'_>) -> Result<(), Stop>
-    ensures { Answers (λ _. done) result r.new (help_at r.old) }
+    ensures { ReadsWords (λ _. done) result r.new (help_at r.old) }
 {
     r.take(b"helpstring")?;
     r.take(b"(")?;
@@ -29,7 +29,7 @@ pub(crate) fn help(r: &mut Reader<'_>) -> Result<(), Stop>
 /// The second part of a version, 0 where there is none, and the bracket that closes it.
 #[tactic(auto, unfolding(crate::specs::Reading::bind, crate::specs::Reading::give, crate::specs::Reading::choose, crate::specs::GrammarReading::minor_at))]
 fn minor(r: &mut Reader<'_>, counts: bool) -> Result<u16, Stop>
-    ensures { Answers (λ n. n) result r.new (minor_at counts r.old) }
+    ensures { ReadsWords (λ n. n) result r.new (minor_at counts r.old) }
 {
     if r.is(b".") {
         r.take(b".")?;
@@ -43,7 +43,7 @@ fn minor(r: &mut Reader<'_>, counts: bool) -> Result<u16, Stop>
 
 #[tactic(auto, unfolding(crate::specs::Reading::bind, crate::specs::Reading::give, crate::specs::Reading::choose, crate::specs::Reading::require, crate::specs::GrammarReading::uuid_at, crate::specs::GrammarReading::version_at, crate::specs::GrammarReading::head_attribute_at))]
 fn head_attribute(r: &mut Reader<'_>, counts: bool, seen: HeadSeen) -> Result<HeadSeen, Stop>
-    ensures { Answers (λ s. s) result r.new (grown_at (head_attribute_at counts) head_grow seen r.old) }
+    ensures { ReadsWords (λ s. s) result r.new (grown_at (head_attribute_at counts) head_grow seen r.old) }
 {
     if r.is(b"uuid") {
         if seen.uuid {
@@ -85,7 +85,7 @@ fn head_attribute(r: &mut Reader<'_>, counts: bool, seen: HeadSeen) -> Result<He
 
 #[tactic(auto, unfolding(crate::specs::Reading::bind, crate::specs::Reading::give, crate::specs::Reading::require))]
 fn next_head_attribute(r: &mut Reader<'_>, counts: bool, seen: HeadSeen) -> Result<HeadSeen, Stop>
-    ensures { Answers (λ s. s) result r.new (next_grown_at (head_attribute_at counts) head_grow head_full seen r.old) }
+    ensures { ReadsWords (λ s. s) result r.new (next_grown_at (head_attribute_at counts) head_grow head_full seen r.old) }
 {
     if seen.uuid && seen.version && seen.help {
         return Err(Stop::Syntax);
@@ -96,7 +96,7 @@ fn next_head_attribute(r: &mut Reader<'_>, counts: bool, seen: HeadSeen) -> Resu
 
 #[tactic(auto, unfolding(crate::specs::Reading::bind, crate::specs::Reading::give, crate::specs::Reading::demand))]
 fn last_head_attribute(r: &mut Reader<'_>, seen: HeadSeen) -> Result<Head, Stop>
-    ensures { Answers (λ h. h) result r.new (last_at head_finish seen r.old) }
+    ensures { ReadsWords (λ h. h) result r.new (last_at head_finish seen r.old) }
 {
     if !seen.uuid {
         return Err(Stop::Syntax);
@@ -112,7 +112,7 @@ fn more_head_attributes(
     seen: HeadSeen,
     room: usize,
 ) -> Result<Head, Stop>
-    ensures { Answers (λ h. h) result r.new (gather (passes (codes "]")) (next_grown_at (head_attribute_at counts) head_grow head_full)
+    ensures { ReadsWords (λ h. h) result r.new (gather (passes (codes "]")) (next_grown_at (head_attribute_at counts) head_grow head_full)
         (last_at head_finish) room seen r.old) }
 {
     if room == 0 {
@@ -128,7 +128,7 @@ fn more_head_attributes(
 /// The attributes of a library, whose version counts, or of an item.
 #[tactic(auto, unfolding(crate::specs::Reading::bind, crate::specs::Reading::gather_at, crate::specs::GrammarReading::head_at))]
 pub(crate) fn head(r: &mut Reader<'_>, counts: bool) -> Result<Head, Stop>
-    ensures { Answers (λ h. h) result r.new (head_at counts r.old) }
+    ensures { ReadsWords (λ h. h) result r.new (head_at counts r.old) }
 {
     r.take(b"[")?;
     let first = head_attribute(
@@ -153,7 +153,7 @@ pub(crate) fn head(r: &mut Reader<'_>, counts: bool) -> Result<Head, Stop>
 /// A number of an id with its sign.
 #[tactic(auto, unfolding(crate::specs::Reading::bind, crate::specs::Reading::choose, crate::specs::GrammarReading::signed_at))]
 pub(crate) fn signed(r: &mut Reader<'_>) -> Result<i32, Stop>
-    ensures { Answers (λ i. i) result r.new (signed_at r.old) }
+    ensures { ReadsWords (λ i. i) result r.new (signed_at r.old) }
 {
     if r.is(b"-") {
         r.take(b"-")?;
@@ -164,7 +164,7 @@ pub(crate) fn signed(r: &mut Reader<'_>) -> Result<i32, Stop>
 
 #[tactic(auto, unfolding(crate::specs::Reading::bind, crate::specs::Reading::give, crate::specs::Reading::choose, crate::specs::Reading::require, crate::specs::GrammarReading::id_at, crate::specs::GrammarReading::property_attribute_at))]
 fn property_attribute(r: &mut Reader<'_>, seen: PropertySeen) -> Result<PropertySeen, Stop>
-    ensures { Answers (λ s. s) result r.new (grown_at property_attribute_at property_grow seen r.old) }
+    ensures { ReadsWords (λ s. s) result r.new (grown_at property_attribute_at property_grow seen r.old) }
 {
     if r.is(b"id") {
         if seen.id.is_some() {
@@ -198,7 +198,7 @@ fn property_attribute(r: &mut Reader<'_>, seen: PropertySeen) -> Result<Property
 
 #[tactic(auto, unfolding(crate::specs::Reading::bind, crate::specs::Reading::give, crate::specs::Reading::require))]
 fn next_property_attribute(r: &mut Reader<'_>, seen: PropertySeen) -> Result<PropertySeen, Stop>
-    ensures { Answers (λ s. s) result r.new (next_grown_at property_attribute_at property_grow property_full seen r.old) }
+    ensures { ReadsWords (λ s. s) result r.new (next_grown_at property_attribute_at property_grow property_full seen r.old) }
 {
     if seen.id.is_some() && seen.readonly && seen.help {
         return Err(Stop::Syntax);
@@ -209,7 +209,7 @@ fn next_property_attribute(r: &mut Reader<'_>, seen: PropertySeen) -> Result<Pro
 
 #[tactic(auto, unfolding(crate::specs::Reading::bind, crate::specs::Reading::give, crate::specs::Reading::demand))]
 fn last_property_attribute(r: &mut Reader<'_>, seen: PropertySeen) -> Result<PropertyHead, Stop>
-    ensures { Answers (λ h. h) result r.new (last_at property_finish seen r.old) }
+    ensures { ReadsWords (λ h. h) result r.new (last_at property_finish seen r.old) }
 {
     let Some(id) = seen.id else {
         return Err(Stop::Syntax);
@@ -227,7 +227,7 @@ fn more_property_attributes(
     seen: PropertySeen,
     room: usize,
 ) -> Result<PropertyHead, Stop>
-    ensures { Answers (λ h. h) result r.new (gather (passes (codes "]")) (next_grown_at property_attribute_at property_grow property_full)
+    ensures { ReadsWords (λ h. h) result r.new (gather (passes (codes "]")) (next_grown_at property_attribute_at property_grow property_full)
         (last_at property_finish) room seen r.old) }
 {
     if room == 0 {
@@ -243,7 +243,7 @@ fn more_property_attributes(
 /// The attributes of a property.
 #[tactic(auto, unfolding(crate::specs::Reading::bind, crate::specs::Reading::gather_at, crate::specs::GrammarReading::property_head_at))]
 pub(crate) fn property_head(r: &mut Reader<'_>) -> Result<PropertyHead, Stop>
-    ensures { Answers (λ h. h) result r.new (property_head_at r.old) }
+    ensures { ReadsWords (λ h. h) result r.new (property_head_at r.old) }
 {
     r.take(b"[")?;
     let first = property_attribute(

@@ -3,7 +3,7 @@ ghost use Rattle.std.specs.Prelude.{◌≡◌, ◌<◌, IfOk, codes};
 ghost use Rattle.oa_model.specs.Limits.{max_members};
 ghost use Rattle.oa_idl.specs.Forms.{nowhere};
 ghost use Rattle.oa_idl.specs.Words.{passes};
-ghost use Rattle.oa_idl.specs.Reading.{Answers, done, gather, until};
+ghost use Rattle.oa_idl.specs.Reading.{ReadsWords, done, gather, until};
 ghost use Rattle.oa_idl.specs.Grammar.{one_more, is_form, method_grow, method_finish, may_be_void, may_have_type};
 ghost use Rattle.oa_idl.specs.GrammarReading.{grown_at, next_grown_at, last_at, numbered_at, method_attribute_at, method_full};
 ghost use Rattle.oa_idl.specs.GrammarReading.{method_head_at, result_type_at, method_body_at, method_at, closing_at, methods_at};
@@ -21,7 +21,7 @@ use std::alloc::Global;
 
 #[tactic(auto, unfolding(crate::specs::Reading::bind, crate::specs::Reading::give, crate::specs::GrammarReading::numbered_at))]
 fn numbered(r: &mut Reader<'_>) -> Result<i32, Stop>
-    ensures { Answers (λ i. i) result r.new (numbered_at r.old) }
+    ensures { ReadsWords (λ i. i) result r.new (numbered_at r.old) }
 {
     r.take(b"id")?;
     r.take(b"(")?;
@@ -42,7 +42,7 @@ fn is_form(kind: MethodKind) -> bool
 
 #[tactic(auto, unfolding(crate::specs::Reading::bind, crate::specs::Reading::give, crate::specs::Reading::choose, crate::specs::Reading::require, crate::specs::GrammarReading::method_attribute_at))]
 fn method_attribute(r: &mut Reader<'_>, seen: MethodSeen) -> Result<MethodSeen, Stop>
-    ensures { Answers (λ s. s) result r.new (grown_at method_attribute_at method_grow seen r.old) }
+    ensures { ReadsWords (λ s. s) result r.new (grown_at method_attribute_at method_grow seen r.old) }
 {
     if r.is(b"id") {
         if seen.id.is_some() {
@@ -83,7 +83,7 @@ fn method_attribute(r: &mut Reader<'_>, seen: MethodSeen) -> Result<MethodSeen, 
 
 #[tactic(auto, unfolding(crate::specs::Reading::bind, crate::specs::Reading::give, crate::specs::Reading::require))]
 fn next_method_attribute(r: &mut Reader<'_>, seen: MethodSeen) -> Result<MethodSeen, Stop>
-    ensures { Answers (λ s. s) result r.new (next_grown_at method_attribute_at method_grow method_full seen r.old) }
+    ensures { ReadsWords (λ s. s) result r.new (next_grown_at method_attribute_at method_grow method_full seen r.old) }
 {
     if seen.id.is_some() && is_form(seen.kind) && seen.help {
         return Err(Stop::Syntax);
@@ -94,7 +94,7 @@ fn next_method_attribute(r: &mut Reader<'_>, seen: MethodSeen) -> Result<MethodS
 
 #[tactic(auto, unfolding(crate::specs::Reading::bind, crate::specs::Reading::give, crate::specs::Reading::demand))]
 fn last_method_attribute(r: &mut Reader<'_>, seen: MethodSeen) -> Result<MethodHead, Stop>
-    ensures { Answers (λ h. h) result r.new (last_at method_finish seen r.old) }
+    ensures { ReadsWords (λ h. h) result r.new (last_at method_finish seen r.old) }
 {
     let Some(id) = seen.id else {
         return Err(Stop::Syntax);
@@ -112,7 +112,7 @@ fn more_method_attributes(
     seen: MethodSeen,
     room: usize,
 ) -> Result<MethodHead, Stop>
-    ensures { Answers (λ h. h) result r.new (gather (passes (codes "]")) (next_grown_at method_attribute_at method_grow method_full)
+    ensures { ReadsWords (λ h. h) result r.new (gather (passes (codes "]")) (next_grown_at method_attribute_at method_grow method_full)
         (last_at method_finish) room seen r.old) }
 {
     if room == 0 {
@@ -128,7 +128,7 @@ fn more_method_attributes(
 /// The attributes of a method.
 #[tactic(auto, unfolding(crate::specs::Reading::bind, crate::specs::Reading::gather_at, crate::specs::GrammarReading::method_head_at))]
 fn method_head(r: &mut Reader<'_>) -> Result<MethodHead, Stop>
-    ensures { Answers (λ h. h) result r.new (method_head_at r.old) }
+    ensures { ReadsWords (λ h. h) result r.new (method_head_at r.old) }
 {
     r.take(b"[")?;
     let first = method_attribute(
@@ -164,7 +164,7 @@ fn may_have_type(kind: MethodKind) -> bool
 /// The type of a result, None for `void`.
 #[tactic(auto, unfolding(crate::specs::Reading::bind, crate::specs::Reading::give, crate::specs::Reading::choose, crate::specs::Reading::require, crate::specs::GrammarReading::result_type_at))]
 fn result_type(r: &mut Reader<'_>, kind: MethodKind) -> Result<Option<ValueType>, Stop>
-    ensures { Answers (λ t. t) result r.new (result_type_at kind r.old) }
+    ensures { ReadsWords (λ t. t) result r.new (result_type_at kind r.old) }
 {
     if r.is(b"void") {
         if !may_be_void(kind) {
@@ -188,7 +188,7 @@ fn method_body(
     count: usize,
     head: MethodHead,
 ) -> Result<Method, Stop>
-    ensures value { Answers (λ m. m) result r.new (method_body_at count head r.old) }
+    ensures value { ReadsWords (λ m. m) result r.new (method_body_at count head r.old) }
     ensures few { IfOk result (λ _. count < max_members) }
 {
     let value_type = result_type(r, head.kind)?;
@@ -208,7 +208,7 @@ fn method_body(
 
 #[tactic(auto, unfolding(crate::specs::Reading::bind, crate::specs::GrammarReading::method_at))]
 fn method(alloc: Global, r: &mut Reader<'_>, count: usize) -> Result<Method, Stop>
-    ensures value { Answers (λ m. m) result r.new (method_at count r.old) }
+    ensures value { ReadsWords (λ m. m) result r.new (method_at count r.old) }
     ensures few { IfOk result (λ _. count < max_members) }
 {
     let head = method_head(r)?;
@@ -223,7 +223,7 @@ fn method_list(
     before: usize,
     room: usize,
 ) -> Result<Vec<Method>, Stop>
-    ensures { Answers (λ v. (v.items, done)) result r.new
+    ensures { ReadsWords (λ v. (v.items, done)) result r.new
         (until (passes (codes "}")) nowhere method_at one_more closing_at room before r.old) }
 {
     let mut all = Vec::new(alloc);
@@ -243,7 +243,7 @@ fn method_list(
 /// The section, after `before` members, and the brace that closes the interface.
 #[tactic(auto, unfolding(crate::specs::Reading::bind, crate::specs::Reading::give, crate::specs::Reading::choose, crate::specs::Reading::list_at, crate::specs::GrammarReading::methods_at))]
 pub(crate) fn methods(alloc: Global, r: &mut Reader<'_>, before: usize) -> Result<Vec<Method>, Stop>
-    ensures { Answers (λ v. v.items) result r.new (methods_at before r.old) }
+    ensures { ReadsWords (λ v. v.items) result r.new (methods_at before r.old) }
 {
     if r.is(b"methods") {
         r.take(b"methods")?;

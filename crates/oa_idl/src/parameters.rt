@@ -3,7 +3,7 @@ ghost use Rattle.std.specs.Prelude.{◌≡◌, ◌<◌, IfOk, codes};
 ghost use Rattle.oa_model.specs.Limits.{max_parameters};
 ghost use Rattle.oa_idl.specs.Forms.{nowhere};
 ghost use Rattle.oa_idl.specs.Words.{passes};
-ghost use Rattle.oa_idl.specs.Reading.{Answers, done, gather, until};
+ghost use Rattle.oa_idl.specs.Reading.{ReadsWords, done, gather, until};
 ghost use Rattle.oa_idl.specs.Grammar.{one_more, no_parameter, parameter_grow, parameter_finish, may_end};
 ghost use Rattle.oa_idl.specs.GrammarReading.{grown_at, next_grown_at, last_at, amount_at, literal_at, default_at, parameter_attribute_at};
 ghost use Rattle.oa_idl.specs.GrammarReading.{parameter_full, parameter_head_at, typed_at, parameter_at, next_parameter_at};
@@ -20,7 +20,7 @@ use std::alloc::Global;
 /// A number of a default with its sign.
 #[tactic(auto, unfolding(crate::specs::Reading::bind, crate::specs::Reading::choose, crate::specs::GrammarReading::amount_at))]
 fn amount(r: &mut Reader<'_>) -> Result<i128, Stop>
-    ensures { Answers (λ n. n) result r.new (amount_at r.old) }
+    ensures { ReadsWords (λ n. n) result r.new (amount_at r.old) }
 {
     if r.is(b"-") {
         r.take(b"-")?;
@@ -31,7 +31,7 @@ fn amount(r: &mut Reader<'_>) -> Result<i128, Stop>
 
 #[tactic(auto, unfolding(crate::specs::Reading::bind, crate::specs::Reading::give, crate::specs::Reading::choose, crate::specs::GrammarReading::literal_at))]
 fn literal(alloc: Global, r: &mut Reader<'_>) -> Result<Literal, Stop>
-    ensures { Answers (λ v. v) result r.new (literal_at r.old) }
+    ensures { ReadsWords (λ v. v) result r.new (literal_at r.old) }
 {
     if r.is(b"TRUE") {
         r.take(b"TRUE")?;
@@ -52,7 +52,7 @@ fn literal(alloc: Global, r: &mut Reader<'_>) -> Result<Literal, Stop>
 /// What `defaultvalue` says.
 #[tactic(auto, unfolding(crate::specs::Reading::bind, crate::specs::Reading::give, crate::specs::GrammarReading::default_at))]
 fn default(alloc: Global, r: &mut Reader<'_>) -> Result<Literal, Stop>
-    ensures { Answers (λ v. v) result r.new (default_at r.old) }
+    ensures { ReadsWords (λ v. v) result r.new (default_at r.old) }
 {
     r.take(b"defaultvalue")?;
     r.take(b"(")?;
@@ -67,7 +67,7 @@ fn parameter_attribute(
     r: &mut Reader<'_>,
     seen: ParameterSeen,
 ) -> Result<ParameterSeen, Stop>
-    ensures { Answers (λ s. s) result r.new (grown_at parameter_attribute_at parameter_grow seen r.old) }
+    ensures { ReadsWords (λ s. s) result r.new (grown_at parameter_attribute_at parameter_grow seen r.old) }
 {
     if r.is(b"in") {
         if seen.is_in {
@@ -106,7 +106,7 @@ fn next_parameter_attribute(
     r: &mut Reader<'_>,
     seen: ParameterSeen,
 ) -> Result<ParameterSeen, Stop>
-    ensures { Answers (λ s. s) result r.new (next_grown_at parameter_attribute_at parameter_grow parameter_full seen r.old) }
+    ensures { ReadsWords (λ s. s) result r.new (next_grown_at parameter_attribute_at parameter_grow parameter_full seen r.old) }
 {
     if seen.is_in && seen.is_optional && seen.default.is_some() {
         return Err(Stop::Syntax);
@@ -117,7 +117,7 @@ fn next_parameter_attribute(
 
 #[tactic(auto, unfolding(crate::specs::Reading::bind, crate::specs::Reading::give, crate::specs::Reading::demand))]
 fn last_parameter_attribute(r: &mut Reader<'_>, seen: ParameterSeen) -> Result<ParameterSeen, Stop>
-    ensures { Answers (λ h. h) result r.new (last_at parameter_finish seen r.old) }
+    ensures { ReadsWords (λ h. h) result r.new (last_at parameter_finish seen r.old) }
 {
     r.take(b"]")?;
     Ok(seen)
@@ -130,7 +130,7 @@ fn more_parameter_attributes(
     seen: ParameterSeen,
     room: usize,
 ) -> Result<ParameterSeen, Stop>
-    ensures { Answers (λ h. h) result r.new (gather (passes (codes "]"))
+    ensures { ReadsWords (λ h. h) result r.new (gather (passes (codes "]"))
         (next_grown_at parameter_attribute_at parameter_grow parameter_full) (last_at parameter_finish) room seen r.old) }
 {
     if room == 0 {
@@ -156,7 +156,7 @@ fn no_parameter() -> ParameterSeen
 /// The attributes of a parameter.
 #[tactic(auto, unfolding(crate::specs::Reading::bind, crate::specs::Reading::gather_at, crate::specs::GrammarReading::parameter_head_at))]
 fn parameter_head(alloc: Global, r: &mut Reader<'_>) -> Result<ParameterSeen, Stop>
-    ensures { Answers (λ h. h) result r.new (parameter_head_at r.old) }
+    ensures { ReadsWords (λ h. h) result r.new (parameter_head_at r.old) }
 {
     r.take(b"[")?;
     let first = parameter_attribute(alloc, r, no_parameter())?;
@@ -172,7 +172,7 @@ fn typed(
     count: usize,
     seen: ParameterSeen,
 ) -> Result<Parameter, Stop>
-    ensures value { Answers (λ p. p) result r.new (typed_at count seen r.old) }
+    ensures value { ReadsWords (λ p. p) result r.new (typed_at count seen r.old) }
     ensures few { IfOk result (λ _. count < max_parameters) }
 {
     let value_type = value_type(r)?;
@@ -188,7 +188,7 @@ fn typed(
 
 #[tactic(auto, unfolding(crate::specs::Reading::bind, crate::specs::Reading::choose, crate::specs::GrammarReading::parameter_at))]
 fn parameter(alloc: Global, r: &mut Reader<'_>, count: usize) -> Result<Parameter, Stop>
-    ensures value { Answers (λ p. p) result r.new (parameter_at count r.old) }
+    ensures value { ReadsWords (λ p. p) result r.new (parameter_at count r.old) }
     ensures few { IfOk result (λ _. count < max_parameters) }
 {
     if r.is(b"[") {
@@ -201,7 +201,7 @@ fn parameter(alloc: Global, r: &mut Reader<'_>, count: usize) -> Result<Paramete
 /// A parameter after `count` others, with the comma before it.
 #[tactic(auto, unfolding(crate::specs::Reading::bind, crate::specs::GrammarReading::separated_at))]
 fn next_parameter(alloc: Global, r: &mut Reader<'_>, count: usize) -> Result<Parameter, Stop>
-    ensures value { Answers (λ p. p) result r.new (next_parameter_at count r.old) }
+    ensures value { ReadsWords (λ p. p) result r.new (next_parameter_at count r.old) }
     ensures few { IfOk result (λ _. count < max_parameters) }
 {
     if count == 0 {
@@ -229,7 +229,7 @@ pub(crate) fn parameters(
     kind: MethodKind,
     room: usize,
 ) -> Result<Vec<Parameter>, Stop>
-    ensures { Answers (λ v. (v.items, done)) result r.new
+    ensures { ReadsWords (λ v. (v.items, done)) result r.new
         (until (passes (codes ")")) nowhere next_parameter_at one_more (last_parameter_at kind) room 0 r.old) }
 {
     let mut all = Vec::new(alloc);

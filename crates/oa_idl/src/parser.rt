@@ -3,8 +3,8 @@ ghost use Rattle.std.specs.Prelude.{◌≡◌, ◌-◌, ◌+◌, ◌<◌, ◌^�
 ghost use Rattle.oa_model.specs.Limits.{max_members};
 ghost use Rattle.oa_idl.specs.Forms.{nowhere};
 ghost use Rattle.oa_idl.specs.Words.{word_of, passes};
-ghost use Rattle.oa_idl.specs.Reading.{Answers, done, heads, until};
-ghost use Rattle.oa_idl.specs.IsTree.{IsTree, IsAnswer, IsFound, place_after};
+ghost use Rattle.oa_idl.specs.Reading.{ReadsWords, done, heads, until};
+ghost use Rattle.oa_idl.specs.IsTree.{IsTree, AnswersText, AnswersTree, place_after};
 ghost use Rattle.oa_idl.specs.Grammar.{one_more, entry_grow, no_entry, items_grow};
 ghost use Rattle.oa_idl.specs.GrammarReading.{type_word_at, value_type_at, property_at, methods_at, ends_properties, members_at};
 ghost use Rattle.oa_idl.specs.GrammarReading.{interface_at, named_at, entry_at, last_entry_at, coclass_at, import_at, item_at};
@@ -28,7 +28,7 @@ use uuid::Uuid;
 
 #[tactic(auto, unfolding(crate::specs::Reading::bind, crate::specs::Reading::choose, crate::specs::GrammarReading::type_word_at))]
 fn type_word(r: &mut Reader<'_>, in_array: bool) -> Result<VarType, Stop>
-    ensures { Answers (λ t. t) result r.new (type_word_at in_array r.old) }
+    ensures { ReadsWords (λ t. t) result r.new (type_word_at in_array r.old) }
 {
     if r.is(b"unsigned") {
         r.take(b"unsigned")?;
@@ -39,7 +39,7 @@ fn type_word(r: &mut Reader<'_>, in_array: bool) -> Result<VarType, Stop>
 
 #[tactic(auto, unfolding(crate::specs::Reading::bind, crate::specs::Reading::give, crate::specs::Reading::choose, crate::specs::GrammarReading::value_type_at))]
 pub(crate) fn value_type(r: &mut Reader<'_>) -> Result<ValueType, Stop>
-    ensures { Answers (λ t. t) result r.new (value_type_at r.old) }
+    ensures { ReadsWords (λ t. t) result r.new (value_type_at r.old) }
 {
     if r.is(b"SAFEARRAY") {
         r.take(b"SAFEARRAY")?;
@@ -55,7 +55,7 @@ pub(crate) fn value_type(r: &mut Reader<'_>) -> Result<ValueType, Stop>
 /// A property after `count` members of its interface.
 #[tactic(auto, unfolding(crate::specs::Reading::bind, crate::specs::Reading::give, crate::specs::GrammarReading::property_at))]
 fn property(alloc: Global, r: &mut Reader<'_>, count: usize) -> Result<Property, Stop>
-    ensures value { Answers (λ p. p) result r.new (property_at count r.old) }
+    ensures value { ReadsWords (λ p. p) result r.new (property_at count r.old) }
     ensures few { IfOk result (λ _. count < max_members) }
 {
     let head = property_head(r)?;
@@ -85,7 +85,7 @@ fn properties(
     r: &mut Reader<'_>,
     room: usize,
 ) -> Result<(Vec<Property>, Vec<Method>), Stop>
-    ensures { Answers (λ v. (v.0.items, v.1.items)) result r.new
+    ensures { ReadsWords (λ v. (v.0.items, v.1.items)) result r.new
         (until ends_properties nowhere property_at one_more methods_at room 0 r.old) }
 {
     let mut all = Vec::new(alloc);
@@ -104,7 +104,7 @@ fn properties(
 
 #[tactic(auto, unfolding(crate::specs::Reading::bind, crate::specs::Reading::give, crate::specs::Reading::choose, crate::specs::Reading::list_at, crate::specs::GrammarReading::members_at))]
 fn members(alloc: Global, r: &mut Reader<'_>) -> Result<(Vec<Property>, Vec<Method>), Stop>
-    ensures { Answers (λ v. (v.0.items, v.1.items)) result r.new (members_at r.old) }
+    ensures { ReadsWords (λ v. (v.0.items, v.1.items)) result r.new (members_at r.old) }
 {
     if r.is(b"properties") {
         r.take(b"properties")?;
@@ -118,7 +118,7 @@ fn members(alloc: Global, r: &mut Reader<'_>) -> Result<(Vec<Property>, Vec<Meth
 
 #[tactic(auto, unfolding(crate::specs::Reading::bind, crate::specs::Reading::give, crate::specs::GrammarReading::interface_at))]
 fn interface(alloc: Global, r: &mut Reader<'_>, seen: ItemsSeen, guid: Uuid) -> Result<Item, Stop>
-    ensures { Answers (λ x. x) result r.new (interface_at seen guid r.old) }
+    ensures { ReadsWords (λ x. x) result r.new (interface_at seen guid r.old) }
 {
     r.take(b"dispinterface")?;
     let name = r.name(
@@ -139,7 +139,7 @@ fn interface(alloc: Global, r: &mut Reader<'_>, seen: ItemsSeen, guid: Uuid) -> 
 
 #[tactic(auto, unfolding(crate::specs::Reading::bind, crate::specs::Reading::give, crate::specs::GrammarReading::named_at))]
 fn named(alloc: Global, r: &mut Reader<'_>, is_default: bool) -> Result<Entry, Stop>
-    ensures { Answers (λ e. e) result r.new (named_at is_default r.old) }
+    ensures { ReadsWords (λ e. e) result r.new (named_at is_default r.old) }
 {
     r.entry_word()?;
     let interface = r.name(alloc, TreeLimit::Name, 1, 0)?;
@@ -152,7 +152,7 @@ fn named(alloc: Global, r: &mut Reader<'_>, is_default: bool) -> Result<Entry, S
 
 #[tactic(auto, unfolding(crate::specs::Reading::bind, crate::specs::Reading::give, crate::specs::Reading::choose, crate::specs::Reading::require, crate::specs::GrammarReading::entry_at))]
 fn entry(alloc: Global, r: &mut Reader<'_>, seen: EntriesSeen) -> Result<Entry, Stop>
-    ensures { Answers (λ e. e) result r.new (entry_at seen r.old) }
+    ensures { ReadsWords (λ e. e) result r.new (entry_at seen r.old) }
 {
     if r.is(b"[") {
         if seen.default {
@@ -179,7 +179,7 @@ fn with_entry(seen: EntriesSeen, entry: &Entry) -> EntriesSeen
 /// At most so many entries, and the brace that closes them.
 #[tactic(auto, using(crate::proofs::Loop::until_err, crate::proofs::Loop::until_out))]
 fn entries(alloc: Global, r: &mut Reader<'_>, room: usize) -> Result<Vec<Entry>, Stop>
-    ensures { Answers (λ v. (v.items, done)) result r.new
+    ensures { ReadsWords (λ v. (v.items, done)) result r.new
         (until (passes (codes "}")) nowhere entry_at entry_grow last_entry_at room no_entry r.old) }
 {
     let mut all = Vec::new(alloc);
@@ -204,7 +204,7 @@ fn entries(alloc: Global, r: &mut Reader<'_>, room: usize) -> Result<Vec<Entry>,
 
 #[tactic(auto, unfolding(crate::specs::Reading::bind, crate::specs::Reading::give, crate::specs::Reading::list_at, crate::specs::GrammarReading::entries_at, crate::specs::GrammarReading::coclass_at))]
 fn coclass(alloc: Global, r: &mut Reader<'_>, seen: ItemsSeen, guid: Uuid) -> Result<Item, Stop>
-    ensures { Answers (λ x. x) result r.new (coclass_at seen guid r.old) }
+    ensures { ReadsWords (λ x. x) result r.new (coclass_at seen guid r.old) }
 {
     r.take(b"coclass")?;
     let name = r.name(alloc, TreeLimit::Coclasses, MAX_COCLASSES, seen.coclasses)?;
@@ -220,7 +220,7 @@ fn coclass(alloc: Global, r: &mut Reader<'_>, seen: ItemsSeen, guid: Uuid) -> Re
 
 #[tactic(auto, unfolding(crate::specs::Reading::bind, crate::specs::Reading::choose, crate::specs::GrammarReading::item_at))]
 fn item(alloc: Global, r: &mut Reader<'_>, seen: ItemsSeen) -> Result<Item, Stop>
-    ensures { Answers (λ x. x) result r.new (item_at seen r.old) }
+    ensures { ReadsWords (λ x. x) result r.new (item_at seen r.old) }
 {
     let head = head(r, false)?;
     if r.is(b"dispinterface") {
@@ -249,7 +249,7 @@ fn counted(seen: ItemsSeen, item: &Item) -> ItemsSeen
 /// An import, which is ignored.
 #[tactic(auto, unfolding(crate::specs::Reading::bind, crate::specs::GrammarReading::import_at))]
 fn import(r: &mut Reader<'_>) -> Result<(), Stop>
-    ensures { Answers (λ _. done) result r.new (import_at r.old) }
+    ensures { ReadsWords (λ _. done) result r.new (import_at r.old) }
 {
     r.take(b"importlib")?;
     r.take(b"(")?;
@@ -260,7 +260,7 @@ fn import(r: &mut Reader<'_>) -> Result<(), Stop>
 
 /// The items of at most so many imports and items, and the brace that closes them.
 fn items(alloc: Global, r: &mut Reader<'_>, room: usize) -> Result<Vec<Item>, Stop>
-    ensures { Answers (λ v. v.items) result r.new (elements_within room r.old) }
+    ensures { ReadsWords (λ v. v.items) result r.new (elements_within room r.old) }
 {
     let mut all = Vec::new(alloc);
     let mut seen = ItemsSeen {
@@ -286,7 +286,7 @@ fn items(alloc: Global, r: &mut Reader<'_>, room: usize) -> Result<Vec<Item>, St
 
 #[tactic(auto, unfolding(crate::specs::Reading::bind, crate::specs::Reading::give, crate::specs::Reading::perhaps_at, crate::specs::Reading::list_at, crate::specs::GrammarReading::elements_at, crate::specs::GrammarReading::library_at))]
 fn library(alloc: Global, r: &mut Reader<'_>) -> Result<Tree, Stop>
-    ensures { Answers (λ t. t) result r.new (library_at r.old) }
+    ensures { ReadsWords (λ t. t) result r.new (library_at r.old) }
 {
     let head = head(r, true)?;
     r.take(b"library")?;
@@ -343,8 +343,8 @@ fn parse_words(alloc: Global, text: &[u8], words: &[Token]) -> Result<Tree, Pars
 /// that is one too many: no text of the grammar that keeps this limit begins with the tokens up to and with that name. `Memory` where none
 /// was found.
 pub fn parse(alloc: Global, text: &str) -> Result<Tree, ParseError>
-    ensures exact { IsAnswer text.now result }
-    ensures found { (t : TreeValue) → IsTree text.now t → IsFound t result }
+    ensures exact { AnswersText text.now result }
+    ensures found { (t : TreeValue) → IsTree text.now t → AnswersTree t result }
 {
     if text.len() > MAX_LIBRARY_BYTES {
         return Err(ParseError::Limit(Limit::Text));

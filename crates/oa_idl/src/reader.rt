@@ -1,10 +1,10 @@
 //! Reading the words of a text from the front.
 ghost use Rattle.std.specs.Prelude.{◌≡◌, ◌-◌, ◌+◌, ◌*◌, ◌<◌, ◌^◌, ◌&&◌, if◌then◌else◌, length, take, drop, map, false, IfOk, IfSome};
 ghost use Rattle.oa_idl.specs.Words.{word_of, passes, is_text, name_of, over, guid_of, digit_of, number_from, number_of};
-ghost use Rattle.oa_idl.specs.Words.{is_hexadecimal, below, part_from, part_of, id_number, id_from, id_of, type_of, same_kind};
+ghost use Rattle.oa_idl.specs.Words.{is_hexadecimal, below, part_from, part_of, id_number, id_from, id_of, word_type, same_kind};
 ghost use Rattle.oa_idl.specs.Words.{never_over, amount_from, amount_of, is_printable, is_escaped, characters_from, characters_of};
 ghost use Rattle.oa_idl.specs.Grammar.{entry_word};
-ghost use Rattle.oa_idl.specs.Reading.{Answers, heads, rest_of, this_at, one_at, perhaps_at, done, seen_first, first_of};
+ghost use Rattle.oa_idl.specs.Reading.{ReadsWords, heads, later_words, this_at, one_at, perhaps_at, done, seen_first, first_of};
 ghost use Rattle.uuid.specs.Text.{parsed_hyphenated};
 
 use crate::characters::Characters;
@@ -238,7 +238,7 @@ impl<'a> Reader<'a> {
     /// Goes past the next word.
     #[tactic(auto, using(crate::proofs::Maps::map_rest))]
     pub(crate) fn skip(&mut self)
-        ensures { self.new ≡ rest_of self.old }
+        ensures { self.new ≡ later_words self.old }
     {
         if !self.rest.is_empty() {
             self.rest = &self.rest[1..];
@@ -259,7 +259,7 @@ impl<'a> Reader<'a> {
     /// Takes this sign.
     #[tactic(auto, unfolding(crate::specs::Reading::this_at))]
     pub(crate) fn take(&mut self, sign: &[u8]) -> Result<(), Stop>
-        ensures { Answers (λ _. done) result self.new (this_at (passes sign.now) self.old) }
+        ensures { ReadsWords (λ _. done) result self.new (this_at (passes sign.now) self.old) }
     {
         if !self.is(sign) {
             return Err(Stop::Syntax);
@@ -271,7 +271,7 @@ impl<'a> Reader<'a> {
     /// Takes `dispinterface` or `interface`.
     #[tactic(auto, unfolding(crate::specs::Reading::this_at, crate::specs::Words::passes))]
     pub(crate) fn entry_word(&mut self) -> Result<(), Stop>
-        ensures { Answers (λ _. done) result self.new (this_at entry_word self.old) }
+        ensures { ReadsWords (λ _. done) result self.new (this_at entry_word self.old) }
     {
         let Some((kind, text)) = self.first() else {
             return Err(Stop::Syntax);
@@ -288,7 +288,7 @@ impl<'a> Reader<'a> {
     /// Takes a string.
     #[tactic(auto, unfolding(crate::specs::Reading::this_at, crate::specs::Words::is_text))]
     pub(crate) fn text(&mut self) -> Result<(), Stop>
-        ensures { Answers (λ _. done) result self.new (this_at is_text self.old) }
+        ensures { ReadsWords (λ _. done) result self.new (this_at is_text self.old) }
     {
         let Some((kind, _text)) = self.first() else {
             return Err(Stop::Syntax);
@@ -303,7 +303,7 @@ impl<'a> Reader<'a> {
     /// Takes this sign where it stands.
     #[tactic(auto, unfolding(crate::specs::Reading::perhaps_at))]
     pub(crate) fn perhaps(&mut self, sign: &[u8])
-        ensures { self.new ≡ (if heads (passes sign.now) self.old then rest_of self.old else self.old) }
+        ensures { self.new ≡ (if heads (passes sign.now) self.old then later_words self.old else self.old) }
     {
         if self.is(sign) {
             self.skip();
@@ -319,7 +319,7 @@ impl<'a> Reader<'a> {
         bound: usize,
         count: usize,
     ) -> Result<Name, Stop>
-        ensures value { Answers (λ n. n) result self.new (one_at name_of (over limit bound count) self.old) }
+        ensures value { ReadsWords (λ n. n) result self.new (one_at name_of (over limit bound count) self.old) }
         ensures few { IfOk result (λ _. count < bound) }
     {
         let Some((kind, text)) = self.first() else {
@@ -342,7 +342,7 @@ impl<'a> Reader<'a> {
     /// Takes a GUID.
     #[tactic(auto, unfolding(crate::specs::Reading::one_at, crate::specs::Words::guid_of))]
     pub(crate) fn guid(&mut self) -> Result<Uuid, Stop>
-        ensures { Answers (λ g. g) result self.new (one_at guid_of never_over self.old) }
+        ensures { ReadsWords (λ g. g) result self.new (one_at guid_of never_over self.old) }
     {
         let Some((kind, text)) = self.first() else {
             return Err(Stop::Syntax);
@@ -362,7 +362,7 @@ impl<'a> Reader<'a> {
     /// Takes a part of a version, which counts or is taken as 0.
     #[tactic(auto, unfolding(crate::specs::Reading::one_at, crate::specs::Words::part_of))]
     pub(crate) fn part(&mut self, counts: bool) -> Result<u16, Stop>
-        ensures { Answers (λ n. n) result self.new (one_at (part_of counts) never_over self.old) }
+        ensures { ReadsWords (λ n. n) result self.new (one_at (part_of counts) never_over self.old) }
     {
         let Some((kind, text)) = self.first() else {
             return Err(Stop::Syntax);
@@ -382,7 +382,7 @@ impl<'a> Reader<'a> {
     /// Takes the number of an id, after a minus or not.
     #[tactic(auto, unfolding(crate::specs::Reading::one_at, crate::specs::Words::id_of))]
     pub(crate) fn id(&mut self, negative: bool) -> Result<i32, Stop>
-        ensures { Answers (λ n. n) result self.new (one_at (id_of negative) never_over self.old) }
+        ensures { ReadsWords (λ n. n) result self.new (one_at (id_of negative) never_over self.old) }
     {
         let Some((kind, text)) = self.first() else {
             return Err(Stop::Syntax);
@@ -400,9 +400,9 @@ impl<'a> Reader<'a> {
     }
 
     /// Takes a word that stands for a type, after `unsigned` or not, in an array or not.
-    #[tactic(auto, unfolding(crate::specs::Reading::one_at, crate::specs::Words::type_of))]
+    #[tactic(auto, unfolding(crate::specs::Reading::one_at, crate::specs::Words::word_type))]
     pub(crate) fn type_word(&mut self, in_array: bool, unsigned: bool) -> Result<VarType, Stop>
-        ensures { Answers (λ t. t) result self.new (one_at (type_of in_array unsigned) never_over self.old) }
+        ensures { ReadsWords (λ t. t) result self.new (one_at (word_type in_array unsigned) never_over self.old) }
     {
         let Some((kind, text)) = self.first() else {
             return Err(Stop::Syntax);
@@ -433,7 +433,7 @@ impl<'a> Reader<'a> {
     /// Takes a number of a default, after a minus or not.
     #[tactic(auto, unfolding(crate::specs::Reading::one_at, crate::specs::Words::amount_of))]
     pub(crate) fn amount(&mut self, negative: bool) -> Result<i128, Stop>
-        ensures { Answers (λ n. n) result self.new (one_at (amount_of negative) never_over self.old) }
+        ensures { ReadsWords (λ n. n) result self.new (one_at (amount_of negative) never_over self.old) }
     {
         let Some((kind, text)) = self.first() else {
             return Err(Stop::Syntax);
@@ -453,7 +453,7 @@ impl<'a> Reader<'a> {
     /// Takes a default string.
     #[tactic(auto, unfolding(crate::specs::Reading::one_at, crate::specs::Words::characters_of))]
     pub(crate) fn characters(&mut self, alloc: Global) -> Result<Characters, Stop>
-        ensures { Answers (λ n. n) result self.new (one_at characters_of never_over self.old) }
+        ensures { ReadsWords (λ n. n) result self.new (one_at characters_of never_over self.old) }
     {
         let Some((kind, text)) = self.first() else {
             return Err(Stop::Syntax);

@@ -1,6 +1,6 @@
 //! Classes of bytes, and how far a stretch of them goes.
 ghost use Rattle.std.specs.Prelude.{◌≡◌, ◌≤◌, ◌<◌, length, drop, IsTrue, false};
-ghost use Rattle.oa_idl.specs.Bytes.{is_in, run, end_from, is_guid, group, IsWithin, closes, marks};
+ghost use Rattle.oa_idl.specs.Bytes.{is_in, run, end_from, is_guid, group, EndsInside, closes, marks};
 
 /// A class of bytes.
 #[derive(Clone, Copy, Debug, PartialEq, Eq)]
@@ -74,7 +74,7 @@ pub(crate) fn run(class: Class, bytes: &[u8]) -> usize
 #[tactic(auto, using(crate::proofs::Scans::end_goes_on, crate::proofs::Scans::end_found, crate::proofs::Scans::end_none))]
 pub(crate) fn end_of(close: Close, bytes: &[u8]) -> Option<usize>
     ensures value { result ≡ end_from close false bytes.now }
-    ensures within { IsWithin result (length bytes.now) }
+    ensures within { EndsInside result (length bytes.now) }
 {
     let mut marked = false;
     let mut n = 0;

@@ -16,7 +16,7 @@ use Rattle.oa_table.specs.declared.event.Event.{Event}
 use Rattle.oa_table.specs.declared.event.Event.TheVariants.{Create, Release, Put, PutElement, Redim}
 use Rattle.oa_table.specs.declared.fault.TableFault.{TableFault}
 use Rattle.oa_table.specs.declared.fault.TableFault.TheVariants.{Array, WrongNumber}
-use Rattle.oa_table.specs.Elements.{element_put, redimensioned_value}
+use Rattle.oa_table.specs.Elements.{with_element_put, redimensioned_value}
 use Rattle.oa_table.specs.Events.{applied, changed_if_live, created, on_object, released_if_live, with_object}
 use Rattle.oa_table.specs.Objects.{any_locked, with_change, with_put}
 use Rattle.oa_table.specs.Outcomes.{mapped}
@@ -124,7 +124,7 @@ pub event_keeps : (event : Event) (t : TableValue) → IsNumbered t → IfOk (ap
 event_keeps (Create number class) t h = create_keeps number (record { class = class; cells = [] }) t h
 event_keeps (Release number) t h = release_keeps number t (object_at number t) h
 event_keeps (Put name value) t h = on_object_keeps name.object (with_put name.place value) t h
-event_keeps (PutElement name index value) t h = on_object_keeps name.object (with_change name.place (element_put index value)) t h
+event_keeps (PutElement name index value) t h = on_object_keeps name.object (with_change name.place (with_element_put index value)) t h
 event_keeps (Redim name bound) t h = on_object_keeps name.object (with_change name.place (redimensioned_value bound)) t h
 
 pub numbers_stay : (event : Event) (old new : TableValue) → is_numbered old ≡ true → applied event old ≡ Ok new → is_numbered new ≡ true

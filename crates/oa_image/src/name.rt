@@ -1,7 +1,7 @@
 //! The images of names of cells.
 ghost use Rattle.std.specs.Prelude.{◌≡◌, ◌≤◌, ◌+◌, ◌*◌, IfOk, length};
 ghost use Rattle.std.specs.List.{flat_map};
-ghost use Rattle.oa_layout.specs.Answers.{Answers, AnswersBy};
+ghost use Rattle.oa_layout.specs.Answers.{ReadsImage, ReadsImageBy};
 ghost use Rattle.oa_layout.specs.Lengths.{max_scalar_bytes};
 ghost use Rattle.oa_layout.specs.Windows.{Adds};
 ghost use Rattle.oa_layout.specs.Values.{scalar as a_scalar};
@@ -19,7 +19,7 @@ use std::alloc::Global;
 
 #[tactic(auto, unfolding(oa_ndr::specs::Reading::bind, oa_ndr::specs::Reading::give, oa_layout::specs::Formats::made_where, oa_layout::specs::Formats::next_by, oa_layout::specs::Formats::counted, crate::specs::Names::key))]
 fn read_key(alloc: Global, r: &mut Ndr<'_>) -> Result<Vec<Scalar>, ReadFault>
-    ensures read { AnswersBy (λ v. v.items) result r.new (names.key.read r.old) }
+    ensures read { ReadsImageBy (λ v. v.items) result r.new (names.key.read r.old) }
     ensures few { IfOk result (λ v. length v.items ≤ max_key_scalars) }
 {
     let count = read_u16(r)?;

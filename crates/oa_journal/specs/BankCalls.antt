@@ -72,9 +72,9 @@ pub record RefusesHead {D T : Type 0} (g : Ghosts D) (place : ℕ) (old new : D)
   pub device : (fault : DeviceFault) → IsErrOf result (Device fault) → fault ≡ Read
   pub cause : IfErr result (IsCaused (g.failures_of old) (g.failures_of new))
 
--- The group of a frame has no room, or the bank has stopped: nothing has changed.
-pub record RefusesGroup {D T : Type 0} (frame : List ℕ) (before after : Bank) (old new : D) (result : Result T AppendFault) : Type 0 where
-  pub full : IsErrOf result appends.Full ↔ ((before.stopped ≡ false) × (body_bytes before.shape ≤ before.gate + length frame))
+-- The group of a batch has no room, or the bank has stopped: nothing has changed.
+pub record RefusesGroup {D T : Type 0} (batch : List ℕ) (before after : Bank) (old new : D) (result : Result T AppendFault) : Type 0 where
+  pub full : IsErrOf result appends.Full ↔ ((before.stopped ≡ false) × (body_bytes before.shape ≤ before.gate + length batch))
   pub full_same : IsErrOf result appends.Full → (new ≡ old) × (after ≡ before)
   pub stopped : IsErrOf result appends.Stopped ↔ (before.stopped ≡ true)
   pub stopped_same : IsErrOf result appends.Stopped → (new ≡ old) × (after ≡ before)

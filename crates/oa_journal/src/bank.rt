@@ -11,9 +11,9 @@ ghost use Rattle.oa_journal.specs.Reads.{OnlyReads};
 ghost use Rattle.oa_journal.specs.Shapes.{body_bytes, shape_of, IsShape};
 
 use crate::Shape;
-use crate::frame::{append_group, lay_out};
+use crate::batch::{append_group, lay_out};
 use crate::layout::{Front, header_bytes};
-use crate::opening::{bank_at, library_at};
+use crate::reading::{bank_at, library_at};
 use oa_disk::{DeviceFault, Disk};
 use oa_image::laws::is_table;
 use oa_table::Table;
@@ -246,35 +246,35 @@ impl Bank {
         }
     }
 
-    /// Adds a group, which stands in a frame with four free bytes before it and one behind, in four calls of the disk: it is there
-    /// whole or not at all. It takes no memory. Of the frame, the free bytes alone may change. After `Device`, and only then,
+    /// Adds a group, which stands in a batch with four free bytes before it and one behind, in four calls of the disk: it is there
+    /// whole or not at all. It takes no memory. Of the batch, the free bytes alone may change. After `Device`, and only then,
     /// the bank has stopped.
-    pub fn append<D: Disk>(&mut self, disk: &mut D, frame: &mut [u8]) -> Result<(), AppendFault>
-        requires some { 5 < length frame.old }
+    pub fn append<D: Disk>(&mut self, disk: &mut D, batch: &mut [u8]) -> Result<(), AppendFault>
+        requires some { 5 < length batch.old }
         requires inside { self.old.body + body_bytes self.old.shape ≤ D.size_of disk.old }
 
         // A crash at any moment leaves what it might have left, with the group or without it; and at `Ok` with it.
-        ensures leaves { Leaves D.Disk (IsWithOrWithout self.old.shape self.old.head self.old.body self.old.gate (group_of frame.old))
-            (IsWith self.old.shape self.old.head self.old.body self.old.gate (group_of frame.old)) disk.old disk.new result }
-        ensures gate { OnOk result (IsAt self.old.shape self.old.head self.old.body (self.old.gate + length frame.old) false self.new) }
+        ensures leaves { Leaves D.Disk (IsWithOrWithout self.old.shape self.old.head self.old.body self.old.gate (group_of batch.old))
+            (IsWith self.old.shape self.old.head self.old.body self.old.gate (group_of batch.old)) disk.old disk.new result }
+        ensures gate { OnOk result (IsAt self.old.shape self.old.head self.old.body (self.old.gate + length batch.old) false self.new) }
         ensures stops { (fault : DeviceFault) → IsErrOf result (AppendFault.Device fault)
             → IsAt self.old.shape self.old.head self.old.body self.old.gate true self.new }
-        ensures kept { group_of frame.new ≡ group_of frame.old }
-        ensures refused { RefusesGroup frame.old self.old self.new disk.old disk.new result }
+        ensures kept { group_of batch.new ≡ group_of batch.old }
+        ensures refused { RefusesGroup batch.old self.old self.new disk.old disk.new result }
         // At most four calls.
         ensures after { AfterAttempt D.Disk AppendFault.Device 4 disk.old disk.new result }
     {
         if self.stopped {
             return Err(AppendFault::Stopped);
         }
-        if frame.len() >= self.room() as usize {
+        if batch.len() >= self.room() as usize {
             return Err(AppendFault::Full);
         }
-        if let Err(fault) = append_group(disk, self.body + u64::from(self.gate), frame) {
+        if let Err(fault) = append_group(disk, self.body + u64::from(self.gate), batch) {
             self.stopped = true;
             return Err(AppendFault::Device(fault));
         }
-        self.gate += frame.len() as u32;
+        self.gate += batch.len() as u32;
         Ok(())
     }
 }

@@ -8,12 +8,12 @@
 #![tactic(auto)]
 
 mod bank;
-mod frame;
+mod batch;
 mod groups;
 mod head;
 pub mod laws;
 mod layout;
-mod opening;
+mod reading;
 mod shape;
 mod window;
 

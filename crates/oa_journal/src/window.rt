@@ -1,7 +1,7 @@
 //! Bytes of a disk that were read ahead: a reader in pieces.
 ghost use Rattle.std.specs.Prelude.{◌≡◌, ◌↔◌, ◌+◌, ◌-◌, ◌^◌, ◌<◌, ◌≤◌, ℕ, List, IsTrue, length, take, drop, OnOk, OnErr, IfErr, IsErrOf};
 ghost use Rattle.oa_disk.specs.After.{AfterCalls};
-ghost use Rattle.oa_disk.specs.Disk.{Holds};
+ghost use Rattle.oa_disk.specs.Disk.{HasBytesAt};
 ghost use Rattle.oa_disk.specs.declared.disk.DeviceFault.{DeviceFault};
 ghost use Rattle.oa_journal.specs.declared.bank.BankFault.{BankFault};
 ghost use Rattle.oa_journal.specs.Reads.{OnlyReads};
@@ -20,7 +20,7 @@ fn read_front<D: Disk>(
     requires fits { count ≤ length buffer.old }
     requires inside { at + count ≤ D.size_of disk.old }
 
-    ensures front { OnOk result (IsTrue (D.is_honest disk.new) → Holds (D.contents disk.old) at (take count buffer.new)) }
+    ensures front { OnOk result (IsTrue (D.is_honest disk.new) → HasBytesAt (D.contents disk.old) at (take count buffer.new)) }
     ensures long { length buffer.new ≡ length buffer.old }
     ensures damaged { (place : ℕ) → IsErrOf result (BankFault.Damaged place) → ⊥ }
     ensures device { (fault : DeviceFault) → IsErrOf result (BankFault.Device fault) → fault ≡ DeviceFault.Read }
@@ -48,7 +48,7 @@ impl Window {
     /// No bytes.
     pub(crate) fn over(buffer: Vec<u8>) -> Window
         requires { 5 ≤ length buffer.items }
-        ensures shown { (disk : List ℕ) → Holds disk result.from (take result.len result.buffer.items) }
+        ensures shown { (disk : List ℕ) → HasBytesAt disk result.from (take result.len result.buffer.items) }
         ensures kept { length result.buffer.items ≡ length buffer.items }
     {
         Window {
@@ -84,10 +84,10 @@ impl Window {
         requires inside { at + count ≤ end }
         requires on_the_disk { end ≤ D.size_of disk.old }
         requires fits { count ≤ length self.old.buffer.items }
-        requires shown { IsTrue (D.is_honest disk.old) → Holds (D.contents disk.old) self.old.from (take self.old.len self.old.buffer.items) }
+        requires shown { IsTrue (D.is_honest disk.old) → HasBytesAt (D.contents disk.old) self.old.from (take self.old.len self.old.buffer.items) }
 
         ensures covers { OnOk result ((self.new.from ≤ at) × (at + count ≤ self.new.from + self.new.len)) }
-        ensures shown { IsTrue (D.is_honest disk.new) → Holds (D.contents disk.old) self.new.from (take self.new.len self.new.buffer.items) }
+        ensures shown { IsTrue (D.is_honest disk.new) → HasBytesAt (D.contents disk.old) self.new.from (take self.new.len self.new.buffer.items) }
         ensures damaged { (place : ℕ) → IsErrOf result (BankFault.Damaged place) → ⊥ }
         ensures device { (fault : DeviceFault) → IsErrOf result (BankFault.Device fault) → fault ≡ DeviceFault.Read }
 
@@ -126,7 +126,7 @@ impl Window {
         requires low { self.now.from ≤ at }
         requires high { at + count ≤ self.now.from + self.now.len }
         ensures len { length result.now ≡ count }
-        ensures holds { (disk : List ℕ) → Holds disk self.now.from (take self.now.len self.now.buffer.items) → Holds disk at result.now }
+        ensures holds { (disk : List ℕ) → HasBytesAt disk self.now.from (take self.now.len self.now.buffer.items) → HasBytesAt disk at result.now }
     {
         let before = (at - self.from) as usize;
         &self.buffer[..self.len][before..][..count]

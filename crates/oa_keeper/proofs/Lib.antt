@@ -1,2 +1,2 @@
 pub mod Committed
-pub mod Frames
+pub mod Batches

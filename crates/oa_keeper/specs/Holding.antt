@@ -12,9 +12,9 @@ use Rattle.oa_keeper.specs.declared.fault.KeepFault.TheVariants.{Write}
 use Rattle.oa_keeper.specs.Kept.{AllHold, HasRoom, LeavesEither, LeavesTable}
 
 -- The store has not stopped, and has room for the greatest group where events are in hand.
-pub record IsOpenFor {D : Type 0} {g : Ghosts D} (frame : List ℕ) (store : Store D g) : Type 0 where
+pub record IsOpenFor {D : Type 0} {g : Ghosts D} (batch : List ℕ) (store : Store D g) : Type 0 where
   pub goes_on : store.stopped ≡ false
-  pub room : HasRoom frame store
+  pub room : HasRoom batch store
 
 -- A checkpoint can be made of the table in a bank's body of this size.
 pub record CanBeKept (bank : ℕ) (table : TableValue) : Type 0 where
@@ -22,37 +22,37 @@ pub record CanBeKept (bank : ℕ) (table : TableValue) : Type 0 where
   pub numbered : is_numbered table ≡ true
 
 -- Images hold this table: what is held in memory where no event is in hand, and while some are, what they held before the first.
-abbrev pub IsCommitted : List ℕ → TableValue → TableValue → Type 0
-IsCommitted frame held committed = length frame ≡ 0 → held ≡ committed
+abbrev pub IsLastCommitted : List ℕ → TableValue → TableValue → Type 0
+IsLastCommitted batch held committed = length batch ≡ 0 → held ≡ committed
 
 -- A stop at any moment of a call leaves what was committed before it.
 abbrev pub LeavesCommitted : {D : Type 0} {g : Ghosts D} → List ℕ → TableValue → Store D g → Store D g → Type 0
-LeavesCommitted frame held old new =
-    (committed : TableValue) → IsCommitted frame held committed → AllHold old committed → LeavesTable old new committed
+LeavesCommitted batch held old new =
+    (committed : TableValue) → IsLastCommitted batch held committed → AllHold old committed → LeavesTable old new committed
 
 -- After the call each image holds what was committed before it.
 abbrev pub KeepsCommitted : {D : Type 0} {g : Ghosts D} → List ℕ → TableValue → Store D g → Store D g → Type 0
-KeepsCommitted frame held old new =
-    (committed : TableValue) → IsCommitted frame held committed → AllHold old committed → AllHold new committed
+KeepsCommitted batch held old new =
+    (committed : TableValue) → IsLastCommitted batch held committed → AllHold old committed → AllHold new committed
 
 -- What was committed stands throughout a call, under the same library.
-pub record Carries {D : Type 0} {g : Ghosts D} (frame : List ℕ) (held : TableValue) (old new : Store D g) : Type 0 where
-  pub any_moment : LeavesCommitted frame held old new
-  pub each : new.stopped ≡ false → KeepsCommitted frame held old new
+pub record Carries {D : Type 0} {g : Ghosts D} (batch : List ℕ) (held : TableValue) (old new : Store D g) : Type 0 where
+  pub any_moment : LeavesCommitted batch held old new
+  pub each : new.stopped ≡ false → KeepsCommitted batch held old new
   pub library : new.library.items ≡ old.library.items
 
 -- There is room for a group before its first event. No checkpoint is made for that while events are in hand, nor one that is not due.
-pub record MakesRoom {D T E : Type 0} {g : Ghosts D} (frame : List ℕ) (old new : Store D g) (result : Result T E) : Type 0 where
-  pub quiet : 0 < length frame → (new.disk ≡ old.disk) × IsOk result
+pub record MakesRoom {D T E : Type 0} {g : Ghosts D} (batch : List ℕ) (old new : Store D g) (result : Result T E) : Type 0 where
+  pub quiet : 0 < length batch → (new.disk ≡ old.disk) × IsOk result
   pub undue : ample_bytes ≤ body_bytes old.bank.shape - old.bank.gate → (new.disk ≡ old.disk) × IsOk result
   pub room : OnOk result (ample_bytes ≤ body_bytes new.bank.shape - new.bank.gate)
-  pub room_kept : new.stopped ≡ false → HasRoom frame new
+  pub room_kept : new.stopped ≡ false → HasRoom batch new
 
 -- The device is called for a checkpoint alone, which is due and comes before the first event of a group.
-pub record CallsForRoom {D T : Type 0} {g : Ghosts D} (frame held : List ℕ) (old new : Store D g) (result : Result T KeepFault) : Type 0 where
-  pub quiet : 0 < length frame → new.disk ≡ old.disk
+pub record CallsForRoom {D T : Type 0} {g : Ghosts D} (batch held : List ℕ) (old new : Store D g) (result : Result T KeepFault) : Type 0 where
+  pub quiet : 0 < length batch → new.disk ≡ old.disk
   pub undue : ample_bytes ≤ body_bytes old.bank.shape - old.bank.gate → new.disk ≡ old.disk
-  pub first : IsErrOf result Write → length frame ≡ 0
+  pub first : IsErrOf result Write → length batch ≡ 0
   pub due : IsErrOf result Write → body_bytes old.bank.shape - old.bank.gate < ample_bytes
   pub room : new.stopped ≡ false → HasRoom held new
 
@@ -63,14 +63,14 @@ pub record StopsAtWrite {D T : Type 0} {g : Ghosts D} (old new : Store D g) (res
 
 -- Whatever table the images hold, and whatever the events in hand make of it: a stop leaves the one or the other, and the store that goes
 -- on has the latter.
-pub record Commits {D : Type 0} {g : Ghosts D} (frame : List ℕ) (old new : Store D g) : Type 0 where
-  pub any_moment : (committed now : TableValue) → Replays frame committed now → AllHold old committed → LeavesEither old new committed now
-  pub each : new.stopped ≡ false → (committed now : TableValue) → Replays frame committed now → AllHold old committed → AllHold new now
+pub record Commits {D : Type 0} {g : Ghosts D} (batch : List ℕ) (old new : Store D g) : Type 0 where
+  pub any_moment : (committed now : TableValue) → Replays batch committed now → AllHold old committed → LeavesEither old new committed now
+  pub each : new.stopped ≡ false → (committed now : TableValue) → Replays batch committed now → AllHold old committed → AllHold new now
   pub library : new.library.items ≡ old.library.items
 
 -- A commit makes four calls at most, and no checkpoint; none where no event is in hand.
-pub record CallsForGroup {D T E : Type 0} {g : Ghosts D} (frame : List ℕ) (old new : Store D g) (result : Result T E) : Type 0 where
-  pub quiet : length frame ≡ 0 → (new.disk ≡ old.disk) × IsOk result × (new.stopped ≡ false)
+pub record CallsForGroup {D T E : Type 0} {g : Ghosts D} (batch : List ℕ) (old new : Store D g) (result : Result T E) : Type 0 where
+  pub quiet : length batch ≡ 0 → (new.disk ≡ old.disk) × IsOk result × (new.stopped ≡ false)
   pub calls : IsTrue (g.is_honest old.disk) → g.moment new.disk ≤ g.moment old.disk + 8
   pub chosen : new.chosen ≡ old.chosen
 

@@ -28,4 +28,4 @@ LeavesEither {D} {g} old new before after =
 
 -- Where events are in hand, the bank in use has room for the greatest group.
 abbrev pub HasRoom : {D : Type 0} {g : Ghosts D} → List ℕ → Store D g → Type 0
-HasRoom frame store = 0 < length frame → ample_bytes ≤ body_bytes store.bank.shape - store.bank.gate
+HasRoom batch store = 0 < length batch → ample_bytes ≤ body_bytes store.bank.shape - store.bank.gate

@@ -1,4 +1,4 @@
-//! A table in memory that a store keeps: the events of its changes are held in a frame, and go out group by group,
+//! A table in memory that a store keeps: the events of its changes are held in a batch, and go out group by group,
 //! each under one gate.
 //!
 //! Its contract: `commit` leaves at each moment images of the table before or of the one that the events in
@@ -7,10 +7,10 @@
 //! What stands on it: oa_groups and oa_server.
 #![tactic(auto)]
 
+mod batch;
+mod committing;
 mod fault;
-mod frame;
-mod keeping;
 
+pub use batch::Batch;
+pub use committing::{commit, make_room};
 pub use fault::{Broken, KeepFault};
-pub use frame::Frame;
-pub use keeping::{commit, make_room};

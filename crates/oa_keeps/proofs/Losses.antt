@@ -23,10 +23,10 @@ use Rattle.oa_checks.specs.DeclarationValues.{DeclarationValue}
 use Rattle.oa_checks.specs.Declarations.{declarations, is_put}
 use Rattle.oa_typelib.specs.Descriptions.{classes_of, first_names, interfaces_of, member_names, members_described, put_last}
 use Rattle.oa_checks.specs.Repeats.{Has, first_answer, first_repeat}
-use Rattle.oa_keeps.specs.Keeps.{IsKeptBy, KeepsDeclaration, KeepsInterface, IsOf, HasGuid, KeepsClass, Keeps, default_guid}
-use Rattle.oa_keeps.specs.Keeps.{same_kind, is_kept_by, lost_declaration, lost_member, lost_of_interface, lost_interface, interface_in}
+use Rattle.oa_keeps.specs.Keeps.{IsKeptBy, KeepsDeclaration, KeepsInterface, IsOf, HasGuid, KeepsClass, KeepsLibrary, default_guid}
+use Rattle.oa_keeps.specs.Keeps.{same_declaration_kind, is_kept_by, lost_declaration, lost_member, lost_of_interface, lost_interface, interface_in}
 use Rattle.oa_keeps.specs.Keeps.{keeps_entry, keeps_entries, keeps_default, keeps_class, lost_class, first_lost}
-use Rattle.oa_checks.specs.Libraries.{as_class, as_interface, class_of, guid_of, has_interface, if_entered, interface_of, item_with, same, same_name}
+use Rattle.oa_checks.specs.Libraries.{as_class, as_interface, class_of, item_guid, has_interface, if_entered, interface_of, item_with, same, same_name}
 use Rattle.oa_typelib.specs.Members.{forms_named}
 use Rattle.oa_checks.specs.declared.fault.CheckError.TheVariants.{DuplicateName, DuplicateId, DuplicateGuid, UnknownInterface}
 use Rattle.oa_keeps.specs.declared.lost.Lost.TheVariants as losses
@@ -40,28 +40,28 @@ use Rattle.oa_typelib.proofs.Sound.{neither, unmapped}
 -- ---- no GUID stands twice in a library, so what has one is found by it
 
 abbrev Once : List (List ℕ) → List Item → Type 0
-Once before items = first_repeat same (λ g. g) before (map guid_of items) ≡ None
+Once before items = first_repeat same (λ g. g) before (map item_guid items) ≡ None
 
 first_once : (before : List (List ℕ)) (y : Item) (ys : List Item) → Once before (y ∷ ys)
-    → (list_any (same (guid_of y)) before ≡ false) × Once (before ++ guid_of y ∷ []) ys
+    → (list_any (same (item_guid y)) before ≡ false) × Once (before ++ item_guid y ∷ []) ys
 unfolding first_repeat
-first_once before y ys once = unless (list_any (same (guid_of y)) before) (guid_of y) _ once
+first_once before y ys once = unless (list_any (same (item_guid y)) before) (item_guid y) _ once
 
-not_before : (before : List (List ℕ)) (items : List Item) → Once before items → (n : ℕ) (x : Item) → slice_get items n ≡ Some x → list_any (same (guid_of x)) before ≡ false
+not_before : (before : List (List ℕ)) (items : List Item) → Once before items → (n : ℕ) (x : Item) → slice_get items n ≡ Some x → list_any (same (item_guid x)) before ≡ false
 not_before before [] once n x h = absurd cc
-not_before before (y ∷ ys) once zero x h = subst (λ (z : Item). list_any (same (guid_of z)) before ≡ false) (inside y x h) (first_once before y ys once).0
+not_before before (y ∷ ys) once zero x h = subst (λ (z : Item). list_any (same (item_guid z)) before ≡ false) (inside y x h) (first_once before y ys once).0
 not_before before (y ∷ ys) once (suc n) x h =
-    (or_parts (list_any (same (guid_of x)) before) _ (sym (list_any-append (same (guid_of x)) before (guid_of y ∷ [])) ∙ not_before (before ++ guid_of y ∷ []) ys (first_once before y ys once).1 n x h)).0
+    (or_parts (list_any (same (item_guid x)) before) _ (sym (list_any-append (same (item_guid x)) before (item_guid y ∷ [])) ∙ not_before (before ++ item_guid y ∷ []) ys (first_once before y ys once).1 n x h)).0
 
-own_item : (before : List (List ℕ)) (items : List Item) → Once before items → (n : ℕ) (x : Item) → slice_get items n ≡ Some x → find (λ y. same (guid_of x) (guid_of y)) items ≡ Some x
+own_item : (before : List (List ℕ)) (items : List Item) → Once before items → (n : ℕ) (x : Item) → slice_get items n ≡ Some x → find (λ y. same (item_guid x) (item_guid y)) items ≡ Some x
 own_item before [] once n x h = absurd cc
 own_item before (y ∷ ys) once zero x h =
-    subst (λ (z : Item). find (λ w. same (guid_of z) (guid_of w)) (y ∷ ys) ≡ Some z) (inside y x h) (ap (λ b. cond b (Some y) (find (λ w. same (guid_of y) (guid_of w)) ys)) (same_itself (guid_of y)))
+    subst (λ (z : Item). find (λ w. same (item_guid z) (item_guid w)) (y ∷ ys) ≡ Some z) (inside y x h) (ap (λ b. cond b (Some y) (find (λ w. same (item_guid y) (item_guid w)) ys)) (same_itself (item_guid y)))
 own_item before (y ∷ ys) once (suc n) x h =
     let rest = (first_once before y ys once).1 in
-    let last = (or_parts (list_any (same (guid_of x)) before) _ (sym (list_any-append (same (guid_of x)) before (guid_of y ∷ [])) ∙ not_before (before ++ guid_of y ∷ []) ys rest n x h)).1 in
-    let differs : same (guid_of x) (guid_of y) ≡ false = (or_parts (same (guid_of x) (guid_of y)) false last).0 in
-    ap (λ b. cond b (Some y) (find (λ w. same (guid_of x) (guid_of w)) ys)) differs ∙ own_item (before ++ guid_of y ∷ []) ys rest n x h
+    let last = (or_parts (list_any (same (item_guid x)) before) _ (sym (list_any-append (same (item_guid x)) before (item_guid y ∷ [])) ∙ not_before (before ++ item_guid y ∷ []) ys rest n x h)).1 in
+    let differs : same (item_guid x) (item_guid y) ≡ false = (or_parts (same (item_guid x) (item_guid y)) false last).0 in
+    ap (λ b. cond b (Some y) (find (λ w. same (item_guid x) (item_guid w)) ys)) differs ∙ own_item (before ++ item_guid y ∷ []) ys rest n x h
 
 no_guid_breach : (t : TreeValue) → first_breach t ≡ None → guid_breach t.guid t.items ≡ None
 no_guid_breach t e =
@@ -76,10 +76,10 @@ unfolding first_repeat
 each_once t is =
     let w = is.1.tree in (
       w.guid ∷ [],
-      subst (λ (u : TreeValue). Once (w.guid ∷ []) u.items) (sym is.1.says) (ap (first_repeat same (λ g. g) (w.guid ∷ [])) (kept guid_of guid_kept w.items) ∙ no_guid_breach w is.1.unbroken),
+      subst (λ (u : TreeValue). Once (w.guid ∷ []) u.items) (sym is.1.says) (ap (first_repeat same (λ g. g) (w.guid ∷ [])) (kept item_guid guid_kept w.items) ∙ no_guid_breach w is.1.unbroken),
     )
 
-own : (t : TreeValue) → IsChecked t → (n : ℕ) (x : Item) → slice_get t.items n ≡ Some x → item_with t.items (guid_of x) ≡ Some x
+own : (t : TreeValue) → IsChecked t → (n : ℕ) (x : Item) → slice_get t.items n ≡ Some x → item_with t.items (item_guid x) ≡ Some x
 own t is n x h = let once = each_once t is in own_item once.0 t.items once.1 n x h
 
 -- an item that is an interface, or a coclass
@@ -110,8 +110,8 @@ interface_there t guid i h = by (item_with t.items guid) refl h
     by : (o : Option Item) → item_with t.items guid ≡ o → option_and_then as_interface o ≡ Some i → Has (interfaces_of t.items) i × (guid ≡ i.guid)
     by None is k = absurd (none-some i k)
     by (Some x) is k =
-        let r = found_at (λ y. same guid (guid_of y)) t.items x is in
-        (mapped_in as_interface t.items r.0 x i r.1 k, are_same guid i.guid (ap (λ (y : Item). same guid (guid_of y)) (sym (was_interface x i k)) ∙ r.2))
+        let r = found_at (λ y. same guid (item_guid y)) t.items x is in
+        (mapped_in as_interface t.items r.0 x i r.1 k, are_same guid i.guid (ap (λ (y : Item). same guid (item_guid y)) (sym (was_interface x i k)) ∙ r.2))
 
 pub class_there : (t : TreeValue) (guid : List ℕ) (c : CoclassValue) → class_of t guid ≡ Some c → Has (classes_of t.items) c × (guid ≡ c.guid)
 class_there t guid c h = by (item_with t.items guid) refl h
@@ -119,8 +119,8 @@ class_there t guid c h = by (item_with t.items guid) refl h
     by : (o : Option Item) → item_with t.items guid ≡ o → option_and_then as_class o ≡ Some c → Has (classes_of t.items) c × (guid ≡ c.guid)
     by None is k = absurd (none-some c k)
     by (Some x) is k =
-        let r = found_at (λ y. same guid (guid_of y)) t.items x is in
-        (mapped_in as_class t.items r.0 x c r.1 k, are_same guid c.guid (ap (λ (y : Item). same guid (guid_of y)) (sym (was_class x c k)) ∙ r.2))
+        let r = found_at (λ y. same guid (item_guid y)) t.items x is in
+        (mapped_in as_class t.items r.0 x c r.1 k, are_same guid c.guid (ap (λ (y : Item). same guid (item_guid y)) (sym (was_class x c k)) ∙ r.2))
 
 -- ---- one declaration
 
@@ -128,7 +128,7 @@ pub is_kept : (was now : DeclarationValue) → is_kept_by was now ≡ true → I
 unfolding is_kept_by
 is_kept was now e =
     let a = int_eq was.id now.id in
-    let b = same_kind was.kind now.kind in
+    let b = same_declaration_kind was.kind now.kind in
     let c = same_name was.name now.name in
     let d = same_result was.value_type now.value_type in
     let p = and_parts (((a && b) && c) && d) (pointwise same_parameter was.parameters now.parameters) e in
@@ -147,7 +147,7 @@ pub by_kept : (was now : DeclarationValue) → IsKeptBy was now → is_kept_by w
 unfolding is_kept_by
 by_kept was now h =
     let a = (Decides-int_eq was.id now.id).1 (sym h.id) in
-    let b = ap (same_kind was.kind) h.kind ∙ kind_itself was.kind in
+    let b = ap (same_declaration_kind was.kind) h.kind ∙ kind_itself was.kind in
     let d = ap (same_result was.value_type) h.type ∙ result_itself was.value_type in
     and_from _ _ (and_from _ _ (and_from _ _ (and_from _ _ a b) h.name) d) h.parameters
 
@@ -337,7 +337,7 @@ one_kept new old is was h =
 
 -- ---- the library
 
-pub keeps_all : (new old : TreeValue) → first_lost new old ≡ None → Keeps new old
+pub keeps_all : (new old : TreeValue) → first_lost new old ≡ None → KeepsLibrary new old
 keeps_all new old none =
     let parts = neither (first_answer (lost_interface new) (interfaces_of old.items)) (first_answer (lost_class new old) (classes_of old.items)) none in
     record {
@@ -345,7 +345,7 @@ keeps_all new old none =
       classes = λ c h. keeps_one new old c (none_at (lost_class new old) (classes_of old.items) parts.1 h.0 c h.1);
     }
 
-pub all_kept : (new old : TreeValue) → IsChecked new → Keeps new old → first_lost new old ≡ None
+pub all_kept : (new old : TreeValue) → IsChecked new → KeepsLibrary new old → first_lost new old ≡ None
 all_kept new old is h =
     let interfaces = all_none (lost_interface new) (interfaces_of old.items) (λ n i k. interface_kept new is i (h.interfaces i (n, k))) in
     let classes = all_none (lost_class new old) (classes_of old.items) (λ n c k. one_kept new old is c (h.classes c (n, k))) in

@@ -2,16 +2,16 @@
 use Rattle.std.proofs.Common.{◌≡◌, true, refl, sym, true≢false}
 use Rattle.oa_checks.specs.declared.declaration.DeclarationKind.{DeclarationKind}
 use Rattle.oa_checks.specs.declared.declaration.DeclarationKind.TheVariants as kinds
-use Rattle.oa_keeps.specs.Keeps.{same_kind}
+use Rattle.oa_keeps.specs.Keeps.{same_declaration_kind}
 
-pub kind_itself : (k : DeclarationKind) → same_kind k k ≡ true
+pub kind_itself : (k : DeclarationKind) → same_declaration_kind k k ≡ true
 kind_itself kinds.Property = refl
 kind_itself kinds.ReadonlyProperty = refl
 kind_itself kinds.Method = refl
 kind_itself kinds.Get = refl
 kind_itself kinds.Put = refl
 
-pub kinds_are : (j k : DeclarationKind) → same_kind j k ≡ true → k ≡ j
+pub kinds_are : (j k : DeclarationKind) → same_declaration_kind j k ≡ true → k ≡ j
 kinds_are kinds.Property kinds.Property e = refl
 kinds_are kinds.Property kinds.ReadonlyProperty e = absurd (true≢false (sym e))
 kinds_are kinds.Property kinds.Method e = absurd (true≢false (sym e))

@@ -70,24 +70,24 @@ pub record KeepsClass (new old : List Item) (was : CoclassValue) : Type 0 where
   pub interfaces : (i : InterfaceValue) → IsOf old was i → HasGuid (IsOf new now) i.guid
   pub default : default_guid new now ≡ default_guid old was
 
-pub record Keeps (new old : TreeValue) : Type 0 where
+pub record KeepsLibrary (new old : TreeValue) : Type 0 where
   pub interfaces : (i : InterfaceValue) → Has (interfaces_of old.items) i → KeepsInterface new.items i
   pub classes : (c : CoclassValue) → Has (classes_of old.items) c → KeepsClass new.items old.items c
 
 -- ---- the first thing that is lost: the old interfaces in the text's order, each with its members as a description has them, so in the
 -- order in which their names first stand, a get before its put; then the old coclasses
 
-abbrev pub same_kind : DeclarationKind → DeclarationKind → Bool
-same_kind kinds.Property kinds.Property = true
-same_kind kinds.ReadonlyProperty kinds.ReadonlyProperty = true
-same_kind kinds.Method kinds.Method = true
-same_kind kinds.Get kinds.Get = true
-same_kind kinds.Put kinds.Put = true
-same_kind j k = false
+abbrev pub same_declaration_kind : DeclarationKind → DeclarationKind → Bool
+same_declaration_kind kinds.Property kinds.Property = true
+same_declaration_kind kinds.ReadonlyProperty kinds.ReadonlyProperty = true
+same_declaration_kind kinds.Method kinds.Method = true
+same_declaration_kind kinds.Get kinds.Get = true
+same_declaration_kind kinds.Put kinds.Put = true
+same_declaration_kind j k = false
 
 unfoldable pub is_kept_by : DeclarationValue → DeclarationValue → Bool
 is_kept_by was now =
-    int_eq was.id now.id && same_kind was.kind now.kind && same_name was.name now.name && same_result was.value_type now.value_type
+    int_eq was.id now.id && same_declaration_kind was.kind now.kind && same_name was.name now.name && same_result was.value_type now.value_type
     && pointwise same_parameter was.parameters now.parameters
 
 -- its DISPID, unless it is kept

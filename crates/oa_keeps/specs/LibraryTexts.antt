@@ -17,10 +17,10 @@ abbrev pub StandsFor : List ℕ → TreeValue → Type 0
 StandsFor bytes library = IsUtf8 bytes × IsLibrary bytes library
 
 -- want of memory says nothing
-abbrev pub IsRead : List ℕ → Result TreeValue TextError → Type 0
-IsRead bytes (Ok library) = StandsFor bytes library
-IsRead bytes (Err NoLibrary) = (library : TreeValue) → StandsFor bytes library → ⊥
-IsRead bytes (Err Memory) = Unit {0}
+abbrev pub IsTextOf : List ℕ → Result TreeValue TextError → Type 0
+IsTextOf bytes (Ok library) = StandsFor bytes library
+IsTextOf bytes (Err NoLibrary) = (library : TreeValue) → StandsFor bytes library → ⊥
+IsTextOf bytes (Err Memory) = Unit {0}
 
 -- the same of the tree of a text
 abbrev pub IsMade : TreeValue → Result TreeValue TextError → Type 0

@@ -1,6 +1,6 @@
 //! Which libraries can stand in the place of another, and the library of a text.
 //!
-//! Its contract: `keeps` answers None exactly where a new library keeps what an old one has (`Keeps`), and else
+//! Its contract: `keeps` answers None exactly where a new library keeps what an old one has (`KeepsLibrary`), and else
 //! the first thing that is lost; `read_library` makes the library of bytes (`LibraryTexts`).
 //!
 //! What stands on it: oa_fits, oa_server.

@@ -1,6 +1,6 @@
 //! Libraries by their texts.
 ghost use Rattle.std.specs.Prelude.{◌≡◌};
-ghost use Rattle.oa_keeps.specs.LibraryTexts.{IsMade, IsRead, check_fault, parse_fault};
+ghost use Rattle.oa_keeps.specs.LibraryTexts.{IsMade, IsTextOf, check_fault, parse_fault};
 ghost use Rattle.oa_typelib.specs.Typed.{IsOfText};
 
 use oa_checks::CheckError;
@@ -62,7 +62,7 @@ fn made(alloc: Global, tree: Tree) -> Result<Library, TextError>
 /// The library of a text in UTF-8. `NoLibrary` where there is none: the bytes are no UTF-8, the text breaks the grammar or a limit, or `check`
 /// refuses its tree. `Memory` where memory was refused, which may come in place of any answer.
 pub fn read_library(alloc: Global, bytes: &[u8]) -> Result<Library, TextError>
-    ensures { IsRead bytes.now result }
+    ensures { IsTextOf bytes.now result }
 {
     one_tree();
     let Ok(text) = str::from_utf8(bytes) else {

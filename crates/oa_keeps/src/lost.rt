@@ -5,9 +5,9 @@ ghost use Rattle.std.specs.Option.{option_and_then, option_eq, option_map, optio
 ghost use Rattle.oa_idl.specs.declared.items.Item.TheVariants.{Coclass as AClass};
 ghost use Rattle.oa_checks.specs.Declarations.{declarations};
 ghost use Rattle.oa_typelib.specs.Descriptions.{classes_of, interfaces_of, put_last};
-ghost use Rattle.oa_keeps.specs.Keeps.{Keeps, default_guid, dispid_lost, first_lost, guid_lost, is_kept_by, keeps_class, keeps_default};
+ghost use Rattle.oa_keeps.specs.Keeps.{KeepsLibrary, default_guid, dispid_lost, first_lost, guid_lost, is_kept_by, keeps_class, keeps_default};
 ghost use Rattle.oa_keeps.specs.Keeps.{keeps_entries, keeps_entry, lost_class, lost_declaration, lost_form, lost_interface, lost_member};
-ghost use Rattle.oa_keeps.specs.Keeps.{same_kind};
+ghost use Rattle.oa_keeps.specs.Keeps.{same_declaration_kind};
 ghost use Rattle.oa_checks.specs.Libraries.{as_class, as_interface, class_of, same};
 ghost use Rattle.oa_checks.specs.Repeats.{first_answer};
 
@@ -51,7 +51,7 @@ impl Lost {
 }
 
 fn same_kind(a: DeclarationKind, b: DeclarationKind) -> bool
-    ensures { result ≡ same_kind a b }
+    ensures { result ≡ same_declaration_kind a b }
 {
     match (a, b) {
         (DeclarationKind::Property, DeclarationKind::Property) => true,
@@ -298,7 +298,7 @@ fn first_class(new: &Library, old: &Library) -> Option<Lost>
 /// the text's order, each with its members in the order in which their names first stand, a get before its put, and then the coclasses.
 /// Takes no memory.
 pub fn keeps(new: &Library, old: &Library) -> Option<Lost>
-    ensures exactly { (result ≡ None) ↔ Keeps new.now old.now }
+    ensures exactly { (result ≡ None) ↔ KeepsLibrary new.now old.now }
     ensures first { result ≡ first_lost new.now old.now }
 {
     new.is_checked();

@@ -6,7 +6,7 @@ use Rattle.oa_ndr.specs.Reading.{Cursor, at}
 use Rattle.oa_layout.specs.Formats.{Format, IsBytes, same_content}
 use Rattle.oa_layout.specs.declared.fault.ReadFault.{ReadFault}
 use Rattle.oa_layout.specs.declared.fault.ReadFault.TheVariants as reads
-use Rattle.oa_layout.specs.Answers.{Answers, HasBytes, IsReading, placed}
+use Rattle.oa_layout.specs.Answers.{ReadsImage, HasBytes, ReadsWholeImage, placed}
 
 pub all_bytes : (xs : List ℕ) → ((i : ℕ) → get_or xs i 0 < 256) → IsBytes xs
 all_bytes [] each = tt
@@ -60,6 +60,6 @@ bytes_left {C} F bytes x t h left c is same =
 
 -- where a part was refused
 pub refused : {C : Type 0} (F : Format C) (bytes : List ℕ) (e : ReadFault) (t : Cursor) (place : ℕ)
-    → Answers {A = C} (Err e) t (F.read (at 0 bytes)) → place ≤ length bytes → IsReading {C = C} F bytes (Err (placed e place))
+    → ReadsImage {A = C} (Err e) t (F.read (at 0 bytes)) → place ≤ length bytes → ReadsWholeImage {C = C} F bytes (Err (placed e place))
 refused F bytes reads.Broken t place h among = (not_read F bytes h, among)
 refused F bytes reads.Memory t place h among = tt

@@ -7,7 +7,7 @@ use Rattle.oa_ndr.specs.Reading.{Cursor, at}
 use Rattle.oa_layout.specs.Formats.{Format, IsBytes}
 use Rattle.oa_layout.specs.declared.fault.ReadFault.{ReadFault}
 use Rattle.oa_layout.specs.declared.fault.ReadFault.TheVariants as reads
-use Rattle.oa_layout.specs.Answers.{Answers, IsRow, IsRowReading, HasBytes, placed}
+use Rattle.oa_layout.specs.Answers.{ReadsImage, IsRow, IsRowReading, HasBytes, placed}
 use Rattle.oa_layout.proofs.Exact.{no_prefix}
 
 -- what was read, and what is left
@@ -54,7 +54,7 @@ no_row F bytes xs s more h d = λ ys row. row_left F s.position s.rest xs ys mor
 
 -- where a value of the row was refused
 pub row_refused : {C : Type 0} (F : Format C) (bytes : List ℕ) (xs : List C) (s t : Cursor) (e : ReadFault) (place : ℕ) → (s.rest ≡ [] → ⊥)
-    → Answers {A = C} (Err e) t (F.read s) → SoFar F bytes xs s → place ≤ length bytes
+    → ReadsImage {A = C} (Err e) t (F.read s) → SoFar F bytes xs s → place ≤ length bytes
     → IsRowReading {C = C} F bytes (Err (placed e place))
 row_refused F bytes xs s t reads.Broken place more h d among = (no_row F bytes xs s more h d, among)
 row_refused F bytes xs s t reads.Memory place more h d among = tt

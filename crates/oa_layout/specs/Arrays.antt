@@ -7,7 +7,7 @@ use Rattle.oa_model.specs.Types.{sf_type_of}
 use Rattle.oa_model.specs.declared.bound.Bound.{Bound}
 use Rattle.oa_model.specs.declared.var_type.VarType.{VarType}
 use Rattle.oa_model.specs.declared.var_type.VarType.TheVariants as types
-use Rattle.oa_array.specs.Arrays.{ArrayValue, IsShape}
+use Rattle.oa_array.specs.Arrays.{ArrayValue, IsArrayShape}
 use Rattle.oa_array.specs.Boxes.{box_size}
 use Rattle.oa_variant.specs.declared.scalar.Scalar.{Scalar}
 use Rattle.oa_layout.specs.Formats.{Format, ◌▸◌, next_by, made, made_where, times, counted, only}
@@ -22,7 +22,7 @@ abbrev pub is_shape : VarType → List Bound → Bool
 is_shape t bounds =
     is_some (sf_type_of t) && nat_lt 0 (length bounds) && nat_le (length bounds) max_dimensions && nat_le (box_size bounds) max_cells
 
-pub shape_there : (t : VarType) (bounds : List Bound) → is_shape t bounds ≡ true → IsShape t bounds
+pub shape_there : (t : VarType) (bounds : List Bound) → is_shape t bounds ≡ true → IsArrayShape t bounds
 shape_there t bounds e =
     let a3 = and_parts (is_some (sf_type_of t) && ltb 0 (length bounds) && leb (length bounds) max_dimensions)
     (leb (box_size bounds) max_cells) e in
@@ -30,7 +30,7 @@ shape_there t bounds e =
     let a1 = and_parts (is_some (sf_type_of t)) (ltb 0 (length bounds)) a2.0 in
     record { typed = a1.0; some = ltb-true _ _ a1.1; few = leb-true _ _ a2.1; small = leb-true _ _ a3.1 }
 
-pub shape_here : (t : VarType) (bounds : List Bound) → IsShape t bounds → is_shape t bounds ≡ true
+pub shape_here : (t : VarType) (bounds : List Bound) → IsArrayShape t bounds → is_shape t bounds ≡ true
 shape_here t bounds shape = rw (shape.typed, lt-ltb _ _ shape.some, le-leb _ _ shape.few, le-leb _ _ shape.small) refl
 
 -- a cell

@@ -83,8 +83,8 @@ DecimalParts = ℕ × (Bool × (ℕ × ℕ))
 abbrev pub decimal_with : DecimalParts → DecimalValue
 decimal_with p = record { scale = p.0; negative = p.1.0; magnitude = p.1.1.0 * 2 ^ 64 + p.1.1.1 }
 
-abbrev pub decimal_from : DecimalParts → Option DecimalValue
-decimal_from p = if nat_le p.0 28 then Some (decimal_with p) else None
+abbrev pub decimal_of_parts : DecimalParts → Option DecimalValue
+decimal_of_parts p = if nat_le p.0 28 then Some (decimal_with p) else None
 
 abbrev pub decimal_parts : DecimalValue → DecimalParts
 decimal_parts d = (d.scale, (d.negative, (high_of d.magnitude, low_of d.magnitude)))
@@ -103,12 +103,12 @@ decimal_chosen true p d small high low e =
     subst (λ (x : DecimalValue). IsDecimal x × (decimal_parts x ≡ p)) (same_content (decimal_with p) d e)
     ((small refl, omega (arith, high, low)), rw (back.0, back.1) refl)
 
-pub decimal_there : (p : DecimalParts) (d : DecimalValue) → decimal_fields.Is p → decimal_from p ≡ Some d
+pub decimal_there : (p : DecimalParts) (d : DecimalValue) → decimal_fields.Is p → decimal_of_parts p ≡ Some d
     → IsDecimal d × (decimal_parts d ≡ p)
 unfolding next_by u8 u32 u64 made_where truth coded
 decimal_there p d is e = decimal_chosen (leb p.0 28) p d (leb-true _ _) is.1.1.0 is.1.1.1 e
 
-pub decimal_here : (d : DecimalValue) → IsDecimal d → decimal_fields.Is (decimal_parts d) × (decimal_from (decimal_parts d) ≡ Some d)
+pub decimal_here : (d : DecimalValue) → IsDecimal d → decimal_fields.Is (decimal_parts d) × (decimal_of_parts (decimal_parts d) ≡ Some d)
 unfolding next_by u8 u32 u64 made_where truth coded
 decimal_here d h =
     let small : leb d.scale 28 ≡ true = le-leb _ _ h.0 in
@@ -116,7 +116,7 @@ decimal_here d h =
     ((omega (arith, h.0), (tt, (omega (arith, h.1), omega arith))), rw (small, whole) refl)
 
 unfoldable pub decimal : Format DecimalValue
-decimal = coded IsDecimal decimal_from decimal_parts decimal_fields decimal_there decimal_here
+decimal = coded IsDecimal decimal_of_parts decimal_parts decimal_fields decimal_there decimal_here
 
 -- ---- scalars: the number of the type, and the content
 

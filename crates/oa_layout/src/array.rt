@@ -2,10 +2,10 @@
 ghost use Rattle.std.specs.Prelude.{◌≡◌, ◌≤◌, ◌*◌, All, IfOk, length};
 ghost use Rattle.std.specs.List.{AllByRecursion, flat_map};
 ghost use Rattle.oa_model.specs.Limits.{max_cells};
-ghost use Rattle.oa_array.specs.Arrays.{IsShape};
+ghost use Rattle.oa_array.specs.Arrays.{IsArrayShape};
 ghost use Rattle.oa_array.specs.Boxes.{box_size};
 ghost use Rattle.oa_variant.specs.Scalars.{FitsType};
-ghost use Rattle.oa_layout.specs.Answers.{Answers, AnswersBy};
+ghost use Rattle.oa_layout.specs.Answers.{ReadsImage, ReadsImageBy};
 ghost use Rattle.oa_layout.specs.Arrays as arrays;
 ghost use Rattle.oa_layout.specs.Elements.{array_head, element_image};
 ghost use Rattle.oa_layout.specs.Formats.{times};
@@ -50,7 +50,7 @@ impl PutImage for BoundFormat {
 
 #[tactic(auto, unfolding(crate::specs::Arrays::cell_of))]
 fn read_cell(alloc: Global, elem: VarType, r: &mut Ndr<'_>) -> Result<Scalar, ReadFault>
-    ensures read { Answers result r.new ((arrays.cell_of elem).read r.old) }
+    ensures read { ReadsImage result r.new ((arrays.cell_of elem).read r.old) }
     ensures fits { IfOk result (λ s. FitsType s elem) }
 {
     match elem {
@@ -77,7 +77,7 @@ fn read_cells(
     count: usize,
     r: &mut Ndr<'_>,
 ) -> Result<Cells<Scalar>, ReadFault>
-    ensures read { Answers result r.new ((times (arrays.cell_of elem) count).read r.old) }
+    ensures read { ReadsImage result r.new ((times (arrays.cell_of elem) count).read r.old) }
     ensures len { IfOk result (λ cells. length cells ≡ count) }
     ensures fits { IfOk result (λ cells. AllByRecursion (λ s. FitsType s elem) cells) }
 {
@@ -96,8 +96,8 @@ fn read_bounds(
     elem: VarType,
     r: &mut Ndr<'_>,
 ) -> Result<(Vec<Bound>, usize), ReadFault>
-    ensures read { AnswersBy (λ p. p.0.items) result r.new ((arrays.bounds_of elem).read r.old) }
-    ensures shape { IfOk result (λ p. IsShape elem p.0.items × (p.1 ≡ box_size p.0.items)) }
+    ensures read { ReadsImageBy (λ p. p.0.items) result r.new ((arrays.bounds_of elem).read r.old) }
+    ensures shape { IfOk result (λ p. IsArrayShape elem p.0.items × (p.1 ≡ box_size p.0.items)) }
 {
     let count = read_u16(r)?;
     let bounds = read_times::<BoundFormat>(alloc, count as usize, r)?;
@@ -114,7 +114,7 @@ pub(crate) fn read_array(
     elem: VarType,
     r: &mut Ndr<'_>,
 ) -> Result<SafeArray<Scalar>, ReadFault>
-    ensures { Answers result r.new ((arrays.array_of elem).read r.old) }
+    ensures { ReadsImage result r.new ((arrays.array_of elem).read r.old) }
 {
     let (bounds, count) = read_bounds(alloc, elem, r)?;
     let cells = read_cells(alloc, elem, count, r)?;

@@ -1,6 +1,6 @@
 //! Reading numbers, GUIDs and truth values, one behind the other at no multiple of anything.
 ghost use Rattle.std.specs.Prelude.{◌≡◌, length, IfOk};
-ghost use Rattle.oa_layout.specs.Answers.{Answers, AnswersBy};
+ghost use Rattle.oa_layout.specs.Answers.{ReadsImage, ReadsImageBy};
 ghost use Rattle.oa_layout.specs.Formats.{raw};
 ghost use Rattle.oa_layout.specs.Numbers as numbers;
 
@@ -12,7 +12,7 @@ use uuid::Uuid;
 /// The next `n` bytes.
 #[tactic(auto, unfolding(crate::specs::Formats::raw))]
 pub(crate) fn read_bytes<'a>(n: usize, r: &mut Ndr<'a>) -> Result<&'a [u8], ReadFault>
-    ensures read { AnswersBy (λ x. x.now) result r.new ((raw n).read r.old) }
+    ensures read { ReadsImageBy (λ x. x.now) result r.new ((raw n).read r.old) }
     ensures len { IfOk result (λ x. length x.now ≡ n) }
 {
     Ok(r.bytes(n)?)
@@ -21,7 +21,7 @@ pub(crate) fn read_bytes<'a>(n: usize, r: &mut Ndr<'a>) -> Result<&'a [u8], Read
 /// The next byte.
 #[tactic(auto, unfolding(oa_ndr::specs::Reading::bind, oa_ndr::specs::Reading::give, crate::specs::Formats::made_where, crate::specs::Numbers::u8))]
 pub fn read_u8(r: &mut Ndr<'_>) -> Result<u8, ReadFault>
-    ensures { Answers result r.new (numbers.u8.read r.old) }
+    ensures { ReadsImage result r.new (numbers.u8.read r.old) }
 {
     let b = read_bytes(1, r)?;
     Ok(u8::from_le_bytes([b[0]]))
@@ -30,7 +30,7 @@ pub fn read_u8(r: &mut Ndr<'_>) -> Result<u8, ReadFault>
 /// A number of 2 bytes.
 #[tactic(auto, unfolding(oa_ndr::specs::Reading::bind, oa_ndr::specs::Reading::give, crate::specs::Formats::made_where, crate::specs::Numbers::u16))]
 pub fn read_u16(r: &mut Ndr<'_>) -> Result<u16, ReadFault>
-    ensures { Answers result r.new (numbers.u16.read r.old) }
+    ensures { ReadsImage result r.new (numbers.u16.read r.old) }
 {
     let b = read_bytes(2, r)?;
     Ok(u16::from_le_bytes([b[0], b[1]]))
@@ -39,7 +39,7 @@ pub fn read_u16(r: &mut Ndr<'_>) -> Result<u16, ReadFault>
 /// A number of 4 bytes.
 #[tactic(auto, unfolding(oa_ndr::specs::Reading::bind, oa_ndr::specs::Reading::give, crate::specs::Formats::made_where, crate::specs::Numbers::u32))]
 pub fn read_u32(r: &mut Ndr<'_>) -> Result<u32, ReadFault>
-    ensures { Answers result r.new (numbers.u32.read r.old) }
+    ensures { ReadsImage result r.new (numbers.u32.read r.old) }
 {
     let b = read_bytes(4, r)?;
     Ok(u32::from_le_bytes([b[0], b[1], b[2], b[3]]))
@@ -48,7 +48,7 @@ pub fn read_u32(r: &mut Ndr<'_>) -> Result<u32, ReadFault>
 /// A number of 8 bytes.
 #[tactic(auto, unfolding(oa_ndr::specs::Reading::bind, oa_ndr::specs::Reading::give, crate::specs::Formats::made_where, crate::specs::Numbers::u64))]
 pub(crate) fn read_u64(r: &mut Ndr<'_>) -> Result<u64, ReadFault>
-    ensures { Answers result r.new (numbers.u64.read r.old) }
+    ensures { ReadsImage result r.new (numbers.u64.read r.old) }
 {
     let b = read_bytes(8, r)?;
     Ok(u64::from_le_bytes([b[0], b[1], b[2], b[3], b[4], b[5], b[6], b[7]]))
@@ -57,7 +57,7 @@ pub(crate) fn read_u64(r: &mut Ndr<'_>) -> Result<u64, ReadFault>
 /// A signed number of one byte.
 #[tactic(auto, unfolding(oa_ndr::specs::Reading::bind, oa_ndr::specs::Reading::give, crate::specs::Formats::made_where, crate::specs::Numbers::i8))]
 pub(crate) fn read_i8(r: &mut Ndr<'_>) -> Result<i8, ReadFault>
-    ensures { Answers result r.new (numbers.i8.read r.old) }
+    ensures { ReadsImage result r.new (numbers.i8.read r.old) }
 {
     Ok(read_u8(r)?.cast_signed())
 }
@@ -65,7 +65,7 @@ pub(crate) fn read_i8(r: &mut Ndr<'_>) -> Result<i8, ReadFault>
 /// A signed number of 2 bytes.
 #[tactic(auto, unfolding(oa_ndr::specs::Reading::bind, oa_ndr::specs::Reading::give, crate::specs::Formats::made_where, crate::specs::Numbers::i16))]
 pub(crate) fn read_i16(r: &mut Ndr<'_>) -> Result<i16, ReadFault>
-    ensures { Answers result r.new (numbers.i16.read r.old) }
+    ensures { ReadsImage result r.new (numbers.i16.read r.old) }
 {
     Ok(read_u16(r)?.cast_signed())
 }
@@ -73,7 +73,7 @@ pub(crate) fn read_i16(r: &mut Ndr<'_>) -> Result<i16, ReadFault>
 /// A signed number of 4 bytes.
 #[tactic(auto, unfolding(oa_ndr::specs::Reading::bind, oa_ndr::specs::Reading::give, crate::specs::Formats::made_where, crate::specs::Numbers::i32))]
 pub fn read_i32(r: &mut Ndr<'_>) -> Result<i32, ReadFault>
-    ensures { Answers result r.new (numbers.i32.read r.old) }
+    ensures { ReadsImage result r.new (numbers.i32.read r.old) }
 {
     Ok(read_u32(r)?.cast_signed())
 }
@@ -81,7 +81,7 @@ pub fn read_i32(r: &mut Ndr<'_>) -> Result<i32, ReadFault>
 /// A signed number of 8 bytes.
 #[tactic(auto, unfolding(oa_ndr::specs::Reading::bind, oa_ndr::specs::Reading::give, crate::specs::Formats::made_where, crate::specs::Numbers::i64))]
 pub(crate) fn read_i64(r: &mut Ndr<'_>) -> Result<i64, ReadFault>
-    ensures { Answers result r.new (numbers.i64.read r.old) }
+    ensures { ReadsImage result r.new (numbers.i64.read r.old) }
 {
     Ok(read_u64(r)?.cast_signed())
 }
@@ -89,7 +89,7 @@ pub(crate) fn read_i64(r: &mut Ndr<'_>) -> Result<i64, ReadFault>
 /// A GUID in wire order (MS-DTYP section 2.3.4.2).
 #[tactic(auto, unfolding(oa_ndr::specs::Reading::bind, oa_ndr::specs::Reading::give, crate::specs::Formats::made_where, crate::specs::Numbers::guid))]
 pub fn read_guid(r: &mut Ndr<'_>) -> Result<Uuid, ReadFault>
-    ensures { Answers result r.new (numbers.guid.read r.old) }
+    ensures { ReadsImage result r.new (numbers.guid.read r.old) }
 {
     let b = read_bytes(16, r)?;
     Ok(guid_from_wire([
@@ -101,7 +101,7 @@ pub fn read_guid(r: &mut Ndr<'_>) -> Result<Uuid, ReadFault>
 /// A truth value: one byte, 0 or 1.
 #[tactic(auto, unfolding(oa_ndr::specs::Reading::bind, oa_ndr::specs::Reading::give, crate::specs::Formats::coded, crate::specs::Numbers::truth))]
 pub(crate) fn read_truth(r: &mut Ndr<'_>) -> Result<bool, ReadFault>
-    ensures { Answers result r.new (numbers.truth.read r.old) }
+    ensures { ReadsImage result r.new (numbers.truth.read r.old) }
 {
     match read_u8(r)? {
         0 => Ok(false),

@@ -1,7 +1,7 @@
 //! The images of texts, DECIMAL and scalars.
 ghost use Rattle.std.specs.Prelude.{◌≡◌, ◌≤◌, length, IfOk};
 ghost use Rattle.oa_variant.specs.Scalars.{type_of};
-ghost use Rattle.oa_layout.specs.Answers.{Answers};
+ghost use Rattle.oa_layout.specs.Answers.{ReadsImage};
 ghost use Rattle.oa_layout.specs.Lengths.{max_content_bytes, max_scalar_bytes};
 ghost use Rattle.oa_layout.specs.Values as values;
 ghost use Rattle.oa_layout.specs.Windows.{Adds};
@@ -33,7 +33,7 @@ const ABOVE_LOW: u128 = 0x1_0000_0000_0000_0000;
 // How many bytes a text has; None for null.
 #[tactic(auto, unfolding(oa_ndr::specs::Reading::bind, crate::specs::Formats::coded, crate::specs::Values::text_header))]
 fn read_text_header(r: &mut Ndr<'_>) -> Result<Option<u32>, ReadFault>
-    ensures { Answers result r.new (values.text_header.read r.old) }
+    ensures { ReadsImage result r.new (values.text_header.read r.old) }
 {
     let n = read_u32(r)?;
     if n == NULL_TEXT {
@@ -47,7 +47,7 @@ fn read_text_header(r: &mut Ndr<'_>) -> Result<Option<u32>, ReadFault>
 
 #[tactic(auto, unfolding(oa_ndr::specs::Reading::bind, oa_ndr::specs::Reading::give, crate::specs::Formats::tagged, crate::specs::Formats::nothing, crate::specs::Formats::case, crate::specs::Values::text_of_size, crate::specs::Values::text))]
 fn read_text(alloc: Global, r: &mut Ndr<'_>) -> Result<Bstr, ReadFault>
-    ensures { Answers result r.new (values.text.read r.old) }
+    ensures { ReadsImage result r.new (values.text.read r.old) }
 {
     match read_text_header(r)? {
         None => Ok(Bstr::null()),
@@ -63,7 +63,7 @@ fn read_text(alloc: Global, r: &mut Ndr<'_>) -> Result<Bstr, ReadFault>
 
 #[tactic(auto, unfolding(oa_ndr::specs::Reading::bind, oa_ndr::specs::Reading::give, crate::specs::Formats::coded, crate::specs::Formats::next_by, crate::specs::Values::decimal))]
 fn read_decimal(r: &mut Ndr<'_>) -> Result<Decimal, ReadFault>
-    ensures { Answers result r.new (values.decimal.read r.old) }
+    ensures { ReadsImage result r.new (values.decimal.read r.old) }
 {
     let scale = read_u8(r)?;
     let negative = read_truth(r)?;
@@ -78,7 +78,7 @@ fn read_decimal(r: &mut Ndr<'_>) -> Result<Decimal, ReadFault>
 
 #[tactic(auto, unfolding(oa_ndr::specs::Reading::bind, crate::specs::Formats::coded, crate::specs::Values::vt))]
 fn read_vt(r: &mut Ndr<'_>) -> Result<VarType, ReadFault>
-    ensures { Answers result r.new (values.vt.read r.old) }
+    ensures { ReadsImage result r.new (values.vt.read r.old) }
 {
     match VarType::from_vt(read_u16(r)?) {
         Some(var_type) => Ok(var_type),
@@ -93,7 +93,7 @@ pub(crate) fn read_content(
     var_type: VarType,
     r: &mut Ndr<'_>,
 ) -> Result<Scalar, ReadFault>
-    ensures read { Answers result r.new ((values.of_type var_type).read r.old) }
+    ensures read { ReadsImage result r.new ((values.of_type var_type).read r.old) }
     ensures fits { IfOk result (λ s. type_of s ≡ var_type) }
 {
     Ok(match var_type {

@@ -4,25 +4,25 @@ use Rattle.byteorder.specs.Endian.{little_bytes}
 use Rattle.oa_ndr.specs.Forms.{padding}
 
 -- a vector with a field at its end: what it held before, and the bytes of the field so far
-pub record Output : Type 0 where
+pub record FieldOutput : Type 0 where
   pub before : List ℕ
   pub field : List ℕ
 
 -- a field without bytes yet
-abbrev pub field_after : List ℕ → Output
+abbrev pub field_after : List ℕ → FieldOutput
 field_after before = record { before = before; field = [] }
 
 -- the same, with one more part at the end of the field
-abbrev pub within : (List ℕ → List ℕ) → Output → Output
-within put o = record { before = o.before; field = put o.field }
+abbrev pub in_field : (List ℕ → List ℕ) → FieldOutput → FieldOutput
+in_field put o = record { before = o.before; field = put o.field }
 
 -- what was written up to some moment still stands there, whatever was written behind it
-unfoldable pub StillHas : Output → Output → Type 0
+unfoldable pub StillHas : FieldOutput → FieldOutput → Type 0
 StillHas was o = (o.before ≡ was.before) × (behind : List ℕ) × (o.field ≡ was.field ++ behind)
 
 -- between two moments nothing was taken back
-abbrev pub Keeps : Output → Output → Type 0
-Keeps old new = (was : Output) → StillHas was old → StillHas was new
+abbrev pub TakesNothingBack : FieldOutput → FieldOutput → Type 0
+TakesNothingBack old new = (was : FieldOutput) → StillHas was old → StillHas was new
 
 -- zeros up to a multiple of n
 abbrev pub put_align : ℕ → List ℕ → List ℕ

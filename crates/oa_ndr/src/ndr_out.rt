@@ -2,9 +2,9 @@
 
 ghost use Rattle.std.specs.Prelude.{◌≡◌, ◌<◌, ◌≤◌, ◌++◌, OnOk, OnErr, length, replicate, take};
 ghost use Rattle.oa_ndr.specs.Writing.{
-  Keeps,
+  TakesNothingBack,
   field_after,
-  within,
+  in_field,
   put_align,
   put_unit,
   put_bytes,
@@ -34,9 +34,9 @@ pub struct NdrOut {
 
 impl Model for NdrOut {
     ghost use Rattle.std.specs.Prelude.{◌≤◌, length, take, drop};
-    ghost use Rattle.oa_ndr.specs.Writing.{Output};
+    ghost use Rattle.oa_ndr.specs.Writing.{FieldOutput};
 
-    ghost Value = { Output };
+    ghost Value = { FieldOutput };
 
     ghost view = { λ w. record { before = take w.start w.out.items; field = drop w.start w.out.items } };
 
@@ -105,7 +105,7 @@ impl NdrOut {
 
     /// Takes back what was written behind the first `len` bytes of the field. Where there is nothing behind them, the field stays.
     pub fn truncate(&mut self, len: usize)
-        ensures { self.new ≡ within (take len) self.old }
+        ensures { self.new ≡ in_field (take len) self.old }
     {
         if len < self.position() {
             self.out.truncate(self.start + len);
@@ -116,9 +116,9 @@ impl NdrOut {
     pub fn align(&mut self, n: usize) -> Result<(), AllocError>
         requires above { 0 < n }
         requires small { n ≤ 8 }
-        ensures ok { OnOk result (self.new ≡ within (put_align n) self.old) }
+        ensures ok { OnOk result (self.new ≡ in_field (put_align n) self.old) }
         ensures err { OnErr result (self.new ≡ self.old) }
-        ensures kept { Keeps self.old self.new }
+        ensures kept { TakesNothingBack self.old self.new }
     {
         let gap = padding(n, self.position());
         self.bytes(&ZEROS[..gap])
@@ -126,9 +126,9 @@ impl NdrOut {
 
     /// These bytes, at no multiple of anything.
     pub fn bytes(&mut self, text: &[u8]) -> Result<(), AllocError>
-        ensures ok { OnOk result (self.new ≡ within (put_bytes text.now) self.old) }
+        ensures ok { OnOk result (self.new ≡ in_field (put_bytes text.now) self.old) }
         ensures err { OnErr result (self.new ≡ self.old) }
-        ensures kept { Keeps self.old self.new }
+        ensures kept { TakesNothingBack self.old self.new }
     {
         self.out.extend_from_slice(text)
     }
@@ -136,9 +136,9 @@ impl NdrOut {
     /// Up to eight zeros, at no multiple of anything.
     pub fn zeros(&mut self, n: usize) -> Result<(), AllocError>
         requires { n ≤ 8 }
-        ensures ok { OnOk result (self.new ≡ within (put_bytes (replicate n 0)) self.old) }
+        ensures ok { OnOk result (self.new ≡ in_field (put_bytes (replicate n 0)) self.old) }
         ensures err { OnErr result (self.new ≡ self.old) }
-        ensures kept { Keeps self.old self.new }
+        ensures kept { TakesNothingBack self.old self.new }
     {
         self.bytes(&ZEROS[..n])
     }
@@ -147,9 +147,9 @@ impl NdrOut {
     fn slot<const N: usize>(&mut self, n: usize, number: &[u8; N]) -> Result<(), AllocError>
         requires above { 0 < n }
         requires small { n ≤ 8 }
-        ensures ok { OnOk result (self.new ≡ within (put_slot n number.now) self.old) }
+        ensures ok { OnOk result (self.new ≡ in_field (put_slot n number.now) self.old) }
         ensures err { OnErr result (self.new ≡ self.old) }
-        ensures kept { Keeps self.old self.new }
+        ensures kept { TakesNothingBack self.old self.new }
     {
         let gap = padding(n, self.position());
         append_behind_zeros(&mut self.out, gap, number)
@@ -157,45 +157,45 @@ impl NdrOut {
 
     /// A byte.
     pub fn u8(&mut self, x: u8) -> Result<(), AllocError>
-        ensures ok { OnOk result (self.new ≡ within (put_unit 1 x) self.old) }
+        ensures ok { OnOk result (self.new ≡ in_field (put_unit 1 x) self.old) }
         ensures err { OnErr result (self.new ≡ self.old) }
-        ensures kept { Keeps self.old self.new }
+        ensures kept { TakesNothingBack self.old self.new }
     {
         self.slot(1, &x.to_le_bytes())
     }
 
     /// A number of 2 bytes at the next multiple of 2.
     pub fn u16(&mut self, x: u16) -> Result<(), AllocError>
-        ensures ok { OnOk result (self.new ≡ within (put_unit 2 x) self.old) }
+        ensures ok { OnOk result (self.new ≡ in_field (put_unit 2 x) self.old) }
         ensures err { OnErr result (self.new ≡ self.old) }
-        ensures kept { Keeps self.old self.new }
+        ensures kept { TakesNothingBack self.old self.new }
     {
         self.slot(2, &x.to_le_bytes())
     }
 
     /// A number of 4 bytes at the next multiple of 4.
     pub fn u32(&mut self, x: u32) -> Result<(), AllocError>
-        ensures ok { OnOk result (self.new ≡ within (put_unit 4 x) self.old) }
+        ensures ok { OnOk result (self.new ≡ in_field (put_unit 4 x) self.old) }
         ensures err { OnErr result (self.new ≡ self.old) }
-        ensures kept { Keeps self.old self.new }
+        ensures kept { TakesNothingBack self.old self.new }
     {
         self.slot(4, &x.to_le_bytes())
     }
 
     /// A number of 8 bytes at the next multiple of 8.
     pub fn u64(&mut self, x: u64) -> Result<(), AllocError>
-        ensures ok { OnOk result (self.new ≡ within (put_unit 8 x) self.old) }
+        ensures ok { OnOk result (self.new ≡ in_field (put_unit 8 x) self.old) }
         ensures err { OnErr result (self.new ≡ self.old) }
-        ensures kept { Keeps self.old self.new }
+        ensures kept { TakesNothingBack self.old self.new }
     {
         self.slot(8, &x.to_le_bytes())
     }
 
     /// A unique pointer: 0x00020000 where it is set, and 0 where it is null.
     pub fn referent(&mut self, is_set: bool) -> Result<(), AllocError>
-        ensures ok { OnOk result (self.new ≡ within (put_referent is_set) self.old) }
+        ensures ok { OnOk result (self.new ≡ in_field (put_referent is_set) self.old) }
         ensures err { OnErr result (self.new ≡ self.old) }
-        ensures kept { Keeps self.old self.new }
+        ensures kept { TakesNothingBack self.old self.new }
     {
         self.u32(if is_set { REFERENT } else { 0 })
     }

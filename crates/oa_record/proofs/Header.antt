@@ -6,7 +6,7 @@ use Rattle.oa_ndr.specs.Forms.{padding, unit}
 use Rattle.oa_ndr.specs.Reading.{Cursor, at, unit_at}
 use Rattle.oa_ndr.proofs.Laws.{unit_reads}
 use Rattle.oa_record.specs.Layouts.{Layout, opcode_of, layout}
-use Rattle.oa_record.specs.Opcodes.{number_of, listed_opcode, opcode_at, opcode_takes_memory, some_takes_memory}
+use Rattle.oa_record.specs.Opcodes.{opcode_number, listed_opcode, opcode_at, opcode_takes_memory, some_takes_memory}
 use Rattle.oa_record.specs.declared.opcode.Opcode.{Opcode}
 use Rattle.oa_record.specs.Reading.{IsStarved, IsStarvedBody}
 use Rattle.oa_record.specs.declared.fault.RecordFault.{RecordFault}
@@ -29,16 +29,16 @@ header body a b c n p parts len_a is form len_c =
     let opcode : opcode_at body ≡ n = ap (λ (y : List ℕ). little_number 2 (drop 4 y)) parts ∙ ap (little_number 2) (drop_at a (b ++ c) 4 len_a) ∙ two_bytes b c n two.0 two.1 in
     (omega (arith, ap length parts, length-append a (b ++ c), length-append b c, len_a, two.0, len_c), opcode)
 
-pub opcode_lies : (parts : Layout) (body : List ℕ) → layout parts 0 body → (8 ≤ length body) × (opcode_at body ≡ number_of (opcode_of parts))
+pub opcode_lies : (parts : Layout) (body : List ℕ) → layout parts 0 body → (8 ≤ length body) × (opcode_at body ≡ opcode_number (opcode_of parts))
 opcode_lies parts body form =
     let two = form.second in
     let three = two.second in
     let len_a : length form.front ≡ 4 = form.first in
     let start : 0 + length form.front ≡ 4 = omega (arith, len_a) in
-    let len_b = (at_4 (number_of (opcode_of parts)) (0 + length form.front) two.front start two.first).0 in
+    let len_b = (at_4 (opcode_number (opcode_of parts)) (0 + length form.front) two.front start two.first).0 in
     let place : 0 + length form.front + length two.front ≡ 6 = omega (arith, len_a, len_b) in
     let len_c : length three.front ≡ 2 = subst (λ (q : ℕ). length three.front ≡ padding 2 q + 2) place three.first in
-    header body form.front two.front two.back (number_of (opcode_of parts)) (0 + length form.front) (form.parts ∙ ap (λ (y : List ℕ). form.front ++ y) two.parts) len_a start two.first
+    header body form.front two.front two.back (opcode_number (opcode_of parts)) (0 + length form.front) (form.parts ∙ ap (λ (y : List ℕ). form.front ++ y) two.parts) len_a start two.first
     (omega (arith, ap length three.parts, length-append three.front three.back, len_c))
 
 -- the same, as it is read

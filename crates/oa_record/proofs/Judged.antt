@@ -5,12 +5,12 @@ use Rattle.std.proofs.lemmas.List.{take_more, drop_more, take-append-drop, get_o
 use Rattle.std.specs.List.{drop-map}
 use Rattle.std.specs.List.{AllByRecursion}
 use Rattle.oa_variant.specs.declared.variant.Variant.{Variant}
-use Rattle.oa_wire_variant.specs.Variants.{Spells, IsReading, field_fault}
+use Rattle.oa_wire_variant.specs.Variants.{Spells, ReadsVariant, field_fault}
 use Rattle.oa_wire_array.specs.declared.fault.WireFault.{WireFault}
 use Rattle.oa_wire_array.specs.declared.fault.WireFault.TheVariants as faults
 use Rattle.oa_record.specs.declared.fault.RecordFault.{RecordFault}
 use Rattle.oa_record.specs.declared.fault.RecordFault.TheVariants.{Stub, BadVarType, Memory}
-use Rattle.oa_record.specs.Judging.{Refuses, TestsFields, TestsField}
+use Rattle.oa_record.specs.Judging.{RefusesFields, TestsFields, TestsField}
 use Rattle.oa_record.specs.Asks.{AllSpell, IsSpelled, IsUnbroken, SpellsNothing, HasBroken, HasBadType}
 
 abbrev pub shown : List (Bor (List ℕ)) → List (List ℕ)
@@ -37,8 +37,8 @@ spoils field why h = record { nothing = h.0; fault = h.1 }
 pub broken_at : (xs : List (Bor (List ℕ))) (i : ℕ) (d : Bor (List ℕ)) → i < length xs → SpellsNothing (get_or xs i d).now faults.BadStub → HasBroken (shown xs)
 broken_at xs i d lt bad = record { front = take i (shown xs); field = (get_or xs i d).now; back = drop (i + 1) (shown xs); whole = split_at xs i d lt; broken = bad }
 
-pub broken_read : (xs : List (Bor (List ℕ))) (i : ℕ) (d : Bor (List ℕ)) (e : WireFault) → i < length xs → e ≡ faults.BadStub → IsReading (get_or xs i d).now (Err e) → HasBroken (shown xs)
-broken_read xs i d e lt is h = broken_at xs i d lt (spoils _ _ (subst (λ (w : WireFault). IsReading (get_or xs i d).now (Err w)) is h))
+pub broken_read : (xs : List (Bor (List ℕ))) (i : ℕ) (d : Bor (List ℕ)) (e : WireFault) → i < length xs → e ≡ faults.BadStub → ReadsVariant (get_or xs i d).now (Err e) → HasBroken (shown xs)
+broken_read xs i d e lt is h = broken_at xs i d lt (spoils _ _ (subst (λ (w : WireFault). ReadsVariant (get_or xs i d).now (Err w)) is h))
 
 all_push : (P : List ℕ → Type 0) (fs : List (List ℕ)) (f : List ℕ) → AllByRecursion P fs → P f → AllByRecursion P (fs ++ f ∷ [])
 all_push P [] f h p = (p, tt)
@@ -95,13 +95,13 @@ behind_is xs n =
     let all : take (length xs - n) (drop n xs) ≡ drop n xs = take_all (length xs - n) (drop n xs) (omega (arith, length-drop n xs)) in
     ap (λ (ys : List (Bor (List ℕ))). map (λ (x : Bor (List ℕ)). x.now) ys) all ∙ sym (drop-map (λ (x : Bor (List ℕ)). x.now) n xs)
 
-pub bad_type_read : (xs : List (Bor (List ℕ))) (i n : ℕ) (d : Bor (List ℕ)) (e : WireFault) (vs : List Variant) → i < length xs → n ≡ i → AllSpell (take i (shown xs)) vs → e ≡ faults.BadVarType → IsReading (get_or xs i d).now (Err e)
+pub bad_type_read : (xs : List (Bor (List ℕ))) (i n : ℕ) (d : Bor (List ℕ)) (e : WireFault) (vs : List Variant) → i < length xs → n ≡ i → AllSpell (take i (shown xs)) vs → e ≡ faults.BadVarType → ReadsVariant (get_or xs i d).now (Err e)
     → AllByRecursion IsUnbroken (map (λ (x : Bor (List ℕ)). x.now) (take (length xs - (n + 1)) (drop (n + 1) xs))) → HasBadType (shown xs) n
 bad_type_read xs i n d e vs lt same h is bad rest =
     let behind : AllByRecursion IsUnbroken (drop (i + 1) (shown xs)) = subst (λ (k : ℕ). AllByRecursion IsUnbroken (drop (k + 1) (shown xs))) same (subst (AllByRecursion IsUnbroken) (behind_is xs (n + 1)) rest) in
-    rw same (bad_type_at xs i d vs lt h (spoils _ _ (subst (λ (w : WireFault). IsReading (get_or xs i d).now (Err w)) is bad)) behind)
+    rw same (bad_type_at xs i d vs lt h (spoils _ _ (subst (λ (w : WireFault). ReadsVariant (get_or xs i d).now (Err w)) is bad)) behind)
 
-pub ends_behind : (xs : List (Bor (List ℕ))) (n : ℕ) (e : RecordFault) → TestsFields (map (λ (x : Bor (List ℕ)). x.now) (take (length xs - n) (drop n xs))) (Err e) → Refuses (shown xs) e
+pub ends_behind : (xs : List (Bor (List ℕ))) (n : ℕ) (e : RecordFault) → TestsFields (map (λ (x : Bor (List ℕ)). x.now) (take (length xs - n) (drop n xs))) (Err e) → RefusesFields (shown xs) e
 ends_behind xs n Stub h = broken_behind (shown xs) n (subst HasBroken (behind_is xs n) h)
 ends_behind xs n (BadVarType index) h = absurd h
 ends_behind xs n Memory h = tt

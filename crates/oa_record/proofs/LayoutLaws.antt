@@ -15,7 +15,7 @@ use Rattle.oa_wire_array.specs.Arrays.{bound}
 use Rattle.oa_wire_array.specs.ArrayReading.{bound_at}
 use Rattle.oa_wire_array.proofs.ScalarLaws.{signed_reads}
 use Rattle.oa_record.specs.CallParts.{CallParts, ElementParts, PutParts, RedimParts}
-use Rattle.oa_record.specs.Opcodes.{number_of, opcode_named, is_listed, only_listed, listed_opcode}
+use Rattle.oa_record.specs.Opcodes.{opcode_number, opcode_named, is_listed, only_listed, listed_opcode}
 use Rattle.oa_record.specs.declared.opcode.Opcode.{Opcode}
 use Rattle.oa_record.specs.declared.opcode.Opcode.TheVariants as opcodes
 use Rattle.oa_record.specs.declared.request.CallHead.{CallHead}
@@ -23,7 +23,7 @@ use Rattle.oa_record.specs.declared.request.GetIds.{GetIds}
 use Rattle.oa_record.specs.Layouts.{Layout, opcode_of, guid, dispid, field, call_head, call_parts, indices, element_parts, put_parts}
 use Rattle.oa_record.specs.Layouts.{redim_parts, string, get_ids, number, fields, layout}
 use Rattle.oa_record.specs.Reading.{guid_at, dispid_at, field_at, head_of, call_head_at, parts_of, lists_at, call_at, index_list_at}
-use Rattle.oa_record.specs.Reading.{indices_at, element_of, element_at, put_of, put_at, redim_of, redim_at, string_at, ids_of, names_at}
+use Rattle.oa_record.specs.Reading.{indices_at, parts_of_element, element_at, put_of, put_at, redim_of, redim_at, string_at, ids_of, names_at}
 use Rattle.oa_record.specs.Reading.{get_ids_at, number_at, fields_at, listed_at, layout_at}
 
 guid_reads : Reads Always guid guid_at
@@ -107,7 +107,7 @@ element_reads : Reads Always element_parts element_at
 unfolding element_at
 element_reads =
     bind_reads call_parts (λ (e : ElementParts). e.call) call_reads (λ _ _. tt) (λ call _.
-    made_reads (element_of call) indices_reads (λ _ _. (tt, refl)) (λ e p text q form. (e.indices, tt, ap (λ (c : CallParts). element_of c e.indices) (sym q.1))))
+    made_reads (parts_of_element call) indices_reads (λ _ _. (tt, refl)) (λ e p text q form. (e.indices, tt, ap (λ (c : CallParts). parts_of_element c e.indices) (sym q.1))))
 
 put_reads : Reads Always put_parts put_at
 unfolding put_at
@@ -215,7 +215,7 @@ fields_reads k = record {
   again = λ p text rest l h form. subst (λ (j : Opcode). fields_at j (at p (text ++ rest)) ≡ Some (l, at (p + length text) rest)) h (fields_again p text rest l form);
 }
 
-pub named_back : (k : Opcode) → opcode_named (number_of k) ≡ Some k
+pub named_back : (k : Opcode) → opcode_named (opcode_number k) ≡ Some k
 named_back opcodes.Create = refl
 named_back opcodes.Release = refl
 named_back opcodes.GetIds = refl
@@ -234,14 +234,14 @@ some_opcode k = Some k
 same_opcode : (k j : Opcode) → some_opcode k ≡ Some j → k ≡ j
 same_opcode k j e = cc
 
-tried : (n m : ℕ) (j : Opcode) (other : Option Opcode) (k : Opcode) → number_of j ≡ m → cond (eqb n m) (Some j) other ≡ Some k → (other ≡ Some k → number_of k ≡ n) → number_of k ≡ n
+tried : (n m : ℕ) (j : Opcode) (other : Option Opcode) (k : Opcode) → opcode_number j ≡ m → cond (eqb n m) (Some j) other ≡ Some k → (other ≡ Some k → opcode_number k ≡ n) → opcode_number k ≡ n
 tried n m j other k is e next = by_test (eqb n m) refl e
   where
-    by_test : (b : Bool) → eqb n m ≡ b → cond b (Some j) other ≡ Some k → number_of k ≡ n
-    by_test true h e = ap number_of (sym (same_opcode j k e)) ∙ is ∙ sym (eqb-true _ _ h)
+    by_test : (b : Bool) → eqb n m ≡ b → cond b (Some j) other ≡ Some k → opcode_number k ≡ n
+    by_test true h e = ap opcode_number (sym (same_opcode j k e)) ∙ is ∙ sym (eqb-true _ _ h)
     by_test false h e = next e
 
-pub number_from : (n : ℕ) (k : Opcode) → opcode_named n ≡ Some k → number_of k ≡ n
+pub number_from : (n : ℕ) (k : Opcode) → opcode_named n ≡ Some k → opcode_number k ≡ n
 number_from n k e =
     tried n 1 opcodes.Create _ k refl e (λ e. tried n 2 opcodes.Release _ k refl e (λ e. tried n 3 opcodes.GetIds _ k refl e (λ e.
     tried n 4 opcodes.Invoke _ k refl e (λ e. tried n 5 opcodes.GetElement _ k refl e (λ e. tried n 6 opcodes.PutElement _ k refl e (λ e.
@@ -260,12 +260,12 @@ only_is (Some j) k e = by_test (is_listed j) refl e
 only_back : (k : Opcode) → is_listed k ≡ true → only_listed (Some k) ≡ Some k
 only_back k h = ap (λ (b : Bool). cond b (Some k) None) h
 
-pub listed_back : (k : Opcode) → is_listed k ≡ true → listed_opcode (number_of k) ≡ Some k
+pub listed_back : (k : Opcode) → is_listed k ≡ true → listed_opcode (opcode_number k) ≡ Some k
 listed_back k h = ap only_listed (named_back k) ∙ only_back k h
 
 -- the layouts of a number
 abbrev IsOf : ℕ → Layout → Type 0
-IsOf n l = (number_of (opcode_of l) ≡ n) × (is_listed (opcode_of l) ≡ true)
+IsOf n l = (opcode_number (opcode_of l) ≡ n) × (is_listed (opcode_of l) ≡ true)
 
 listed_reads : (n : ℕ) (o : Option Opcode) → listed_opcode n ≡ o → Reads (IsOf n) fields (listed_at o)
 unfolding listed_at
@@ -275,11 +275,11 @@ listed_reads n None e = fail_reads (λ l p text h _.
 listed_reads n (Some k) e =
     let is = only_is (opcode_named n) k e in
     same_values (fields_reads k)
-    (λ l h. (ap number_of h ∙ number_from n k is.0, ap is_listed h ∙ is.1))
+    (λ l h. (ap opcode_number h ∙ number_from n k is.0, ap is_listed h ∙ is.1))
     (λ l h. same_opcode (opcode_of l) k (sym (listed_back (opcode_of l) h.1) ∙ ap listed_opcode h.0 ∙ e))
 
 pub layout_reads : Reads (λ (l : Layout). is_listed (opcode_of l) ≡ true) layout layout_at
 unfolding layout_at
 layout_reads =
-    ignored_then 4 (bind_reads (unit 2) (λ l. number_of (opcode_of l)) (unit_reads 2) (λ _ _. tt) (λ n _.
+    ignored_then 4 (bind_reads (unit 2) (λ l. opcode_number (opcode_of l)) (unit_reads 2) (λ _ _. tt) (λ n _.
     ignored_then 2 (same_values (listed_reads n (listed_opcode n) refl) (λ l h. (h.1, h.0)) (λ l h. (h.1, h.0)))))

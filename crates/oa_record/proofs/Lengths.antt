@@ -6,7 +6,7 @@ use Rattle.std.proofs.lemmas.List.{append-nil, length-append, length-replicate}
 use Rattle.std.proofs.lemmas.List.Concat.{flat_map-cons}
 use Rattle.std.specs.List.{flat_map}
 use Rattle.oa_ndr.specs.Forms.{padding}
-use Rattle.oa_ndr.specs.Writing.{Output, field_after, within}
+use Rattle.oa_ndr.specs.Writing.{FieldOutput, field_after, in_field}
 use Rattle.oa_record.specs.Replies.{word, half_word, signed_word, number_field, padded}
 
 pub signed_length : (ids : List ℤ) → length (flat_map signed_word ids) ≡ 4 * length ids
@@ -55,11 +55,11 @@ value_small n bytes few =
     omega (arith, few, number_length n, zeros_below (length bytes % 8), length-append (number_field n) (padded bytes), length-append bytes (replicate (padding 8 (length bytes)) 0), length-replicate {A = ℕ} (padding 8 (length bytes)) 0)
 
 -- a field that was written at the end of a vector
-pub field_added : {E : Type 0} (r : Result (Unit {0}) E) (old whole : List ℕ) (new : Output) (put : List ℕ → List ℕ) → whole ≡ new.before ++ new.field → OnOk r (new ≡ within put (field_after old)) → OnOk r (whole ≡ old ++ put [])
-field_added (Ok u) old whole new put is h = is ∙ ap (λ (o : Output). o.before ++ o.field) h
+pub field_added : {E : Type 0} (r : Result (Unit {0}) E) (old whole : List ℕ) (new : FieldOutput) (put : List ℕ → List ℕ) → whole ≡ new.before ++ new.field → OnOk r (new ≡ in_field put (field_after old)) → OnOk r (whole ≡ old ++ put [])
+field_added (Ok u) old whole new put is h = is ∙ ap (λ (o : FieldOutput). o.before ++ o.field) h
 field_added (Err e) old whole new put is h = tt
 
 -- and one that was not
-pub field_kept : {E : Type 0} (r : Result (Unit {0}) E) (old whole : List ℕ) (new : Output) → whole ≡ new.before ++ new.field → OnErr r (new ≡ field_after old) → OnErr r (whole ≡ old)
+pub field_kept : {E : Type 0} (r : Result (Unit {0}) E) (old whole : List ℕ) (new : FieldOutput) → whole ≡ new.before ++ new.field → OnErr r (new ≡ field_after old) → OnErr r (whole ≡ old)
 field_kept (Ok u) old whole new is h = tt
-field_kept (Err e) old whole new is h = is ∙ ap (λ (o : Output). o.before ++ o.field) h ∙ append-nil old
+field_kept (Err e) old whole new is h = is ∙ ap (λ (o : FieldOutput). o.before ++ o.field) h ∙ append-nil old

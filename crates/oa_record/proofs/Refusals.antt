@@ -4,7 +4,7 @@ use Rattle.std.specs.List.{AllByRecursion}
 use Rattle.oa_wire_variant.specs.Variants.{Spells}
 use Rattle.oa_wire_array.specs.declared.fault.WireFault.TheVariants as faults
 use Rattle.oa_record.specs.Layouts.{variant_fields}
-use Rattle.oa_record.specs.Asks.{index_of, IsSpelled, IsUnbroken, SpellsNothing, IsStub, IsBadVarType}
+use Rattle.oa_record.specs.Asks.{field_index, IsSpelled, IsUnbroken, SpellsNothing, IsStub, IsBadVarType}
 use Rattle.oa_record.proofs.Requests.{one_layout}
 
 one_fault : (field : List ℕ) → SpellsNothing field faults.BadVarType → SpellsNothing field faults.BadStub → ⊥
@@ -40,4 +40,4 @@ one_index body i j a b =
     let place : a.place ≡ b.place = sym a.bad.place
     ∙ same_place a.bad.front b.bad.front a.bad.back b.bad.back a.bad.field b.bad.field a.bad.lowest b.bad.lowest a.bad.bad b.bad.bad (sym a.bad.whole ∙ ap variant_fields parts ∙ b.bad.whole)
     ∙ b.bad.place in
-    a.named ∙ (λ k. index_of (parts k) (place k)) ∙ sym b.named
+    a.named ∙ (λ k. field_index (parts k) (place k)) ∙ sym b.named

@@ -3,14 +3,14 @@ use Rattle.std.proofs.Common.{◌≡◌, inl, ℕ, Bool, true, false, ◌==◌, 
 use Rattle.std.proofs.lemmas.Bool.{eqb-true}
 use Rattle.oa_record.specs.Asks.{IsStub}
 use Rattle.oa_record.specs.Layouts.{opcode_of}
-use Rattle.oa_record.specs.Opcodes.{number_of, opcode_at, replacement_opcode}
+use Rattle.oa_record.specs.Opcodes.{opcode_number, opcode_at, replacement_opcode}
 use Rattle.oa_record.specs.Replacement.{is_replacement}
 use Rattle.oa_record.specs.declared.opcode.Opcode.{Opcode}
 use Rattle.oa_record.specs.declared.opcode.Opcode.TheVariants as opcodes
 use Rattle.oa_record.proofs.Header.{opcode_lies}
 
 -- it is the opcode of no request
-no_opcode : (o : Opcode) → number_of o ≡ replacement_opcode → ⊥
+no_opcode : (o : Opcode) → opcode_number o ≡ replacement_opcode → ⊥
 no_opcode opcodes.Create e = omega (arith, e)
 no_opcode opcodes.Release e = omega (arith, e)
 no_opcode opcodes.GetIds e = omega (arith, e)

@@ -9,14 +9,14 @@ use Rattle.oa_wire_variant.specs.Variants.{Spells}
 use Rattle.oa_wire_array.specs.declared.fault.WireFault.{WireFault}
 use Rattle.oa_record.specs.CallParts.{CallParts}
 use Rattle.oa_record.specs.Layouts.{Layout, opcode_of, variant_fields}
-use Rattle.oa_record.specs.Opcodes.{number_of, opcode_at, opcode_takes_memory, some_takes_memory, takes_memory}
-use Rattle.oa_record.specs.Reading.{element_of, put_of, layout_at, Fails, IsStarvedBody}
-use Rattle.oa_record.specs.Judging.{Requests, Refuses, Takes, put_fault, put_index}
+use Rattle.oa_record.specs.Opcodes.{opcode_number, opcode_at, opcode_takes_memory, some_takes_memory, takes_memory}
+use Rattle.oa_record.specs.Reading.{parts_of_element, put_of, layout_at, ReadingFails, IsStarvedBody}
+use Rattle.oa_record.specs.Judging.{Requests, RefusesFields, TakesRequest, put_fault, put_index}
 use Rattle.oa_record.specs.declared.opcode.Opcode.TheVariants as opcodes
 use Rattle.oa_record.specs.declared.fault.RecordFault.{RecordFault}
 use Rattle.oa_record.specs.declared.fault.RecordFault.TheVariants.{Stub, BadVarType, Memory}
 use Rattle.oa_record.specs.declared.request.Request.TheVariants as requests
-use Rattle.oa_record.specs.Asks.{HasLayout, AllSpell, call_of, index_of, with_last, request_of, request_opcode, Asks, SpellsNothing}
+use Rattle.oa_record.specs.Asks.{HasLayout, AllSpell, call_of, field_index, with_last, request_of, request_opcode, Asks, SpellsNothing}
 use Rattle.oa_record.specs.Asks.{HasBroken}
 use Rattle.oa_record.specs.Asks.{HasBadType, HasNoLayout, IsStub, IsBadVarType, IsRequest}
 use Rattle.oa_record.specs.declared.request.Request.{Request}
@@ -74,10 +74,10 @@ opcode_same (Layout.UnlockBody call) vs q e = ap request_opcode (sym (same_reque
 opcode_same (Layout.TypeInfoBody index) vs q e = ap request_opcode (sym (same_request _ q e))
 opcode_same Layout.ObjectsBody vs q e = ap request_opcode (sym (same_request _ q e))
 
-pub opcode_stands : (body : List ℕ) (q : Request) → Asks body q → (8 ≤ length body) × (opcode_at body ≡ number_of (request_opcode q))
+pub opcode_stands : (body : List ℕ) (q : Request) → Asks body q → (8 ≤ length body) × (opcode_at body ≡ opcode_number (request_opcode q))
 opcode_stands body q a =
     let h = opcode_lies a.parts body a.lies.form in
-    (h.0, h.1 ∙ ap number_of (sym (opcode_same a.parts a.values q a.is)))
+    (h.0, h.1 ∙ ap opcode_number (sym (opcode_same a.parts a.values q a.is)))
 
 -- a field that spells nothing is no field of values
 not_spelled : (why : WireFault) (front back : List (List ℕ)) (field : List ℕ) (vs : List Variant) → SpellsNothing field why → AllSpell (front ++ field ∷ back) vs → ⊥
@@ -112,14 +112,14 @@ lies_so body parts short e =
     let h = whole_takes layout_reads body parts e in
     record { short = short; listed = h.0; form = h.1 }
 
-pub no_parts : (body : List ℕ) (e : RecordFault) → length body ≤ max_request_bytes → Fails e (whole layout_at body) → IsStarvedBody e body
+pub no_parts : (body : List ℕ) (e : RecordFault) → length body ≤ max_request_bytes → ReadingFails e (whole layout_at body) → IsStarvedBody e body
     → IsRequest body (Err e)
 no_parts body Stub short none s = inl (no_layout body none)
 no_parts body (BadVarType i) short none s = absurd none
 no_parts body Memory short none s = record { long = s.0; short = short; opcode = s.1 }
 
 -- what the values of a layout answer is the answer
-asks : (body : List ℕ) (parts : Layout) (q : Request) → length body ≤ max_request_bytes → whole layout_at body ≡ Some parts → Takes parts q
+asks : (body : List ℕ) (parts : Layout) (q : Request) → length body ≤ max_request_bytes → whole layout_at body ≡ Some parts → TakesRequest parts q
     → Asks body q
 asks body parts q short read t = record { parts = parts; lies = lies_so body parts short read; values = t.values; spelled = t.spelled; is = t.is }
 
@@ -140,7 +140,7 @@ answered body parts (Err e) short read h = refuses body parts e short read h
 -- ---- the values of a layout
 
 -- where the arguments are all values that there are
-pub refuses_call : (parts : Layout) (c : CallParts) (e : RecordFault) → variant_fields parts ≡ c.fields → ((place : ℕ) → index_of parts place ≡ Some place) → takes_memory (opcode_of parts) ≡ true → Refuses c.fields e → Requests parts (Err e)
+pub refuses_call : (parts : Layout) (c : CallParts) (e : RecordFault) → variant_fields parts ≡ c.fields → ((place : ℕ) → field_index parts place ≡ Some place) → takes_memory (opcode_of parts) ≡ true → RefusesFields c.fields e → Requests parts (Err e)
 refuses_call parts c Stub fields place memory h = subst HasBroken (sym fields) h
 refuses_call parts c (BadVarType index) fields place memory h = record { place = h.0; bad = subst (λ (fs : List (List ℕ)). HasBadType fs h.0) (sym fields) h.2; named = h.1 ∙ sym (place h.0) }
 refuses_call parts c Memory fields place memory h = memory
@@ -152,17 +152,17 @@ last_is (x ∷ []) v f = refl
 last_is (x ∷ y ∷ values) v f = last_is (y ∷ values) v (λ more last. f (x ∷ more) last)
 
 abbrev put_body : CallParts → List ℤ → List ℕ → Layout
-put_body call indices value = Layout.PutElementBody (put_of (element_of call indices) value)
+put_body call indices value = Layout.PutElementBody (put_of (parts_of_element call indices) value)
 
 pub takes_put : (call : CallParts) (indices : List ℤ) (value : List ℕ) (all values : List Variant) (last : Variant) (q : Call) → AllSpell (call.fields ++ value ∷ []) all → all ≡ values ++ last ∷ [] → q ≡ call_of call values
-    → Takes (put_body call indices value) (requests.PutElement q indices last)
+    → TakesRequest (put_body call indices value) (requests.PutElement q indices last)
 takes_put call indices value all values last q spelled parts is = record {
   values = values ++ last ∷ [];
   spelled = subst (λ (vs : List Variant). AllSpell (call.fields ++ value ∷ []) vs) parts spelled;
   is = last_is values last (λ arguments v. Some (requests.PutElement (call_of call arguments) indices v)) ∙ ap (λ (x : Call). some_request (requests.PutElement x indices last)) (sym is);
 }
 
-pub refuses_put : (call : CallParts) (indices : List ℤ) (value : List ℕ) (e : RecordFault) → Refuses (call.fields ++ value ∷ []) e → Requests (put_body call indices value) (Err (put_fault (length call.fields) e))
+pub refuses_put : (call : CallParts) (indices : List ℤ) (value : List ℕ) (e : RecordFault) → RefusesFields (call.fields ++ value ∷ []) e → Requests (put_body call indices value) (Err (put_fault (length call.fields) e))
 refuses_put call indices value Stub h = h
 refuses_put call indices value (BadVarType index) h = record { place = h.0; bad = h.2; named = ap (put_index (length call.fields)) h.1 }
 refuses_put call indices value Memory h = refl

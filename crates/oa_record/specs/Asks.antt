@@ -125,18 +125,18 @@ abbrev pub IsStub : List ℕ → Type 0
 IsStub body = HasNoLayout body ⊎ IsBroken body
 
 -- what a refusal calls the field of this place: its index in rgvarg; the new value of a cell, which is no argument, has none
-abbrev pub index_of : Layout → ℕ → Option ℕ
-index_of (Layout.CreateBody class) place = Some place
-index_of (Layout.ReleaseBody object) place = Some place
-index_of (Layout.GetIdsBody call) place = Some place
-index_of (Layout.InvokeBody call) place = Some place
-index_of (Layout.GetElementBody element) place = Some place
-index_of (Layout.PutElementBody put) place = if place == length put.element.call.fields then None else Some place
-index_of (Layout.RedimensionBody redim) place = Some place
-index_of (Layout.LockBody call) place = Some place
-index_of (Layout.UnlockBody call) place = Some place
-index_of (Layout.TypeInfoBody index) place = Some place
-index_of Layout.ObjectsBody place = Some place
+abbrev pub field_index : Layout → ℕ → Option ℕ
+field_index (Layout.CreateBody class) place = Some place
+field_index (Layout.ReleaseBody object) place = Some place
+field_index (Layout.GetIdsBody call) place = Some place
+field_index (Layout.InvokeBody call) place = Some place
+field_index (Layout.GetElementBody element) place = Some place
+field_index (Layout.PutElementBody put) place = if place == length put.element.call.fields then None else Some place
+field_index (Layout.RedimensionBody redim) place = Some place
+field_index (Layout.LockBody call) place = Some place
+field_index (Layout.UnlockBody call) place = Some place
+field_index (Layout.TypeInfoBody index) place = Some place
+field_index Layout.ObjectsBody place = Some place
 
 -- the body is refused for the type of a value: it has a layout with no broken field, and this is the index of the first field with a type
 -- of no value
@@ -145,7 +145,7 @@ pub record IsBadVarType (body : List ℕ) (index : Option ℕ) : Type 0 where
   pub lies : HasLayout parts body
   pub place : ℕ
   pub bad : HasBadType (variant_fields parts) place
-  pub named : index ≡ index_of parts place
+  pub named : index ≡ field_index parts place
 
 -- the tag of a body; 0 where it is too short for one
 abbrev pub tag_at : List ℕ → ℕ

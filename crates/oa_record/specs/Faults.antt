@@ -5,10 +5,10 @@ use Rattle.oa_model.specs.Codes.{bad_stub_data, disp_e_badvartype, e_outofmemory
 use Rattle.oa_record.specs.declared.fault.RecordFault.{RecordFault}
 use Rattle.oa_record.specs.declared.fault.RecordFault.TheVariants.{Stub, BadVarType, Memory}
 
-abbrev pub code_of : RecordFault → HResult
-code_of Stub = bad_stub_data
-code_of (BadVarType index) = disp_e_badvartype
-code_of Memory = e_outofmemory
+abbrev pub record_code : RecordFault → HResult
+record_code Stub = bad_stub_data
+record_code (BadVarType index) = disp_e_badvartype
+record_code Memory = e_outofmemory
 
 abbrev pub index_told : RecordFault → Option ℕ
 index_told Stub = None

@@ -5,21 +5,21 @@ use Rattle.oa_variant.specs.declared.variant.Variant.{Variant}
 use Rattle.oa_wire_array.specs.declared.fault.WireFault.TheVariants as faults
 use Rattle.oa_record.specs.Layouts.{Layout, opcode_of, variant_fields}
 use Rattle.oa_record.specs.Opcodes.{takes_memory}
-use Rattle.oa_record.specs.Asks.{AllSpell, IsUnbroken, SpellsNothing, HasBroken, HasBadType, index_of, request_of}
+use Rattle.oa_record.specs.Asks.{AllSpell, IsUnbroken, SpellsNothing, HasBroken, HasBadType, field_index, request_of}
 use Rattle.oa_record.specs.declared.request.Request.{Request}
 use Rattle.oa_record.specs.declared.fault.RecordFault.{RecordFault}
 use Rattle.oa_record.specs.declared.fault.RecordFault.TheVariants.{Stub, BadVarType, Memory}
 
 -- the refusal of fields of which some have no value
-abbrev pub Refuses : List (List ℕ) → RecordFault → Type 0
-Refuses fields Stub = HasBroken fields
-Refuses fields (BadVarType index) = (i : ℕ) × (index ≡ Some i) × HasBadType fields i
-Refuses fields Memory = Unit {0}
+abbrev pub RefusesFields : List (List ℕ) → RecordFault → Type 0
+RefusesFields fields Stub = HasBroken fields
+RefusesFields fields (BadVarType index) = (i : ℕ) × (index ≡ Some i) × HasBadType fields i
+RefusesFields fields Memory = Unit {0}
 
 -- the values of all fields, or their refusal
 abbrev pub AnswersFields : {X : Type 0} → (X → List Variant) → List (List ℕ) → Result X RecordFault → Type 0
 AnswersFields values fields (Ok x) = AllSpell fields (values x)
-AnswersFields values fields (Err e) = Refuses fields e
+AnswersFields values fields (Err e) = RefusesFields fields e
 
 -- whether a field is unbroken
 abbrev pub TestsField : List ℕ → Result (Unit {0}) RecordFault → Type 0
@@ -36,7 +36,7 @@ TestsFields fields (Err (BadVarType index)) = ⊥
 TestsFields fields (Err Memory) = Unit {0}
 
 -- the request of a layout, with values that its fields spell
-pub record Takes (parts : Layout) (request : Request) : Type 0 where
+pub record TakesRequest (parts : Layout) (request : Request) : Type 0 where
   pub values : List Variant
   pub spelled : AllSpell (variant_fields parts) values
   pub is : request_of parts values ≡ Some request
@@ -45,11 +45,11 @@ pub record Takes (parts : Layout) (request : Request) : Type 0 where
 pub record MissesType (parts : Layout) (index : Option ℕ) : Type 0 where
   pub place : ℕ
   pub bad : HasBadType (variant_fields parts) place
-  pub named : index ≡ index_of parts place
+  pub named : index ≡ field_index parts place
 
 -- the request of a layout, or the refusal of its values
 abbrev pub Requests : Layout → Result Request RecordFault → Type 0
-Requests parts (Ok request) = Takes parts request
+Requests parts (Ok request) = TakesRequest parts request
 Requests parts (Err Stub) = HasBroken (variant_fields parts)
 Requests parts (Err (BadVarType index)) = MissesType parts index
 Requests parts (Err Memory) = takes_memory (opcode_of parts) ≡ true

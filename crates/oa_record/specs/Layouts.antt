@@ -10,7 +10,7 @@ use Rattle.oa_ndr.specs.Forms.{Form, ◌▸◌, nothing, align, ignored, unit, e
 use Rattle.oa_model.specs.Guids.{wire_order}
 use Rattle.oa_wire_array.specs.Arrays.{bound}
 use Rattle.oa_record.specs.CallParts.{CallParts, ElementParts, PutParts, RedimParts}
-use Rattle.oa_record.specs.Opcodes.{number_of}
+use Rattle.oa_record.specs.Opcodes.{opcode_number}
 use Rattle.oa_record.specs.declared.opcode.Opcode.{Opcode}
 use Rattle.oa_record.specs.declared.opcode.Opcode.TheVariants as opcodes
 use Rattle.oa_record.specs.declared.request.CallHead.{CallHead}
@@ -128,4 +128,4 @@ fields Layout.ObjectsBody = nothing
 
 -- the tag, the opcode, a reserved number, the fields of the opcode
 abbrev pub layout : Layout → Form
-layout parts = ignored 4 ▸ unit 2 (number_of (opcode_of parts)) ▸ ignored 2 ▸ fields parts
+layout parts = ignored 4 ▸ unit 2 (opcode_number (opcode_of parts)) ▸ ignored 2 ▸ fields parts

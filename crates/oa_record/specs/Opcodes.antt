@@ -4,18 +4,18 @@ use Rattle.byteorder.specs.Endian.{little_number}
 use Rattle.oa_record.specs.declared.opcode.Opcode.{Opcode}
 use Rattle.oa_record.specs.declared.opcode.Opcode.TheVariants as opcodes
 
-abbrev pub number_of : Opcode → ℕ
-number_of opcodes.Create = 1
-number_of opcodes.Release = 2
-number_of opcodes.GetIds = 3
-number_of opcodes.Invoke = 4
-number_of opcodes.GetElement = 5
-number_of opcodes.PutElement = 6
-number_of opcodes.Redimension = 7
-number_of opcodes.Lock = 8
-number_of opcodes.Unlock = 9
-number_of opcodes.TypeInfo = 10
-number_of opcodes.Objects = 11
+abbrev pub opcode_number : Opcode → ℕ
+opcode_number opcodes.Create = 1
+opcode_number opcodes.Release = 2
+opcode_number opcodes.GetIds = 3
+opcode_number opcodes.Invoke = 4
+opcode_number opcodes.GetElement = 5
+opcode_number opcodes.PutElement = 6
+opcode_number opcodes.Redimension = 7
+opcode_number opcodes.Lock = 8
+opcode_number opcodes.Unlock = 9
+opcode_number opcodes.TypeInfo = 10
+opcode_number opcodes.Objects = 11
 
 abbrev pub opcode_named : ℕ → Option Opcode
 opcode_named n =

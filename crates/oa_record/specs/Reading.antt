@@ -17,25 +17,25 @@ use Rattle.oa_record.specs.declared.fault.RecordFault.{RecordFault}
 use Rattle.oa_record.specs.declared.fault.RecordFault.TheVariants.{Stub, BadVarType, Memory}
 
 -- what reading gives where a call fails
-abbrev pub Fails : {Y : Type 0} → RecordFault → Option Y → Type 0
-Fails Stub read = read ≡ None
-Fails (BadVarType i) read = ⊥
-Fails Memory read = Unit {0}
+abbrev pub ReadingFails : {Y : Type 0} → RecordFault → Option Y → Type 0
+ReadingFails Stub read = read ≡ None
+ReadingFails (BadVarType i) read = ⊥
+ReadingFails Memory read = Unit {0}
 
 -- What a call answers, seen by view, and leaves is what reading gives, unless memory ran out.
-abbrev pub Answers : {X Y : Type 0} → (X → Y) → Result X RecordFault → Cursor → Option (Y × Cursor) → Type 0
-Answers view (Ok x) new read = read ≡ Some (view x, new)
-Answers view (Err e) new read = Fails e read
+abbrev pub ReadsBody : {X Y : Type 0} → (X → Y) → Result X RecordFault → Cursor → Option (Y × Cursor) → Type 0
+ReadsBody view (Ok x) new read = read ≡ Some (view x, new)
+ReadsBody view (Err e) new read = ReadingFails e read
 
 -- the same of a call that takes no memory
-abbrev pub Finds : {X Y E : Type 0} → (X → Y) → Result X E → Cursor → Option (Y × Cursor) → Type 0
-Finds view (Ok x) new read = read ≡ Some (view x, new)
-Finds view (Err e) new read = read ≡ None
+abbrev pub ReadsFixed : {X Y E : Type 0} → (X → Y) → Result X E → Cursor → Option (Y × Cursor) → Type 0
+ReadsFixed view (Ok x) new read = read ≡ Some (view x, new)
+ReadsFixed view (Err e) new read = read ≡ None
 
 -- the same where nothing is left
-abbrev pub AnswersAll : {X Y : Type 0} → (X → Y) → Result X RecordFault → Option Y → Type 0
-AnswersAll view (Ok x) read = read ≡ Some (view x)
-AnswersAll view (Err e) read = Fails e read
+abbrev pub ReadsBodyToItsEnd : {X Y : Type 0} → (X → Y) → Result X RecordFault → Option Y → Type 0
+ReadsBodyToItsEnd view (Ok x) read = read ≡ Some (view x)
+ReadsBodyToItsEnd view (Err e) read = ReadingFails e read
 
 -- want of memory comes only where the opcode takes some
 abbrev pub IsStarved : RecordFault → Opcode → Type 0
@@ -121,14 +121,14 @@ indices_at = do
   _ ← unit_at 4
   choose (nat_le count max_dimensions) (index_list_at count) fail
 
-abbrev pub element_of : CallParts → List ℤ → ElementParts
-element_of call indices = record { call = call; indices = indices }
+abbrev pub parts_of_element : CallParts → List ℤ → ElementParts
+parts_of_element call indices = record { call = call; indices = indices }
 
 unfoldable pub element_at : Reading ElementParts
 element_at = do
   call ← call_at
   indices ← indices_at
-  give (element_of call indices)
+  give (parts_of_element call indices)
 
 abbrev pub put_of : ElementParts → List ℕ → PutParts
 put_of element value = record { element = element; value = value }

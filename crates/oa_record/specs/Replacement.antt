@@ -11,12 +11,12 @@ abbrev pub is_replacement : List ℕ → Bool
 is_replacement body = if nat_lt (length body) 8 then false else opcode_at body == replacement_opcode
 
 -- the text of such a length, where it and its padding are all of the bytes
-abbrev pub text_of : ℕ → List ℕ → Option (List ℕ)
-text_of n bytes = if length bytes == n + padding 8 n then Some (take n bytes) else None
+abbrev pub padded_text : ℕ → List ℕ → Option (List ℕ)
+padded_text n bytes = if length bytes == n + padding 8 n then Some (take n bytes) else None
 
 -- the text that the body has behind its length and a reserved number
 abbrev pub text_in : List ℕ → Option (List ℕ)
 text_in body =
     if nat_lt (length body) 16 then None
     else if nat_lt max_request_bytes (length body) then None
-    else text_of (little_number 4 (drop 8 body)) (drop 16 body)
+    else padded_text (little_number 4 (drop 8 body)) (drop 16 body)

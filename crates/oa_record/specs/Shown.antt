@@ -1,6 +1,6 @@
 -- The parts of a body as the code has them.
 use Rattle.oa_record.specs.Layouts.{Layout}
-use Rattle.oa_record.specs.Reading.{element_of, put_of, redim_of}
+use Rattle.oa_record.specs.Reading.{parts_of_element, put_of, redim_of}
 use Rattle.oa_record.specs.declared.body_parts.Parts.{Parts}
 use Rattle.oa_record.specs.declared.body_parts.Parts.TheVariants.{Create, Release, GetIds, Invoke, GetElement, PutElement, Redimension}
 use Rattle.oa_record.specs.declared.body_parts.Parts.TheVariants.{Lock, Unlock, TypeInfo, Objects}
@@ -10,8 +10,8 @@ shown (Create class) = Layout.CreateBody class
 shown (Release object) = Layout.ReleaseBody object
 shown (GetIds call) = Layout.GetIdsBody call
 shown (Invoke call) = Layout.InvokeBody call
-shown (GetElement call indices) = Layout.GetElementBody (element_of call indices)
-shown (PutElement call indices value) = Layout.PutElementBody (put_of (element_of call indices) value.now)
+shown (GetElement call indices) = Layout.GetElementBody (parts_of_element call indices)
+shown (PutElement call indices value) = Layout.PutElementBody (put_of (parts_of_element call indices) value.now)
 shown (Redimension call bound) = Layout.RedimensionBody (redim_of call bound)
 shown (Lock call) = Layout.LockBody call
 shown (Unlock call) = Layout.UnlockBody call

@@ -2,7 +2,7 @@
 ghost use Rattle.std.specs.Prelude.{◌≡◌};
 ghost use Rattle.oa_record.specs.declared.fault.FieldFault.TheVariants as field_faults;
 ghost use Rattle.oa_record.specs.declared.fault.RecordFault.TheVariants.{Stub, Memory};
-ghost use Rattle.oa_record.specs.Faults.{code_of, index_told};
+ghost use Rattle.oa_record.specs.Faults.{record_code, index_told};
 
 use oa_model::HResult;
 use oa_ndr::Short;
@@ -27,7 +27,7 @@ pub enum RecordFault {
 impl RecordFault {
     /// The code of a reply with this refusal (MS-ERREF section 2.1).
     pub fn code(self) -> HResult
-        ensures { result ≡ code_of self }
+        ensures { result ≡ record_code self }
     {
         match self {
             RecordFault::Stub => HResult::BAD_STUB_DATA,

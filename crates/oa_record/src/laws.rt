@@ -1,6 +1,6 @@
 //! Laws of the definitions, each the contract of a function with no work to do.
 ghost use Rattle.std.specs.Prelude.{◌≡◌, ◌≤◌, ℕ, true, List, Option, Some, length};
-ghost use Rattle.oa_record.specs.Opcodes.{number_of, opcode_at, opcode_named};
+ghost use Rattle.oa_record.specs.Opcodes.{opcode_number, opcode_at, opcode_named};
 ghost use Rattle.oa_record.specs.declared.opcode.Opcode.{Opcode as AnOpcode};
 ghost use Rattle.oa_record.specs.declared.request.Request.{Request as ARequest};
 ghost use Rattle.oa_record.specs.Replacement.{is_replacement};
@@ -27,7 +27,7 @@ pub fn one_refusal()
 
 /// The opcode of what a body asks stands in it, so that a body of under 8 bytes asks nothing.
 pub fn opcode_stands()
-    ensures { (body : List ℕ) (q : ARequest) → Asks body q → (8 ≤ length body) × (opcode_at body ≡ number_of (request_opcode q)) }
+    ensures { (body : List ℕ) (q : ARequest) → Asks body q → (8 ≤ length body) × (opcode_at body ≡ opcode_number (request_opcode q)) }
 {}
 
 /// A body that asks for another library is bad stub data where a request is wanted.
@@ -37,6 +37,6 @@ pub fn a_replacement_is_no_request()
 
 /// Each opcode has a number of its own, and no other number has an opcode.
 pub fn one_number()
-    ensures back { (opcode : AnOpcode) → opcode_named (number_of opcode) ≡ Some opcode }
-    ensures only { (n : ℕ) (opcode : AnOpcode) → opcode_named n ≡ Some opcode → n ≡ number_of opcode }
+    ensures back { (opcode : AnOpcode) → opcode_named (opcode_number opcode) ≡ Some opcode }
+    ensures only { (n : ℕ) (opcode : AnOpcode) → opcode_named n ≡ Some opcode → n ≡ opcode_number opcode }
 {}

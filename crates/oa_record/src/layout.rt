@@ -3,9 +3,9 @@ ghost use Rattle.std.specs.Prelude.{◌≡◌, ℕ, ◌<◌, ◌≤◌, map, len
 ghost use Rattle.oa_ndr.specs.Reading.{many, unit_at, whole};
 ghost use Rattle.oa_wire_array.specs.ArrayReading.{bound_at};
 ghost use Rattle.oa_record.specs.Reading.{
-  Answers,
-  AnswersAll,
-  Finds,
+  ReadsBody,
+  ReadsBodyToItsEnd,
+  ReadsFixed,
   Starves,
   StarvesAt,
   guid_at,
@@ -16,7 +16,7 @@ ghost use Rattle.oa_record.specs.Reading.{
   call_at,
   index_list_at,
   indices_at,
-  element_of,
+  parts_of_element,
   element_at,
   string_at,
   names_at,
@@ -40,7 +40,7 @@ use uuid::Uuid;
 // A GUID in wire order.
 #[tactic(auto, unfolding(oa_ndr::specs::Reading::bind, oa_ndr::specs::Reading::give, crate::specs::Reading::guid_at))]
 fn guid(r: &mut Ndr<'_>) -> Result<Uuid, Short>
-    ensures { Finds (λ x. x) result r.new (guid_at r.old) }
+    ensures { ReadsFixed (λ x. x) result r.new (guid_at r.old) }
 {
     match r.bytes(16)?.first_chunk::<16>() {
         Some(bytes) => Ok(guid_from_wire(*bytes)),
@@ -50,7 +50,7 @@ fn guid(r: &mut Ndr<'_>) -> Result<Uuid, Short>
 
 #[tactic(auto, unfolding(oa_ndr::specs::Reading::bind, oa_ndr::specs::Reading::give, crate::specs::Reading::dispid_at))]
 fn dispid(r: &mut Ndr<'_>) -> Result<i32, Short>
-    ensures { Finds (λ x. x) result r.new (dispid_at r.old) }
+    ensures { ReadsFixed (λ x. x) result r.new (dispid_at r.old) }
 {
     let number = r.u32()?;
     Ok(number.cast_signed())
@@ -59,7 +59,7 @@ fn dispid(r: &mut Ndr<'_>) -> Result<i32, Short>
 // The bytes of a variant field.
 #[tactic(auto, unfolding(oa_ndr::specs::Reading::bind, oa_ndr::specs::Reading::give, crate::specs::Reading::field_at))]
 fn field<'a>(r: &mut Ndr<'a>) -> Result<&'a [u8], Short>
-    ensures { Finds (λ x. x.now) result r.new (field_at r.old) }
+    ensures { ReadsFixed (λ x. x.now) result r.new (field_at r.old) }
 {
     let n = r.u32()?;
     r.u32()?;
@@ -69,7 +69,7 @@ fn field<'a>(r: &mut Ndr<'a>) -> Result<&'a [u8], Short>
 }
 
 fn dispids(alloc: Global, count: u32, r: &mut Ndr<'_>) -> Result<Vec<i32>, RecordFault>
-    ensures answers { Answers (λ v. v.items) result r.new (many dispid_at count r.old) }
+    ensures answers { ReadsBody (λ v. v.items) result r.new (many dispid_at count r.old) }
     ensures count { IfOk result (λ v. length v.items ≡ count) }
 {
     let mut all = Vec::with_capacity(alloc, count as usize)?;
@@ -81,7 +81,7 @@ fn dispids(alloc: Global, count: u32, r: &mut Ndr<'_>) -> Result<Vec<i32>, Recor
 }
 
 fn fields<'a>(alloc: Global, count: u32, r: &mut Ndr<'a>) -> Result<Vec<&'a [u8]>, RecordFault>
-    ensures answers { Answers (λ v. map (λ x. x.now) v.items) result r.new (many field_at count r.old) }
+    ensures answers { ReadsBody (λ v. map (λ x. x.now) v.items) result r.new (many field_at count r.old) }
     ensures count { IfOk result (λ v. length v.items ≡ count) }
 {
     let mut all = Vec::with_capacity(alloc, count as usize)?;
@@ -95,7 +95,7 @@ fn fields<'a>(alloc: Global, count: u32, r: &mut Ndr<'a>) -> Result<Vec<&'a [u8]
 // Object, DISPID, GUIDs, lcid and flags, and a reserved number.
 #[tactic(auto, unfolding(oa_ndr::specs::Reading::bind, oa_ndr::specs::Reading::give, crate::specs::Reading::call_head_at))]
 fn call_head(r: &mut Ndr<'_>) -> Result<CallHead, Short>
-    ensures { Finds (λ x. x) result r.new (call_head_at r.old) }
+    ensures { ReadsFixed (λ x. x) result r.new (call_head_at r.old) }
 {
     let object = r.u32()?;
     let dispid = dispid(r)?;
@@ -117,7 +117,7 @@ fn call_head(r: &mut Ndr<'_>) -> Result<CallHead, Short>
 // These, the counts, and the lists behind them.
 #[tactic(auto, unfolding(oa_ndr::specs::Reading::bind, oa_ndr::specs::Reading::give, oa_ndr::specs::Reading::choose, oa_ndr::specs::Reading::fail, crate::specs::Reading::call_at, crate::specs::Reading::lists_at))]
 fn call<'a>(alloc: Global, r: &mut Ndr<'a>) -> Result<RawCall<'a>, RecordFault>
-    ensures { Answers (λ x. x) result r.new (call_at r.old) }
+    ensures { ReadsBody (λ x. x) result r.new (call_at r.old) }
 {
     let head = call_head(r)?;
     let count = r.u32()?;
@@ -134,7 +134,7 @@ fn call<'a>(alloc: Global, r: &mut Ndr<'a>) -> Result<RawCall<'a>, RecordFault>
 // An index list.
 #[tactic(auto, unfolding(oa_ndr::specs::Reading::bind, oa_ndr::specs::Reading::give, oa_ndr::specs::Reading::choose, oa_ndr::specs::Reading::fail, crate::specs::Reading::indices_at, crate::specs::Reading::index_list_at))]
 fn indices(alloc: Global, r: &mut Ndr<'_>) -> Result<Indices, RecordFault>
-    ensures { Answers (λ x. x) result r.new (indices_at r.old) }
+    ensures { ReadsBody (λ x. x) result r.new (indices_at r.old) }
 {
     let count = r.u32()?;
     r.u32()?;
@@ -149,7 +149,7 @@ fn indices(alloc: Global, r: &mut Ndr<'_>) -> Result<Indices, RecordFault>
 // A call that names an array, and the index list of a cell.
 #[tactic(auto, unfolding(oa_ndr::specs::Reading::bind, oa_ndr::specs::Reading::give, crate::specs::Reading::element_at))]
 fn element<'a>(alloc: Global, r: &mut Ndr<'a>) -> Result<(RawCall<'a>, Indices), RecordFault>
-    ensures { Answers (λ x. element_of x.0 x.1) result r.new (element_at r.old) }
+    ensures { ReadsBody (λ x. parts_of_element x.0 x.1) result r.new (element_at r.old) }
 {
     let call = call(alloc, r)?;
     let indices = indices(alloc, r)?;
@@ -159,7 +159,7 @@ fn element<'a>(alloc: Global, r: &mut Ndr<'a>) -> Result<(RawCall<'a>, Indices),
 // A new first listed bound.
 #[tactic(auto, unfolding(oa_ndr::specs::Reading::bind, oa_ndr::specs::Reading::give, oa_wire_array::specs::ArrayReading::bound_at, oa_wire_array::specs::Reading::signed_at))]
 fn bound(r: &mut Ndr<'_>) -> Result<Bound, Short>
-    ensures { Finds (λ x. x) result r.new (bound_at r.old) }
+    ensures { ReadsFixed (λ x. x) result r.new (bound_at r.old) }
 {
     let count = r.u32()?;
     let lower = r.u32()?;
@@ -170,7 +170,7 @@ fn bound(r: &mut Ndr<'_>) -> Result<Bound, Short>
 }
 
 fn units(alloc: Global, count: u32, r: &mut Ndr<'_>) -> Result<Vec<u16>, RecordFault>
-    ensures { Answers (λ v. v.items) result r.new (many (unit_at 2) count r.old) }
+    ensures { ReadsBody (λ v. v.items) result r.new (many (unit_at 2) count r.old) }
 {
     let mut all = Vec::new(alloc);
     'units: for _ in 0..count {
@@ -183,7 +183,7 @@ fn units(alloc: Global, count: u32, r: &mut Ndr<'_>) -> Result<Vec<u16>, RecordF
 // The units of a string.
 #[tactic(auto, unfolding(oa_ndr::specs::Reading::bind, oa_ndr::specs::Reading::give, crate::specs::Reading::string_at))]
 fn string(alloc: Global, r: &mut Ndr<'_>) -> Result<Vec<u16>, RecordFault>
-    ensures { Answers (λ v. v.items) result r.new (string_at r.old) }
+    ensures { ReadsBody (λ v. v.items) result r.new (string_at r.old) }
 {
     let n = r.u32()?;
     r.u32()?;
@@ -194,7 +194,7 @@ fn string(alloc: Global, r: &mut Ndr<'_>) -> Result<Vec<u16>, RecordFault>
 
 #[tactic(auto, using(oa_ndr::proofs::Loop::many_done, oa_ndr::proofs::Loop::many_goes_on, oa_ndr::proofs::Loop::many_ends, std::proofs::lemmas::List::map_push))]
 fn strings(alloc: Global, count: u32, r: &mut Ndr<'_>) -> Result<Vec<Vec<u16>>, RecordFault>
-    ensures answers { Answers (λ v. map (λ x. x.items) v.items) result r.new (many string_at count r.old) }
+    ensures answers { ReadsBody (λ v. map (λ x. x.items) v.items) result r.new (many string_at count r.old) }
     ensures count { IfOk result (λ v. length v.items ≡ count) }
 {
     let mut all = Vec::new(alloc);
@@ -208,7 +208,7 @@ fn strings(alloc: Global, count: u32, r: &mut Ndr<'_>) -> Result<Vec<Vec<u16>>, 
 // Object, GUIDs and lcid, the count, and the names behind it.
 #[tactic(auto, unfolding(oa_ndr::specs::Reading::bind, oa_ndr::specs::Reading::give, oa_ndr::specs::Reading::choose, oa_ndr::specs::Reading::fail, crate::specs::Reading::get_ids_at, crate::specs::Reading::names_at))]
 fn get_ids(alloc: Global, r: &mut Ndr<'_>) -> Result<GetIds, RecordFault>
-    ensures { Answers (λ x. x) result r.new (get_ids_at r.old) }
+    ensures { ReadsBody (λ x. x) result r.new (get_ids_at r.old) }
 {
     let object = r.u32()?;
     r.u32()?;
@@ -232,7 +232,7 @@ fn get_ids(alloc: Global, r: &mut Ndr<'_>) -> Result<GetIds, RecordFault>
 // A number and a reserved one.
 #[tactic(auto, unfolding(oa_ndr::specs::Reading::bind, oa_ndr::specs::Reading::give, crate::specs::Reading::number_at))]
 fn number(r: &mut Ndr<'_>) -> Result<u32, Short>
-    ensures { Finds (λ x. x) result r.new (number_at r.old) }
+    ensures { ReadsFixed (λ x. x) result r.new (number_at r.old) }
 {
     let number = r.u32()?;
     r.u32()?;
@@ -242,7 +242,7 @@ fn number(r: &mut Ndr<'_>) -> Result<u32, Short>
 // A call that names an array, and a cell of it.
 #[tactic(auto, unfolding(oa_ndr::specs::Reading::bind, oa_ndr::specs::Reading::give, crate::specs::Reading::fields_at))]
 fn get_element<'a>(alloc: Global, r: &mut Ndr<'a>) -> Result<Parts<'a>, RecordFault>
-    ensures { Answers shown result r.new (fields_at opcodes.GetElement r.old) }
+    ensures { ReadsBody shown result r.new (fields_at opcodes.GetElement r.old) }
 {
     let (call, indices) = element(alloc, r)?;
     Ok(Parts::GetElement(call, indices))
@@ -251,7 +251,7 @@ fn get_element<'a>(alloc: Global, r: &mut Ndr<'a>) -> Result<Parts<'a>, RecordFa
 // The same, and a new value.
 #[tactic(auto, unfolding(oa_ndr::specs::Reading::bind, oa_ndr::specs::Reading::give, crate::specs::Reading::fields_at, crate::specs::Reading::put_at))]
 fn put_element<'a>(alloc: Global, r: &mut Ndr<'a>) -> Result<Parts<'a>, RecordFault>
-    ensures { Answers shown result r.new (fields_at opcodes.PutElement r.old) }
+    ensures { ReadsBody shown result r.new (fields_at opcodes.PutElement r.old) }
 {
     let (call, indices) = element(alloc, r)?;
     Ok(Parts::PutElement(call, indices, field(r)?))
@@ -260,7 +260,7 @@ fn put_element<'a>(alloc: Global, r: &mut Ndr<'a>) -> Result<Parts<'a>, RecordFa
 // A call that names an array, and its new first listed bound.
 #[tactic(auto, unfolding(oa_ndr::specs::Reading::bind, oa_ndr::specs::Reading::give, crate::specs::Reading::fields_at, crate::specs::Reading::redim_at))]
 fn redimension<'a>(alloc: Global, r: &mut Ndr<'a>) -> Result<Parts<'a>, RecordFault>
-    ensures { Answers shown result r.new (fields_at opcodes.Redimension r.old) }
+    ensures { ReadsBody shown result r.new (fields_at opcodes.Redimension r.old) }
 {
     let call = call(alloc, r)?;
     let bound = bound(r)?;
@@ -270,7 +270,7 @@ fn redimension<'a>(alloc: Global, r: &mut Ndr<'a>) -> Result<Parts<'a>, RecordFa
 // The fields of an opcode.
 #[tactic(auto, unfolding(oa_ndr::specs::Reading::bind, oa_ndr::specs::Reading::give, crate::specs::Reading::fields_at))]
 fn fields_of<'a>(alloc: Global, opcode: Opcode, r: &mut Ndr<'a>) -> Result<Parts<'a>, RecordFault>
-    ensures answers { Answers shown result r.new (fields_at opcode r.old) }
+    ensures answers { ReadsBody shown result r.new (fields_at opcode r.old) }
     ensures memory { StarvesAt result opcode }
 {
     match opcode {
@@ -291,7 +291,7 @@ fn fields_of<'a>(alloc: Global, opcode: Opcode, r: &mut Ndr<'a>) -> Result<Parts
 /// The parts of a whole body. Want of memory comes only where the opcode's body takes some.
 #[tactic(auto, unfolding(oa_ndr::specs::Reading::bind, oa_ndr::specs::Reading::fail, crate::specs::Reading::layout_at, crate::specs::Reading::listed_at))]
 pub(crate) fn read_parts(alloc: Global, body: &[u8]) -> Result<Parts<'_>, RecordFault>
-    ensures all { AnswersAll shown result (whole layout_at body.now) }
+    ensures all { ReadsBodyToItsEnd shown result (whole layout_at body.now) }
     ensures memory { Starves result body.now }
 {
     let mut r = Ndr::new(body);

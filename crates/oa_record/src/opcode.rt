@@ -1,6 +1,6 @@
 //! Opcodes.
 ghost use Rattle.std.specs.Prelude.{◌≡◌};
-ghost use Rattle.oa_record.specs.Opcodes.{number_of, opcode_named, is_listed, listed_opcode, opcode_in};
+ghost use Rattle.oa_record.specs.Opcodes.{opcode_number, opcode_named, is_listed, listed_opcode, opcode_in};
 
 use byteorder::{ByteOrder, LittleEndian};
 
@@ -37,7 +37,7 @@ pub enum Opcode {
 impl Opcode {
     /// Its number, from 1 to 11.
     pub fn number(self) -> u16
-        ensures { result ≡ number_of self }
+        ensures { result ≡ opcode_number self }
     {
         match self {
             Opcode::Create => 1,

@@ -3,7 +3,7 @@ ghost use Rattle.std.specs.Prelude.{◌≡◌, ◌<◌, ◌≤◌, ◌++◌, ◌
 ghost use Rattle.oa_record.specs.Asks.{IsRequest, call_of, tag_at};
 ghost use Rattle.oa_record.specs.Judging.{AnswersFields, Requests, TestsFields, TestsField, put_fault};
 ghost use Rattle.oa_record.specs.Layouts.{Layout};
-ghost use Rattle.oa_record.specs.Reading.{element_of, put_of};
+ghost use Rattle.oa_record.specs.Reading.{parts_of_element, put_of};
 ghost use Rattle.oa_record.specs.Shown.{shown};
 ghost use Rattle.oa_record.specs.declared.fault.RecordFault.TheVariants.{Memory};
 
@@ -115,7 +115,7 @@ fn put_element(
     indices: Indices,
     value: &[u8],
 ) -> Result<Request, RecordFault>
-    ensures { Requests (Layout.PutElementBody (put_of (element_of call.entry indices) value.now)) result }
+    ensures { Requests (Layout.PutElementBody (put_of (parts_of_element call.entry indices) value.now)) result }
 {
     let count = call.fields().len();
     let fields = with_value(alloc, &call, value)?;

@@ -1,6 +1,6 @@
 //! Bodies that ask for another library.
 ghost use Rattle.std.specs.Prelude.{◌≡◌, None, Some, IfSome, IsNone};
-ghost use Rattle.oa_record.specs.Replacement.{is_replacement, text_in, text_of};
+ghost use Rattle.oa_record.specs.Replacement.{is_replacement, text_in, padded_text};
 
 use crate::opcode::REPLACEMENT_OPCODE;
 use byteorder::{ByteOrder, LittleEndian};
@@ -35,8 +35,8 @@ pub fn replacement_text(body: &[u8]) -> Option<&[u8]>
 
 /// The text of such a length, where it and its padding up to a multiple of 8 are all of the bytes.
 fn text_of(bytes: &[u8], len: usize) -> Option<&[u8]>
-    ensures found { IfSome result (λ text. text_of len bytes.now ≡ Some text.now) }
-    ensures none { IsNone result → text_of len bytes.now ≡ None }
+    ensures found { IfSome result (λ text. padded_text len bytes.now ≡ Some text.now) }
+    ensures none { IsNone result → padded_text len bytes.now ≡ None }
 {
     if len > bytes.len() {
         return None;

@@ -7,7 +7,7 @@ use Rattle.oa_groups.specs.Desks.{Desk, IsSettled, IsTaken, LeavesState}
 use Rattle.oa_groups.specs.Groups.{fills}
 use Rattle.oa_groups.specs.Served.{IsServed}
 use Rattle.oa_store.specs.Writing.{Goes}
-use Rattle.oa_groups.specs.Turns.{entry}
+use Rattle.oa_groups.specs.Turns.{exchange}
 use Rattle.oa_groups.proofs.Called.{none_or_some}
 use Rattle.oa_groups.proofs.Ends.{underway_ended}
 use Rattle.oa_groups.proofs.Takes.{goes_on, underway_start, underway_taken}
@@ -26,7 +26,7 @@ use Rattle.oa_store.specs.declared.store.Store.{Store}
 use Rattle.oa_table.specs.Tables.{TableValue}
 use Rattle.oa_server.specs.Answers.{IsAnswered, MakesNoEvent}
 use Rattle.oa_server.specs.Hands.{CallsWhereDue, IsDueFor, desk}
-use Rattle.oa_server.specs.Requests.{HasTurn, IsHeldBack, faulted, requests, text_of}
+use Rattle.oa_server.specs.Requests.{HasTurn, IsHeldBack, faulted, requests, text_of_library}
 use Rattle.oa_turn.specs.Events.{held_of}
 use Rattle.oa_turn.specs.States.{State}
 use Rattle.oa_turn.specs.Turns.{Turn}
@@ -51,7 +51,7 @@ module _ {D : Type 0} {g : Ghosts D} (only : (d : D) (c : List ℕ) → IsTrue (
 
   -- what images hold under the library of before
   module _ (turned : (due : ReplyValue) × Turn before body due after) (all : AllHoldState requests old before) where
-    same_text : text_of after ≡ text_of before
+    same_text : text_of_library after ≡ text_of_library before
     same_text = ap canonical (plain_library before after body turned.0 turned.1 plain)
 
     same_bank : after.bank ≡ before.bank
@@ -61,7 +61,7 @@ module _ {D : Type 0} {g : Ghosts D} (only : (d : D) (c : List ℕ) → IsTrue (
     either_state c (inl one) = inl (as_held old before all (held_of before) c one)
     either_state c (inr one) =
         let under = subst (λ (l : List ℕ). IsStoreIn (Two before.bank) c l (held_of after)) (sym same_text) (as_held old before all (held_of after) c one) in
-        inr (subst (λ (n : ℕ). IsStoreIn (Two n) c (text_of after) (held_of after)) (sym same_bank) under)
+        inr (subst (λ (n : ℕ). IsStoreIn (Two n) c (text_of_library after) (held_of after)) (sym same_bank) under)
 
     has_state : (new : Store D g) → new.bank.shape ≡ old.bank.shape → new.library.items ≡ old.library.items → AllHold new (held_of after) → AllHoldState requests new after
     has_state new shape kept holds = record { shape = shape ∙ all.shape ∙ ap (λ (n : ℕ). Two n) (sym same_bank); has = kept ∙ all.has ∙ sym same_text; all = holds }
@@ -146,7 +146,7 @@ module _ {D : Type 0} {g : Ghosts D} (only : (d : D) (c : List ℕ) → IsTrue (
       served = λ no. filled reply (record {
         state = refl;
         well = λ going. absurd (true≢false (sym stopped ∙ going));
-        broken = λ yes. ap (λ (r : ReplyValue). r ∷ []) (told ∙ sym (requests.tells (entry body due turn.event) before after turn.asked));
+        broken = λ yes. ap (λ (r : ReplyValue). r ∷ []) (told ∙ sym (requests.tells (exchange body due turn.event) before after turn.asked));
         quiet = still;
         calls = four;
         chosen = chosen;

@@ -5,9 +5,9 @@ use Rattle.oa_disk.specs.declared.disk.Disk.{Ghosts}
 use Rattle.oa_frame.specs.Framings.{Frames}
 use Rattle.oa_frame.specs.Sessions as sessions
 use Rattle.oa_frame.specs.declared.session.Served.{Served}
-use Rattle.oa_groups.specs.Desks.{Desk, IsEnded, IsFlushed, IsIdle, IsOver, IsReplaced, IsTaken}
+use Rattle.oa_groups.specs.Desks.{Desk, IsEnded, IsFlushed, IsIdle, IsAfterFault, IsAnsweredAlone, IsTaken}
 use Rattle.oa_store.specs.Writing.{Goes}
-use Rattle.oa_groups.specs.Turns.{Turns, entry}
+use Rattle.oa_groups.specs.Turns.{Turns, exchange}
 use Rattle.oa_groups.proofs.Takes.{goes_on}
 use Rattle.oa_record.specs.Replacement.{is_replacement}
 use Rattle.oa_record.specs.Replies.{reply_record}
@@ -21,7 +21,7 @@ use Rattle.oa_server.specs.declared.storage.Storage.TheVariants.{Disk, Memory}
 use Rattle.oa_server.specs.Hands.{desk_of}
 use Rattle.oa_server.specs.Requests.{requests}
 use Rattle.oa_turn.specs.States.{State}
-use Rattle.oa_server.specs.Talks.{Ended, Taken, ended_written, taken_written}
+use Rattle.oa_server.specs.Talks.{InputEnds, Taken, ended_written, taken_written}
 use Rattle.oa_turn.specs.Turns.{Turn}
 use Rattle.oa_server.proofs.Retold.{session_as}
 
@@ -34,7 +34,7 @@ module _ {S R D : Type 0} {g : Ghosts D} where
       at : Store D g → S → List R → List ℕ → Desk S R D g
       at store state pending events = record { store = store; state = state; pending = pending; events = events }
 
-  over_from : (old mid new : Desk S R D g) (told : List R) → IsIdle told old mid → IsOver mid new → IsOver old new
+  over_from : (old mid new : Desk S R D g) (told : List R) → IsIdle told old mid → IsAfterFault mid new → IsAfterFault old new
   over_from old mid new told idle over = record {
     was = ap (λ (s : Store D g). s.stopped) (sym idle.store) ∙ over.was;
     is = over.is;
@@ -43,7 +43,7 @@ module _ {S R D : Type 0} {g : Ghosts D} where
     goes = subst (λ (s : Store D g). Goes s new.store) idle.store over.goes;
   }
 
-  over_on : (old mid new : Desk S R D g) → IsOver old mid → IsOver mid new → IsOver old new
+  over_on : (old mid new : Desk S R D g) → IsAfterFault old mid → IsAfterFault mid new → IsAfterFault old new
   over_on old mid new one two = record { was = one.was; is = two.is; disk = two.disk ∙ one.disk; state = two.state ∙ one.state; goes = goes_on old.store mid.store new.store one.goes two.goes }
 
   module _ (t : Turns S R) (size : ℕ) (body : List ℕ) (held own : List R) (old mid new : Desk S R D g) (is : t.alone body ≡ true) (none : mid.pending ≡ []) where
@@ -94,7 +94,7 @@ module _ {S R D : Type 0} {g : Ghosts D} where
               after = apart.after;
               told_are = ap (λ (l : List R). held ++ l) (apart.told_are ∙ ap (λ (l : List R). l ++ apart.after) idle.nothing);
               flushed = inr last;
-              going = λ going. (replaced.0, subst (λ (d : Desk S R D g). IsReplaced t (entry body replaced.0 []) apart.after d new) same replaced.1);
+              going = λ going. (replaced.0, subst (λ (d : Desk S R D g). IsAnsweredAlone t (exchange body replaced.0 []) apart.after d new) same replaced.1);
               late = λ stopped. absurd (true≢false (sym stopped ∙ apart.was));
             }))))
     ended_taken (inr (inr left)) (inr (inr (inr (inl late)))) = inr (inr (inr (inl (record { over = over_on old mid new left.over late.over; told_is = rw left.nothing late.told_is }))))
@@ -102,7 +102,7 @@ module _ {S R D : Type 0} {g : Ghosts D} where
 
 module _ {D : Type 0} {g : Ghosts D} where
   ended_then : (old mid new : Storage D g) (before between after : State) (hand hand' hand'' : Hand) (body : List ℕ) (held own replies : List (List ℕ))
-      → is_replacement body ≡ true → Ended old before hand held mid between hand' → Taken mid between hand' body own new after hand'' → replies ≡ held ++ own → Taken old before hand body replies new after hand''
+      → is_replacement body ≡ true → InputEnds old before hand held mid between hand' → Taken mid between hand' body own new after hand'' → replies ≡ held ++ own → Taken old before hand body replies new after hand''
   ended_then (Memory old) (Memory mid) new before between after hand hand' hand'' body held own replies is e t are =
       (t.0 ∙ e.0, (t.1.0, are ∙ ap (λ (l : List (List ℕ)). l ++ own) e.1.0 ∙ t.1.1, subst (λ (s : State). Turn s body t.1.0 after) e.1.1 t.1.2))
   ended_then (Memory old) (Disk mid) new before between after hand hand' hand'' body held own replies is e t are = absurd (cc e.0)
@@ -122,7 +122,7 @@ module _ {D : Type 0} {g : Ghosts D} where
       ended_then old.storage s.between.storage new.storage old.host s.between.host new.host old.hand s.between.hand new.hand body s.held s.own replies is s.ended s.turned s.are
   taken_by false old new body replies is s = s
 
-  run_taken : (old new : Clerk D g) (bodies : List (List ℕ)) (handed : List (List (List ℕ))) → sessions.Run (sessions.step is_replacement taken_written ended_written) old bodies handed new → sessions.Run taken_written old bodies handed new
+  run_taken : (old new : Clerk D g) (bodies : List (List ℕ)) (handed : List (List (List ℕ))) → sessions.BodiesTurned (sessions.step is_replacement taken_written ended_written) old bodies handed new → sessions.BodiesTurned taken_written old bodies handed new
   run_taken old new [] [] run = run
   run_taken old new (body ∷ bodies) (replies ∷ handed) run = (run.0, taken_by (is_replacement body) old run.0 body replies refl run.1, run_taken run.0 new bodies handed run.2)
   run_taken old new [] (replies ∷ handed) run = absurd run

@@ -5,21 +5,21 @@ use Rattle.std.proofs.lemmas.List.{append-nil, length-map, map_push, nil_from_le
 use Rattle.oa_disk.specs.declared.disk.Disk.{Ghosts}
 use Rattle.oa_groups.specs.Desks.{Desk, IsEnded, IsHeld, IsSettled}
 use Rattle.oa_groups.specs.Groups.{events_in, fills, is_full}
-use Rattle.oa_groups.specs.Runs.{Run}
-use Rattle.oa_groups.specs.Turns.{Entry, body_of, entry, reply_of}
+use Rattle.oa_groups.specs.Runs.{TurnsOver}
+use Rattle.oa_groups.specs.Turns.{Exchange, body_of, exchange, reply_of}
 use Rattle.oa_groups.proofs.Entries.{events_push, run_append}
 use Rattle.oa_record.specs.Replies.{ReplyValue}
 use Rattle.oa_store.specs.declared.store.Store.{Store}
 use Rattle.oa_server.specs.Hands.{IsDueFor, desk}
 use Rattle.oa_server.specs.Requests.{requests}
 use Rattle.oa_turn.specs.States.{State}
-use Rattle.oa_server.specs.Talks.{IsGroup, IsRest}
+use Rattle.oa_server.specs.Talks.{IsWholeGroup, IsNoGroupYet}
 
 -- these requests are in hand, and are no group yet
 pub record Holding {D : Type 0} {g : Ghosts D} (size : ℕ) (first : State) (now : Store D g) (state : State) (pending : List ReplyValue) (events : List ℕ) (bodies : List (List ℕ)) : Type 0 where
-  pub held : List (Entry ReplyValue)
+  pub held : List (Exchange ReplyValue)
   pub bodies_are : bodies ≡ map body_of held
-  pub run : Run requests first held state
+  pub run : TurnsOver requests first held state
   pub pending_are : pending ≡ map reply_of held
   pub events_are : events ≡ events_in held
   pub short : is_full size held ≡ false
@@ -30,7 +30,7 @@ unfolding fills
 fills_none size some = search (some, rules)
 
 -- what is in hand tells whether it is a group
-full_is : (size : ℕ) (pending : List ReplyValue) (events : List ℕ) (held : List (Entry ReplyValue)) → pending ≡ map reply_of held → events ≡ events_in held
+full_is : (size : ℕ) (pending : List ReplyValue) (events : List ℕ) (held : List (Exchange ReplyValue)) → pending ≡ map reply_of held → events ≡ events_in held
     → fills size (length pending) (length events) ≡ is_full size held
 full_is size pending events held replies bytes =
     ap (λ (n : ℕ). fills size n (length events)) (ap (λ (l : List ReplyValue). length l) replies ∙ length-map held reply_of) ∙ ap (λ (l : List ℕ). fills size (length held) (length l)) bytes
@@ -41,16 +41,16 @@ module _ {D : Type 0} {g : Ghosts D} (size : ℕ) where
 
   module _ (first : State) (old : Store D g) (before : State) (pending : List ReplyValue) (events : List ℕ) (bodies : List (List ℕ)) (was : Holding size first old before pending events bodies) where
     module _ (body : List ℕ) (reply : ReplyValue) (event : List ℕ) where
-      abbrev pub asked : Entry ReplyValue
-      asked = entry body reply event
+      abbrev pub asked : Exchange ReplyValue
+      asked = exchange body reply event
 
-      abbrev more : List (Entry ReplyValue)
+      abbrev more : List (Exchange ReplyValue)
       more = was.held ++ asked ∷ []
 
       more_bodies : bodies ++ body ∷ [] ≡ map body_of more
       more_bodies = ap (λ (l : List (List ℕ)). l ++ body ∷ []) was.bodies_are ∙ sym (map_push body_of was.held asked)
 
-      more_run : (after : State) → requests.Turn asked before after → Run requests first more after
+      more_run : (after : State) → requests.Turn asked before after → TurnsOver requests first more after
       more_run after turn = run_append requests first was.held before (asked ∷ []) after was.run (after, turn, refl)
 
       more_pending : (now : Desk State ReplyValue D g) → IsHeld requests asked (desk old before pending events) now → now.pending ≡ map reply_of more
@@ -73,16 +73,16 @@ module _ {D : Type 0} {g : Ghosts D} (size : ℕ) where
       }
 
       -- no request before it was the last of a group
-      not_before : (front : List (Entry ReplyValue)) (last : Entry ReplyValue) → more ≡ front ++ last ∷ [] → is_full size front ≡ false
-      not_before front last is = subst (λ (l : List (Entry ReplyValue)). is_full size l ≡ false) (same_from_push was.held front asked last is).0 was.short
+      not_before : (front : List (Exchange ReplyValue)) (last : Exchange ReplyValue) → more ≡ front ++ last ∷ [] → is_full size front ≡ false
+      not_before front last is = subst (λ (l : List (Exchange ReplyValue)). is_full size l ≡ false) (same_from_push was.held front asked last is).0 was.short
 
       -- it fills the group
       pub group_filled : (mid new : Desk State ReplyValue D g) (told : List ReplyValue) → IsHeld requests asked (desk old before pending events) mid → fills size (length mid.pending) (length mid.events) ≡ true
-          → IsSettled requests told mid new → IsGroup size new.store first (bodies ++ body ∷ []) told new.state
+          → IsSettled requests told mid new → IsWholeGroup size new.store first (bodies ++ body ∷ []) told new.state
       group_filled mid new told one full settled = record {
         group = more;
         bodies_are = more_bodies;
-        run = subst (λ (s : State). Run requests first more s) (sym settled.state) (more_run mid.state one.turn);
+        run = subst (λ (s : State). TurnsOver requests first more s) (sym settled.state) (more_run mid.state one.turn);
         short = not_before;
         ends = inl (sym (full_is size mid.pending mid.events more (more_pending mid one) (more_events mid one)) ∙ full);
         whole = λ going. (sym (full_is size mid.pending mid.events more (more_pending mid one) (more_events mid one)) ∙ full, (settled.well going).0 ∙ more_pending mid one);
@@ -90,7 +90,7 @@ module _ {D : Type 0} {g : Ghosts D} (size : ℕ) where
 
       -- the checkpoint before it fails
       pub group_faulted : (new : Desk State ReplyValue D g) (told : List ReplyValue) → requests.Turn asked before new.state → IsDueFor old before events body → event ≡ [] → new.store.stopped ≡ true
-          → IsGroup size new.store first (bodies ++ body ∷ []) told new.state
+          → IsWholeGroup size new.store first (bodies ++ body ∷ []) told new.state
       group_faulted new told turn due none stopped = record {
         group = more;
         bodies_are = more_bodies;
@@ -109,18 +109,18 @@ module _ {D : Type 0} {g : Ghosts D} (size : ℕ) where
       }
 
     -- the input ends
-    pub rest_ends : (new : Desk State ReplyValue D g) (told : List ReplyValue) → IsEnded requests told (desk old before pending events) new → IsRest size new.store first bodies told new.state
+    pub rest_ends : (new : Desk State ReplyValue D g) (told : List ReplyValue) → IsEnded requests told (desk old before pending events) new → IsNoGroupYet size new.store first bodies told new.state
     rest_ends new told (inl idle) = record {
       held = was.held;
       bodies_are = was.bodies_are;
-      run = subst (λ (s : State). Run requests first was.held s) (sym idle.state) was.run;
+      run = subst (λ (s : State). TurnsOver requests first was.held s) (sym idle.state) was.run;
       short = was.short;
       told_are = λ going. idle.nothing ∙ sym idle.none ∙ was.pending_are;
     }
     rest_ends new told (inr (inl last)) = record {
       held = was.held;
       bodies_are = was.bodies_are;
-      run = subst (λ (s : State). Run requests first was.held s) (sym last.settled.state) was.run;
+      run = subst (λ (s : State). TurnsOver requests first was.held s) (sym last.settled.state) was.run;
       short = was.short;
       told_are = λ going. (last.settled.well going).0 ∙ was.pending_are;
     }

@@ -37,9 +37,9 @@ use Rattle.oa_turn.proofs.Eventless.{has_event, undone}
 use Rattle.oa_turn.proofs.Changing.{done, drafted, refused}
 
 -- what was committed stands, however what is held is named
-pub carried : {D : Type 0} {g : Ghosts D} {held also : TableValue} (frame : List ℕ) (old new : Store D g) → held ≡ also
-    → Carries frame held old new → Carries frame also old new
-carried frame old new same is = record {
+pub carried : {D : Type 0} {g : Ghosts D} {held also : TableValue} (batch : List ℕ) (old new : Store D g) → held ≡ also
+    → Carries batch held old new → Carries batch also old new
+carried batch old new same is = record {
   any_moment = λ committed first all. is.any_moment committed (λ none. same ∙ first none) all;
   each = λ going committed first all. is.each going committed (λ none. same ∙ first none) all;
   library = is.library;

@@ -14,7 +14,7 @@ use Rattle.oa_server.specs.declared.storage.Storage.TheVariants.{Disk, Memory}
 use Rattle.oa_server.specs.Serving.{none_held, turn_written}
 use Rattle.oa_turn.specs.States.{State}
 use Rattle.oa_server.specs.Storages.{InMemory}
-use Rattle.oa_server.specs.Talks.{Ended, Taken, ended_written, taken_written}
+use Rattle.oa_server.specs.Talks.{InputEnds, Taken, ended_written, taken_written}
 use Rattle.oa_server.proofs.Retold.{session_as}
 
 pub record StaysInMemory {D : Type 0} {g : Ghosts D} (new : Storage D g) (before : State) (body : List ℕ) (replies : List (List ℕ)) (after : State) : Type 0 where
@@ -27,15 +27,15 @@ module _ {D : Type 0} {g : Ghosts D} where
   in_memory (Memory one) new before after hand hand' body replies here is = record { turn = is.1; memory = subst (λ (s : Storage D g). InMemory s) (sym is.0) tt }
   in_memory (Disk one) new before after hand hand' body replies here is = absurd here
 
-  ended_in_memory : (old new : Storage D g) (before after : State) (hand hand' : Hand) (replies : List (List ℕ)) → InMemory old → Ended old before hand replies new after hand' → none_held before replies after
+  ended_in_memory : (old new : Storage D g) (before after : State) (hand hand' : Hand) (replies : List (List ℕ)) → InMemory old → InputEnds old before hand replies new after hand' → none_held before replies after
   ended_in_memory (Memory one) new before after hand hand' replies here is = is.1
   ended_in_memory (Disk one) new before after hand hand' replies here is = absurd here
 
   pub record RunsInMemory (old new : Clerk D g) (bodies : List (List ℕ)) (handed : List (List (List ℕ))) : Type 0 where
-    pub run : sessions.Run turn_written old.host bodies handed new.host
+    pub run : sessions.BodiesTurned turn_written old.host bodies handed new.host
     pub memory : InMemory new.storage
 
-  run_in_memory : (old new : Clerk D g) (bodies : List (List ℕ)) (handed : List (List (List ℕ))) → InMemory old.storage → sessions.Run taken_written old bodies handed new → RunsInMemory old new bodies handed
+  run_in_memory : (old new : Clerk D g) (bodies : List (List ℕ)) (handed : List (List (List ℕ))) → InMemory old.storage → sessions.BodiesTurned taken_written old bodies handed new → RunsInMemory old new bodies handed
   run_in_memory old new [] [] here run = record { run = ap (λ (s : Clerk D g). s.host) run; memory = subst (λ (s : Clerk D g). InMemory s.storage) (sym run) here }
   run_in_memory old new (body ∷ bodies) (replies ∷ handed) here run =
       let one = in_memory old.storage run.0.storage old.host run.0.host old.hand run.0.hand body replies here run.1 in

@@ -3,8 +3,8 @@ use Rattle.std.proofs.Common.{◌≡◌, ◌≤◌, ℕ, IsTrue, List, [], ◌�
 use Rattle.oa_disk.specs.declared.disk.Disk.{Ghosts}
 use Rattle.oa_disk.specs.Moments.{started, weakened}
 use Rattle.oa_groups.specs.Groups.{joined}
-use Rattle.oa_groups.specs.Runs.{HoldsState, Run}
-use Rattle.oa_groups.specs.Turns.{Entry}
+use Rattle.oa_groups.specs.Runs.{HoldsState, TurnsOver}
+use Rattle.oa_groups.specs.Turns.{Exchange}
 use Rattle.oa_groups.proofs.Calling.{session_opened}
 use Rattle.oa_idl.specs.Canonical.{canonical}
 use Rattle.oa_idl.specs.IsTree.{IsTree}
@@ -22,7 +22,7 @@ use Rattle.oa_turn.proofs.SameLibrary.{ordinary_library}
 use Rattle.oa_server.specs.Laws.{FoundIsKept, OpenedBegins, OpenedJoins}
 use Rattle.oa_server.specs.Openings.{IsFound}
 use Rattle.oa_turn.specs.Events.{held_of}
-use Rattle.oa_server.specs.Requests.{requests, text_of}
+use Rattle.oa_server.specs.Requests.{requests, text_of_library}
 use Rattle.oa_turn.specs.States.{State, state_of}
 use Rattle.oa_typelib.specs.Checked.{IsChecked}
 use Rattle.oa_turn.specs.Turns.{Turn}
@@ -41,7 +41,7 @@ turn_checked : (old new : State) (body : List ℕ) (reply : ReplyValue) → Turn
 turn_checked old new body reply (inl s) is = subst IsChecked (sym (ordinary_library old new body reply s.turn)) is
 turn_checked old new body reply (inr s) is = replacement_checked old new body reply s.turn is
 
-run_checked : (old new : State) (entries : List (Entry ReplyValue)) → Run requests old entries new → IsChecked old.library → IsChecked new.library
+run_checked : (old new : State) (entries : List (Exchange ReplyValue)) → TurnsOver requests old entries new → IsChecked old.library → IsChecked new.library
 run_checked old new [] run is = subst (λ (x : State). IsChecked x.library) run is
 run_checked old new (asked ∷ entries) run is = run_checked run.0 new entries run.2 (turn_checked old run.0 asked.body asked.reply run.1.turn is)
 
@@ -55,7 +55,7 @@ module _ (one_tree : (text : List ℕ) (s t : TreeValue) → IsTree text s → I
 
   pub found_again : FoundIsKept
   found_again bank library first count groups image table checked begins after holds unlocked =
-      let same = one_store image (text_of after.state) (canonical library) (held_of after.state) table (Two after.state.bank, after.holds) (Two bank, holds) in
+      let same = one_store image (text_of_library after.state) (canonical library) (held_of after.state) table (Two after.state.bank, after.holds) (Two bank, holds) in
       let size : after.state.bank ≡ bank = one_size after.state.bank bank same.shape_same in
       let text : canonical after.state.library ≡ canonical library = same.library_same in
       let one = same_library after.state.library library (run_checked first after.state (joined after.done) after.run begins) checked text in

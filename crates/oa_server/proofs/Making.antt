@@ -4,7 +4,7 @@ use Rattle.oa_groups.specs.Runs.{MakesEvent}
 use Rattle.oa_record.specs.Asks.{Asks}
 use Rattle.oa_record.specs.Replacement.{is_replacement}
 use Rattle.oa_record.specs.declared.request.Request.{Request}
-use Rattle.oa_turn.specs.Events.{bytes_of, is_done}
+use Rattle.oa_turn.specs.Events.{change_bytes, is_done}
 use Rattle.oa_turn.specs.States.{State}
 use Rattle.oa_turn.specs.Steps.{outcome}
 use Rattle.oa_turn.specs.Turns.{Ordinary, Turn}
@@ -12,14 +12,14 @@ use Rattle.oa_server.specs.Answers.{MakesNoEvent}
 use Rattle.oa_server.specs.Requests.{requests}
 
 -- where a turn of the body makes an event, one comes of what it asks
-pub event_of : (state : State) (body : List ℕ) → is_replacement body ≡ false → MakesEvent requests state body → (request : Request) × Asks body request × (0 < length (bytes_of (outcome state request).event))
+pub event_of : (state : State) (body : List ℕ) → is_replacement body ≡ false → MakesEvent requests state body → (request : Request) × Asks body request × (0 < length (change_bytes (outcome state request).event))
 event_of state body plain makes = by (is_done makes.reply) refl (ordinary makes.turn.turn)
   where
     ordinary : Turn state body makes.reply makes.after → Ordinary state body makes.reply makes.after
     ordinary (inl one) = one.turn
     ordinary (inr one) = absurd (true≢false (sym one.kind ∙ plain))
 
-    by : (b : Bool) → is_done makes.reply ≡ b → Ordinary state body makes.reply makes.after → (request : Request) × Asks body request × (0 < length (bytes_of (outcome state request).event))
+    by : (b : Bool) → is_done makes.reply ≡ b → Ordinary state body makes.reply makes.after → (request : Request) × Asks body request × (0 < length (change_bytes (outcome state request).event))
     by false is one = absurd (omega (arith, makes.some, ap (λ (l : List ℕ). length l) (makes.turn.made.undone is)))
     by true is (inl one) = (one.request, one.asked, subst (λ (l : List ℕ). 0 < length l) (makes.turn.made.done one.request plain one.asked is) makes.some)
     by true is (inr (inl one)) = absurd (true≢false (sym is ∙ ap is_done one.answers))

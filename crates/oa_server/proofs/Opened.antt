@@ -13,7 +13,7 @@ use Rattle.oa_journal.specs.Shapes.{body_bytes, format_of}
 use Rattle.oa_journal.specs.Unique.{one_head}
 use Rattle.oa_journal.specs.declared.shape.Shape.{Shape}
 use Rattle.oa_journal.specs.declared.shape.Shape.TheVariants.{One, Two}
-use Rattle.oa_store.specs.Faults.{IsRefusal, Says}
+use Rattle.oa_store.specs.Faults.{SpeaksOfContents, RefusalSays}
 use Rattle.oa_store.specs.OneStore.{one_store}
 use Rattle.oa_store.specs.Stores.{IsFormatted, IsNewStore, IsStoreAt, IsStoreIn, body_place, head_place}
 use Rattle.oa_store.specs.declared.fault.OpenFault.{OpenFault}
@@ -21,9 +21,9 @@ use Rattle.oa_store.specs.declared.fault.OpenFault.TheVariants.{NotAStore, OldFo
 use Rattle.oa_table.specs.Tables.{TableValue}
 use Rattle.oa_typelib.specs.Checked.{IsChecked}
 use Rattle.oa_turn.specs.Beginnings.{CanBegin, CanServe}
-use Rattle.oa_server.specs.Openings.{Finds, FindsOneOf, HoldsOther, RefusesOneOf}
+use Rattle.oa_server.specs.Openings.{FindsState, FindsOneOf, HoldsOther, RefusesOneOf}
 use Rattle.oa_turn.specs.Events.{held_of}
-use Rattle.oa_server.specs.Requests.{requests, text_of}
+use Rattle.oa_server.specs.Requests.{requests, text_of_library}
 use Rattle.oa_turn.specs.States.{State}
 use Rattle.oa_server.proofs.Kept.{one_size}
 
@@ -34,9 +34,9 @@ is_two (Two size) is = refl
 
 -- what the contents are a store of is what they hold of a state
 found_state : (contents : List ℕ) (bank : ℕ) (library : TreeValue) (table : TableValue) (state : State) → IsStoreIn (Two bank) contents (canonical library) table → HoldsState requests state contents
-    → Finds bank library table state
+    → FindsState bank library table state
 found_state contents bank library table state store holds =
-    let same = one_store contents (canonical library) (text_of state) table (held_of state) (Two bank, store) (Two state.bank, holds) in
+    let same = one_store contents (canonical library) (text_of_library state) table (held_of state) (Two bank, store) (Two state.bank, holds) in
     record { bank_is = one_size bank state.bank same.shape_same; text = same.library_same; table_is = same.table_same }
 
 pub finds_one : (image : List ℕ → Type 0) (contents : List ℕ) → image contents → (bank : ℕ) (library : TreeValue) (table : TableValue) → IsStoreIn (Two bank) contents (canonical library) table → FindsOneOf image bank library table
@@ -69,7 +69,7 @@ module _ (contents : List ℕ) (size : ℕ) (long : length contents ≡ size) (t
       one_library shape first body text other has (bank_library shape first body other table is.1 here.bank)
 
   -- what is refused is refused for its library, or it is a store of the library that is wanted
-  pub told_of : (fault : OpenFault) → IsRefusal fault → Says (Some text) size contents fault → (fault ≡ LibraryDiffers) ⊎ (text ≡ other)
+  pub told_of : (fault : OpenFault) → SpeaksOfContents fault → RefusalSays (Some text) size contents fault → (fault ≡ LibraryDiffers) ⊎ (text ≡ other)
   told_of NotAStore r says = ⊎_elim (λ lt. absurd (omega (arith, lt, long, is.2.head.size))) (λ none. absurd (none is.2.head.formatted)) says
   told_of OldFormat r says =
       let store = its_bank (Two bank) contents says.chosen is.0 is.1 other table says.head is.2 in
@@ -90,9 +90,9 @@ differs_from : (library : TreeValue) (state : State) → canonical state.library
 differs_from library state never same = never (sym same)
 
 -- a refusal of the store's
-pub differs_told : (contents : List ℕ) (size : ℕ) → length contents ≡ size → (library : TreeValue) (fault : OpenFault) → Says (Some (canonical library)) size contents fault → (state : State) → HoldsOther contents library state → IsRefusal fault
+pub differs_told : (contents : List ℕ) (size : ℕ) → length contents ≡ size → (library : TreeValue) (fault : OpenFault) → RefusalSays (Some (canonical library)) size contents fault → (state : State) → HoldsOther contents library state → SpeaksOfContents fault
     → fault ≡ LibraryDiffers
-differs_told contents size long library fault says state other r = ⊎_elim (λ is. is) (λ same. absurd (differs_from library state other.1 same)) (told_of contents size long (canonical library) state.bank (text_of state) (held_of state) other.0 fault r says)
+differs_told contents size long library fault says state other r = ⊎_elim (λ is. is) (λ same. absurd (differs_from library state other.1 same)) (told_of contents size long (canonical library) state.bank (text_of_library state) (held_of state) other.0 fault r says)
 
 -- a table that no server of the library can begin with is one of it
 pub differs_unfit : (contents : List ℕ) (library : TreeValue) (bank : ℕ) (table : TableValue) → IsStoreIn (Two bank) contents (canonical library) table → (state : State) → HoldsOther contents library state → ⊥
@@ -120,11 +120,11 @@ module _ (same_library : (a b : TreeValue) → IsChecked a → IsChecked b → c
       (λ holds. absurd (cannot (can_begin contents bank table store two second holds)))
       (each contents is)
 
-  module _ (contents : List ℕ) (size : ℕ) (long : length contents ≡ size) (fault : OpenFault) (r : IsRefusal fault) (says : Says (Some (canonical library)) size contents fault) (none : (table : TableValue) → IsNewStore contents (canonical library) table → ⊥) where
+  module _ (contents : List ℕ) (size : ℕ) (long : length contents ≡ size) (fault : OpenFault) (r : SpeaksOfContents fault) (says : RefusalSays (Some (canonical library)) size contents fault) (none : (table : TableValue) → IsNewStore contents (canonical library) table → ⊥) where
     refuses_state : (state : State) → HoldsState requests state contents → (fault ≡ LibraryDiffers) × HoldsOther contents library state
     refuses_state state holds =
         let never : canonical state.library ≡ canonical library → ⊥ = λ same. none (held_of state) (state.bank, subst (λ (l : List ℕ). IsStoreIn (Two state.bank) contents l (held_of state)) same holds) in (
-          ⊎_elim (λ is. is) (λ same. absurd (never (sym same))) (told_of contents size long (canonical library) state.bank (text_of state) (held_of state) holds fault r says),
+          ⊎_elim (λ is. is) (λ same. absurd (never (sym same))) (told_of contents size long (canonical library) state.bank (text_of_library state) (held_of state) holds fault r says),
           (holds, never),
         )
 
@@ -142,5 +142,5 @@ module _ (library : TreeValue) (text : List ℕ) (contents : List ℕ) (is : tex
   pub of_library : (table : TableValue) → IsNewStore contents (canonical library) table → IsNewStore contents text table
   of_library table store = subst (λ t. IsNewStore contents t table) (sym is) store
 
-  pub says_library : (size : ℕ) (fault : OpenFault) → Says (Some text) size contents fault → Says (Some (canonical library)) size contents fault
-  says_library size fault says = subst (λ t. Says (Some t) size contents fault) is says
+  pub says_library : (size : ℕ) (fault : OpenFault) → RefusalSays (Some text) size contents fault → RefusalSays (Some (canonical library)) size contents fault
+  says_library size fault says = subst (λ t. RefusalSays (Some t) size contents fault) is says

@@ -4,7 +4,7 @@ use Rattle.std.specs.Bool.{⊤}
 use Rattle.std.proofs.lemmas.List.{append-nil}
 use Rattle.oa_disk.specs.declared.disk.Disk.{Ghosts}
 use Rattle.oa_groups.specs.Served.{IsServed}
-use Rattle.oa_groups.specs.Sessions.{Call, IsSessionOn, Sitting, answered_by}
+use Rattle.oa_groups.specs.Sessions.{AnsweredCall, IsSessionOn, Sitting, answered_by}
 use Rattle.oa_groups.proofs.Calling.{chained, come_before, goes_on_moments, session_called, session_goes_on, session_late}
 use Rattle.oa_groups.proofs.Entries.{either}
 use Rattle.oa_record.specs.Replies.{ReplyValue}
@@ -24,7 +24,7 @@ BeginsWith front moments = (more : List ℕ) × (moments ≡ front ++ more)
 begins_more : (front mid more all : List ℕ) → mid ≡ front ++ more → (later : List ℕ) × (all ≡ mid ++ later) → BeginsWith front all
 begins_more front mid more all begins is = (more ++ is.0, is.1 ∙ subst (λ (l : List ℕ). l ++ is.0 ≡ front ++ (more ++ is.0)) (sym begins) (append_assoc front more is.0))
 
-abbrev call_of : ℕ → Part → Call ReplyValue
+abbrev call_of : ℕ → Part → AnsweredCall ReplyValue
 call_of size part = record { size = size; bodies = part.bodies; replies = part.told }
 
 module _ {D : Type 0} {g : Ghosts D} where
@@ -35,7 +35,7 @@ module _ {D : Type 0} {g : Ghosts D} where
   IsGoing (Memory disk) = ⊤
   IsGoing (Disk store) = store.stopped ≡ false
 
-  abbrev SitsAt : D → Storage D g → State → State → List (Call ReplyValue) → Type 0
+  abbrev SitsAt : D → Storage D g → State → State → List (AnsweredCall ReplyValue) → Type 0
   SitsAt start (Memory disk) first last calls = ⊥
   SitsAt start (Disk store) first last calls = Sitting requests start store first last calls
 
@@ -52,23 +52,23 @@ module _ {D : Type 0} {g : Ghosts D} where
   goes_before size (Disk store) new state after (part ∷ parts) is going =
       went_before size store is.0 state is.1 part (either store.stopped) is.2.serves (goes_before size is.0 new is.1 after parts is.3 going)
 
-  one_more : (start : D) (mid : Store D g) (there : Storage D g) (first last after : State) (calls : List (Call ReplyValue)) (size : ℕ) (part : Part) → Sitting requests start mid first last calls
+  one_more : (start : D) (mid : Store D g) (there : Storage D g) (first last after : State) (calls : List (AnsweredCall ReplyValue)) (size : ℕ) (part : Part) → Sitting requests start mid first last calls
       → Serves size (Disk mid) there last part.bodies part.told after → mid.stopped ≡ false → IsGoing there → SitsAt start there first after (calls ++ record { size = size; bodies = part.bodies; replies = part.told } ∷ [])
   one_more start mid (Memory disk) first last after calls size part sits serves was going = absurd serves
   one_more start mid (Disk new) first last after calls size part sits serves was going =
       session_goes_on requests {g = g} start mid new first last after calls (record { size = size; bodies = part.bodies; replies = part.told }) sits (serves.served was) going
 
-  parts_at : (start : D) (there : Storage D g) (new : Store D g) (first last after : State) (calls : List (Call ReplyValue)) (size : ℕ) (parts : List Part) → SitsAt start there first last calls
+  parts_at : (start : D) (there : Storage D g) (new : Store D g) (first last after : State) (calls : List (AnsweredCall ReplyValue)) (size : ℕ) (parts : List Part) → SitsAt start there first last calls
       → Parts size there (Disk new) last parts after → new.stopped ≡ false → Sitting requests start new first after (calls ++ calls_of size parts)
   parts_at start (Memory disk) new first last after calls size parts sits is going = absurd sits
   parts_at start (Disk mid) new first last after calls size [] sits is going =
       subst (λ (s : Store D g). Sitting requests start s first after (calls ++ [])) (sym (same_store new mid is.0))
-      (subst (λ (s : State). Sitting requests start mid first s (calls ++ [])) (sym is.1) (subst (λ (l : List (Call ReplyValue)). Sitting requests start mid first last l) (sym (append-nil calls)) sits))
+      (subst (λ (s : State). Sitting requests start mid first s (calls ++ [])) (sym is.1) (subst (λ (l : List (AnsweredCall ReplyValue)). Sitting requests start mid first last l) (sym (append-nil calls)) sits))
   parts_at start (Disk mid) new first last after calls size (part ∷ parts) sits is going =
-      let call : Call ReplyValue = record { size = size; bodies = part.bodies; replies = part.told } in
+      let call : AnsweredCall ReplyValue = record { size = size; bodies = part.bodies; replies = part.told } in
       let there = goes_before size is.0 new is.1 after parts is.3 going in
       let here = went_before size mid is.0 last is.1 part (either mid.stopped) is.2.serves there in
-      subst (λ (l : List (Call ReplyValue)). Sitting requests start new first after l) (append_assoc calls (call ∷ []) (calls_of size parts))
+      subst (λ (l : List (AnsweredCall ReplyValue)). Sitting requests start new first after l) (append_assoc calls (call ∷ []) (calls_of size parts))
       (parts_at start is.0 new first is.1 after (calls ++ call ∷ []) size parts (one_more start mid is.0 first last is.1 calls size part sits is.2.serves here there) is.3 going)
 
   pub parts_go_on : PartsGoOn g
@@ -76,20 +76,20 @@ module _ {D : Type 0} {g : Ghosts D} where
 
   -- ---- where the device may fail in one of them
   -- so many calls of a session are over, and it goes on
-  abbrev Sits : List ℕ → D → Store D g → State → State → List (Call ReplyValue) → Type 0
+  abbrev Sits : List ℕ → D → Store D g → State → State → List (AnsweredCall ReplyValue) → Type 0
   Sits front start now first last calls = (was : Sitting requests start now first last calls) × BeginsWith front was.session.moments × (now.stopped ≡ false)
 
   -- or the device has failed in it
-  abbrev IsOver : List ℕ → D → Store D g → State → State → List (Call ReplyValue) → Type 0
+  abbrev IsOver : List ℕ → D → Store D g → State → State → List (AnsweredCall ReplyValue) → Type 0
   IsOver front start now first last calls =
       (was : IsSessionOn requests g start now.disk first calls last) × BeginsWith front was.moments × (was.stopped ≡ true) × (now.stopped ≡ true)
 
-  abbrev SitsOrOver : List ℕ → D → Storage D g → State → State → List (Call ReplyValue) → Type 0
+  abbrev SitsOrOver : List ℕ → D → Storage D g → State → State → List (AnsweredCall ReplyValue) → Type 0
   SitsOrOver front start (Memory disk) first last calls = ⊥
   SitsOrOver front start (Disk now) first last calls = Sits front start now first last calls ⊎ IsOver front start now first last calls
 
   -- one part more
-  part_over : (front : List ℕ) (start : D) (mid : Store D g) (there : Storage D g) (first last after : State) (calls : List (Call ReplyValue)) (size : ℕ) (part : Part)
+  part_over : (front : List ℕ) (start : D) (mid : Store D g) (there : Storage D g) (first last after : State) (calls : List (AnsweredCall ReplyValue)) (size : ℕ) (part : Part)
       → Sits front start mid first last calls ⊎ IsOver front start mid first last calls → Serves size (Disk mid) there last part.bodies part.told after → SitsOrOver front start there first after (calls ++ call_of size part ∷ [])
   part_over front start mid (Memory disk) first last after calls size part so_far serves = absurd serves
   part_over front start mid (Disk new) first last after calls size part (inl sits) serves = by (either new.stopped)
@@ -114,7 +114,7 @@ module _ {D : Type 0} {g : Ghosts D} where
       let here : IsOver front start mid first last (calls ++ call_of size part ∷ []) = (more.0, (over.1.0, more.4 ∙ over.1.1), more.1, over.3) in
       inr (moved here late.disk late.state late.stopped)
     where
-      moved : {calls : List (Call ReplyValue)} → IsOver front start mid first last calls → new.disk ≡ mid.disk → after ≡ last → new.stopped ≡ true → IsOver front start new first after calls
+      moved : {calls : List (AnsweredCall ReplyValue)} → IsOver front start mid first last calls → new.disk ≡ mid.disk → after ≡ last → new.stopped ≡ true → IsOver front start new first after calls
       moved {calls} is disk state stopped = go new.disk after (sym disk) (sym state)
         where
           go : (d : D) (s : State) → mid.disk ≡ d → last ≡ s → (was : IsSessionOn requests g start d first calls s) × BeginsWith front was.moments × (was.stopped ≡ true) × (new.stopped ≡ true)
@@ -122,14 +122,14 @@ module _ {D : Type 0} {g : Ghosts D} where
               subst (λ (d : D). (was : IsSessionOn requests g start d first calls s) × BeginsWith front was.moments × (was.stopped ≡ true) × (new.stopped ≡ true)) same_disk
               (subst (λ (s : State). (was : IsSessionOn requests g start mid.disk first calls s) × BeginsWith front was.moments × (was.stopped ≡ true) × (new.stopped ≡ true)) same_state (is.0, is.1, is.2, stopped))
 
-  parts_over : (front : List ℕ) (start : D) (there : Storage D g) (new : Store D g) (first last after : State) (calls : List (Call ReplyValue)) (size : ℕ) (parts : List Part) → SitsOrOver front start there first last calls
+  parts_over : (front : List ℕ) (start : D) (there : Storage D g) (new : Store D g) (first last after : State) (calls : List (AnsweredCall ReplyValue)) (size : ℕ) (parts : List Part) → SitsOrOver front start there first last calls
       → Parts size there (Disk new) last parts after → SitsOrOver front start (Disk new) first after (calls ++ calls_of size parts)
   parts_over front start there new first last after calls size [] so_far is =
       subst (λ (s : Storage D g). SitsOrOver front start s first after (calls ++ [])) (sym is.0)
-      (subst (λ (s : State). SitsOrOver front start there first s (calls ++ [])) (sym is.1) (subst (λ (l : List (Call ReplyValue)). SitsOrOver front start there first last l) (sym (append-nil calls)) so_far))
+      (subst (λ (s : State). SitsOrOver front start there first s (calls ++ [])) (sym is.1) (subst (λ (l : List (AnsweredCall ReplyValue)). SitsOrOver front start there first last l) (sym (append-nil calls)) so_far))
   parts_over front start (Memory disk) new first last after calls size (part ∷ parts) so_far is = absurd so_far
   parts_over front start (Disk mid) new first last after calls size (part ∷ parts) so_far is =
-      subst (λ (l : List (Call ReplyValue)). SitsOrOver front start (Disk new) first after l) (append_assoc calls (call_of size part ∷ []) (calls_of size parts))
+      subst (λ (l : List (AnsweredCall ReplyValue)). SitsOrOver front start (Disk new) first after l) (append_assoc calls (call_of size part ∷ []) (calls_of size parts))
       (parts_over front start is.0 new first is.1 after (calls ++ call_of size part ∷ []) size parts (part_over front start mid is.0 first last is.1 calls size part so_far is.2.serves) is.3)
 
   pub parts_count : PartsCount g

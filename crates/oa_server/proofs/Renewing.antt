@@ -11,7 +11,7 @@ use Rattle.oa_groups.specs.Simple.{no_event}
 use Rattle.oa_groups.proofs.Ends.{underway_ended}
 use Rattle.oa_groups.proofs.Takes.{goes_nowhere, underway_start, underway_taken}
 use Rattle.oa_journal.specs.Replays.{Replays}
-use Rattle.oa_groups.specs.Turns.{entry}
+use Rattle.oa_groups.specs.Turns.{exchange}
 use Rattle.oa_keeper.proofs.Committed.{nothing_called}
 use Rattle.oa_record.specs.Replacement.{is_replacement}
 use Rattle.oa_record.specs.Replies.{ReplyValue}
@@ -24,14 +24,14 @@ use Rattle.oa_table.specs.Tables.{TableValue}
 use Rattle.oa_server.specs.Hands.{desk}
 use Rattle.oa_turn.specs.Replacing.{Replacement}
 use Rattle.oa_server.specs.Answers.{IsAnswered, IsRenewed, IsRenewedOrLate}
-use Rattle.oa_server.specs.Requests.{IsAsked, faulted, requests, text_of}
+use Rattle.oa_server.specs.Requests.{IsAsked, faulted, requests, text_of_library}
 use Rattle.oa_turn.specs.Events.{held_of, is_done}
 use Rattle.oa_turn.specs.States.{State}
 use Rattle.oa_turn.specs.Turns.{Turn}
 
 -- ---- what images hold
 -- an image with the store's banks and library has those of the state that its disk holds
-pub as_held : {D : Type 0} {g : Ghosts D} (store : Store D g) (state : State) → AllHoldState requests store state → (held : TableValue) (c : List ℕ) → IsStoreIn store.bank.shape c store.library.items held → IsStoreIn (Two state.bank) c (text_of state) held
+pub as_held : {D : Type 0} {g : Ghosts D} (store : Store D g) (state : State) → AllHoldState requests store state → (held : TableValue) (c : List ℕ) → IsStoreIn store.bank.shape c store.library.items held → IsStoreIn (Two state.bank) c (text_of_library state) held
 as_held store state all held c is =
     subst (λ (l : List ℕ). IsStoreIn (Two state.bank) c l held) all.has (subst (λ (s : Shape). IsStoreIn s c store.library.items held) all.shape is)
 
@@ -44,7 +44,7 @@ module _ {D : Type 0} {g : Ghosts D} (only : (d : D) (c : List ℕ) → IsTrue (
       (λ c is. inl (as_held old before all (held_of before) c is)) in
       subst (λ (d : D). LeavesOnly g.moment g.image_since old.disk d (λ c. HoldsState requests before c ⊎ HoldsState requests after c)) (sym same) here
 
-module _ {D : Type 0} {g : Ghosts D} (old new : Store D g) (before after : State) (text : List ℕ) (next : ℕ) (held : TableValue) (is : text ≡ text_of after) (first : held ≡ held_of before) (last : held ≡ held_of after) (sized : after.bank ≡ before.bank) where
+module _ {D : Type 0} {g : Ghosts D} (old new : Store D g) (before after : State) (text : List ℕ) (next : ℕ) (held : TableValue) (is : text ≡ text_of_library after) (first : held ≡ held_of before) (last : held ≡ held_of after) (sized : after.bank ≡ before.bank) where
   was_held : AllHoldState requests old before → (d : List ℕ) → g.image old.disk d → IsStoreAt old.bank.shape old.chosen old.bank.gate old.library.items held d
   was_held all d image = subst (λ (t : TableValue). IsStoreAt old.bank.shape old.chosen old.bank.gate old.library.items t d) (sym first) (all.all.1 d image)
 
@@ -58,7 +58,7 @@ module _ {D : Type 0} {g : Ghosts D} (old new : Store D g) (before after : State
       weakened g.moment g.image_since old.disk new.disk _ (λ c. HoldsState requests before c ⊎ HoldsState requests after c) (leaves all.all.0)
       (λ c step. ⊎_elim
       (λ one. inl (as_held old before all (held_of before) c (subst (λ (t : TableValue). IsStoreIn old.bank.shape c old.library.items t) first (old.chosen, old.bank.gate, one))))
-      (λ two. inr (subst (λ (s : Shape). IsStoreIn s c (text_of after) (held_of after)) (same_shape all)
+      (λ two. inr (subst (λ (s : Shape). IsStoreIn s c (text_of_library after) (held_of after)) (same_shape all)
       (subst (λ (l : List ℕ). IsStoreIn old.bank.shape c l (held_of after)) is (subst (λ (t : TableValue). IsStoreIn old.bank.shape c text t) last (1 - old.chosen, next, two)))))
       (step.2 (was_held all step.0 step.1)))
 
@@ -84,7 +84,7 @@ module _ {D : Type 0} {g : Ghosts D} (old new : Store D g) (before after : State
 -- ---- as a group of its own
 module _ {D : Type 0} {g : Ghosts D} (old new : Store D g) (before after : State) (body : List ℕ) (kind : is_replacement body ≡ true) (same : held_of after ≡ held_of before)
     (moment : AllHoldState requests old before → LeavesState old new (λ c. HoldsState requests before c ⊎ HoldsState requests after c)) (each : new.stopped ≡ false → AllHoldState requests old before → AllHoldState requests new after) (goes : Goes old new) where
-  asked : (due : ReplyValue) → Replacement before body due after → IsAsked (entry body due []) before after
+  asked : (due : ReplyValue) → Replacement before body due after → IsAsked (exchange body due []) before after
   asked due turn = record {
     turn = inr (record { kind = kind; turn = turn });
     made = record { done = λ request plain asks done. absurd (true≢false (sym kind ∙ plain)); undone = λ no. refl };
@@ -172,8 +172,8 @@ module _ {D : Type 0} {g : Ghosts D} (only : (d : D) (c : List ℕ) → IsTrue (
 
 -- behind the group before it
 module _ {D : Type 0} {g : Ghosts D} (old mid new : Store D g) (was : old.stopped ≡ false) (before after : State) (body : List ℕ) (reply : ReplyValue) (kind : is_replacement body ≡ true)
-    (pending told : List ReplyValue) (events frame : List ℕ) (ended : IsEnded requests told (desk old before pending events) (desk mid before [] frame)) (is : IsRenewedOrLate mid new before after body reply) where
-  flushed : IsEnded requests told (desk old before pending events) (desk mid before [] frame) → IsFlushed requests told (desk old before pending events) (desk mid before [] [])
+    (pending told : List ReplyValue) (events batch : List ℕ) (ended : IsEnded requests told (desk old before pending events) (desk mid before [] batch)) (is : IsRenewedOrLate mid new before after body reply) where
+  flushed : IsEnded requests told (desk old before pending events) (desk mid before [] batch) → IsFlushed requests told (desk old before pending events) (desk mid before [] [])
   flushed (inl idle) = inl (record { none = idle.none; nothing = idle.nothing; store = idle.store; state = idle.state })
   flushed (inr (inl last)) = inr (record {
     was = last.was;

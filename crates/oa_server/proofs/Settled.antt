@@ -5,7 +5,7 @@ use Rattle.oa_disk.specs.declared.disk.Disk.{Ghosts}
 use Rattle.oa_groups.specs.Desks.{IsHeld, IsSettled}
 use Rattle.oa_groups.specs.Groups.{fills}
 use Rattle.oa_store.specs.Writing.{Goes}
-use Rattle.oa_groups.specs.Turns.{entry}
+use Rattle.oa_groups.specs.Turns.{exchange}
 use Rattle.oa_journal.specs.Replays.{Replays}
 use Rattle.oa_keeper.specs.Holding.{Carries, Commits}
 use Rattle.oa_record.specs.Replacement.{is_replacement}
@@ -67,7 +67,7 @@ ready_at store size places pending events some place none empty = rw (none, empt
 -- a request is held
 pub held_one : {D : Type 0} {g : Ghosts D} (old new : Store D g) (body : List ℕ) (reply : ReplyValue) (before after : State) (pending pending' : List ReplyValue) (events events' : List ℕ)
     (turn : IsHeldBack body reply events events' before after) → pending' ≡ pending ++ reply ∷ [] → new.stopped ≡ false
-    → Carries events (held_of before) old new → CallsWhereDue old new before events body → Goes old new → is_replacement body ≡ false → IsHeld requests (entry body reply turn.event) (desk old before pending events) (desk new after pending' events')
+    → Carries events (held_of before) old new → CallsWhereDue old new before events body → Goes old new → is_replacement body ≡ false → IsHeld requests (exchange body reply turn.event) (desk old before pending events) (desk new after pending' events')
 held_one old new body reply before after pending pending' events events' turn more going carries calls says plain = record {
   turn = turn.asked;
   plain = plain;

@@ -23,13 +23,13 @@ use Rattle.oa_server.specs.declared.clerk.Clerk.{Clerk}
 use Rattle.oa_server.specs.declared.hand.Hand.{Hand}
 use Rattle.oa_server.specs.declared.storage.Storage.{Storage}
 use Rattle.oa_server.specs.declared.storage.Storage.TheVariants.{Disk, Memory}
-use Rattle.oa_server.specs.Answers.{IsLate}
+use Rattle.oa_server.specs.Answers.{AnswersAfterFault}
 use Rattle.oa_server.specs.Hands.{desk}
 use Rattle.oa_server.specs.Requests.{requests}
 use Rattle.oa_turn.specs.States.{State}
 use Rattle.oa_server.specs.Storages.{Serves, disk_of}
-use Rattle.oa_server.specs.Talks.{Ended, EndsApart, EndsBefore, EndsGroup, HandIsReady, InParts, IsGroup, Part, Parts, ServesSession, Taken, any_end}
-use Rattle.oa_server.specs.Talks.{any_turn, at_last, bodies_of, ended_written, handed_of, silent, taken_written}
+use Rattle.oa_server.specs.Talks.{InputEnds, EndsApart, EndsBefore, EndsGroup, HandIsReady, InParts, IsWholeGroup, Part, Parts, ServesSession, Taken, any_end}
+use Rattle.oa_server.specs.Talks.{any_turn, at_last, bodies_of_parts, ended_written, handed_of, silent, taken_written}
 use Rattle.oa_turn.specs.Turns.{Run}
 use Rattle.oa_server.proofs.Grouping.{Holding, group_faulted, group_filled, holds_more, holds_none, rest_ends}
 use Rattle.oa_server.proofs.Late.{late_ended, late_more, late_none}
@@ -54,8 +54,8 @@ at_last_push (x ∷ (y ∷ front)) body replies = ap (λ (l : List (List (List �
 pub record StoreSoFar {D : Type 0} {g : Ghosts D} (size : ℕ) (start : Store D g) (first : State) (store : Store D g) (now : State) (hand : Hand) (bodies : List (List ℕ)) (told : List ReplyValue) : Type 0 where
   pub size_is : hand.size ≡ size
   pub ready : HandIsReady (Disk store) hand
-  pub going : start.stopped ≡ false → Underway requests size (desk start first [] []) (desk store now hand.replies.items hand.frame) bodies told
-  pub late : start.stopped ≡ true → IsLate start store first now bodies told
+  pub going : start.stopped ≡ false → Underway requests size (desk start first [] []) (desk store now hand.replies.items hand.batch) bodies told
+  pub late : start.stopped ≡ true → AnswersAfterFault start store first now bodies told
 
 -- these bodies were taken since the start, and these replies handed out
 abbrev SoFar : {D : Type 0} {g : Ghosts D} → ℕ → Storage D g → State → Storage D g → State → Hand → List (List ℕ) → List ReplyValue → Type 0
@@ -86,9 +86,9 @@ module _ {D : Type 0} {g : Ghosts D} (only : (d : D) (c : List ℕ) → IsTrue (
           size_is = is.size ∙ was.size_is;
           ready = is.ready;
           going = λ going.
-              underway_taken requests {g = g} only (desk start first [] []) size (desk old before hand.replies.items hand.frame) (desk new after hand'.replies.items hand'.frame) bodies out body is.told (was.going going) (rw was.size_is at is.taken);
+              underway_taken requests {g = g} only (desk start first [] []) size (desk old before hand.replies.items hand.batch) (desk new after hand'.replies.items hand'.batch) bodies out body is.told (was.going going) (rw was.size_is at is.taken);
           late = λ stopped.
-              late_more start old new first before after bodies out size body is.told hand.replies.items hand'.replies.items hand.frame hand'.frame (was.late stopped) (rw was.size_is at is.taken);
+              late_more start old new first before after bodies out size body is.told hand.replies.items hand'.replies.items hand.batch hand'.batch (was.late stopped) (rw was.size_is at is.taken);
         };
       }
   taken_more (Disk start) (Disk old) (Memory new) first before after hand hand' bodies out body replies was is = absurd is.taken
@@ -101,7 +101,7 @@ module _ {D : Type 0} {g : Ghosts D} (only : (d : D) (c : List ℕ) → IsTrue (
     serves : Serves size start new first bodies (out ++ told) after
 
   ended_at : (start old new : Storage D g) (first before after : State) (hand hand' : Hand) (bodies : List (List ℕ)) (out : List ReplyValue) (replies : List (List ℕ))
-      → SoFar size start first old before hand bodies out → Ended old before hand replies new after hand' → Ends start first new after bodies out replies
+      → SoFar size start first old before hand bodies out → InputEnds old before hand replies new after hand' → Ends start first new after bodies out replies
   ended_at (Memory start) (Memory old) (Memory new) first before after hand hand' bodies out replies was is = record {
     told = [];
     are = is.1.0;
@@ -114,8 +114,8 @@ module _ {D : Type 0} {g : Ghosts D} (only : (d : D) (c : List ℕ) → IsTrue (
         are = is.are;
         serves = record {
           served = λ going.
-              underway_ended requests {g = g} only (desk start first [] []) size (desk old before hand.replies.items hand.frame) (desk new after hand'.replies.items hand'.frame) bodies out is.told (was.going going) is.ended;
-          late = λ stopped. late_ended start old new first before after bodies out is.told hand.replies.items hand'.replies.items hand.frame hand'.frame (was.late stopped) is.ended;
+              underway_ended requests {g = g} only (desk start first [] []) size (desk old before hand.replies.items hand.batch) (desk new after hand'.replies.items hand'.batch) bodies out is.told (was.going going) is.ended;
+          late = λ stopped. late_ended start old new first before after bodies out is.told hand.replies.items hand'.replies.items hand.batch hand'.batch (was.late stopped) is.ended;
         };
       }
   ended_at (Disk start) (Disk old) (Memory new) first before after hand hand' bodies out replies was is = absurd is.ended
@@ -128,7 +128,7 @@ module _ {D : Type 0} {g : Ghosts D} (only : (d : D) (c : List ℕ) → IsTrue (
     so_far : SoFar size start first now.storage now.host now.hand bodies (out ++ told)
 
   went : (start : Storage D g) (first : State) (old new : Clerk D g) (front bodies : List (List ℕ)) (out : List ReplyValue) (handed : List (List (List ℕ)))
-      → SoFar size start first old.storage old.host old.hand front out → sessions.Run taken_written old bodies handed new → Went start first new (front ++ bodies) out handed
+      → SoFar size start first old.storage old.host old.hand front out → sessions.BodiesTurned taken_written old bodies handed new → Went start first new (front ++ bodies) out handed
   went start first old new front [] out [] was run = record {
     told = [];
     are = joined_none;
@@ -147,18 +147,18 @@ module _ {D : Type 0} {g : Ghosts D} (only : (d : D) (c : List ℕ) → IsTrue (
   went start first old new front [] out (replies ∷ handed) was run = absurd run
   went start first old new front (body ∷ bodies) out [] was run = absurd run
 
-  any_run : (old new : Clerk D g) (bodies : List (List ℕ)) (handed : List (List (List ℕ))) → sessions.Run taken_written old bodies handed new → sessions.Run any_turn tt bodies handed tt
+  any_run : (old new : Clerk D g) (bodies : List (List ℕ)) (handed : List (List (List ℕ))) → sessions.BodiesTurned taken_written old bodies handed new → sessions.BodiesTurned any_turn tt bodies handed tt
   any_run old new [] [] run = refl
   any_run old new (body ∷ bodies) (replies ∷ handed) run = (tt, tt, any_run run.0 new bodies handed run.2)
   any_run old new [] (replies ∷ handed) run = absurd run
   any_run old new (body ∷ bodies) [] run = absurd run
 
   -- nothing yet
-  pub begins : (storage : Storage D g) (state : State) (hand : Hand) → hand.size ≡ size → 1 ≤ size → size ≤ vec_capacity hand.replies → hand.replies.items ≡ [] → hand.frame ≡ [] → SoFar size storage state storage state hand [] []
+  pub begins : (storage : Storage D g) (state : State) (hand : Hand) → hand.size ≡ size → 1 ≤ size → size ≤ vec_capacity hand.replies → hand.replies.items ≡ [] → hand.batch ≡ [] → SoFar size storage state storage state hand [] []
   begins (Memory disk) state hand is some place none empty = (refl, refl)
   begins (Disk store) state hand is some place none empty = record {
     size_is = is;
-    ready = ready_at store hand.size (vec_capacity hand.replies) hand.replies.items hand.frame (omega (arith, is, some)) (omega (arith, is, place)) none empty;
+    ready = ready_at store hand.size (vec_capacity hand.replies) hand.replies.items hand.batch (omega (arith, is, some)) (omega (arith, is, place)) none empty;
     going = λ going. rw (none, empty) (underway_start requests {g = g} only (desk store state [] []) size going refl refl);
     late = λ stopped. late_none store state stopped;
   }
@@ -173,7 +173,7 @@ module _ {D : Type 0} {g : Ghosts D} (only : (d : D) (c : List ℕ) → IsTrue (
   -- no group is whole: none is in memory, and none after a fault
   abbrev NoGroup : Storage D g → State → Storage D g → State → Hand → List (List ℕ) → Type 0
   NoGroup (Memory start) first now state hand bodies = bodies ≡ []
-  NoGroup (Disk start) first (Disk now) state hand bodies = (start.stopped ≡ false → Holding size first now state hand.replies.items hand.frame bodies) × (start.stopped ≡ true → bodies ≡ [])
+  NoGroup (Disk start) first (Disk now) state hand bodies = (start.stopped ≡ false → Holding size first now state hand.replies.items hand.batch bodies) × (start.stopped ≡ true → bodies ≡ [])
   NoGroup (Disk start) first (Memory now) state hand bodies = ⊥
 
   -- these bodies are in hand
@@ -205,7 +205,7 @@ module _ {D : Type 0} {g : Ghosts D} (only : (d : D) (c : List ℕ) → IsTrue (
     few_in_hand (Memory start) (Disk now) first state hand bodies was = absurd was.so_far
     few_in_hand (Disk start) (Memory now) first state hand bodies was = absurd was.so_far
 
-    part_begins : (store : Store D g) (state : State) (hand : Hand) → hand.size ≡ size → HandIsReady (Disk store) hand → hand.replies.items ≡ [] → (store.stopped ≡ false → hand.frame ≡ []) → InPart (Disk store) state (Disk store) state hand []
+    part_begins : (store : Store D g) (state : State) (hand : Hand) → hand.size ≡ size → HandIsReady (Disk store) hand → hand.replies.items ≡ [] → (store.stopped ≡ false → hand.batch ≡ []) → InPart (Disk store) state (Disk store) state hand []
     part_begins store state hand is ready none empty = record {
       so_far = record {
         size_is = is;
@@ -234,19 +234,19 @@ module _ {D : Type 0} {g : Ghosts D} (only : (d : D) (c : List ℕ) → IsTrue (
     next_in_part (Disk start) (Disk old) (Disk new) first before after hand hand' bodies body replies was is = by taken
       where
         now : Desk State ReplyValue D g
-        now = desk new after hand'.replies.items hand'.frame
+        now = desk new after hand'.replies.items hand'.batch
 
-        taken : IsTaken requests size body is.told (desk old before hand.replies.items hand.frame) now
-        taken = subst (λ (n : ℕ). IsTaken requests n body is.told (desk old before hand.replies.items hand.frame) now) was.so_far.size_is is.taken
+        taken : IsTaken requests size body is.told (desk old before hand.replies.items hand.batch) now
+        taken = subst (λ (n : ℕ). IsTaken requests n body is.told (desk old before hand.replies.items hand.batch) now) was.so_far.size_is is.taken
 
         size_is : hand'.size ≡ size
         size_is = is.size ∙ was.so_far.size_is
 
         underway : start.stopped ≡ false → Underway requests size (desk start first [] []) now (bodies ++ body ∷ []) is.told
-        underway going = underway_taken requests {g = g} only (desk start first [] []) size (desk old before hand.replies.items hand.frame) now bodies [] body is.told (was.so_far.going going) taken
+        underway going = underway_taken requests {g = g} only (desk start first [] []) size (desk old before hand.replies.items hand.batch) now bodies [] body is.told (was.so_far.going going) taken
 
-        late : start.stopped ≡ true → IsLate start new first after (bodies ++ body ∷ []) is.told
-        late stopped = late_more start old new first before after bodies [] size body is.told hand.replies.items hand'.replies.items hand.frame hand'.frame (was.so_far.late stopped) taken
+        late : start.stopped ≡ true → AnswersAfterFault start new first after (bodies ++ body ∷ []) is.told
+        late stopped = late_more start old new first before after bodies [] size body is.told hand.replies.items hand'.replies.items hand.batch hand'.batch (was.so_far.late stopped) taken
 
         few : length (bodies ++ body ∷ []) ≤ size
         few = let few = few_in_hand (Disk start) (Disk old) first before hand bodies was in omega (arith, few, length-append bodies (body ∷ []))
@@ -254,7 +254,7 @@ module _ {D : Type 0} {g : Ghosts D} (only : (d : D) (c : List ℕ) → IsTrue (
         alone : start.stopped ≡ true → length (bodies ++ body ∷ []) ≡ 1
         alone stopped = length_push bodies body ∙ ap (λ (l : List (List ℕ)). length l + 1) (was.short.1 stopped)
 
-        ends : hand'.replies.items ≡ [] → (new.stopped ≡ false → hand'.frame ≡ []) → (start.stopped ≡ false → IsGroup size new first (bodies ++ body ∷ []) is.told after ⊎ EndsApart (bodies ++ body ∷ [])) → Steps (Disk start) first (Disk new) after hand' (bodies ++ body ∷ []) replies
+        ends : hand'.replies.items ≡ [] → (new.stopped ≡ false → hand'.batch ≡ []) → (start.stopped ≡ false → IsWholeGroup size new first (bodies ++ body ∷ []) is.told after ⊎ EndsApart (bodies ++ body ∷ [])) → Steps (Disk start) first (Disk new) after hand' (bodies ++ body ∷ []) replies
         ends none empty group = inr (record {
           told = is.told;
           are = is.are;
@@ -269,7 +269,7 @@ module _ {D : Type 0} {g : Ghosts D} (only : (d : D) (c : List ℕ) → IsTrue (
           in_part = part_begins new after hand' size_is is.ready none empty;
         })
 
-        by : IsTaken requests size body is.told (desk old before hand.replies.items hand.frame) now → Steps (Disk start) first (Disk new) after hand' (bodies ++ body ∷ []) replies
+        by : IsTaken requests size body is.told (desk old before hand.replies.items hand.batch) now → Steps (Disk start) first (Disk new) after hand' (bodies ++ body ∷ []) replies
         by (inl kept) = inl (record {
           nothing = is.are ∙ ap (λ (l : List ReplyValue). map reply_record l) kept.nothing;
           in_part = record {
@@ -280,23 +280,23 @@ module _ {D : Type 0} {g : Ghosts D} (only : (d : D) (c : List ℕ) → IsTrue (
               late = λ stopped. absurd (true≢false (sym (was.so_far.late stopped).stopped ∙ kept.was));
             };
             short = (
-              λ going. holds_more size first old before hand.replies.items hand.frame bodies (was.short.0 going) body kept.reply kept.event now kept.held kept.short,
+              λ going. holds_more size first old before hand.replies.items hand.batch bodies (was.short.0 going) body kept.reply kept.event now kept.held kept.short,
               λ stopped. absurd (true≢false (sym (was.so_far.late stopped).stopped ∙ kept.was)),
             );
             holds = ap (λ (l : List ReplyValue). length l) kept.held.pending ∙ length-append hand.replies.items (kept.reply ∷ []) ∙ ap (λ (n : ℕ). n + 1) was.holds ∙ sym (length-append bodies (body ∷ []));
           };
         })
         by (inr (inl filled)) = ends (none (either new.stopped)) (λ going. (filled.settled.well going).2)
-            (λ going. inl (group_filled size first old before hand.replies.items hand.frame bodies (was.short.0 going) body filled.reply filled.event filled.mid now is.told filled.held filled.full filled.settled))
+            (λ going. inl (group_filled size first old before hand.replies.items hand.batch bodies (was.short.0 going) body filled.reply filled.event filled.mid now is.told filled.held filled.full filled.settled))
           where
             none : (new.stopped ≡ false) ⊎ (new.stopped ≡ true) → hand'.replies.items ≡ []
             none (inl going) = (filled.settled.well going).1
             none (inr stopped) = is.ready.late stopped
         by (inr (inr (inl faulted))) = ends (is.ready.late faulted.failed.stopped) (λ going. absurd (true≢false (sym faulted.failed.stopped ∙ going)))
-            (λ going. inl (group_faulted size first old before hand.replies.items hand.frame bodies (was.short.0 going) body faulted.failed.reply faulted.failed.event now is.told faulted.failed.turn faulted.failed.due faulted.failed.none faulted.failed.stopped))
+            (λ going. inl (group_faulted size first old before hand.replies.items hand.batch bodies (was.short.0 going) body faulted.failed.reply faulted.failed.event now is.told faulted.failed.turn faulted.failed.due faulted.failed.none faulted.failed.stopped))
         by (inr (inr (inr (inr apart)))) = ends (on (either apart.mid.store.stopped)).0 (λ going. (on (either apart.mid.store.stopped)).1 going) (λ going. inr (record { front = bodies; last = body; are = refl; alone = apart.alone }))
           where
-            on : (apart.mid.store.stopped ≡ false) ⊎ (apart.mid.store.stopped ≡ true) → (hand'.replies.items ≡ []) × (new.stopped ≡ false → hand'.frame ≡ [])
+            on : (apart.mid.store.stopped ≡ false) ⊎ (apart.mid.store.stopped ≡ true) → (hand'.replies.items ≡ []) × (new.stopped ≡ false → hand'.batch ≡ [])
             on (inl going) = let one = (apart.going going).1 in (one.idle_still.0, λ here. one.idle_still.1)
             on (inr stopped) = let over = (apart.late stopped).1 in (is.ready.late over.is, λ here. absurd (true≢false (sym over.is ∙ here)))
         by (inr (inr (inr (inl too_late)))) = ends (is.ready.late too_late.over.is) (λ going. absurd (true≢false (sym too_late.over.is ∙ going)))
@@ -307,13 +307,13 @@ module _ {D : Type 0} {g : Ghosts D} (only : (d : D) (c : List ℕ) → IsTrue (
       in_hand : List (List ℕ)
       mid : Storage D g
       state : State
-      bodies_are : bodies ≡ bodies_of parts ++ in_hand
+      bodies_are : bodies ≡ bodies_of_parts parts ++ in_hand
       handed_are : handed ≡ handed_of parts ++ silent in_hand
       served : Parts size start mid first parts state
       in_part : InPart mid state now.storage now.host now.hand in_hand
 
     in_parts : (start : Storage D g) (first : State) (old new : Clerk D g) (front bodies : List (List ℕ)) (handed : List (List (List ℕ)))
-        → InPart start first old.storage old.host old.hand front → sessions.Run taken_written old bodies handed new → InPartsSoFar start first new (front ++ bodies) (silent front ++ handed)
+        → InPart start first old.storage old.host old.hand front → sessions.BodiesTurned taken_written old bodies handed new → InPartsSoFar start first new (front ++ bodies) (silent front ++ handed)
     in_parts start first old new front [] [] was run = record {
       parts = [];
       in_hand = front;
@@ -355,7 +355,7 @@ module _ {D : Type 0} {g : Ghosts D} (only : (d : D) (c : List ℕ) → IsTrue (
               mid = rest.mid;
               state = rest.state;
               bodies_are = sym (append_assoc front (body ∷ []) bodies) ∙ ap (λ (l : List (List ℕ)). (front ++ body ∷ []) ++ l) rest.bodies_are
-                  ∙ sym (append_assoc (front ++ body ∷ []) (bodies_of rest.parts) rest.in_hand);
+                  ∙ sym (append_assoc (front ++ body ∷ []) (bodies_of_parts rest.parts) rest.in_hand);
               handed_are = ap (λ (l : List (List ℕ)). silent front ++ l ∷ handed) ends.are ∙ sym (append_assoc (silent front) (map reply_record ends.told ∷ []) handed)
                   ∙ ap (λ (l : List (List (List ℕ))). l ++ handed) (sym (at_last_push front body (map reply_record ends.told)))
                   ∙ ap (λ (l : List (List (List ℕ))). at_last (front ++ body ∷ []) (map reply_record ends.told) ++ l) rest.handed_are
@@ -367,11 +367,11 @@ module _ {D : Type 0} {g : Ghosts D} (only : (d : D) (c : List ℕ) → IsTrue (
     in_parts start first old new front (body ∷ bodies) [] was run = absurd run
 
     rest_at : (start mid new : Storage D g) (first before after : State) (hand hand' : Hand) (bodies : List (List ℕ)) (replies : List (List ℕ)) (was : InPart start first mid before hand bodies)
-        → (is : Ended mid before hand replies new after hand') → EndsBefore size start new first bodies (ended_at start mid new first before after hand hand' bodies [] replies was.so_far is).told after
+        → (is : InputEnds mid before hand replies new after hand') → EndsBefore size start new first bodies (ended_at start mid new first before after hand hand' bodies [] replies was.so_far is).told after
     unfolding ended_at
     rest_at (Memory start) mid new first before after hand hand' bodies replies was is = was.short
     rest_at (Disk start) (Disk mid) (Disk new) first before after hand hand' bodies replies was is =
-        (λ going. rest_ends size first mid before hand.replies.items hand.frame bodies (was.short.0 going) (desk new after hand'.replies.items hand'.frame) is.told is.ended, was.short.1)
+        (λ going. rest_ends size first mid before hand.replies.items hand.batch bodies (was.short.0 going) (desk new after hand'.replies.items hand'.batch) is.told is.ended, was.short.1)
     rest_at (Disk start) (Disk mid) (Memory new) first before after hand hand' bodies replies was is = absurd is.ended
     rest_at (Disk start) (Memory mid) new first before after hand hand' bodies replies was is = absurd was.so_far
 
@@ -395,7 +395,7 @@ module _ {D : Type 0} {g : Ghosts D} (only : (d : D) (c : List ℕ) → IsTrue (
           ends = last.serves;
         }
 
-    part_at_start : (storage : Storage D g) (state : State) (hand : Hand) → hand.replies.items ≡ [] → hand.frame ≡ [] → SoFar size storage state storage state hand [] [] → InPart storage state storage state hand []
+    part_at_start : (storage : Storage D g) (state : State) (hand : Hand) → hand.replies.items ≡ [] → hand.batch ≡ [] → SoFar size storage state storage state hand [] [] → InPart storage state storage state hand []
     part_at_start (Memory disk) state hand none empty so_far = record { so_far = so_far; holds = tt; short = refl }
     part_at_start (Disk store) state hand none empty so_far = record {
       so_far = so_far;
@@ -404,7 +404,7 @@ module _ {D : Type 0} {g : Ghosts D} (only : (d : D) (c : List ℕ) → IsTrue (
     }
 
   -- the whole session
-  pub serves_session : (f : Frames) (last : List ℕ) (input input' : Input) (out out' : Output) (old new : Clerk D g) (served : Served) → 1 ≤ size → old.hand.replies.items ≡ [] → old.hand.frame ≡ []
+  pub serves_session : (f : Frames) (last : List ℕ) (input input' : Input) (out out' : Output) (old new : Clerk D g) (served : Served) → 1 ≤ size → old.hand.replies.items ≡ [] → old.hand.batch ≡ []
       → SoFar size old.storage old.host old.storage old.host old.hand [] [] → sessions.Session f is_replacement taken_written ended_written last input input' out out' old new served → ServesSession f last input input' out out' size old.storage new.storage old.host new.host served
   serves_session f last input input' out out' old new served some none empty begin is =
       let runs = went old.storage old.host old is.mid [] is.bodies [] is.handed begin is.run in

@@ -3,16 +3,16 @@ use Rattle.std.specs.Prelude.{◌≡◌, ◌⊎◌, ℕ, true, false, List, [], 
 use Rattle.oa_disk.specs.declared.disk.Disk.{Ghosts}
 use Rattle.oa_groups.specs.Served.{IsServed}
 use Rattle.oa_store.specs.Writing.{Goes}
-use Rattle.oa_groups.specs.Desks.{IsReplaced, LeavesState}
+use Rattle.oa_groups.specs.Desks.{IsAnsweredAlone, LeavesState}
 use Rattle.oa_groups.specs.Runs.{AllHoldState, HoldsState}
-use Rattle.oa_groups.specs.Turns.{entry}
+use Rattle.oa_groups.specs.Turns.{exchange}
 use Rattle.oa_server.specs.Hands.{desk}
 use Rattle.oa_record.specs.Asks.{Asks}
 use Rattle.oa_record.specs.Replacement.{is_replacement}
 use Rattle.oa_record.specs.Replies.{ReplyValue}
 use Rattle.oa_record.specs.declared.request.Request.{Request}
 use Rattle.oa_store.specs.declared.store.Store.{Store}
-use Rattle.oa_turn.specs.Events.{bytes_of, is_done}
+use Rattle.oa_turn.specs.Events.{change_bytes, is_done}
 use Rattle.oa_server.specs.Requests.{failed, faulted, requests}
 use Rattle.oa_turn.specs.States.{State}
 use Rattle.oa_turn.specs.Steps.{outcome}
@@ -20,7 +20,7 @@ use Rattle.oa_turn.specs.Turns.{Turn}
 
 -- whatever the body asks, no event comes of it
 abbrev pub MakesNoEvent : State → List ℕ → Type 0
-MakesNoEvent state body = (request : Request) → Asks body request → bytes_of (outcome state request).event ≡ []
+MakesNoEvent state body = (request : Request) → Asks body request → change_bytes (outcome state request).event ≡ []
 
 -- After a fault of the device a body is answered that the store has failed, and nothing is done. Before one it is answered by a turn,
 -- or a call of the device fails in it: then the reply says that, and the state is the one after some turn of the body.
@@ -47,7 +47,7 @@ pub record IsAnswered {D : Type 0} {g : Ghosts D} (old new : Store D g) (before 
 -- A body that asks for another library is answered, with nothing in hand: as a group of its own.
 pub record IsRenewed {D : Type 0} {g : Ghosts D} (old new : Store D g) (before after : State) (body : List ℕ) (reply : ReplyValue) : Type 0 where
   pub due : ReplyValue
-  pub replaced : IsReplaced requests (entry body due []) (reply ∷ []) (desk old before [] []) (desk new after [] [])
+  pub replaced : IsAnsweredAlone requests (exchange body due []) (reply ∷ []) (desk old before [] []) (desk new after [] [])
 
 abbrev pub IsRenewedOrLate : {D : Type 0} {g : Ghosts D} → Store D g → Store D g → State → State → List ℕ → ReplyValue → Type 0
 IsRenewedOrLate old new before after body reply =
@@ -55,7 +55,7 @@ IsRenewedOrLate old new before after body reply =
     × (old.stopped ≡ true → (reply ≡ failed body) × (new ≡ old) × (after ≡ before))
 
 -- The device has failed before: all bodies are answered that, and nothing is done.
-pub record IsLate {D : Type 0} {g : Ghosts D} (old new : Store D g) (before after : State) (bodies : List (List ℕ))
+pub record AnswersAfterFault {D : Type 0} {g : Ghosts D} (old new : Store D g) (before after : State) (bodies : List (List ℕ))
     (replies : List ReplyValue) : Type 0 where
   pub told : replies ≡ map failed bodies
   pub state : after ≡ before

@@ -17,10 +17,10 @@ desk store state pending events = record { store = store; state = state; pending
 
 -- with the group in hand, and where the replies of that were handed out
 abbrev pub desk_of : {D : Type 0} {g : Ghosts D} → Store D g → State → Hand → Desk State ReplyValue D g
-desk_of store state hand = desk store state hand.replies.items hand.frame
+desk_of store state hand = desk store state hand.replies.items hand.batch
 
 abbrev pub cleared_desk : {D : Type 0} {g : Ghosts D} → Store D g → State → Hand → Desk State ReplyValue D g
-cleared_desk store state hand = desk store state [] hand.frame
+cleared_desk store state hand = desk store state [] hand.batch
 
 -- the state is one over the store's banks
 abbrev pub HasBanks : {D : Type 0} {g : Ghosts D} → Store D g → State → Type 0
@@ -38,11 +38,11 @@ pub record IsReady {D : Type 0} {g : Ghosts D} (store : Store D g) (size places 
 
 -- the hand can take one
 abbrev pub CanTake : {D : Type 0} {g : Ghosts D} → Store D g → Hand → Type 0
-CanTake store hand = IsReady store hand.size (vec_capacity hand.replies) hand.replies.items hand.frame
+CanTake store hand = IsReady store hand.size (vec_capacity hand.replies) hand.replies.items hand.batch
 
 -- it can when its replies were handed out
 abbrev pub CanTakeCleared : {D : Type 0} {g : Ghosts D} → Store D g → Hand → Type 0
-CanTakeCleared store hand = IsReady store hand.size (vec_capacity hand.replies) [] hand.frame
+CanTakeCleared store hand = IsReady store hand.size (vec_capacity hand.replies) [] hand.batch
 
 -- a checkpoint is due before an event of this body
 abbrev pub IsDueFor : {D : Type 0} {g : Ghosts D} → Store D g → State → List ℕ → List ℕ → Type 0

@@ -5,9 +5,9 @@ use Rattle.oa_disk.specs.declared.disk.Disk.{Ghosts}
 use Rattle.oa_groups.specs.History.{MayBeLeft}
 use Rattle.oa_groups.specs.Runs.{HoldsState, IsAfter}
 use Rattle.oa_groups.specs.Served.{IsServed}
-use Rattle.oa_groups.specs.Sessions.{Call, IsSessionOn, Sitting, answered_by}
+use Rattle.oa_groups.specs.Sessions.{AnsweredCall, IsSessionOn, Sitting, answered_by}
 use Rattle.oa_groups.specs.Groups.{joined}
-use Rattle.oa_groups.specs.Turns.{Entry, body_of, reply_of}
+use Rattle.oa_groups.specs.Turns.{Exchange, body_of, reply_of}
 use Rattle.oa_idl.specs.Canonical.{canonical}
 use Rattle.oa_idl.specs.Trees.{TreeValue}
 use Rattle.oa_record.specs.Replies.{ReplyValue}
@@ -47,21 +47,21 @@ OpenedJoins {D} g =
 -- table.
 abbrev pub FoundIsKept : Type 0
 FoundIsKept =
-    (bank : ℕ) (library : TreeValue) (first : State) (count : ℕ) (groups : List (List (Entry ReplyValue))) (image : List ℕ) (table : TableValue)
+    (bank : ℕ) (library : TreeValue) (first : State) (count : ℕ) (groups : List (List (Exchange ReplyValue))) (image : List ℕ) (table : TableValue)
     → IsChecked library → IsChecked first.library → (after : IsAfter requests count first groups image)
     → IsStoreIn (Two bank) image (canonical library) table → unlocked_table table ≡ table → opened after.state ≡ state_of bank library table
 
 -- The parts of a session over streams go on with a session over the store, call by call.
 abbrev pub PartsGoOn : {D : Type 0} → Ghosts D → Type 0
 PartsGoOn {D} g =
-    (start : D) (mid new : Store D g) (first last after : State) (calls : List (Call ReplyValue)) (size : ℕ)
+    (start : D) (mid new : Store D g) (first last after : State) (calls : List (AnsweredCall ReplyValue)) (size : ℕ)
     (parts : List Part) → Sitting requests start mid first last calls → Parts size (Disk mid) (Disk new) last parts after
     → new.stopped ≡ false → Sitting requests start new first after (calls ++ calls_of size parts)
 
 -- They are calls of the session also where the device fails in one of them: from its start on all counts that was answered before them.
 abbrev pub PartsCount : {D : Type 0} → Ghosts D → Type 0
 PartsCount {D} g =
-    (start : D) (mid new : Store D g) (first last after : State) (calls : List (Call ReplyValue)) (size : ℕ) (parts : List Part)
+    (start : D) (mid new : Store D g) (first last after : State) (calls : List (AnsweredCall ReplyValue)) (size : ℕ) (parts : List Part)
     → (was : Sitting requests start mid first last calls) → mid.stopped ≡ false
     → Parts size (Disk mid) (Disk new) last parts after
     → (session : IsSessionOn requests g start new.disk first (calls ++ calls_of size parts) after) × (session.stopped ≡ new.stopped)

@@ -11,7 +11,7 @@ use Rattle.oa_journal.specs.Shapes.{body_bytes}
 use Rattle.oa_store.specs.declared.fault.OpenFault.{OpenFault}
 use Rattle.oa_store.specs.declared.fault.OpenFault.TheVariants.{Damaged, LibraryDiffers}
 use Rattle.oa_store.specs.declared.store.Store.{Store}
-use Rattle.oa_store.specs.Faults.{IsCaused, IsEarly, IsRefusal, Says}
+use Rattle.oa_store.specs.Faults.{IsCaused, ComesOfForeign, SpeaksOfContents, RefusalSays}
 use Rattle.oa_store.specs.Reads.{WritesNothing}
 use Rattle.oa_store.specs.Stores.{IsForeign, IsStoreIn}
 use Rattle.oa_table.specs.Tables.{TableValue, unlocked_table}
@@ -27,7 +27,7 @@ abbrev pub EachOneOf : (List ℕ → Type 0) → State → State → Type 0
 EachOneOf image one two = (c : List ℕ) → image c → HoldsState requests one c ⊎ HoldsState requests two c
 
 -- what was found is what an image holds of the state
-pub record Finds (bank : ℕ) (library : TreeValue) (table : TableValue) (state : State) : Type 0 where
+pub record FindsState (bank : ℕ) (library : TreeValue) (table : TableValue) (state : State) : Type 0 where
   pub bank_is : bank ≡ state.bank
   pub text : canonical library ≡ canonical state.library
   pub table_is : table ≡ held_of state
@@ -35,7 +35,7 @@ pub record Finds (bank : ℕ) (library : TreeValue) (table : TableValue) (state 
 -- where a stop has left one of two states, it is the one or the other
 abbrev pub FindsOneOf : (List ℕ → Type 0) → ℕ → TreeValue → TableValue → Type 0
 FindsOneOf image bank library table =
-    (one two : State) → EachOneOf image one two → Finds bank library table one ⊎ Finds bank library table two
+    (one two : State) → EachOneOf image one two → FindsState bank library table one ⊎ FindsState bank library table two
 
 -- the contents hold a state of another library than this
 abbrev pub HoldsOther : List ℕ → TreeValue → State → Type 0
@@ -84,13 +84,13 @@ pub record IsOpened {D : Type 0} (g : Ghosts D) (disk : D) (library : TreeValue)
 pub record IsTold {D : Type 0} (g : Ghosts D) (disk back : D) (library : TreeValue) (fault : OpenFault) : Type 0 where
   pub honest : IsTrue (g.is_honest disk)
   pub reads : WritesNothing g.image g.moment g.image_since disk back
-  pub says : Says (Some (canonical library)) (g.size_of disk) (g.contents disk) fault ⊎ IsUnfit library (g.contents disk) fault
+  pub says : RefusalSays (Some (canonical library)) (g.size_of disk) (g.contents disk) fault ⊎ IsUnfit library (g.contents disk) fault
   -- a disk that is too small or not formatted is found to be that before memory is taken
-  pub early : IsForeign (g.size_of disk) (g.contents disk) → IsEarly fault
+  pub early : IsForeign (g.size_of disk) (g.contents disk) → ComesOfForeign fault
   -- where the contents hold another library, that is told, unless memory or the device is wanting
-  pub differs : (state : State) → HoldsOther (g.contents disk) library state → IsRefusal fault → fault ≡ LibraryDiffers
+  pub differs : (state : State) → HoldsOther (g.contents disk) library state → SpeaksOfContents fault → fault ≡ LibraryDiffers
   -- where a stop has left one of two states, nothing else is
-  pub late : IsRefusal fault → RefusesOneOf (g.image disk) (g.contents disk) library fault
+  pub late : SpeaksOfContents fault → RefusesOneOf (g.image disk) (g.contents disk) library fault
 
 -- nothing was opened, and the disk is handed back
 pub record IsNotOpened {D : Type 0} (g : Ghosts D) (disk back : D) (library : TreeValue) (fault : OpenFault) : Type 0 where

@@ -2,7 +2,7 @@
 use Rattle.std.specs.Prelude.{◌≡◌, ℕ, ◌≤◌, ◌++◌, List, [], length, None}
 use Rattle.std.proofs.Common.{ap, refl}
 use Rattle.oa_model.specs.Limits.{max_event_bytes}
-use Rattle.oa_groups.specs.Turns.{Entry, Turns, entry}
+use Rattle.oa_groups.specs.Turns.{Exchange, Turns, exchange}
 use Rattle.oa_journal.specs.Replays.{Replays}
 use Rattle.oa_turn.proofs.Relocked.{unlocked_twice}
 use Rattle.oa_model.specs.Codes.{e_fail, stg_e_writefault}
@@ -20,7 +20,7 @@ use Rattle.oa_turn.proofs.SameLibrary.{plain_library, turn_bank}
 use Rattle.oa_turn.specs.Turns.{Turn}
 
 -- A turn, with the bytes of the event that it made: they make of what images hold before it what they hold after it.
-pub record IsAsked (asked : Entry ReplyValue) (old new : State) : Type 0 where
+pub record IsAsked (asked : Exchange ReplyValue) (old new : State) : Type 0 where
   pub turn : Turn old asked.body asked.reply new
   pub made : HasEvent old asked.body asked.reply asked.event
   pub replays : Replays asked.event (held_of old) (held_of new)
@@ -28,14 +28,14 @@ pub record IsAsked (asked : Entry ReplyValue) (old new : State) : Type 0 where
 -- a turn, whose event is added to those in hand
 pub record IsHeldBack (body : List ℕ) (reply : ReplyValue) (events events' : List ℕ) (old new : State) : Type 0 where
   pub event : List ℕ
-  pub asked : IsAsked (entry body reply event) old new
+  pub asked : IsAsked (exchange body reply event) old new
   pub added : events' ≡ events ++ event
   pub small : length event ≤ max_event_bytes
 
 -- some turn of the body that leaves what images hold
 pub record HasTurn (body : List ℕ) (old new : State) : Type 0 where
   pub reply : ReplyValue
-  pub asked : IsAsked (entry body reply []) old new
+  pub asked : IsAsked (exchange body reply []) old new
   pub same : held_of new ≡ held_of old
 
 -- the reply to a body in whose group the device has failed, and to one behind that group
@@ -54,13 +54,13 @@ abbrev pub opened : State → State
 opened state = record state { table = unlocked_table state.table }
 
 -- the text of a state's library
-abbrev pub text_of : State → List ℕ
-text_of state = canonical state.library
+abbrev pub text_of_library : State → List ℕ
+text_of_library state = canonical state.library
 
 abbrev pub requests : Turns State ReplyValue
 requests = record {
   bank = λ state. state.bank;
-  text = text_of;
+  text = text_of_library;
   held = held_of;
   alone = is_replacement;
   Turn = IsAsked;

@@ -7,9 +7,9 @@ use Rattle.oa_frame.specs.declared.session.Served.{Served}
 use Rattle.oa_groups.specs.Desks.{IsEnded, IsTaken}
 use Rattle.oa_groups.specs.Faults.{IsWhole}
 use Rattle.oa_groups.specs.Groups.{is_full}
-use Rattle.oa_groups.specs.Runs.{Run}
-use Rattle.oa_groups.specs.Sessions.{Call}
-use Rattle.oa_groups.specs.Turns.{Entry, body_of, reply_of}
+use Rattle.oa_groups.specs.Runs.{TurnsOver}
+use Rattle.oa_groups.specs.Sessions.{AnsweredCall}
+use Rattle.oa_groups.specs.Turns.{Exchange, body_of, reply_of}
 use Rattle.oa_record.specs.Replacement.{is_replacement}
 use Rattle.oa_record.specs.Replies.{ReplyValue, reply_record}
 use Rattle.oa_stream.specs.Sink.{Output, Puts}
@@ -67,9 +67,9 @@ Taken (Memory old) before hand body replies new after hand' = (new ≡ Memory ol
 Taken (Disk old) before hand body replies new after hand' = IsTakenOver (Disk old) before hand body replies new after hand'
 
 -- So none is held when the input ends. Over a store the group in hand ends, and its replies are handed out.
-abbrev pub Ended : {D : Type 0} {g : Ghosts D} → Storage D g → State → Hand → List (List ℕ) → Storage D g → State → Hand → Type 0
-Ended (Memory old) before hand replies new after hand' = (new ≡ Memory old) × none_held before replies after
-Ended (Disk old) before hand replies new after hand' = IsEndedOver (Disk old) before hand replies new after hand'
+abbrev pub InputEnds : {D : Type 0} {g : Ghosts D} → Storage D g → State → Hand → List (List ℕ) → Storage D g → State → Hand → Type 0
+InputEnds (Memory old) before hand replies new after hand' = (new ≡ Memory old) × none_held before replies after
+InputEnds (Disk old) before hand replies new after hand' = IsEndedOver (Disk old) before hand replies new after hand'
 
 -- what holds of a server between two bodies
 abbrev pub TakesBodies : {D : Type 0} {g : Ghosts D} → Clerk D g → Type 0
@@ -79,7 +79,7 @@ abbrev pub taken_written : {D : Type 0} {g : Ghosts D} → Clerk D g → List �
 taken_written old body replies new = Taken old.storage old.host old.hand body replies new.storage new.host new.hand
 
 abbrev pub ended_written : {D : Type 0} {g : Ghosts D} → Clerk D g → List (List ℕ) → Clerk D g → Type 0
-ended_written old replies new = Ended old.storage old.host old.hand replies new.storage new.host new.hand
+ended_written old replies new = InputEnds old.storage old.host old.hand replies new.storage new.host new.hand
 
 -- what is handed out was put on a writer, or the writer failed in it
 pub record PutsTaken {D : Type 0} {g : Ghosts D} (f : Frames) (old : Storage D g) (before : State) (hand : Hand) (body : List ℕ)
@@ -97,13 +97,13 @@ pub record PutsAlone (f : Frames) (before : State) (body : List ℕ) (after : St
 pub record PutsEnded {D : Type 0} {g : Ghosts D} (f : Frames) (old : Storage D g) (before : State) (hand : Hand)
     (new : Storage D g) (after : State) (hand' : Hand) (result : Result (Unit {0}) Unwritten) (out out' : Output) : Type 0 where
   pub held : List (List ℕ)
-  pub ended : Ended old before hand held new after hand'
+  pub ended : InputEnds old before hand held new after hand'
   pub put : Puts result out out' (spelled_all f.spelled held)
 
 pub record LeavesEnded {D : Type 0} {g : Ghosts D} (old : Storage D g) (before : State) (hand : Hand)
     (new : Storage D g) (after : State) (hand' : Hand) : Type 0 where
   pub held : List (List ℕ)
-  pub ended : Ended old before hand held new after hand'
+  pub ended : InputEnds old before hand held new after hand'
 
 -- what was read and written, whatever the server does
 abbrev pub any_turn : Unit {0} → List ℕ → List (List ℕ) → Unit {0} → Type 0
@@ -127,9 +127,9 @@ at_last [] replies = []
 at_last (body ∷ []) replies = replies ∷ []
 at_last (body ∷ (next ∷ bodies)) replies = [] ∷ at_last (next ∷ bodies) replies
 
-abbrev pub bodies_of : List Part → List (List ℕ)
-bodies_of [] = []
-bodies_of (part ∷ parts) = part.bodies ++ bodies_of parts
+abbrev pub bodies_of_parts : List Part → List (List ℕ)
+bodies_of_parts [] = []
+bodies_of_parts (part ∷ parts) = part.bodies ++ bodies_of_parts parts
 
 abbrev pub handed_of : List Part → List (List (List ℕ))
 handed_of [] = []
@@ -137,21 +137,21 @@ handed_of (part ∷ parts) = at_last part.bodies (map reply_record part.told) ++
 
 -- The last of these bodies ends a group: it fills it, or the checkpoint before its event, the group's first, has failed. Before it no
 -- group is whole.
-pub record IsGroup {D : Type 0} {g : Ghosts D} (size : ℕ) (new : Store D g) (before : State) (bodies : List (List ℕ))
+pub record IsWholeGroup {D : Type 0} {g : Ghosts D} (size : ℕ) (new : Store D g) (before : State) (bodies : List (List ℕ))
     (told : List ReplyValue) (after : State) : Type 0 where
-  pub group : List (Entry ReplyValue)
+  pub group : List (Exchange ReplyValue)
   pub bodies_are : bodies ≡ map body_of group
-  pub run : Run requests before group after
-  pub short : (front : List (Entry ReplyValue)) (last : Entry ReplyValue) → group ≡ front ++ last ∷ [] → is_full size front ≡ false
+  pub run : TurnsOver requests before group after
+  pub short : (front : List (Exchange ReplyValue)) (last : Exchange ReplyValue) → group ≡ front ++ last ∷ [] → is_full size front ≡ false
   pub ends : IsWhole requests size before group
   pub whole : new.stopped ≡ false → (is_full size group ≡ true) × (told ≡ map reply_of group)
 
 -- These bodies are no group yet: another request could have come to them.
-pub record IsRest {D : Type 0} {g : Ghosts D} (size : ℕ) (new : Store D g) (before : State) (bodies : List (List ℕ))
+pub record IsNoGroupYet {D : Type 0} {g : Ghosts D} (size : ℕ) (new : Store D g) (before : State) (bodies : List (List ℕ))
     (told : List ReplyValue) (after : State) : Type 0 where
-  pub held : List (Entry ReplyValue)
+  pub held : List (Exchange ReplyValue)
   pub bodies_are : bodies ≡ map body_of held
-  pub run : Run requests before held after
+  pub run : TurnsOver requests before held after
   pub short : is_full size held ≡ false
   pub told_are : new.stopped ≡ false → told ≡ map reply_of held
 
@@ -166,7 +166,7 @@ pub record EndsApart (bodies : List (List ℕ)) : Type 0 where
 abbrev pub EndsGroup : {D : Type 0} {g : Ghosts D} → ℕ → Storage D g → Storage D g → State → List (List ℕ) → List ReplyValue
     → State → Type 0
 EndsGroup size (Disk old) (Disk new) before bodies told after =
-    (old.stopped ≡ false → IsGroup size new before bodies told after ⊎ EndsApart bodies) × (old.stopped ≡ true → length bodies ≡ 1)
+    (old.stopped ≡ false → IsWholeGroup size new before bodies told after ⊎ EndsApart bodies) × (old.stopped ≡ true → length bodies ≡ 1)
 EndsGroup size (Disk old) (Memory new) before bodies told after = ⊥
 EndsGroup size (Memory old) new before bodies told after = length bodies ≡ 1
 
@@ -174,7 +174,7 @@ EndsGroup size (Memory old) new before bodies told after = length bodies ≡ 1
 abbrev pub EndsBefore : {D : Type 0} {g : Ghosts D} → ℕ → Storage D g → Storage D g → State → List (List ℕ) → List ReplyValue
     → State → Type 0
 EndsBefore size (Disk old) (Disk new) before bodies told after =
-    (old.stopped ≡ false → IsRest size new before bodies told after) × (old.stopped ≡ true → bodies ≡ [])
+    (old.stopped ≡ false → IsNoGroupYet size new before bodies told after) × (old.stopped ≡ true → bodies ≡ [])
 EndsBefore size (Disk old) (Memory new) before bodies told after = ⊥
 EndsBefore size (Memory old) new before bodies told after = bodies ≡ []
 
@@ -192,7 +192,7 @@ Parts {D} {g} size old new before (part ∷ parts) after =
     (mid : Storage D g) × (state : State) × IsPart size old mid before part state × Parts size mid new state parts after
 
 -- the calls that the parts are
-abbrev pub calls_of : ℕ → List Part → List (Call ReplyValue)
+abbrev pub calls_of : ℕ → List Part → List (AnsweredCall ReplyValue)
 calls_of size [] = []
 calls_of size (part ∷ parts) = record { size = size; bodies = part.bodies; replies = part.told } ∷ calls_of size parts
 
@@ -206,7 +206,7 @@ pub record InParts {D : Type 0} {g : Ghosts D} (size : ℕ) (old new : Storage D
   pub told : List ReplyValue
   pub mid : Storage D g
   pub state : State
-  pub bodies_are : bodies ≡ bodies_of parts ++ in_hand
+  pub bodies_are : bodies ≡ bodies_of_parts parts ++ in_hand
   pub handed_are : handed ≡ handed_of parts ++ silent in_hand
   pub held_are : held ≡ map reply_record told
   pub served : Parts size old mid before parts state

@@ -1,6 +1,6 @@
 //! A server at work.
 ghost use Rattle.std.specs.Prelude.{◌≡◌, ◌≤◌, map, IfOk, OnErr, false, true};
-ghost use Rattle.oa_server.specs.Storages.{Answers, InMemory, Serves, bank_of, disk_of};
+ghost use Rattle.oa_server.specs.Storages.{AnswersOne, InMemory, Serves, bank_of, disk_of};
 ghost use Rattle.oa_turn.specs.Turns.{Run, Turn};
 
 use crate::hand::Hand;
@@ -47,7 +47,7 @@ impl<D: Disk> Clerk<D> {
 /// Answers one body.
 pub(crate) fn answer_with<D: Disk>(host: &mut Host, storage: &mut Storage<D>, body: &[u8]) -> Reply
     requires banks { bank_of storage.old ≡ host.old.bank }
-    ensures answers { Answers storage.old storage.new host.old body.now result host.new }
+    ensures answers { AnswersOne storage.old storage.new host.old body.now result host.new }
     ensures memory { InMemory storage.old → Turn host.old body.now result host.new }
     ensures banks { bank_of storage.new ≡ host.new.bank }
 {

@@ -5,7 +5,7 @@ ghost use Rattle.oa_model.specs.Limits.{group_bytes};
 ghost use Rattle.oa_server.specs.Requests.{withdrawn};
 
 use oa_groups::is_full;
-use oa_keeper::Frame;
+use oa_keeper::Batch;
 use oa_model::HResult;
 use oa_record::Reply;
 use std::alloc::{AllocError, Global};
@@ -14,7 +14,7 @@ use std::alloc::{AllocError, Global};
 #[derive(Drop)]
 pub(crate) struct Hand {
     /// The events.
-    pub frame: Frame,
+    pub batch: Batch,
     /// The replies.
     pub replies: Vec<Reply>,
     /// How many requests a group has at most.
@@ -26,12 +26,12 @@ impl Hand {
     pub(crate) fn new(alloc: Global, size: usize) -> Result<Hand, AllocError>
         ensures replies { IfOk result (λ hand. hand.replies.items ≡ []) }
         ensures places { IfOk result (λ hand. size ≤ vec_capacity hand.replies) }
-        ensures frame { IfOk result (λ hand. hand.frame ≡ []) }
+        ensures batch { IfOk result (λ hand. hand.batch ≡ []) }
         ensures size { IfOk result (λ hand. hand.size ≡ size) }
     {
         let replies = Vec::with_capacity(alloc, size)?;
         Ok(Hand {
-            frame: Frame::new(alloc),
+            batch: Batch::new(alloc),
             replies,
             size,
         })
@@ -40,11 +40,11 @@ impl Hand {
     /// A hand that takes no requests. Takes no memory.
     pub(crate) fn none(alloc: Global) -> Hand
         ensures replies { result.replies.items ≡ [] }
-        ensures frame { result.frame ≡ [] }
+        ensures batch { result.batch ≡ [] }
         ensures size { result.size ≡ 0 }
     {
         Hand {
-            frame: Frame::new(alloc),
+            batch: Batch::new(alloc),
             replies: Vec::new(alloc),
             size: 0,
         }
@@ -52,11 +52,11 @@ impl Hand {
 
     /// Whether the group is whole.
     pub(crate) fn is_full(&self) -> bool
-        ensures fills { result ≡ fills self.now.size (length self.now.replies.items) (length self.now.frame) }
-        ensures few { result ≡ false → length self.now.frame < group_bytes }
+        ensures fills { result ≡ fills self.now.size (length self.now.replies.items) (length self.now.batch) }
+        ensures few { result ≡ false → length self.now.batch < group_bytes }
         ensures place { result ≡ false → length self.now.replies.items < self.now.size }
     {
-        is_full(self.size, self.replies.len(), self.frame.len())
+        is_full(self.size, self.replies.len(), self.batch.len())
     }
 }
 

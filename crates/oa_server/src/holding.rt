@@ -1,4 +1,4 @@
-//! A turn over a store: the event that it makes is held in a frame until its group ends.
+//! A turn over a store: the event that it makes is held in a batch until its group ends.
 ghost use Rattle.std.specs.Prelude.{◌≡◌, ◌-◌, ◌<◌, ◌≤◌, ◌++◌, List, ℕ, false, length, true, IfOk, IsErr, IsErrOf, IsOk, OnErr, OnOk};
 ghost use Rattle.oa_image.specs.Events.{event as an_event, event_image};
 ghost use Rattle.oa_journal.specs.Replays.{Replays};
@@ -19,7 +19,7 @@ ghost use Rattle.oa_turn.specs.Plans.{IsPlanned};
 
 use oa_disk::Disk;
 use oa_image::laws::is_event;
-use oa_keeper::{Broken, Frame, KeepFault, make_room};
+use oa_keeper::{Batch, Broken, KeepFault, make_room};
 use oa_model::HResult;
 use oa_record::Reply;
 use oa_record::laws::one_request;
@@ -32,22 +32,22 @@ use oa_turn::{Host, Plan, Planned};
 pub(crate) fn turn_held<D: Disk>(
     host: &mut Host,
     store: &mut Store<D>,
-    frame: &mut Frame,
+    batch: &mut Batch,
     body: &[u8],
 ) -> Result<Reply, Broken>
     requires plain { is_replacement body.now ≡ false }
-    requires open { IsOpenFor frame.old store.old }
+    requires open { IsOpenFor batch.old store.old }
     requires banks { HasBanks store.old host.old }
-    ensures turn { IfOk result (λ reply. IsHeldBack body.now reply frame.old frame.new host.old host.new) }
+    ensures turn { IfOk result (λ reply. IsHeldBack body.now reply batch.old batch.new host.old host.new) }
     ensures failed { OnErr result (HasTurn body.now host.old host.new) }
-    ensures same { OnErr result (frame.new ≡ frame.old) }
+    ensures same { OnErr result (batch.new ≡ batch.old) }
     // The device is called for a checkpoint alone, where one is due before an event of the body.
-    ensures calls { CallsWhereDue store.old store.new host.old frame.old body.now }
-    ensures due { OnErr result (IsDueFor store.old host.old frame.old body.now) }
-    ensures carries { Carries frame.old (held_of host.old) store.old store.new }
+    ensures calls { CallsWhereDue store.old store.new host.old batch.old body.now }
+    ensures due { OnErr result (IsDueFor store.old host.old batch.old body.now) }
+    ensures carries { Carries batch.old (held_of host.old) store.old store.new }
     // No checkpoint is made that is not due.
     ensures undue { ample_bytes ≤ body_bytes store.old.bank.shape - store.old.bank.gate → store.new.disk ≡ store.old.disk }
-    ensures room { store.new.stopped ≡ false → HasRoom frame.new store.new }
+    ensures room { store.new.stopped ≡ false → HasRoom batch.new store.new }
     ensures going { OnOk result (store.new.stopped ≡ false) }
     ensures stops { OnErr result (store.new.stopped ≡ true) }
     ensures goes { Goes store.old store.new }
@@ -55,7 +55,7 @@ pub(crate) fn turn_held<D: Disk>(
 {
     match host.plan(body) {
         Plan::Answered(reply) => Ok(reply),
-        Plan::Change(planned) => hold(host, store, frame, planned),
+        Plan::Change(planned) => hold(host, store, batch, planned),
     }
 }
 
@@ -63,26 +63,26 @@ pub(crate) fn turn_held<D: Disk>(
 fn hold<D: Disk>(
     host: &mut Host,
     store: &mut Store<D>,
-    frame: &mut Frame,
+    batch: &mut Batch,
     planned: Planned,
 ) -> Result<Reply, Broken>
     requires unlocked { BringsNoLocks planned.event }
     requires allowed { IsOk (allowed host.old.bank planned.event host.old.table) }
-    requires open { IsOpenFor frame.old store.old }
+    requires open { IsOpenFor batch.old store.old }
     requires banks { HasBanks store.old host.old }
     ensures turn { IfOk result (λ reply. (body : List ℕ) → is_replacement body ≡ false → IsPlanned host.old body planned
-        → IsHeldBack body reply frame.old frame.new host.old host.new) }
+        → IsHeldBack body reply batch.old batch.new host.old host.new) }
     ensures failed { OnErr result ((body : List ℕ) → is_replacement body ≡ false → IsPlanned host.old body planned → HasTurn body host.old host.new) }
-    ensures same { OnErr result (frame.new ≡ frame.old) }
+    ensures same { OnErr result (batch.new ≡ batch.old) }
     // The device is called for a checkpoint alone, where one is due before the event.
     ensures calls { (body : List ℕ) → is_replacement body ≡ false → IsPlanned host.old body planned
-        → CallsWhereDue store.old store.new host.old frame.old body }
+        → CallsWhereDue store.old store.new host.old batch.old body }
     ensures due { OnErr result ((body : List ℕ) → is_replacement body ≡ false → IsPlanned host.old body planned
-        → IsDueFor store.old host.old frame.old body) }
-    ensures carries { Carries frame.old (held_of host.old) store.old store.new }
+        → IsDueFor store.old host.old batch.old body) }
+    ensures carries { Carries batch.old (held_of host.old) store.old store.new }
     // No checkpoint is made that is not due.
     ensures undue { ample_bytes ≤ body_bytes store.old.bank.shape - store.old.bank.gate → store.new.disk ≡ store.old.disk }
-    ensures room { store.new.stopped ≡ false → HasRoom frame.new store.new }
+    ensures room { store.new.stopped ≡ false → HasRoom batch.new store.new }
     ensures going { OnOk result (store.new.stopped ≡ false) }
     ensures stops { OnErr result (store.new.stopped ≡ true) }
     ensures goes { Goes store.old store.new }
@@ -90,7 +90,7 @@ fn hold<D: Disk>(
 {
     one_request();
     let Planned { tag, event, fields } = planned;
-    match hold_change(host, store, frame, event) {
+    match hold_change(host, store, batch, event) {
         Ok(()) => Ok(Reply::new(tag, HResult::S_OK, None, fields.into_vec())),
         Err(KeepFault::Memory) => {
             Ok(Reply::bare(host.allocator(), tag, HResult::E_OUTOFMEMORY, None))
@@ -99,50 +99,50 @@ fn hold<D: Disk>(
     }
 }
 
-/// Makes a change that is allowed, and holds its event in a frame, behind a checkpoint where one is due: that has the table before the
+/// Makes a change that is allowed, and holds its event in a batch, behind a checkpoint where one is due: that has the table before the
 /// change. Then the growths of the event's bytes and of the table follow. At `Write` the checkpoint failed.
 fn hold_change<D: Disk>(
     host: &mut Host,
     store: &mut Store<D>,
-    frame: &mut Frame,
+    batch: &mut Batch,
     event: Event,
 ) -> Result<(), KeepFault>
     requires unlocked { BringsNoLocks event }
     requires allowed { IsOk (allowed host.old.bank event host.old.table) }
-    requires open { IsOpenFor frame.old store.old }
+    requires open { IsOpenFor batch.old store.old }
     requires banks { HasBanks store.old host.old }
     ensures change { MakesChange event host.old host.new result }
     ensures replays { OnOk result (Replays (event_image event) (held_of host.old) (held_of host.new)) }
     ensures small { OnOk result (length (event_image event) ≤ max_event_bytes) }
     ensures some { OnOk result (0 < length (event_image event)) }
     // It is the first event of a group before which the device is called, and no checkpoint is made that is not due.
-    ensures calls { CallsForRoom frame.old frame.new store.old store.new result }
+    ensures calls { CallsForRoom batch.old batch.new store.old store.new result }
     ensures is { an_event.Is event }
-    ensures event { OnOk result (frame.new ≡ frame.old ++ event_image event) }
-    ensures same { OnErr result (frame.new ≡ frame.old) }
-    ensures carries { Carries frame.old (held_of host.old) store.old store.new }
+    ensures event { OnOk result (batch.new ≡ batch.old ++ event_image event) }
+    ensures same { OnErr result (batch.new ≡ batch.old) }
+    ensures carries { Carries batch.old (held_of host.old) store.old store.new }
     ensures stops { StopsAtWrite store.old store.new result }
     ensures goes { Goes store.old store.new }
 {
     is_event(&event);
-    make_room(store, host.table(), frame)?;
-    add_change(host, frame, event)?;
+    make_room(store, host.table(), batch)?;
+    add_change(host, batch, event)?;
     Ok(())
 }
 
 /// Makes a change that is allowed, and adds its event to those in hand. The growths come in this order: the event's bytes, the table's.
-fn add_change(host: &mut Host, frame: &mut Frame, event: Event) -> Result<(), KeepFault>
+fn add_change(host: &mut Host, batch: &mut Batch, event: Event) -> Result<(), KeepFault>
     requires unlocked { BringsNoLocks event }
     requires allowed { IsOk (allowed host.old.bank event host.old.table) }
     ensures change { MakesChange event host.old host.new result }
-    ensures event { OnOk result (frame.new ≡ frame.old ++ event_image event) }
-    ensures same { OnErr result (frame.new ≡ frame.old) }
+    ensures event { OnOk result (batch.new ≡ batch.old ++ event_image event) }
+    ensures same { OnErr result (batch.new ≡ batch.old) }
     ensures kind { IsErr result → IsErrOf result KeepFault.Memory }
 {
-    let before = frame.len();
-    frame.add(&event)?;
+    let before = batch.len();
+    batch.add(&event)?;
     if let Err(_) = host.apply(event) {
-        frame.cut(before);
+        batch.cut(before);
         return Err(KeepFault::Memory);
     }
     Ok(())

@@ -5,7 +5,7 @@ ghost use Rattle.oa_groups.specs.Served.{IsServed};
 ghost use Rattle.oa_journal.specs.Shapes.{ample_bytes};
 ghost use Rattle.oa_keeper.specs.Kept.{HasRoom};
 ghost use Rattle.oa_record.specs.Replacement.{is_replacement};
-ghost use Rattle.oa_server.specs.Answers.{IsAnswered, IsLate, IsRenewed, IsRenewedOrLate};
+ghost use Rattle.oa_server.specs.Answers.{IsAnswered, AnswersAfterFault, IsRenewed, IsRenewedOrLate};
 ghost use Rattle.oa_server.specs.Hands.{CanTake, CanTakeCleared, HandsOut, HasBanks, cleared_desk, desk_of};
 ghost use Rattle.oa_server.specs.Requests.{requests};
 
@@ -13,14 +13,14 @@ use crate::hand::{Hand, withdraw};
 use crate::holding::turn_held;
 use crate::renewal::renew_over;
 use oa_disk::Disk;
-use oa_keeper::{Broken, Frame, commit};
+use oa_keeper::{Batch, Broken, commit};
 use oa_model::HResult;
 use oa_record::{Reply, is_replacement, tag_of};
 use oa_store::Store;
 use oa_turn::Host;
 use std::alloc::AllocError;
 
-/// Answers one body: a group of one, whose frame is its own. After a fault of the device the answer is that the store has failed, and
+/// Answers one body: a group of one, whose batch is its own. After a fault of the device the answer is that the store has failed, and
 /// nothing is done.
 pub(crate) fn answer_over<D: Disk>(host: &mut Host, store: &mut Store<D>, body: &[u8]) -> Reply
     requires banks { HasBanks store.old host.old }
@@ -33,8 +33,8 @@ pub(crate) fn answer_over<D: Disk>(host: &mut Host, store: &mut Store<D>, body: 
     if is_replacement(body) {
         return renewed_over(host, store, body);
     }
-    let mut frame = Frame::new(host.allocator());
-    let Ok(reply) = turn_held(host, store, &mut frame, body) else {
+    let mut batch = Batch::new(host.allocator());
+    let Ok(reply) = turn_held(host, store, &mut batch, body) else {
         return Reply::bare(
             host.allocator(),
             tag_of(body),
@@ -42,7 +42,7 @@ pub(crate) fn answer_over<D: Disk>(host: &mut Host, store: &mut Store<D>, body: 
             None,
         );
     };
-    let Ok(()) = commit(store, &mut frame) else {
+    let Ok(()) = commit(store, &mut batch) else {
         return Reply::bare(
             host.allocator(),
             tag_of(body),
@@ -75,17 +75,17 @@ fn renewed_over<D: Disk>(host: &mut Host, store: &mut Store<D>, body: &[u8]) -> 
 /// Ends the group in hand: its events go out, and its replies may be handed out, or are taken back.
 fn settle<D: Disk>(host: &Host, store: &mut Store<D>, hand: &mut Hand)
     requires goes_on { store.old.stopped ≡ false }
-    requires room { HasRoom hand.old.frame store.old }
-    requires few { length hand.old.frame + 6 ≤ ample_bytes }
+    requires room { HasRoom hand.old.batch store.old }
+    requires few { length hand.old.batch + 6 ≤ ample_bytes }
     ensures settled { IsSettled requests hand.new.replies.items (desk_of store.old host.now hand.old)
         (cleared_desk store.new host.now hand.new) }
-    ensures frame { hand.new.frame ≡ [] }
+    ensures batch { hand.new.batch ≡ [] }
     ensures shape { store.new.bank.shape ≡ store.old.bank.shape }
     ensures len { length hand.new.replies.items ≡ length hand.old.replies.items }
     ensures places { vec_capacity hand.new.replies ≡ vec_capacity hand.old.replies }
     ensures size { hand.new.size ≡ hand.old.size }
 {
-    if let Err(_) = commit(store, &mut hand.frame) {
+    if let Err(_) = commit(store, &mut hand.batch) {
         withdraw(host.allocator(), &mut hand.replies);
     }
 }
@@ -118,7 +118,7 @@ pub(crate) fn take<D: Disk>(
         take_apart(host, store, hand, body);
         return true;
     }
-    match turn_held(host, store, &mut hand.frame, body) {
+    match turn_held(host, store, &mut hand.batch, body) {
         Ok(reply) => {
             hand.replies.push_reserved(reply);
             if !hand.is_full() {
@@ -168,7 +168,7 @@ fn take_apart<D: Disk>(host: &mut Host, store: &mut Store<D>, hand: &mut Hand, b
     ensures size { hand.new.size ≡ hand.old.size }
 {
     finish(host, store, hand);
-    hand.frame = Frame::new(host.allocator());
+    hand.batch = Batch::new(host.allocator());
     let reply = renewed_or_late(host, store, body);
     hand.replies.push_reserved(reply);
 }
@@ -247,7 +247,7 @@ pub(crate) fn run_over<D: Disk>(
     requires banks { HasBanks store.old host.old }
     ensures served { store.old.stopped ≡ false → IfOk result (λ replies. IsServed requests group store.old store.new host.old host.new
         (map (λ b. b.items) bodies.now) replies.items) }
-    ensures late { store.old.stopped ≡ true → IfOk result (λ replies. IsLate store.old store.new host.old host.new
+    ensures late { store.old.stopped ≡ true → IfOk result (λ replies. AnswersAfterFault store.old store.new host.old host.new
         (map (λ b. b.items) bodies.now) replies.items) }
     ensures err { OnErr result ((store.new ≡ store.old) × (host.new ≡ host.old)) }
     ensures banks { HasBanks store.new host.new }

@@ -2,15 +2,15 @@
 ghost use Rattle.std.specs.Prelude.{◌≡◌, ◌<◌, ◌≤◌, ℕ, false, List, ◌++◌, length};
 ghost use Rattle.oa_groups.specs.Laws.{CallCounts, CallGoesOn, EndCountsAll, HistoryKeepsAnswered, LateCallCounts, OneFault};
 ghost use Rattle.oa_groups.specs.Laws.{OpeningBegins, OthersAreRun, StopIsLink, StopKeepsAnswered};
-ghost use Rattle.oa_groups.specs.Runs.{MakesEvent, Run as RunOf};
-ghost use Rattle.oa_groups.specs.Turns.{Entry};
+ghost use Rattle.oa_groups.specs.Runs.{MakesEvent, TurnsOver as RunOf};
+ghost use Rattle.oa_groups.specs.Turns.{Exchange};
 ghost use Rattle.oa_record.specs.declared.request.Request.{Request as ARequest};
 ghost use Rattle.oa_record.specs.Asks.{Asks};
 ghost use Rattle.oa_record.specs.Replacement.{is_replacement};
 ghost use Rattle.oa_record.specs.Replies.{ReplyValue};
 ghost use Rattle.oa_server.specs.Laws.{AnsweredAreRun, FoundIsKept, OpenedBegins, OpenedJoins, PartsCount, PartsGoOn};
 ghost use Rattle.oa_turn.specs.Beginnings.{CanBegin};
-ghost use Rattle.oa_turn.specs.Events.{bytes_of};
+ghost use Rattle.oa_turn.specs.Events.{change_bytes};
 ghost use Rattle.oa_server.specs.Requests.{opened, requests};
 ghost use Rattle.oa_turn.specs.States.{State, state_of};
 ghost use Rattle.oa_turn.specs.Steps.{outcome};
@@ -28,7 +28,7 @@ use oa_record::laws::one_request;
 /// each turn leaves one, and so do those of groups; an opening, with which locks end, finds one; and a new store has one.
 pub fn what_was_served_is_served_again()
     ensures turn { (old new : State) (body : List ℕ) (reply : ReplyValue) → CanBegin old → Turn old body reply new → CanBegin new }
-    ensures groups { (old new : State) (entries : List (Entry ReplyValue)) → CanBegin old → RunOf requests old entries new → CanBegin new }
+    ensures groups { (old new : State) (entries : List (Exchange ReplyValue)) → CanBegin old → RunOf requests old entries new → CanBegin new }
     ensures opened { (state : State) → CanBegin state → CanBegin (opened state) }
     ensures first { (bank : ℕ) (library : TreeValue) → IsChecked library → 5242888 ≤ bank → CanBegin (state_of bank library first_table) }
 {
@@ -37,7 +37,7 @@ pub fn what_was_served_is_served_again()
 
 /// Where images hold the state after some first requests of a run of groups, the others go on from that one.
 pub fn rest_of_a_run()
-    ensures { (old mid new : State) (front back : List (Entry ReplyValue))
+    ensures { (old mid new : State) (front back : List (Exchange ReplyValue))
         → RunOf requests old (front ++ back) new → RunOf requests old front mid → RunOf requests mid back new }
 {
     one_request();
@@ -48,7 +48,7 @@ pub fn rest_of_a_run()
 /// makes an event only where one comes of what it asks.
 pub fn events_call_for_the_device()
     ensures { (state : State) (body : List ℕ) → is_replacement body ≡ false → MakesEvent requests state body
-        → (request : ARequest) × Asks body request × (0 < length (bytes_of (outcome state request).event)) }
+        → (request : ARequest) × Asks body request × (0 < length (change_bytes (outcome state request).event)) }
 {}
 
 /// The same of a run as groups hold it: the requests that were answered with S_OK alone are a run too, with the same replies and events.

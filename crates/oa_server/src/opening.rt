@@ -10,7 +10,7 @@ ghost use Rattle.oa_turn.specs.Beginnings.{CanServe};
 ghost use Rattle.oa_server.specs.Openings.{FindsOneOf, HoldsOther, IsNotOpened, IsOpened, IsUnfit, RefusesOneOf};
 ghost use Rattle.oa_turn.specs.States.{State};
 ghost use Rattle.oa_server.specs.Storages.{OverStore, bank_of};
-ghost use Rattle.oa_store.specs.Faults.{IsCaused, IsEarly, IsRefusal, Says};
+ghost use Rattle.oa_store.specs.Faults.{IsCaused, ComesOfForeign, SpeaksOfContents, RefusalSays};
 ghost use Rattle.oa_store.specs.Reads.{WritesNothing};
 ghost use Rattle.oa_store.specs.Stores.{IsForeign, IsStoreIn};
 ghost use Rattle.oa_store.specs.declared.fault.OpenFault.TheVariants.{LibraryDiffers};
@@ -69,15 +69,15 @@ pub(crate) fn open_store<D: Disk>(
     // Where a stop has left one of two states, that one is answered, and no refusal says that there is none but that of another library.
     ensures either { IfOk result (λ r. IsTrue (D.is_honest r.0.disk)
         → FindsOneOf (D.image disk) (body_bytes r.0.bank.shape) library.now r.1) }
-    ensures refused { IfErr result (λ e. IsRefusal e.1 → IsTrue (D.is_honest e.0)
+    ensures refused { IfErr result (λ e. SpeaksOfContents e.1 → IsTrue (D.is_honest e.0)
         → RefusesOneOf (D.image disk) (D.contents disk) library.now e.1) }
     ensures differs { IfErr result (λ e. IsTrue (D.is_honest e.0) → (state : State) → HoldsOther (D.contents disk) library.now state
-        → IsRefusal e.1 → e.1 ≡ LibraryDiffers) }
+        → SpeaksOfContents e.1 → e.1 ≡ LibraryDiffers) }
     // A refusal is true of the contents at the start.
     ensures says { IfErr result (λ e. IsTrue (D.is_honest e.0)
-        → Says (Some (canonical library.now)) (D.size_of disk) (D.contents disk) e.1 ⊎ IsUnfit library.now (D.contents disk) e.1) }
+        → RefusalSays (Some (canonical library.now)) (D.size_of disk) (D.contents disk) e.1 ⊎ IsUnfit library.now (D.contents disk) e.1) }
     // A disk that is too small or not formatted is found to be that before memory is taken.
-    ensures early { IfErr result (λ e. IsTrue (D.is_honest e.0) → IsForeign (D.size_of disk) (D.contents disk) → IsEarly e.1) }
+    ensures early { IfErr result (λ e. IsTrue (D.is_honest e.0) → IsForeign (D.size_of disk) (D.contents disk) → ComesOfForeign e.1) }
     ensures foreign { IfOk result (λ r. IsTrue (D.is_honest r.0.disk) → IsForeign (D.size_of disk) (D.contents disk) → ⊥) }
     ensures reads { IfOk result (λ r. IsTrue (D.is_honest r.0.disk) → WritesNothing D.image D.moment D.image_since disk r.0.disk) }
     ensures reads_err { IfErr result (λ e. IsTrue (D.is_honest e.0) → WritesNothing D.image D.moment D.image_since disk e.0) }

@@ -3,8 +3,8 @@ ghost use Rattle.std.specs.Prelude.{◌≡◌, ◌≤◌, map, IfOk, OnErr, fals
 ghost use Rattle.oa_model.specs.Limits.{max_group};
 ghost use Rattle.oa_idl.specs.Canonical.{canonical};
 ghost use Rattle.oa_journal.specs.Shapes.{body_bytes, default_bank_bytes};
-ghost use Rattle.oa_turn.specs.Limits.{IsSound};
-ghost use Rattle.oa_server.specs.Storages.{Answers, InMemory, Serves, disk_of};
+ghost use Rattle.oa_turn.specs.Limits.{IsSoundTable};
+ghost use Rattle.oa_server.specs.Storages.{AnswersOne, InMemory, Serves, disk_of};
 ghost use Rattle.oa_turn.specs.Turns.{Run, Turn};
 ghost use Rattle.oa_server.specs.declared.storage.Storage.TheVariants.{Disk as ADisk};
 ghost use Rattle.oa_table.specs.Tables.{first_table};
@@ -47,7 +47,7 @@ impl<D: Disk> Server<D> {
         table: Table,
         store: Store<D>,
     ) -> Server<D>
-        requires sound { IsSound (body_bytes store.bank.shape) table }
+        requires sound { IsSoundTable (body_bytes store.bank.shape) table }
         requires text { store.library.items ≡ canonical library }
         ensures state { result.clerk.host ≡ record { bank = body_bytes store.bank.shape; library = library; table = table } }
         ensures store { result.clerk.storage ≡ ADisk store }
@@ -76,7 +76,7 @@ impl<D: Disk> Server<D> {
     /// Answers one body: over a store a group of one, which is committed before this returns. Want of memory is told in the reply, which
     /// then leaves the server as it was.
     pub fn answer(&mut self, body: &[u8]) -> Reply
-        ensures answers { Answers self.old.clerk.storage self.new.clerk.storage self.old.clerk.host body.now result self.new.clerk.host }
+        ensures answers { AnswersOne self.old.clerk.storage self.new.clerk.storage self.old.clerk.host body.now result self.new.clerk.host }
         ensures memory { InMemory self.old.clerk.storage → Turn self.old.clerk.host body.now result self.new.clerk.host }
     {
         answer_with(&mut self.clerk.host, &mut self.clerk.storage, body)

@@ -308,7 +308,7 @@ fn talk<D: Disk, R: Source + Drop, W: Sink>(
     requires positive { 1 ≤ clerk.old.hand.size }
     requires places { clerk.old.hand.size ≤ vec_capacity clerk.old.hand.replies }
     requires replies { clerk.old.hand.replies.items ≡ [] }
-    requires frame { clerk.old.hand.frame ≡ [] }
+    requires batch { clerk.old.hand.batch ≡ [] }
     requires line { max_line_characters + 1 ≤ vec_capacity line.now }
     requires body { max_request_bytes ≤ vec_capacity body.now }
     requires unbroken { (ahead R.input reader.old).faulted ≡ false }

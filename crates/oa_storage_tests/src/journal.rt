@@ -49,16 +49,16 @@ impl Tried {
         Some(Tried { alloc, disk, bank })
     }
 
-    /// Adds a group whose frame has so many bytes, five at least.
+    /// Adds a group whose batch has so many bytes, five at least.
     fn add(&mut self, count: usize) -> Result<(), AppendFault> {
         match vec![in self.alloc; 0; count] {
-            Ok(mut frame) if frame.len() > 5 => self.bank.append(&mut self.disk, &mut frame),
+            Ok(mut batch) if batch.len() > 5 => self.bank.append(&mut self.disk, &mut batch),
             _ => Err(AppendFault::Full),
         }
     }
 }
 
-/// How long a frame is, how often it is added, what is answered, and the room behind it.
+/// How long a batch is, how often it is added, what is answered, and the room behind it.
 const FRAMES: [(usize, u32, Result<(), AppendFault>, u32); 4] = [
     (26, 1, Ok(()), 20_971_207),
     (4_000_000, 5, Ok(()), 971_207),
@@ -66,7 +66,7 @@ const FRAMES: [(usize, u32, Result<(), AppendFault>, u32); 4] = [
     (971_206, 1, Ok(()), 1),
 ];
 
-/// The first of these frames that is answered otherwise; None where the new bank has another room.
+/// The first of these batches that is answered otherwise; None where the new bank has another room.
 fn filled(alloc: Global) -> Option<Option<usize>> {
     let mut tried = Tried::new(alloc, 50)?;
     if tried.bank.room() != 20_971_233 || tried.bank.size() != BODY {

@@ -19,13 +19,13 @@ const SIZE: usize = 75_505_664;
 /// How many bytes a bank has.
 const BANK: u32 = 20_971_520;
 
-/// The event that makes object 1, in its frame.
+/// The event that makes object 1, in its batch.
 const CREATE: [u8; 26] = [
     0, 0, 0, 0, 1, 1, 0, 0, 0, 0x44, 0x33, 0x22, 0x11, 0x66, 0x55, 0x88, 0x77, 0x99, 0xaa, 0xbb,
     0xcc, 0xdd, 0xee, 0xff, 3, 0,
 ];
 
-/// The event that puts 7 into its property, in its frame.
+/// The event that puts 7 into its property, in its batch.
 const PUT_7: [u8; 38] = [
     0, 0, 0, 0, 3, 1, 0, 0, 0, 0x44, 0x33, 0x22, 0x11, 0x66, 0x55, 0x88, 0x77, 0x99, 0xaa, 0xbb,
     0xcc, 0xdd, 0xee, 0xff, 2, 1, 0, 0, 0, 0, 0, 3, 0, 7, 0, 0, 0, 0,
@@ -91,12 +91,12 @@ fn make<D: Disk>(alloc: Global, disk: &mut D) -> u8 {
     }
 }
 
-/// Adds the group of a frame.
-fn add<D: Disk>(store: &mut Store<D>, frame: &mut [u8]) -> u8 {
-    if frame.len() <= 5 || frame.len() >= store.room() as usize {
+/// Adds the group of a batch.
+fn add<D: Disk>(store: &mut Store<D>, batch: &mut [u8]) -> u8 {
+    if batch.len() <= 5 || batch.len() >= store.room() as usize {
         return OTHER;
     }
-    match store.commit(frame) {
+    match store.commit(batch) {
         Ok(()) => WELL,
         Err(CommitFault::Device(fault)) => kind_of(fault),
         Err(CommitFault::Stopped) => STOPPED,
@@ -120,19 +120,19 @@ fn settle<D: Disk>(store: &mut Store<D>, table: &Table) -> u8
 
 /// Puts 8 into the property.
 fn put_8<D: Disk>(store: &mut Store<D>) -> u8 {
-    let mut frame = PUT_8;
-    add(store, &mut frame)
+    let mut batch = PUT_8;
+    add(store, &mut batch)
 }
 
 /// The first session: object 1, with 7 in its property.
 fn begin<D: Disk>(store: &mut Store<D>) -> u8 {
-    let mut frame = CREATE;
-    let end = add(store, &mut frame);
+    let mut batch = CREATE;
+    let end = add(store, &mut batch);
     if end != WELL {
         return end;
     }
-    let mut frame = PUT_7;
-    add(store, &mut frame)
+    let mut batch = PUT_7;
+    add(store, &mut batch)
 }
 
 /// The second session: a checkpoint, and 8 in the property.

@@ -14,7 +14,7 @@ use Rattle.oa_journal.specs.Append.{IsAt}
 use Rattle.oa_journal.specs.Damages.{IsDamagedBank, bank_library, not_damaged, one_library}
 use Rattle.oa_store.specs.declared.fault.OpenFault.{OpenFault}
 use Rattle.oa_store.specs.declared.fault.OpenFault.TheVariants.{NotAStore, OldFormat, LibraryDiffers, Damaged, Device, Memory}
-use Rattle.oa_store.specs.Faults.{IsRefusal, IsLate, IfDamaged, IsDamaged, IsFailed, HasWanted, Says, Tells}
+use Rattle.oa_store.specs.Faults.{SpeaksOfContents, ComesOfBanks, IfDamaged, IsDamaged, IsFailed, HasWanted, RefusalSays, DeviceTells}
 use Rattle.oa_store.specs.Stores.{body_place, head_place, IsFormatted, IsStoreAt, IsNewStore}
 
 -- what holds of the bytes where a bank stands holds of them under other names
@@ -44,8 +44,8 @@ if_damaged (Device fault) P Q f p = tt
 if_damaged Memory P Q f p = tt
 
 -- a refusal that is given once a bank is looked at
-pub says_late : (wanted : Option (List ℕ)) (size : ℕ) (contents : List ℕ) (e : OpenFault) → IsLate e
-    → IfDamaged e (IsDamaged wanted contents) → Says wanted size contents e
+pub says_late : (wanted : Option (List ℕ)) (size : ℕ) (contents : List ℕ) (e : OpenFault) → ComesOfBanks e
+    → IfDamaged e (IsDamaged wanted contents) → RefusalSays wanted size contents e
 says_late wanted size contents NotAStore late p = absurd late
 says_late wanted size contents OldFormat late p = absurd late
 says_late wanted size contents LibraryDiffers late p = absurd late
@@ -63,8 +63,8 @@ pub sync_failed : (contents : List ℕ) (before after : List ℕ → Type 0) (fa
 sync_failed contents before after fault is stay = subst (λ (f : DeviceFault). IsFailed contents before after f) (sym is) stay
 
 -- once a bank is looked at, no sync fails
-pub tells_late : (contents : List ℕ) (before after : List ℕ → Type 0) (e : OpenFault) → IsLate e → Only contents after
-    → Tells contents before after e
+pub tells_late : (contents : List ℕ) (before after : List ℕ → Type 0) (e : OpenFault) → ComesOfBanks e → Only contents after
+    → DeviceTells contents before after e
 tells_late contents before after NotAStore late only = tt
 tells_late contents before after OldFormat late only = tt
 tells_late contents before after LibraryDiffers late only = tt
@@ -104,8 +104,8 @@ its_shape shape other contents chosen gate l s library table has is =
     (one_head head shape (length library) _ other l s (bank_header shape head (from_place (body_place shape chosen) contents) library table gate is.bank) has).shape_same
 
 -- what is refused is no store of the library that is wanted in format 2
-pub refused : (library : List ℕ) (size : ℕ) (contents : List ℕ) (e : OpenFault) → length contents ≡ size → IsRefusal e
-    → Says (Some library) size contents e
+pub refused : (library : List ℕ) (size : ℕ) (contents : List ℕ) (e : OpenFault) → length contents ≡ size → SpeaksOfContents e
+    → RefusalSays (Some library) size contents e
     → (table : TableValue) → IsNewStore contents library table → ⊥
 refused library size contents NotAStore long r says table is = ⊎_elim (λ lt. absurd (omega (arith, lt, long, is.1.2.head.size))) (λ none. none is.1.2.head.formatted) says
 refused library size contents OldFormat long r says table is =

@@ -13,12 +13,12 @@ use Rattle.oa_journal.specs.Lockless.{no_locks}
 use Rattle.oa_store.specs.declared.fault.OpenFault.{OpenFault}
 use Rattle.oa_store.specs.declared.fault.OpenFault.TheVariants.{NotAStore, OldFormat, LibraryDiffers, Damaged, Device, Memory}
 use Rattle.oa_store.specs.Changes.{IsMove, IsMoved, IsUpgrade}
-use Rattle.oa_store.specs.Faults.{IsHead, IsLate, IsOld, IfDamaged, IsDamaged, IsCaused, IsCausedUpgrade, IsFailed, IsFailedUpgrade, Says, SaysOld, Tells, TellsOld, of_opening}
+use Rattle.oa_store.specs.Faults.{IsHead, ComesOfBanks, IsOld, IfDamaged, IsDamaged, IsCaused, IsCausedUpgrade, IsFailed, IsFailedUpgrade, RefusalSays, SaysOld, DeviceTells, TellsOld, of_opening}
 use Rattle.oa_store.specs.OneStore.{one_store_at}
 use Rattle.oa_store.specs.Stores.{body_place, head_place, IsStoreAt, IsStoreIn}
 
 -- a refusal of an opening, as one of an upgrade
-pub says_early : (bank size : ℕ) (contents : List ℕ) (e : OpenFault) → IsHead e → ((wanted : Option (List ℕ)) → Says wanted size contents e)
+pub says_early : (bank size : ℕ) (contents : List ℕ) (e : OpenFault) → IsHead e → ((wanted : Option (List ℕ)) → RefusalSays wanted size contents e)
     → SaysOld bank size contents (of_opening e)
 says_early bank size contents NotAStore is says = says None
 says_early bank size contents OldFormat is says = absurd is
@@ -27,7 +27,7 @@ says_early bank size contents (Damaged place) is says = inr (says None)
 says_early bank size contents (Device fault) is says = tt
 says_early bank size contents Memory is says = absurd is
 
-pub says_spoilt : (bank size : ℕ) (contents : List ℕ) (e : OpenFault) → IsLate e → IsOld contents → IfDamaged e (IsDamaged None contents)
+pub says_spoilt : (bank size : ℕ) (contents : List ℕ) (e : OpenFault) → ComesOfBanks e → IsOld contents → IfDamaged e (IsDamaged None contents)
     → SaysOld bank size contents (of_opening e)
 says_spoilt bank size contents NotAStore is old p = absurd is
 says_spoilt bank size contents OldFormat is old p = absurd is
@@ -49,7 +49,7 @@ failed_upgrade : (contents : List ℕ) (before after : List ℕ → Type 0) (fau
 failed_upgrade contents before after devices.Read is = is
 failed_upgrade contents before after devices.Write is = inl is
 
-pub tells_old : (contents : List ℕ) (before after : List ℕ → Type 0) (e : OpenFault) → Tells contents before after e
+pub tells_old : (contents : List ℕ) (before after : List ℕ → Type 0) (e : OpenFault) → DeviceTells contents before after e
     → TellsOld contents before after (of_opening e)
 tells_old contents before after NotAStore is = tt
 tells_old contents before after OldFormat is = tt

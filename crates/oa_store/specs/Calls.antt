@@ -9,13 +9,13 @@ abbrev pub piece_bytes : ℕ
 piece_bytes = 65536
 
 -- the pieces of a body with its closed gate behind this library and this table
-abbrev pub pieces_of : List ℕ → TableValue → ℕ
-pieces_of library table = div_ceil (1 + first_gate library table) piece_bytes
+abbrev pub piece_count : List ℕ → TableValue → ℕ
+piece_count library table = div_ceil (1 + first_gate library table) piece_bytes
 
 -- a checkpoint: the head, the pieces of the body, a sync, the selector and a sync
 abbrev pub checkpoint_calls : List ℕ → TableValue → ℕ
-checkpoint_calls library table = 4 + pieces_of library table
+checkpoint_calls library table = 4 + piece_count library table
 
 -- a format: the first byte, a sync, the head, the pieces of the body, the selector, a sync, the first byte and a sync
 abbrev pub format_calls : List ℕ → ℕ
-format_calls library = 7 + pieces_of library first_table
+format_calls library = 7 + piece_count library first_table

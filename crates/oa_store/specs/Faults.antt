@@ -17,31 +17,31 @@ use Rattle.oa_store.specs.declared.fault.UpgradeFault.TheVariants as upgrades
 use Rattle.oa_store.specs.Stores.{body_place, head_place, IsFormatted, IsForeign, IsStoreIn}
 
 -- it says what stands on the disk
-abbrev pub IsRefusal : OpenFault → Type 0
-IsRefusal NotAStore = ⊤
-IsRefusal OldFormat = ⊤
-IsRefusal LibraryDiffers = ⊤
-IsRefusal (Damaged place) = ⊤
-IsRefusal (Device fault) = ⊥
-IsRefusal Memory = ⊥
+abbrev pub SpeaksOfContents : OpenFault → Type 0
+SpeaksOfContents NotAStore = ⊤
+SpeaksOfContents OldFormat = ⊤
+SpeaksOfContents LibraryDiffers = ⊤
+SpeaksOfContents (Damaged place) = ⊤
+SpeaksOfContents (Device fault) = ⊥
+SpeaksOfContents Memory = ⊥
 
--- it is given before a bank is looked at
-abbrev pub IsEarly : OpenFault → Type 0
-IsEarly NotAStore = ⊤
-IsEarly OldFormat = ⊥
-IsEarly LibraryDiffers = ⊥
-IsEarly (Damaged place) = ⊥
-IsEarly (Device fault) = ⊤
-IsEarly Memory = ⊥
+-- it may be given of a disk that is no store
+abbrev pub ComesOfForeign : OpenFault → Type 0
+ComesOfForeign NotAStore = ⊤
+ComesOfForeign OldFormat = ⊥
+ComesOfForeign LibraryDiffers = ⊥
+ComesOfForeign (Damaged place) = ⊥
+ComesOfForeign (Device fault) = ⊤
+ComesOfForeign Memory = ⊥
 
--- it is given once a bank is looked at, whatever library it has
-abbrev pub IsLate : OpenFault → Type 0
-IsLate NotAStore = ⊥
-IsLate OldFormat = ⊥
-IsLate LibraryDiffers = ⊥
-IsLate (Damaged place) = ⊤
-IsLate (Device fault) = fault ≡ devices.Read
-IsLate Memory = ⊤
+-- it may be given where a bank is looked at, whatever library it has
+abbrev pub ComesOfBanks : OpenFault → Type 0
+ComesOfBanks NotAStore = ⊥
+ComesOfBanks OldFormat = ⊥
+ComesOfBanks LibraryDiffers = ⊥
+ComesOfBanks (Damaged place) = ⊤
+ComesOfBanks (Device fault) = fault ≡ devices.Read
+ComesOfBanks Memory = ⊤
 
 -- it is given before a library is looked at
 abbrev pub IsHead : OpenFault → Type 0
@@ -77,13 +77,13 @@ IsFailed contents before after devices.Read = Only contents after
 IsFailed contents before after devices.Write = (c : List ℕ) → before c → after c
 
 -- what a fault of the device tells, where the disk had these contents and these images, and has these images now
-abbrev pub Tells : List ℕ → (List ℕ → Type 0) → (List ℕ → Type 0) → OpenFault → Type 0
-Tells contents before after NotAStore = ⊤
-Tells contents before after OldFormat = ⊤
-Tells contents before after LibraryDiffers = ⊤
-Tells contents before after (Damaged place) = ⊤
-Tells contents before after (Device fault) = IsFailed contents before after fault
-Tells contents before after Memory = ⊤
+abbrev pub DeviceTells : List ℕ → (List ℕ → Type 0) → (List ℕ → Type 0) → OpenFault → Type 0
+DeviceTells contents before after NotAStore = ⊤
+DeviceTells contents before after OldFormat = ⊤
+DeviceTells contents before after LibraryDiffers = ⊤
+DeviceTells contents before after (Damaged place) = ⊤
+DeviceTells contents before after (Device fault) = IsFailed contents before after fault
+DeviceTells contents before after Memory = ⊤
 
 -- Its bank begins as one of another library.
 pub record IsOther (contents library : List ℕ) : Type 0 where
@@ -138,13 +138,13 @@ IsTooOld None contents = ⊥
 IsTooOld (Some library) contents = IsOld contents
 
 -- what a refusal of a disk of this size and these contents says
-abbrev pub Says : Option (List ℕ) → ℕ → List ℕ → OpenFault → Type 0
-Says wanted size contents NotAStore = IsForeign size contents
-Says wanted size contents OldFormat = IsTooOld wanted contents
-Says wanted size contents LibraryDiffers = IsUnwanted wanted contents
-Says wanted size contents (Damaged place) = IsDamaged wanted contents place
-Says wanted size contents (Device fault) = ⊤
-Says wanted size contents Memory = ⊤
+abbrev pub RefusalSays : Option (List ℕ) → ℕ → List ℕ → OpenFault → Type 0
+RefusalSays wanted size contents NotAStore = IsForeign size contents
+RefusalSays wanted size contents OldFormat = IsTooOld wanted contents
+RefusalSays wanted size contents LibraryDiffers = IsUnwanted wanted contents
+RefusalSays wanted size contents (Damaged place) = IsDamaged wanted contents place
+RefusalSays wanted size contents (Device fault) = ⊤
+RefusalSays wanted size contents Memory = ⊤
 
 -- a fault of an opening that compares no library, as one of an upgrade
 abbrev pub of_opening : OpenFault → UpgradeFault

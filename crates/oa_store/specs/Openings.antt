@@ -5,7 +5,7 @@ use Rattle.oa_image.specs.Tables.{is_numbered}
 use Rattle.oa_store.specs.declared.fault.OpenFault.{OpenFault}
 use Rattle.oa_store.specs.declared.fault.OpenFault.TheVariants.{LibraryDiffers, OldFormat}
 use Rattle.oa_store.specs.declared.store.Store.{Store}
-use Rattle.oa_store.specs.Faults.{IsCaused, IsEarly, IsRefusal, Says, Tells}
+use Rattle.oa_store.specs.Faults.{IsCaused, ComesOfForeign, SpeaksOfContents, RefusalSays, DeviceTells}
 use Rattle.oa_store.specs.Stores.{IsForeign, IsNewStore, IsStore, IsStoreAt}
 use Rattle.oa_table.specs.Tables.{TableValue, unlocked_table}
 
@@ -30,13 +30,13 @@ pub record Starts {D : Type 0} {g : Ghosts D} (library : List ℕ) (store : Stor
 -- The disk is no store of this library that can be opened.
 pub record RefusesDisk {D : Type 0} (g : Ghosts D) (library : List ℕ) (disk back : D) (fault : OpenFault) : Type 0 where
   -- A refusal is true of the contents at the start, and they are no store of this library.
-  pub says : IsTrue (g.is_honest back) → Says (Some library) (g.size_of disk) (g.contents disk) fault
-  pub refused : IsRefusal fault → IsTrue (g.is_honest back) → (table : TableValue) → IsNewStore (g.contents disk) library table → ⊥
+  pub says : IsTrue (g.is_honest back) → RefusalSays (Some library) (g.size_of disk) (g.contents disk) fault
+  pub refused : SpeaksOfContents fault → IsTrue (g.is_honest back) → (table : TableValue) → IsNewStore (g.contents disk) library table → ⊥
   -- A disk that is too small or not formatted is found to be that before memory is taken.
-  pub early : IsTrue (g.is_honest back) → IsForeign (g.size_of disk) (g.contents disk) → IsEarly fault
+  pub early : IsTrue (g.is_honest back) → IsForeign (g.size_of disk) (g.contents disk) → ComesOfForeign fault
   pub cause : IsCaused (g.failures_of disk) (g.failures_of back) fault
   -- Read is told once all that was written is on the device, and Write where the sync at the start failed.
-  pub tells : IsTrue (g.is_honest back) → Tells (g.contents disk) (g.image disk) (g.image back) fault
+  pub tells : IsTrue (g.is_honest back) → DeviceTells (g.contents disk) (g.image disk) (g.image back) fault
 
 -- A store of some library was found in some format, with its table.
 pub record FindsAny {D : Type 0} (g : Ghosts D) (disk new : D) (library : List ℕ) (table : TableValue) : Type 0 where
@@ -50,9 +50,9 @@ pub record FindsAny {D : Type 0} (g : Ghosts D) (disk new : D) (library : List �
 
 -- The disk is no store, whichever library is wanted.
 pub record RefusesAny {D : Type 0} (g : Ghosts D) (disk new : D) (fault : OpenFault) : Type 0 where
-  pub says : IsTrue (g.is_honest new) → Says None (g.size_of disk) (g.contents disk) fault
-  pub early : IsTrue (g.is_honest new) → IsForeign (g.size_of disk) (g.contents disk) → IsEarly fault
+  pub says : IsTrue (g.is_honest new) → RefusalSays None (g.size_of disk) (g.contents disk) fault
+  pub early : IsTrue (g.is_honest new) → IsForeign (g.size_of disk) (g.contents disk) → ComesOfForeign fault
   pub any_library : fault ≡ LibraryDiffers → ⊥
   pub any_format : fault ≡ OldFormat → ⊥
   pub cause : IsCaused (g.failures_of disk) (g.failures_of new) fault
-  pub tells : IsTrue (g.is_honest new) → Tells (g.contents disk) (g.image disk) (g.image new) fault
+  pub tells : IsTrue (g.is_honest new) → DeviceTells (g.contents disk) (g.image disk) (g.image new) fault

@@ -30,9 +30,9 @@ pub record StopsAtFault {D T E : Type 0} {g : Ghosts D} (late : E) (device : Dev
   pub stopped : IsErrOf result late ↔ (old.stopped ≡ true)
   pub fault : (fault : DeviceFault) → IsErrOf result (device fault) → fault ≡ Write
 
--- The bank in use has the group of a frame more, or nothing has changed in memory.
-pub record AddsGroup {D T E : Type 0} {g : Ghosts D} (frame : List ℕ) (old new : Store D g) (result : Result T E) : Type 0 where
-  pub gate : OnOk result (new.bank.gate ≡ old.bank.gate + (5 + length (group_of frame)))
+-- The bank in use has the group of a batch more, or nothing has changed in memory.
+pub record AddsGroup {D T E : Type 0} {g : Ghosts D} (batch : List ℕ) (old new : Store D g) (result : Result T E) : Type 0 where
+  pub gate : OnOk result (new.bank.gate ≡ old.bank.gate + (5 + length (group_of batch)))
   pub refused : OnErr result (new.bank.gate ≡ old.bank.gate)
   pub chosen : new.chosen ≡ old.chosen
   pub library : new.library.items ≡ old.library.items

@@ -1,12 +1,12 @@
 //! The bytes before the banks: the first one, and the selector.
 ghost use Rattle.std.specs.Prelude.{◌≡◌, ◌⊎◌, ◌+◌, ◌-◌, ◌^◌, ◌<◌, ◌≤◌, ℕ, List, Option, IsTrue, length, vec_capacity, slice_index, OnOk, IfOk, IfErr, IsErrOf};
 ghost use Rattle.oa_disk.specs.After.{AfterCalls};
-ghost use Rattle.oa_disk.specs.Disk.{Counts, Only};
+ghost use Rattle.oa_disk.specs.Disk.{CountsFailures, Only};
 ghost use Rattle.oa_disk.specs.declared.disk.DeviceFault.{DeviceFault};
 ghost use Rattle.oa_model.specs.Limits.{max_library_bytes};
 ghost use Rattle.oa_store.specs.declared.fault.OpenFault.{OpenFault};
 ghost use Rattle.oa_store.specs.Calls.{piece_bytes};
-ghost use Rattle.oa_store.specs.Faults.{IsEarly, IsHead, IsCaused, Says, Tells};
+ghost use Rattle.oa_store.specs.Faults.{ComesOfForeign, IsHead, IsCaused, RefusalSays, DeviceTells};
 ghost use Rattle.oa_store.specs.Reads.{WritesNothing};
 ghost use Rattle.oa_journal.specs.Bank.{HasHead};
 ghost use Rattle.oa_journal.specs.Shapes.{body_bytes, disk_bytes, IsShape};
@@ -71,7 +71,7 @@ fn read_byte<D: Disk>(disk: &mut D, at: u64) -> Result<u8, DeviceFault>
     ensures reads { IsTrue (D.is_honest disk.old) → WritesNothing D.image D.moment D.image_since disk.old disk.new }
     ensures size { D.size_of disk.new ≡ D.size_of disk.old }
     ensures honest { IsTrue (D.is_honest disk.new) → IsTrue (D.is_honest disk.old) }
-    ensures counts { Counts (D.failures_of disk.old) (D.failures_of disk.new) result }
+    ensures counts { CountsFailures (D.failures_of disk.old) (D.failures_of disk.new) result }
     ensures fault { IfErr result (λ e. e ≡ DeviceFault.Read) }
     ensures calls { IsTrue (D.is_honest disk.new) → D.moment disk.new ≤ D.moment disk.old + 2 }
 {
@@ -87,14 +87,14 @@ pub(crate) fn find_bank<D: Disk>(disk: &mut D) -> Result<u8, OpenFault>
     ensures two { IfOk result (λ chosen. chosen < 2) }
     ensures big { OnOk result (store_bytes ≤ D.size_of disk.old) }
     ensures synced { OnOk result (IsTrue (D.is_honest disk.new) → Only (D.contents disk.old) (D.image disk.new)) }
-    ensures early { IfErr result IsEarly }
+    ensures early { IfErr result ComesOfForeign }
     ensures foreign { IsErrOf result OpenFault.NotAStore → IsTrue (D.is_honest disk.new)
         → IsForeign (D.size_of disk.old) (D.contents disk.old) }
     ensures contents { OnOk result (IsTrue (D.is_honest disk.new) → D.contents disk.new ≡ D.contents disk.old) }
     ensures reads { IsTrue (D.is_honest disk.new) → WritesNothing D.image D.moment D.image_since disk.old disk.new }
     ensures after { AfterCalls D.Disk disk.old disk.new result }
     ensures cause { IfErr result (IsCaused (D.failures_of disk.old) (D.failures_of disk.new)) }
-    ensures tells { IfErr result (λ e. IsTrue (D.is_honest disk.new) → Tells (D.contents disk.old) (D.image disk.old) (D.image disk.new) e) }
+    ensures tells { IfErr result (λ e. IsTrue (D.is_honest disk.new) → DeviceTells (D.contents disk.old) (D.image disk.old) (D.image disk.new) e) }
     // at most three calls
     ensures calls { IsTrue (D.is_honest disk.new) → D.moment disk.new ≤ D.moment disk.old + 6 }
 {
@@ -125,14 +125,14 @@ pub(crate) fn find_head<D: Disk>(disk: &mut D) -> Result<(u8, Head), OpenFault>
     ensures big { OnOk result (store_bytes ≤ D.size_of disk.old) }
     ensures synced { OnOk result (IsTrue (D.is_honest disk.new) → Only (D.contents disk.old) (D.image disk.new)) }
     ensures says { IfErr result (λ e. IsTrue (D.is_honest disk.new) → (wanted : Option (List ℕ))
-        → Says wanted (D.size_of disk.old) (D.contents disk.old) e) }
-    ensures early { IfErr result (λ e. IsTrue (D.is_honest disk.new) → IsForeign (D.size_of disk.old) (D.contents disk.old) → IsEarly e) }
+        → RefusalSays wanted (D.size_of disk.old) (D.contents disk.old) e) }
+    ensures early { IfErr result (λ e. IsTrue (D.is_honest disk.new) → IsForeign (D.size_of disk.old) (D.contents disk.old) → ComesOfForeign e) }
     ensures any { IfErr result IsHead }
     ensures contents { OnOk result (IsTrue (D.is_honest disk.new) → D.contents disk.new ≡ D.contents disk.old) }
     ensures reads { IsTrue (D.is_honest disk.new) → WritesNothing D.image D.moment D.image_since disk.old disk.new }
     ensures after { AfterCalls D.Disk disk.old disk.new result }
     ensures cause { IfErr result (IsCaused (D.failures_of disk.old) (D.failures_of disk.new)) }
-    ensures tells { IfErr result (λ e. IsTrue (D.is_honest disk.new) → Tells (D.contents disk.old) (D.image disk.old) (D.image disk.new) e) }
+    ensures tells { IfErr result (λ e. IsTrue (D.is_honest disk.new) → DeviceTells (D.contents disk.old) (D.image disk.old) (D.image disk.new) e) }
     ensures calls { IsTrue (D.is_honest disk.new) → D.moment disk.new ≤ D.moment disk.old + 8 }
 {
     let chosen = match find_bank(disk) {
@@ -171,13 +171,13 @@ pub(crate) fn find_room<D: Disk>(alloc: Global, disk: &mut D) -> Result<Room, Op
     ensures big { OnOk result (store_bytes ≤ D.size_of disk.old) }
     ensures synced { OnOk result (IsTrue (D.is_honest disk.new) → Only (D.contents disk.old) (D.image disk.new)) }
     ensures says { IfErr result (λ e. IsTrue (D.is_honest disk.new) → (wanted : Option (List ℕ))
-        → Says wanted (D.size_of disk.old) (D.contents disk.old) e) }
-    ensures early { IfErr result (λ e. IsTrue (D.is_honest disk.new) → IsForeign (D.size_of disk.old) (D.contents disk.old) → IsEarly e) }
+        → RefusalSays wanted (D.size_of disk.old) (D.contents disk.old) e) }
+    ensures early { IfErr result (λ e. IsTrue (D.is_honest disk.new) → IsForeign (D.size_of disk.old) (D.contents disk.old) → ComesOfForeign e) }
     ensures contents { OnOk result (IsTrue (D.is_honest disk.new) → D.contents disk.new ≡ D.contents disk.old) }
     ensures reads { IsTrue (D.is_honest disk.new) → WritesNothing D.image D.moment D.image_since disk.old disk.new }
     ensures after { AfterCalls D.Disk disk.old disk.new result }
     ensures cause { IfErr result (IsCaused (D.failures_of disk.old) (D.failures_of disk.new)) }
-    ensures tells { IfErr result (λ e. IsTrue (D.is_honest disk.new) → Tells (D.contents disk.old) (D.image disk.old) (D.image disk.new) e) }
+    ensures tells { IfErr result (λ e. IsTrue (D.is_honest disk.new) → DeviceTells (D.contents disk.old) (D.image disk.old) (D.image disk.new) e) }
     ensures calls { IsTrue (D.is_honest disk.new) → D.moment disk.new ≤ D.moment disk.old + 8 }
 {
     let chosen = match find_bank(disk) {

@@ -14,7 +14,7 @@ ghost use Rattle.oa_journal.specs.declared.shape.Shape.{Shape as AShape};
 ghost use Rattle.oa_journal.specs.declared.shape.Shape.TheVariants.{Two};
 ghost use Rattle.oa_store.specs.declared.fault.OpenFault.{OpenFault};
 ghost use Rattle.oa_store.specs.Calls.{piece_bytes};
-ghost use Rattle.oa_store.specs.Faults.{IsEarly, IsLate, IfDamaged, IsCaused, Says, Tells};
+ghost use Rattle.oa_store.specs.Faults.{ComesOfForeign, ComesOfBanks, IfDamaged, IsCaused, RefusalSays, DeviceTells};
 ghost use Rattle.oa_store.specs.Openings.{FindsAny, RefusesAny};
 ghost use Rattle.oa_store.specs.Reads.{WritesNothing};
 ghost use Rattle.oa_store.specs.Stores.{body_place, head_place, IsForeign, IsFormatted, IsStoreAt, IsStore};
@@ -52,7 +52,7 @@ fn read_library<D: Disk>(alloc: Global, disk: &mut D, bank: &mut Bank) -> Result
     ensures bank { OnOk result (bank.new ≡ bank.old) }
     ensures damaged { IfErr result (λ e. IsTrue (D.is_honest disk.new)
         → IfDamaged e (λ at. (at ≡ bank.old.head) × HasNoHeader bank.old.shape (from_place bank.old.head (D.contents disk.old)))) }
-    ensures late { IfErr result IsLate }
+    ensures late { IfErr result ComesOfBanks }
     ensures cause { IfErr result (IsCaused (D.failures_of disk.old) (D.failures_of disk.new)) }
     ensures contents { IsTrue (D.is_honest disk.new) → D.contents disk.new ≡ D.contents disk.old }
     ensures reads { IsTrue (D.is_honest disk.new) → WritesNothing D.image D.moment D.image_since disk.old disk.new }
@@ -86,7 +86,7 @@ fn read_all<D: Disk>(
     ensures bank { OnOk result (IsAt bank.old.shape bank.old.head bank.old.body bank.new.gate bank.old.stopped bank.new) }
     ensures damaged { IfErr result (λ e. IsTrue (D.is_honest disk.new)
         → IfDamaged e (IsDamagedBank bank.old.shape bank.old.head bank.old.body (D.contents disk.old))) }
-    ensures late { IfErr result IsLate }
+    ensures late { IfErr result ComesOfBanks }
     ensures cause { IfErr result (IsCaused (D.failures_of disk.old) (D.failures_of disk.new)) }
     ensures contents { IsTrue (D.is_honest disk.new) → D.contents disk.new ≡ D.contents disk.old }
     ensures reads { IsTrue (D.is_honest disk.new) → WritesNothing D.image D.moment D.image_since disk.old disk.new }
@@ -140,11 +140,11 @@ pub(crate) fn find_store<D: Disk>(
     ensures contents { OnOk result (IsTrue (D.is_honest disk.new) → D.contents disk.new ≡ D.contents disk.old) }
     ensures reads { IsTrue (D.is_honest disk.new) → WritesNothing D.image D.moment D.image_since disk.old disk.new }
     ensures says { IfErr result (λ e. IsTrue (D.is_honest disk.new)
-        → Says (Some library.now) (D.size_of disk.old) (D.contents disk.old) e) }
-    ensures early { IfErr result (λ e. IsTrue (D.is_honest disk.new) → IsForeign (D.size_of disk.old) (D.contents disk.old) → IsEarly e) }
+        → RefusalSays (Some library.now) (D.size_of disk.old) (D.contents disk.old) e) }
+    ensures early { IfErr result (λ e. IsTrue (D.is_honest disk.new) → IsForeign (D.size_of disk.old) (D.contents disk.old) → ComesOfForeign e) }
     ensures after { AfterCalls D.Disk disk.old disk.new result }
     ensures cause { IfErr result (IsCaused (D.failures_of disk.old) (D.failures_of disk.new)) }
-    ensures tells { IfErr result (λ e. IsTrue (D.is_honest disk.new) → Tells (D.contents disk.old) (D.image disk.old) (D.image disk.new) e) }
+    ensures tells { IfErr result (λ e. IsTrue (D.is_honest disk.new) → DeviceTells (D.contents disk.old) (D.image disk.old) (D.image disk.new) e) }
     ensures calls { IfOk result (λ f. IsTrue (D.is_honest disk.new)
         → D.moment disk.new + length library.now ≤ D.moment disk.old + (20 + f.bank.gate)) }
 {
@@ -202,7 +202,7 @@ pub(crate) fn look<D: Disk>(
     ensures buffer { IfOk result (λ r. length r.3.items ≡ length buffer.items) }
     ensures damaged { IfErr result (λ e. IsTrue (D.is_honest disk.new)
         → IfDamaged e (IsDamagedBank shape (head_place chosen) (body_place shape chosen) (D.contents disk.old))) }
-    ensures late { IfErr result IsLate }
+    ensures late { IfErr result ComesOfBanks }
     ensures cause { IfErr result (IsCaused (D.failures_of disk.old) (D.failures_of disk.new)) }
     ensures contents { IsTrue (D.is_honest disk.new) → D.contents disk.new ≡ D.contents disk.old }
     ensures reads { IsTrue (D.is_honest disk.new) → WritesNothing D.image D.moment D.image_since disk.old disk.new }

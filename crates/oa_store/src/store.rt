@@ -122,19 +122,19 @@ impl<D: Disk> Store<D> {
         disk
     }
 
-    /// Adds a group of events, which stands in a frame with four free bytes before it and one behind. It takes no memory, and four calls
-    /// of the disk. Of the frame, the free bytes alone may change. After `Device`, and only then, the store has stopped.
+    /// Adds a group of events, which stands in a batch with four free bytes before it and one behind. It takes no memory, and four calls
+    /// of the disk. Of the batch, the free bytes alone may change. After `Device`, and only then, the store has stopped.
     ///
     /// That the group's events apply to the committed table is a premise of what the images hold, not a condition of the call.
-    pub fn commit(&mut self, frame: &mut [u8]) -> Result<(), CommitFault>
-        requires some { 5 < length frame.old }
-        requires fits { self.old.bank.gate + length frame.old < body_bytes self.old.bank.shape }
+    pub fn commit(&mut self, batch: &mut [u8]) -> Result<(), CommitFault>
+        requires some { 5 < length batch.old }
+        requires fits { self.old.bank.gate + length batch.old < body_bytes self.old.bank.shape }
 
         // A crash at any moment leaves the store of before, with the group or without it; and at `Ok` with it.
-        ensures leaves { Leaves D.Disk (IsCommit self.old.bank.shape self.old.chosen self.old.bank.gate (group_of frame.old))
-            (IsCommitted self.old.bank.shape self.old.chosen self.old.bank.gate (group_of frame.old)) self.old.disk self.new.disk result }
-        ensures adds { AddsGroup frame.old self.old self.new result }
-        ensures kept { group_of frame.new ≡ group_of frame.old }
+        ensures leaves { Leaves D.Disk (IsCommit self.old.bank.shape self.old.chosen self.old.bank.gate (group_of batch.old))
+            (IsCommitted self.old.bank.shape self.old.chosen self.old.bank.gate (group_of batch.old)) self.old.disk self.new.disk result }
+        ensures adds { AddsGroup batch.old self.old self.new result }
+        ensures kept { group_of batch.new ≡ group_of batch.old }
         ensures stops { StopsAtFault CommitFault.Stopped CommitFault.Device self.old self.new result }
         ensures goes { Goes self.old self.new }
         // At most four calls.
@@ -143,7 +143,7 @@ impl<D: Disk> Store<D> {
         if self.stopped {
             return Err(CommitFault::Stopped);
         }
-        match self.bank.append(&mut self.disk, frame) {
+        match self.bank.append(&mut self.disk, batch) {
             Ok(()) => Ok(()),
             Err(AppendFault::Device(fault)) => {
                 self.stopped = true;

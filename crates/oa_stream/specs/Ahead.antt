@@ -7,18 +7,18 @@ use Rattle.oa_stream.specs.declared.ahead.More.TheVariants as more
 use Rattle.oa_stream.specs.Source.{Input, later}
 
 -- what was read ahead
-abbrev pub held : {R : Type 0} → Ahead R → List ℕ
-held a = slice_range a.front.bytes.items a.front.from a.front.to
+abbrev pub read_ahead : {R : Type 0} → Ahead R → List ℕ
+read_ahead a = slice_range a.front.bytes.items a.front.from a.front.to
 
 -- a reader with these bytes before all that it has left
 abbrev pub with_front : List ℕ → Input → Input
 with_front front i = record { left = prepend_known front i.left; calls = i.calls; faulted = i.faulted; steady = i.steady }
 
 abbrev pub ahead : {R : Type 0} → (R → Input) → Ahead R → Input
-ahead input a = with_front (held a) (input a.reader)
+ahead input a = with_front (read_ahead a) (input a.reader)
 
 -- these bytes were taken, and the reader was not called
-pub record Takes (bytes : List ℕ) (old new : Input) : Type 0 where
+pub record TakesAhead (bytes : List ℕ) (old new : Input) : Type 0 where
   pub taken : Consumes old.left new.left bytes
   pub clock : new.calls ≡ old.calls
   pub fault : new.faulted ≡ old.faulted

@@ -7,8 +7,8 @@ use Rattle.oa_stream.specs.Source.{Input, in_memory}
 use Rattle.oa_stream.specs.Sink.{Output}
 
 -- the bytes of the vector have left; it takes what its capacity has room for
-abbrev pub gathered : Gathered → Output
-gathered g = record {
+abbrev pub gathered_output : Gathered → Output
+gathered_output g = record {
   reached = Some g.bytes.items;
   kept = [];
   flushed = true;

@@ -25,11 +25,11 @@ abbrev pub in_memory : List ℕ → Input
 in_memory bytes = record { left = Some bytes; calls = most_calls; faulted = false; steady = true }
 
 -- the first of the bytes to come are at the start of the buffer, or there are none, or nothing came
-abbrev pub Gives : Next → Option (List ℕ) → Option (List ℕ) → List ℕ → Type 0
-Gives (Bytes n) old new buffer = (0 < n) × (n ≤ length buffer) × Consumes old new (take n buffer)
-Gives End old new buffer = Keeps old new × IsAtEnd new
-Gives Again old new buffer = Keeps old new
-Gives Fault old new buffer = Keeps old new
+abbrev pub GivesNext : Next → Option (List ℕ) → Option (List ℕ) → List ℕ → Type 0
+GivesNext (Bytes n) old new buffer = (0 < n) × (n ≤ length buffer) × Consumes old new (take n buffer)
+GivesNext End old new buffer = Keeps old new × IsAtEnd new
+GivesNext Again old new buffer = Keeps old new
+GivesNext Fault old new buffer = Keeps old new
 
 abbrev pub is_fault : Next → Bool
 is_fault (Bytes n) = false
@@ -46,23 +46,23 @@ IsOn Fault = ⊥
 
 -- one call into a buffer
 pub record Fills (result : Next) (old new : Input) (buffer : List ℕ) : Type 0 where
-  pub bytes : Gives result old.left new.left buffer
+  pub bytes : GivesNext result old.left new.left buffer
   pub clock : new.calls ≡ later 1 old.calls
   pub fault : new.faulted ≡ is_fault result
   pub on : old.steady ≡ true → IsOn result
   pub steady : old.steady ≡ true → new.steady ≡ true
 
 -- what stands in a buffer that one call filled anew
-abbrev pub Holds : Next → Option (List ℕ) → List ℕ → Type 0
-Holds (Bytes n) left front = 0 < length front
-Holds End left front = (front ≡ []) × IsAtEnd left
-Holds Again left front = front ≡ []
-Holds Fault left front = front ≡ []
+abbrev pub FillsBuffer : Next → Option (List ℕ) → List ℕ → Type 0
+FillsBuffer (Bytes n) left front = 0 < length front
+FillsBuffer End left front = (front ≡ []) × IsAtEnd left
+FillsBuffer Again left front = front ≡ []
+FillsBuffer Fault left front = front ≡ []
 
 -- one call into a buffer, of which these bytes are not taken yet
 pub record Loads (result : Next) (old new : Input) (front : List ℕ) : Type 0 where
   pub kept : Keeps old.left (prepend_known front new.left)
-  pub holds : Holds result new.left front
+  pub holds : FillsBuffer result new.left front
   pub clock : new.calls ≡ later 1 old.calls
   pub fault : new.faulted ≡ is_fault result
   pub on : old.steady ≡ true → IsOn result

@@ -1,6 +1,6 @@
 //! A buffer between a reader and its caller.
 ghost use Rattle.std.specs.Prelude.{◌≡◌, ◌≤◌, [], false, length, drop, take, IfOk};
-ghost use Rattle.oa_stream.specs.Ahead.{Takes, Waits, ahead, held};
+ghost use Rattle.oa_stream.specs.Ahead.{TakesAhead, Waits, ahead, read_ahead};
 ghost use Rattle.oa_stream.specs.Sink.{IsHandedOn};
 
 use crate::stretch::Front;
@@ -32,7 +32,7 @@ pub struct Ahead<R> {
 impl<R: Source + Drop> Ahead<R> {
     /// A reader of which nothing was read ahead. Err where the 8,192 bytes are refused.
     pub fn new(alloc: Global, reader: R) -> Result<Ahead<R>, AllocError>
-        ensures { IfOk result (λ a. (a.reader ≡ reader) × (held a ≡ [])) }
+        ensures { IfOk result (λ a. (a.reader ≡ reader) × (read_ahead a ≡ [])) }
     {
         let front = Front::new(alloc)?;
         Ok(Ahead { reader, front })
@@ -40,16 +40,16 @@ impl<R: Source + Drop> Ahead<R> {
 
     /// What was read ahead.
     pub fn buffered(&self) -> &[u8]
-        ensures { result.now ≡ held self.now }
+        ensures { result.now ≡ read_ahead self.now }
     {
         self.front.held()
     }
 
     /// Takes the first `count` bytes of what was read ahead, with no call of the reader.
     pub fn advance(&mut self, count: usize)
-        requires { count ≤ length (held self.old) }
-        ensures held { held self.new ≡ drop count (held self.old) }
-        ensures taken { Takes (take count (held self.old)) (ahead R.input self.old) (ahead R.input self.new) }
+        requires { count ≤ length (read_ahead self.old) }
+        ensures held { read_ahead self.new ≡ drop count (read_ahead self.old) }
+        ensures taken { TakesAhead (take count (read_ahead self.old)) (ahead R.input self.old) (ahead R.input self.new) }
     {
         self.front.advance(count);
     }
@@ -58,10 +58,10 @@ impl<R: Source + Drop> Ahead<R> {
     ///
     /// The writer has handed on all that was put: whoever sends what is read here may first wait for it.
     pub fn more<W: Sink>(&mut self, writer: &W) -> More
-        requires none { held self.old ≡ [] }
+        requires none { read_ahead self.old ≡ [] }
         requires unbroken { (ahead R.input self.old).faulted ≡ false }
         requires quiet { IsHandedOn (W.out writer.now) }
-        ensures { Waits result (ahead R.input self.old) (ahead R.input self.new) (held self.new) }
+        ensures { Waits result (ahead R.input self.old) (ahead R.input self.new) (read_ahead self.new) }
     {
         let _ = writer;
         match self.front.load(&mut self.reader) {

@@ -1,7 +1,7 @@
 //! A writer in memory.
 ghost use Rattle.std.specs.Prelude.{◌≡◌, false};
 ghost use Rattle.std.proofs.Common.{le_refl};
-ghost use Rattle.oa_stream.specs.Memory.{gathered};
+ghost use Rattle.oa_stream.specs.Memory.{gathered_output};
 
 use crate::{Sink, Unwritten};
 
@@ -33,7 +33,7 @@ impl Gathered {
 }
 
 impl Sink for Gathered {
-    ghost out = { gathered };
+    ghost out = { gathered_output };
 
     ghost keeps = { λ _. le_refl 0 };
 

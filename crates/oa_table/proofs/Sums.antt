@@ -15,7 +15,7 @@ use Rattle.std.proofs.lemmas.List.Sums.{sum_by-append, sum_by-set, sum_by-take-d
 use Rattle.std.proofs.lemmas.Map.Entries.{sum_by-insert_entry, sum_by-remove_entry, sum_by-set_value}
 use Rattle.std.proofs.lemmas.Option.{get_or_from_slice_get, slice_get_within}
 use Rattle.oa_model.specs.declared.bound.Bound.{Bound}
-use Rattle.oa_array.specs.Arrays.{ArrayValue, cell_at as array_cell_at, kept_by_position, redimensioned, with_cell, with_first, with_locks}
+use Rattle.oa_array.specs.Arrays.{ArrayValue, array_element as array_cell_at, kept_by_position, redimensioned, with_cell, with_first, with_locks}
 use Rattle.oa_array.specs.Boxes.{box_size, position_of}
 use Rattle.oa_array.specs.Boxes.{InBounds}
 use Rattle.oa_array.specs.Within.{in_bounds}
@@ -32,14 +32,14 @@ use Rattle.oa_array.specs.declared.fault.ArrayFault.TheVariants as arrays
 use Rattle.oa_table.specs.declared.fault.TableFault.{TableFault}
 use Rattle.oa_table.specs.declared.fault.TableFault.TheVariants.{Array}
 use Rattle.oa_table.specs.declared.name.CellName.{CellName}
-use Rattle.oa_table.specs.Elements.{element_put, locked_value, locks_of, redimensioned_value, released_value, replaced_value}
+use Rattle.oa_table.specs.Elements.{with_element_put, locked_value, locks_of, redimensioned_value, released_value, replaced_value}
 use Rattle.oa_table.specs.declared.event.Event.TheVariants.{Create, Release}
 use Rattle.oa_table.specs.Events.{applied, on_object, released_if_live, with_object}
 use Rattle.oa_table.specs.Locks.{locked_in, locks_at, with_lock, without_lock}
 use Rattle.oa_table.specs.Objects.{locks_of_cell, with_change, with_put, with_value}
-use Rattle.oa_table.specs.Outcomes.{Counts, mapped}
+use Rattle.oa_table.specs.Outcomes.{CountsLocks, mapped}
 use Rattle.oa_table.specs.Places.{PlaceValue, place_cmp, places_total}
-use Rattle.oa_table.specs.Sizes.{IsKept, array_size, cell_size, element_size, largest_image, object_size, place_size, size_due, size_in}
+use Rattle.oa_table.specs.Sizes.{HasKeptSize, array_size, cell_size, element_size, largest_image, object_size, place_size, size_due, size_in}
 use Rattle.oa_table.specs.Sizes.{table_size, value_size}
 use Rattle.oa_table.specs.Tables.{ObjectValue, TableValue, cell_at, object_at}
 use Rattle.oa_table.proofs.Entries.{put_new, put_there, put_within, set_weight}
@@ -101,12 +101,12 @@ redim_sum a bound n gone come some is h =
 -- ---- values
 
 pub element_due : (a : ArrayValue Scalar) (index : List ℤ) (old new : Scalar) → InBounds a.bounds index → array_cell_at a index ≡ Some old → fits_type new a.elem ≡ true
-    → size_due value_size (element_put index new (AnArray a)) (AnArray a) + element_size a.elem old ≡ value_size (AnArray a) + element_size a.elem new
+    → size_due value_size (with_element_put index new (AnArray a)) (AnArray a) + element_size a.elem old ≡ value_size (AnArray a) + element_size a.elem new
 unfolding value_size
 element_due a index old new within there fits = rw ((in_bounds_tells a.bounds index).1 within, fits) (element_sum a index old new there)
 
 pub outside_due : (a : ArrayValue Scalar) (index : List ℤ) (new : Scalar) → (InBounds a.bounds index → ⊥)
-    → size_due value_size (element_put index new (AnArray a)) (AnArray a) ≡ value_size (AnArray a)
+    → size_due value_size (with_element_put index new (AnArray a)) (AnArray a) ≡ value_size (AnArray a)
 outside_due a index new outside = rw (false_from_ne_true (in_bounds a.bounds index) (λ e. outside ((in_bounds_tells a.bounds index).0 e))) refl
 
 pub redim_due : (a : ArrayValue Scalar) (bound : Bound) (n gone come : ℕ) → 0 < length a.bounds → a.locks ≡ 0 → n ≡ box_size (with_first bound a.bounds) → n ≤ max_cells
@@ -287,17 +287,17 @@ object_keeps number change keeps t = by (object_at number t) refl
 -- ---- what is kept
 
 -- after a change that was made
-pub kept_after : (due : Result TableValue TableFault) (old new : TableValue) (size : ℕ) → size ≡ size_due table_size due old → due ≡ Ok new → size ≤ largest_image → IsKept new size
+pub kept_after : (due : Result TableValue TableFault) (old new : TableValue) (size : ℕ) → size ≡ size_due table_size due old → due ≡ Ok new → size ≤ largest_image → HasKeptSize new size
 kept_after due old new size is made small = record { sum = rw made at is; small = small }
 
-counted_keeps : (due : Result TableValue TableFault) (count : TableValue → ℕ) (old new : TableValue) (size : ℕ) (result : Result ℕ TableFault) → KeepsSize table_size due old → IsKept old size → Counts due count old new result → IsKept new size
+counted_keeps : (due : Result TableValue TableFault) (count : TableValue → ℕ) (old new : TableValue) (size : ℕ) (result : Result ℕ TableFault) → KeepsSize table_size due old → HasKeptSize old size → CountsLocks due count old new result → HasKeptSize new size
 counted_keeps due count old new size (Ok n) keeps kept h = kept_after due old new size (kept.sum ∙ sym keeps) h.0 kept.small
-counted_keeps due count old new size (Err fault) keeps kept h = subst (λ t. IsKept t size) (sym h.1) kept
+counted_keeps due count old new size (Err fault) keeps kept h = subst (λ t. HasKeptSize t size) (sym h.1) kept
 
-pub kept_locked : (name : CellName) (old new : TableValue) (size : ℕ) (result : Result ℕ TableFault) → IsKept old size → Counts (with_lock name old) (locks_at name) old new result → IsKept new size
+pub kept_locked : (name : CellName) (old new : TableValue) (size : ℕ) (result : Result ℕ TableFault) → HasKeptSize old size → CountsLocks (with_lock name old) (locks_at name) old new result → HasKeptSize new size
 kept_locked name old new size result kept h =
     counted_keeps (with_lock name old) (locks_at name) old new size result (object_keeps name.object (with_change name.place locked_value) (cell_keeps name.place locked_value lock_keeps) old) kept h
 
-pub kept_unlocked : (name : CellName) (old new : TableValue) (size : ℕ) (result : Result ℕ TableFault) → IsKept old size → Counts (without_lock name old) (locks_at name) old new result → IsKept new size
+pub kept_unlocked : (name : CellName) (old new : TableValue) (size : ℕ) (result : Result ℕ TableFault) → HasKeptSize old size → CountsLocks (without_lock name old) (locks_at name) old new result → HasKeptSize new size
 kept_unlocked name old new size result kept h =
     counted_keeps (without_lock name old) (locks_at name) old new size result (object_keeps name.object (with_change name.place released_value) (cell_keeps name.place released_value unlock_keeps) old) kept h

@@ -24,7 +24,7 @@ use Rattle.oa_table.specs.declared.event.Event.{Event}
 use Rattle.oa_table.specs.declared.event.Event.TheVariants.{Create, Release, Put, PutElement, Redim}
 use Rattle.oa_table.specs.declared.fault.TableFault.{TableFault}
 use Rattle.oa_table.specs.declared.fault.TableFault.TheVariants.{Array, WrongNumber}
-use Rattle.oa_table.specs.Elements.{element_put, locks_in, locks_of, redimensioned_value}
+use Rattle.oa_table.specs.Elements.{with_element_put, locks_in, locks_of, redimensioned_value}
 use Rattle.oa_table.specs.Events.{BringsNoLocks, applied, changed_if_live, on_object, released_if_live, with_object}
 use Rattle.oa_table.specs.Objects.{any_locked, changed_if_put, with_change, with_put, with_value}
 use Rattle.oa_table.specs.Outcomes.{mapped}
@@ -69,7 +69,7 @@ module _ {K X : Type 0} (g : X → X) where
 abbrev Follows : {A : Type 0} → (A → A) → (A → Result A TableFault) → A → Type 0
 Follows g change x = IfOk (change x) (λ new. change (g x) ≡ Ok (g new))
 
-element_follows : (index : List ℤ) (element : Scalar) (value : Variant) → Follows unlocked (element_put index element) value
+element_follows : (index : List ℤ) (element : Scalar) (value : Variant) → Follows unlocked (with_element_put index element) value
 element_follows index element (One s) = tt
 element_follows index element (AnArray a) = by (in_bounds a.bounds index) (fits_type element a.elem)
   where
@@ -176,5 +176,5 @@ pub event_follows : (event : Event) (table : TableValue) → BringsNoLocks event
 event_follows (Create number class) table h = create_follows number table class
 event_follows (Release number) table h = release_follows number table
 event_follows (Put name value) table h = object_follows name.object table (with_put name.place value) (λ object. put_follows name.place object value h)
-event_follows (PutElement name index value) table h = object_follows name.object table (with_change name.place (element_put index value)) (λ object. change_follows name.place object (element_put index value) (element_follows index value))
+event_follows (PutElement name index value) table h = object_follows name.object table (with_change name.place (with_element_put index value)) (λ object. change_follows name.place object (with_element_put index value) (element_follows index value))
 event_follows (Redim name bound) table h = object_follows name.object table (with_change name.place (redimensioned_value bound)) (λ object. change_follows name.place object (redimensioned_value bound) (redim_follows bound))

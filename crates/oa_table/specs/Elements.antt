@@ -31,9 +31,9 @@ abbrev pub replaced_value : Variant → Variant → Result Variant TableFault
 replaced_value value old = if locks_of old == 0 then Ok value else Err (Array arrays.IsLocked)
 
 -- an element is set: the index list has to lie in the bounds, and then the element to be of the array's type
-abbrev pub element_put : List ℤ → Scalar → Variant → Result Variant TableFault
-element_put index element (One s) = Err NotArray
-element_put index element (AnArray a) =
+abbrev pub with_element_put : List ℤ → Scalar → Variant → Result Variant TableFault
+with_element_put index element (One s) = Err NotArray
+with_element_put index element (AnArray a) =
     if in_bounds a.bounds index
     then (if fits_type element a.elem then Ok (AnArray (with_cell a index element)) else Err (Array arrays.TypeMismatch))
     else Err (Array arrays.BadIndex)

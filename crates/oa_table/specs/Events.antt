@@ -9,7 +9,7 @@ use Rattle.oa_table.specs.declared.event.Event.{Event}
 use Rattle.oa_table.specs.declared.event.Event.TheVariants.{Create, Release, Put, PutElement, Redim}
 use Rattle.oa_table.specs.declared.fault.TableFault.{TableFault}
 use Rattle.oa_table.specs.declared.fault.TableFault.TheVariants.{Array, NoObject, WrongNumber}
-use Rattle.oa_table.specs.Elements.{element_put, locks_of, redimensioned_value}
+use Rattle.oa_table.specs.Elements.{with_element_put, locks_of, redimensioned_value}
 use Rattle.oa_table.specs.Objects.{any_locked, with_change, with_put}
 use Rattle.oa_table.specs.Outcomes.{mapped}
 use Rattle.oa_table.specs.Tables.{ObjectValue, TableValue, object_at}
@@ -48,7 +48,7 @@ abbrev pub applied : Event → TableValue → Result TableValue TableFault
 applied (Create number class) table = created number (record { class = class; cells = [] }) table
 applied (Release number) table = released number table
 applied (Put name value) table = on_object name.object (with_put name.place value) table
-applied (PutElement name index value) table = on_object name.object (with_change name.place (element_put index value)) table
+applied (PutElement name index value) table = on_object name.object (with_change name.place (with_element_put index value)) table
 applied (Redim name bound) table = on_object name.object (with_change name.place (redimensioned_value bound)) table
 
 -- locks are those of a session: no event brings any

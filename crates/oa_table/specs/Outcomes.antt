@@ -14,9 +14,9 @@ Does change due old new (Ok u) = due ≡ Ok new
 Does change due old new (Err (back, fault)) = (back ≡ change) × (new ≡ old) × Because due fault
 
 -- The same of a change of locks: it takes no memory, and answers the new count.
-abbrev pub Counts : {T : Type 0} → Result T TableFault → (T → ℕ) → T → T → Result ℕ TableFault → Type 0
-Counts due count old new (Ok n) = (due ≡ Ok new) × (n ≡ count new)
-Counts due count old new (Err fault) = (due ≡ Err fault) × (new ≡ old)
+abbrev pub CountsLocks : {T : Type 0} → Result T TableFault → (T → ℕ) → T → T → Result ℕ TableFault → Type 0
+CountsLocks due count old new (Ok n) = (due ≡ Ok new) × (n ≡ count new)
+CountsLocks due count old new (Err fault) = (due ≡ Err fault) × (new ≡ old)
 
 -- what is due of a whole, where this is due of a part
 abbrev pub mapped : {A B : Type 0} → (A → B) → Result A TableFault → Result B TableFault

@@ -116,6 +116,6 @@ abbrev pub largest_image : ℕ
 largest_image = 9223372036854775807
 
 -- what is kept beside a table
-pub record IsKept (table : TableValue) (size : ℕ) : Type 0 where
+pub record HasKeptSize (table : TableValue) (size : ℕ) : Type 0 where
   pub sum : size ≡ table_size table
   pub small : size ≤ largest_image

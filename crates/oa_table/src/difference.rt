@@ -3,7 +3,7 @@ ghost use Rattle.std.specs.Prelude.{◌≡◌, ◌≤◌, ◌+◌};
 ghost use Rattle.std.specs.List.{sum_by};
 ghost use Rattle.oa_array.specs.Arrays.{kept_by_position};
 ghost use Rattle.oa_model.specs.Limits.{max_cells};
-ghost use Rattle.oa_table.specs.Elements.{element_put, redimensioned_value};
+ghost use Rattle.oa_table.specs.Elements.{with_element_put, redimensioned_value};
 ghost use Rattle.oa_table.specs.Sizes.{element_size, largest_value, size_due, value_size};
 ghost use Rattle.oa_variant.specs.Scalars.{zero_of};
 ghost use Rattle.oa_variant.specs.declared.variant.Variant.TheVariants as variants;
@@ -31,7 +31,7 @@ pub(crate) fn no_difference() -> Difference
 /// An element of the array in a value is set.
 #[tactic(auto, unfolding(crate::specs::Sizes::value_size))]
 pub(crate) fn element_difference(value: &Variant, index: &[i32], element: &Scalar) -> Difference
-    ensures size { size_due value_size (element_put index.now element.now value.now) value.now + result.gone
+    ensures size { size_due value_size (with_element_put index.now element.now value.now) value.now + result.gone
         ≡ value_size value.now + result.come }
     ensures small { result.come ≤ largest_value }
 {
@@ -44,7 +44,7 @@ pub(crate) fn element_difference(value: &Variant, index: &[i32], element: &Scala
 #[tactic(auto, unfolding(crate::specs::Sizes::value_size))]
 fn element_set(array: &SafeArray<Scalar>, index: &[i32], element: &Scalar) -> Difference
     ensures size { let value = variants.Array array.now in
-        size_due value_size (element_put index.now element.now value) value + result.gone ≡ value_size value + result.come }
+        size_due value_size (with_element_put index.now element.now value) value + result.gone ≡ value_size value + result.come }
     ensures small { result.come ≤ largest_value }
 {
     let elem = array.elem();

@@ -1,6 +1,6 @@
 //! Why a change of a table is refused.
 ghost use Rattle.std.specs.Prelude.{◌≡◌};
-ghost use Rattle.oa_table.specs.Faults.{code_of};
+ghost use Rattle.oa_table.specs.Faults.{table_code};
 
 use oa_array::ArrayFault;
 use oa_model::HResult;
@@ -29,7 +29,7 @@ pub enum TableFault {
 impl TableFault {
     /// The code of a reply with this refusal (MS-ERREF section 2.1).
     pub fn code(self) -> HResult
-        ensures { result ≡ code_of self }
+        ensures { result ≡ table_code self }
     {
         match self {
             TableFault::NoObject => HResult::RPC_E_DISCONNECTED,

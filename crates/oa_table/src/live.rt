@@ -3,9 +3,9 @@ ghost use Rattle.std.specs.Prelude.{◌≡◌, ◌≤◌, ◌+◌, [], None, IfO
 ghost use Rattle.std.specs.List.Sorted.{IsStrictlySortedBy};
 ghost use Rattle.std.specs.Map.{keys_of};
 ghost use Rattle.std.specs.Option.{option_map};
-ghost use Rattle.oa_table.specs.Elements.{element_put, locked_value, redimensioned_value, released_value};
+ghost use Rattle.oa_table.specs.Elements.{with_element_put, locked_value, redimensioned_value, released_value};
 ghost use Rattle.oa_table.specs.Objects.{any_locked, locks_of_cell, with_change, with_put};
-ghost use Rattle.oa_table.specs.Outcomes.{Counts, Does};
+ghost use Rattle.oa_table.specs.Outcomes.{CountsLocks, Does};
 ghost use Rattle.oa_table.specs.Places.{place_cmp};
 ghost use Rattle.oa_table.specs.Sizes.{largest_cell, largest_object, object_size, size_due};
 ghost use Rattle.oa_table.specs.Tables.{cell_at};
@@ -128,7 +128,7 @@ impl LiveObject {
         index: &[i32],
         element: &Scalar,
     ) -> Difference
-        ensures size { size_due object_size (with_change place.now (element_put index.now element.now) self.now) self.now + result.gone
+        ensures size { size_due object_size (with_change place.now (with_element_put index.now element.now) self.now) self.now + result.gone
             ≡ object_size self.now + result.come }
         ensures small { result.come ≤ largest_cell }
     {
@@ -207,7 +207,7 @@ impl LiveObject {
         index: &[i32],
         element: Scalar,
     ) -> Result<(), (Scalar, TableFault)>
-        ensures { Does element (with_change place.now (element_put index.now element) self.old) self.old self.new result }
+        ensures { Does element (with_change place.now (with_element_put index.now element) self.old) self.old self.new result }
     {
         let Some(value) = self.cells.get_mut(place) else {
             return Err((element, TableFault::NotArray));
@@ -232,7 +232,7 @@ impl LiveObject {
 
     /// Adds a lock of the array in a cell, and answers the new count.
     pub(crate) fn lock(&mut self, place: &Place) -> Result<u16, TableFault>
-        ensures { Counts (with_change place.now locked_value self.old) (locks_of_cell place.now) self.old self.new result }
+        ensures { CountsLocks (with_change place.now locked_value self.old) (locks_of_cell place.now) self.old self.new result }
     {
         let Some(value) = self.cells.get_mut(place) else {
             return Err(TableFault::NotArray);
@@ -242,7 +242,7 @@ impl LiveObject {
 
     /// Takes a lock of the array in a cell away, and answers the new count.
     pub(crate) fn unlock(&mut self, place: &Place) -> Result<u16, TableFault>
-        ensures { Counts (with_change place.now released_value self.old) (locks_of_cell place.now) self.old self.new result }
+        ensures { CountsLocks (with_change place.now released_value self.old) (locks_of_cell place.now) self.old self.new result }
     {
         let Some(value) = self.cells.get_mut(place) else {
             return Err(TableFault::NotArray);

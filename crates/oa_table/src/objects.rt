@@ -4,11 +4,11 @@ ghost use Rattle.std.specs.List.Sorted.{IsStrictlySortedBy};
 ghost use Rattle.std.specs.Map.{keys_of};
 ghost use Rattle.std.specs.Option.{option_map};
 ghost use Rattle.std.specs.Ordering.{nat_cmp};
-ghost use Rattle.oa_table.specs.Elements.{element_put, redimensioned_value};
+ghost use Rattle.oa_table.specs.Elements.{with_element_put, redimensioned_value};
 ghost use Rattle.oa_table.specs.Events.{BringsNoLocks, applied};
 ghost use Rattle.oa_table.specs.Locks.{locked_in, locks_at, with_lock, without_lock};
 ghost use Rattle.oa_table.specs.Objects.{with_change};
-ghost use Rattle.oa_table.specs.Outcomes.{Counts, Does};
+ghost use Rattle.oa_table.specs.Outcomes.{CountsLocks, Does};
 ghost use Rattle.oa_table.specs.Parts.{table_of};
 ghost use Rattle.oa_table.specs.Sizes.{largest_cell, table_size};
 ghost use Rattle.oa_table.specs.Tables.{first_table, object_at};
@@ -135,7 +135,7 @@ impl Objects {
     /// Adds a lock of the array in a cell, and answers the new count. NoObject where there is no such object, NotArray where the cell was
     /// never put or holds no array, and else what the array refuses. Takes no memory.
     pub(crate) fn lock(&mut self, name: &CellName) -> Result<u16, TableFault>
-        ensures { Counts (with_lock name.now self.old) (locks_at name.now) self.old self.new result }
+        ensures { CountsLocks (with_lock name.now self.old) (locks_at name.now) self.old self.new result }
     {
         let Some(found) = self.objects.get_mut(&name.object) else {
             return Err(TableFault::NoObject);
@@ -145,7 +145,7 @@ impl Objects {
 
     /// Takes a lock of the array in a cell away, and answers the new count. Refused as `lock` is. Takes no memory.
     pub(crate) fn unlock(&mut self, name: &CellName) -> Result<u16, TableFault>
-        ensures { Counts (without_lock name.now self.old) (locks_at name.now) self.old self.new result }
+        ensures { CountsLocks (without_lock name.now self.old) (locks_at name.now) self.old self.new result }
     {
         let Some(found) = self.objects.get_mut(&name.object) else {
             return Err(TableFault::NoObject);

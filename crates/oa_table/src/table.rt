@@ -7,7 +7,7 @@ ghost use Rattle.std.specs.Ordering.{nat_cmp};
 ghost use Rattle.oa_table.specs.Elements.{locks_of};
 ghost use Rattle.oa_table.specs.Events.{BringsNoLocks, applied};
 ghost use Rattle.oa_table.specs.Locks.{locked_in, locks_at, with_lock, without_lock};
-ghost use Rattle.oa_table.specs.Outcomes.{Counts, Does};
+ghost use Rattle.oa_table.specs.Outcomes.{CountsLocks, Does};
 ghost use Rattle.oa_table.specs.Parts.{AreParts, table_of};
 ghost use Rattle.oa_table.specs.Sizes as sizes;
 ghost use Rattle.oa_table.specs.Sizes.{largest_image, size_in, table_size};
@@ -43,14 +43,14 @@ pub struct Table {
 }
 
 impl Model for Table {
-    ghost use Rattle.oa_table.specs.Sizes.{IsKept};
+    ghost use Rattle.oa_table.specs.Sizes.{HasKeptSize};
     ghost use Rattle.oa_table.specs.Tables.{TableValue};
 
     ghost Value = { TableValue };
 
     ghost view = { λ t. t.objects };
 
-    ghost invariant = { λ t. IsKept t.objects t.size };
+    ghost invariant = { λ t. HasKeptSize t.objects t.size };
 }
 
 impl Table {
@@ -333,14 +333,14 @@ impl Table {
     /// Adds a lock of the array in a cell, and answers the new count. NoObject where there is no such object, NotArray where the cell was
     /// never put or holds no array, and else what the array refuses. Takes no memory.
     pub fn lock(&mut self, name: &CellName) -> Result<u16, TableFault>
-        ensures { Counts (with_lock name.now self.old) (locks_at name.now) self.old self.new result }
+        ensures { CountsLocks (with_lock name.now self.old) (locks_at name.now) self.old self.new result }
     {
         self.objects.lock(name)
     }
 
     /// Takes a lock of the array in a cell away, and answers the new count. Refused as `lock` is. Takes no memory.
     pub fn unlock(&mut self, name: &CellName) -> Result<u16, TableFault>
-        ensures { Counts (without_lock name.now self.old) (locks_at name.now) self.old self.new result }
+        ensures { CountsLocks (without_lock name.now self.old) (locks_at name.now) self.old self.new result }
     {
         self.objects.unlock(name)
     }

@@ -1,9 +1,9 @@
 //! Changes of the value in a cell.
 ghost use Rattle.std.specs.Prelude.{◌≡◌, ◌≤◌, IfOk};
 ghost use Rattle.oa_variant.specs.declared.variant.Variant.TheVariants as variants;
-ghost use Rattle.oa_table.specs.Elements.{element_put, locked_value, locks_of, of_array, redimensioned_value, released_value};
+ghost use Rattle.oa_table.specs.Elements.{with_element_put, locked_value, locks_of, of_array, redimensioned_value, released_value};
 ghost use Rattle.oa_table.specs.Elements.{replaced_value};
-ghost use Rattle.oa_table.specs.Outcomes.{Counts, Does};
+ghost use Rattle.oa_table.specs.Outcomes.{CountsLocks, Does};
 ghost use Rattle.oa_table.specs.Sizes.{largest_value, value_size};
 
 use crate::TableFault;
@@ -49,7 +49,7 @@ pub(crate) fn put_element(
     index: &[i32],
     element: Scalar,
 ) -> Result<(), (Scalar, TableFault)>
-    ensures { Does element (element_put index.now element value.old) value.old value.new result }
+    ensures { Does element (with_element_put index.now element value.old) value.old value.new result }
 {
     match value {
         Variant::One(_) => Err((element, TableFault::NotArray)),
@@ -62,7 +62,7 @@ fn put_into(
     index: &[i32],
     element: Scalar,
 ) -> Result<(), (Scalar, TableFault)>
-    ensures { Does element (element_put index.now element (variants.Array array.old))
+    ensures { Does element (with_element_put index.now element (variants.Array array.old))
         (variants.Array array.old) (variants.Array array.new) result }
 {
     let _fits = element.fits(array.elem());
@@ -101,7 +101,7 @@ fn of_array(fault: ArrayFault) -> TableFault
 
 /// Adds a lock of the array, and answers the new count.
 pub(crate) fn lock(value: &mut Variant) -> Result<u16, TableFault>
-    ensures { Counts (locked_value value.old) locks_of value.old value.new result }
+    ensures { CountsLocks (locked_value value.old) locks_of value.old value.new result }
 {
     match value {
         Variant::One(_) => Err(TableFault::NotArray),
@@ -114,7 +114,7 @@ pub(crate) fn lock(value: &mut Variant) -> Result<u16, TableFault>
 
 /// Takes a lock of the array away, and answers the new count.
 pub(crate) fn unlock(value: &mut Variant) -> Result<u16, TableFault>
-    ensures { Counts (released_value value.old) locks_of value.old value.new result }
+    ensures { CountsLocks (released_value value.old) locks_of value.old value.new result }
 {
     match value {
         Variant::One(_) => Err(TableFault::NotArray),

@@ -18,13 +18,13 @@ use Rattle.oa_table.specs.declared.event.Event.{Event}
 use Rattle.oa_table.specs.declared.fault.TableFault.{TableFault}
 use Rattle.oa_table.specs.declared.fault.TableFault.TheVariants.{Memory, NoObject, WrongNumber, NotArray, Array}
 use Rattle.oa_table.specs.Events.{applied}
-use Rattle.oa_table.specs.Faults.{code_of}
+use Rattle.oa_table.specs.Faults.{table_code}
 use Rattle.oa_table.specs.Outcomes.{Because}
 use Rattle.oa_table.specs.Tables.{TableValue, first_table, unlocked_table}
 use Rattle.oa_turn.specs.declared.decision.LockChange.{LockChange}
 use Rattle.oa_turn.specs.declared.decision.LockChange.TheVariants.{Lock, Unlock}
 use Rattle.oa_turn.specs.Decisions.{relocked}
-use Rattle.oa_turn.specs.Limits.{IsSound, allowed, limited, within_limits}
+use Rattle.oa_turn.specs.Limits.{IsSoundTable, allowed, limited, within_limits}
 
 -- a table that is allowed
 pub record IsWithin (bank : ℕ) (event : Event) (made new : TableValue) : Type 0 where
@@ -89,10 +89,10 @@ is_allowed bank event old new ok at = by (allowed bank event old) refl ok
 below : (bank n m : ℕ) → n + reserved_bytes ≤ bank → m ≤ bank - reserved_bytes → m + reserved_bytes ≤ bank
 below bank n m was is = omega (arith, was, is)
 
-pub stays_sound : (bank : ℕ) (event : Event) (old new : TableValue) → IsSound bank old → IsOk (allowed bank event old) → applied event old ≡ Ok new → IsSound bank new
+pub stays_sound : (bank : ℕ) (event : Event) (old new : TableValue) → IsSoundTable bank old → IsOk (allowed bank event old) → applied event old ≡ Ok new → IsSoundTable bank new
 stays_sound bank event old new sound ok at = record { numbered = numbers_stay event old new sound.numbered at; small = below bank (length (table_image old)) (length (table_image new)) sound.small (is_allowed bank event old new ok at).table_small }
 
-pub allowed_sound : (bank : ℕ) (event : Event) (old new : TableValue) → IsSound bank old → allowed bank event old ≡ Ok new → IsSound bank new
+pub allowed_sound : (bank : ℕ) (event : Event) (old new : TableValue) → IsSoundTable bank old → allowed bank event old ≡ Ok new → IsSoundTable bank new
 allowed_sound bank event old new sound is = stays_sound bank event old new sound (rw is refl) (is_made bank event old new is).applies
 
 -- an event that is within the limits is allowed where it applies
@@ -101,7 +101,7 @@ within_allowed bank event old new at is = rw at is
 
 -- why the table does not apply an event that is within the limits
 pub why_refused : (bank : ℕ) (event : Event) (old : TableValue) (fault : TableFault) → ((new : TableValue) → applied event old ≡ Ok new → within_limits bank event new ≡ Ok new) → Because (applied event old) fault
-    → (allowed bank event old ≡ Err (code_of fault)) ⊎ ((code_of fault ≡ e_outofmemory) × IsOk (allowed bank event old))
+    → (allowed bank event old ≡ Err (table_code fault)) ⊎ ((table_code fault ≡ e_outofmemory) × IsOk (allowed bank event old))
 why_refused bank event old Memory within ok = inr (refl, by (applied event old) refl ok)
   where
     by : (due : Result TableValue TableFault) → applied event old ≡ due → IsOk due → IsOk (allowed bank event old)
@@ -113,7 +113,7 @@ why_refused bank event old NotArray within is = inl (rw is refl)
 why_refused bank event old (Array fault) within is = inl (rw is refl)
 
 -- locks are no part of it
-as_unlocked : (bank : ℕ) (old new : TableValue) → unlocked_table new ≡ unlocked_table old → IsSound bank old → IsSound bank new
+as_unlocked : (bank : ℕ) (old new : TableValue) → unlocked_table new ≡ unlocked_table old → IsSoundTable bank old → IsSoundTable bank new
 as_unlocked bank old new same sound = record {
   numbered = sym (unlocked_numbers new) ∙ ap is_numbered same ∙ unlocked_numbers old ∙ sound.numbered;
   small =
@@ -125,7 +125,7 @@ pub relock_unseen : (change : LockChange) (old new : TableValue) → relocked ch
 relock_unseen (Lock name) old new is = lock_stays name old new is
 relock_unseen (Unlock name) old new is = unlock_stays name old new is
 
-pub relock_sound : (bank : ℕ) (change : LockChange) (old new : TableValue) → relocked change old ≡ Ok new → IsSound bank old → IsSound bank new
+pub relock_sound : (bank : ℕ) (change : LockChange) (old new : TableValue) → relocked change old ≡ Ok new → IsSoundTable bank old → IsSoundTable bank new
 relock_sound bank change old new is sound = as_unlocked bank old new (relock_unseen change old new is) sound
 
 -- the bytes of the table without objects
@@ -133,5 +133,5 @@ first_image : length (table_image first_table) ≡ 8
 unfolding a_table objects only made_where counted coded next_by times u32 raw
 first_image = refl
 
-pub first_sound : (bank : ℕ) → 5242888 ≤ bank → IsSound bank first_table
+pub first_sound : (bank : ℕ) → 5242888 ≤ bank → IsSoundTable bank first_table
 first_sound bank large = record { numbered = refl; small = omega (arith, large, first_image) }

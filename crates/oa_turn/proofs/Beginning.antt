@@ -13,7 +13,7 @@ use Rattle.oa_turn.specs.declared.decision.Decision.TheVariants.{Answer, Change,
 use Rattle.oa_turn.specs.declared.decision.LockChange.{LockChange}
 use Rattle.oa_turn.specs.declared.refusal.Refusal.{Refusal}
 use Rattle.oa_turn.specs.Decisions.{after_outcome, changed, outcome_of, relocked, relocking, with_table}
-use Rattle.oa_turn.specs.Limits.{IsSound, allowed}
+use Rattle.oa_turn.specs.Limits.{IsSoundTable, allowed}
 use Rattle.oa_turn.specs.Beginnings.{CanBegin}
 use Rattle.oa_turn.proofs.SameLibrary.{turn_bank}
 use Rattle.oa_turn.specs.States.{State}
@@ -26,43 +26,43 @@ use Rattle.oa_turn.proofs.Allowed.{first_sound, relock_sound, stays_sound}
 use Rattle.oa_turn.proofs.Fitting.{EventKept, turn_fit}
 
 -- ---- the table stays sound
-with_sound : (bank : ℕ) (state : State) (r : Result TableValue TableFault) → IsSound bank state.table → IfOk r (IsSound bank) → IsSound bank (with_table state r).table
+with_sound : (bank : ℕ) (state : State) (r : Result TableValue TableFault) → IsSoundTable bank state.table → IfOk r (IsSoundTable bank) → IsSoundTable bank (with_table state r).table
 with_sound bank state (Ok table) was is = is
 with_sound bank state (Err fault) was is = was
 
-event_sound : (state : State) (event : Event) → IsOk (allowed state.bank event state.table) → IsSound state.bank state.table → IfOk (applied event state.table) (IsSound state.bank)
+event_sound : (state : State) (event : Event) → IsOk (allowed state.bank event state.table) → IsSoundTable state.bank state.table → IfOk (applied event state.table) (IsSoundTable state.bank)
 event_sound state event ok was = by (applied event state.table) refl
   where
-    by : (r : Result TableValue TableFault) → applied event state.table ≡ r → IfOk r (IsSound state.bank)
+    by : (r : Result TableValue TableFault) → applied event state.table ≡ r → IfOk r (IsSoundTable state.bank)
     by (Ok new) at = stays_sound state.bank event state.table new was ok at
     by (Err fault) at = tt
 
-locks_sound : (state : State) (change : LockChange) → IsSound state.bank state.table → IfOk (relocked change state.table) (IsSound state.bank)
+locks_sound : (state : State) (change : LockChange) → IsSoundTable state.bank state.table → IfOk (relocked change state.table) (IsSoundTable state.bank)
 locks_sound state change was = by (relocked change state.table) refl
   where
-    by : (r : Result TableValue TableFault) → relocked change state.table ≡ r → IfOk r (IsSound state.bank)
+    by : (r : Result TableValue TableFault) → relocked change state.table ≡ r → IfOk r (IsSoundTable state.bank)
     by (Ok new) at = relock_sound state.bank change state.table new at was
     by (Err fault) at = tt
 
-outcome_sound : (state : State) (due : Result Decision Refusal) → IsSound state.bank state.table → IsSound state.bank (after_outcome state (outcome_of state due)).table
+outcome_sound : (state : State) (due : Result Decision Refusal) → IsSoundTable state.bank state.table → IsSoundTable state.bank (after_outcome state (outcome_of state due)).table
 outcome_sound state (Err r) was = was
 outcome_sound state (Ok (Answer code fields)) was = was
 outcome_sound state (Ok (Change event fields)) was = by (allowed state.bank event state.table) refl
   where
-    by : (r : Result TableValue HResult) → allowed state.bank event state.table ≡ r → IsSound state.bank (after_outcome state (changed event fields r)).table
+    by : (r : Result TableValue HResult) → allowed state.bank event state.table ≡ r → IsSoundTable state.bank (after_outcome state (changed event fields r)).table
     by (Ok table) at = with_sound state.bank state (applied event state.table) was (event_sound state event (subst IsOk (sym at) refl) was)
     by (Err code) at = was
 outcome_sound state (Ok (Relock change fields)) was = by (relocked change state.table)
   where
-    by : (r : Result TableValue TableFault) → IsSound state.bank (after_outcome state (relocking change fields r)).table
+    by : (r : Result TableValue TableFault) → IsSoundTable state.bank (after_outcome state (relocking change fields r)).table
     by (Ok table) = with_sound state.bank state (relocked change state.table) was (locks_sound state change was)
     by (Err fault) = was
 
-ordinary_sound : (old new : State) (body : List ℕ) (reply : ReplyValue) → Ordinary old body reply new → IsSound old.bank old.table → IsSound old.bank new.table
-ordinary_sound old new body reply (inl s) was = subst (λ (x : State). IsSound old.bank x.table) (sym s.leaves) (outcome_sound old (decided old s.request) was)
-ordinary_sound old new body reply (inr (inl s)) was = subst (λ (x : State). IsSound old.bank x.table) (sym s.leaves) was
-ordinary_sound old new body reply (inr (inr (inl s))) was = subst (λ (x : State). IsSound old.bank x.table) (sym s.leaves) was
-ordinary_sound old new body reply (inr (inr (inr s))) was = subst (λ (x : State). IsSound old.bank x.table) (sym s.leaves) was
+ordinary_sound : (old new : State) (body : List ℕ) (reply : ReplyValue) → Ordinary old body reply new → IsSoundTable old.bank old.table → IsSoundTable old.bank new.table
+ordinary_sound old new body reply (inl s) was = subst (λ (x : State). IsSoundTable old.bank x.table) (sym s.leaves) (outcome_sound old (decided old s.request) was)
+ordinary_sound old new body reply (inr (inl s)) was = subst (λ (x : State). IsSoundTable old.bank x.table) (sym s.leaves) was
+ordinary_sound old new body reply (inr (inr (inl s))) was = subst (λ (x : State). IsSoundTable old.bank x.table) (sym s.leaves) was
+ordinary_sound old new body reply (inr (inr (inr s))) was = subst (λ (x : State). IsSoundTable old.bank x.table) (sym s.leaves) was
 
 -- a replacement carries the table
 same_table_after : (old : State) (library : TreeValue) (lost : Option Lost) → (after_replacement old library lost).table ≡ old.table
@@ -74,19 +74,19 @@ replacement_table old new body reply (inl s) = ap (λ (x : State). x.table) s.le
 replacement_table old new body reply (inr (inl s)) = ap (λ (x : State). x.table) s.leaves
 replacement_table old new body reply (inr (inr s)) = ap (λ (x : State). x.table) s.leaves
 
-turn_sound : (old new : State) (body : List ℕ) (reply : ReplyValue) → Turn old body reply new → IsSound old.bank old.table → IsSound old.bank new.table
+turn_sound : (old new : State) (body : List ℕ) (reply : ReplyValue) → Turn old body reply new → IsSoundTable old.bank old.table → IsSoundTable old.bank new.table
 turn_sound old new body reply (inl s) was = ordinary_sound old new body reply s.turn was
-turn_sound old new body reply (inr s) was = subst (IsSound old.bank) (sym (replacement_table old new body reply s.turn)) was
+turn_sound old new body reply (inr s) was = subst (IsSoundTable old.bank) (sym (replacement_table old new body reply s.turn)) was
 
 -- ---- and the next server can begin with it
-sound_of : (state : State) → CanBegin state → IsSound state.bank state.table
+sound_of : (state : State) → CanBegin state → IsSoundTable state.bank state.table
 sound_of state is = record { numbered = is.numbered; small = is.serves.small }
 
 module _ (event_kept : EventKept) where
   pub turn_begins : (old new : State) (body : List ℕ) (reply : ReplyValue) → CanBegin old → Turn old body reply new → CanBegin new
   turn_begins old new body reply is turn =
       let fit = turn_fit event_kept old new body reply is.checked is.serves.fit turn in
-      let sound = subst (λ (n : ℕ). IsSound n new.table) (sym (turn_bank old new body reply turn)) (turn_sound old new body reply turn (sound_of old is)) in
+      let sound = subst (λ (n : ℕ). IsSoundTable n new.table) (sym (turn_bank old new body reply turn)) (turn_sound old new body reply turn (sound_of old is)) in
       record { checked = fit.0; serves = record { fit = fit.1; small = sound.small }; numbered = sound.numbered }
 
 pub first_begins : (bank : ℕ) (library : TreeValue) → IsChecked library → 5242888 ≤ bank → CanBegin (record { bank = bank; library = library; table = first_table })

@@ -27,10 +27,10 @@ use Rattle.oa_typelib.specs.MemberValues.{MemberValue}
 use Rattle.oa_typelib.specs.declared.access.Kind.{Kind}
 use Rattle.oa_typelib.specs.declared.access.Kind.TheVariants.{Get, Put}
 use Rattle.oa_bind.specs.declared.fault.BindFault.{BindFault}
-use Rattle.oa_bind.specs.Bindings.{bound, bound_to, new_value, new_value_of, parameter_value, scalar_type, told, value_by, value_of}
+use Rattle.oa_bind.specs.Bindings.{bound_call, bound_to, given_new_value, new_value_of, parameter_value, scalar_type, told_of_argument, value_by_argument, value_of_parameter}
 use Rattle.oa_bind.specs.Bindings.{without_default}
-use Rattle.oa_bind.specs.Calls.{CallValue}
-use Rattle.oa_bind.specs.Given.{Given, argument_for, at, index_of, new_value_id}
+use Rattle.oa_bind.specs.Calls.{BoundCallValue}
+use Rattle.oa_bind.specs.Given.{Given, argument_for, at, argument_index, new_value_id}
 use Rattle.oa_bind.specs.Names.{complete, well_named}
 use Rattle.oa_bind.specs.Refusals.{◌>>=◌, each_at}
 use Rattle.oa_fits.specs.Fits.{key_fits}
@@ -154,22 +154,22 @@ scalar_made t s = by (coerced_scalar s t) refl
     by (Ok made) is = scalar_fits s made t (answer_scalar s made t is)
     by (Err fault) is = tt
 
-told_fits : {A : Type 0} (P : A → Type 0) (i : ℕ) (r : Result A CoerceFault) → IfOk r P → IfOk (told i r) P
+told_fits : {A : Type 0} (P : A → Type 0) (i : ℕ) (r : Result A CoerceFault) → IfOk r P → IfOk (told_of_argument i r) P
 told_fits P i (Ok made) h = h
 told_fits P i (Err fault) h = tt
 
-argument_fits : (t : VarType) (i : ℕ) (argument : Variant) → IfOk (value_by t i argument) (FitsIn t)
+argument_fits : (t : VarType) (i : ℕ) (argument : Variant) → IfOk (value_by_argument t i argument) (FitsIn t)
 argument_fits t i (One s) = told_fits (FitsIn t) i (coerced_scalar s t) (scalar_made t s)
 argument_fits t i (Array a) = tt
 
-given_fits : (t : VarType) (l : Option Literal) (o : Option (ℕ × Variant)) (p : Parameter) → p.value_type ≡ kinds.One t → IfOk (value_of p o) (λ s. fits_declared (One s) (kinds.One t) ≡ true)
+given_fits : (t : VarType) (l : Option Literal) (o : Option (ℕ × Variant)) (p : Parameter) → p.value_type ≡ kinds.One t → IfOk (value_of_parameter p o) (λ s. fits_declared (One s) (kinds.One t) ≡ true)
 given_fits t l None p is = subst (λ (v : ValueType). fits_declared (One (unwrap_or (option_and_then (default_of v) p.default) (without_default (scalar_type v)))) (kinds.One t) ≡ true) (sym is) (either_fits t (option_and_then (default_of (kinds.One t)) p.default) (own_fits t p.default))
-given_fits t l (Some (i, argument)) p is = subst (λ (v : ValueType). IfOk (value_by (scalar_type v) i argument) (λ s. fits_declared (One s) (kinds.One t) ≡ true)) (sym is) (argument_fits t i argument)
+given_fits t l (Some (i, argument)) p is = subst (λ (v : ValueType). IfOk (value_by_argument (scalar_type v) i argument) (λ s. fits_declared (One s) (kinds.One t) ≡ true)) (sym is) (argument_fits t i argument)
 
-parameter_fits : (p : Parameter) (o : Option (ℕ × Variant)) → IsOne p.value_type → IfOk (value_of p o) (FitsParameter p)
+parameter_fits : (p : Parameter) (o : Option (ℕ × Variant)) → IsOne p.value_type → IfOk (value_of_parameter p o) (FitsParameter p)
 parameter_fits p o one = by p.value_type refl one
   where
-    by : (v : ValueType) → p.value_type ≡ v → IsOne v → IfOk (value_of p o) (λ s. fits_declared (One s) v ≡ true)
+    by : (v : ValueType) → p.value_type ≡ v → IsOne v → IfOk (value_of_parameter p o) (λ s. fits_declared (One s) v ≡ true)
     by (kinds.One t) is h = given_fits t p.default o p is
     by (kinds.Array t) is h = absurd h
 
@@ -197,28 +197,28 @@ value_made declared argument = by (coerced argument declared) refl
 new_made : (declared : ValueType) (index : Option ℕ) (argument : Option Variant) → IfOk (new_value_of declared index argument) (FitsValue declared)
 new_made declared None argument = tt
 new_made declared (Some i) None = tt
-new_made declared (Some i) (Some argument) = by (told i (coerced argument declared)) (told_fits _ i (coerced argument declared) (value_made declared argument))
+new_made declared (Some i) (Some argument) = by (told_of_argument i (coerced argument declared)) (told_fits _ i (coerced argument declared) (value_made declared argument))
   where
     by : (r : Result Variant BindFault) → IfOk r (λ v. fits_declared v declared ≡ true) → IfOk (r >>= λ value. Ok (Some value)) (FitsValue declared)
     by (Ok v) h = h
     by (Err fault) h = tt
 
-new_fits : (call : Given) (declared : ValueType) (kind : Kind) → IfOk (new_value call declared kind) (FitsValue declared)
+new_fits : (call : Given) (declared : ValueType) (kind : Kind) → IfOk (given_new_value call declared kind) (FitsValue declared)
 new_fits call declared Get = tt
-new_fits call declared Put = let i = index_of call.named (length call.arguments) new_value_id in new_made declared i (at i call.arguments)
+new_fits call declared Put = let i = argument_index call.named (length call.arguments) new_value_id in new_made declared i (at i call.arguments)
 
 -- ---- the call
-pub record FitsMember (member : MemberValue) (call : CallValue) : Type 0 where
+pub record FitsMember (member : MemberValue) (call : BoundCallValue) : Type 0 where
   pub key : key_fits member.parameters call.key ≡ true
   pub value : FitsValue member.value_type call.value
 
 pub bound_fits : (member : MemberValue) (kind : Kind) (call : Given) → IsBindable member → IfOk (bound_to member kind call) (FitsMember member)
-unfolding bound
+unfolding bound_call
 bound_fits member kind call is =
     if_both (FitsMember member) (well_named member.parameters kind call.named (length call.arguments)) _ (λ named a.
     if_both (FitsMember member) (complete member.parameters call) _ (λ full b.
     if_both (FitsMember member) (each_at (parameter_value call) 0 member.parameters) _ (λ key keyed.
-    if_both (FitsMember member) (new_value call member.value_type kind) _ (λ value valued.
+    if_both (FitsMember member) (given_new_value call member.value_type kind) _ (λ value valued.
     record {
       key = rw keyed at (key_made call 0 member.parameters is.scalars);
       value = rw valued at (new_fits call member.value_type kind);

@@ -18,7 +18,7 @@ use Rattle.oa_turn.specs.declared.refusal.Refusal.{Refusal}
 use Rattle.oa_turn.specs.Decisions.{changed, outcome_of, relocked, relocking}
 use Rattle.oa_turn.specs.Limits.{allowed}
 use Rattle.oa_turn.specs.Plans.{HasNoEvent, PlansChange}
-use Rattle.oa_turn.specs.Events.{HasEvent, bytes_of, is_done}
+use Rattle.oa_turn.specs.Events.{HasEvent, change_bytes, is_done}
 use Rattle.oa_turn.specs.States.{State}
 use Rattle.oa_turn.specs.Steps.{decided, outcome}
 
@@ -31,7 +31,7 @@ module _ (old : State) (body : List ℕ) where
     -- an outcome without an event
     pub eventless : (due : Result Decision Refusal) (reply : ReplyValue) → decided old request ≡ due → (outcome_of old due).event ≡ None → HasEvent old body reply []
     eventless due reply is none = record {
-      done = λ other plain asks done. ap bytes_of (sym none) ∙ ap (λ (d : Result Decision Refusal). bytes_of (outcome_of old d).event) (sym is) ∙ ap (λ (r : Request). bytes_of (outcome old r).event) (one_request body request other asked asks);
+      done = λ other plain asks done. ap change_bytes (sym none) ∙ ap (λ (d : Result Decision Refusal). change_bytes (outcome_of old d).event) (sym is) ∙ ap (λ (r : Request). change_bytes (outcome old r).event) (one_request body request other asked asks);
       undone = λ refused. refl;
     }
 
@@ -46,8 +46,8 @@ module _ (old : State) (body : List ℕ) where
     pub has_event : (planned : Planned) (table : TableValue) (reply : ReplyValue) → decided old request ≡ Ok (decisions.Change planned.event planned.fields) → allowed old.bank planned.event old.table ≡ Ok table → is_done reply ≡ true
         → HasEvent old body reply (event_image planned.event)
     has_event planned table reply is makes told = record {
-      done = λ other plain asks done. ap (λ (r : Result TableValue HResult). bytes_of (changed planned.event planned.fields r).event) (sym makes) ∙ ap (λ (d : Result Decision Refusal). bytes_of (outcome_of old d).event) (sym is)
-          ∙ ap (λ (r : Request). bytes_of (outcome old r).event) (one_request body request other asked asks);
+      done = λ other plain asks done. ap (λ (r : Result TableValue HResult). change_bytes (changed planned.event planned.fields r).event) (sym makes) ∙ ap (λ (d : Result Decision Refusal). change_bytes (outcome_of old d).event) (sym is)
+          ∙ ap (λ (r : Request). change_bytes (outcome old r).event) (one_request body request other asked asks);
       undone = λ refused. absurd (true≢false (sym told ∙ refused));
     }
 

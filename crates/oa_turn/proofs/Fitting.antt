@@ -20,7 +20,7 @@ use Rattle.oa_variant.specs.declared.variant.Variant.{Variant}
 use Rattle.oa_typelib.specs.Bindable.{AreSound, IsBindable, IsSoundItem}
 use Rattle.oa_typelib.specs.Checked.{IsChecked}
 use Rattle.oa_checks.specs.Declarations.{declarations}
-use Rattle.oa_checks.specs.Libraries.{as_interface, class_of, guid_of, has_interface, if_entered, interface_of, item_with, same}
+use Rattle.oa_checks.specs.Libraries.{as_interface, class_of, item_guid, has_interface, if_entered, interface_of, item_with, same}
 use Rattle.oa_checks.specs.Libraries.{selected_in}
 use Rattle.oa_typelib.specs.MemberValues.{MemberValue}
 use Rattle.oa_typelib.specs.Members.{member_in, property_in}
@@ -31,7 +31,7 @@ use Rattle.oa_typelib.specs.declared.access.MemberFault.{MemberFault}
 use Rattle.oa_typelib.proofs.Found.{find_all, member_bindable}
 use Rattle.oa_typelib.proofs.Sound.{tree_sound}
 use Rattle.oa_bind.specs.Bindings.{bound_to}
-use Rattle.oa_bind.specs.Calls.{CallValue}
+use Rattle.oa_bind.specs.Calls.{BoundCallValue}
 use Rattle.oa_bind.specs.Given.{Given}
 use Rattle.oa_bind.specs.declared.fault.BindFault.{BindFault}
 use Rattle.oa_record.specs.Replies.{ReplyValue}
@@ -58,7 +58,7 @@ use Rattle.oa_turn.specs.declared.refusal.Refusal.{Refusal}
 use Rattle.oa_turn.specs.declared.host.cell.BoundCell.{BoundCell}
 use Rattle.oa_turn.specs.ArrayCells.{as_refused, element_in, locks_in, put_in}
 use Rattle.oa_turn.specs.Cells.{bound_as, call_found, cell_called, member_found, place_of}
-use Rattle.oa_turn.specs.Create.{class_found, is_full, fitting}
+use Rattle.oa_turn.specs.Create.{class_found, is_used_up, fitting}
 use Rattle.oa_turn.specs.Decisions.{after_outcome, changed, outcome_of, relocked, relocking, with_table}
 use Rattle.oa_turn.specs.Interfaces.{interface_found}
 use Rattle.oa_turn.specs.Invoke.{acting}
@@ -94,7 +94,7 @@ member_is : (r : Result (MemberValue × Kind) MemberFault) (x : MemberValue × K
 member_is (Ok y) x h = cc
 member_is (Err f) x h = absurd cc
 
-call_is : (r : Result CallValue BindFault) (x : CallValue) → call_found r ≡ Ok x → r ≡ Ok x
+call_is : (r : Result BoundCallValue BindFault) (x : BoundCallValue) → call_found r ≡ Ok x → r ≡ Ok x
 call_is (Ok y) x h = cc
 call_is (Err f) x h = absurd cc
 
@@ -131,7 +131,7 @@ reached state number class found is object there = record {
   there = there;
   sound =
       item_sound (item_with state.library.items found.guid) found (class_entered state.library found.guid (class_of state.library class) found there)
-      (find_all IsSoundItem (λ (x : Item). same found.guid (guid_of x)) state.library.items (tree_sound state.library is));
+      (find_all IsSoundItem (λ (x : Item). same found.guid (item_guid x)) state.library.items (tree_sound state.library is));
 }
 
 interface_reached : (state : State) (number : ℕ) (interface riid : List ℕ) → IsChecked state.library → IfOk (interface_found state number interface riid) (IsReached state number)
@@ -183,7 +183,7 @@ Brings state (Change event fields) = brings_fitting state.library state.table ev
 Brings state (Relock change fields) = Unit {0}
 
 class_known : (state : State) (class : List ℕ) → IfOk (class_found state class) (λ _. is_some (class_of state.library class) ≡ true)
-class_known state class = after_both _ (known _ (class_of state.library class)) _ (λ c a. always _ (unless _ (is_full state.table)) (λ _. ap is_some (known_is _ (class_of state.library class) c a)))
+class_known state class = after_both _ (known _ (class_of state.library class)) _ (λ c a. always _ (unless _ (is_used_up state.table)) (λ _. ap is_some (known_is _ (class_of state.library class) c a)))
 
 invoked : (state : State) (cell : BoundCell) → IsFor state cell → Brings state (acting state cell.name cell.declared cell.value)
 invoked state cell is = by cell.value is.brought

@@ -2,8 +2,8 @@
 use Rattle.std.proofs.Common.{◌≡◌, ◌≤◌, ◌+◌, ℕ, suc, List, [], ◌∷◌, length, Result, Ok, Err, IfOk, refl, ap, arith}
 use Rattle.oa_model.specs.Limits.{max_key_scalars}
 use Rattle.oa_bind.specs.declared.fault.BindFault.{BindFault}
-use Rattle.oa_bind.specs.Bindings.{bound, bound_to, new_value, parameter_value}
-use Rattle.oa_bind.specs.Calls.{CallValue}
+use Rattle.oa_bind.specs.Bindings.{bound_call, bound_to, given_new_value, parameter_value}
+use Rattle.oa_bind.specs.Calls.{BoundCallValue}
 use Rattle.oa_bind.specs.Given.{Given}
 use Rattle.oa_bind.specs.Names.{complete, well_named}
 use Rattle.oa_bind.specs.Refusals.{◌>>=◌, each_at}
@@ -23,20 +23,20 @@ one_each answer place [] = refl
 one_each answer place (x ∷ xs) =
     if_both _ (answer place x) _ (λ y here. if_both _ (each_at answer (place + 1) xs) _ (λ ys rest. ap (λ n. suc n) (rw rest at (one_each answer (place + 1) xs))))
 
-abbrev HasFew : CallValue → Type 0
+abbrev HasFew : BoundCallValue → Type 0
 HasFew call = length call.key ≤ max_key_scalars
 
 few_in_all : (member : MemberValue) (kind : Kind) (call : Given) → IsBindable member → IfOk (bound_to member kind call) HasFew
-unfolding bound
+unfolding bound_call
 few_in_all member kind call is =
     if_both HasFew (well_named member.parameters kind call.named (length call.arguments)) _ (λ named a.
     if_both HasFew (complete member.parameters call) _ (λ full b.
     if_both HasFew (each_at (parameter_value call) 0 member.parameters) _ (λ key keyed.
-    if_both HasFew (new_value call member.value_type kind) _ (λ value d.
+    if_both HasFew (given_new_value call member.value_type kind) _ (λ value d.
     let count : length key ≡ length member.parameters = rw keyed at (one_each (parameter_value call) 0 member.parameters) in
     let few : length key ≤ max_key_scalars = omega (arith, count, is.few) in
     few))))
 
-pub few_bound : (member : MemberValue) (kind : Kind) (call : Given) (made : CallValue) → IsBindable member
+pub few_bound : (member : MemberValue) (kind : Kind) (call : Given) (made : BoundCallValue) → IsBindable member
     → bound_to member kind call ≡ Ok made → length made.key ≤ max_key_scalars
 few_bound member kind call made is h = rw h at (few_in_all member kind call is)

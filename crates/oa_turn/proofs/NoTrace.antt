@@ -16,7 +16,7 @@ use Rattle.oa_turn.specs.Events.{is_done}
 use Rattle.oa_turn.specs.Decisions.{IsQuiet, Outcome, after_outcome, changed, outcome_of, relocked, relocking}
 use Rattle.oa_turn.specs.Limits.{allowed}
 use Rattle.oa_turn.specs.States.{State}
-use Rattle.oa_turn.specs.Steps.{decided, outcome, reply_of}
+use Rattle.oa_turn.specs.Steps.{decided, outcome, reply_to}
 use Rattle.oa_keeps.specs.Keeps.{first_lost}
 use Rattle.oa_keeps.specs.declared.lost.Lost.{Lost}
 use Rattle.oa_turn.specs.Replacing.{Replacement, after_replacement, replacement_reply}
@@ -46,7 +46,7 @@ quiet_leaves : (state : State) (o : Outcome) → IsQuiet o → after_outcome sta
 quiet_leaves state o h = rw (h.0, h.1) refl
 
 -- its outcome changes nothing
-pub quiet_step : (state : State) (tag : ℕ) (request : Request) → ((reply_of state tag request).code.0 ≡ 0 → ⊥)
+pub quiet_step : (state : State) (tag : ℕ) (request : Request) → ((reply_to state tag request).code.0 ≡ 0 → ⊥)
     → IsQuiet (outcome state request)
 quiet_step state tag request n = quiet_outcome state (decided state request) n
 

@@ -5,16 +5,16 @@ use Rattle.std.specs.Prelude.{ℤ, nat_lt, ⊤, length}
 use Rattle.oa_image.specs.Tables.{reserved_bytes}
 use Rattle.oa_model.specs.Limits.{max_event_bytes}
 use Rattle.oa_array.specs.Arrays.{ArrayValue}
-use Rattle.oa_array.specs.Faults.{code_of as array_code}
+use Rattle.oa_array.specs.Faults.{array_code}
 use Rattle.oa_array.specs.declared.fault.ArrayFault.{ArrayFault}
 use Rattle.oa_array.specs.declared.fault.ArrayFault.TheVariants as arrays
 use Rattle.oa_bind.specs.Bindings as bindings
-use Rattle.oa_bind.specs.Calls.{CallValue}
+use Rattle.oa_bind.specs.Calls.{BoundCallValue}
 use Rattle.oa_bind.specs.Given.{Given}
 use Rattle.oa_bind.specs.Names.{complete, well_named}
 use Rattle.oa_bind.specs.Refusals as binding
 use Rattle.oa_bind.specs.declared.fault.BindFault.{BindFault}
-use Rattle.oa_coerce.specs.Refusals.{code_of as coercion_code}
+use Rattle.oa_coerce.specs.Refusals.{coercion_code}
 use Rattle.oa_coerce.specs.declared.fault.CoerceFault.{CoerceFault}
 use Rattle.oa_coerce.specs.declared.fault.CoerceFault.TheVariants as coercions
 use Rattle.oa_model.specs.declared.hresult.HResult.{HResult}
@@ -32,7 +32,7 @@ use Rattle.oa_table.specs.declared.fault.TableFault.{TableFault}
 use Rattle.oa_table.specs.declared.fault.TableFault.TheVariants as tables
 use Rattle.oa_table.specs.Elements.{redimensioned_value}
 use Rattle.oa_table.specs.Events.{applied}
-use Rattle.oa_table.specs.Faults.{code_of as table_code}
+use Rattle.oa_table.specs.Faults.{table_code}
 use Rattle.oa_table.specs.Tables.{TableValue}
 use Rattle.oa_typelib.specs.declared.access.Access.{Access}
 use Rattle.oa_typelib.specs.declared.access.Access.TheVariants as accesses
@@ -46,9 +46,9 @@ use Rattle.oa_variant.specs.declared.variant.Variant.{Variant}
 use Rattle.oa_variant.specs.declared.variant.Variant.TheVariants as variants
 use Rattle.std.specs.Prelude.{not}
 use Rattle.std.specs.List.{position_from}
-use Rattle.oa_array.specs.Arrays.{cell_at}
+use Rattle.oa_array.specs.Arrays.{array_element}
 use Rattle.oa_array.specs.Within.{in_bounds}
-use Rattle.oa_bind.specs.Given.{argument_for, at, by_position, index_of, new_value_id}
+use Rattle.oa_bind.specs.Given.{argument_for, at, by_position, argument_index, new_value_id}
 use Rattle.oa_bind.specs.Names.{is_consistent, lacks, most, names_none}
 use Rattle.oa_bind.specs.Refusals.{any_at, each_at}
 use Rattle.oa_coerce.specs.Answers.{coerced, coerced_scalar}
@@ -65,7 +65,7 @@ use Rattle.oa_typelib.specs.Members.{member_in}
 use Rattle.oa_variant.specs.Variants.{zero_value}
 use Rattle.uuid.specs.Parts.{is_nil_bytes}
 use Rattle.oa_turn.specs.Cells.{bound_as, call_found, cell_called, member_found}
-use Rattle.oa_turn.specs.Create.{class_found, fitting, is_full}
+use Rattle.oa_turn.specs.Create.{class_found, fitting, is_used_up}
 use Rattle.oa_turn.specs.Invoke.{acting}
 use Rattle.oa_turn.specs.TypeInfo.{description_of}
 use Rattle.oa_turn.specs.declared.decision.Decision.{Decision}
@@ -82,7 +82,7 @@ use Rattle.oa_turn.specs.PutElement.{element_for}
 use Rattle.oa_turn.specs.Redimension.{resizing, zero_with}
 use Rattle.oa_turn.specs.Refusals.{◌>>=◌, known, unless}
 use Rattle.oa_turn.specs.States.{State}
-use Rattle.oa_turn.specs.Steps.{decided, reply_of}
+use Rattle.oa_turn.specs.Steps.{decided, reply_to}
 use Rattle.oa_keeps.specs.Keeps.{first_lost}
 use Rattle.oa_keeps.specs.declared.lost.Lost.{Lost}
 use Rattle.oa_turn.specs.Replacing.{Replacement, replacement_reply}
@@ -160,18 +160,18 @@ table_own (tables.Array fault) = array_own fault
 table_own tables.Memory = refl
 
 -- binding
-told_own : {A : Type 0} (i : ℕ) (r : Result A CoerceFault) → OwnBind (bindings.told i r)
+told_own : {A : Type 0} (i : ℕ) (r : Result A CoerceFault) → OwnBind (bindings.told_of_argument i r)
 told_own i (Ok x) = tt
 told_own i (Err fault) = coerce_own fault
 
-value_own : (t : VarType) (i : ℕ) (v : Variant) → OwnBind (bindings.value_by t i v)
+value_own : (t : VarType) (i : ℕ) (v : Variant) → OwnBind (bindings.value_by_argument t i v)
 value_own t i (variants.One s) = told_own i (coerced_scalar s t)
 value_own t i (variants.Array a) = refl
 
 parameter_own : (call : Given) (place : ℕ) (p : Parameter) → OwnBind (bindings.parameter_value call place p)
 parameter_own call place p = by (argument_for call place)
   where
-    by : (o : Option (ℕ × Variant)) → OwnBind (bindings.value_of p o)
+    by : (o : Option (ℕ × Variant)) → OwnBind (bindings.value_of_parameter p o)
     by None = tt
     by (Some (i, argument)) = value_own (bindings.scalar_type p.value_type) i argument
 
@@ -180,17 +180,17 @@ unfolding each_at
 each_own answer own place [] = tt
 each_own answer own place (x ∷ xs) = bind_then (answer place x) _ (own place x) (λ y. bind_then (each_at answer (place + 1) xs) _ (each_own answer own (place + 1) xs) (λ ys. tt))
 
-new_own : (call : Given) (declared : ValueType) (kind : Kind) → OwnBind (bindings.new_value call declared kind)
+new_own : (call : Given) (declared : ValueType) (kind : Kind) → OwnBind (bindings.given_new_value call declared kind)
 new_own call declared forms.Get = tt
 new_own call declared forms.Put = by i (at i call.arguments)
   where
     i : Option ℕ
-    i = index_of call.named (length call.arguments) new_value_id
+    i = argument_index call.named (length call.arguments) new_value_id
 
     by : (i : Option ℕ) (argument : Option Variant) → OwnBind (bindings.new_value_of declared i argument)
     by None argument = refl
     by (Some i) None = refl
-    by (Some i) (Some argument) = bind_then (bindings.told i (coerced argument declared)) _ (told_own i (coerced argument declared)) (λ value. tt)
+    by (Some i) (Some argument) = bind_then (bindings.told_of_argument i (coerced argument declared)) _ (told_own i (coerced argument declared)) (λ value. tt)
 
 named_own : (parameters : List Parameter) (kind : Kind) (named : List ℤ) (count : ℕ) → OwnBind (well_named parameters kind named count)
 unfolding well_named
@@ -206,14 +206,14 @@ unfolding complete
 complete_own parameters call = bind_unless disp_e_paramnotoptional (any_at (lacks call) 0 parameters) refl
 
 bound_own : (member : MemberValue) (kind : Kind) (call : Given) → OwnBind (bindings.bound_to member kind call)
-unfolding bindings.bound
+unfolding bindings.bound_call
 bound_own member kind call =
     bind_then (well_named member.parameters kind call.named (length call.arguments)) _ (named_own member.parameters kind call.named (length call.arguments))
     (λ _. bind_then (complete member.parameters call) _ (complete_own member.parameters call)
     (λ _. bind_then (each_at (bindings.parameter_value call) 0 member.parameters) _ (each_own (bindings.parameter_value call) (parameter_own call) 0 member.parameters)
-    (λ key. bind_then (bindings.new_value call member.value_type kind) _ (new_own call member.value_type kind) (λ value. tt))))
+    (λ key. bind_then (bindings.given_new_value call member.value_type kind) _ (new_own call member.value_type kind) (λ value. tt))))
 
-call_own : (r : Result CallValue BindFault) → OwnBind r → Own (call_found r)
+call_own : (r : Result BoundCallValue BindFault) → OwnBind r → Own (call_found r)
 call_own (Ok bound) own = tt
 call_own (Err fault) own = own
 
@@ -244,17 +244,17 @@ array_of_own : (v : Variant) → Own (array_cells.array_of v)
 array_of_own (variants.One s) = refl
 array_of_own (variants.Array a) = tt
 
-within_own : (index : List ℤ) (array : ArrayValue Scalar) → Own (array_cells.within index array)
+within_own : (index : List ℤ) (array : ArrayValue Scalar) → Own (array_cells.if_in_bounds index array)
 within_own index array = unless_own (array_code arrays.BadIndex) (not (in_bounds array.bounds index)) refl
 
 element_own : (index : List ℤ) (v : Variant) → Own (array_cells.element_of index v)
 element_own index v = then_own (array_cells.array_of v) (array_cells.element_at index) (array_of_own v)
-    (λ array. then_own (array_cells.within index array) _ (within_own index array) (λ _. known_own (array_code arrays.BadIndex) (cell_at array index) refl))
+    (λ array. then_own (array_cells.if_in_bounds index array) _ (within_own index array) (λ _. known_own (array_code arrays.BadIndex) (array_element array index) refl))
 
 type_own : (index : List ℤ) (v : Variant) → Own (array_cells.element_type_of index v)
-type_own index v = then_own (array_cells.array_of v) (array_cells.type_at index) (array_of_own v) (λ array. then_own (array_cells.within index array) _ (within_own index array) (λ _. tt))
+type_own index v = then_own (array_cells.array_of v) (array_cells.element_type_at index) (array_of_own v) (λ array. then_own (array_cells.if_in_bounds index array) _ (within_own index array) (λ _. tt))
 
-coerced_own : (r : Result Scalar CoerceFault) → Own (array_cells.told r)
+coerced_own : (r : Result Scalar CoerceFault) → Own (array_cells.told_as_element r)
 coerced_own (Ok element) = tt
 coerced_own (Err fault) = coerce_own fault
 
@@ -301,7 +301,7 @@ ids_own state call = then_own (interface_found state call.object call.interface 
 -- what is decided
 decided_own : (state : State) (request : Request) → OwnDecision (decided state request)
 decided_own state (requests.Create class) =
-    then_decides (class_found state class) _ (then_own (known regdb_e_classnotreg (class_of state.library class)) _ (known_own regdb_e_classnotreg (class_of state.library class) refl) (λ _. unless_own e_unexpected (is_full state.table) refl))
+    then_decides (class_found state class) _ (then_own (known regdb_e_classnotreg (class_of state.library class)) _ (known_own regdb_e_classnotreg (class_of state.library class) refl) (λ _. unless_own e_unexpected (is_used_up state.table) refl))
     (λ _. then_decides (fitting (allowed state.bank (events.Create state.table.next class) state.table)) _ (fits (allowed state.bank (events.Create state.table.next class) state.table) refl) (λ _. tt))
   where
     fits : (due : Result TableValue HResult) → allowed state.bank (events.Create state.table.next class) state.table ≡ due → Own (fitting due)
@@ -350,7 +350,7 @@ outcome_own state (Ok (Relock change fields)) own = by (relocked change state.ta
     by (Ok table) = refl
     by (Err fault) = table_own fault
 
-pub step_own : (state : State) (tag : ℕ) (request : Request) → is_own (reply_of state tag request).code ≡ true
+pub step_own : (state : State) (tag : ℕ) (request : Request) → is_own (reply_to state tag request).code ≡ true
 step_own state tag request = outcome_own state (decided state request) (decided_own state request)
 
 ordinary_own : (old : State) (body : List ℕ) (reply : ReplyValue) (new : State) → Ordinary old body reply new → is_own reply.code ≡ true

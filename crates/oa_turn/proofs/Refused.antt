@@ -3,7 +3,7 @@ use Rattle.std.proofs.Common.{◌≡◌, ℕ, List, true, None, Ok, Err, inl, in
 use Rattle.oa_model.specs.Codes.{e_outofmemory}
 use Rattle.oa_model.specs.declared.hresult.HResult.{HResult}
 use Rattle.oa_record.specs.Asks.{Asks, IsRequest, tag_at}
-use Rattle.oa_record.specs.Faults.{code_of, index_told}
+use Rattle.oa_record.specs.Faults.{record_code, index_told}
 use Rattle.oa_record.specs.Replies.{ReplyValue}
 use Rattle.oa_record.specs.declared.fault.RecordFault.{RecordFault}
 use Rattle.oa_record.specs.declared.fault.RecordFault.TheVariants.{Stub, BadVarType, Memory}
@@ -13,11 +13,11 @@ use Rattle.oa_turn.specs.declared.decision.LockChange.{LockChange}
 use Rattle.oa_turn.specs.declared.refusal.Refusal.{Refusal}
 use Rattle.oa_turn.specs.Decisions.{after_outcome, relocked, relocking}
 use Rattle.oa_turn.specs.States.{State}
-use Rattle.oa_turn.specs.Steps.{decided, refusal, reply_with, takes_memory}
+use Rattle.oa_turn.specs.Steps.{decided, refusal, reply_with, may_want_memory}
 use Rattle.oa_turn.specs.Turns.{Ordinary}
 
 pub refused_turn : (old new : State) (body : List ℕ) (reply : ReplyValue) (fault : RecordFault) → IsRequest body (Err fault)
-    → reply ≡ refusal (tag_at body) (code_of fault) (index_told fault) → new ≡ old → Ordinary old body reply new
+    → reply ≡ refusal (tag_at body) (record_code fault) (index_told fault) → new ≡ old → Ordinary old body reply new
 refused_turn old new body reply Stub why is same = inr (inl (record { why = why; answers = is; leaves = same }))
 refused_turn old new body reply (BadVarType i) why is same = inr (inr (inl (record { index = i; why = why; answers = is; leaves = same })))
 refused_turn old new body reply Memory why is same = inr (inr (inr (record { may = inl why; answers = is; leaves = same })))
@@ -36,5 +36,5 @@ module _ (old : State) (body : List ℕ) (request : Request) (asked : Asks body 
       → new ≡ after_outcome old (relocking change fields (relocked change old.table)) → Ordinary old body reply new
   relocks new change fields is says leaves = inl (record { request = request; asked = asked; answers = says ∙ rw is refl; leaves = leaves ∙ rw is refl })
 
-  pub lacks : takes_memory old request ≡ true → reply ≡ refusal (tag_at body) e_outofmemory None → Ordinary old body reply old
+  pub lacks : may_want_memory old request ≡ true → reply ≡ refusal (tag_at body) e_outofmemory None → Ordinary old body reply old
   lacks takes says = inr (inr (inr (record { may = inr (record { request = request; asked = asked; takes = takes }); answers = says; leaves = refl })))

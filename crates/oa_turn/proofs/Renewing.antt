@@ -4,7 +4,7 @@ use Rattle.std.specs.Prelude.{IsSome}
 use Rattle.oa_idl.specs.Trees.{TreeValue}
 use Rattle.oa_keeps.specs.Keeps.{first_lost}
 use Rattle.oa_keeps.specs.declared.lost.Lost.{Lost}
-use Rattle.oa_keeps.specs.LibraryTexts.{IsRead, StandsFor}
+use Rattle.oa_keeps.specs.LibraryTexts.{IsTextOf, StandsFor}
 use Rattle.oa_keeps.specs.declared.library_text.TextError.{TextError}
 use Rattle.oa_keeps.specs.declared.library_text.TextError.TheVariants.{NoLibrary, Memory}
 use Rattle.oa_model.specs.Codes.{bad_stub_data, e_outofmemory, s_ok}
@@ -34,7 +34,7 @@ module _ (body : List ℕ) where
     has_text = subst IsSome (sym lies) refl
 
     -- a text that gives no library, or one that memory was refused to
-    pub text_unread : (e : TextError) → IsRead text (Err e) → ((text_code e ≡ bad_stub_data) × ((library : TreeValue) → AsksLibrary body library → ⊥)) ⊎ ((text_code e ≡ e_outofmemory) × IsSome (text_in body))
+    pub text_unread : (e : TextError) → IsTextOf text (Err e) → ((text_code e ≡ bad_stub_data) × ((library : TreeValue) → AsksLibrary body library → ⊥)) ⊎ ((text_code e ≡ e_outofmemory) × IsSome (text_in body))
     text_unread NoLibrary none = inl (refl, λ library asks. none library (subst (λ (l : List ℕ). StandsFor l library) (one_text text asks.text (sym lies ∙ asks.lies)) asks.stands))
     text_unread Memory any = inr (refl, has_text)
 

@@ -9,7 +9,7 @@ use Rattle.oa_turn.specs.declared.decision.Decision.TheVariants.{Answer, Change,
 use Rattle.oa_turn.specs.declared.refusal.Refusal.{Refusal}
 use Rattle.oa_turn.specs.Limits.{allowed}
 use Rattle.oa_turn.specs.States.{State}
-use Rattle.oa_turn.specs.Steps.{decided, takes_memory}
+use Rattle.oa_turn.specs.Steps.{decided, may_want_memory}
 
 -- whether what is decided applies; true where nothing changes
 abbrev applies : ℕ → TableValue → Result Decision Refusal → Bool
@@ -19,7 +19,7 @@ applies bank table (Ok (Change event fields)) = is_ok (allowed bank event table)
 applies bank table (Ok (Relock change fields)) = true
 
 pub wants : (state : State) (request : Request) (event : Event) (fields : List ℕ) → decided state request ≡ Ok (Change event fields) → IsOk (allowed state.bank event state.table)
-    → takes_memory state request ≡ true
+    → may_want_memory state request ≡ true
 wants state (requests.Create class) event fields h ok = ap is_ok h
 wants state (requests.Release number) event fields h ok = ap (applies state.bank state.table) h ∙ ok
 wants state (requests.GetIds call) event fields h ok = refl

@@ -11,12 +11,12 @@ use Rattle.std.specs.Prelude.{ℕ, ℤ, not, List, Option, Some, None, Result, O
 use Rattle.oa_model.specs.declared.var_type.VarType.{VarType}
 use Rattle.oa_model.specs.declared.var_type.ValueType.{ValueType}
 use Rattle.oa_model.specs.declared.var_type.ValueType.TheVariants as kinds
-use Rattle.oa_array.specs.Arrays.{ArrayValue, cell_at}
-use Rattle.oa_array.specs.Faults.{code_of as array_code}
+use Rattle.oa_array.specs.Arrays.{ArrayValue, array_element}
+use Rattle.oa_array.specs.Faults.{array_code}
 use Rattle.oa_array.specs.Within.{in_bounds}
 use Rattle.oa_array.specs.declared.fault.ArrayFault.TheVariants as arrays
 use Rattle.oa_coerce.specs.Answers.{coerced_scalar}
-use Rattle.oa_coerce.specs.Refusals.{code_of as coercion_code}
+use Rattle.oa_coerce.specs.Refusals.{coercion_code}
 use Rattle.oa_coerce.specs.declared.fault.CoerceFault.{CoerceFault}
 use Rattle.oa_coerce.specs.declared.fault.CoerceFault.TheVariants as coercions
 use Rattle.oa_variant.specs.declared.scalar.Scalar.{Scalar}
@@ -25,7 +25,7 @@ use Rattle.oa_variant.specs.declared.variant.Variant.TheVariants.{One, Array}
 use Rattle.oa_table.specs.declared.fault.TableFault.{TableFault}
 use Rattle.oa_table.specs.declared.fault.TableFault.TheVariants.{NotArray, Array as ArrayRefuses}
 use Rattle.oa_table.specs.declared.name.CellName.{CellName}
-use Rattle.oa_table.specs.Faults.{code_of}
+use Rattle.oa_table.specs.Faults.{table_code}
 use Rattle.oa_table.specs.Tables.{cell_in, object_at}
 use Rattle.oa_turn.specs.declared.refusal.Refusal.{Refusal}
 use Rattle.oa_turn.specs.declared.host.cell.BoundCell.{BoundCell}
@@ -44,46 +44,46 @@ value_in state name declared = or_zero declared (put_in state name)
 -- what the table refuses, as the refusal of a request
 abbrev pub as_refused : {A : Type 0} → Result A TableFault → Result A Refusal
 as_refused (Ok x) = Ok x
-as_refused (Err fault) = refused (code_of fault)
+as_refused (Err fault) = refused (table_code fault)
 
 -- the array that a value is
 abbrev pub array_of : Variant → Result (ArrayValue Scalar) Refusal
-array_of (One s) = refused (code_of NotArray)
+array_of (One s) = refused (table_code NotArray)
 array_of (Array a) = Ok a
 
 -- whether the index list lies in its bounds
-abbrev pub within : List ℤ → ArrayValue Scalar → Result (Unit {0}) Refusal
-within index array = unless (array_code arrays.BadIndex) (not (in_bounds array.bounds index))
+abbrev pub if_in_bounds : List ℤ → ArrayValue Scalar → Result (Unit {0}) Refusal
+if_in_bounds index array = unless (array_code arrays.BadIndex) (not (in_bounds array.bounds index))
 
 -- the element there
 abbrev pub element_at : List ℤ → ArrayValue Scalar → Result Scalar Refusal
-element_at index array = within index array >>= λ _. known (array_code arrays.BadIndex) (cell_at array index)
+element_at index array = if_in_bounds index array >>= λ _. known (array_code arrays.BadIndex) (array_element array index)
 
 abbrev pub element_of : List ℤ → Variant → Result Scalar Refusal
 element_of index value = array_of value >>= element_at index
 
 -- the type of the element there
-abbrev pub type_at : List ℤ → ArrayValue Scalar → Result VarType Refusal
-type_at index array = within index array >>= λ _. Ok array.elem
+abbrev pub element_type_at : List ℤ → ArrayValue Scalar → Result VarType Refusal
+element_type_at index array = if_in_bounds index array >>= λ _. Ok array.elem
 
 abbrev pub element_type_of : List ℤ → Variant → Result VarType Refusal
-element_type_of index value = array_of value >>= type_at index
+element_type_of index value = array_of value >>= element_type_at index
 
 -- what a value becomes as an element of a type
-abbrev pub told : Result Scalar CoerceFault → Result Scalar Refusal
-told (Ok element) = Ok element
-told (Err fault) = refused (coercion_code fault)
+abbrev pub told_as_element : Result Scalar CoerceFault → Result Scalar Refusal
+told_as_element (Ok element) = Ok element
+told_as_element (Err fault) = refused (coercion_code fault)
 
 -- an array is an element of no type
 abbrev pub as_element : VarType → Variant → Result Scalar Refusal
-as_element elem (One s) = told (coerced_scalar s elem)
+as_element elem (One s) = told_as_element (coerced_scalar s elem)
 as_element elem (Array a) = refused (coercion_code coercions.TypeMismatch)
 
 -- how many locks the array in a cell has; that of a cell never put can't be locked
 abbrev pub locks_of : ValueType → Option Variant → Result ℕ Refusal
 locks_of declared (Some value) = array_of value >>= λ array. Ok array.locks
-locks_of (kinds.One t) None = refused (code_of NotArray)
-locks_of (kinds.Array t) None = refused (code_of (ArrayRefuses arrays.Unexpected))
+locks_of (kinds.One t) None = refused (table_code NotArray)
+locks_of (kinds.Array t) None = refused (table_code (ArrayRefuses arrays.Unexpected))
 
 abbrev pub locks_in : State → BoundCell → Result ℕ Refusal
 locks_in state cell = locks_of cell.declared (put_in state cell.name)

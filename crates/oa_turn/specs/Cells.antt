@@ -4,7 +4,7 @@ use Rattle.std.specs.Prelude.{◌≡◌, ℕ, ◌==◌, if◌then◌else◌, Lis
 use Rattle.oa_model.specs.Codes.{e_outofmemory}
 use Rattle.oa_bind.specs.declared.fault.BindFault.{BindFault}
 use Rattle.oa_bind.specs.Bindings.{bound_to}
-use Rattle.oa_bind.specs.Calls.{CallValue}
+use Rattle.oa_bind.specs.Calls.{BoundCallValue}
 use Rattle.oa_record.specs.declared.request.Call.{Call}
 use Rattle.oa_record.specs.declared.request.CallHead.{CallHead}
 use Rattle.oa_table.specs.declared.name.CellName.{CellName}
@@ -14,7 +14,7 @@ use Rattle.oa_typelib.specs.declared.access.Access.TheVariants as accesses
 use Rattle.oa_typelib.specs.declared.access.Kind.{Kind}
 use Rattle.oa_typelib.specs.declared.access.Kind.TheVariants as forms
 use Rattle.oa_typelib.specs.declared.access.MemberFault.{MemberFault}
-use Rattle.oa_typelib.specs.MemberCodes.{code_of}
+use Rattle.oa_typelib.specs.MemberCodes.{member_code}
 use Rattle.oa_typelib.specs.MemberValues.{MemberValue}
 use Rattle.oa_typelib.specs.Members.{member_in}
 use Rattle.oa_turn.specs.declared.decision.Undecided.{Undecided}
@@ -28,7 +28,7 @@ use Rattle.oa_turn.specs.States.{State}
 -- a member, or why a call reaches none
 abbrev pub member_found : Result (MemberValue × Kind) MemberFault → Result (MemberValue × Kind) Refusal
 member_found (Ok found) = Ok found
-member_found (Err fault) = refused (code_of fault)
+member_found (Err fault) = refused (member_code fault)
 
 -- the form that arguments are bound in: that of the member which an INVOKE's flags ask for, and else, whatever form the member must
 -- have, a get
@@ -41,7 +41,7 @@ bound_as accesses.Put form = forms.Get
 abbrev pub as_refusal : BindFault → Refusal
 as_refusal fault = record { code = fault.code; index = fault.index }
 
-abbrev pub call_found : Result CallValue BindFault → Result CallValue Refusal
+abbrev pub call_found : Result BoundCallValue BindFault → Result BoundCallValue Refusal
 call_found (Ok bound) = Ok bound
 call_found (Err fault) = Err (as_refusal fault)
 
@@ -49,11 +49,11 @@ call_found (Err fault) = Err (as_refusal fault)
 abbrev pub undecided : BindFault → Undecided
 undecided fault = if fault.code.0 == e_outofmemory.0 then OutOfMemory else Refused (as_refusal fault)
 
-abbrev pub place_of : List ℕ → CallHead → CallValue → PlaceValue
+abbrev pub place_of : List ℕ → CallHead → BoundCallValue → PlaceValue
 place_of interface head bound = record { interface = interface; dispid = head.dispid; key = bound.key }
 
-abbrev pub name_of : List ℕ → CallHead → CallValue → CellName
-name_of interface head bound = record { object = head.object; place = place_of interface head bound }
+abbrev pub called_cell : List ℕ → CallHead → BoundCallValue → CellName
+called_cell interface head bound = record { object = head.object; place = place_of interface head bound }
 
 -- the object, its interface, riid; the member, in the form that is asked for; the arguments
 unfoldable pub cell_called : State → Call → Access → Result BoundCell Refusal
@@ -61,10 +61,10 @@ cell_called state call access = do
   interface ← interface_found state call.head.object call.head.interface call.head.riid
   found ← member_found (member_in interface call.head.dispid access)
   bound ← call_found (bound_to found.0 (bound_as access found.1) (record { named = call.named; arguments = call.arguments }))
-  Ok (record { name = name_of interface.guid call.head bound; declared = found.0.value_type; value = bound.value })
+  Ok (record { name = called_cell interface.guid call.head bound; declared = found.0.value_type; value = bound.value })
 
 -- What is found is what is due, or memory was wanted.
-abbrev pub Finds : {A : Type 0} → Result A Refusal → Result A Undecided → Type 0
-Finds due (Ok found) = due ≡ Ok found
-Finds due (Err (Refused refusal)) = due ≡ Err refusal
-Finds due (Err OutOfMemory) = Unit {0}
+abbrev pub FindsDue : {A : Type 0} → Result A Refusal → Result A Undecided → Type 0
+FindsDue due (Ok found) = due ≡ Ok found
+FindsDue due (Err (Refused refusal)) = due ≡ Err refusal
+FindsDue due (Err OutOfMemory) = Unit {0}

@@ -15,12 +15,12 @@ use Rattle.oa_turn.specs.Refusals.{◌>>=◌, known, refused, unless}
 use Rattle.oa_turn.specs.States.{State}
 
 -- whether no further object can be made: 65,536 are live, or the numbers are used up
-abbrev pub is_full : TableValue → Bool
-is_full table = not (nat_lt (length table.objects) max_live_objects) || (table.next == greatest_object_number + 1)
+abbrev pub is_used_up : TableValue → Bool
+is_used_up table = not (nat_lt (length table.objects) max_live_objects) || (table.next == greatest_object_number + 1)
 
 -- whether an object of the coclass can be made
 abbrev pub class_found : State → List ℕ → Result (Unit {0}) Refusal
-class_found state class = known regdb_e_classnotreg (class_of state.library class) >>= λ _. unless e_unexpected (is_full state.table)
+class_found state class = known regdb_e_classnotreg (class_of state.library class) >>= λ _. unless e_unexpected (is_used_up state.table)
 
 -- whether an event is allowed
 abbrev pub fitting : Result TableValue HResult → Result (Unit {0}) Refusal

@@ -5,7 +5,7 @@ use Rattle.oa_model.specs.Codes.{s_ok}
 use Rattle.oa_table.specs.declared.event.Event.{Event}
 use Rattle.oa_table.specs.declared.fault.TableFault.{TableFault}
 use Rattle.oa_table.specs.Events.{BringsNoLocks, applied}
-use Rattle.oa_table.specs.Faults.{code_of}
+use Rattle.oa_table.specs.Faults.{table_code}
 use Rattle.oa_table.specs.Locks.{with_lock, without_lock}
 use Rattle.oa_table.specs.Tables.{TableValue}
 use Rattle.oa_turn.specs.declared.decision.Decision.{Decision}
@@ -47,7 +47,7 @@ changed event fields (Err code) = refused_outcome (record { code = code; index =
 -- the same of a change of locks
 abbrev pub relocking : LockChange → List ℕ → Result TableValue TableFault → Outcome
 relocking change fields (Ok table) = record { event = None; locks = Some change; code = s_ok; index = None; fields = fields }
-relocking change fields (Err fault) = refused_outcome (record { code = code_of fault; index = None })
+relocking change fields (Err fault) = refused_outcome (record { code = table_code fault; index = None })
 
 abbrev pub outcome_of : State → Result Decision Refusal → Outcome
 outcome_of state (Err r) = refused_outcome r

@@ -18,12 +18,12 @@ held_of state = unlocked_table state.table
 abbrev pub is_done : ReplyValue → Bool
 is_done reply = reply.code.0 == 0
 
-abbrev pub bytes_of : Option Event → List ℕ
-bytes_of None = []
-bytes_of (Some event) = event_image event
+abbrev pub change_bytes : Option Event → List ℕ
+change_bytes None = []
+change_bytes (Some event) = event_image event
 
 -- the bytes of the event that a body made, and no others: none where its reply is not S_OK
 pub record HasEvent (old : State) (body : List ℕ) (reply : ReplyValue) (event : List ℕ) : Type 0 where
   pub done : (request : Request) → is_replacement body ≡ false → Asks body request → is_done reply ≡ true
-      → event ≡ bytes_of (outcome old request).event
+      → event ≡ change_bytes (outcome old request).event
   pub undone : is_done reply ≡ false → event ≡ []

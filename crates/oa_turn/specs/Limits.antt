@@ -10,7 +10,7 @@ use Rattle.oa_model.specs.Codes.{e_invalidarg, e_outofmemory, stg_e_mediumfull}
 use Rattle.oa_table.specs.declared.event.Event.{Event}
 use Rattle.oa_table.specs.declared.fault.TableFault.{TableFault}
 use Rattle.oa_table.specs.Events.{applied}
-use Rattle.oa_table.specs.Faults.{code_of}
+use Rattle.oa_table.specs.Faults.{table_code}
 use Rattle.oa_table.specs.Tables.{TableValue}
 
 -- the image of the event, and then that of the table after it, in a bank of this size
@@ -26,16 +26,16 @@ StaysWithin bank event old = (new : TableValue) → applied event old ≡ Ok new
 
 abbrev pub limited : ℕ → Event → Result TableValue TableFault → Result TableValue HResult
 limited bank event (Ok new) = within_limits bank event new
-limited bank event (Err fault) = Err (code_of fault)
+limited bank event (Err fault) = Err (table_code fault)
 
 -- the table after an event, or why there is none: the table refuses it, or a limit does
 abbrev pub allowed : ℕ → Event → TableValue → Result TableValue HResult
 allowed bank event table = limited bank event (applied event table)
 
 -- the reason of a refusal, or none where there is none
-abbrev pub Refuses : {T E : Type 0} → Result T E → Option E → Type 0
-Refuses due None = IsOk due
-Refuses due (Some fault) = due ≡ Err fault
+abbrev pub GivesReason : {T E : Type 0} → Result T E → Option E → Type 0
+GivesReason due None = IsOk due
+GivesReason due (Some fault) = due ≡ Err fault
 
 -- A change is made where it is allowed; else the reason is told, or that memory was wanted, and nothing changes.
 abbrev pub ChangesTable : ℕ → Event → TableValue → TableValue → Result (Unit {0}) HResult → Type 0
@@ -43,6 +43,6 @@ ChangesTable bank event old new (Ok u) = allowed bank event old ≡ Ok new
 ChangesTable bank event old new (Err code) = (new ≡ old) × ((allowed bank event old ≡ Err code) ⊎ ((code ≡ e_outofmemory) × IsOk (allowed bank event old)))
 
 -- What a server's table always is: its objects have numbers from 1 to below the next one, and its image leaves what has to be free of a bank of this size.
-pub record IsSound (bank : ℕ) (table : TableValue) : Type 0 where
+pub record IsSoundTable (bank : ℕ) (table : TableValue) : Type 0 where
   pub numbered : is_numbered table ≡ true
   pub small : FitsBank bank table

@@ -48,23 +48,23 @@ abbrev pub reply_with : ℕ → Outcome → ReplyValue
 reply_with tag o = record { tag = tag; code = o.code; index = o.index; body = o.fields }
 
 -- the reply to a request with this tag
-abbrev pub reply_of : State → ℕ → Request → ReplyValue
-reply_of state tag request = reply_with tag (outcome state request)
+abbrev pub reply_to : State → ℕ → Request → ReplyValue
+reply_to state tag request = reply_with tag (outcome state request)
 
 -- the state after a request
 abbrev pub after : State → Request → State
 after state request = after_outcome state (outcome state request)
 
 -- whether want of memory may be answered: not in place of a refused CREATE or RELEASE
-abbrev pub takes_memory : State → Request → Bool
-takes_memory state (requests.Create class) = is_ok (creation state class)
-takes_memory state (requests.Release number) = is_ok (allowed state.bank (Release number) state.table)
-takes_memory state (requests.GetIds call) = true
-takes_memory state (requests.Invoke call) = true
-takes_memory state (requests.GetElement call indices) = true
-takes_memory state (requests.PutElement call indices value) = true
-takes_memory state (requests.Redimension call bound) = true
-takes_memory state (requests.Lock call) = true
-takes_memory state (requests.Unlock call) = true
-takes_memory state (requests.TypeInfo index) = true
-takes_memory state requests.Objects = true
+abbrev pub may_want_memory : State → Request → Bool
+may_want_memory state (requests.Create class) = is_ok (creation state class)
+may_want_memory state (requests.Release number) = is_ok (allowed state.bank (Release number) state.table)
+may_want_memory state (requests.GetIds call) = true
+may_want_memory state (requests.Invoke call) = true
+may_want_memory state (requests.GetElement call indices) = true
+may_want_memory state (requests.PutElement call indices value) = true
+may_want_memory state (requests.Redimension call bound) = true
+may_want_memory state (requests.Lock call) = true
+may_want_memory state (requests.Unlock call) = true
+may_want_memory state (requests.TypeInfo index) = true
+may_want_memory state requests.Objects = true

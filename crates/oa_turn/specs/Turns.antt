@@ -7,13 +7,13 @@ use Rattle.oa_record.specs.Replies.{ReplyValue}
 use Rattle.oa_record.specs.Replacement.{is_replacement}
 use Rattle.oa_turn.specs.Replacing.{Replacement}
 use Rattle.oa_turn.specs.States.{State}
-use Rattle.oa_turn.specs.Steps.{after, refusal, reply_of, takes_memory}
+use Rattle.oa_turn.specs.Steps.{after, refusal, reply_to, may_want_memory}
 
 -- the body asks a request, and this is its step
 pub record Steps (old : State) (body : List ℕ) (reply : ReplyValue) (new : State) : Type 0 where
   pub request : Request
   pub asked : Asks body request
-  pub answers : reply ≡ reply_of old (tag_at body) request
+  pub answers : reply ≡ reply_to old (tag_at body) request
   pub leaves : new ≡ after old request
 
 -- the body is laid out as no request, or the field of a value is broken; nothing changes
@@ -33,7 +33,7 @@ pub record RefusesType (old : State) (body : List ℕ) (reply : ReplyValue) (new
 pub record MayLack (old : State) (body : List ℕ) : Type 0 where
   pub request : Request
   pub asked : Asks body request
-  pub takes : takes_memory old request ≡ true
+  pub takes : may_want_memory old request ≡ true
 
 -- memory was refused, where reading the body or carrying out its request takes some; nothing changes
 pub record LacksMemory (old : State) (body : List ℕ) (reply : ReplyValue) (new : State) : Type 0 where

@@ -1,7 +1,7 @@
 //! Whether an event applies to a table.
 ghost use Rattle.std.specs.Prelude.{◌≡◌, ℕ, List};
-ghost use Rattle.oa_turn.specs.Limits.{Refuses};
-ghost use Rattle.oa_table.specs.Elements.{element_put, locks_of, redimensioned_value};
+ghost use Rattle.oa_turn.specs.Limits.{GivesReason};
+ghost use Rattle.oa_table.specs.Elements.{with_element_put, locks_of, redimensioned_value};
 ghost use Rattle.oa_table.specs.Events.{applied};
 ghost use Rattle.oa_table.specs.declared.event.Event.TheVariants as events;
 ghost use Rattle.oa_variant.specs.declared.variant.Variant.TheVariants as variants;
@@ -14,7 +14,7 @@ use oa_variant::{Scalar, Variant};
 
 /// Why a table refuses an event; None where the event applies. Takes no memory.
 pub(crate) fn refusal_of(table: &Table, event: &Event) -> Option<TableFault>
-    ensures { Refuses (applied event.now table.now) result }
+    ensures { GivesReason (applied event.now table.now) result }
 {
     match event {
         Event::Create { number, .. } => of_create(table, *number),
@@ -26,7 +26,7 @@ pub(crate) fn refusal_of(table: &Table, event: &Event) -> Option<TableFault>
 }
 
 fn of_create(table: &Table, number: u32) -> Option<TableFault>
-    ensures { (class : List ℕ) → Refuses (applied (events.Create number class) table.now) result }
+    ensures { (class : List ℕ) → GivesReason (applied (events.Create number class) table.now) result }
 {
     if number != table.next() || number == u32::MAX {
         return Some(TableFault::WrongNumber);
@@ -35,7 +35,7 @@ fn of_create(table: &Table, number: u32) -> Option<TableFault>
 }
 
 fn of_release(table: &Table, number: u32) -> Option<TableFault>
-    ensures { Refuses (applied (events.Release number) table.now) result }
+    ensures { GivesReason (applied (events.Release number) table.now) result }
 {
     if table.class_of(number).is_none() {
         return Some(TableFault::NoObject);
@@ -47,7 +47,7 @@ fn of_release(table: &Table, number: u32) -> Option<TableFault>
 }
 
 fn of_put(table: &Table, name: &CellName) -> Option<TableFault>
-    ensures { (value : AVariant) → Refuses (applied (events.Put name.now value) table.now) result }
+    ensures { (value : AVariant) → GivesReason (applied (events.Put name.now value) table.now) result }
 {
     let Some(object) = table.object(name.object) else {
         return Some(TableFault::NoObject);
@@ -66,7 +66,7 @@ fn of_element(
     index: &Indices,
     element: &Scalar,
 ) -> Option<TableFault>
-    ensures { Refuses (applied (events.PutElement name.now index.now element.now) table.now) result }
+    ensures { GivesReason (applied (events.PutElement name.now index.now element.now) table.now) result }
 {
     let Some(object) = table.object(name.object) else {
         return Some(TableFault::NoObject);
@@ -82,7 +82,7 @@ fn of_array_element(
     index: &[i32],
     element: &Scalar,
 ) -> Option<TableFault>
-    ensures { Refuses (element_put index.now element.now (variants.Array array.now)) result }
+    ensures { GivesReason (with_element_put index.now element.now (variants.Array array.now)) result }
 {
     let fits = element.fits(array.elem());
     match array.element(index) {
@@ -97,7 +97,7 @@ fn of_array_element(
 }
 
 fn of_redim(table: &Table, name: &CellName, bound: Bound) -> Option<TableFault>
-    ensures { Refuses (applied (events.Redim name.now bound) table.now) result }
+    ensures { GivesReason (applied (events.Redim name.now bound) table.now) result }
 {
     let Some(object) = table.object(name.object) else {
         return Some(TableFault::NoObject);
@@ -109,7 +109,7 @@ fn of_redim(table: &Table, name: &CellName, bound: Bound) -> Option<TableFault>
 }
 
 fn of_array_redim(array: &SafeArray<Scalar>, bound: Bound) -> Option<TableFault>
-    ensures { Refuses (redimensioned_value bound (variants.Array array.now)) result }
+    ensures { GivesReason (redimensioned_value bound (variants.Array array.now)) result }
 {
     if array.locks() > 0 {
         return Some(TableFault::Array(ArrayFault::IsLocked));

@@ -1,7 +1,7 @@
 //! The ways in which a table changes.
 ghost use Rattle.std.specs.Prelude.{◌≡◌, ◌-◌, ◌<◌, ℕ, IsOk, Ok};
 ghost use Rattle.oa_turn.specs.Decisions.{MakesTable, RelocksTable};
-ghost use Rattle.oa_turn.specs.Limits.{ChangesTable, IsSound, StaysWithin, allowed};
+ghost use Rattle.oa_turn.specs.Limits.{ChangesTable, IsSoundTable, StaysWithin, allowed};
 ghost use Rattle.oa_turn.specs.declared.decision.LockChange.TheVariants.{Lock as ALock, Unlock as AnUnlock};
 ghost use Rattle.oa_table.specs.Events.{BringsNoLocks};
 ghost use Rattle.oa_table.specs.Tables.{unlocked_table};
@@ -16,7 +16,7 @@ use std::alloc::AllocError;
 pub(crate) fn apply(table: &mut Table, event: Event) -> Result<(), AllocError>
     requires unlocked { BringsNoLocks event }
     ensures change { MakesTable event table.old table.new result }
-    ensures sound { (bank : ℕ) → IsOk (allowed bank event table.old) → IsSound bank table.old → IsSound bank table.new }
+    ensures sound { (bank : ℕ) → IsOk (allowed bank event table.old) → IsSoundTable bank table.old → IsSoundTable bank table.new }
 {
     if let Err(_) = table.apply(event) {
         return Err(AllocError);
@@ -27,9 +27,9 @@ pub(crate) fn apply(table: &mut Table, event: Event) -> Result<(), AllocError>
 /// Makes a change where it is allowed. Err tells why it is not, or that no memory was found; then nothing changes.
 pub(crate) fn change(bank: u32, table: &mut Table, event: Event) -> Result<(), HResult>
     requires unlocked { BringsNoLocks event }
-    requires sound { IsSound bank table.old }
+    requires sound { IsSoundTable bank table.old }
     ensures change { ChangesTable bank event table.old table.new result }
-    ensures sound { IsSound bank table.new }
+    ensures sound { IsSoundTable bank table.new }
 {
     // Far from the limits, as most changes are, the table alone tells whether the event applies, as it makes the change.
     if is_surely_within(bank, table, &event) {
@@ -48,7 +48,7 @@ pub(crate) fn change(bank: u32, table: &mut Table, event: Event) -> Result<(), H
 fn change_within(table: &mut Table, event: Event) -> Result<(), HResult>
     requires unlocked { BringsNoLocks event }
     ensures change { (bank : ℕ) → StaysWithin bank event table.old → ChangesTable bank event table.old table.new result }
-    ensures sound { (bank : ℕ) → StaysWithin bank event table.old → IsSound bank table.old → IsSound bank table.new }
+    ensures sound { (bank : ℕ) → StaysWithin bank event table.old → IsSoundTable bank table.old → IsSoundTable bank table.new }
 {
     if let Err((_, fault)) = table.apply(event) {
         return Err(fault.code());
@@ -60,7 +60,7 @@ fn change_within(table: &mut Table, event: Event) -> Result<(), HResult>
 pub(crate) fn change_locks(table: &mut Table, change: LockChange) -> Result<(), TableFault>
     ensures change { RelocksTable change table.old table.new result }
     ensures same { unlocked_table table.new ≡ unlocked_table table.old }
-    ensures sound { (bank : ℕ) → IsSound bank table.old → IsSound bank table.new }
+    ensures sound { (bank : ℕ) → IsSoundTable bank table.old → IsSoundTable bank table.new }
 {
     match change {
         LockChange::Lock(name) => lock(table, name),
@@ -71,7 +71,7 @@ pub(crate) fn change_locks(table: &mut Table, change: LockChange) -> Result<(), 
 fn lock(table: &mut Table, name: CellName) -> Result<(), TableFault>
     ensures change { RelocksTable (ALock name) table.old table.new result }
     ensures same { unlocked_table table.new ≡ unlocked_table table.old }
-    ensures sound { (bank : ℕ) → IsSound bank table.old → IsSound bank table.new }
+    ensures sound { (bank : ℕ) → IsSoundTable bank table.old → IsSoundTable bank table.new }
 {
     match table.lock(&name) {
         Ok(_) => Ok(()),
@@ -82,7 +82,7 @@ fn lock(table: &mut Table, name: CellName) -> Result<(), TableFault>
 fn unlock(table: &mut Table, name: CellName) -> Result<(), TableFault>
     ensures change { RelocksTable (AnUnlock name) table.old table.new result }
     ensures same { unlocked_table table.new ≡ unlocked_table table.old }
-    ensures sound { (bank : ℕ) → IsSound bank table.old → IsSound bank table.new }
+    ensures sound { (bank : ℕ) → IsSoundTable bank table.old → IsSoundTable bank table.new }
 {
     match table.unlock(&name) {
         Ok(_) => Ok(()),

@@ -1,9 +1,9 @@
 //! A library and a table in memory, and one turn after another.
 ghost use Rattle.std.specs.Prelude.{◌≡◌, ◌-◌, ◌≤◌, List, ℕ, [], map, IsOk, IfOk, OnErr};
 ghost use Rattle.oa_turn.specs.Decisions.{ChangesNoLocks, Decides, MakesChange, after_outcome, relocked, relocking};
-ghost use Rattle.oa_turn.specs.Limits.{IsSound, allowed};
+ghost use Rattle.oa_turn.specs.Limits.{IsSoundTable, allowed};
 ghost use Rattle.oa_turn.specs.Plans.{Drafts, HasNoEvent, HoldsSame, IsDrafted, Plans, PlansChange};
-ghost use Rattle.oa_turn.specs.Steps.{decided, reply_with, takes_memory};
+ghost use Rattle.oa_turn.specs.Steps.{decided, reply_with, may_want_memory};
 ghost use Rattle.oa_turn.specs.Turns.{Ordinary, Run, Turn};
 ghost use Rattle.oa_record.specs.Replacement.{is_replacement};
 ghost use Rattle.oa_table.specs.Events.{BringsNoLocks};
@@ -61,13 +61,13 @@ impl Drop for Host {
 
 impl Model for Host {
     ghost use Rattle.oa_turn.specs.States.{State};
-    ghost use Rattle.oa_turn.specs.Limits.{IsSound};
+    ghost use Rattle.oa_turn.specs.Limits.{IsSoundTable};
 
     ghost Value = { State };
 
     ghost view = { λ s. record { bank = s.bank; library = s.library; table = s.table } };
 
-    ghost invariant = { λ s. IsSound s.bank s.table };
+    ghost invariant = { λ s. IsSoundTable s.bank s.table };
 }
 
 impl Host {
@@ -86,7 +86,7 @@ impl Host {
 
     /// A library, and a table that was made before, over banks of this size.
     pub fn over(alloc: Global, bank: u32, library: Library, table: Table) -> Host
-        requires { IsSound bank table }
+        requires { IsSoundTable bank table }
         ensures { result ≡ record { bank = bank; library = library; table = table } }
     {
         Host {
@@ -207,7 +207,7 @@ impl Host {
     /// The table, which is sound.
     pub fn table(&self) -> &Table
         ensures table { result.now ≡ self.now.table }
-        ensures sound { IsSound self.now.bank self.now.table }
+        ensures sound { IsSoundTable self.now.bank self.now.table }
     {
         &self.table
     }
@@ -226,7 +226,7 @@ impl Host {
 
     /// What becomes of a request. Only reads.
     fn decide(&self, request: Request) -> Result<Decision, Undecided>
-        ensures decided { Decides (decided self.now request) (takes_memory self.now request) result }
+        ensures decided { Decides (decided self.now request) (may_want_memory self.now request) result }
         ensures unlocked { IfOk result ChangesNoLocks }
     {
         match request {

@@ -6,7 +6,7 @@ ghost use Rattle.oa_fits.specs.Fits.{fits};
 ghost use Rattle.oa_turn.specs.Decisions.{IsQuiet};
 ghost use Rattle.oa_turn.specs.OwnCodes.{is_own};
 ghost use Rattle.oa_turn.specs.States.{State};
-ghost use Rattle.oa_turn.specs.Steps.{outcome, reply_of};
+ghost use Rattle.oa_turn.specs.Steps.{outcome, reply_to};
 ghost use Rattle.oa_turn.specs.Traces.{done_bodies, done_replies, kept_bodies, kept_replies};
 ghost use Rattle.oa_turn.specs.Turns.{Run, Turn};
 ghost use Rattle.oa_idl.specs.Trees.{TreeValue};
@@ -14,7 +14,7 @@ ghost use Rattle.oa_table.specs.Locks.{with_lock, without_lock};
 ghost use Rattle.oa_table.specs.Tables.{TableValue, unlocked_table};
 ghost use Rattle.oa_table.specs.declared.name.CellName.{CellName as AName};
 ghost use Rattle.oa_typelib.specs.Checked.{IsChecked};
-ghost use Rattle.oa_keeps.specs.Keeps.{Keeps, first_lost};
+ghost use Rattle.oa_keeps.specs.Keeps.{KeepsLibrary, first_lost};
 
 use oa_fits::laws::changes_that_fit;
 use oa_idl::laws::one_tree;
@@ -24,7 +24,7 @@ use oa_record::laws::one_request;
 /// leaves the state as it was, and the other turns of a run alone are a run, with the same replies; so are they together with any of the
 /// turns that leave no trace.
 pub fn no_trace()
-    ensures outcome { (state : State) (tag : ℕ) (request : ARequest) → ((reply_of state tag request).code.0 ≡ 0 → ⊥)
+    ensures outcome { (state : State) (tag : ℕ) (request : ARequest) → ((reply_to state tag request).code.0 ≡ 0 → ⊥)
         → IsQuiet (outcome state request) }
     ensures turn { (old new : State) (body : List ℕ) (reply : ReplyValue) → Turn old body reply new → (reply.code.0 ≡ 0 → ⊥) → new ≡ old }
     ensures others { (old new : State) (bodies : List (List ℕ)) (replies : List ReplyValue) → Run old bodies replies new
@@ -36,9 +36,9 @@ pub fn no_trace()
 /// A table that a library can have is one that each library can have that keeps it. Locks are no part of that. A library replaces another
 /// exactly where it keeps it.
 pub fn kept_fits()
-    ensures fits { (new old : TreeValue) → IsChecked new → Keeps new old → (table : TableValue) → fits old table ≡ true
+    ensures fits { (new old : TreeValue) → IsChecked new → KeepsLibrary new old → (table : TableValue) → fits old table ≡ true
         → fits new table ≡ true }
-    ensures keeps { (new old : TreeValue) → IsChecked new → (first_lost new old ≡ None) ↔ Keeps new old }
+    ensures keeps { (new old : TreeValue) → IsChecked new → (first_lost new old ≡ None) ↔ KeepsLibrary new old }
 {
     oa_fits::laws::kept_fits();
 }
@@ -55,7 +55,7 @@ pub fn fits_stays()
 
 /// No turn answers STG_E_WRITEFAULT or E_FAIL: these tell of the device alone.
 pub fn own_codes()
-    ensures step { (state : State) (tag : ℕ) (request : ARequest) → is_own (reply_of state tag request).code ≡ true }
+    ensures step { (state : State) (tag : ℕ) (request : ARequest) → is_own (reply_to state tag request).code ≡ true }
     ensures turn { (old : State) (body : List ℕ) (reply : ReplyValue) (new : State) → Turn old body reply new → is_own reply.code ≡ true }
 {}
 

@@ -3,7 +3,7 @@ ghost use Rattle.std.specs.Prelude.{◌≡◌, ◌-◌, true, Ok, length, nat_lt
 ghost use Rattle.oa_image.specs.Tables.{reserved_bytes, table_image};
 ghost use Rattle.oa_table.specs.Events.{applied};
 ghost use Rattle.oa_table.specs.Tables.{TableValue};
-ghost use Rattle.oa_turn.specs.Limits.{Refuses, allowed, within_limits};
+ghost use Rattle.oa_turn.specs.Limits.{GivesReason, allowed, within_limits};
 
 use crate::applies::refusal_of;
 use oa_image::{RESERVED_BYTES, event_len};
@@ -19,7 +19,7 @@ fn most_of(bank: u32) -> u64
 
 /// Why an event is not allowed where the body of a bank has so many bytes; None where it is. Takes no memory.
 pub(crate) fn refusal(bank: u32, table: &Table, event: &Event) -> Option<HResult>
-    ensures { Refuses (allowed bank event.now table.now) result }
+    ensures { GivesReason (allowed bank event.now table.now) result }
 {
     if let Some(fault) = refusal_of(table, event) {
         return Some(fault.code());

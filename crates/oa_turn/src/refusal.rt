@@ -1,6 +1,6 @@
 //! Why a request is refused.
 ghost use Rattle.std.specs.Prelude.{◌≡◌, None};
-ghost use Rattle.oa_typelib.specs.MemberCodes.{code_of};
+ghost use Rattle.oa_typelib.specs.MemberCodes.{member_code};
 
 use oa_model::HResult;
 use oa_typelib::MemberFault;
@@ -22,7 +22,7 @@ impl Refusal {
 }
 
 impl From<MemberFault> for Refusal {
-    ghost from_gives = { λ fault refusal. refusal ≡ record { code = code_of fault; index = None } };
+    ghost from_gives = { λ fault refusal. refusal ≡ record { code = member_code fault; index = None } };
 
     fn from(fault: MemberFault) -> Refusal {
         Refusal::of(fault.code())

@@ -13,9 +13,9 @@ use Rattle.oa_idl.specs.declared.items.Item.{Item}
 use Rattle.oa_idl.specs.declared.items.Item.TheVariants.{Interface, Coclass}
 use Rattle.oa_idl.specs.declared.stop.TreeLimit.TheVariants as limits
 use Rattle.oa_checks.specs.Breaches.{unknown_name, entry_breach}
-use Rattle.oa_typelib.specs.Checked.{IsChecked, HasClass, IsWhole}
-use Rattle.oa_typelib.specs.Descriptions.{entry_at, entry_description, interfaces_of}
-use Rattle.oa_checks.specs.Libraries.{same, same_name, name_of, guid_of, as_interface, as_class, interface_named}
+use Rattle.oa_typelib.specs.Checked.{IsChecked, HasClass, HasSoundItems}
+use Rattle.oa_typelib.specs.Descriptions.{described_entry, entry_description, interfaces_of}
+use Rattle.oa_checks.specs.Libraries.{same, same_name, item_name, item_guid, as_interface, as_class, interface_named}
 use Rattle.oa_checks.specs.Libraries.{item_with, class_of, default_interface, mark_first, marked_entries, marked_item}
 use Rattle.oa_typelib.proofs.Found.{find_all}
 use Rattle.oa_typelib.proofs.Grouping.{any_place}
@@ -84,12 +84,12 @@ as_named : (ys : List Item) (name : List ℕ) → IsSome (interface_named ys nam
 as_named [] name h = absurd (true≢false (sym h))
 as_named (Interface i ∷ ys) name h = by (same_name name i.name) h (as_named ys name)
   where
-    by : (b : Bool) → IsSome (option_and_then as_interface (cond b (Some (Interface i)) (find (λ (y : Item). same_name name (name_of y)) ys))) → (IsSome (interface_named ys name) → list_any (λ (j : InterfaceValue). same_name name j.name) (interfaces_of ys) ≡ true) → (b || list_any (λ (j : InterfaceValue). same_name name j.name) (interfaces_of ys)) ≡ true
+    by : (b : Bool) → IsSome (option_and_then as_interface (cond b (Some (Interface i)) (find (λ (y : Item). same_name name (item_name y)) ys))) → (IsSome (interface_named ys name) → list_any (λ (j : InterfaceValue). same_name name j.name) (interfaces_of ys) ≡ true) → (b || list_any (λ (j : InterfaceValue). same_name name j.name) (interfaces_of ys)) ≡ true
     by true k rest = refl
     by false k rest = rest k
 as_named (Coclass c ∷ ys) name h = by (same_name name c.name) h (as_named ys name)
   where
-    by : (b : Bool) → IsSome (option_and_then as_interface (cond b (Some (Coclass c)) (find (λ (y : Item). same_name name (name_of y)) ys))) → (IsSome (interface_named ys name) → list_any (λ (j : InterfaceValue). same_name name j.name) (interfaces_of ys) ≡ true) → list_any (λ (j : InterfaceValue). same_name name j.name) (interfaces_of ys) ≡ true
+    by : (b : Bool) → IsSome (option_and_then as_interface (cond b (Some (Coclass c)) (find (λ (y : Item). same_name name (item_name y)) ys))) → (IsSome (interface_named ys name) → list_any (λ (j : InterfaceValue). same_name name j.name) (interfaces_of ys) ≡ true) → list_any (λ (j : InterfaceValue). same_name name j.name) (interfaces_of ys) ≡ true
     by true k rest = absurd (true≢false (sym k))
     by false k rest = rest k
 
@@ -101,10 +101,10 @@ some_position ys name h =
     ∙ list_any-map key (same (folded_name name)) (interfaces_of ys)
     ∙ as_named ys name h
 
-at_some : (is_default : Bool) (m n : ℕ) → n ≤ 256 → IsSome (cond (nat_lt m n) (Some m) None) → IsSome (option_and_then (entry_at is_default) (cond (nat_lt m n) (Some m) None))
+at_some : (is_default : Bool) (m n : ℕ) → n ≤ 256 → IsSome (cond (nat_lt m n) (Some m) None) → IsSome (option_and_then (described_entry is_default) (cond (nat_lt m n) (Some m) None))
 at_some is_default m n few = by (nat_lt m n) refl
   where
-    by : (b : Bool) → nat_lt m n ≡ b → IsSome (cond b (Some m) None) → IsSome (option_and_then (entry_at is_default) (cond b (Some m) None))
+    by : (b : Bool) → nat_lt m n ≡ b → IsSome (cond b (Some m) None) → IsSome (option_and_then (described_entry is_default) (cond b (Some m) None))
     by true h some = let small : nat_lt m 4294967296 ≡ true = grind (arith, nat_tests) in rw small refl
     by false h some = absurd (true≢false (sym some))
 
@@ -138,7 +138,7 @@ all_classes : (ws xs : List Item) → length (interfaces_of (map marked_item ws)
 all_classes ws [] few some none = tt
 all_classes ws (x ∷ xs) few some none = (class_of_item ws x few some.0 none.0, all_classes ws xs few some.1 none.1)
 
-pub tree_whole : (t : TreeValue) → IsChecked t → IsWhole t
+pub tree_whole : (t : TreeValue) → IsChecked t → HasSoundItems t
 tree_whole t is =
     let w = is.1.tree in
     let few : length (interfaces_of (map marked_item w.items)) ≤ 256 = omega (arith, marked_interfaces w.items, is.1.stands.kept limits.Interfaces) in
@@ -154,5 +154,5 @@ of_item items None h some = absurd (true≢false (sym some))
 of_item items (Some (Interface i)) h some = absurd (true≢false (sym some))
 of_item items (Some (Coclass c)) h some = h.default
 
-pub class_default : (t : TreeValue) (guid : List ℕ) → IsWhole t → IsSome (class_of t guid) → IsSome (option_and_then (default_interface t.items) (class_of t guid))
-class_default t guid whole some = of_item t.items (item_with t.items guid) (find_all (HasClass t.items) (λ i. same guid (guid_of i)) t.items whole.classes) some
+pub class_default : (t : TreeValue) (guid : List ℕ) → HasSoundItems t → IsSome (class_of t guid) → IsSome (option_and_then (default_interface t.items) (class_of t guid))
+class_default t guid whole some = of_item t.items (item_with t.items guid) (find_all (HasClass t.items) (λ i. same guid (item_guid i)) t.items whole.classes) some

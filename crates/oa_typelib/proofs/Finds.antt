@@ -13,10 +13,10 @@ use Rattle.oa_idl.specs.Canonical.{canonical}
 use Rattle.oa_idl.specs.declared.parts.Entry.{Entry}
 use Rattle.oa_idl.specs.declared.items.Item.{Item}
 use Rattle.oa_idl.specs.declared.items.Item.TheVariants.{Interface, Coclass}
-use Rattle.oa_checks.specs.Libraries.{same, name_of, guid_of, as_interface, as_class, has_interface, if_entered}
+use Rattle.oa_checks.specs.Libraries.{same, item_name, item_guid, as_interface, as_class, has_interface, if_entered}
 use Rattle.oa_checks.specs.Libraries.{interface_of, class_of, interface_named, default_interface, marked_item, marked}
 use Rattle.oa_checks.specs.declared.fault.CheckError.TheVariants.{TextTooLong}
-use Rattle.oa_checks.specs.Breaches.{Refuses, first_breach, length_breach, text_breach}
+use Rattle.oa_checks.specs.Breaches.{RefusesBreach, first_breach, length_breach, text_breach}
 use Rattle.oa_checks.specs.IsLibrary.{IsLibrary}
 use Rattle.oa_checks.specs.declared.fault.CheckError.{CheckError}
 use Rattle.oa_idl.specs.IsTree.{IsTree}
@@ -54,11 +54,11 @@ pub kept : {Y : Type 0} (f : Item → Y) → ((i : Item) → f (marked_item i) �
 kept f same_f [] = refl
 kept f same_f (i ∷ items) = ap (λ y. y ∷ map f (map marked_item items)) (same_f i) ∙ ap (λ ys. f i ∷ ys) (kept f same_f items)
 
-pub name_kept : (i : Item) → folded_name (name_of (marked_item i)) ≡ folded_name (name_of i)
+pub name_kept : (i : Item) → folded_name (item_name (marked_item i)) ≡ folded_name (item_name i)
 name_kept (Interface i) = refl
 name_kept (Coclass c) = refl
 
-pub guid_kept : (i : Item) → guid_of (marked_item i) ≡ guid_of i
+pub guid_kept : (i : Item) → item_guid (marked_item i) ≡ item_guid i
 guid_kept (Interface i) = refl
 guid_kept (Coclass c) = refl
 
@@ -68,7 +68,7 @@ unfolding text_breach
 length_of_marked tree t is = rw is refl
 
 -- where there is no breach, the library is that of each text that stands for the tree
-pub library_of_texts : (tree : TreeValue) (r : Result TreeValue CheckError) → Refuses (first_breach tree) (λ library. library ≡ marked tree) r
+pub library_of_texts : (tree : TreeValue) (r : Result TreeValue CheckError) → RefusesBreach (first_breach tree) (λ library. library ≡ marked tree) r
     → IfOk r (λ library. (text : List ℕ) → IsTree text tree → IsLibrary text library)
 library_of_texts tree (Ok library) h = λ text is. record { tree = tree; stands = is; unbroken = h.0; says = h.1 }
 library_of_texts tree (Err e) h = tt
@@ -88,7 +88,7 @@ pub never : (k : Option CoclassValue) → None ≡ option_and_then (λ c. option
 never None = refl
 never (Some c) = refl
 
-here : (c : CoclassValue) (i : InterfaceValue) (o : Option Item) → Some i ≡ option_and_then as_interface o → unwrap_or (option_map (enters c) (option_map (λ x. folded_name (name_of x)) o)) false ≡ has_interface c i
+here : (c : CoclassValue) (i : InterfaceValue) (o : Option Item) → Some i ≡ option_and_then as_interface o → unwrap_or (option_map (enters c) (option_map (λ x. folded_name (item_name x)) o)) false ≡ has_interface c i
 here c i None e = absurd (cc)
 here c i (Some (Interface d)) e = let is : d ≡ i = cc in rw is refl
 here c i (Some (Coclass d)) e = absurd (cc)
@@ -97,7 +97,7 @@ flag_is : (items : List Item) (place : ℕ) (i : InterfaceValue) (k : Option Ite
 flag_is items place i None e = refl
 flag_is items place i (Some (Interface d)) e = refl
 flag_is items place i (Some (Coclass c)) e =
-    ap (λ o. unwrap_or o false) (slice_get-map (enters c) (folded_names items) place ∙ ap (option_map (enters c)) (slice_get-map (λ (x : Item). folded_name (name_of x)) items place))
+    ap (λ o. unwrap_or o false) (slice_get-map (enters c) (folded_names items) place ∙ ap (option_map (enters c)) (slice_get-map (λ (x : Item). folded_name (item_name x)) items place))
     ∙ here c i (slice_get items place) e
 
 when : (i : InterfaceValue) (k : Option CoclassValue) (b : Bool) → option_map_or (λ c. has_interface c i) k false ≡ b → (if b then Some i else None) ≡ option_and_then (λ c. if_entered c i) k
@@ -113,9 +113,9 @@ chosen items class place i b at flag =
     ∙ ap (λ o. option_and_then (λ c. option_and_then (if_entered c) o) (option_and_then as_class (slice_get items class))) at
 
 -- the same by GUIDs
-pub by_places : (t : TreeValue) (class interface : List ℕ) (m n : Option ℕ) → m ≡ position (λ (i : Item). same class (guid_of i)) t.items → n ≡ position (λ (i : Item). same interface (guid_of i)) t.items
+pub by_places : (t : TreeValue) (class interface : List ℕ) (m n : Option ℕ) → m ≡ position (λ (i : Item). same class (item_guid i)) t.items → n ≡ position (λ (i : Item). same interface (item_guid i)) t.items
     → option_and_then (λ c. option_and_then (if_entered c) (option_and_then as_interface (option_and_then (slice_get t.items) n))) (option_and_then as_class (option_and_then (slice_get t.items) m)) ≡ option_and_then (λ c. option_and_then (if_entered c) (interface_of t interface)) (class_of t class)
 by_places t class interface m n e f =
     sym
-    (ap (λ o. option_and_then (λ c. option_and_then (if_entered c) o) (class_of t class)) (found_by_place as_interface (λ (i : Item). same interface (guid_of i)) t.items n f)
-    ∙ ap (option_and_then (λ c. option_and_then (if_entered c) (option_and_then as_interface (option_and_then (slice_get t.items) n)))) (found_by_place as_class (λ (i : Item). same class (guid_of i)) t.items m e))
+    (ap (λ o. option_and_then (λ c. option_and_then (if_entered c) o) (class_of t class)) (found_by_place as_interface (λ (i : Item). same interface (item_guid i)) t.items n f)
+    ∙ ap (option_and_then (λ c. option_and_then (if_entered c) (option_and_then as_interface (option_and_then (slice_get t.items) n)))) (found_by_place as_class (λ (i : Item). same class (item_guid i)) t.items m e))

@@ -13,7 +13,7 @@ use Rattle.oa_idl.specs.Values.{InterfaceValue}
 use Rattle.oa_idl.specs.declared.parts.Parameter.{Parameter}
 use Rattle.oa_idl.specs.declared.items.Item.{Item}
 use Rattle.oa_idl.specs.declared.items.Item.TheVariants.{Interface, Coclass}
-use Rattle.oa_typelib.specs.Bindable.{IsBindable, IsSound, AreSound, IsSoundItem}
+use Rattle.oa_typelib.specs.Bindable.{IsBindable, IsSoundDeclaration, AreSound, IsSoundItem}
 use Rattle.oa_checks.specs.DeclarationValues.{DeclarationValue}
 use Rattle.oa_checks.specs.Declarations.{declarations, is_put, own_parameters, type_of_value}
 use Rattle.oa_checks.specs.Defaults.{default_value}
@@ -73,7 +73,7 @@ few_own d h = by (is_put d.kind)
     by true = omega (arith, length-take (length d.parameters - 1) d.parameters, h)
     by false = h
 
-property_bindable : (forms : List DeclarationValue) (d : DeclarationValue) (o : Option ValueType) → IsSound d → is_method d.kind ≡ false → IfSome o HasZero → IfSome (option_map (property_of forms d) o) IsBindable
+property_bindable : (forms : List DeclarationValue) (d : DeclarationValue) (o : Option ValueType) → IsSoundDeclaration d → is_method d.kind ≡ false → IfSome o HasZero → IfSome (option_map (property_of forms d) o) IsBindable
 property_bindable forms d None is property has = tt
 property_bindable forms d (Some t) is property has = record { zero = has; few = few_own d is.few; scalars = is.scalars property; defaults = is.defaults }
 
@@ -92,7 +92,7 @@ answered : (o : Option MemberValue) (access : Access) → IfSome o IsBindable �
 answered None access h = tt
 answered (Some m) access h = formed m (kind_asked access) h
 
-answer_bindable : (o : Option DeclarationValue) (forms : List DeclarationValue) (access : Access) → IfSome o IsSound → Found (answer o forms access)
+answer_bindable : (o : Option DeclarationValue) (forms : List DeclarationValue) (access : Access) → IfSome o IsSoundDeclaration → Found (answer o forms access)
 answer_bindable None forms access h = tt
 answer_bindable (Some d) forms access h = by (is_method d.kind) refl
   where
@@ -100,7 +100,7 @@ answer_bindable (Some d) forms access h = by (is_method d.kind) refl
     by true e = tt
     by false e = answered (option_map (property_of forms d) (type_of_value d)) access (property_bindable forms d (type_of_value d) h e h.zero)
 
-with_bindable : (o : Option DeclarationValue) (forms : List DeclarationValue) → IfSome o IsSound → IfSome (property_with o forms) IsBindable
+with_bindable : (o : Option DeclarationValue) (forms : List DeclarationValue) → IfSome o IsSoundDeclaration → IfSome (property_with o forms) IsBindable
 with_bindable None forms h = tt
 with_bindable (Some d) forms h = by (is_method d.kind) refl
   where
@@ -108,15 +108,15 @@ with_bindable (Some d) forms h = by (is_method d.kind) refl
     by true e = tt
     by false e = property_bindable forms d (type_of_value d) h e h.zero
 
-either : (o p : Option DeclarationValue) → IfSome o IsSound → IfSome p IsSound → IfSome (option_or o p) IsSound
+either : (o p : Option DeclarationValue) → IfSome o IsSoundDeclaration → IfSome p IsSoundDeclaration → IfSome (option_or o p) IsSoundDeclaration
 either None p h k = k
 either (Some d) p h k = h
 
-main_sound : (forms : List DeclarationValue) → AreSound forms → IfSome (main_form forms) IsSound
-main_sound forms all = either (form_for kinds.Get forms) (slice_get forms 0) (find_all IsSound (λ (d : DeclarationValue). lets kinds.Get d.kind) forms all) (get_all IsSound forms 0 all)
+main_sound : (forms : List DeclarationValue) → AreSound forms → IfSome (main_form forms) IsSoundDeclaration
+main_sound forms all = either (form_for kinds.Get forms) (slice_get forms 0) (find_all IsSoundDeclaration (λ (d : DeclarationValue). lets kinds.Get d.kind) forms all) (get_all IsSoundDeclaration forms 0 all)
 
 with_sound : (i : InterfaceValue) (id : ℤ) → AreSound (declarations i) → AreSound (forms_with id i)
-with_sound i id all = filter_all IsSound (λ (d : DeclarationValue). int_eq id d.id) (declarations i) all
+with_sound i id all = filter_all IsSoundDeclaration (λ (d : DeclarationValue). int_eq id d.id) (declarations i) all
 
 -- a member of an interface
 pub member_bindable : (i : InterfaceValue) (id : ℤ) (access : Access) → AreSound (declarations i) → Found (member_in i id access)

@@ -16,11 +16,11 @@ use Rattle.oa_idl.specs.declared.parts.Entry.{Entry}
 use Rattle.oa_checks.specs.DeclarationValues.{DeclarationValue}
 use Rattle.oa_checks.specs.Declarations.{declarations}
 use Rattle.oa_typelib.specs.DescriptionValues.ContentDescription.{OfCoclass}
-use Rattle.oa_typelib.specs.Descriptions.{first_names, put_last, members_described, entry_at, entry_description}
+use Rattle.oa_typelib.specs.Descriptions.{first_names, put_last, members_described, described_entry, entry_description}
 use Rattle.oa_typelib.specs.Descriptions.{interfaces_of, classes_of, interface_description, class_description, description_at}
-use Rattle.oa_typelib.specs.Groups.{GroupsValue, distinct, groups_of, places_of, places_in}
+use Rattle.oa_typelib.specs.Groups.{GroupsValue, distinct, keys_with_places, places_of, places_in}
 use Rattle.oa_typelib.specs.IndexValues.{MembersValue, IndexValue}
-use Rattle.oa_typelib.specs.Indexes.{grouped, enters, first_in, entry_in, class_in}
+use Rattle.oa_typelib.specs.Indexes.{grouped, enters, first_in, entry_in, described_class}
 use Rattle.oa_checks.specs.Defaults.{defaults_of}
 use Rattle.oa_checks.specs.Libraries.{same, same_name}
 use Rattle.oa_typelib.proofs.Grouping.{any_place, at_places, first_place, group_of}
@@ -44,7 +44,7 @@ module _ (m : MembersValue) (ds : List DeclarationValue) (is : m ≡ grouped ds)
 
 -- ---- the members by names that are gathered
 abbrev pub grouped_by : List (List ℕ) → List ℤ → List (List (Option Scalar)) → MembersValue
-grouped_by names ids defaults = record { by_name = groups_of same names; by_id = groups_of int_eq ids; defaults = defaults }
+grouped_by names ids defaults = record { by_name = keys_with_places same names; by_id = keys_with_places int_eq ids; defaults = defaults }
 
 -- the defaults that are kept for the declaration at a place
 same_inside : {X : Type 0} (x y : X) → Some x ≡ Some y → x ≡ y
@@ -99,14 +99,14 @@ in_order i groups is =
 
 -- ---- interfaces by names that are gathered
 abbrev pub indexed_by : List MembersValue → List (List ℕ) → List (List Bool) → IndexValue
-indexed_by members names entered = record { members = members; interfaces = groups_of same names; entered = entered }
+indexed_by members names entered = record { members = members; interfaces = keys_with_places same names; entered = entered }
 
 -- the first place of a name
-first_of : (names : List (List ℕ)) (key : List ℕ) → first_in (groups_of same names) key ≡ position (same key) names
+first_of : (names : List (List ℕ)) (key : List ℕ) → first_in (keys_with_places same names) key ≡ position (same key) names
 first_of names key = ap (λ ps. slice_get ps 0) (group_of same nat_list_eq_equiv key names) ∙ first_place same key names
 
 -- the place of the interface with a name
-by_name : (is : List InterfaceValue) (name : List ℕ) → first_in (groups_of same (map (λ (i : InterfaceValue). folded_name i.name) is)) (folded_name name) ≡ position (λ (i : InterfaceValue). same_name name i.name) is
+by_name : (is : List InterfaceValue) (name : List ℕ) → first_in (keys_with_places same (map (λ (i : InterfaceValue). folded_name i.name) is)) (folded_name name) ≡ position (λ (i : InterfaceValue). same_name name i.name) is
 by_name is name = first_of (map (λ (i : InterfaceValue). folded_name i.name) is) (folded_name name) ∙ position-map (λ (i : InterfaceValue). folded_name i.name) (same (folded_name name)) is
 
 -- ---- which items the entries of a coclass name
@@ -114,12 +114,12 @@ turned : (key : List ℕ) (es : List Entry) → list_any (λ (e : Entry). same k
 turned key [] = refl
 turned key (e ∷ es) = rw (nat_list_eq_equiv.symm key (folded_name e.interface), turned key es) refl
 
-is_entered : (c : CoclassValue) (key : List ℕ) → is_some (first_in (groups_of same (map (λ (e : Entry). folded_name e.interface) c.entries)) key) ≡ enters c key
+is_entered : (c : CoclassValue) (key : List ℕ) → is_some (first_in (keys_with_places same (map (λ (e : Entry). folded_name e.interface) c.entries)) key) ≡ enters c key
 is_entered c key =
     let names = map (λ (e : Entry). folded_name e.interface) c.entries in
     ap is_some (first_of names key) ∙ any_place same key names ∙ list_any-map (λ (e : Entry). folded_name e.interface) (same key) c.entries ∙ turned key c.entries
 
-pub all_flags : (c : CoclassValue) (groups : GroupsValue (List ℕ)) (keys : List (Vec ℕ Global)) → groups ≡ groups_of same (map (λ (e : Entry). folded_name e.interface) c.entries) → map (λ (k : Vec ℕ Global). is_some (first_in groups k.items)) keys ≡ map (enters c) (map (λ (k : Vec ℕ Global). k.items) keys)
+pub all_flags : (c : CoclassValue) (groups : GroupsValue (List ℕ)) (keys : List (Vec ℕ Global)) → groups ≡ keys_with_places same (map (λ (e : Entry). folded_name e.interface) c.entries) → map (λ (k : Vec ℕ Global). is_some (first_in groups k.items)) keys ≡ map (enters c) (map (λ (k : Vec ℕ Global). k.items) keys)
 all_flags c groups [] is = refl
 all_flags c groups (k ∷ ks) is =
     let first = ap (λ g. is_some (first_in g k.items)) is ∙ is_entered c k.items in
@@ -129,10 +129,10 @@ filter_map-same : {X Y : Type 0} (f g : X → Option Y) → ((x : X) → f x ≡
 filter_map-same f g e [] = refl
 filter_map-same f g e (x ∷ xs) = rw (e x, filter_map-same f g e xs) refl
 
-pub class_by_name : (is : List InterfaceValue) (c : CoclassValue) → class_in (groups_of same (map (λ (i : InterfaceValue). folded_name i.name) is)) c ≡ class_description is c
+pub class_by_name : (is : List InterfaceValue) (c : CoclassValue) → described_class (keys_with_places same (map (λ (i : InterfaceValue). folded_name i.name) is)) c ≡ class_description is c
 class_by_name is c =
     ap (λ es. record { guid = c.guid; name = c.name; content = OfCoclass es })
-    (filter_map-same (entry_in (groups_of same (map (λ (i : InterfaceValue). folded_name i.name) is))) (entry_description is) (λ e. ap (option_and_then (entry_at e.is_default)) (by_name is e.interface)) c.entries)
+    (filter_map-same (entry_in (keys_with_places same (map (λ (i : InterfaceValue). folded_name i.name) is))) (entry_description is) (λ e. ap (option_and_then (described_entry e.is_default)) (by_name is e.interface)) c.entries)
 
 -- ---- descriptions by an index
 at_second : {X Y : Type 0} (f : X → Y) (xs : List X) (ys : List Y) (n : ℕ) → slice_get xs n ≡ None → slice_get (map f xs ++ ys) n ≡ slice_get ys (n - length xs)

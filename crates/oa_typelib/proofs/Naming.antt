@@ -17,8 +17,8 @@ use Rattle.oa_idl.specs.Values.{InterfaceValue}
 use Rattle.oa_idl.specs.declared.parts.Parameter.{Parameter}
 use Rattle.oa_idl.specs.declared.items.Item.{Item}
 use Rattle.oa_idl.specs.declared.items.Item.TheVariants.{Interface, Coclass}
-use Rattle.oa_checks.specs.Agreement.{same_type, same_result, same_default, is_optional, same_parameter, agree}
-use Rattle.oa_typelib.specs.Bindable.{IsSound, AreSound, IsSoundItem}
+use Rattle.oa_checks.specs.Agreement.{same_value_type, same_result, same_default, is_optional, same_parameter, agree}
+use Rattle.oa_typelib.specs.Bindable.{IsSoundDeclaration, AreSound, IsSoundItem}
 use Rattle.oa_checks.specs.Breaches.{repeated_name, clashes, declared_breach, item_breach, inner_breach, name_breach}
 use Rattle.oa_checks.specs.Breaches.{id_breach, guid_breach, key_breaches, tree_breach, text_breach, interface_breach}
 use Rattle.oa_checks.specs.Breaches.{form_breaches, in_interface, broken_by, first_broken, disagrees}
@@ -26,10 +26,10 @@ use Rattle.oa_typelib.specs.Checked.{IsChecked}
 use Rattle.oa_checks.specs.DeclarationValues.{DeclarationValue}
 use Rattle.oa_checks.specs.Declarations.{declarations, is_put, own_parameters, type_of_value}
 use Rattle.oa_checks.specs.Repeats.{Has}
-use Rattle.oa_checks.specs.Libraries.{same, same_name, name_of, marked_item}
+use Rattle.oa_checks.specs.Libraries.{same, same_name, item_name, marked_item}
 use Rattle.oa_typelib.specs.Members.{form_for, forms_named, lets, main_form}
 use Rattle.oa_typelib.specs.Names.{ids_in, named_in, parameter_named, place_as_id}
-use Rattle.oa_typelib.specs.Naming.{Declares, IsMember, IsParameter}
+use Rattle.oa_typelib.specs.Naming.{Declares, IsMember, IsParameterOf}
 use Rattle.oa_checks.specs.Repeats.{first_repeat, first_after}
 use Rattle.oa_typelib.specs.declared.access.Kind.TheVariants as kinds
 use Rattle.oa_checks.specs.declared.fault.CheckError.TheVariants.{DuplicateName, DuplicateId, DuplicateGuid, UnknownInterface}
@@ -242,7 +242,7 @@ pub record Names_well (i : InterfaceValue) : Type 0 where
 pub no_repeats : (xs : List Item) → name_breach xs ≡ None → (n : ℕ) (i : InterfaceValue) → slice_get xs n ≡ Some (Interface i) → first_after declared_breach [] (declarations i) ≡ None
 no_repeats xs none n i at =
     let one = none_after item_breach [] xs none n (Interface i) at in
-    (unless (list_any (λ (other : Item). same_name (name_of (Interface i)) (name_of other)) one.0) (name_of (Interface i)) (inner_breach (Interface i)) one.1).1
+    (unless (list_any (λ (other : Item). same_name (item_name (Interface i)) (item_name other)) one.0) (item_name (Interface i)) (inner_breach (Interface i)) one.1).1
 
 pub no_name_breach : (t : TreeValue) → tree_breach t ≡ None → name_breach t.items ≡ None
 no_name_breach t e =
@@ -335,7 +335,7 @@ parameter_name : (p q : Parameter) → same_parameter p q ≡ true → same_name
 unfolding same_parameter
 parameter_name p q is =
     let a = same_name p.name q.name in
-    let b = same_type p.value_type q.value_type in
+    let b = same_value_type p.value_type q.value_type in
     let c = beq p.is_in q.is_in in
     let d = beq (is_optional p) (is_optional q) in
     (and_parts a b (and_parts (a && b) c (and_parts ((a && b) && c) d (and_parts (((a && b) && c) && d) (same_default p.default q.default) is).0).0).0).0
@@ -346,7 +346,7 @@ parameter_found i well n d at name k p there is =
     let first = has_position (λ (p : Parameter). same_name name p.name) (own_parameters d) k p there is in
     let one = position_in (λ (p : Parameter). same_name name p.name) (own_parameters d) first.0 first.1 in
     let place = one_place [] (map name_of_parameter d.parameters) (well.once n d at) first.0 k one.0.name p.name (named_at d.parameters first.0 one.0 (own_at d first.0 one.0 one.1)) (named_at d.parameters k p (own_at d k p there)) (name_both name one.0.name p.name one.2 is) in
-    let few : length d.parameters ≤ 16 = (all_at IsSound (declarations i) well.sound n d at).few in
+    let few : length d.parameters ≤ 16 = (all_at IsSoundDeclaration (declarations i) well.sound n d at).few in
     let within : k < length d.parameters = slice_get_within d.parameters k p (own_at d k p there) in
     ap (option_and_then place_as_id) first.1 ∙ ap place_as_id place ∙ as_id k (omega (arith, few, within))
 
@@ -364,16 +364,16 @@ parameter_told d name id e = by (position (λ (p : Parameter). same_name name p.
 answer_at : (f : List ℕ → Option ℤ) (names : List (List ℕ)) (n : ℕ) (name : List ℕ) → slice_get names n ≡ Some name → slice_get (map f names) n ≡ Some (f name)
 answer_at f names n name at = slice_get-map f names n ∙ ap (option_map f) at
 
-pub parameters_told : (i : InterfaceValue) (member : List ℕ) (names : List (List ℕ)) (n : ℕ) (name : List ℕ) (id : ℤ) → slice_get names n ≡ Some name → slice_get (named_in i (member ∷ names)) (suc n) ≡ Some (Some id) → IsParameter i member name id
+pub parameters_told : (i : InterfaceValue) (member : List ℕ) (names : List (List ℕ)) (n : ℕ) (name : List ℕ) (id : ℤ) → slice_get names n ≡ Some name → slice_get (named_in i (member ∷ names)) (suc n) ≡ Some (Some id) → IsParameterOf i member name id
 parameters_told i member names n name id at e = by (main_form (forms_named member i)) refl e
   where
-    by : (o : Option DeclarationValue) → main_form (forms_named member i) ≡ o → slice_get (ids_in o (member ∷ names)) (suc n) ≡ Some (Some id) → IsParameter i member name id
+    by : (o : Option DeclarationValue) → main_form (forms_named member i) ≡ o → slice_get (ids_in o (member ∷ names)) (suc n) ≡ Some (Some id) → IsParameterOf i member name id
     by None is h = let z = inside None (Some id) (sym (answer_at (λ _. None) names n name at) ∙ h) in absurd cc
     by (Some d) is h =
         let one = parameter_told d name id (inside (parameter_named (own_parameters d) name) (Some id) (sym (answer_at (parameter_named (own_parameters d)) names n name at) ∙ h)) in
         record { declaration = d; declared = declares i member d is; place = one.0; parameter = one.1; there = one.2; named = one.3; has = one.4 }
 
-pub parameters_found : (i : InterfaceValue) → Names_well i → (member : List ℕ) (names : List (List ℕ)) (n : ℕ) (name : List ℕ) (id : ℤ) → slice_get names n ≡ Some name → IsParameter i member name id → slice_get (named_in i (member ∷ names)) (suc n) ≡ Some (Some id)
+pub parameters_found : (i : InterfaceValue) → Names_well i → (member : List ℕ) (names : List (List ℕ)) (n : ℕ) (name : List ℕ) (id : ℤ) → slice_get names n ≡ Some name → IsParameterOf i member name id → slice_get (named_in i (member ∷ names)) (suc n) ≡ Some (Some id)
 parameters_found i well member names n name id at h =
     let main = speaks i member h.declaration h.declared in
     let speaker = declares i member main.0 main.1 in

@@ -11,7 +11,7 @@ use Rattle.oa_model.specs.declared.var_type.VarType.{VarType}
 use Rattle.oa_model.specs.declared.var_type.VarType.TheVariants as types
 use Rattle.oa_model.specs.declared.var_type.ValueType.{ValueType}
 use Rattle.oa_model.specs.declared.var_type.ValueType.TheVariants.{One, Array}
-use Rattle.oa_checks.specs.Agreement.{same_type, same_result}
+use Rattle.oa_checks.specs.Agreement.{same_value_type, same_result}
 use Rattle.oa_checks.specs.Libraries.{same}
 use Rattle.oa_checks.specs.Repeats.{first_answer}
 use Rattle.oa_typelib.proofs.Sound.{neither}
@@ -193,13 +193,13 @@ equal_numbers m n e = grind (arith, nat_tests, e)
 one_type : (s t : VarType) → vt_of s ≡ vt_of t → s ≡ t
 one_type s t e = inside s t (sym (type_back s) ∙ ap type_at e ∙ type_back t)
 
-pub types_are : (s t : ValueType) → same_type s t ≡ true → s ≡ t
+pub types_are : (s t : ValueType) → same_value_type s t ≡ true → s ≡ t
 types_are (One s) (One t) e = ap One (one_type s t (equal_numbers (vt_of s) (vt_of t) e))
 types_are (Array s) (Array t) e = ap Array (one_type s t (omega (arith, equal_numbers (vt_of_value (Array s)) (vt_of_value (Array t)) e)))
 types_are (One s) (Array t) e = absurd (omega (arith, equal_numbers (vt_of s) (vt_of_value (Array t)) e, vt_small s))
 types_are (Array s) (One t) e = absurd (omega (arith, equal_numbers (vt_of_value (Array s)) (vt_of t) e, vt_small t))
 
-pub type_itself : (t : ValueType) → same_type t t ≡ true
+pub type_itself : (t : ValueType) → same_value_type t t ≡ true
 type_itself t = grind (arith, nat_tests)
 
 pub results_are : (o p : Option ValueType) → same_result o p ≡ true → o ≡ p

@@ -18,7 +18,7 @@ use Rattle.oa_idl.specs.declared.parts.Property.{Property}
 use Rattle.oa_idl.specs.declared.items.Item.{Item}
 use Rattle.oa_idl.specs.declared.items.Item.TheVariants.{Interface, Coclass}
 use Rattle.oa_idl.specs.declared.stop.TreeLimit.TheVariants as limits
-use Rattle.oa_typelib.specs.Bindable.{IsOne, AreScalars, HasGoodDefault, IsSound, AreSound, IsSoundItem}
+use Rattle.oa_typelib.specs.Bindable.{IsOne, AreScalars, HasGoodDefault, IsSoundDeclaration, AreSound, IsSoundItem}
 use Rattle.oa_checks.specs.Breaches.{first_breach, tree_breach, text_breach, key_breaches, interface_breach}
 use Rattle.oa_checks.specs.Breaches.{form_breaches, form_breach, array_breach, default_breach, in_interface}
 use Rattle.oa_checks.specs.Breaches.{array_in, named_first, is_array, is_bad, bad_default_in, if_optional}
@@ -116,7 +116,7 @@ method_scalars m forms.Method e n h = true-false (ap (λ (j : MethodKind). is_me
 method_scalars m forms.Get e n h = scalars_of (of_method m) (ap (λ (j : MethodKind). is_form (kind_of_method j)) e) n
 method_scalars m forms.Put e n h = scalars_of (of_method m) (ap (λ (j : MethodKind). is_form (kind_of_method j)) e) n
 
-property_sound : (p : Property) → IsTypedDeclaration (of_property p) → bad_default_in (of_property p) ≡ None → IsSound (of_property p)
+property_sound : (p : Property) → IsTypedDeclaration (of_property p) → bad_default_in (of_property p) ≡ None → IsSoundDeclaration (of_property p)
 property_sound p typed good = record {
   zero = some_zero (type_of_value (of_property p)) (holds_typed (of_property p) typed);
   few = omega arith;
@@ -124,7 +124,7 @@ property_sound p typed good = record {
   defaults = good_defaults (of_property p) good;
 }
 
-method_sound : (m : MethodValue) → IsTypedDeclaration (of_method m) → length m.parameters ≤ 16 → array_in (of_method m) ≡ None → bad_default_in (of_method m) ≡ None → IsSound (of_method m)
+method_sound : (m : MethodValue) → IsTypedDeclaration (of_method m) → length m.parameters ≤ 16 → array_in (of_method m) ≡ None → bad_default_in (of_method m) ≡ None → IsSoundDeclaration (of_method m)
 method_sound m typed few arrays good = record {
   zero = some_zero (type_of_value (of_method m)) (holds_typed (of_method m) typed);
   few = few;

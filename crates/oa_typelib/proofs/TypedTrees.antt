@@ -9,10 +9,10 @@ use Rattle.oa_model.specs.declared.var_type.ValueType.{ValueType}
 use Rattle.oa_model.specs.declared.var_type.ValueType.TheVariants.{One, Array}
 use Rattle.oa_idl.specs.declared.lexer.TokenKind.TheVariants as kinds
 use Rattle.oa_idl.specs.Forms.{Word, Form, listed, nowhere}
-use Rattle.oa_idl.specs.Words.{same_kind, type_of, type_named, if_cell}
+use Rattle.oa_idl.specs.Words.{same_kind, word_type, type_named, if_cell}
 use Rattle.oa_idl.specs.Grammar.{value_type, property, result_type, parameter, separated, method, methods, members, entry}
-use Rattle.oa_idl.specs.Grammar.{entry_grow, last_entry, no_entry, item, Content, element, elements, items_in, library}
-use Rattle.oa_idl.specs.Grammar.Content.{Import, OfItem}
+use Rattle.oa_idl.specs.Grammar.{entry_grow, last_entry, no_entry, item, LibraryContent, element, elements, items_in, library}
+use Rattle.oa_idl.specs.Grammar.LibraryContent.{Import, OfItem}
 use Rattle.oa_idl.specs.Trees.{TreeValue}
 use Rattle.oa_idl.specs.MethodValues.{MethodValue}
 use Rattle.oa_idl.specs.declared.parts.Entry.{Entry}
@@ -41,8 +41,8 @@ cell_typed : (o : Option VarType) (t : VarType) → if_cell true o ≡ Some t �
 cell_typed None t e = absurd (none-some t e)
 cell_typed (Some s) t e = with_cells s t (sf_type_of s) refl e
 
-word_typed : (unsigned : Bool) (t : VarType) (w : Word) → type_of true unsigned w ≡ Some t → IsSome (sf_type_of t)
-unfolding type_of
+word_typed : (unsigned : Bool) (t : VarType) (w : Word) → word_type true unsigned w ≡ Some t → IsSome (sf_type_of t)
+unfolding word_type
 word_typed unsigned t w e = cell_typed (type_named unsigned w.text) t (guarded (same_kind w.kind kinds.Name) (if_cell true (type_named unsigned w.text)) t e)
 
 type_typed : (v : ValueType) (ws : List Word) → value_type v ws → IsDeclarable v
@@ -109,16 +109,16 @@ item_typed (Coclass c) ws f = tt
 
 -- what holds of each item of the grammar holds of each of a tree
 module _ (P : Item → Type 0) (each : (x : Item) (ws : List Word) → item x ws → P x) where
-  abbrev OfContent : Content → Type 0
+  abbrev OfContent : LibraryContent → Type 0
   OfContent Import = Unit {0}
   OfContent (OfItem x) = P x
 
-  content_all : (e : Content) (ws : List Word) → element e ws → OfContent e
+  content_all : (e : LibraryContent) (ws : List Word) → element e ws → OfContent e
   unfolding element
   content_all Import ws f = tt
   content_all (OfItem x) ws f = each x ws f
 
-  items_all : (es : List Content) → AllByRecursion OfContent es → AllByRecursion P (items_in es)
+  items_all : (es : List LibraryContent) → AllByRecursion OfContent es → AllByRecursion P (items_in es)
   items_all [] all = tt
   items_all (Import ∷ es) all = items_all es all.1
   items_all (OfItem x ∷ es) all = (all.0, items_all es all.1)

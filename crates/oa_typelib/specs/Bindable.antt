@@ -33,14 +33,14 @@ pub record IsBindable (m : MemberValue) : Type 0 where
   pub defaults : AllByRecursion HasGoodDefault m.parameters
 
 -- The same of a declaration. A method may have parameters that are arrays.
-pub record IsSound (d : DeclarationValue) : Type 0 where
+pub record IsSoundDeclaration (d : DeclarationValue) : Type 0 where
   pub zero : IfSome (type_of_value d) HasZero
   pub few : length d.parameters ≤ max_parameters
   pub scalars : is_method d.kind ≡ false → AreScalars (own_parameters d)
   pub defaults : AllByRecursion HasGoodDefault (own_parameters d)
 
 abbrev pub AreSound : List DeclarationValue → Type 0
-AreSound = AllByRecursion IsSound
+AreSound = AllByRecursion IsSoundDeclaration
 
 abbrev pub IsSoundItem : Item → Type 0
 IsSoundItem (Interface i) = AreSound (declarations i)

@@ -23,6 +23,6 @@ abbrev pub HasClass : List Item → Item → Type 0
 HasClass items x = IfSome (as_class x) (IsClass items)
 
 -- What follows for its items: calls can be bound to each property, and each coclass is one.
-pub record IsWhole (tree : TreeValue) : Type 0 where
+pub record HasSoundItems (tree : TreeValue) : Type 0 where
   pub sound : AllByRecursion IsSoundItem tree.items
   pub classes : AllByRecursion (HasClass tree.items) tree.items

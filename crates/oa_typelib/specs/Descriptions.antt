@@ -54,12 +54,12 @@ abbrev pub interface_description : InterfaceValue → DescriptionValue
 interface_description i = record { guid = i.guid; name = i.name; content = OfInterface (map member_description (members_described i)) }
 
 -- an entry, with the index of the interface that it names, where there is one of 32 bits: in a library there always is
-abbrev pub entry_at : Bool → ℕ → Option EntryDescription
-entry_at is_default n = if nat_lt n 4294967296 then Some (record { is_default = is_default; interface = n }) else None
+abbrev pub described_entry : Bool → ℕ → Option EntryDescription
+described_entry is_default n = if nat_lt n 4294967296 then Some (record { is_default = is_default; interface = n }) else None
 
 abbrev pub entry_description : List InterfaceValue → Entry → Option EntryDescription
 entry_description interfaces e =
-    option_and_then (entry_at e.is_default) (position (λ (i : InterfaceValue). same_name e.interface i.name) interfaces)
+    option_and_then (described_entry e.is_default) (position (λ (i : InterfaceValue). same_name e.interface i.name) interfaces)
 
 abbrev pub class_description : List InterfaceValue → CoclassValue → DescriptionValue
 class_description interfaces c =

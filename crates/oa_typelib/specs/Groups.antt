@@ -16,8 +16,8 @@ unfoldable pub places_of : {K : Type 0} → (K → K → Bool) → K → List K 
 places_of eq key [] = []
 places_of eq key (k ∷ ks) = if eq key k then zero ∷ map (λ n. suc n) (places_of eq key ks) else map (λ n. suc n) (places_of eq key ks)
 
-abbrev pub groups_of : {K : Type 0} → (K → K → Bool) → List K → GroupsValue K
-groups_of eq keys = record { keys = distinct eq keys; places = map (λ k. places_of eq k keys) (distinct eq keys) }
+abbrev pub keys_with_places : {K : Type 0} → (K → K → Bool) → List K → GroupsValue K
+keys_with_places eq keys = record { keys = distinct eq keys; places = map (λ k. places_of eq k keys) (distinct eq keys) }
 
 -- a further place of a group, or the first of a new one
 unfoldable pub with_place : ℕ → ℕ → List (List ℕ) → List (List ℕ)

@@ -16,10 +16,10 @@ use Rattle.oa_checks.specs.Declarations.{declarations, is_put}
 use Rattle.oa_checks.specs.Defaults.{defaults_of}
 use Rattle.oa_typelib.specs.DescriptionValues.{EntryDescription, DescriptionValue}
 use Rattle.oa_typelib.specs.DescriptionValues.ContentDescription.{OfCoclass}
-use Rattle.oa_typelib.specs.Descriptions.{entry_at, interfaces_of}
-use Rattle.oa_typelib.specs.Groups.{GroupsValue, groups_of, places_in}
+use Rattle.oa_typelib.specs.Descriptions.{described_entry, interfaces_of}
+use Rattle.oa_typelib.specs.Groups.{GroupsValue, keys_with_places, places_in}
 use Rattle.oa_typelib.specs.IndexValues.{MembersValue, IndexValue}
-use Rattle.oa_checks.specs.Libraries.{same, guid_of, folded_names}
+use Rattle.oa_checks.specs.Libraries.{same, item_guid, folded_names}
 
 -- the place of the interface of the default entry in a list of folded names
 abbrev pub default_among : List (List ℕ) → List Entry → Option ℕ
@@ -35,8 +35,8 @@ default_in names (Coclass c) = default_among names c.entries
 abbrev pub grouped : List DeclarationValue → MembersValue
 grouped ds =
     record {
-      by_name = groups_of same (map (λ (d : DeclarationValue). folded_name d.name) ds);
-      by_id = groups_of int_eq (map (λ (d : DeclarationValue). d.id) ds);
+      by_name = keys_with_places same (map (λ (d : DeclarationValue). folded_name d.name) ds);
+      by_id = keys_with_places int_eq (map (λ (d : DeclarationValue). d.id) ds);
       defaults = map defaults_of ds;
     }
 
@@ -67,7 +67,7 @@ index_of tree =
     record {
       members = map members_in tree.items;
       entered = map (entered_in (folded_names tree.items)) tree.items;
-      interfaces = groups_of same (map (λ (i : InterfaceValue). folded_name i.name) (interfaces_of tree.items));
+      interfaces = keys_with_places same (map (λ (i : InterfaceValue). folded_name i.name) (interfaces_of tree.items));
     }
 
 -- one of the two parts of a member's declarations: those that are puts, or those that are not
@@ -80,14 +80,14 @@ first_in groups name = slice_get (places_in (position (same name) groups.keys) g
 
 -- an entry, and a coclass, by it
 abbrev pub entry_in : GroupsValue (List ℕ) → Entry → Option EntryDescription
-entry_in groups e = option_and_then (entry_at e.is_default) (first_in groups (folded_name e.interface))
+entry_in groups e = option_and_then (described_entry e.is_default) (first_in groups (folded_name e.interface))
 
-abbrev pub class_in : GroupsValue (List ℕ) → CoclassValue → DescriptionValue
-class_in groups c = record { guid = c.guid; name = c.name; content = OfCoclass (filter_map (entry_in groups) c.entries) }
+abbrev pub described_class : GroupsValue (List ℕ) → CoclassValue → DescriptionValue
+described_class groups c = record { guid = c.guid; name = c.name; content = OfCoclass (filter_map (entry_in groups) c.entries) }
 
 abbrev pub IsIndexed : TreeValue → List (List ℕ) → IndexValue → List (Option ℕ) → List ℕ → Type 0
 IsIndexed tree guids index defaults text =
-    (guids ≡ map guid_of tree.items)
+    (guids ≡ map item_guid tree.items)
     × (index ≡ index_of tree)
     × (defaults ≡ map (default_in (folded_names tree.items)) tree.items)
     × (text ≡ canonical tree)

@@ -6,9 +6,9 @@ use Rattle.oa_typelib.specs.declared.access.MemberFault.TheVariants.{MemberNotFo
 use Rattle.oa_typelib.specs.declared.described.DescribeError.{DescribeError}
 use Rattle.oa_typelib.specs.declared.described.DescribeError.TheVariants.{BadIndex, Memory}
 
-abbrev pub code_of : MemberFault → HResult
-code_of MemberNotFound = disp_e_membernotfound
-code_of NotImplemented = e_notimpl
+abbrev pub member_code : MemberFault → HResult
+member_code MemberNotFound = disp_e_membernotfound
+member_code NotImplemented = e_notimpl
 
 abbrev pub describe_code : DescribeError → HResult
 describe_code BadIndex = disp_e_badindex

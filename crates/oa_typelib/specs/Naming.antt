@@ -20,7 +20,7 @@ pub record IsMember (i : InterfaceValue) (name : List ℕ) (id : ℤ) : Type 0 w
   pub has : declaration.id ≡ id
 
 -- A parameter of the member of a name has this name, and its DISPID is its place. The new value of a put is none of them.
-pub record IsParameter (i : InterfaceValue) (member name : List ℕ) (id : ℤ) : Type 0 where
+pub record IsParameterOf (i : InterfaceValue) (member name : List ℕ) (id : ℤ) : Type 0 where
   pub declaration : DeclarationValue
   pub declared : Declares i member declaration
   pub place : ℕ
@@ -40,4 +40,4 @@ abbrev pub NamesParameters : InterfaceValue → Type 0
 NamesParameters i =
     (member : List ℕ) (names : List (List ℕ)) (n : ℕ) (name : List ℕ) (id : ℤ)
     → slice_get names n ≡ Some name
-    → (slice_get (named_in i (member ∷ names)) (suc n) ≡ Some (Some id)) ↔ IsParameter i member name id
+    → (slice_get (named_in i (member ∷ names)) (suc n) ≡ Some (Some id)) ↔ IsParameterOf i member name id

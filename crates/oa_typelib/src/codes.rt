@@ -1,6 +1,6 @@
 //! The codes of replies with the library's refusals.
 ghost use Rattle.std.specs.Prelude.{◌≡◌};
-ghost use Rattle.oa_typelib.specs.MemberCodes.{code_of, describe_code};
+ghost use Rattle.oa_typelib.specs.MemberCodes.{member_code, describe_code};
 
 use crate::{DescribeError, MemberFault};
 use oa_model::HResult;
@@ -8,7 +8,7 @@ use oa_model::HResult;
 impl MemberFault {
     /// The code of a reply with this refusal (MS-ERREF section 2.1).
     pub fn code(self) -> HResult
-        ensures { result ≡ code_of self }
+        ensures { result ≡ member_code self }
     {
         match self {
             MemberFault::MemberNotFound => HResult::DISP_E_MEMBERNOTFOUND,

@@ -4,8 +4,8 @@ ghost use Rattle.std.specs.List.{filter, filter_map};
 ghost use Rattle.std.specs.Option.{option_and_then};
 ghost use Rattle.oa_checks.specs.Declarations.{declarations};
 ghost use Rattle.oa_checks.specs.Defaults.{default_value};
-ghost use Rattle.oa_typelib.specs.Indexes.{class_in, entry_in, is_put_or_not};
-ghost use Rattle.oa_typelib.specs.Descriptions.{classes_of, entry_at, interface_description, interfaces_of};
+ghost use Rattle.oa_typelib.specs.Indexes.{described_class, entry_in, is_put_or_not};
+ghost use Rattle.oa_typelib.specs.Descriptions.{classes_of, described_entry, interface_description, interfaces_of};
 ghost use Rattle.oa_typelib.specs.Descriptions.{member_description, members_described, parameter_description, put_last};
 ghost use Rattle.oa_checks.specs.Libraries.{as_interface};
 
@@ -163,7 +163,7 @@ pub(crate) fn interface_description<'a>(
 }
 
 fn entry_at(is_default: bool, interface: usize) -> Option<DescribedEntry>
-    ensures { result ≡ entry_at is_default interface }
+    ensures { result ≡ described_entry is_default interface }
 {
     let interface = u32::try_from(interface).ok()?;
     Some(DescribedEntry {
@@ -205,7 +205,7 @@ pub(crate) fn class_description<'a>(
     index: &Index,
     class: &'a Coclass,
 ) -> Result<Description<'a>, AllocError>
-    ensures { IfOk result (λ d. d ≡ class_in index.now.interfaces class.now) }
+    ensures { IfOk result (λ d. d ≡ described_class index.now.interfaces class.now) }
 {
     Ok(Description {
         guid: class.guid,

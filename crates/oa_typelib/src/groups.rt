@@ -5,7 +5,7 @@ ghost use Rattle.std.specs.Ordering.{int_eq};
 ghost use Rattle.indexmap.specs.IndexSet.{insert_key};
 ghost use Rattle.oa_model.specs.Folding.{folded_name};
 ghost use Rattle.oa_checks.specs.Libraries.{same};
-ghost use Rattle.oa_typelib.specs.Groups.{groups_of, places_in, with_place};
+ghost use Rattle.oa_typelib.specs.Groups.{keys_with_places, places_in, with_place};
 ghost use Rattle.oa_typelib.specs.Indexes.{first_in};
 
 use indexmap::IndexMap;
@@ -55,7 +55,7 @@ impl NameGroups {
     }
 
     pub(crate) fn of(alloc: Global, names: &[&Name]) -> Result<NameGroups, AllocError>
-        ensures { IfOk result (λ g. g ≡ groups_of same (map (λ n. folded_name n.now) names.now)) }
+        ensures { IfOk result (λ g. g ≡ keys_with_places same (map (λ n. folded_name n.now) names.now)) }
     {
         let mut groups = NameGroups {
             groups: IndexMap::new(alloc),
@@ -131,7 +131,7 @@ impl IdGroups {
     }
 
     pub(crate) fn of(alloc: Global, declarations: &[Declaration]) -> Result<IdGroups, AllocError>
-        ensures { IfOk result (λ g. g ≡ groups_of int_eq (map (λ d. d.id) declarations.now)) }
+        ensures { IfOk result (λ g. g ≡ keys_with_places int_eq (map (λ d. d.id) declarations.now)) }
     {
         let mut groups = IdGroups {
             groups: IndexMap::new(alloc),

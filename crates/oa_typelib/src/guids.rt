@@ -1,7 +1,7 @@
 //! GUIDs as pairs of numbers: two are compared without a look at each byte.
 ghost use Rattle.std.specs.Prelude.{◌≡◌, length, take, drop, position, IfSome, Some};
 ghost use Rattle.std.specs.Int.{from_le_bytes, to_le_bytes, w64};
-ghost use Rattle.oa_checks.specs.Libraries.{guid_of, same};
+ghost use Rattle.oa_checks.specs.Libraries.{item_guid, same};
 ghost use Rattle.uuid.specs.Parts.{is_nil_bytes};
 
 use oa_idl::Item;
@@ -48,7 +48,7 @@ pub fn is_zero_guid(guid: &Uuid) -> bool
 }
 
 fn item_guid(item: &Item) -> &Uuid
-    ensures { result.now ≡ guid_of item.now }
+    ensures { result.now ≡ item_guid item.now }
 {
     match item {
         Item::Interface(interface) => &interface.guid,
@@ -58,7 +58,7 @@ fn item_guid(item: &Item) -> &Uuid
 
 /// The place of the item with a GUID, where it is one of the first. So an item of a small library is found without hashing.
 pub(crate) fn place_in_front(items: &[Item], guid: &Uuid) -> Option<usize>
-    ensures { IfSome result (λ place. position (λ i. same guid.now (guid_of i)) items.now ≡ Some place) }
+    ensures { IfSome result (λ place. position (λ i. same guid.now (item_guid i)) items.now ≡ Some place) }
 {
     'items: for place in 0..items.len().min(FRONT) {
         if is_same(guid, item_guid(&items[place])) {

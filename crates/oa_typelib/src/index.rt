@@ -3,7 +3,7 @@ ghost use Rattle.std.specs.Prelude.{◌≡◌, IfOk, map, slice_get, is_some, op
 ghost use Rattle.oa_model.specs.Folding.{folded_name};
 ghost use Rattle.oa_checks.specs.Libraries.{folded_names, same};
 ghost use Rattle.oa_typelib.specs.Descriptions.{interfaces_of};
-ghost use Rattle.oa_typelib.specs.Groups.{groups_of};
+ghost use Rattle.oa_typelib.specs.Groups.{keys_with_places};
 ghost use Rattle.oa_typelib.specs.Indexes.{entered_in, enters, first_in, flag_at, index_of, members_in};
 
 use crate::groups::NameGroups;
@@ -49,7 +49,7 @@ fn item_keys(alloc: Global, items: &[Item]) -> Result<Vec<Vec<u16>>, AllocError>
 
 /// The places of interfaces among the interfaces by their names, folded.
 fn by_interface(alloc: Global, items: &[Item]) -> Result<NameGroups, AllocError>
-    ensures { IfOk result (λ g. g ≡ groups_of same (map (λ i. folded_name i.name) (interfaces_of items.now))) }
+    ensures { IfOk result (λ g. g ≡ keys_with_places same (map (λ i. folded_name i.name) (interfaces_of items.now))) }
 {
     let names = interface_names(alloc, items)?;
     NameGroups::of(alloc, names.as_slice())

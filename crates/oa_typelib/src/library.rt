@@ -4,12 +4,12 @@ ghost use Rattle.oa_idl.specs.Canonical.{canonical};
 ghost use Rattle.std.specs.Option.{option_and_then, option_map};
 ghost use Rattle.oa_idl.specs.IsTree.{IsTree};
 ghost use Rattle.oa_model.specs.Limits.{max_library_bytes};
-ghost use Rattle.oa_checks.specs.Breaches.{Refuses, first_breach, length_breach, text_breach, tree_breach};
-ghost use Rattle.oa_typelib.specs.Checked.{IsChecked, IsWhole};
+ghost use Rattle.oa_checks.specs.Breaches.{RefusesBreach, first_breach, length_breach, text_breach, tree_breach};
+ghost use Rattle.oa_typelib.specs.Checked.{IsChecked, HasSoundItems};
 ghost use Rattle.uuid.specs.Parts.{is_nil_bytes};
 ghost use Rattle.oa_typelib.specs.Contents.{Describes};
 ghost use Rattle.oa_typelib.specs.Descriptions.{description_at, interfaces_of};
-ghost use Rattle.oa_checks.specs.Libraries.{as_class, as_interface, same, guid_of, class_of, if_entered};
+ghost use Rattle.oa_checks.specs.Libraries.{as_class, as_interface, same, item_guid, class_of, if_entered};
 ghost use Rattle.oa_checks.specs.Libraries.{interface_of, default_interface, selected_in, marked};
 ghost use Rattle.oa_typelib.specs.Indexes.{default_in, entered_in, flag_at, index_of, members_in};
 ghost use Rattle.oa_checks.specs.Libraries.{folded_names};
@@ -84,7 +84,7 @@ impl Model for Library {
 /// stands first in the text. Memory may come in place of any answer.
 pub fn check(alloc: Global, tree: Tree) -> Result<Library, CheckError>
     requires { IsOfText tree }
-    ensures refuses { Refuses (first_breach tree) (λ library. library ≡ marked tree) result }
+    ensures refuses { RefusesBreach (first_breach tree) (λ library. library ≡ marked tree) result }
     ensures library { IfOk result (λ library. (text : List ℕ) → IsTree text tree → IsLibrary text library) }
 {
     let Checked { names, guids } = check_tree(alloc, &tree)?;
@@ -96,8 +96,8 @@ fn library_of(alloc: Global, tree: Tree, names: &Names, guids: Guids) -> Result<
     requires text { IsOfText tree }
     requires unbroken { tree_breach tree ≡ None }
     requires names { names.now ≡ folded_names tree.items }
-    requires guids { guids ≡ map guid_of tree.items }
-    ensures { Refuses (text_breach tree) (λ library. library ≡ marked tree) result }
+    requires guids { guids ≡ map item_guid tree.items }
+    ensures { RefusesBreach (text_breach tree) (λ library. library ≡ marked tree) result }
 {
     let tree = mark(tree);
     let Kept {
@@ -126,7 +126,7 @@ struct Kept {
 
 /// What a library keeps of a tree whose defaults are marked, where its canonical text is short enough.
 fn kept_of(alloc: Global, tree: &Tree, names: &Names) -> Result<Kept, CheckError>
-    ensures { Refuses (length_breach tree.now) (λ kept. (kept.text.items ≡ canonical tree.now) × (kept.index ≡ index_of tree.now)
+    ensures { RefusesBreach (length_breach tree.now) (λ kept. (kept.text.items ≡ canonical tree.now) × (kept.index ≡ index_of tree.now)
         × (kept.defaults.items ≡ map (default_in names.now) tree.now.items)) result }
 {
     let text = library_text(alloc, tree)?;
@@ -138,7 +138,7 @@ fn kept_of(alloc: Global, tree: &Tree, names: &Names) -> Result<Kept, CheckError
 }
 
 fn library_text(alloc: Global, tree: &Tree) -> Result<Vec<u8>, CheckError>
-    ensures { Refuses (length_breach tree.now) (λ text. text.items ≡ canonical tree.now) result }
+    ensures { RefusesBreach (length_breach tree.now) (λ text. text.items ≡ canonical tree.now) result }
 {
     let text = print(alloc, tree)?;
     if !is_text(text.as_slice()) {
@@ -179,14 +179,14 @@ impl Library {
 
     // So calls can be bound to each of its properties, each of its coclasses has a default interface, and no entry is left out.
     fn is_whole(&self)
-        ensures { IsWhole self.now }
+        ensures { HasSoundItems self.now }
     {
         self.is_checked();
     }
 
     /// The place of the item with a GUID.
     fn place(&self, guid: &Uuid) -> Option<usize>
-        ensures { result ≡ position (λ i. same guid.now (guid_of i)) self.now.items }
+        ensures { result ≡ position (λ i. same guid.now (item_guid i)) self.now.items }
     {
         if let Some(place) = place_in_front(self.items(), guid) {
             return Some(place);

@@ -3,7 +3,7 @@ ghost use Rattle.std.specs.Prelude.{◌≡◌, IfOk, map};
 ghost use Rattle.oa_model.specs.Folding.{folded_name};
 ghost use Rattle.oa_checks.specs.Defaults.{default_value, defaults_of};
 ghost use Rattle.oa_checks.specs.Libraries.{same};
-ghost use Rattle.oa_typelib.specs.Groups.{groups_of};
+ghost use Rattle.oa_typelib.specs.Groups.{keys_with_places};
 ghost use Rattle.oa_typelib.specs.Indexes.{grouped, members_in};
 
 use crate::groups::{IdGroups, NameGroups};
@@ -69,7 +69,7 @@ fn names_of<'a>(
 
 /// The places of declarations by their names, folded.
 fn by_name(alloc: Global, declarations: &[Declaration]) -> Result<NameGroups, AllocError>
-    ensures { IfOk result (λ g. g ≡ groups_of same (map (λ d. folded_name d.name) declarations.now)) }
+    ensures { IfOk result (λ g. g ≡ keys_with_places same (map (λ d. folded_name d.name) declarations.now)) }
 {
     let names = names_of(alloc, declarations)?;
     NameGroups::of(alloc, names.as_slice())

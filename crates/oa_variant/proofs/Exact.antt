@@ -12,7 +12,7 @@ use Rattle.oa_model.specs.Types.{type_at}
 use Rattle.oa_bstr.specs.Text.{text_cmp}
 use Rattle.oa_variant.specs.Decimals.{DecimalValue, decimal_cmp}
 use Rattle.oa_variant.specs.Scalars.{text_of}
-use Rattle.oa_variant.specs.Keys.{number_of, decimal_of, key_type, scalar_cmp}
+use Rattle.oa_variant.specs.Keys.{key_number, decimal_of, key_type, scalar_cmp}
 use Rattle.oa_variant.specs.declared.scalar.Scalar.{Scalar}
 use Rattle.oa_variant.specs.declared.scalar.Scalar.TheVariants as scalars
 
@@ -68,7 +68,7 @@ made (Some types.Error) z t d = scalars.Error (unsigned_abs z)
 made (Some types.Bstr) z t d = scalars.Bstr t
 made (Some types.Decimal) z t d = scalars.Decimal d
 
-made_back : (s : Scalar) → made (type_at (key_type s)) (number_of s) (text_of s) (decimal_of s) ≡ s
+made_back : (s : Scalar) → made (type_at (key_type s)) (key_number s) (text_of s) (decimal_of s) ≡ s
 made_back scalars.Empty = refl
 made_back scalars.Null = refl
 made_back (scalars.I1 z) = refl
@@ -89,11 +89,11 @@ made_back (scalars.Bstr t) = refl
 made_back (scalars.Decimal d) = refl
 
 pub exact_scalars : CmpEqualImpliesEq scalar_cmp
-exact_scalars a b e = let h = both_equal (nat_cmp (key_type a) (key_type b)) (ordering_then (int_cmp (number_of a) (number_of b)) (ordering_then (text_cmp (text_of a) (text_of b)) (decimal_cmp (decimal_of a) (decimal_of b)))) e in
-    let k = both_equal (int_cmp (number_of a) (number_of b)) (ordering_then (text_cmp (text_of a) (text_of b)) (decimal_cmp (decimal_of a) (decimal_of b))) h.1 in
+exact_scalars a b e = let h = both_equal (nat_cmp (key_type a) (key_type b)) (ordering_then (int_cmp (key_number a) (key_number b)) (ordering_then (text_cmp (text_of a) (text_of b)) (decimal_cmp (decimal_of a) (decimal_of b)))) e in
+    let k = both_equal (int_cmp (key_number a) (key_number b)) (ordering_then (text_cmp (text_of a) (text_of b)) (decimal_cmp (decimal_of a) (decimal_of b))) h.1 in
     let l = both_equal (text_cmp (text_of a) (text_of b)) (decimal_cmp (decimal_of a) (decimal_of b)) k.1 in
     let n = exact_unsigned (key_type a) (key_type b) h.0 in
-    let z = exact_signed (number_of a) (number_of b) k.0 in
+    let z = exact_signed (key_number a) (key_number b) k.0 in
     let t = exact_texts (text_of a) (text_of b) l.0 in
     let d = exact_decimals (decimal_of a) (decimal_of b) l.1 in
     sym (made_back a) ∙ ((λ i. made (type_at (n i)) (z i) (t i) (d i)) ∙ made_back b)

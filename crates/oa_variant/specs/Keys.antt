@@ -13,25 +13,25 @@ use Rattle.oa_variant.specs.declared.scalar.Scalar.{Scalar}
 use Rattle.oa_variant.specs.declared.scalar.Scalar.TheVariants as scalars
 
 -- the number inside, 0 for false and 1 for true; 0 where there is none
-abbrev pub number_of : Scalar → ℤ
-number_of scalars.Empty = pos 0
-number_of scalars.Null = pos 0
-number_of (scalars.I1 z) = z
-number_of (scalars.I2 z) = z
-number_of (scalars.I4 z) = z
-number_of (scalars.I8 z) = z
-number_of (scalars.Int z) = z
-number_of (scalars.Ui1 n) = pos n
-number_of (scalars.Ui2 n) = pos n
-number_of (scalars.Ui4 n) = pos n
-number_of (scalars.Ui8 n) = pos n
-number_of (scalars.Uint n) = pos n
-number_of (scalars.Cy z) = z
-number_of (scalars.Bool false) = pos 0
-number_of (scalars.Bool true) = pos 1
-number_of (scalars.Error n) = pos n
-number_of (scalars.Bstr t) = pos 0
-number_of (scalars.Decimal d) = pos 0
+abbrev pub key_number : Scalar → ℤ
+key_number scalars.Empty = pos 0
+key_number scalars.Null = pos 0
+key_number (scalars.I1 z) = z
+key_number (scalars.I2 z) = z
+key_number (scalars.I4 z) = z
+key_number (scalars.I8 z) = z
+key_number (scalars.Int z) = z
+key_number (scalars.Ui1 n) = pos n
+key_number (scalars.Ui2 n) = pos n
+key_number (scalars.Ui4 n) = pos n
+key_number (scalars.Ui8 n) = pos n
+key_number (scalars.Uint n) = pos n
+key_number (scalars.Cy z) = z
+key_number (scalars.Bool false) = pos 0
+key_number (scalars.Bool true) = pos 1
+key_number (scalars.Error n) = pos n
+key_number (scalars.Bstr t) = pos 0
+key_number (scalars.Decimal d) = pos 0
 
 -- the DECIMAL inside; zero where there is none
 abbrev pub decimal_of : Scalar → DecimalValue
@@ -57,8 +57,8 @@ abbrev pub key_type : Scalar → ℕ
 key_type s = vt_of (type_of s)
 
 abbrev pub scalar_cmp : Scalar → Scalar → Ordering
-scalar_cmp = then_cmp (on key_type nat_cmp) (then_cmp (on number_of int_cmp) (then_cmp (on text_of text_cmp) (on decimal_of decimal_cmp)))
+scalar_cmp = then_cmp (on key_type nat_cmp) (then_cmp (on key_number int_cmp) (then_cmp (on text_of text_cmp) (on decimal_of decimal_cmp)))
 
 pub scalars_total : IsTotalOrder scalar_cmp
 scalars_total = then_total (on_total key_type nat_cmp_total)
-    (then_total (on_total number_of int_cmp_total) (then_total (on_total text_of texts_total) (on_total decimal_of decimals_total)))
+    (then_total (on_total key_number int_cmp_total) (then_total (on_total text_of texts_total) (on_total decimal_of decimals_total)))

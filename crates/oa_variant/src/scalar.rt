@@ -6,7 +6,7 @@ ghost use Rattle.std.specs.Ordering.{as_partial_cmp, eq_by_cmp};
 ghost use Rattle.std.proofs.Common.{rules};
 ghost use Rattle.oa_variant.specs.Scalars.{type_of, text_of, zero_of, FitsType, fits_type, zero_fits};
 ghost use Rattle.std.specs.Option.{option_map};
-ghost use Rattle.oa_variant.specs.Keys.{number_of, decimal_of, scalar_cmp, scalars_total};
+ghost use Rattle.oa_variant.specs.Keys.{key_number, decimal_of, scalar_cmp, scalars_total};
 
 use crate::Decimal;
 use oa_array::Cell;
@@ -83,7 +83,7 @@ impl Scalar {
 
     // The number inside, 0 for false and 1 for true; 0 where there is none.
     fn number(&self) -> i128
-        ensures { result ≡ number_of self.now }
+        ensures { result ≡ key_number self.now }
     {
         match self {
             Scalar::Empty | Scalar::Null | Scalar::Bstr(_) | Scalar::Decimal(_) => 0,

@@ -15,7 +15,7 @@ use Rattle.oa_model.specs.declared.bound.Bound.{Bound}
 use Rattle.oa_model.specs.declared.var_type.VarType.{VarType}
 use Rattle.oa_model.specs.declared.var_type.VarType.TheVariants as types
 use Rattle.oa_model.specs.Types.{sf_type_of}
-use Rattle.oa_array.specs.Arrays.{ArrayValue, IsShape}
+use Rattle.oa_array.specs.Arrays.{ArrayValue, IsArrayShape}
 use Rattle.oa_array.specs.Boxes.{box_size}
 use Rattle.oa_variant.specs.Scalars.{type_of, FitsType}
 use Rattle.oa_variant.specs.declared.scalar.Scalar.{Scalar}
@@ -106,7 +106,7 @@ elements_reads t n = plain_reads t (λ e. absurd cc) n
 
 -- ---- the number of cells
 
-pub counted : (t : VarType) (bounds : List Bound) (n : ℕ) → is_count t bounds n ≡ true → IsShape t bounds × (box_size bounds ≡ n)
+pub counted : (t : VarType) (bounds : List Bound) (n : ℕ) → is_count t bounds n ≡ true → IsArrayShape t bounds × (box_size bounds ≡ n)
 unfolding is_count
 counted t bounds n e =
     let a4 = and_parts (is_some (sf_type_of t) && ltb 0 (length bounds) && leb (length bounds) max_dimensions && leb (box_size bounds) max_cells) (eqb (box_size bounds) n) e in
@@ -115,7 +115,7 @@ counted t bounds n e =
     let a1 = and_parts (is_some (sf_type_of t)) (ltb 0 (length bounds)) a2.0 in
     (record { typed = a1.0; some = ltb-true _ _ a1.1; few = leb-true _ _ a2.1; small = leb-true _ _ a3.1 }, eqb-true _ _ a4.1)
 
-pub counts : (t : VarType) (bounds : List Bound) (n : ℕ) → IsShape t bounds → is_count t bounds n ≡ eqb (box_size bounds) n
+pub counts : (t : VarType) (bounds : List Bound) (n : ℕ) → IsArrayShape t bounds → is_count t bounds n ≡ eqb (box_size bounds) n
 unfolding is_count
 counts t bounds n shape =
     rw (shape.typed, lt-ltb _ _ shape.some, le-leb _ _ shape.few, le-leb _ _ shape.small) refl
@@ -211,7 +211,7 @@ array_reads t =
     (λ a h. (h.1, h.0)) (λ a h. (h.1, h.0)))
 
 -- where there is no array, none is counted
-pub not_counted : (t : VarType) (bounds : List Bound) (n : ℕ) → (IsShape t bounds → ⊥) → false ≡ is_count t bounds n
+pub not_counted : (t : VarType) (bounds : List Bound) (n : ℕ) → (IsArrayShape t bounds → ⊥) → false ≡ is_count t bounds n
 not_counted t bounds n never = sym (false_from_ne_true (is_count t bounds n) (λ e. never (counted t bounds n e).0))
 
 -- cells that were read are as many as were asked for, and of the type

@@ -5,7 +5,7 @@ use Rattle.std.proofs.lemmas.List.{take_at, drop_at, drop-drop, length-append}
 use Rattle.byteorder.specs.Endian.{little_bytes, little_number, little_from}
 use Rattle.byteorder.specs.Numbers.{little_from-take}
 use Rattle.oa_ndr.specs.Forms.{padding}
-use Rattle.oa_ndr.specs.Writing.{Output, within, put_align, put_bytes, put_unit}
+use Rattle.oa_ndr.specs.Writing.{FieldOutput, in_field, put_align, put_bytes, put_unit}
 use Rattle.oa_ndr.specs.Reading.{Cursor, align_at, unit_at, referent_at}
 use Rattle.oa_ndr.proofs.Laws.{unit_reads, align_reads, referent_reads}
 use Rattle.oa_wire_array.specs.declared.fault.ReadFault.{ReadFault}
@@ -99,6 +99,6 @@ head_adds size vt out =
     let six = ap (put_unit 2 0) five ∙ unit_adds 2 0 (((((start ++ a) ++ b) ++ c) ++ d) ++ d) (omega (arith, even, at_e)) in
     six ∙ simp append_assoc refl
 
-pub head_then : {X E : Type 0} (r : Result X E) (old aligned new : Output) (size vt : ℕ) (bytes : List ℕ) → bytes ≡ put_head size vt [] → aligned ≡ within (put_align 8) old → OnOk r (new ≡ within (put_bytes bytes) aligned) → OnOk r (new ≡ within (put_head size vt) old)
+pub head_then : {X E : Type 0} (r : Result X E) (old aligned new : FieldOutput) (size vt : ℕ) (bytes : List ℕ) → bytes ≡ put_head size vt [] → aligned ≡ in_field (put_align 8) old → OnOk r (new ≡ in_field (put_bytes bytes) aligned) → OnOk r (new ≡ in_field (put_head size vt) old)
 head_then (Ok x) old aligned new size vt bytes is first more = rw (more, first, is, head_adds size vt old.field) refl
 head_then (Err e) old aligned new size vt bytes is first more = tt

@@ -14,11 +14,11 @@ use Rattle.oa_variant.specs.Decimals.{DecimalValue}
 use Rattle.oa_variant.specs.Scalars.{type_of}
 use Rattle.oa_variant.specs.declared.scalar.Scalar.{Scalar}
 use Rattle.oa_variant.specs.declared.scalar.Scalar.TheVariants as scalars
-use Rattle.oa_wire_array.specs.Scalars.{signed, truth, sign_of, sign, decimal, arm, scalar_vt, union, scalar}
+use Rattle.oa_wire_array.specs.Scalars.{signed_unit, truth, sign_of, sign, decimal, arm, scalar_vt, union, scalar}
 use Rattle.oa_wire_array.specs.Reading.{signed_at, truth_at, sign_at, the_decimal, decimal_at, arm_at, arm_of, union_at, scalar_at}
 use Rattle.oa_wire_array.proofs.TextLaws.{bstr_reads}
 
-pub signed_reads : (n : ℕ) (w : Width) → Reads Always (signed n w) (signed_at n w)
+pub signed_reads : (n : ℕ) (w : Width) → Reads Always (signed_unit n w) (signed_at n w)
 unfolding signed_at
 signed_reads n w = with_reads (unit_reads n) (λ c a p text _ _. tt) (λ x _. give_reads (cast_signed w x) tt refl (λ c _ e. e))
 

@@ -17,7 +17,7 @@ use Rattle.oa_variant.specs.Scalars.{type_of, IsScalar}
 use Rattle.oa_variant.specs.declared.scalar.Scalar.{Scalar}
 use Rattle.oa_variant.specs.declared.scalar.Scalar.TheVariants as scalars
 use Rattle.oa_wire_array.specs.Texts.{units, blob, bstr}
-use Rattle.oa_wire_array.specs.Scalars.{signed, truth, sign_of, sign, decimal, arm, scalar_vt, scalar}
+use Rattle.oa_wire_array.specs.Scalars.{signed_unit, truth, sign_of, sign, decimal, arm, scalar_vt, scalar}
 use Rattle.oa_wire_array.specs.Canon.{put_blob, put_bstr, put_truth, put_decimal, put_arm, put_sized, cl_size, put_scalar}
 
 pub vt_small : (t : VarType) → vt_of t < 32
@@ -40,16 +40,16 @@ vt_small types.Ui8 = omega arith
 vt_small types.Int = omega arith
 vt_small types.Uint = omega arith
 
-signed8_writes : (z : ℤ) → FitsSigned w8 z → Writes (signed 1 w8 z) (put_unit 1 (cast_unsigned w8 z))
+signed8_writes : (z : ℤ) → FitsSigned w8 z → Writes (signed_unit 1 w8 z) (put_unit 1 (cast_unsigned w8 z))
 signed8_writes z fits = with_writes (cast_unsigned w8 z) (then_writes (unit_writes 1 (cast_unsigned w8 z) (omega (arith, Fits-of_z fits))) (given_writes (sym (to_z-of_z fits))))
 
-signed16_writes : (z : ℤ) → FitsSigned w16 z → Writes (signed 2 w16 z) (put_unit 2 (cast_unsigned w16 z))
+signed16_writes : (z : ℤ) → FitsSigned w16 z → Writes (signed_unit 2 w16 z) (put_unit 2 (cast_unsigned w16 z))
 signed16_writes z fits = with_writes (cast_unsigned w16 z) (then_writes (unit_writes 2 (cast_unsigned w16 z) (omega (arith, Fits-of_z fits))) (given_writes (sym (to_z-of_z fits))))
 
-pub signed32_writes : (z : ℤ) → FitsSigned w32 z → Writes (signed 4 w32 z) (put_unit 4 (cast_unsigned w32 z))
+pub signed32_writes : (z : ℤ) → FitsSigned w32 z → Writes (signed_unit 4 w32 z) (put_unit 4 (cast_unsigned w32 z))
 signed32_writes z fits = with_writes (cast_unsigned w32 z) (then_writes (unit_writes 4 (cast_unsigned w32 z) (omega (arith, Fits-of_z fits))) (given_writes (sym (to_z-of_z fits))))
 
-signed64_writes : (z : ℤ) → FitsSigned w64 z → Writes (signed 8 w64 z) (put_unit 8 (cast_unsigned w64 z))
+signed64_writes : (z : ℤ) → FitsSigned w64 z → Writes (signed_unit 8 w64 z) (put_unit 8 (cast_unsigned w64 z))
 signed64_writes z fits = with_writes (cast_unsigned w64 z) (then_writes (unit_writes 8 (cast_unsigned w64 z) (omega (arith, Fits-of_z fits))) (given_writes (sym (to_z-of_z fits))))
 
 truth_writes : (b : Bool) → Writes (truth b) (put_truth b)

@@ -15,11 +15,11 @@ use Rattle.oa_wire_array.specs.declared.fault.ReadFault.{ReadFault}
 use Rattle.oa_wire_array.specs.declared.fault.ReadFault.TheVariants.{BadStub, Memory}
 use Rattle.oa_wire_array.specs.Reading.{signed_at, blob_at, scalar_at, arm_at}
 
--- the same as Answers, for what view shows of the value
-abbrev pub AnswersBy : {X Y : Type 0} → (X → Y) → Result X ReadFault → Cursor → Option (Y × Cursor) → Type 0
-AnswersBy view (Ok x) new read = read ≡ Some (view x, new)
-AnswersBy view (Err BadStub) new read = read ≡ None
-AnswersBy view (Err Memory) new read = Unit {0}
+-- the same as ReadsField, for what view shows of the value
+abbrev pub ReadsFieldBy : {X Y : Type 0} → (X → Y) → Result X ReadFault → Cursor → Option (Y × Cursor) → Type 0
+ReadsFieldBy view (Ok x) new read = read ≡ Some (view x, new)
+ReadsFieldBy view (Err BadStub) new read = read ≡ None
+ReadsFieldBy view (Err Memory) new read = Unit {0}
 
 unfoldable pub bound_at : Reading Bound
 bound_at = do

@@ -15,12 +15,12 @@ use Rattle.oa_variant.specs.declared.scalar.Scalar.TheVariants as scalars
 use Rattle.oa_wire_array.specs.declared.fault.WireFault.{WireFault}
 use Rattle.oa_wire_array.specs.declared.fault.WireFault.TheVariants.{BadStub, BadVarType, Memory}
 use Rattle.oa_wire_array.specs.Texts.{pointee}
-use Rattle.oa_wire_array.specs.Scalars.{signed, arm, scalar}
+use Rattle.oa_wire_array.specs.Scalars.{signed_unit, arm, scalar}
 use Rattle.oa_wire_array.specs.Reading.{Stretch}
 
 -- cElements, lLbound
 abbrev pub bound : Bound → Form
-bound b = unit 4 b.count ▸ signed 4 w32 b.lower
+bound b = unit 4 b.count ▸ signed_unit 4 w32 b.lower
 
 -- what lies behind the referent of a cell: a text, or a scalar with its type
 abbrev pub cell_pointee : VarType → Bool → Scalar → Form

@@ -16,10 +16,10 @@ use Rattle.oa_wire_array.specs.declared.fault.ReadFault.TheVariants.{BadStub, Me
 use Rattle.oa_wire_array.specs.Texts.{units}
 
 -- What a call returned, and the reader after it, is what reading gives, unless memory ran out.
-abbrev pub Answers : {A : Type 0} → Result A ReadFault → Cursor → Option (A × Cursor) → Type 0
-Answers (Ok x) new read = read ≡ Some (x, new)
-Answers (Err BadStub) new read = read ≡ None
-Answers (Err Memory) new read = Unit {0}
+abbrev pub ReadsField : {A : Type 0} → Result A ReadFault → Cursor → Option (A × Cursor) → Type 0
+ReadsField (Ok x) new read = read ≡ Some (x, new)
+ReadsField (Err BadStub) new read = read ≡ None
+ReadsField (Err Memory) new read = Unit {0}
 
 -- what is true where a call was refused memory
 abbrev pub OnMemory : {A : Type 0} → Result A ReadFault → Type 0 → Type 0

@@ -12,8 +12,8 @@ use Rattle.oa_variant.specs.declared.scalar.Scalar.TheVariants as scalars
 use Rattle.oa_wire_array.specs.Texts.{bstr}
 
 -- a signed number of the width w, in n bytes
-abbrev pub signed : ℕ → Width → ℤ → Form
-signed n w z = with (unit n) (λ x. given (z ≡ cast_signed w x))
+abbrev pub signed_unit : ℕ → Width → ℤ → Form
+signed_unit n w z = with (unit n) (λ x. given (z ≡ cast_signed w x))
 
 -- VARIANT_BOOL (MS-OAUT 2.2.27): any number but 0 is true (this project's choice)
 abbrev pub truth : Bool → Form
@@ -37,17 +37,17 @@ decimal d =
 abbrev pub arm : Scalar → Form
 arm scalars.Empty = nothing
 arm scalars.Null = nothing
-arm (scalars.I1 z) = signed 1 w8 z
-arm (scalars.I2 z) = signed 2 w16 z
-arm (scalars.I4 z) = signed 4 w32 z
-arm (scalars.I8 z) = signed 8 w64 z
-arm (scalars.Int z) = signed 4 w32 z
+arm (scalars.I1 z) = signed_unit 1 w8 z
+arm (scalars.I2 z) = signed_unit 2 w16 z
+arm (scalars.I4 z) = signed_unit 4 w32 z
+arm (scalars.I8 z) = signed_unit 8 w64 z
+arm (scalars.Int z) = signed_unit 4 w32 z
 arm (scalars.Ui1 n) = unit 1 n
 arm (scalars.Ui2 n) = unit 2 n
 arm (scalars.Ui4 n) = unit 4 n
 arm (scalars.Ui8 n) = unit 8 n
 arm (scalars.Uint n) = unit 4 n
-arm (scalars.Cy z) = signed 8 w64 z
+arm (scalars.Cy z) = signed_unit 8 w64 z
 arm (scalars.Bool b) = truth b
 arm (scalars.Error n) = unit 4 n
 arm (scalars.Bstr t) = bstr t

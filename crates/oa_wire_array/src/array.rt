@@ -2,12 +2,12 @@
 
 ghost use Rattle.std.specs.Prelude.{◌≡◌, ◌*◌, ◌≤◌, ◌<◌, true, IfOk, OnOk, OnErr, length, List, nat_le, ℕ};
 ghost use Rattle.oa_ndr.specs.Reading.{many, map_at, referent_at};
-ghost use Rattle.oa_ndr.specs.Writing.{within, put_all};
-ghost use Rattle.oa_wire_array.specs.Reading.{Answers, OnMemory, arm_at};
+ghost use Rattle.oa_ndr.specs.Writing.{in_field, put_all};
+ghost use Rattle.oa_wire_array.specs.Reading.{ReadsField, OnMemory, arm_at};
 ghost use Rattle.oa_wire_array.specs.Arrays.{IsArrayFront};
 ghost use Rattle.oa_wire_array.specs.ArrayCanon.{plain_width};
 ghost use Rattle.oa_wire_array.specs.ArrayReading.{
-  AnswersBy,
+  ReadsFieldBy,
   bound_at,
   text_cell_at,
   variant_cell_at,
@@ -36,7 +36,7 @@ use std::alloc::{AllocError, Global};
 
 #[tactic(auto, unfolding(oa_ndr::specs::Reading::bind, oa_ndr::specs::Reading::give, crate::specs::ArrayReading::bound_at, crate::specs::Reading::signed_at))]
 fn bound(r: &mut Ndr<'_>) -> Result<Bound, ReadFault>
-    ensures { Answers result r.new (bound_at r.old) }
+    ensures { ReadsField result r.new (bound_at r.old) }
 {
     let count = r.u32()?;
     let lower = r.u32()?.cast_signed();
@@ -44,7 +44,7 @@ fn bound(r: &mut Ndr<'_>) -> Result<Bound, ReadFault>
 }
 
 fn bounds(alloc: Global, dims: u16, r: &mut Ndr<'_>) -> Result<Vec<Bound>, ReadFault>
-    ensures { AnswersBy (λ v. v.items) result r.new (many bound_at dims r.old) }
+    ensures { ReadsFieldBy (λ v. v.items) result r.new (many bound_at dims r.old) }
 {
     let mut all = Vec::new(alloc);
     for _ in 0..dims {
@@ -56,7 +56,7 @@ fn bounds(alloc: Global, dims: u16, r: &mut Ndr<'_>) -> Result<Vec<Bound>, ReadF
 
 // Which referents of the cells are set.
 fn flags(alloc: Global, count: u32, r: &mut Ndr<'_>) -> Result<Vec<bool>, ReadFault>
-    ensures { AnswersBy (λ v. v.items) result r.new (many referent_at count r.old) }
+    ensures { ReadsFieldBy (λ v. v.items) result r.new (many referent_at count r.old) }
 {
     let mut all = Vec::new(alloc);
     for _ in 0..count {
@@ -79,7 +79,7 @@ fn blank(alloc: Global, count: usize) -> Result<Cells<Scalar>, AllocError>
 
 #[tactic(auto, unfolding(oa_ndr::specs::Reading::bind, oa_ndr::specs::Reading::give, oa_ndr::specs::Reading::choose, crate::specs::ArrayReading::text_cell_at))]
 fn text_cell(alloc: Global, is_set: bool, r: &mut Ndr<'_>) -> Result<Scalar, ReadFault>
-    ensures { Answers result r.new (text_cell_at is_set r.old) }
+    ensures { ReadsField result r.new (text_cell_at is_set r.old) }
 {
     if is_set {
         return Ok(Scalar::Bstr(blob(alloc, r)?));
@@ -89,7 +89,7 @@ fn text_cell(alloc: Global, is_set: bool, r: &mut Ndr<'_>) -> Result<Scalar, Rea
 
 #[tactic(auto, unfolding(oa_ndr::specs::Reading::give, oa_ndr::specs::Reading::choose, crate::specs::ArrayReading::variant_cell_at))]
 fn variant_cell(alloc: Global, is_set: bool, r: &mut Ndr<'_>) -> Result<Scalar, ReadFault>
-    ensures { Answers result r.new (variant_cell_at is_set r.old) }
+    ensures { ReadsField result r.new (variant_cell_at is_set r.old) }
 {
     if is_set {
         return scalar(alloc, r);
@@ -100,7 +100,7 @@ fn variant_cell(alloc: Global, is_set: bool, r: &mut Ndr<'_>) -> Result<Scalar, 
 // What lies behind the referent of a cell.
 #[tactic(auto, unfolding(oa_ndr::specs::Reading::fail, crate::specs::ArrayReading::pointee_at))]
 fn pointee(alloc: Global, elem: VarType, is_set: bool, r: &mut Ndr<'_>) -> Result<Scalar, ReadFault>
-    ensures { Answers result r.new (pointee_at elem is_set r.old) }
+    ensures { ReadsField result r.new (pointee_at elem is_set r.old) }
 {
     match elem {
         VarType::Bstr => text_cell(alloc, is_set, r),
@@ -117,7 +117,7 @@ fn pointees(
     flags: &[bool],
     r: &mut Ndr<'_>,
 ) -> Result<Cells<Scalar>, ReadFault>
-    ensures { Answers result r.new (map_at (pointee_at elem) flags.now r.old) }
+    ensures { ReadsField result r.new (map_at (pointee_at elem) flags.now r.old) }
 {
     let mut cells = blank(alloc, flags.len())?;
     for i in 0..flags.len() {
@@ -147,7 +147,7 @@ fn plain(
     count: u32,
     r: &mut Ndr<'_>,
 ) -> Result<Cells<Scalar>, ReadFault>
-    ensures { Answers result r.new (many (arm_at elem) count r.old) }
+    ensures { ReadsField result r.new (many (arm_at elem) count r.old) }
 {
     if !are_there(elem, count, r) {
         return Err(ReadFault::BadStub);
@@ -168,7 +168,7 @@ fn pointed(
     count: u32,
     r: &mut Ndr<'_>,
 ) -> Result<Cells<Scalar>, ReadFault>
-    ensures { Answers result r.new (pointed_at elem count r.old) }
+    ensures { ReadsField result r.new (pointed_at elem count r.old) }
 {
     let flags = flags(alloc, count, r)?;
     pointees(alloc, elem, &flags, r)
@@ -181,7 +181,7 @@ fn elements(
     count: u32,
     r: &mut Ndr<'_>,
 ) -> Result<Cells<Scalar>, ReadFault>
-    ensures { Answers result r.new (elements_at elem count r.old) }
+    ensures { ReadsField result r.new (elements_at elem count r.old) }
 {
     match elem {
         VarType::Bstr | VarType::Variant => pointed(alloc, elem, count, r),
@@ -218,7 +218,7 @@ fn cells(
     r: &mut Ndr<'_>,
 ) -> Result<SafeArray<Scalar>, ReadFault>
     requires { is_count elem bounds.items count ≡ true }
-    ensures { Answers result r.new (cells_at elem bounds.items count r.old) }
+    ensures { ReadsField result r.new (cells_at elem bounds.items count r.old) }
 {
     let cells = elements(alloc, elem, count, r)?;
     Ok(SafeArray::of_cells(elem, bounds, cells))
@@ -233,7 +233,7 @@ fn data(
     size: u32,
     r: &mut Ndr<'_>,
 ) -> Result<SafeArray<Scalar>, ReadFault>
-    ensures { Answers result r.new (data_at elem dims size r.old) }
+    ensures { ReadsField result r.new (data_at elem dims size r.old) }
 {
     let bounds = bounds(alloc, dims, r)?;
     let maximum = r.u32()?;
@@ -246,7 +246,7 @@ fn data(
 // The maximum count, cDims, fFeatures, cbElements, cLocks, sfType, Size and the pointer, with what lies behind them.
 #[tactic(auto, unfolding(oa_ndr::specs::Reading::bind, oa_ndr::specs::Reading::choose, oa_ndr::specs::Reading::fail, crate::specs::ArrayReading::header_at))]
 fn header(alloc: Global, elem: VarType, r: &mut Ndr<'_>) -> Result<SafeArray<Scalar>, ReadFault>
-    ensures value { Answers result r.new (header_at elem r.old) }
+    ensures value { ReadsField result r.new (header_at elem r.old) }
     ensures memory { OnMemory result (28 ≤ length r.old.rest) }
 {
     let maximum = r.u32()?;
@@ -265,7 +265,7 @@ fn header(alloc: Global, elem: VarType, r: &mut Ndr<'_>) -> Result<SafeArray<Sca
 
 #[tactic(auto, unfolding(oa_ndr::specs::Reading::bind, oa_ndr::specs::Reading::choose, oa_ndr::specs::Reading::fail, crate::specs::ArrayReading::array_at))]
 fn array(alloc: Global, elem: VarType, r: &mut Ndr<'_>) -> Result<SafeArray<Scalar>, ReadFault>
-    ensures value { Answers result r.new (array_at elem r.old) }
+    ensures value { ReadsField result r.new (array_at elem r.old) }
     ensures memory { OnMemory result (32 ≤ length r.old.rest) }
 {
     if r.referent()? {

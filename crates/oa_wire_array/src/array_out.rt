@@ -1,7 +1,7 @@
 //! Arrays as they are written.
 
 ghost use Rattle.std.specs.Prelude.{◌≡◌, ◌≤◌, ◌<◌, ◌+◌, ◌*◌, ◌^◌, OnOk, OnErr, length, List, ℕ};
-ghost use Rattle.oa_ndr.specs.Writing.{Keeps, within, put_all};
+ghost use Rattle.oa_ndr.specs.Writing.{TakesNothingBack, in_field, put_all};
 ghost use Rattle.oa_variant.specs.Scalars.{text_of};
 ghost use Rattle.oa_wire_array.specs.Canon.{put_arm};
 ghost use Rattle.oa_wire_array.specs.ArrayCanon.{
@@ -27,16 +27,16 @@ use oa_variant::Scalar;
 use std::alloc::AllocError;
 
 fn write_bound(out: &mut NdrOut, bound: Bound) -> Result<(), AllocError>
-    ensures ok { OnOk result (out.new ≡ within (put_bound bound) out.old) }
-    ensures kept { Keeps out.old out.new }
+    ensures ok { OnOk result (out.new ≡ in_field (put_bound bound) out.old) }
+    ensures kept { TakesNothingBack out.old out.new }
 {
     out.u32(bound.count)?;
     out.u32(bound.lower.cast_unsigned())
 }
 
 fn write_bounds(out: &mut NdrOut, bounds: &[Bound]) -> Result<(), AllocError>
-    ensures ok { OnOk result (out.new ≡ within (put_all put_bound bounds.now) out.old) }
-    ensures kept { Keeps out.old out.new }
+    ensures ok { OnOk result (out.new ≡ in_field (put_all put_bound bounds.now) out.old) }
+    ensures kept { TakesNothingBack out.old out.new }
 {
     for bound in bounds {
         write_bound(out, *bound)?;
@@ -46,8 +46,8 @@ fn write_bounds(out: &mut NdrOut, bounds: &[Bound]) -> Result<(), AllocError>
 
 // Cells without pointees.
 fn write_plain(out: &mut NdrOut, cells: &[Scalar]) -> Result<(), AllocError>
-    ensures ok { OnOk result (out.new ≡ within (put_all put_arm cells.now) out.old) }
-    ensures kept { Keeps out.old out.new }
+    ensures ok { OnOk result (out.new ≡ in_field (put_all put_arm cells.now) out.old) }
+    ensures kept { TakesNothingBack out.old out.new }
 {
     for cell in cells {
         write_arm(out, cell)?;
@@ -67,8 +67,8 @@ fn has_pointee(elem: VarType, cell: &Scalar) -> bool
 }
 
 fn write_referents(out: &mut NdrOut, elem: VarType, cells: &[Scalar]) -> Result<(), AllocError>
-    ensures ok { OnOk result (out.new ≡ within (put_all (put_cell_referent elem) cells.now) out.old) }
-    ensures kept { Keeps out.old out.new }
+    ensures ok { OnOk result (out.new ≡ in_field (put_all (put_cell_referent elem) cells.now) out.old) }
+    ensures kept { TakesNothingBack out.old out.new }
 {
     for cell in cells {
         out.referent(has_pointee(elem, cell))?;
@@ -78,8 +78,8 @@ fn write_referents(out: &mut NdrOut, elem: VarType, cells: &[Scalar]) -> Result<
 
 // The text of a cell, where it is not null.
 fn write_cell_text(out: &mut NdrOut, cell: &Scalar) -> Result<(), AllocError>
-    ensures ok { OnOk result (out.new ≡ within (put_text (text_of cell.now)) out.old) }
-    ensures kept { Keeps out.old out.new }
+    ensures ok { OnOk result (out.new ≡ in_field (put_text (text_of cell.now)) out.old) }
+    ensures kept { TakesNothingBack out.old out.new }
 {
     match cell {
         Scalar::Bstr(text) => {
@@ -93,8 +93,8 @@ fn write_cell_text(out: &mut NdrOut, cell: &Scalar) -> Result<(), AllocError>
 }
 
 fn write_pointee(out: &mut NdrOut, elem: VarType, cell: &Scalar) -> Result<(), AllocError>
-    ensures ok { OnOk result (out.new ≡ within (put_pointee elem cell.now) out.old) }
-    ensures kept { Keeps out.old out.new }
+    ensures ok { OnOk result (out.new ≡ in_field (put_pointee elem cell.now) out.old) }
+    ensures kept { TakesNothingBack out.old out.new }
 {
     match elem {
         VarType::Bstr => write_cell_text(out, cell),
@@ -103,8 +103,8 @@ fn write_pointee(out: &mut NdrOut, elem: VarType, cell: &Scalar) -> Result<(), A
 }
 
 fn write_pointees(out: &mut NdrOut, elem: VarType, cells: &[Scalar]) -> Result<(), AllocError>
-    ensures ok { OnOk result (out.new ≡ within (put_all (put_pointee elem) cells.now) out.old) }
-    ensures kept { Keeps out.old out.new }
+    ensures ok { OnOk result (out.new ≡ in_field (put_all (put_pointee elem) cells.now) out.old) }
+    ensures kept { TakesNothingBack out.old out.new }
 {
     for cell in cells {
         write_pointee(out, elem, cell)?;
@@ -114,16 +114,16 @@ fn write_pointees(out: &mut NdrOut, elem: VarType, cells: &[Scalar]) -> Result<(
 
 // All referents first, then the pointees.
 fn write_pointed(out: &mut NdrOut, elem: VarType, cells: &[Scalar]) -> Result<(), AllocError>
-    ensures ok { OnOk result (out.new ≡ within (put_pointed elem cells.now) out.old) }
-    ensures kept { Keeps out.old out.new }
+    ensures ok { OnOk result (out.new ≡ in_field (put_pointed elem cells.now) out.old) }
+    ensures kept { TakesNothingBack out.old out.new }
 {
     write_referents(out, elem, cells)?;
     write_pointees(out, elem, cells)
 }
 
 fn write_elements(out: &mut NdrOut, elem: VarType, cells: &[Scalar]) -> Result<(), AllocError>
-    ensures ok { OnOk result (out.new ≡ within (put_elements elem cells.now) out.old) }
-    ensures kept { Keeps out.old out.new }
+    ensures ok { OnOk result (out.new ≡ in_field (put_elements elem cells.now) out.old) }
+    ensures kept { TakesNothingBack out.old out.new }
 {
     match elem {
         VarType::Bstr | VarType::Variant => write_pointed(out, elem, cells),
@@ -144,8 +144,8 @@ fn features_of(elem: VarType) -> u16
 
 // The second referent, the maximum count, cDims, fFeatures, cbElements.
 fn write_shape(out: &mut NdrOut, elem: VarType, dims: u16) -> Result<(), AllocError>
-    ensures ok { OnOk result (out.new ≡ within (put_shape elem dims) out.old) }
-    ensures kept { Keeps out.old out.new }
+    ensures ok { OnOk result (out.new ≡ in_field (put_shape elem dims) out.old) }
+    ensures kept { TakesNothingBack out.old out.new }
 {
     out.referent(true)?;
     out.u32(dims as u32)?;
@@ -156,8 +156,8 @@ fn write_shape(out: &mut NdrOut, elem: VarType, dims: u16) -> Result<(), AllocEr
 
 // cLocks, sfType, Size, the pointer.
 fn write_size(out: &mut NdrOut, elem: VarType, count: u32) -> Result<(), AllocError>
-    ensures ok { OnOk result (out.new ≡ within (put_size elem count) out.old) }
-    ensures kept { Keeps out.old out.new }
+    ensures ok { OnOk result (out.new ≡ in_field (put_size elem count) out.old) }
+    ensures kept { TakesNothingBack out.old out.new }
 {
     out.u32(elem.vt() as u32 * 0x1_0000)?;
     out.u32(elem.sf_type().unwrap_or(0))?;
@@ -168,8 +168,8 @@ fn write_size(out: &mut NdrOut, elem: VarType, count: u32) -> Result<(), AllocEr
 // The same as `write_array`, but where memory is refused a part of it may stay.
 #[tactic(auto, unfolding(crate::specs::ArrayCanon::put_array))]
 fn add_array(out: &mut NdrOut, array: &SafeArray<Scalar>) -> Result<(), AllocError>
-    ensures ok { OnOk result (out.new ≡ within (put_array array.now) out.old) }
-    ensures kept { Keeps out.old out.new }
+    ensures ok { OnOk result (out.new ≡ in_field (put_array array.now) out.old) }
+    ensures kept { TakesNothingBack out.old out.new }
 {
     let elem = array.elem();
     let bounds = array.bounds();
@@ -188,7 +188,7 @@ fn add_array(out: &mut NdrOut, array: &SafeArray<Scalar>) -> Result<(), AllocErr
 ///
 /// Where memory is refused, the output is as it was.
 pub fn write_array(out: &mut NdrOut, array: &SafeArray<Scalar>) -> Result<(), AllocError>
-    ensures ok { OnOk result (out.new ≡ within (put_array array.now) out.old) }
+    ensures ok { OnOk result (out.new ≡ in_field (put_array array.now) out.old) }
     ensures err { OnErr result (out.new ≡ out.old) }
 {
     let start = out.position();

@@ -3,10 +3,10 @@
 ghost use Rattle.std.specs.Prelude.{◌≡◌, ◌≤◌, ◌<◌, [], OnOk, OnErr, length};
 ghost use Rattle.oa_model.specs.Types.{vt_of};
 ghost use Rattle.oa_model.specs.declared.var_type.VarType.TheVariants as types;
-ghost use Rattle.oa_ndr.specs.Writing.{Keeps, within};
+ghost use Rattle.oa_ndr.specs.Writing.{TakesNothingBack, in_field};
 ghost use Rattle.oa_wire_array.specs.Scalars.{scalar, union_of, TakesText};
 ghost use Rattle.oa_wire_array.specs.Reading.{
-  Answers,
+  ReadsField,
   IsFront,
   OnMemory,
   from_multiple,
@@ -36,7 +36,7 @@ use std::alloc::{AllocError, Global};
 
 #[tactic(auto, unfolding(oa_ndr::specs::Reading::bind, oa_ndr::specs::Reading::give, oa_ndr::specs::Reading::choose, oa_ndr::specs::Reading::fail, crate::specs::Reading::sign_at))]
 fn sign(r: &mut Ndr<'_>) -> Result<bool, ReadFault>
-    ensures value { Answers result r.new (sign_at r.old) }
+    ensures value { ReadsField result r.new (sign_at r.old) }
     ensures memory { OnMemory result ⊥ }
 {
     match r.u8()? {
@@ -48,7 +48,7 @@ fn sign(r: &mut Ndr<'_>) -> Result<bool, ReadFault>
 
 #[tactic(auto, unfolding(oa_ndr::specs::Reading::bind, oa_ndr::specs::Reading::give, oa_ndr::specs::Reading::choose, oa_ndr::specs::Reading::fail, crate::specs::Reading::decimal_at))]
 fn decimal(r: &mut Ndr<'_>) -> Result<Decimal, ReadFault>
-    ensures value { Answers result r.new (decimal_at r.old) }
+    ensures value { ReadsField result r.new (decimal_at r.old) }
     ensures memory { OnMemory result ⊥ }
 {
     r.align(8)?;
@@ -67,7 +67,7 @@ fn decimal(r: &mut Ndr<'_>) -> Result<Decimal, ReadFault>
 // The arm of a type.
 #[tactic(auto, unfolding(oa_ndr::specs::Reading::bind, oa_ndr::specs::Reading::give, oa_ndr::specs::Reading::fail, crate::specs::Reading::arm_at, crate::specs::Reading::signed_at, crate::specs::Reading::truth_at))]
 pub(crate) fn arm(alloc: Global, var_type: VarType, r: &mut Ndr<'_>) -> Result<Scalar, ReadFault>
-    ensures value { Answers result r.new (arm_at var_type r.old) }
+    ensures value { ReadsField result r.new (arm_at var_type r.old) }
     ensures memory { OnMemory result (var_type ≡ types.Bstr) }
 {
     Ok(match var_type {
@@ -94,7 +94,7 @@ pub(crate) fn arm(alloc: Global, var_type: VarType, r: &mut Ndr<'_>) -> Result<S
 
 #[tactic(auto, unfolding(oa_ndr::specs::Reading::bind, oa_ndr::specs::Reading::choose, oa_ndr::specs::Reading::fail, crate::specs::Reading::arm_of, crate::specs::Reading::union_at))]
 fn union(alloc: Global, vt: u16, r: &mut Ndr<'_>) -> Result<Scalar, ReadFault>
-    ensures value { Answers result r.new (union_at vt r.old) }
+    ensures value { ReadsField result r.new (union_at vt r.old) }
     ensures memory { OnMemory result ((vt ≡ 8) × (4 ≤ length r.old.rest)) }
 {
     let discriminant = r.u32()?;
@@ -126,7 +126,7 @@ pub fn read_union(alloc: Global, vt: u16, r: &mut Ndr<'_>) -> Result<Scalar, Rea
 
 #[tactic(auto, unfolding(oa_ndr::specs::Reading::bind, crate::specs::Reading::scalar_at))]
 pub(crate) fn scalar(alloc: Global, r: &mut Ndr<'_>) -> Result<Scalar, ReadFault>
-    ensures value { Answers result r.new (scalar_at r.old) }
+    ensures value { ReadsField result r.new (scalar_at r.old) }
     ensures memory { OnMemory result (TakesText (from_multiple 8 r.old)) }
 {
     r.align(8)?;
@@ -158,15 +158,15 @@ pub fn read_scalar(alloc: Global, r: &mut Ndr<'_>) -> Result<Scalar, ReadFault>
 }
 
 fn write_truth(out: &mut NdrOut, truth: bool) -> Result<(), AllocError>
-    ensures ok { OnOk result (out.new ≡ within (put_truth truth) out.old) }
-    ensures kept { Keeps out.old out.new }
+    ensures ok { OnOk result (out.new ≡ in_field (put_truth truth) out.old) }
+    ensures kept { TakesNothingBack out.old out.new }
 {
     out.u16(if truth { 0xFFFF } else { 0 })
 }
 
 fn write_decimal(out: &mut NdrOut, decimal: &Decimal) -> Result<(), AllocError>
-    ensures ok { OnOk result (out.new ≡ within (put_decimal decimal.now) out.old) }
-    ensures kept { Keeps out.old out.new }
+    ensures ok { OnOk result (out.new ≡ in_field (put_decimal decimal.now) out.old) }
+    ensures kept { TakesNothingBack out.old out.new }
 {
     let magnitude = decimal.magnitude();
     out.align(8)?;
@@ -178,8 +178,8 @@ fn write_decimal(out: &mut NdrOut, decimal: &Decimal) -> Result<(), AllocError>
 }
 
 pub(crate) fn write_arm(out: &mut NdrOut, value: &Scalar) -> Result<(), AllocError>
-    ensures ok { OnOk result (out.new ≡ within (put_arm value.now) out.old) }
-    ensures kept { Keeps out.old out.new }
+    ensures ok { OnOk result (out.new ≡ in_field (put_arm value.now) out.old) }
+    ensures kept { TakesNothingBack out.old out.new }
 {
     match value {
         Scalar::Empty => Ok(()),
@@ -213,8 +213,8 @@ fn head_bytes(size: u32, vt: u16) -> [u8; 16]
 
 // The same as `write_head`, but where memory is refused a part of it may stay.
 fn add_head(out: &mut NdrOut, size: u32, vt: u16) -> Result<(), AllocError>
-    ensures ok { OnOk result (out.new ≡ within (put_head size vt) out.old) }
-    ensures kept { Keeps out.old out.new }
+    ensures ok { OnOk result (out.new ≡ in_field (put_head size vt) out.old) }
+    ensures kept { TakesNothingBack out.old out.new }
 {
     out.align(8)?;
     out.bytes(&head_bytes(size, vt))
@@ -225,7 +225,7 @@ fn add_head(out: &mut NdrOut, size: u32, vt: u16) -> Result<(), AllocError>
 ///
 /// Where memory is refused, the output is as it was.
 pub fn write_head(out: &mut NdrOut, size: u32, vt: u16) -> Result<(), AllocError>
-    ensures ok { OnOk result (out.new ≡ within (put_head size vt) out.old) }
+    ensures ok { OnOk result (out.new ≡ in_field (put_head size vt) out.old) }
     ensures err { OnErr result (out.new ≡ out.old) }
 {
     let start = out.position();
@@ -237,8 +237,8 @@ pub fn write_head(out: &mut NdrOut, size: u32, vt: u16) -> Result<(), AllocError
 }
 
 fn write_sized(out: &mut NdrOut, size: u32, value: &Scalar) -> Result<(), AllocError>
-    ensures ok { OnOk result (out.new ≡ within (put_sized size value.now) out.old) }
-    ensures kept { Keeps out.old out.new }
+    ensures ok { OnOk result (out.new ≡ in_field (put_sized size value.now) out.old) }
+    ensures kept { TakesNothingBack out.old out.new }
 {
     let vt = value.var_type().vt();
     add_head(out, size, vt)?;
@@ -272,8 +272,8 @@ pub fn scalar_len(value: &Scalar) -> usize
 
 // The same as `write_scalar`, but where memory is refused a part of it may stay.
 pub(crate) fn add_scalar(out: &mut NdrOut, value: &Scalar) -> Result<(), AllocError>
-    ensures ok { OnOk result (out.new ≡ within (put_scalar value.now) out.old) }
-    ensures kept { Keeps out.old out.new }
+    ensures ok { OnOk result (out.new ≡ in_field (put_scalar value.now) out.old) }
+    ensures kept { TakesNothingBack out.old out.new }
 {
     let size = (scalar_len(value) + 7) / 8 % 0x1_0000_0000;
     write_sized(out, size as u32, value)
@@ -284,7 +284,7 @@ pub(crate) fn add_scalar(out: &mut NdrOut, value: &Scalar) -> Result<(), AllocEr
 ///
 /// Where memory is refused, the output is as it was.
 pub fn write_scalar(out: &mut NdrOut, value: &Scalar) -> Result<(), AllocError>
-    ensures ok { OnOk result (out.new ≡ within (put_scalar value.now) out.old) }
+    ensures ok { OnOk result (out.new ≡ in_field (put_scalar value.now) out.old) }
     ensures err { OnErr result (out.new ≡ out.old) }
 {
     let start = out.position();

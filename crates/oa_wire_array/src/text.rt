@@ -2,9 +2,9 @@
 
 ghost use Rattle.std.specs.Prelude.{◌≡◌, ◌≤◌, ◌<◌, ◌++◌, OnOk, OnErr, length};
 ghost use Rattle.oa_model.specs.Limits.{max_text_bytes};
-ghost use Rattle.oa_ndr.specs.Writing.{Keeps, within};
+ghost use Rattle.oa_ndr.specs.Writing.{TakesNothingBack, in_field};
 ghost use Rattle.oa_wire_array.specs.Texts.{units, blob};
-ghost use Rattle.oa_wire_array.specs.Reading.{Answers, IsFront, OnMemory, text_at, blob_at, bstr_at};
+ghost use Rattle.oa_wire_array.specs.Reading.{ReadsField, IsFront, OnMemory, text_at, blob_at, bstr_at};
 ghost use Rattle.oa_wire_array.specs.Canon.{put_blob, put_bstr};
 
 use crate::fault::ReadFault;
@@ -26,7 +26,7 @@ fn units(n: u32) -> u32
 // The bytes behind the three numbers.
 #[tactic(auto, unfolding(oa_ndr::specs::Reading::bind, oa_ndr::specs::Reading::give, crate::specs::Reading::body_at, crate::specs::Reading::text_at))]
 fn text(alloc: Global, len: u32, r: &mut Ndr<'_>) -> Result<Bstr, ReadFault>
-    ensures { Answers result r.new (text_at len r.old) }
+    ensures { ReadsField result r.new (text_at len r.old) }
 {
     let bytes = r.bytes(len as usize)?;
     r.bytes(len as usize % 2)?;
@@ -39,7 +39,7 @@ fn text(alloc: Global, len: u32, r: &mut Ndr<'_>) -> Result<Bstr, ReadFault>
 // The maximum count, cBytes, clSize and the bytes.
 #[tactic(auto, unfolding(oa_ndr::specs::Reading::bind, oa_ndr::specs::Reading::give, oa_ndr::specs::Reading::choose, oa_ndr::specs::Reading::fail, crate::specs::Reading::blob_at))]
 pub(crate) fn blob(alloc: Global, r: &mut Ndr<'_>) -> Result<Bstr, ReadFault>
-    ensures value { Answers result r.new (blob_at r.old) }
+    ensures value { ReadsField result r.new (blob_at r.old) }
     ensures memory { OnMemory result (12 ≤ length r.old.rest) }
 {
     let maximum = r.u32()?;
@@ -60,7 +60,7 @@ pub(crate) fn blob(alloc: Global, r: &mut Ndr<'_>) -> Result<Bstr, ReadFault>
 // A referent and its pointee.
 #[tactic(auto, unfolding(oa_ndr::specs::Reading::bind, oa_ndr::specs::Reading::give, oa_ndr::specs::Reading::choose, crate::specs::Reading::bstr_at))]
 pub(crate) fn bstr(alloc: Global, r: &mut Ndr<'_>) -> Result<Bstr, ReadFault>
-    ensures { Answers result r.new (bstr_at r.old) }
+    ensures { ReadsField result r.new (bstr_at r.old) }
 {
     if r.referent()? {
         return blob(alloc, r);
@@ -88,8 +88,8 @@ pub fn read_text(alloc: Global, r: &mut Ndr<'_>) -> Result<Bstr, ReadFault>
 
 // The same as `write_text`, but where memory is refused a part of it may stay.
 pub(crate) fn add_blob(out: &mut NdrOut, text: &Bstr) -> Result<(), AllocError>
-    ensures ok { OnOk result (out.new ≡ within (put_blob text.now) out.old) }
-    ensures kept { Keeps out.old out.new }
+    ensures ok { OnOk result (out.new ≡ in_field (put_blob text.now) out.old) }
+    ensures kept { TakesNothingBack out.old out.new }
 {
     if text.is_null() {
         out.u32(0)?;
@@ -110,7 +110,7 @@ pub(crate) fn add_blob(out: &mut NdrOut, text: &Bstr) -> Result<(), AllocError>
 ///
 /// Where memory is refused, the output is as it was.
 pub fn write_text(out: &mut NdrOut, text: &Bstr) -> Result<(), AllocError>
-    ensures ok { OnOk result (out.new ≡ within (put_blob text.now) out.old) }
+    ensures ok { OnOk result (out.new ≡ in_field (put_blob text.now) out.old) }
     ensures err { OnErr result (out.new ≡ out.old) }
 {
     let start = out.position();
@@ -123,8 +123,8 @@ pub fn write_text(out: &mut NdrOut, text: &Bstr) -> Result<(), AllocError>
 
 // A referent and its pointee; the null text is a null referent.
 pub(crate) fn write_bstr(out: &mut NdrOut, text: &Bstr) -> Result<(), AllocError>
-    ensures ok { OnOk result (out.new ≡ within (put_bstr text.now) out.old) }
-    ensures kept { Keeps out.old out.new }
+    ensures ok { OnOk result (out.new ≡ in_field (put_bstr text.now) out.old) }
+    ensures kept { TakesNothingBack out.old out.new }
 {
     if text.is_null() {
         return out.referent(false);

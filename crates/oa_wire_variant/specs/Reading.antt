@@ -13,10 +13,10 @@ use Rattle.oa_wire_array.specs.Reading.{union_at}
 use Rattle.oa_wire_array.specs.ArrayReading.{array_at}
 
 -- what a call on a whole field returned is what reading gives, unless memory ran out
-abbrev pub AnswersAll : {A : Type 0} → Result A ReadFault → Option A → Type 0
-AnswersAll (Ok x) read = read ≡ Some x
-AnswersAll (Err BadStub) read = read ≡ None
-AnswersAll (Err Memory) read = Unit {0}
+abbrev pub ReadsWholeField : {A : Type 0} → Result A ReadFault → Option A → Type 0
+ReadsWholeField (Ok x) read = read ≡ Some x
+ReadsWholeField (Err BadStub) read = read ≡ None
+ReadsWholeField (Err Memory) read = Unit {0}
 
 -- what stands behind the vt of a scalar
 unfoldable pub scalar_value_at : ℕ → Reading Variant

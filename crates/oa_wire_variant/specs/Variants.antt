@@ -57,17 +57,17 @@ abbrev pub field_fault : List ℕ → WireFault
 field_fault bytes = if nat_le 20 (length bytes) && not (is_value_type (own_vt bytes)) then BadVarType else BadStub
 
 -- the vt of an array with cells of a type of which there are arrays
-abbrev pub IsArrayType : ℕ → Type 0
-IsArrayType vt = (8192 ≤ vt) × (is_cell_type (type_at (vt - 8192)) ≡ true)
+abbrev pub IsArrayVt : ℕ → Type 0
+IsArrayVt vt = (8192 ≤ vt) × (is_cell_type (type_at (vt - 8192)) ≡ true)
 
 -- a value takes memory where it is a text, VT_BSTR, or an array, VT_ARRAY with a type of cells (MS-OAUT 2.2.7), and a discriminant is there
 abbrev pub TakesMemory : List ℕ → Type 0
-TakesMemory bytes = (20 ≤ length bytes) × ((own_vt bytes ≡ 8) ⊎ IsArrayType (own_vt bytes))
+TakesMemory bytes = (20 ≤ length bytes) × ((own_vt bytes ≡ 8) ⊎ IsArrayVt (own_vt bytes))
 
 -- what reading a field answers: the value that its bytes spell, or its fault where they spell none; want of memory only where a value takes
 -- some
-abbrev pub IsReading : List ℕ → Result Variant WireFault → Type 0
-IsReading bytes (Ok v) = Spells bytes v
-IsReading bytes (Err Memory) = TakesMemory bytes
-IsReading bytes (Err BadStub) = ((v : Variant) → Spells bytes v → ⊥) × (field_fault bytes ≡ BadStub)
-IsReading bytes (Err BadVarType) = ((v : Variant) → Spells bytes v → ⊥) × (field_fault bytes ≡ BadVarType)
+abbrev pub ReadsVariant : List ℕ → Result Variant WireFault → Type 0
+ReadsVariant bytes (Ok v) = Spells bytes v
+ReadsVariant bytes (Err Memory) = TakesMemory bytes
+ReadsVariant bytes (Err BadStub) = ((v : Variant) → Spells bytes v → ⊥) × (field_fault bytes ≡ BadStub)
+ReadsVariant bytes (Err BadVarType) = ((v : Variant) → Spells bytes v → ⊥) × (field_fault bytes ≡ BadVarType)

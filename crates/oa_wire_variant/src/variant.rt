@@ -3,12 +3,12 @@
 ghost use Rattle.std.specs.Prelude.{◌≡◌, ◌++◌, ◌-◌, ◌<◌, ◌≤◌, ◌^◌, length, IsSome, OnOk, OnErr};
 ghost use Rattle.oa_model.specs.Types.{type_at, sf_type_of};
 ghost use Rattle.oa_ndr.specs.Reading.{whole};
-ghost use Rattle.oa_ndr.specs.Writing.{within};
-ghost use Rattle.oa_wire_array.specs.Reading.{Answers, OnMemory, from_multiple, union_at};
+ghost use Rattle.oa_ndr.specs.Writing.{in_field};
+ghost use Rattle.oa_wire_array.specs.Reading.{ReadsField, OnMemory, from_multiple, union_at};
 ghost use Rattle.oa_wire_array.specs.ArrayReading.{array_at};
-ghost use Rattle.oa_wire_variant.specs.Variants.{IsReading, IsArrayType, TakesMemory, is_value_type, field_fault};
+ghost use Rattle.oa_wire_variant.specs.Variants.{ReadsVariant, IsArrayVt, TakesMemory, is_value_type, field_fault};
 ghost use Rattle.oa_wire_variant.specs.Reading.{
-  AnswersAll,
+  ReadsWholeField,
   scalar_value_at,
   array_union_at,
   array_value_at,
@@ -35,14 +35,14 @@ const VT_ARRAY: u16 = 0x2000;
 const SECOND_REFERENT: usize = 24;
 
 fn union(alloc: Global, vt: u16, r: &mut Ndr<'_>) -> Result<Scalar, ReadFault>
-    ensures value { Answers result r.new (union_at vt r.old) }
+    ensures value { ReadsField result r.new (union_at vt r.old) }
     ensures memory { OnMemory result ((vt ≡ 8) × (4 ≤ length r.old.rest)) }
 {
     read_union(alloc, vt, r)
 }
 
 fn array(alloc: Global, elem: VarType, r: &mut Ndr<'_>) -> Result<SafeArray<Scalar>, ReadFault>
-    ensures value { Answers result r.new (array_at elem r.old) }
+    ensures value { ReadsField result r.new (array_at elem r.old) }
     ensures memory { OnMemory result (IsSome (sf_type_of elem)) }
 {
     match read_array(alloc, r, elem) {
@@ -55,7 +55,7 @@ fn array(alloc: Global, elem: VarType, r: &mut Ndr<'_>) -> Result<SafeArray<Scal
 
 #[tactic(auto, unfolding(oa_ndr::specs::Reading::bind, oa_ndr::specs::Reading::give, crate::specs::Reading::scalar_value_at))]
 fn scalar_value(alloc: Global, vt: u16, r: &mut Ndr<'_>) -> Result<Variant, ReadFault>
-    ensures value { Answers result r.new (scalar_value_at vt r.old) }
+    ensures value { ReadsField result r.new (scalar_value_at vt r.old) }
     ensures memory { OnMemory result ((vt ≡ 8) × (4 ≤ length r.old.rest)) }
 {
     Ok(Variant::One(union(alloc, vt, r)?))
@@ -69,7 +69,7 @@ fn array_union(
     vt: u16,
     r: &mut Ndr<'_>,
 ) -> Result<SafeArray<Scalar>, ReadFault>
-    ensures value { Answers result r.new (array_union_at elem vt r.old) }
+    ensures value { ReadsField result r.new (array_union_at elem vt r.old) }
     ensures memory { OnMemory result ((4 ≤ length r.old.rest) × IsSome (sf_type_of elem)) }
 {
     let discriminant = r.u32()?;
@@ -83,8 +83,8 @@ fn array_union(
 #[tactic(auto, unfolding(oa_ndr::specs::Reading::bind, oa_ndr::specs::Reading::give, oa_ndr::specs::Reading::fail, crate::specs::Reading::array_value_at))]
 fn array_value(alloc: Global, vt: u16, r: &mut Ndr<'_>) -> Result<Variant, ReadFault>
     requires { 8192 ≤ vt }
-    ensures value { Answers result r.new (array_value_at (type_at (vt - 8192)) vt r.old) }
-    ensures memory { OnMemory result ((4 ≤ length r.old.rest) × IsArrayType vt) }
+    ensures value { ReadsField result r.new (array_value_at (type_at (vt - 8192)) vt r.old) }
+    ensures memory { OnMemory result ((4 ≤ length r.old.rest) × IsArrayVt vt) }
 {
     match VarType::from_vt(vt - VT_ARRAY) {
         Some(elem) => Ok(Variant::Array(array_union(alloc, elem, vt, r)?)),
@@ -94,7 +94,7 @@ fn array_value(alloc: Global, vt: u16, r: &mut Ndr<'_>) -> Result<Variant, ReadF
 
 #[tactic(auto, unfolding(oa_ndr::specs::Reading::bind, oa_ndr::specs::Reading::choose, crate::specs::Reading::variant_at))]
 fn variant(alloc: Global, r: &mut Ndr<'_>) -> Result<Variant, ReadFault>
-    ensures value { Answers result r.new (variant_at r.old) }
+    ensures value { ReadsField result r.new (variant_at r.old) }
     ensures memory { OnMemory result (TakesMemory (from_multiple 8 r.old)) }
 {
     r.align(8)?;
@@ -111,7 +111,7 @@ fn variant(alloc: Global, r: &mut Ndr<'_>) -> Result<Variant, ReadFault>
 }
 
 fn whole(alloc: Global, bytes: &[u8]) -> Result<Variant, ReadFault>
-    ensures value { AnswersAll result (whole variant_at bytes.now) }
+    ensures value { ReadsWholeField result (whole variant_at bytes.now) }
     ensures memory { OnMemory result (TakesMemory bytes.now) }
 {
     let mut r = Ndr::new(bytes);
@@ -157,7 +157,7 @@ fn field_fault(bytes: &[u8]) -> WireFault
 /// `Memory` only where a block for the value was refused: the field has at least 20 bytes, and its vt
 /// is that of BSTR, or VT_ARRAY with a type of which there are arrays.
 pub fn read_variant(alloc: Global, bytes: &[u8]) -> Result<Variant, WireFault>
-    ensures exact { IsReading bytes.now result }
+    ensures exact { ReadsVariant bytes.now result }
 {
     match whole(alloc, bytes) {
         Ok(value) => Ok(value),
@@ -189,7 +189,7 @@ pub fn wire_len(value: &Variant) -> usize
 
 // What stands before the second referent of an array.
 fn write_array_head(out: &mut NdrOut, size: u32, vt: u16) -> Result<(), AllocError>
-    ensures ok { OnOk result (out.new ≡ within (put_array_head size vt) out.old) }
+    ensures ok { OnOk result (out.new ≡ in_field (put_array_head size vt) out.old) }
     ensures before { out.new.before ≡ out.old.before }
 {
     write_head(out, size, vt)?;
@@ -202,7 +202,7 @@ fn write_sized_array(
     size: u32,
     array: &SafeArray<Scalar>,
 ) -> Result<(), AllocError>
-    ensures ok { OnOk result (out.new ≡ within (put_sized_array size array.now) out.old) }
+    ensures ok { OnOk result (out.new ≡ in_field (put_sized_array size array.now) out.old) }
     ensures before { out.new.before ≡ out.old.before }
 {
     let vt = ValueType::Array(array.elem()).vt();
@@ -214,7 +214,7 @@ fn write_sized_array(
 fn write_field(out: &mut NdrOut, value: &Variant, len: usize) -> Result<(), AllocError>
     requires counted { IsArrayLen len value.now }
     requires small { len < 2 ^ 40 }
-    ensures ok { OnOk result (out.new ≡ within (put_variant value.now) out.old) }
+    ensures ok { OnOk result (out.new ≡ in_field (put_variant value.now) out.old) }
     ensures before { out.new.before ≡ out.old.before }
 {
     match value {

@@ -1,7 +1,7 @@
 //! The array in a cell.
 ghost use Rattle.std.specs.Prelude.{◌≡◌, None, Err, ℤ, List};
 ghost use Rattle.std.specs.Result.{result_map_both};
-ghost use Rattle.oa_turn.specs.ArrayCells.{array_of, element_at, element_of, element_type_of, locks_in, locks_of, type_at};
+ghost use Rattle.oa_turn.specs.ArrayCells.{array_of, element_at, element_of, element_type_of, locks_in, locks_of, element_type_at};
 ghost use Rattle.oa_variant.specs.Variants.{zero_value};
 
 use super::Host;
@@ -58,7 +58,7 @@ fn element_at<'a>(index: &[i32], array: &'a SafeArray<Scalar>) -> Result<&'a Sca
 }
 
 fn type_at(index: &[i32], array: &SafeArray<Scalar>) -> Result<VarType, Refusal>
-    ensures { result ≡ type_at index.now array.now }
+    ensures { result ≡ element_type_at index.now array.now }
 {
     match array.element(index) {
         Ok(_) => Ok(array.elem()),

@@ -1,7 +1,7 @@
 //! INVOKE.
 ghost use Rattle.std.specs.Prelude.{◌≡◌, true, IfOk, Ok, Some};
 ghost use Rattle.oa_turn.specs.Decisions.{ChangesNoLocks, Decides};
-ghost use Rattle.oa_turn.specs.Invoke.{cell_decided, invocation, value_of};
+ghost use Rattle.oa_turn.specs.Invoke.{cell_decided, invocation, reply_value};
 ghost use Rattle.oa_table.specs.Tables.{object_at};
 ghost use Rattle.oa_variant.specs.Variants.{HasZero};
 
@@ -65,7 +65,7 @@ impl Host {
     ) -> Result<Fields, AllocError>
         requires object { object_at name.now.object self.now.table ≡ Some object.now }
         requires zero { HasZero declared }
-        ensures { IfOk result (λ fields. fields ≡ value_of self.now name.now declared) }
+        ensures { IfOk result (λ fields. fields ≡ reply_value self.now name.now declared) }
     {
         let bytes = match object.get(&name.place) {
             Some(value) => variant_field(self.alloc, value)?,

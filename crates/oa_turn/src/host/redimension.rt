@@ -1,6 +1,6 @@
 //! REDIM.
 ghost use Rattle.std.specs.Prelude.{◌≡◌, true, IfOk};
-ghost use Rattle.oa_turn.specs.Cells.{Finds};
+ghost use Rattle.oa_turn.specs.Cells.{FindsDue};
 ghost use Rattle.oa_turn.specs.Decisions.{ChangesNoLocks, Decides};
 ghost use Rattle.oa_turn.specs.Redimension.{redimension, zero_with};
 ghost use Rattle.oa_table.specs.Elements.{locks_of};
@@ -39,7 +39,7 @@ impl Host {
     /// The zero of a declared type with another first bound.
     fn zero_with(&self, bound: Bound, declared: ValueType) -> Result<Variant, Undecided>
         requires { HasZero declared }
-        ensures value { Finds (zero_with bound declared) result }
+        ensures value { FindsDue (zero_with bound declared) result }
         ensures unlocked { IfOk result (λ value. locks_of value ≡ 0) }
     {
         let mut array = match Variant::zero(self.alloc, declared)? {

@@ -3,7 +3,7 @@ use Rattle.std.specs.Option.{option_map, option_or}
 use Rattle.oa_idl.specs.declared.items.Item.{Item}
 use Rattle.oa_checks.specs.declared.fault.CheckError.{CheckError}
 use Rattle.oa_checks.specs.declared.fault.CheckError.TheVariants.{UnknownInterface}
-use Rattle.oa_checks.specs.Breaches.{Refuses, interface_breach, form_breaches}
+use Rattle.oa_checks.specs.Breaches.{RefusesBreach, interface_breach, form_breaches}
 use Rattle.oa_checks.proofs.Passes.{refused, for_memory}
 use Rattle.oa_checks.proofs.Passes.{breach_before, no_breach_before}
 use Rattle.oa_checks.proofs.checks.check_contents.Goals as goal
@@ -23,5 +23,5 @@ returns c =
     let t = c.args.tree.now in
     let items = c.items_of-items.ensures in
     let none = ap (λ (xs : List Item). option_map UnknownInterface (interface_breach xs)) (sym items) ∙ c.in_ok-check_interfaces.ensures.0 in
-    subst (λ (o : Option CheckError). Refuses o (λ (_ : Unit {0}). Unit {0}) c.check_form_kinds.result)
+    subst (λ (o : Option CheckError). RefusesBreach o (λ (_ : Unit {0}). Unit {0}) c.check_form_kinds.result)
     (ap form_breaches items ∙ sym (no_breach_before (option_map UnknownInterface (interface_breach t.items)) (form_breaches t.items) none)) c.check_form_kinds.ensures

@@ -1,5 +1,5 @@
 use Rattle.std.proofs.Common.{◌≡◌, ◌⊎◌, ℕ, ◌-◌, ◌<◌, ◌≤◌, Some, slice_get}
-use Rattle.oa_disk.specs.declared.call.Call.TheVariants.{Sync}
+use Rattle.oa_disk.specs.declared.call.DeviceCall.TheVariants.{Sync}
 use Rattle.oa_disk.proofs.crash.last_sync.Given as goal
 
 abbrev pub invariant-loop-i : goal.invariant-loop-i

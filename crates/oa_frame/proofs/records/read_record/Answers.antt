@@ -1,5 +1,5 @@
 use Rattle.std.proofs.Common.{refl, ◌+◌, slice_range}
-use Rattle.oa_stream.specs.Ahead.{held}
+use Rattle.oa_stream.specs.Ahead.{read_ahead}
 use Rattle.oa_frame.proofs.Judged.{paced_ahead}
 use Rattle.oa_frame.proofs.Sessions.{writes_none}
 use Rattle.oa_frame.proofs.Raws.{record_ahead}
@@ -10,7 +10,7 @@ returns-in-Some-clause-paced g c = paced_ahead _ _ _ _ refl c.requires.unbroken 
 
 pub returns-in-Some-clause-input : goal.returns-in-Some-clause-input
 returns-in-Some-clause-input g c =
-    record_ahead _ _ (held c.args.reader.now) c.copy_front.new.body.items (slice_range (held c.args.reader.now) 4 (4 + c.in-Some.n)) c.in-Some.n (rw c.buffered.ensures at c.in-Some.ensures.says) c.in-Some.ensures.within.0 c.in-Some.ensures.within.1 (rw c.buffered.ensures at c.in-Some.ensures.within.2)
+    record_ahead _ _ (read_ahead c.args.reader.now) c.copy_front.new.body.items (slice_range (read_ahead c.args.reader.now) 4 (4 + c.in-Some.n)) c.in-Some.n (rw c.buffered.ensures at c.in-Some.ensures.says) c.in-Some.ensures.within.0 c.in-Some.ensures.within.1 (rw c.buffered.ensures at c.in-Some.ensures.within.2)
     (rw c.buffered-in-Some.ensures at c.copy_front.ensures.front) refl c.advance.ensures.taken.taken
 
 pub returns-in-Some-clause-output : goal.returns-in-Some-clause-output

@@ -5,7 +5,7 @@ use Rattle.oa_disk.specs.declared.memory.MemoryDisk.{MemoryDisk}
 use Rattle.oa_history.proofs.Withstanding.{answered_more}
 use Rattle.oa_history.specs.Survived.{Answered}
 use Rattle.oa_history.specs.declared.failing.Told.{Told}
-use Rattle.oa_history.specs.declared.session.Call.{Call}
+use Rattle.oa_history.specs.declared.session.ServerCall.{ServerCall}
 use Rattle.oa_history.proofs.failing.told_by.Goals as goal
 
 pub calls-init : goal.calls-init
@@ -24,4 +24,4 @@ pub returns-clause-answered : goal.returns-clause-answered
 returns-clause-answered c =
     let old = c.args.server.now.clerk in
     let new = c.calls.server.clerk in
-    subst (λ (l : List Call). Answered old.storage old.host l c.calls.told.items new.storage new.host) (take_all c.calls.call-index c.args.calls.now c.calls-test.false) c.calls.invariant
+    subst (λ (l : List ServerCall). Answered old.storage old.host l c.calls.told.items new.storage new.host) (take_all c.calls.call-index c.args.calls.now c.calls-test.false) c.calls.invariant

@@ -4,7 +4,7 @@ use Rattle.oa_disk.specs.Memory.{moments_of}
 use Rattle.oa_history.proofs.Calls.{made_more}
 use Rattle.oa_history.specs.Lived.{Made}
 use Rattle.oa_history.specs.declared.session.Answer.{Answer}
-use Rattle.oa_history.specs.declared.session.Call.{Call}
+use Rattle.oa_history.specs.declared.session.ServerCall.{ServerCall}
 use Rattle.oa_history.proofs.stopping.answered.Goals as goal
 
 pub calls-init : goal.calls-init
@@ -23,4 +23,4 @@ pub returns-clause-made : goal.returns-clause-made
 returns-clause-made c =
     let old = c.args.server.now.clerk in
     let new = c.calls.server.clerk in
-    subst (λ (l : List Call). Made old.storage old.host l c.calls.answers.items new.storage new.host) (take_all c.calls.call-index c.args.calls.now c.calls-test.false) c.calls.invariant
+    subst (λ (l : List ServerCall). Made old.storage old.host l c.calls.answers.items new.storage new.host) (take_all c.calls.call-index c.args.calls.now c.calls-test.false) c.calls.invariant

@@ -1,6 +1,6 @@
 use Rattle.std.proofs.Common.{List, ℕ, Err, subst}
 use Rattle.std.proofs.lemmas.Result.{err_from_is_err_and}
-use Rattle.oa_idl.specs.IsTree.{IsFound, IsTree}
+use Rattle.oa_idl.specs.IsTree.{AnswersTree, IsTree}
 use Rattle.oa_idl.specs.Trees.{TreeValue}
 use Rattle.oa_keeps.proofs.TextReads.{made_read, parse_read}
 use Rattle.oa_keeps.proofs.library_text.read_library.Goals as goal
@@ -15,4 +15,4 @@ returns-in_err-parse c =
     let p = err_from_is_err_and c.from_residual.result c.from_residual.ensures.1 in
     rw (p.1, p.2)
     (parse_read c.args.bytes.now c.in_err-parse.field-0.0
-    (subst (λ (bs : List ℕ). (t : TreeValue) → IsTree bs t → IsFound t (Err c.in_err-parse.field-0.0)) c.in-Ok.ensures.cases.0 c.in_err-parse.ensures.found))
+    (subst (λ (bs : List ℕ). (t : TreeValue) → IsTree bs t → AnswersTree t (Err c.in_err-parse.field-0.0)) c.in-Ok.ensures.cases.0 c.in_err-parse.ensures.found))

@@ -2,7 +2,7 @@ use Rattle.std.proofs.Common.{Err, refl, subst, sym}
 use Rattle.std.proofs.lemmas.Result.{err_from_is_err_and}
 use Rattle.oa_record.specs.Judging.{Requests}
 use Rattle.oa_record.specs.Layouts.{Layout}
-use Rattle.oa_record.specs.Reading.{element_of, redim_of}
+use Rattle.oa_record.specs.Reading.{parts_of_element, redim_of}
 use Rattle.oa_record.specs.Shown.{shown}
 use Rattle.oa_record.specs.declared.body_parts.Parts.{Parts}
 use Rattle.oa_record.proofs.Requests.{refuses_call}
@@ -18,7 +18,7 @@ pub returns-in_err-call-in-GetElement : goal.returns-in_err-call-in-GetElement
 returns-in_err-call-in-GetElement c =
     let p = err_from_is_err_and c.from_residual-in_err-call-in-GetElement.result c.from_residual-in_err-call-in-GetElement.ensures.1 in
     rw (p.1, p.2) (subst (λ (x : Parts). Requests (shown x) (Err c.in_err-call-in-GetElement.field-0.0)) (sym c.in-GetElement.is)
-    (refuses_call (Layout.GetElementBody (element_of c.in-GetElement.call c.in-GetElement.indices)) c.in-GetElement.call c.in_err-call-in-GetElement.field-0.0 refl (λ _. refl) refl c.in_err-call-in-GetElement.ensures.judged))
+    (refuses_call (Layout.GetElementBody (parts_of_element c.in-GetElement.call c.in-GetElement.indices)) c.in-GetElement.call c.in_err-call-in-GetElement.field-0.0 refl (λ _. refl) refl c.in_err-call-in-GetElement.ensures.judged))
 
 pub returns-in_err-call-in-Redimension : goal.returns-in_err-call-in-Redimension
 returns-in_err-call-in-Redimension c =

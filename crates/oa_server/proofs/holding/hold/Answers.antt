@@ -4,25 +4,25 @@ use Rattle.oa_server.proofs.holding.hold.Goals as goal
 
 pub returns-in-Ok-clause-turn : goal.returns-in-Ok-clause-turn
 returns-in-Ok-clause-turn g c body plain is =
-    held c.one_request.ensures c.args.host.now body c.args.planned plain is _ c.new.result c.args.frame.now c.hold_change.new.frame c.in-Ok.ensures.change.0 c.in-Ok.ensures.change.1 (search rules) c.in-Ok.ensures.replays c.in-Ok.ensures.small c.in-Ok.ensures.event
+    held c.one_request.ensures c.args.host.now body c.args.planned plain is _ c.new.result c.args.batch.now c.hold_change.new.batch c.in-Ok.ensures.change.0 c.in-Ok.ensures.change.1 (search rules) c.in-Ok.ensures.replays c.in-Ok.ensures.small c.in-Ok.ensures.event
 
 pub returns-in-Err-Memory-clause-turn : goal.returns-in-Err-Memory-clause-turn
-returns-in-Err-Memory-clause-turn g c body plain is = starved c.one_request.ensures c.args.host.now body c.args.planned plain is _ c.bare.result c.args.frame.now c.hold_change.new.frame (search rules) c.in-Err-Memory.ensures.same c.bare.ensures
+returns-in-Err-Memory-clause-turn g c body plain is = starved c.one_request.ensures c.args.host.now body c.args.planned plain is _ c.bare.result c.args.batch.now c.hold_change.new.batch (search rules) c.in-Err-Memory.ensures.same c.bare.ensures
 
 pub returns-clause-failed : goal.returns-clause-failed
 returns-clause-failed g c body plain is = has_turn c.one_request.ensures c.args.host.now body c.args.planned plain is _ (search rules)
 
 pub returns-in-Ok-clause-calls : goal.returns-in-Ok-clause-calls
 returns-in-Ok-clause-calls g c body plain is =
-    called_where_due c.one_request.ensures c.args.host.now body c.args.planned plain is {g = g.D.Disk} c.args.store.now c.hold_change.new.store c.args.frame.now c.hold_change.ensures.is c.hold_change.ensures.calls.quiet c.hold_change.ensures.calls.undue
+    called_where_due c.one_request.ensures c.args.host.now body c.args.planned plain is {g = g.D.Disk} c.args.store.now c.hold_change.new.store c.args.batch.now c.hold_change.ensures.is c.hold_change.ensures.calls.quiet c.hold_change.ensures.calls.undue
 
 pub returns-in-Err-Memory-clause-calls : goal.returns-in-Err-Memory-clause-calls
 returns-in-Err-Memory-clause-calls g c body plain is =
-    called_where_due c.one_request.ensures c.args.host.now body c.args.planned plain is {g = g.D.Disk} c.args.store.now c.hold_change.new.store c.args.frame.now c.hold_change.ensures.is c.hold_change.ensures.calls.quiet c.hold_change.ensures.calls.undue
+    called_where_due c.one_request.ensures c.args.host.now body c.args.planned plain is {g = g.D.Disk} c.args.store.now c.hold_change.new.store c.args.batch.now c.hold_change.ensures.is c.hold_change.ensures.calls.quiet c.hold_change.ensures.calls.undue
 
 pub returns-clause-calls : goal.returns-clause-calls
 returns-clause-calls g c body plain is =
-    called_where_due c.one_request.ensures c.args.host.now body c.args.planned plain is {g = g.D.Disk} c.args.store.now c.hold_change.new.store c.args.frame.now c.hold_change.ensures.is c.hold_change.ensures.calls.quiet c.hold_change.ensures.calls.undue
+    called_where_due c.one_request.ensures c.args.host.now body c.args.planned plain is {g = g.D.Disk} c.args.store.now c.hold_change.new.store c.args.batch.now c.hold_change.ensures.is c.hold_change.ensures.calls.quiet c.hold_change.ensures.calls.undue
 
 pub returns-clause-due : goal.returns-clause-due
 returns-clause-due g c body plain is =

@@ -7,13 +7,13 @@ use Rattle.oa_server.proofs.Held.{carried}
 use Rattle.oa_server.proofs.holding.hold_change.Goals as goal
 
 pub returns-in_err-make_room-clause-carries : goal.returns-in_err-make_room-clause-carries
-returns-in_err-make_room-clause-carries g c = carried c.args.frame.now c.args.store.now c.make_room.new.store (ap unlocked_table c.table.ensures.table) c.make_room.ensures.carries
+returns-in_err-make_room-clause-carries g c = carried c.args.batch.now c.args.store.now c.make_room.new.store (ap unlocked_table c.table.ensures.table) c.make_room.ensures.carries
 
 pub returns-in_err-add_change-clause-carries : goal.returns-in_err-add_change-clause-carries
-returns-in_err-add_change-clause-carries g c = carried c.args.frame.now c.args.store.now c.make_room.new.store (ap unlocked_table c.table.ensures.table) c.make_room.ensures.carries
+returns-in_err-add_change-clause-carries g c = carried c.args.batch.now c.args.store.now c.make_room.new.store (ap unlocked_table c.table.ensures.table) c.make_room.ensures.carries
 
 pub returns-clause-carries : goal.returns-clause-carries
-returns-clause-carries g c = carried c.args.frame.now c.args.store.now c.make_room.new.store (ap unlocked_table c.table.ensures.table) c.make_room.ensures.carries
+returns-clause-carries g c = carried c.args.batch.now c.args.store.now c.make_room.new.store (ap unlocked_table c.table.ensures.table) c.make_room.ensures.carries
 
 pub returns-clause-replays : goal.returns-clause-replays
 returns-clause-replays g c = one_event c.args.event c.args.host.now.table c.add_change.new.host.table c.is_event.ensures c.in_ok-add_change.ensures.change.0

@@ -6,7 +6,7 @@ use Rattle.oa_server.proofs.Held.{answered, carried}
 use Rattle.oa_server.proofs.holding.turn_held.Goals as goal
 
 pub returns-in-Answered-clause-turn : goal.returns-in-Answered-clause-turn
-returns-in-Answered-clause-turn g c = answered c.args.body.now c.in-Answered.reply c.args.frame.now c.args.host.now c.plan.new.self c.requires.plain c.in-Answered.ensures.plans.0 c.in-Answered.ensures.plans.1 c.in-Answered.ensures.quiet
+returns-in-Answered-clause-turn g c = answered c.args.body.now c.in-Answered.reply c.args.batch.now c.args.host.now c.plan.new.self c.requires.plain c.in-Answered.ensures.plans.0 c.in-Answered.ensures.plans.1 c.in-Answered.ensures.quiet
 
 pub returns-in-Answered-clause-carries : goal.returns-in-Answered-clause-carries
 returns-in-Answered-clause-carries g c =
@@ -17,7 +17,7 @@ returns-in-Answered-clause-carries g c =
     }
 
 pub returns-in-Change-clause-carries : goal.returns-in-Change-clause-carries
-returns-in-Change-clause-carries g c = carried c.args.frame.now c.args.store.now c.hold.new.store (ap held_of c.in-Change.ensures.plans.2) c.hold.ensures.carries
+returns-in-Change-clause-carries g c = carried c.args.batch.now c.args.store.now c.hold.new.store (ap held_of c.in-Change.ensures.plans.2) c.hold.ensures.carries
 
 pub returns-in-Answered-clause-banks : goal.returns-in-Answered-clause-banks
 returns-in-Answered-clause-banks g c = c.requires.banks ∙ sym (ordinary_bank c.args.host.now c.plan.new.self c.args.body.now c.in-Answered.reply c.in-Answered.ensures.plans.0)

@@ -15,13 +15,13 @@ pub bodies-init : goal.bodies-init
 bodies-init g c =
     let made = c.in_ok-hand.ensures in
     record {
-      ready = rw (made.replies, made.frame, made.size) (ready_none c.args.store.now c.args.group _ c.requires.positive made.places);
+      ready = rw (made.replies, made.batch, made.size) (ready_none c.args.store.now c.args.group _ c.requires.positive made.places);
       banks = c.requires.banks;
       size = made.size;
       count = search rules;
       places = search rules;
       going = λ going.
-          rw (made.replies, made.frame, c.in_ok-out.ensures.items)
+          rw (made.replies, made.batch, c.in_ok-out.ensures.items)
           (underway_start requests {g = g.D.Disk} (λ d f honest since. g.met.D.Disk.only_now d f honest since) (desk c.args.store.now c.args.host.now [] []) c.args.group going refl refl);
       late = λ stopped. rw c.in_ok-out.ensures.items (late_none c.args.store.now c.args.host.now stopped);
     }
@@ -31,8 +31,8 @@ bodies-preserved g c =
     let bodies = c.args.bodies.now in
     let i = c.bodies.body-index in
     let body = c.body-item.result in
-    let old = desk c.bodies.store c.bodies.host c.bodies.hand.replies.items c.bodies.hand.frame in
-    let new = desk c.take_on.new.store c.take_on.new.host c.take_on.new.hand.replies.items c.take_on.new.hand.frame in
+    let old = desk c.bodies.store c.bodies.host c.bodies.hand.replies.items c.bodies.hand.batch in
+    let new = desk c.take_on.new.store c.take_on.new.host c.take_on.new.hand.replies.items c.take_on.new.hand.batch in
     let taken = c.take_on.ensures.taken in
     let so_far = c.bodies.invariant in
     let more : map bytes (take (i + 1) bodies) ≡ map bytes (take i bodies) ++ bytes body ∷ [] = rw (take_more bodies i body c.bodies-test.true, sym c.body-item.is) (map_push bytes (take i bodies) body) in
@@ -49,15 +49,15 @@ bodies-preserved g c =
       late = λ stopped.
           rw (more, taken.out)
           (late_more c.args.store.now c.bodies.store c.take_on.new.store c.args.host.now c.bodies.host c.take_on.new.host (map bytes (take i bodies)) c.bodies.out.items c.args.group (bytes body) taken.told
-          c.bodies.hand.replies.items c.take_on.new.hand.replies.items c.bodies.hand.frame c.take_on.new.hand.frame (so_far.late stopped) (rw (so_far.size, c.deref.ensures.value) at taken.is));
+          c.bodies.hand.replies.items c.take_on.new.hand.replies.items c.bodies.hand.batch c.take_on.new.hand.batch (so_far.late stopped) (rw (so_far.size, c.deref.ensures.value) at taken.is));
     }
 
 pub returns-clause-served : goal.returns-clause-served
 returns-clause-served g c going =
     let bodies = c.args.bodies.now in
     let i = c.bodies.body-index in
-    let old = desk c.bodies.store c.bodies.host c.bodies.hand.replies.items c.bodies.hand.frame in
-    let new = desk c.finish_on.new.store c.bodies.host c.finish_on.new.hand.replies.items c.finish_on.new.hand.frame in
+    let old = desk c.bodies.store c.bodies.host c.bodies.hand.replies.items c.bodies.hand.batch in
+    let new = desk c.finish_on.new.store c.bodies.host c.finish_on.new.hand.replies.items c.finish_on.new.hand.batch in
     let ended = c.finish_on.ensures.ended in
     let end : length bodies ≤ i = omega (arith, c.bodies-test.false) in
     let whole : map bytes (take i bodies) ≡ map bytes bodies = ap (λ (l : List (Vec ℕ Global)). map bytes l) (take_all i bodies end) in
@@ -74,4 +74,4 @@ returns-clause-late g c stopped =
     let whole : map bytes (take i bodies) ≡ map bytes bodies = ap (λ (l : List (Vec ℕ Global)). map bytes l) (take_all i bodies end) in
     rw (sym whole, ended.out)
     (late_ended c.args.store.now c.bodies.store c.finish_on.new.store c.args.host.now c.bodies.host c.bodies.host (map bytes (take i bodies)) c.bodies.out.items ended.told
-    c.bodies.hand.replies.items c.finish_on.new.hand.replies.items c.bodies.hand.frame c.finish_on.new.hand.frame (c.bodies.invariant.late stopped) ended.is)
+    c.bodies.hand.replies.items c.finish_on.new.hand.replies.items c.bodies.hand.batch c.finish_on.new.hand.batch (c.bodies.invariant.late stopped) ended.is)

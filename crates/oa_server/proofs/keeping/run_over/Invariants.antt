@@ -1,18 +1,18 @@
 use Rattle.std.proofs.Common.{◌≡◌, ◌+◌, ◌≤◌, false, true, [], take, map, length}
 use Rattle.std.specs.Prelude.{vec_capacity}
 use Rattle.oa_groups.specs.Going.{Underway}
-use Rattle.oa_server.specs.Answers.{IsLate}
+use Rattle.oa_server.specs.Answers.{AnswersAfterFault}
 use Rattle.oa_server.specs.Hands.{HasBanks, IsReady, desk}
 use Rattle.oa_server.specs.Requests.{requests}
 use Rattle.oa_server.proofs.keeping.run_over.Given as goal
 
 abbrev pub invariant-bodies : goal.invariant-bodies
 invariant-bodies g l = record {
-  ready : IsReady l.store l.hand.size (vec_capacity l.hand.replies) l.hand.replies.items l.hand.frame;
+  ready : IsReady l.store l.hand.size (vec_capacity l.hand.replies) l.hand.replies.items l.hand.batch;
   banks : HasBanks l.store l.host;
   size : l.hand.size ≡ l.group;
   count : length l.out.items + length l.hand.replies.items ≡ l.body-index;
   places : length l.bodies ≤ vec_capacity l.out;
-  going : l.fn.store.stopped ≡ false → Underway requests l.group (desk l.fn.store l.fn.host [] []) (desk l.store l.host l.hand.replies.items l.hand.frame) (map (λ b. b.items) (take l.body-index l.bodies)) l.out.items;
-  late : l.fn.store.stopped ≡ true → IsLate l.fn.store l.store l.fn.host l.host (map (λ b. b.items) (take l.body-index l.bodies)) l.out.items;
+  going : l.fn.store.stopped ≡ false → Underway requests l.group (desk l.fn.store l.fn.host [] []) (desk l.store l.host l.hand.replies.items l.hand.batch) (map (λ b. b.items) (take l.body-index l.bodies)) l.out.items;
+  late : l.fn.store.stopped ≡ true → AnswersAfterFault l.fn.store l.store l.fn.host l.host (map (λ b. b.items) (take l.body-index l.bodies)) l.out.items;
 }

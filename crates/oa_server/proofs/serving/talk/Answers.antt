@@ -11,8 +11,8 @@ returns-clause-session g c =
     let was = c.args.clerk.now in
     let hand = was.hand in
     let need = c.requires in
-    serves_session {g = g.D.Disk} (λ d f honest since. g.met.D.Disk.only_now d f honest since) hand.size (frames c.args.framing) last_written _ _ _ _ was c.serve.new.server c.serve.result need.positive need.replies need.frame
-    (begins {g = g.D.Disk} (λ d f honest since. g.met.D.Disk.only_now d f honest since) hand.size was.storage was.host hand refl need.positive need.places need.replies need.frame)
+    serves_session {g = g.D.Disk} (λ d f honest since. g.met.D.Disk.only_now d f honest since) hand.size (frames c.args.framing) last_written _ _ _ _ was c.serve.new.server c.serve.result need.positive need.replies need.batch
+    (begins {g = g.D.Disk} (λ d f honest since. g.met.D.Disk.only_now d f honest since) hand.size was.storage was.host hand refl need.positive need.places need.replies need.batch)
     (session_taken {g = g.D.Disk} (frames c.args.framing) last_written _ _ _ _ was c.serve.new.server c.serve.result (search rules))
 
 pub returns-clause-memory : goal.returns-clause-memory

@@ -1,7 +1,7 @@
 use Rattle.std.proofs.Common.{◌≡◌, Option, sym, subst}
 use Rattle.oa_idl.specs.Trees.{TreeValue}
 use Rattle.oa_checks.specs.Libraries.{marked}
-use Rattle.oa_checks.specs.Breaches.{Refuses, first_breach, tree_breach, text_breach}
+use Rattle.oa_checks.specs.Breaches.{RefusesBreach, first_breach, tree_breach, text_breach}
 use Rattle.oa_checks.specs.declared.fault.CheckError.{CheckError}
 use Rattle.oa_checks.proofs.Passes.{refused, for_memory}
 use Rattle.oa_checks.proofs.Passes.{breach_before, no_breach_before}
@@ -16,7 +16,7 @@ returns-in_err-names-clause-refuses c =
 
 pub returns-clause-refuses : goal.returns-clause-refuses
 returns-clause-refuses c =
-    subst (λ (o : Option CheckError). Refuses o (λ (l : TreeValue). l ≡ marked c.args.tree) c.library_of.result)
+    subst (λ (o : Option CheckError). RefusesBreach o (λ (l : TreeValue). l ≡ marked c.args.tree) c.library_of.result)
     (sym (no_breach_before (tree_breach c.args.tree) (text_breach c.args.tree) c.in_ok-names.ensures.0)) c.library_of.ensures
 
 pub returns-clause-library : goal.returns-clause-library

@@ -4,7 +4,7 @@ use Rattle.oa_idl.specs.declared.items.Item.{Item}
 use Rattle.oa_idl.specs.Canonical.{canonical}
 use Rattle.oa_idl.specs.IsTree.{MayBeText, IsTree}
 use Rattle.oa_model.specs.Folding.{folded_name}
-use Rattle.oa_checks.specs.Libraries.{name_of, guid_of, marked, marked_item}
+use Rattle.oa_checks.specs.Libraries.{item_name, item_guid, marked, marked_item}
 use Rattle.oa_typelib.specs.Indexes.{default_in}
 use Rattle.oa_checks.specs.Libraries.{folded_names}
 use Rattle.oa_checks.specs.Breaches.{tree_breach, text_breach}
@@ -28,11 +28,11 @@ pub invariant_of-result : goal.invariant_of-result
 invariant_of-result c =
     let tree = c.mark-tree.result in
     let items : tree.items ≡ map marked_item c.args.tree.items = ap (λ (t : TreeValue). t.items) c.mark-tree.ensures in
-    let names : c.args.names.now ≡ folded_names tree.items = c.requires.names ∙ sym (kept (λ (i : Item). folded_name (name_of i)) name_kept c.args.tree.items) ∙ ap folded_names (sym items) in
+    let names : c.args.names.now ≡ folded_names tree.items = c.requires.names ∙ sym (kept (λ (i : Item). folded_name (item_name i)) name_kept c.args.tree.items) ∙ ap folded_names (sym items) in
     let text = c.in_ok-text.ensures.1.0 in
     let breach = length_of_marked c.args.tree tree c.mark-tree.ensures ∙ c.in_ok-text.ensures.0 in (
       (
-        c.requires.guids ∙ sym (kept guid_of guid_kept c.args.tree.items) ∙ ap (map guid_of) (sym items),
+        c.requires.guids ∙ sym (kept item_guid guid_kept c.args.tree.items) ∙ ap (map item_guid) (sym items),
         c.in_ok-text.ensures.1.1,
         c.in_ok-text.ensures.1.2 ∙ ap (λ (ns : List (List ℕ)). map (default_in ns) tree.items) names,
         text,

@@ -1,10 +1,10 @@
 use Rattle.std.proofs.Common.{◌≡◌, drop}
-use Rattle.oa_ndr.specs.Writing.{Keeps, put_all}
+use Rattle.oa_ndr.specs.Writing.{TakesNothingBack, put_all}
 use Rattle.oa_wire_array.specs.ArrayCanon.{put_bound}
 use Rattle.oa_wire_array.proofs.array_out.write_bounds.Given as goal
 
 abbrev pub invariant-loop-bound : goal.invariant-loop-bound
 invariant-loop-bound l =
     (l.out.before ≡ l.fn.out.before)
-    × Keeps l.fn.out l.out
+    × TakesNothingBack l.fn.out l.out
     × (put_all put_bound (drop l.bound-index l.bounds) l.out.field ≡ put_all put_bound l.bounds l.fn.out.field)

@@ -1,10 +1,10 @@
 use Rattle.std.proofs.Common.{◌≡◌, drop}
-use Rattle.oa_ndr.specs.Writing.{Keeps, put_all}
+use Rattle.oa_ndr.specs.Writing.{TakesNothingBack, put_all}
 use Rattle.oa_wire_array.specs.ArrayCanon.{put_cell_referent}
 use Rattle.oa_wire_array.proofs.array_out.write_referents.Given as goal
 
 abbrev pub invariant-loop-cell : goal.invariant-loop-cell
 invariant-loop-cell l =
     (l.out.before ≡ l.fn.out.before)
-    × Keeps l.fn.out l.out
+    × TakesNothingBack l.fn.out l.out
     × (put_all (put_cell_referent l.elem) (drop l.cell-index l.cells) l.out.field ≡ put_all (put_cell_referent l.elem) l.cells l.fn.out.field)

@@ -3,7 +3,7 @@ use Rattle.oa_ndr.proofs.Laws.{whole_takes, whole_again}
 use Rattle.oa_variant.specs.declared.variant.Variant.{Variant}
 use Rattle.oa_wire_array.specs.declared.fault.WireFault.{WireFault}
 use Rattle.oa_wire_array.specs.declared.fault.WireFault.TheVariants.{BadStub, BadVarType, Memory}
-use Rattle.oa_wire_variant.specs.Variants.{Spells, IsReading, field_fault}
+use Rattle.oa_wire_variant.specs.Variants.{Spells, ReadsVariant, field_fault}
 use Rattle.oa_wire_variant.proofs.VariantLaws.{variant_reads}
 use Rattle.oa_wire_variant.proofs.variant.read_variant.Goals as goal
 
@@ -12,7 +12,7 @@ no_memory : (b : Bool) → Memory ≡ cond b BadVarType BadStub → ⊥
 no_memory true e = absurd cc
 no_memory false e = absurd cc
 
-fault_is : (bytes : List ℕ) (e : WireFault) → e ≡ field_fault bytes → ((v : Variant) → Spells bytes v → ⊥) → IsReading bytes (Err e)
+fault_is : (bytes : List ℕ) (e : WireFault) → e ≡ field_fault bytes → ((v : Variant) → Spells bytes v → ⊥) → ReadsVariant bytes (Err e)
 fault_is bytes BadStub is never = (never, sym is)
 fault_is bytes BadVarType is never = (never, sym is)
 fault_is bytes Memory is never = absurd (no_memory _ is)

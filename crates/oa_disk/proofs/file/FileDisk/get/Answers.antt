@@ -1,5 +1,5 @@
 use Rattle.std.proofs.Common.{[], refl, ap}
-use Rattle.oa_disk.specs.declared.call.Call.TheVariants.{Read}
+use Rattle.oa_disk.specs.declared.call.DeviceCall.TheVariants.{Read}
 use Rattle.oa_disk.specs.declared.record.Record.{Record}
 use Rattle.oa_disk.specs.Record.{history_of}
 use Rattle.oa_disk.proofs.Recorded.{whole_is}

@@ -1,6 +1,6 @@
 use Rattle.std.proofs.Common.{inl, inr, [], refl, ◌∙◌, ap}
 use Rattle.std.proofs.lemmas.Result.{on_ok_weaker}
-use Rattle.oa_disk.specs.declared.call.Call.TheVariants.{Read, Sync}
+use Rattle.oa_disk.specs.declared.call.DeviceCall.TheVariants.{Read, Sync}
 use Rattle.oa_disk.specs.declared.record.Record.{Record}
 use Rattle.oa_disk.specs.Record.{history_of}
 use Rattle.oa_disk.specs.Replay.{contents_after}

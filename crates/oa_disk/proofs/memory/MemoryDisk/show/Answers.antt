@@ -1,6 +1,6 @@
 use Rattle.std.proofs.Common.{List, ℕ, length, sym, subst, arith}
-use Rattle.oa_disk.specs.Disk.{Holds}
-use Rattle.oa_disk.specs.declared.call.Call.{Call}
+use Rattle.oa_disk.specs.Disk.{HasBytesAt}
+use Rattle.oa_disk.specs.declared.call.DeviceCall.{DeviceCall}
 use Rattle.oa_disk.specs.Ledger.{laid}
 use Rattle.oa_disk.specs.Replay.{AllInside, contents_after}
 use Rattle.oa_disk.proofs.Calls.{inside_more}
@@ -25,5 +25,5 @@ returns-clause-bytes c =
     let inside = subst (λ (n : ℕ). AllInside n self.ledger.calls.items) (sym self.whole.size_of_first) self.whole.inside in
     let inside_now : AllInside (length (laid self.first)) c.deref.result.now = rw c.deref.ensures.value inside in
     let shown = c.overlay.ensures.shown (laid self.first) inside_now c.give.ensures.bytes in
-    subst (λ (k : List Call). Holds (contents_after (laid self.first) k self.ledger.written.items) at w) c.deref.ensures.value
-    (subst (λ (b : List ℕ). Holds (contents_after (laid self.first) c.deref.result.now b) at w) c.deref-2.ensures.value shown)
+    subst (λ (k : List DeviceCall). HasBytesAt (contents_after (laid self.first) k self.ledger.written.items) at w) c.deref.ensures.value
+    (subst (λ (b : List ℕ). HasBytesAt (contents_after (laid self.first) c.deref.result.now b) at w) c.deref-2.ensures.value shown)

@@ -1,6 +1,6 @@
 use Rattle.std.proofs.Common.{List, ℕ, [], refl, subst}
-use Rattle.oa_disk.specs.declared.call.Call.TheVariants.{Read}
-use Rattle.oa_disk.specs.Disk.{Holds}
+use Rattle.oa_disk.specs.declared.call.DeviceCall.TheVariants.{Read}
+use Rattle.oa_disk.specs.Disk.{HasBytesAt}
 use Rattle.oa_disk.specs.History.{with_call}
 use Rattle.oa_disk.specs.Ledger.{history}
 use Rattle.oa_disk.specs.declared.disk.DeviceFault.TheVariants as faults
@@ -24,7 +24,7 @@ returns-clause-read c =
     let self = c.args.self.now in
     let h = history self.first self.ledger in
     let is = is_history self.first self.ledger c.enter.new.self (with_call h Read []) refl c.in_ok-enter.ensures.calls c.in_ok-enter.ensures.written in
-    subst (λ (l : List ℕ). Holds l c.args.at c.show.new.bytes) (read_stays self.first.size h self.whole _ is).contents c.show.ensures.bytes
+    subst (λ (l : List ℕ). HasBytesAt l c.args.at c.show.new.bytes) (read_stays self.first.size h self.whole _ is).contents c.show.ensures.bytes
 
 pub returns-clause-stays : goal.returns-clause-stays
 returns-clause-stays c =

@@ -1,6 +1,6 @@
 use Rattle.std.proofs.Common.{[], refl}
 use Rattle.std.proofs.lemmas.Result.{on_ok_weaker}
-use Rattle.oa_disk.specs.declared.call.Call.TheVariants.{Sync}
+use Rattle.oa_disk.specs.declared.call.DeviceCall.TheVariants.{Sync}
 use Rattle.oa_disk.specs.declared.disk.DeviceFault.TheVariants as faults
 use Rattle.oa_disk.specs.Ledger.{history}
 use Rattle.oa_disk.proofs.Entered.{recorded, refused, either_of, on_err_weaker}

@@ -1,6 +1,6 @@
 use Rattle.std.proofs.Common.{length, refl}
 use Rattle.std.proofs.lemmas.Result.{on_ok_weaker}
-use Rattle.oa_disk.specs.declared.call.Call.TheVariants.{Write}
+use Rattle.oa_disk.specs.declared.call.DeviceCall.TheVariants.{Write}
 use Rattle.oa_disk.specs.declared.disk.DeviceFault.TheVariants as faults
 use Rattle.oa_disk.specs.Ledger.{history}
 use Rattle.oa_disk.proofs.Entered.{recorded, refused, either_of}

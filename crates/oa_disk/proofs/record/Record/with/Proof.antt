@@ -34,7 +34,7 @@ use Rattle.oa_disk.specs.Record.{noted}
 use Rattle.oa_disk.specs.contracts.record.Record.with.Key.{name as key}
 use Rattle.oa_disk.specs.contracts.record.Record.with as f
 use Rattle.oa_disk.specs.contracts.record.Record as record_type
-use Rattle.oa_disk.specs.contracts.call.Call as call_type
+use Rattle.oa_disk.specs.contracts.call.DeviceCall as call_type
 use Rattle.oa_disk.proofs.record.Record.with.Statement as stated
 use Rattle.oa_disk.proofs.record.Record.with.Code as code
 

@@ -1,11 +1,11 @@
 use Rattle.std.proofs.Common.{◌≡◌, ℕ, List, map, take, Bor}
 use Rattle.oa_model.specs.Folding.{folded_name}
-use Rattle.oa_typelib.specs.Groups.{groups_of}
+use Rattle.oa_typelib.specs.Groups.{keys_with_places}
 use Rattle.oa_checks.specs.Libraries.{same}
 use Rattle.oa_typelib.proofs.groups.NameGroups.of.Given as goal
 
 abbrev pub invariant-names : goal.invariant-names
 invariant-names l = record {
-  keys : l.groups.keys ≡ (groups_of same (map (λ (n : Bor (List ℕ)). folded_name n.now) (take l.place l.names))).keys;
-  places : l.groups.places ≡ (groups_of same (map (λ (n : Bor (List ℕ)). folded_name n.now) (take l.place l.names))).places;
+  keys : l.groups.keys ≡ (keys_with_places same (map (λ (n : Bor (List ℕ)). folded_name n.now) (take l.place l.names))).keys;
+  places : l.groups.places ≡ (keys_with_places same (map (λ (n : Bor (List ℕ)). folded_name n.now) (take l.place l.names))).places;
 }

@@ -3,7 +3,7 @@ use Rattle.oa_idl.specs.Trees.{TreeValue}
 use Rattle.oa_idl.specs.declared.items.Item.{Item}
 use Rattle.oa_typelib.specs.Descriptions.{interfaces_of, classes_of}
 use Rattle.oa_typelib.specs.IndexValues.{IndexValue}
-use Rattle.oa_typelib.specs.Indexes.{class_in, index_of}
+use Rattle.oa_typelib.specs.Indexes.{described_class, index_of}
 use Rattle.oa_typelib.proofs.Looks.{class_there, class_by_name}
 use Rattle.oa_typelib.proofs.library.Library.describe.Goals as goal
 
@@ -17,4 +17,4 @@ returns c =
     (c.nth_class.ensures ∙ ap (λ (is : List Item). slice_get (classes_of is) (c.args.index - c.count_interfaces.result)) c.items-items.ensures)
     ∙ rw c.in-Some-nth_class.is
     (ap (λ d. Some d)
-    (sym (class_by_name (interfaces_of t.items) class) ∙ ap (λ (u : TreeValue). class_in (index_of u).interfaces class) (sym c.self.view_is) ∙ ap (λ (x : IndexValue). class_in x.interfaces class) (sym c.self.invariant.0.1) ∙ sym c.in_ok-class_description.ensures))
+    (sym (class_by_name (interfaces_of t.items) class) ∙ ap (λ (u : TreeValue). described_class (index_of u).interfaces class) (sym c.self.view_is) ∙ ap (λ (x : IndexValue). described_class x.interfaces class) (sym c.self.invariant.0.1) ∙ sym c.in_ok-class_description.ensures))

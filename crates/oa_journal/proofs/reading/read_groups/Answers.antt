@@ -1,0 +1,44 @@
+use Rattle.std.proofs.Common.{◌≡◌, ◌≢◌, ◌∙◌, ◌+◌, ℕ, List, subst, sym, get_or, ap, length, take, IsTrue, arith}
+use Rattle.oa_disk.specs.Disk.{HasBytesAt}
+use Rattle.oa_journal.specs.Bank.{from_place, IsGroupAt}
+use Rattle.oa_journal.specs.Damages.{to_closed}
+use Rattle.oa_journal.specs.Reads.{reads_on}
+use Rattle.oa_journal.specs.Replays.{Replays}
+use Rattle.oa_journal.proofs.Opened.{group_more, gate_moved}
+use Rattle.oa_journal.proofs.reading.read_groups.Goals as goal
+
+pub groups-preserved : goal.groups-preserved
+groups-preserved g c =
+    let disk = g.D.Disk.contents c.args.disk.now in
+    let before = λ (h : IsTrue (g.D.Disk.is_honest c.is_open-in-groups.new.disk)). c.in-Ok-is_open.ensures.after.honest h in
+    let first = λ (h : IsTrue (g.D.Disk.is_honest c.is_open-in-groups.new.disk)). c.in-Ok-read_group.ensures.after.honest (before h) in
+    record {
+      inside = c.in-Ok-read_group.ensures.inside;
+      numbered = c.in-Ok-read_group.ensures.numbered c.groups.invariant.numbered;
+      unlocked = c.in-Ok-read_group.ensures.unlocked c.groups.invariant.unlocked;
+      kept = c.in-Ok-is_open.ensures.kept ∙ c.in-Ok-read_group.ensures.kept ∙ c.groups.invariant.kept;
+      calls = λ h. omega (arith, c.groups.invariant.calls (first h), c.in-Ok-read_group.ensures.calls (before h), c.in-Ok-is_open.ensures.calls h, c.in-Ok-read_group.ensures.nearer);
+      so_far = λ h.
+          let stay = (c.groups.invariant.reads (first h)).contents_stay in
+          let opened = (c.groups.invariant.gate (first h)).0 c.groups-test.true in
+          let found = subst (λ (d : List ℕ). get_or d (c.args.body + c.groups.at) 0 ≡ 1
+          → (group : List ℕ) × IsGroupAt (from_place c.args.body d) c.groups.at group × Replays group c.groups.table c.read_group.new.table
+          × (c.in-Ok-read_group.next ≡ c.groups.at + (5 + length group))) stay (c.in-Ok-read_group.ensures.found (before h)) opened in
+          group_more (from_place c.args.body disk) c.args.from c.groups.at c.in-Ok-read_group.next c.args.first c.groups.table c.read_group.new.table (c.groups.invariant.so_far (first h)) found;
+      gate = λ h.
+          let stay = (c.in-Ok-read_group.ensures.reads (before h)).contents_stay ∙ (c.groups.invariant.reads (first h)).contents_stay in
+          gate_moved c.in-Ok-is_open.opened (g.D.Disk.contents c.read_group.new.disk) disk (c.args.body + c.from-in-groups.result) (c.args.body + c.in-Ok-read_group.next) stay (ap (λ (k : ℕ). c.args.body + k) c.from-in-groups.ensures) (c.in-Ok-is_open.ensures.opened h);
+      shown = λ h. subst (λ (d : List ℕ). HasBytesAt d c.is_open-in-groups.new.window.from (take c.is_open-in-groups.new.window.len c.is_open-in-groups.new.window.buffer.items)) (sym (c.in-Ok-is_open.ensures.reads h).contents_stay) (c.in-Ok-is_open.ensures.shown h);
+      reads = λ h. reads_on g.D.Disk.contents g.D.Disk.image g.D.Disk.moment g.D.Disk.image_since c.args.disk.now c.groups.disk c.is_open-in-groups.new.disk (c.groups.invariant.reads (first h))
+          (reads_on g.D.Disk.contents g.D.Disk.image g.D.Disk.moment g.D.Disk.image_since c.groups.disk c.read_group.new.disk c.is_open-in-groups.new.disk (c.in-Ok-read_group.ensures.reads (before h)) (c.in-Ok-is_open.ensures.reads h));
+      size = c.in-Ok-is_open.ensures.after.size ∙ c.in-Ok-read_group.ensures.after.size ∙ c.groups.invariant.size;
+      honest = λ h. c.groups.invariant.honest (first h);
+      unfailed = c.in-Ok-is_open.ensures.after.unfailed ∙ c.in-Ok-read_group.ensures.after.unfailed ∙ c.groups.invariant.unfailed;
+    }
+
+pub returns-clause-found : goal.returns-clause-found
+returns-clause-found g c h =
+    let byte = from_place c.args.body (g.D.Disk.contents c.args.disk.now) in
+    let far = c.groups.invariant.so_far h in
+    let shut : byte c.groups.at ≢ 1 = λ is. let opened = (c.groups.invariant.gate h).1 is in absurd (cc (opened, c.groups-test.false)) in
+    (far.0, to_closed byte c.args.from far.0 c.groups.at far.1 shut, far.2)

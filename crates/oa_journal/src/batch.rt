@@ -1,0 +1,95 @@
+//! A group behind a closed gate, which is opened once the group is on the device.
+ghost use Rattle.std.specs.Prelude.{◌≡◌, ◌+◌, ◌*◌, ◌^◌, ◌<◌, ◌≤◌, List, ℕ, IsTrue, length, OnOk, IfOk, IfErr};
+ghost use Rattle.std.specs.Int.{div_ceil};
+ghost use Rattle.oa_disk.specs.After.{AfterWrites};
+ghost use Rattle.oa_disk.specs.Disk.{HasBytesAt, LeavesStep, Follows, CountsFailures};
+ghost use Rattle.oa_disk.specs.Switch.{MaySwitch, HasSwitched};
+ghost use Rattle.oa_disk.specs.declared.disk.DeviceFault.{DeviceFault};
+ghost use Rattle.oa_journal.specs.Append.{group_of, sealed, TornBank};
+ghost use Rattle.oa_journal.specs.Bank.{Apart};
+
+use crate::layout::Front;
+use oa_disk::{DeviceFault, Disk, write_then_flip};
+
+/// Fills the free bytes of a batch: four before the group, for its length, and one behind it, for the next gate.
+fn seal(batch: &mut [u8])
+    requires some { 5 < length batch.old }
+    requires few { length batch.old < 2 ^ 32 }
+    ensures { batch.new ≡ sealed (group_of batch.old) }
+{
+    let count = batch.len() - 5;
+    let length = (count as u32).to_le_bytes();
+    batch[..4].copy_from_slice(&length);
+    batch[count + 4] = 0;
+}
+
+/// Writes the group of a batch behind the closed gate at that place of a disk, and then opens the gate.
+pub(crate) fn append_group<D: Disk>(
+    disk: &mut D,
+    gate: u64,
+    batch: &mut [u8],
+) -> Result<(), DeviceFault>
+    requires some { 5 < length batch.old }
+    requires few { length batch.old < 2 ^ 32 }
+    requires inside { gate + 1 + length batch.old ≤ D.size_of disk.old }
+    requires on_a_disk { gate < 2 ^ 63 }
+
+    ensures any_moment { IsTrue (D.is_honest disk.old)
+        → LeavesStep D.moment D.image_since D.image disk.old disk.new (MaySwitch (gate + 1) (sealed (group_of batch.old)) gate) }
+    ensures done { OnOk result (IsTrue (D.is_honest disk.old)
+        → Follows (HasSwitched (gate + 1) (sealed (group_of batch.old)) gate 1) (D.image disk.old) (D.image disk.new)) }
+
+    ensures after { AfterWrites D.Disk 4 disk.old disk.new result }
+    ensures long { length batch.new ≡ length batch.old }
+    ensures kept { group_of batch.new ≡ group_of batch.old }
+{
+    seal(batch);
+    write_then_flip(disk, gate + 1, batch, gate, 1)
+}
+
+/// Writes a head in one write, and then these bytes from the place of the body on, as many in one write as the buffer takes. Answers how
+/// many bytes the latter are.
+pub(crate) fn lay_out<D: Disk>(
+    disk: &mut D,
+    head: u64,
+    header: &[u8],
+    body: u64,
+    buffer: &mut [u8],
+    bytes: &mut Front<'_>,
+    size: u32,
+) -> Result<u64, DeviceFault>
+    requires short { length header.now ≡ 32 }
+    requires some { 0 < length buffer.old }
+    requires few { length bytes.old ≤ size }
+    requires head_inside { head + 32 ≤ D.size_of disk.old }
+    requires body_inside { body + size ≤ D.size_of disk.old }
+    requires on_a_disk { body + size < 2 ^ 63 }
+    requires apart { Apart head body size }
+
+    ensures any_moment { IsTrue (D.is_honest disk.old)
+        → LeavesStep D.moment D.image_since D.image disk.old disk.new (TornBank head body size) }
+    ensures written { OnOk result (IsTrue (D.is_honest disk.old)
+        → HasBytesAt (D.contents disk.new) head header.now × HasBytesAt (D.contents disk.new) body bytes.old) }
+    ensures others { IsTrue (D.is_honest disk.old) → TornBank head body size (D.contents disk.old) (D.contents disk.new) }
+    ensures long { IfOk result (λ count. count ≡ length bytes.old) }
+    ensures buffer { length buffer.new ≡ length buffer.old }
+
+    ensures size { D.size_of disk.new ≡ D.size_of disk.old }
+    ensures honest { D.is_honest disk.new ≡ D.is_honest disk.old }
+    ensures counts { CountsFailures (D.failures_of disk.old) (D.failures_of disk.new) result }
+    ensures fault { IfErr result (λ e. e ≡ DeviceFault.Write) }
+    // a call for the head, and one for each piece
+    ensures calls { IsTrue (D.is_honest disk.old)
+        → D.moment disk.new ≤ D.moment disk.old + 2 * (1 + div_ceil (length bytes.old) (length buffer.old)) }
+{
+    disk.write_at(head, header)?;
+    let mut at = 0;
+    'pieces: loop {
+        let count = bytes.fill(buffer);
+        if count == 0 {
+            return Ok(at);
+        }
+        disk.write_at(body + at, &buffer[..count])?;
+        at += count as u64;
+    }
+}

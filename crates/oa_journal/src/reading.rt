@@ -1,0 +1,443 @@
+//! Reading a bank from a disk: its head, and of its body what is used. A part of the body is read when it is looked at.
+ghost use Rattle.std.specs.Prelude.{◌≡◌, ◌↔◌, ◌+◌, ◌-◌, ◌^◌, ◌<◌, ◌≤◌, ℕ, List, IsTrue, length, take, slice_index, OnOk, IfOk, IfErr, IsErrOf, true};
+ghost use Rattle.std.specs.Int.{to_le_bytes, w32};
+ghost use Rattle.oa_disk.specs.After.{AfterCalls};
+ghost use Rattle.oa_disk.specs.Disk.{HasBytesAt};
+ghost use Rattle.oa_disk.specs.declared.disk.DeviceFault.{DeviceFault};
+ghost use Rattle.oa_image.specs.Tables.{is_numbered};
+ghost use Rattle.oa_table.specs.Tables.{TableValue, unlocked_table};
+ghost use Rattle.oa_journal.specs.declared.bank.BankFault.{BankFault};
+ghost use Rattle.oa_journal.specs.Bank.{from_place, Groups, IsGroupAt, IsBank, HasHeader, HasLibrary};
+ghost use Rattle.oa_journal.specs.Damages.{HasNoHeader, HasSnapshot, IsDamagedSnapshot, IsDamagedBank, IsNoGroup, StopsAt};
+ghost use Rattle.oa_journal.specs.Reads.{OnlyReads};
+ghost use Rattle.oa_journal.specs.Replays.{Replays, ReplaysAll};
+ghost use Rattle.oa_journal.specs.Replies.{IsCaused};
+ghost use Rattle.oa_journal.specs.Shapes.{body_bytes, IsShape};
+
+use crate::groups::replay;
+use crate::head::{Head, head_at};
+use crate::window::Window;
+use crate::{BankFault, Shape};
+use oa_disk::Disk;
+use oa_image::{ImageFault, read_table};
+use oa_table::Table;
+use std::alloc::{AllocError, Global};
+
+/// So many zeros.
+fn zeros(alloc: Global, count: usize) -> Result<Vec<u8>, AllocError>
+    ensures { IfOk result (λ bytes. length bytes.items ≡ count) }
+{
+    vec![in alloc; 0; count]
+}
+
+/// So many bytes of a disk from that place on.
+pub(crate) fn read_part<D: Disk>(
+    alloc: Global,
+    disk: &mut D,
+    at: u64,
+    count: usize,
+) -> Result<Vec<u8>, BankFault>
+    requires { at + count ≤ D.size_of disk.old }
+
+    ensures bytes { IfOk result (λ bytes. IsTrue (D.is_honest disk.new) → HasBytesAt (D.contents disk.old) at bytes.items) }
+    ensures len { IfOk result (λ bytes. length bytes.items ≡ count) }
+    ensures damaged { (place : ℕ) → IsErrOf result (BankFault.Damaged place) → ⊥ }
+    ensures memory { IsErrOf result BankFault.Memory → disk.new ≡ disk.old }
+    ensures device { (fault : DeviceFault) → IsErrOf result (BankFault.Device fault) → fault ≡ DeviceFault.Read }
+
+    ensures reads { IsTrue (D.is_honest disk.new) → OnlyReads D.contents D.image D.moment D.image_since disk.old disk.new }
+    ensures after { AfterCalls D.Disk disk.old disk.new result }
+    ensures cause { IfErr result (IsCaused (D.failures_of disk.old) (D.failures_of disk.new)) }
+    ensures calls { IsTrue (D.is_honest disk.new) → D.moment disk.new ≤ D.moment disk.old + 2 }
+{
+    let mut bytes = zeros(alloc, count)?;
+    disk.read_at(at, &mut bytes)?;
+    Ok(bytes)
+}
+
+/// The same bytes, in a vector.
+fn copied(alloc: Global, bytes: &[u8]) -> Result<Vec<u8>, AllocError>
+    ensures { IfOk result (λ copy. copy.items ≡ bytes.now) }
+{
+    let mut copy = Vec::new(alloc);
+    copy.extend_from_slice(bytes)?;
+    Ok(copy)
+}
+
+/// Whether the gate at that place of a disk is open.
+fn is_open<D: Disk>(disk: &mut D, window: &mut Window, end: u64, at: u64) -> Result<bool, BankFault>
+    requires inside { at < end }
+    requires on_the_disk { end ≤ D.size_of disk.old }
+    requires shown { IsTrue (D.is_honest disk.old) → HasBytesAt (D.contents disk.old) window.old.from (take window.old.len window.old.buffer.items) }
+
+    ensures opened { IfOk result (λ opened. IsTrue (D.is_honest disk.new) → IsTrue opened ↔ (slice_index (D.contents disk.old) at ≡ 1)) }
+    ensures shown { IsTrue (D.is_honest disk.new) → HasBytesAt (D.contents disk.old) window.new.from (take window.new.len window.new.buffer.items) }
+    ensures damaged { (place : ℕ) → IsErrOf result (BankFault.Damaged place) → ⊥ }
+    ensures device { (fault : DeviceFault) → IsErrOf result (BankFault.Device fault) → fault ≡ DeviceFault.Read }
+
+    ensures reads { IsTrue (D.is_honest disk.new) → OnlyReads D.contents D.image D.moment D.image_since disk.old disk.new }
+    ensures after { AfterCalls D.Disk disk.old disk.new result }
+    ensures cause { IfErr result (IsCaused (D.failures_of disk.old) (D.failures_of disk.new)) }
+    ensures kept { length window.new.buffer.items ≡ length window.old.buffer.items }
+    ensures calls { IsTrue (D.is_honest disk.new) → D.moment disk.new ≤ D.moment disk.old + 2 }
+{
+    match window.cover(disk, end, at, 1) {
+        Ok(()) => {}
+        Err(fault) => return Err(fault),
+    }
+    Ok(window.seen(at, 1)[0] == 1)
+}
+
+/// So many bytes of a disk from that place on, by the window where its buffer takes them.
+fn group_bytes<D: Disk>(
+    alloc: Global,
+    disk: &mut D,
+    window: &mut Window,
+    end: u64,
+    at: u64,
+    count: usize,
+) -> Result<Vec<u8>, BankFault>
+    requires inside { at + count ≤ end }
+    requires on_the_disk { end ≤ D.size_of disk.old }
+    requires shown { IsTrue (D.is_honest disk.old) → HasBytesAt (D.contents disk.old) window.old.from (take window.old.len window.old.buffer.items) }
+
+    ensures bytes { IfOk result (λ bytes. IsTrue (D.is_honest disk.new) → HasBytesAt (D.contents disk.old) at bytes.items) }
+    ensures len { IfOk result (λ bytes. length bytes.items ≡ count) }
+    ensures shown { IsTrue (D.is_honest disk.new) → HasBytesAt (D.contents disk.old) window.new.from (take window.new.len window.new.buffer.items) }
+    ensures damaged { (place : ℕ) → IsErrOf result (BankFault.Damaged place) → ⊥ }
+    ensures device { (fault : DeviceFault) → IsErrOf result (BankFault.Device fault) → fault ≡ DeviceFault.Read }
+
+    ensures reads { IsTrue (D.is_honest disk.new) → OnlyReads D.contents D.image D.moment D.image_since disk.old disk.new }
+    ensures after { AfterCalls D.Disk disk.old disk.new result }
+    ensures cause { IfErr result (IsCaused (D.failures_of disk.old) (D.failures_of disk.new)) }
+    ensures kept { length window.new.buffer.items ≡ length window.old.buffer.items }
+    ensures calls { IsTrue (D.is_honest disk.new) → D.moment disk.new ≤ D.moment disk.old + 2 }
+{
+    if !window.takes(count) {
+        return read_part(alloc, disk, at, count);
+    }
+    match window.cover(disk, end, at, count) {
+        Ok(()) => {}
+        Err(fault) => return Err(fault),
+    }
+    let bytes = copied(alloc, window.seen(at, count))?;
+    Ok(bytes)
+}
+
+fn is_same(one: Shape, other: Shape) -> bool
+    ensures { IsTrue result ↔ (one ≡ other) }
+{
+    one == other
+}
+
+/// The number that four bytes spell.
+fn number(bytes: &[u8]) -> u32
+    requires { length bytes.now ≡ 4 }
+    ensures { to_le_bytes w32 result ≡ bytes.now }
+{
+    u32::from_le_bytes([bytes[0], bytes[1], bytes[2], bytes[3]])
+}
+
+/// What the head at that place tells, which has to be one of that format.
+fn head_of<D: Disk>(disk: &mut D, shape: Shape, place: u64) -> Result<Head, BankFault>
+    requires { place + 32 ≤ D.size_of disk.old }
+
+    ensures found { IfOk result (λ h. IsTrue (D.is_honest disk.new)
+        → HasHeader shape (from_place place (D.contents disk.old)) h.library h.snapshot) }
+    ensures known { IfOk result (λ h. IsShape shape × (h.library + h.snapshot < body_bytes shape)) }
+    ensures damaged { (at : ℕ) → IsErrOf result (BankFault.Damaged at)
+        → (at ≡ place) × (IsTrue (D.is_honest disk.new) → HasNoHeader shape (from_place place (D.contents disk.old))) }
+    ensures device { (fault : DeviceFault) → IsErrOf result (BankFault.Device fault) → fault ≡ DeviceFault.Read }
+
+    ensures reads { IsTrue (D.is_honest disk.new) → OnlyReads D.contents D.image D.moment D.image_since disk.old disk.new }
+    ensures after { AfterCalls D.Disk disk.old disk.new result }
+    ensures cause { IfErr result (IsCaused (D.failures_of disk.old) (D.failures_of disk.new)) }
+    ensures calls { IsTrue (D.is_honest disk.new) → D.moment disk.new ≤ D.moment disk.old + 2 }
+{
+    let head = match head_at(disk, place) {
+        Ok(found) => found,
+        Err(fault) => return Err(fault),
+    };
+    if !is_same(head.shape, shape) {
+        return Err(BankFault::Damaged(place));
+    }
+    Ok(head)
+}
+
+/// The library of the bank whose head and body stand at these places of a disk. Head and library alone are looked at.
+pub(crate) fn library_at<D: Disk>(
+    alloc: Global,
+    disk: &mut D,
+    shape: Shape,
+    head: u64,
+    body: u64,
+) -> Result<Vec<u8>, BankFault>
+    requires head_inside { head + 32 ≤ D.size_of disk.old }
+    requires body_inside { body + body_bytes shape ≤ D.size_of disk.old }
+    requires on_a_disk { body + body_bytes shape < 2 ^ 63 }
+
+    ensures found { IfOk result (λ library. IsTrue (D.is_honest disk.new)
+        → HasLibrary shape (from_place head (D.contents disk.old)) (from_place body (D.contents disk.old)) library.items) }
+    ensures damaged { (at : ℕ) → IsErrOf result (BankFault.Damaged at)
+        → (at ≡ head) × (IsTrue (D.is_honest disk.new) → HasNoHeader shape (from_place head (D.contents disk.old))) }
+    ensures device { (fault : DeviceFault) → IsErrOf result (BankFault.Device fault) → fault ≡ DeviceFault.Read }
+
+    ensures reads { IsTrue (D.is_honest disk.new) → OnlyReads D.contents D.image D.moment D.image_since disk.old disk.new }
+    ensures after { AfterCalls D.Disk disk.old disk.new result }
+    ensures cause { IfErr result (IsCaused (D.failures_of disk.old) (D.failures_of disk.new)) }
+    ensures calls { IsTrue (D.is_honest disk.new) → D.moment disk.new ≤ D.moment disk.old + 4 }
+{
+    let told = match head_of(disk, shape, head) {
+        Ok(found) => found,
+        Err(fault) => return Err(fault),
+    };
+    read_part(alloc, disk, body, told.library as usize)
+}
+
+/// The head of a bank, and the table of its snapshot.
+fn first_at<D: Disk>(
+    alloc: Global,
+    disk: &mut D,
+    shape: Shape,
+    head: u64,
+    body: u64,
+) -> Result<(Head, Table), BankFault>
+    requires head_inside { head + 32 ≤ D.size_of disk.old }
+    requires body_inside { body + body_bytes shape ≤ D.size_of disk.old }
+    requires on_a_disk { body + body_bytes shape < 2 ^ 63 }
+
+    ensures found { IfOk result (λ r. IsTrue (D.is_honest disk.new)
+        → HasSnapshot shape (from_place head (D.contents disk.old)) (from_place body (D.contents disk.old)) r.0.library r.0.snapshot r.1) }
+    ensures known { IfOk result (λ r. IsShape shape × (r.0.library + r.0.snapshot < body_bytes shape)) }
+    ensures numbered { IfOk result (λ r. is_numbered r.1 ≡ true) }
+    ensures unlocked { IfOk result (λ r. unlocked_table r.1 ≡ r.1) }
+    ensures damaged { (at : ℕ) → IsErrOf result (BankFault.Damaged at)
+        → IsTrue (D.is_honest disk.new) → IsDamagedBank shape head body (D.contents disk.old) at }
+    ensures device { (fault : DeviceFault) → IsErrOf result (BankFault.Device fault) → fault ≡ DeviceFault.Read }
+
+    ensures reads { IsTrue (D.is_honest disk.new) → OnlyReads D.contents D.image D.moment D.image_since disk.old disk.new }
+    ensures after { AfterCalls D.Disk disk.old disk.new result }
+    ensures cause { IfErr result (IsCaused (D.failures_of disk.old) (D.failures_of disk.new)) }
+    ensures calls { IsTrue (D.is_honest disk.new) → D.moment disk.new ≤ D.moment disk.old + 4 }
+{
+    let told = match head_of(disk, shape, head) {
+        Ok(found) => found,
+        Err(fault) => return Err(fault),
+    };
+    let at = body + u64::from(told.library);
+    let bytes = match read_part(alloc, disk, at, told.snapshot as usize) {
+        Ok(found) => found,
+        Err(fault) => return Err(fault),
+    };
+    match read_table(alloc, &bytes) {
+        Ok(first) => Ok((told, first)),
+        Err(ImageFault::Damaged(_)) => Err(BankFault::Damaged(at)),
+        Err(ImageFault::Memory) => Err(BankFault::Memory),
+    }
+}
+
+/// The bytes of the group behind the open gate at that place of a body. The next gate stands 5 bytes and the group's length further on.
+fn group_at<D: Disk>(
+    alloc: Global,
+    disk: &mut D,
+    window: &mut Window,
+    body: u64,
+    size: u32,
+    at: u32,
+) -> Result<Vec<u8>, BankFault>
+    requires inside { at < size }
+    requires body_inside { body + size ≤ D.size_of disk.old }
+    requires on_a_disk { body + size < 2 ^ 63 }
+    requires shown { IsTrue (D.is_honest disk.old) → HasBytesAt (D.contents disk.old) window.old.from (take window.old.len window.old.buffer.items) }
+
+    ensures found { IfOk result (λ group. IsTrue (D.is_honest disk.new) → slice_index (D.contents disk.old) (body + at) ≡ 1
+        → IsGroupAt (from_place body (D.contents disk.old)) at group.items) }
+    ensures inside { IfOk result (λ group. at + (5 + length group.items) < size) }
+    ensures some { IfOk result (λ group. 0 < length group.items) }
+    ensures shown { IsTrue (D.is_honest disk.new) → HasBytesAt (D.contents disk.old) window.new.from (take window.new.len window.new.buffer.items) }
+    ensures damaged { (place : ℕ) → IsErrOf result (BankFault.Damaged place)
+        → (place ≡ body + at) × (IsTrue (D.is_honest disk.new) → (group : List ℕ) → IsGroupAt (from_place body (D.contents disk.old)) at group
+        → at + (5 + length group) < size → ⊥) }
+    ensures device { (fault : DeviceFault) → IsErrOf result (BankFault.Device fault) → fault ≡ DeviceFault.Read }
+
+    ensures reads { IsTrue (D.is_honest disk.new) → OnlyReads D.contents D.image D.moment D.image_since disk.old disk.new }
+    ensures after { AfterCalls D.Disk disk.old disk.new result }
+    ensures cause { IfErr result (IsCaused (D.failures_of disk.old) (D.failures_of disk.new)) }
+    ensures kept { length window.new.buffer.items ≡ length window.old.buffer.items }
+    ensures calls { IsTrue (D.is_honest disk.new) → D.moment disk.new ≤ D.moment disk.old + 4 }
+{
+    let room = size - at;
+    let gate = body + u64::from(at);
+    if room <= 6 {
+        return Err(BankFault::Damaged(gate));
+    }
+    let end = body + u64::from(size);
+    match window.cover(disk, end, gate, 5) {
+        Ok(()) => {}
+        Err(fault) => return Err(fault),
+    }
+    let count = number(window.seen(gate + 1, 4));
+    if count == 0 {
+        return Err(BankFault::Damaged(gate));
+    }
+    if room - 5 <= count {
+        return Err(BankFault::Damaged(gate));
+    }
+    match group_bytes(alloc, disk, window, end, gate + 5, count as usize) {
+        Ok(group) => Ok(group),
+        Err(fault) => Err(fault),
+    }
+}
+
+/// Applies the group behind the open gate at that place, and answers the place of the next gate.
+fn read_group<D: Disk>(
+    alloc: Global,
+    disk: &mut D,
+    window: &mut Window,
+    body: u64,
+    size: u32,
+    at: u32,
+    table: &mut Table,
+) -> Result<u32, BankFault>
+    requires inside { at < size }
+    requires body_inside { body + size ≤ D.size_of disk.old }
+    requires on_a_disk { body + size < 2 ^ 63 }
+    requires small { size < 2 ^ 32 }
+    requires shown { IsTrue (D.is_honest disk.old) → HasBytesAt (D.contents disk.old) window.old.from (take window.old.len window.old.buffer.items) }
+
+    ensures found { IfOk result (λ next. IsTrue (D.is_honest disk.new) → slice_index (D.contents disk.old) (body + at) ≡ 1
+        → (group : List ℕ) × IsGroupAt (from_place body (D.contents disk.old)) at group × Replays group table.old table.new
+        × (next ≡ at + (5 + length group))) }
+    ensures numbered { OnOk result (is_numbered table.old ≡ true → is_numbered table.new ≡ true) }
+    ensures unlocked { OnOk result (unlocked_table table.old ≡ table.old → unlocked_table table.new ≡ table.new) }
+    ensures inside { IfOk result (λ next. next < size) }
+    ensures nearer { IfOk result (λ next. at + 6 ≤ next) }
+    ensures shown { IsTrue (D.is_honest disk.new) → HasBytesAt (D.contents disk.old) window.new.from (take window.new.len window.new.buffer.items) }
+    ensures damaged { (place : ℕ) → IsErrOf result (BankFault.Damaged place)
+        → (place ≡ body + at) × (IsTrue (D.is_honest disk.new) → slice_index (D.contents disk.old) (body + at) ≡ 1
+        → IsNoGroup size (from_place body (D.contents disk.old)) at table.old) }
+    ensures device { (fault : DeviceFault) → IsErrOf result (BankFault.Device fault) → fault ≡ DeviceFault.Read }
+
+    ensures reads { IsTrue (D.is_honest disk.new) → OnlyReads D.contents D.image D.moment D.image_since disk.old disk.new }
+    ensures after { AfterCalls D.Disk disk.old disk.new result }
+    ensures cause { IfErr result (IsCaused (D.failures_of disk.old) (D.failures_of disk.new)) }
+    ensures kept { length window.new.buffer.items ≡ length window.old.buffer.items }
+    ensures calls { IsTrue (D.is_honest disk.new) → D.moment disk.new ≤ D.moment disk.old + 4 }
+{
+    let group = match group_at(alloc, disk, window, body, size, at) {
+        Ok(found) => found,
+        Err(fault) => return Err(fault),
+    };
+    match replay(alloc, table, &group) {
+        Ok(()) => Ok(at + 5 + group.len() as u32),
+        Err(ImageFault::Damaged(_)) => Err(BankFault::Damaged(body + u64::from(at))),
+        Err(ImageFault::Memory) => Err(BankFault::Memory),
+    }
+}
+
+/// The table after the groups that stand from that place of a body on, and the place of the closed gate behind them.
+fn read_groups<D: Disk>(
+    alloc: Global,
+    disk: &mut D,
+    body: u64,
+    size: u32,
+    from: u32,
+    first: Table,
+    buffer: Vec<u8>,
+) -> Result<(Table, u32, Vec<u8>), BankFault>
+    requires inside { from < size }
+    requires body_inside { body + size ≤ D.size_of disk.old }
+    requires on_a_disk { body + size < 2 ^ 63 }
+    requires small { size < 2 ^ 32 }
+    requires numbered { is_numbered first ≡ true }
+    requires unlocked { unlocked_table first ≡ first }
+    requires some { 5 ≤ length buffer.items }
+
+    ensures found { IfOk result (λ r. IsTrue (D.is_honest disk.new)
+        → (groups : List (List ℕ)) × Groups (from_place body (D.contents disk.old)) from groups r.1 × ReplaysAll groups first r.0) }
+    ensures numbered { IfOk result (λ r. is_numbered r.0 ≡ true) }
+    ensures unlocked { IfOk result (λ r. unlocked_table r.0 ≡ r.0) }
+    ensures inside { IfOk result (λ r. r.1 < size) }
+    ensures buffer { IfOk result (λ r. length r.2.items ≡ length buffer.items) }
+    ensures damaged { (place : ℕ) → IsErrOf result (BankFault.Damaged place) → IsTrue (D.is_honest disk.new)
+        → (offset : ℕ) × (place ≡ body + offset) × StopsAt size (from_place body (D.contents disk.old)) from first offset }
+    ensures device { (fault : DeviceFault) → IsErrOf result (BankFault.Device fault) → fault ≡ DeviceFault.Read }
+
+    ensures reads { IsTrue (D.is_honest disk.new) → OnlyReads D.contents D.image D.moment D.image_since disk.old disk.new }
+    ensures after { AfterCalls D.Disk disk.old disk.new result }
+    ensures cause { IfErr result (IsCaused (D.failures_of disk.old) (D.failures_of disk.new)) }
+    // two calls a group, and one more for each gate: no group has fewer than six bytes with its gate
+    ensures calls { IfOk result (λ r. IsTrue (D.is_honest disk.new) → D.moment disk.new + from ≤ D.moment disk.old + (2 + r.1)) }
+{
+    let end = body + u64::from(size);
+    let mut window = Window::over(buffer);
+    let mut at = from;
+    let mut table = first;
+    let mut opened = match is_open(disk, &mut window, end, body + u64::from(at)) {
+        Ok(opened) => opened,
+        Err(fault) => return Err(fault),
+    };
+    'groups: while opened {
+        at = match read_group(alloc, disk, &mut window, body, size, at, &mut table) {
+            Ok(next) => next,
+            Err(fault) => return Err(fault),
+        };
+        opened = match is_open(disk, &mut window, end, body + u64::from(at)) {
+            Ok(opened) => opened,
+            Err(fault) => return Err(fault),
+        };
+    }
+    Ok((table, at, window.into_buffer()))
+}
+
+/// The library and the table of the bank whose head and body stand at these places of a disk, and where in the body its closed gate
+/// stands.
+pub(crate) fn bank_at<D: Disk>(
+    alloc: Global,
+    disk: &mut D,
+    shape: Shape,
+    head: u64,
+    body: u64,
+    buffer: Vec<u8>,
+) -> Result<(Vec<u8>, Table, u32, Vec<u8>), BankFault>
+    requires head_inside { head + 32 ≤ D.size_of disk.old }
+    requires body_inside { body + body_bytes shape ≤ D.size_of disk.old }
+    requires on_a_disk { body + body_bytes shape < 2 ^ 63 }
+    requires some { 5 ≤ length buffer.items }
+
+    ensures found { IfOk result (λ r. IsTrue (D.is_honest disk.new)
+        → IsBank shape (from_place head (D.contents disk.old)) (from_place body (D.contents disk.old)) r.0.items r.1 r.2) }
+    ensures numbered { IfOk result (λ r. is_numbered r.1 ≡ true) }
+    ensures unlocked { IfOk result (λ r. unlocked_table r.1 ≡ r.1) }
+    ensures gate { IfOk result (λ r. r.2 < body_bytes shape) }
+    ensures buffer { IfOk result (λ r. length r.3.items ≡ length buffer.items) }
+    ensures damaged { (at : ℕ) → IsErrOf result (BankFault.Damaged at)
+        → IsTrue (D.is_honest disk.new) → IsDamagedBank shape head body (D.contents disk.old) at }
+    ensures device { (fault : DeviceFault) → IsErrOf result (BankFault.Device fault) → fault ≡ DeviceFault.Read }
+
+    ensures reads { IsTrue (D.is_honest disk.new) → OnlyReads D.contents D.image D.moment D.image_since disk.old disk.new }
+    ensures after { AfterCalls D.Disk disk.old disk.new result }
+    ensures cause { IfErr result (IsCaused (D.failures_of disk.old) (D.failures_of disk.new)) }
+    ensures calls { IfOk result (λ r. IsTrue (D.is_honest disk.new) → D.moment disk.new + length r.0.items ≤ D.moment disk.old + (8 + r.2)) }
+{
+    let (told, first) = match first_at(alloc, disk, shape, head, body) {
+        Ok(found) => found,
+        Err(fault) => return Err(fault),
+    };
+    let library = match read_part(alloc, disk, body, told.library as usize) {
+        Ok(found) => found,
+        Err(fault) => return Err(fault),
+    };
+    match read_groups(
+        alloc,
+        disk,
+        body,
+        shape.body_bytes(),
+        told.library + told.snapshot,
+        first,
+        buffer,
+    ) {
+        Ok((table, gate, buffer)) => Ok((library, table, gate, buffer)),
+        Err(fault) => Err(fault),
+    }
+}

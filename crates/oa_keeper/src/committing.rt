@@ -1,0 +1,82 @@
+//! What a store keeps of a table in memory: the events of its changes go out under one gate.
+ghost use Rattle.std.specs.Prelude.{◌≡◌, ◌⊎◌, ◌+◌, ◌≤◌, [], length, vec_capacity};
+ghost use Rattle.oa_journal.specs.Append.{group_of};
+ghost use Rattle.oa_journal.specs.Shapes.{ample_bytes, body_bytes};
+ghost use Rattle.oa_keeper.specs.Holding.{CallsForGroup, CanBeKept, Carries, Commits, IsOpenFor, MakesRoom, StopsAtWrite, StopsUncommitted};
+ghost use Rattle.oa_store.specs.Writing.{Goes};
+ghost use Rattle.oa_table.specs.Tables.{unlocked_table};
+
+use crate::{Batch, Broken, KeepFault};
+use oa_disk::Disk;
+use oa_store::{CheckpointFault, Store};
+use oa_table::Table;
+
+/// Makes room for the events of a group before the first of them: a checkpoint of the table, where one is due. Where events are in hand
+/// nothing is done. The images hold the same table at every moment.
+pub fn make_room<D: Disk>(
+    store: &mut Store<D>,
+    table: &Table,
+    batch: &Batch,
+) -> Result<(), KeepFault>
+    requires open { IsOpenFor batch.now store.old }
+    requires kept { CanBeKept (body_bytes store.old.bank.shape) table.now }
+
+    // Whatever table the images hold, which is the one in memory while no event is in hand.
+    ensures carries { Carries batch.now (unlocked_table table.now) store.old store.new }
+    ensures room { MakesRoom batch.now store.old store.new result }
+    ensures stops { StopsAtWrite store.old store.new result }
+    ensures goes { Goes store.old store.new }
+{
+    if !batch.is_empty() {
+        return Ok(());
+    }
+    if !store.checkpoint_due() {
+        return Ok(());
+    }
+    match store.checkpoint(table) {
+        Ok(()) => Ok(()),
+        Err(CheckpointFault::Device(_) | CheckpointFault::Stopped) => Err(KeepFault::Write),
+    }
+}
+
+/// Ends a group: its events go out under one gate, with two writes and two syncs. A group without events makes no call of the device.
+/// Afterwards the batch has none, and keeps its memory. Takes none.
+pub fn commit<D: Disk>(store: &mut Store<D>, batch: &mut Batch) -> Result<(), Broken>
+    requires open { IsOpenFor batch.old store.old }
+    requires few { length batch.old + 6 ≤ ample_bytes }
+
+    ensures commits { Commits batch.old store.old store.new }
+    ensures calls { CallsForGroup batch.old store.old store.new result }
+    ensures emptied { batch.new ≡ [] }
+    ensures stops { StopsUncommitted store.old store.new result }
+    ensures goes { Goes store.old store.new }
+{
+    commit_bytes(store, &mut batch.bytes)
+}
+
+/// The same of a batch's bytes.
+fn commit_bytes<D: Disk>(store: &mut Store<D>, bytes: &mut Vec<u8>) -> Result<(), Broken>
+    requires open { IsOpenFor (group_of bytes.old.items) store.old }
+    requires len { (length bytes.old.items ≡ 0) ⊎ (5 ≤ length bytes.old.items) }
+    requires few { length bytes.old.items + 1 ≤ ample_bytes }
+    ensures commits { Commits (group_of bytes.old.items) store.old store.new }
+    ensures calls { CallsForGroup (group_of bytes.old.items) store.old store.new result }
+    ensures emptied { bytes.new.items ≡ [] }
+    // The batch keeps its room.
+    ensures places { vec_capacity bytes.new ≡ vec_capacity bytes.old }
+    ensures stops { StopsUncommitted store.old store.new result }
+    ensures goes { Goes store.old store.new }
+{
+    if bytes.len() <= 5 {
+        bytes.clear();
+        return Ok(());
+    }
+    match store.commit(bytes) {
+        Ok(()) => bytes.clear(),
+        Err(_) => {
+            bytes.clear();
+            return Err(Broken);
+        }
+    }
+    Ok(())
+}

@@ -3,7 +3,7 @@
 //! Its contract: `check_tree` answers the first breach of a tree in the order of the checks (`Breaches`), and
 //! else the names and GUIDs of its items; `mark` marks one default interface in each coclass.
 //!
-//! What stands on it: oa_typelib, and oa_keeps, oa_bind, oa_fits, oa_description and oa_server above that.
+//! What stands on it: oa_typelib, and oa_keeps, oa_bind, oa_fits, oa_description and oa_turn above that.
 #![tactic(auto)]
 
 mod agreement;

@@ -3,8 +3,8 @@
 //! Its contract: the clauses of the trait `Disk`: a write may tear until a sync at `Ok`; `write_then_flip`
 //! leaves at each moment the bytes of before or of after at its switch.
 //!
-//! What stands on it: the storage crates: oa_journal, oa_store, oa_keeper, oa_groups; and the program, over a
-//! file.
+//! What stands on it: the storage crates (oa_journal, oa_store, oa_keeper, oa_groups), oa_server and oa_history; and
+//! the program, over a file.
 #![tactic(auto)]
 
 mod call;

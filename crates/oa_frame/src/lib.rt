@@ -3,7 +3,7 @@
 //! Its contract: `serve` writes exactly the replies that its server hands out at the bodies that it read, or a
 //! first part of them where the writer fails (`Session`).
 //!
-//! What stands on it: oa_server.
+//! What stands on it: oa_server, whose sessions are such; oa_value_tests.
 #![tactic(auto)]
 
 mod buffer;

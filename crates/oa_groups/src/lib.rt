@@ -4,7 +4,7 @@
 //! Its contract: what is taken one by one is served: the replies are a run's, and each image from its group's
 //! moment on holds that group (`IsServed`, `laws::headline`).
 //!
-//! What stands on it: oa_server.
+//! What stands on it: oa_server, and the laws of oa_history.
 #![tactic(auto)]
 
 mod group;

@@ -1,5 +1,10 @@
-//! Sessions of a server on a disk in memory, as calls: one after another, each stopped at a moment of its disk's clock (`relive`), and one over
-//! a disk that fails from some call on (`survive`). Their contracts are what a reader of the proofs begins with.
+//! Sessions of a server on a disk in memory, as calls: one after another, each stopped at a moment of its disk's clock
+//! (`relive`), and one over a disk that fails from some call on (`survive`).
+//!
+//! Its contract: what each call answers is lived or survived as a reader of the proofs would have it (`IsLived`,
+//! `IsSurvived`); docs/reading-the-proofs.md begins with them.
+//!
+//! What stands on it: no crate.
 #![tactic(auto)]
 
 mod checkpointing;

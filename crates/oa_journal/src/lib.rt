@@ -4,7 +4,7 @@
 //! Its contract: `append` leaves at each moment a bank with its table or with the one that the group makes of
 //! it, and at `Ok` that one.
 //!
-//! What stands on it: oa_store.
+//! What stands on it: oa_store; the crates above it, for the size of a bank and what one holds.
 #![tactic(auto)]
 
 mod bank;

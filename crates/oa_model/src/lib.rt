@@ -3,7 +3,7 @@
 //! Its contract: each type has its number and each number its type (`VarType::vt`, `from_vt`); a GUID's wire
 //! bytes are its fields turned round (`guid_to_wire`, `guid_from_wire`); `fold` changes A to Z alone.
 //!
-//! What stands on it: every crate but oa_cells, oa_ndr, oa_stream and oa_disk.
+//! What stands on it: every crate but oa_cells, oa_ndr, oa_stream, oa_disk and oa_keeper.
 #![tactic(auto)]
 
 mod bound;

@@ -3,7 +3,8 @@
 //! Its contract: `read_request` answers a request exactly where the body asks it (`Asks`), and else its one
 //! refusal; a reply is its head and the bytes of its fields.
 //!
-//! What stands on it: oa_server, and oa_description for the fields of a description.
+//! What stands on it: oa_turn, which answers what a body asks; oa_server, for its replies; oa_description, for the
+//! fields of a description.
 #![tactic(auto)]
 
 mod arguments;

@@ -4,7 +4,7 @@
 //! Its contract: `answer` is one turn of a table of objects (`Turn` of oa_turn), `serve` a session of such turns
 //! (`Session`), over a store in groups that a stop leaves whole (`IsServed`).
 //!
-//! What stands on it: the program.
+//! What stands on it: the program; oa_history, and the tests of sessions.
 #![tactic(auto)]
 
 mod clerk;

@@ -1,4 +1,8 @@
-//! What is kept over a stop: disks, and over those in memory the journal and the store.
+//! Tests of what is kept over a stop: of disks, and over those in memory of the journal and the store.
+//!
+//! Its contract: that of every function, to be safe; what a stop may leave is tried at moments of a disk's clock.
+//!
+//! What stands on it: no crate.
 #![tactic(auto)]
 
 #[cfg(test)]

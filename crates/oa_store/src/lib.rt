@@ -4,7 +4,7 @@
 //! Its contract: `Store::open` answers the one table that the contents hold (`IsStore`); a stop in `commit`,
 //! `checkpoint` or `upgrade` leaves a store of the table before or after.
 //!
-//! What stands on it: oa_keeper and oa_groups; the program's format, upgrade and dump.
+//! What stands on it: oa_keeper, oa_groups and oa_server; the program's format, upgrade and dump.
 #![tactic(auto)]
 
 mod fault;

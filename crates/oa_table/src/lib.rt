@@ -4,7 +4,8 @@
 //! Its contract: `apply` of an event gives the one new table, or the reason why the event does not apply, or
 //! want of memory with nothing changed (`applied`).
 //!
-//! What stands on it: oa_image writes it, oa_fits judges it, oa_keeper keeps it, oa_server answers from it.
+//! What stands on it: oa_image writes it, oa_fits judges it, oa_turn changes it and answers from it; the storage
+//! crates, whose stores are of such tables.
 #![tactic(auto)]
 
 mod difference;

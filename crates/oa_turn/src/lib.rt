@@ -3,7 +3,7 @@
 //! Its contract: `Host::turn` is one turn (`Turn`), `Host::run` one after another (`Run`), and `Host::plan` a turn but
 //! for the change of the table that it calls for (`Plans`).
 //!
-//! What stands on it: oa_server, which keeps the table in a store.
+//! What stands on it: oa_server, which keeps the table in a store, and oa_history.
 #![tactic(auto)]
 
 mod applies;

@@ -1,4 +1,8 @@
-//! Values as others see them, their bytes, and the texts and tables that hold them, as far as no request shows them.
+//! Tests of values, of their bytes, and of the texts and tables that hold them, as far as no request shows them.
+//!
+//! Its contract: that of every function, to be safe; what is expected stands in the tests.
+//!
+//! What stands on it: no crate.
 #![tactic(auto)]
 
 pub mod arrays;

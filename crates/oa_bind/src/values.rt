@@ -3,7 +3,8 @@ ghost use Rattle.std.specs.Prelude.{◌≡◌, ◌≢◌, ◌≤◌, ◌<◌, �
 ghost use Rattle.oa_coerce.specs.Answers.{coerced};
 ghost use Rattle.oa_checks.specs.Defaults.{default_value};
 ghost use Rattle.oa_variant.specs.Variants.{HasZero};
-ghost use Rattle.oa_bind.specs.Bindings.{missing_value, given_new_value, parameter_value, scalar_type, told_of_argument, value_by_argument, without_default};
+ghost use Rattle.oa_bind.specs.Bindings.{missing_value, given_new_value, parameter_value};
+ghost use Rattle.oa_bind.specs.Bindings.{scalar_type, told_of_argument, value_by_argument, without_default};
 ghost use Rattle.oa_bind.specs.Given.{Stay, given_call, argument_index};
 ghost use Rattle.oa_bind.specs.Refusals.{BindsAs, each_at};
 

@@ -2,7 +2,8 @@
 ghost use Rattle.std.specs.Prelude.{◌≡◌, ◌++◌, ◌∷◌, [], IfOk, is_some, map};
 ghost use Rattle.std.specs.Option.{option_map, option_or};
 ghost use Rattle.oa_model.specs.Folding.{folded_name};
-ghost use Rattle.oa_checks.specs.Breaches.{RefusesBreach, repeated_in, repeated_name, declared_breach, inner_breach, name_breach, id_breach};
+ghost use Rattle.oa_checks.specs.Breaches.{RefusesBreach, repeated_in, repeated_name};
+ghost use Rattle.oa_checks.specs.Breaches.{declared_breach, inner_breach, name_breach, id_breach};
 ghost use Rattle.oa_checks.specs.Breaches.{guid_breach, unknown_name, entry_breach, interface_breach, form_breach};
 ghost use Rattle.oa_checks.specs.Breaches.{array_breach, default_breach, form_breaches, key_breaches, tree_breach};
 ghost use Rattle.oa_checks.specs.Declarations.{declarations};

@@ -5,7 +5,8 @@ use Rattle.std.proofs.lemmas.List.{length-take-le}
 use Rattle.oa_disk.specs.Disk.{AllBytes}
 use Rattle.oa_disk.specs.declared.call.DeviceCall.{DeviceCall}
 use Rattle.oa_disk.specs.declared.call.DeviceCall.TheVariants.{Read, Write, Sync}
-use Rattle.oa_disk.specs.Replay.{DiskState, IsImage, IsImageOfSome, AllInside, states, last_state, during_call, after_call, synced, count_of, count_all}
+use Rattle.oa_disk.specs.Replay.{DiskState, IsImage, IsImageOfSome, AllInside, states}
+use Rattle.oa_disk.specs.Replay.{last_state, during_call, after_call, synced, count_of, count_all}
 use Rattle.oa_disk.specs.History.{History, IsHistory, contents_of, image_of, moment_of, image_since_of}
 use Rattle.oa_disk.specs.Overwritten.{take_bytes, drop_bytes, overwritten_bytes, length-overwritten}
 
@@ -78,7 +79,8 @@ one_size state (Write at n) calls bytes size is inside fits =
 one_size state Sync calls bytes size is inside fits = is
 
 -- calls keep the size
-pub state_size : (calls : List DeviceCall) (state : DiskState) (bytes : List ℕ) (size : ℕ) → length state.contents ≡ size → AllInside size calls
+pub state_size : (calls : List DeviceCall) (state : DiskState) (bytes : List ℕ) (size : ℕ) → length state.contents ≡ size
+    → AllInside size calls
     → count_all calls ≤ length bytes → length (last_state state calls bytes).contents ≡ size
 state_size [] state bytes size is inside fits = is
 state_size (call ∷ calls) state bytes size is inside fits =
@@ -86,7 +88,8 @@ state_size (call ∷ calls) state bytes size is inside fits =
     (drop (count_of call) bytes) size (one_size state call calls bytes size is inside fits) (λ k. inside (suc k))
     (omega (arith, length-drop (count_of call) bytes))
 
-some_size : (calls : List DeviceCall) (state : DiskState) (bytes c : List ℕ) (size : ℕ) → length state.contents ≡ size → AllInside size calls
+some_size : (calls : List DeviceCall) (state : DiskState) (bytes c : List ℕ) (size : ℕ) → length state.contents ≡ size
+    → AllInside size calls
     → count_all calls ≤ length bytes → IsImageOfSome (state ∷ states state calls bytes) c → length c ≡ size
 some_size calls state bytes c size is inside fits (inl image) = image.size ∙ is
 some_size [] state bytes c size is inside fits (inr none) = absurd none

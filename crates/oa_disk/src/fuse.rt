@@ -1,7 +1,8 @@
 //! A disk that fails from some call on.
 ghost use Rattle.std.specs.Prelude.{◌≡◌, ◌+◌, ◌-◌, ◌^◌, ◌<◌, ◌≤◌, ◌↔◌, List, ℕ, length, IsTrue, OnOk, OnErr, IfErr, IsErr};
 ghost use Rattle.oa_disk.specs.Counting.{min_below};
-ghost use Rattle.oa_disk.specs.Disk.{CountsFailures, FailsAs, HasBytesAt, ReadsHonestly, Torn, Reaches, Stays, WritesUnsynced, Syncs, TakesTime};
+ghost use Rattle.oa_disk.specs.Disk.{CountsFailures, FailsAs, HasBytesAt, ReadsHonestly, Torn};
+ghost use Rattle.oa_disk.specs.Disk.{Reaches, Stays, WritesUnsynced, Syncs, TakesTime};
 ghost use Rattle.oa_disk.specs.Fuse.{failures_with};
 
 use crate::{DeviceFault, Disk};

@@ -58,7 +58,8 @@ impl MemoryDisk {
     pub fn crash(&self, moment: u64, tear: Tear) -> Result<MemoryDisk, AllocError>
         requires { moment ≤ moments_of self.now }
         ensures torn { IfOk result (λ disk. IsTornAt self.now tear moment (contents_of disk)) }
-        ensures image { IfOk result (λ disk. (state : DiskState) × (state_at self.now moment ≡ Some state) × IsImage state (contents_of disk)) }
+        ensures image { IfOk result (λ disk. (state : DiskState) × (state_at self.now moment ≡ Some state)
+            × IsImage state (contents_of disk)) }
         ensures left { IfOk result (λ disk. ⟦<MemoryDisk as Disk>⟧.image_since self.now moment (contents_of disk)) }
         ensures size { IfOk result (λ disk. ⟦<MemoryDisk as Disk>⟧.size_of disk ≡ ⟦<MemoryDisk as Disk>⟧.size_of self.now) }
         ensures fresh { IfOk result (IsFresh self.now.ledger.most_calls self.now.ledger.most_bytes) }

@@ -44,5 +44,6 @@ pub fn calls_reach_what_fits()
 
 /// A table that a library can have is one that each library can have that keeps it.
 pub fn kept_fits()
-    ensures { (new old : TreeValue) → IsChecked new → KeepsLibrary new old → (table : TableValue) → fits old table ≡ true → fits new table ≡ true }
+    ensures { (new old : TreeValue) → IsChecked new → KeepsLibrary new old → (table : TableValue) → fits old table ≡ true
+        → fits new table ≡ true }
 {}

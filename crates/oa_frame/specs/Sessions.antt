@@ -23,7 +23,8 @@ abbrev pub EndOf : Type 0 → Type 1
 EndOf S = S → List (List ℕ) → S → Type 0
 
 -- A body that comes alone: first what was held is handed out, as where no further body comes, and then the body is answered.
-pub record AnswersAlone {S : Type 0} (turn : TurnOf S) (ends : EndOf S) (old : S) (body : List ℕ) (replies : List (List ℕ)) (new : S) : Type 0 where
+pub record AnswersAlone {S : Type 0} (turn : TurnOf S) (ends : EndOf S) (old : S) (body : List ℕ) (replies : List (List ℕ))
+    (new : S) : Type 0 where
   pub held : List (List ℕ)
   pub own : List (List ℕ)
   pub between : S
@@ -49,7 +50,8 @@ pub data Halt : Type 0 where
 -- one body after another, with the replies that were handed out at each
 abbrev pub BodiesTurned : {S : Type 0} → TurnOf S → S → List (List ℕ) → List (List (List ℕ)) → S → Type 0
 BodiesTurned turn old [] [] new = new ≡ old
-BodiesTurned {S} turn old (body ∷ bodies) (replies ∷ handed) new = (mid : S) × turn old body replies mid × BodiesTurned turn mid bodies handed new
+BodiesTurned {S} turn old (body ∷ bodies) (replies ∷ handed) new = (mid : S) × turn old body replies mid
+    × BodiesTurned turn mid bodies handed new
 BodiesTurned turn old [] (replies ∷ handed) new = ⊥
 BodiesTurned turn old (body ∷ bodies) [] new = ⊥
 
@@ -148,8 +150,10 @@ pub record IsTogether {S : Type 0} (alone : List ℕ → Bool) (result : Result 
   pub still : out' ≡ out
   pub same : new ≡ old
 
-abbrev pub PartsBefore : {S : Type 0} → Frames → (List ℕ → Bool) → EndOf S → Result (Unit {0}) Unwritten → List ℕ → Output → Output → S → S → Type 0
-PartsBefore f alone ends result body out out' old new = IsParted f alone ends result body out out' old new ⊎ IsTogether alone result body out out' old new
+abbrev pub PartsBefore : {S : Type 0} → Frames → (List ℕ → Bool) → EndOf S → Result (Unit {0}) Unwritten → List ℕ → Output → Output → S
+    → S → Type 0
+PartsBefore f alone ends result body out out' old new = IsParted f alone ends result body out out' old new
+    ⊎ IsTogether alone result body out out' old new
 
 -- the bytes begin with the records of these bodies, and the rest follows them
 abbrev pub Bodies : Frames → List ℕ → List (List ℕ) → List ℕ → Type 0
@@ -226,7 +230,8 @@ pub record Session {S : Type 0} (f : Frames) (alone : List ℕ → Bool) (turn :
   pub few : over ≤ max_read_calls
   pub cause : HasReaderCause served.requests stop over input'.faulted
   pub sound : input.steady ≡ true → ReaderStands served.requests stop
-  pub written : AllHaveLeft f last served.why stop handed held out out' ⊎ WriterFails f alone last served.why stop bodies handed held out out'
+  pub written : AllHaveLeft f last served.why stop handed held out out'
+      ⊎ WriterFails f alone last served.why stop bodies handed held out out'
 
 -- the same so far
 pub record SessionSoFar {S : Type 0} (f : Frames) (alone : List ℕ → Bool) (turn : TurnOf S) (input input' : Input)

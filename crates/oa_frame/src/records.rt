@@ -139,7 +139,8 @@ fn read_content<R: Source + Drop, W: Sink>(
     requires few { calls ≤ max_read_calls }
     ensures buffer { vec_capacity body.old ≤ vec_capacity body.new }
     ensures within { FitsBuffer result body.new.items }
-    ensures input { (number : ℕ) (bytes : Option (List ℕ)) (head : List ℕ) → SaysLength head n → Consumes bytes (ahead R.input reader.old).left head
+    ensures input { (number : ℕ) (bytes : Option (List ℕ)) (head : List ℕ) → SaysLength head n
+        → Consumes bytes (ahead R.input reader.old).left head
         → Inputs records result number body.new.items bytes (ahead R.input reader.new).left }
     ensures paced { (start : Input) → SpendsCalls false 4 0 calls start (ahead R.input reader.old)
         → Paced (ends_in_read_fault result) start (ahead R.input reader.new) }
@@ -171,7 +172,8 @@ fn read_bytes<R: Source + Drop, W: Sink>(
     requires few { calls ≤ max_read_calls }
     ensures len { length body.new ≡ length body.old }
     ensures within { FitsBuffer result body.new }
-    ensures input { (number : ℕ) (bytes : Option (List ℕ)) (head : List ℕ) → SaysLength head n → Consumes bytes (ahead R.input reader.old).left head
+    ensures input { (number : ℕ) (bytes : Option (List ℕ)) (head : List ℕ) → SaysLength head n
+        → Consumes bytes (ahead R.input reader.old).left head
         → Inputs records result number body.new bytes (ahead R.input reader.new).left }
     ensures paced { (start : Input) → SpendsCalls false 4 0 calls start (ahead R.input reader.old)
         → Paced (ends_in_read_fault result) start (ahead R.input reader.new) }

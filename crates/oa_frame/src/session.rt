@@ -4,7 +4,8 @@ ghost use Rattle.oa_model.specs.Limits.{max_request_bytes, max_line_characters};
 ghost use Rattle.oa_stream.specs.Ahead.{ahead};
 ghost use Rattle.oa_stream.specs.Sink.{IsHandedOn, Puts};
 ghost use Rattle.oa_frame.specs.Framings.{frames};
-ghost use Rattle.oa_frame.specs.Sessions.{Abandons, AnswersBody, Closes, Finishes, HandsOn, PartsBefore, Session, is_answered, last_reply, spelled_all, step};
+ghost use Rattle.oa_frame.specs.Sessions.{Abandons, AnswersBody, Closes, Finishes, HandsOn};
+ghost use Rattle.oa_frame.specs.Sessions.{PartsBefore, Session, is_answered, last_reply, spelled_all, step};
 
 use crate::writing::put_reply;
 use crate::{End, Framing, Read, read_body};

@@ -56,7 +56,8 @@ pub record IsSettled {S R D : Type 0} {g : Ghosts D} (t : Turns S R) (told : Lis
 
 -- The checkpoint before a request's event was due, and failed: the group ends with this request, and is taken back. A turn without an
 -- event that changes nothing that images hold stands for the request.
-pub record FailsAtCheckpoint {S R D : Type 0} {g : Ghosts D} (t : Turns S R) (body : List ℕ) (told : List R) (old new : Desk S R D g) : Type 0 where
+pub record FailsAtCheckpoint {S R D : Type 0} {g : Ghosts D} (t : Turns S R) (body : List ℕ) (told : List R)
+    (old new : Desk S R D g) : Type 0 where
   pub reply : R
   pub event : List ℕ
   pub turn : t.Turn (exchange body reply event) old.state new.state

@@ -8,7 +8,7 @@ use Rattle.oa_groups.specs.Groups.{joined}
 use Rattle.oa_groups.specs.Laws.{LateCallCounts}
 use Rattle.oa_groups.specs.Runs.{TurnsOver}
 use Rattle.oa_groups.specs.Served.{IsServed}
-use Rattle.oa_groups.specs.Sessions.{AnsweredCall as Called, IsCalled, IsSession, IsSessionOn, Sitting, answered_by, by_then}
+use Rattle.oa_groups.specs.Sessions.{AnsweredCall, IsCalled, IsSession, IsSessionOn, Sitting, answered_by, by_then}
 use Rattle.oa_groups.specs.Turns.{Exchange}
 use Rattle.oa_record.specs.Replies.{ReplyValue}
 use Rattle.oa_server.specs.Requests.{failed, requests}

@@ -5,7 +5,7 @@ use Rattle.oa_groups.specs.Groups.{joined}
 use Rattle.oa_groups.specs.History.{MayBeLeft}
 use Rattle.oa_groups.specs.Laws.{EndCountsAll, LateCallCounts, OthersAreRun, StopKeepsAnswered}
 use Rattle.oa_groups.specs.Runs.{HoldsState, IsAfter, TurnsOver}
-use Rattle.oa_groups.specs.Sessions.{AnsweredCall as Called, IsSessionOn, answered_by}
+use Rattle.oa_groups.specs.Sessions.{AnsweredCall, IsSessionOn, answered_by}
 use Rattle.oa_groups.specs.Turns.{Exchange}
 use Rattle.oa_idl.specs.Canonical.{canonical}
 use Rattle.oa_journal.specs.declared.shape.Shape.TheVariants.{Two}

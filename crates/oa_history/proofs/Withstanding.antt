@@ -4,7 +4,7 @@ use Rattle.std.proofs.lemmas.List.{append-nil, take_more}
 use Rattle.oa_disk.specs.declared.disk.Disk.{Ghosts}
 use Rattle.oa_groups.specs.Laws.{CallCounts, CallGoesOn, EndCountsAll, LateCallCounts, StopKeepsAnswered}
 use Rattle.oa_groups.specs.Runs.{IsAfter}
-use Rattle.oa_groups.specs.Sessions.{AnsweredCall as Called, IsSessionOn, Sitting}
+use Rattle.oa_groups.specs.Sessions.{AnsweredCall, IsSessionOn, Sitting}
 use Rattle.oa_record.specs.Replies.{ReplyValue}
 use Rattle.oa_server.specs.Requests.{requests}
 use Rattle.oa_turn.specs.States.{State}

@@ -22,7 +22,8 @@ use Rattle.oa_history.specs.declared.session.Stop.{Stop}
 
 -- A disk that held this was formatted with the library, and stopped: it holds the same but for the first byte, or no store, or the new
 -- one; and that is what a crash of the disk at the moment of the stop leaves, as the tear says.
-pub record IsStoppedFormatting (found : List ℕ) (library : TreeValue) (moment : ℕ) (tear : Tear) (disk : MemoryDisk) (left : List ℕ) : Type 0 where
+pub record IsStoppedFormatting (found : List ℕ) (library : TreeValue) (moment : ℕ) (tear : Tear) (disk : MemoryDisk)
+    (left : List ℕ) : Type 0 where
   pub either : Torn 0 1 found left ⊎ IsNoneOrFirst default_bank_bytes (canonical library) left
   pub torn : IsTornAt disk tear (min moment (moments_of disk)) left
 

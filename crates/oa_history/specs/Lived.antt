@@ -6,7 +6,7 @@ use Rattle.oa_disk.specs.declared.memory.MemoryDisk.{MemoryDisk}
 use Rattle.oa_groups.specs.Groups.{joined}
 use Rattle.oa_groups.specs.History.{accepted}
 use Rattle.oa_groups.specs.Runs.{AllHoldState, HoldsState, TurnsOver}
-use Rattle.oa_groups.specs.Sessions.{AnsweredCall as Called, IsCalled}
+use Rattle.oa_groups.specs.Sessions.{AnsweredCall, IsCalled}
 use Rattle.oa_groups.specs.Turns.{Exchange}
 use Rattle.oa_idl.specs.Canonical.{canonical}
 use Rattle.oa_record.specs.Replies.{ReplyValue}
@@ -85,7 +85,8 @@ pub record Stops (stop : ℕ) (calls : List ServerCall) (answers : List Answer) 
 
 -- A session that was asked, and what was heard of it, from a disk with these contents, a store of the state before, to what its stop has left,
 -- a store of the state after.
-pub record IsHeardUntilStop (session : Played) (heard : Heard) (found : List ℕ) (before : State) (left : List ℕ) (after : State) : Type 0 where
+pub record IsHeardUntilStop (session : Played) (heard : Heard) (found : List ℕ) (before : State) (left : List ℕ)
+    (after : State) : Type 0 where
   -- a server was opened on a disk that holds what was found, and serves the state before
   pub start : MemoryDisk
   pub holds_found : contents_of start ≡ found

@@ -8,7 +8,7 @@ use Rattle.oa_disk.specs.declared.disk.Disk.{Ghosts}
 use Rattle.oa_disk.specs.declared.fuse.FuseDisk.{FuseDisk}
 use Rattle.oa_disk.specs.declared.memory.MemoryDisk.{MemoryDisk}
 use Rattle.oa_groups.specs.Runs.{AllHoldState, HoldsState, IsAfter}
-use Rattle.oa_groups.specs.Sessions.{AnsweredCall as Called, ServesCalls}
+use Rattle.oa_groups.specs.Sessions.{AnsweredCall, ServesCalls}
 use Rattle.oa_groups.specs.Turns.{Exchange}
 use Rattle.oa_idl.specs.Canonical.{canonical}
 use Rattle.oa_record.specs.Replies.{ReplyValue}
@@ -82,7 +82,8 @@ pub record IsPlayed (disk : MemoryDisk) (first_failing : ℕ) (calls : List Serv
   pub all_but_one : fault ≡ true → length groups ≡ count + 1
 
 -- What calls over such a disk come to, and what it may hold when it is handed back.
-pub record IsWithstood (disk : MemoryDisk) (first_failing : ℕ) (calls : List ServerCall) (told : Result (Vec Told) DeviceFault) (before : State)
+pub record IsWithstood (disk : MemoryDisk) (first_failing : ℕ) (calls : List ServerCall) (told : Result (Vec Told) DeviceFault)
+    (before : State)
     (back : MemoryDisk) : Type 0 where
   pub groups : List (List (Exchange ReplyValue))
   pub count : ℕ

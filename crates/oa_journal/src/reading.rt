@@ -256,7 +256,8 @@ fn group_at<D: Disk>(
     ensures some { IfOk result (λ group. 0 < length group.items) }
     ensures shown { IsTrue (D.is_honest disk.new) → HasBytesAt (D.contents disk.old) window.new.from (take window.new.len window.new.buffer.items) }
     ensures damaged { (place : ℕ) → IsErrOf result (BankFault.Damaged place)
-        → (place ≡ body + at) × (IsTrue (D.is_honest disk.new) → (group : List ℕ) → IsGroupAt (from_place body (D.contents disk.old)) at group
+        → (place ≡ body + at) × (IsTrue (D.is_honest disk.new) → (group : List ℕ)
+        → IsGroupAt (from_place body (D.contents disk.old)) at group
         → at + (5 + length group) < size → ⊥) }
     ensures device { (fault : DeviceFault) → IsErrOf result (BankFault.Device fault) → fault ≡ DeviceFault.Read }
 

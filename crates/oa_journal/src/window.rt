@@ -126,7 +126,8 @@ impl Window {
         requires low { self.now.from ≤ at }
         requires high { at + count ≤ self.now.from + self.now.len }
         ensures len { length result.now ≡ count }
-        ensures holds { (disk : List ℕ) → HasBytesAt disk self.now.from (take self.now.len self.now.buffer.items) → HasBytesAt disk at result.now }
+        ensures holds { (disk : List ℕ) → HasBytesAt disk self.now.from (take self.now.len self.now.buffer.items)
+            → HasBytesAt disk at result.now }
     {
         let before = (at - self.from) as usize;
         &self.buffer[..self.len][before..][..count]

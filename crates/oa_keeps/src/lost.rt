@@ -5,7 +5,8 @@ ghost use Rattle.std.specs.Option.{option_and_then, option_eq, option_map, optio
 ghost use Rattle.oa_idl.specs.declared.items.Item.TheVariants.{Coclass as AClass};
 ghost use Rattle.oa_checks.specs.Declarations.{declarations};
 ghost use Rattle.oa_typelib.specs.Descriptions.{classes_of, interfaces_of, put_last};
-ghost use Rattle.oa_keeps.specs.Keeps.{KeepsLibrary, default_guid, dispid_lost, first_lost, guid_lost, is_kept_by, keeps_class, keeps_default};
+ghost use Rattle.oa_keeps.specs.Keeps.{KeepsLibrary, default_guid, dispid_lost, first_lost};
+ghost use Rattle.oa_keeps.specs.Keeps.{guid_lost, is_kept_by, keeps_class, keeps_default};
 ghost use Rattle.oa_keeps.specs.Keeps.{keeps_entries, keeps_entry, lost_class, lost_declaration, lost_form, lost_interface, lost_member};
 ghost use Rattle.oa_keeps.specs.Keeps.{same_declaration_kind};
 ghost use Rattle.oa_checks.specs.Libraries.{as_class, as_interface, class_of, same};

@@ -3,7 +3,7 @@ use Rattle.std.proofs.Common.{◌≡◌, ℕ, false, List, [], ◌∷◌, ◌++�
 use Rattle.std.proofs.lemmas.List.{append-nil, map-append}
 use Rattle.oa_disk.specs.declared.disk.Disk.{Ghosts}
 use Rattle.oa_groups.specs.Groups.{joined}
-use Rattle.oa_groups.specs.Runs.{TurnsOver as RunOf}
+use Rattle.oa_groups.specs.Runs.{TurnsOver}
 use Rattle.oa_groups.specs.Served.{IsServed}
 use Rattle.oa_groups.specs.Turns.{Exchange, body_of, reply_of}
 use Rattle.oa_groups.proofs.Entries.{joined_two}

@@ -40,7 +40,8 @@ module _ {S R D : Type 0} {g : Ghosts D} (t : Turns S R) (size : ℕ) (body : Li
       by (inl idle) = idle.nothing
       by (inr last) = absurd (last.some none)
 
-      replaced : (reply : R) → IsAnsweredAlone t (exchange body reply []) apart.after apart.mid new → (b : Bool) → new.store.stopped ≡ b → length apart.after ≤ 1
+      replaced : (reply : R) → IsAnsweredAlone t (exchange body reply []) apart.after apart.mid new → (b : Bool)
+          → new.store.stopped ≡ b → length apart.after ≤ 1
       replaced reply one false going = at_most_one reply apart.after (one.well going)
       replaced reply one true stopped = at_most_one (t.faulted body) apart.after (one.broken stopped)
 
@@ -58,12 +59,14 @@ module _ {S R D : Type 0} {g : Ghosts D} (t : Turns S R) (size : ℕ) (body : Li
 pub one_reply : {D : Type 0} {g : Ghosts D} (old mid new : Clerk D g) (held own : List (List ℕ)) (body : List ℕ) → ended_written old held mid → is_replacement body ≡ true → taken_written mid body own new → length own ≤ 1
 one_reply {D} {g} old mid new held own body ended is taken = by old.storage mid.storage new.storage ended taken
   where
-    over : (a b c : Storage D g) → (before between after : State) (one two three : Hand) → InputEnds a before one held b between two → Taken b between two body own c after three → length own ≤ 1
+    over : (a b c : Storage D g) → (before between after : State) (one two three : Hand) → InputEnds a before one held b between two
+        → Taken b between two body own c after three → length own ≤ 1
     over a (Memory disk) c before between after one two three e t = at_most_one (reply_record t.1.0) own t.1.1
     over (Disk a) (Disk b) (Disk c) before between after one two three e t =
         as_many own t.told t.are (taken_told requests two.size body t.told (desk_of b between two) (desk_of c after three) is e.none t.taken)
     over (Disk a) (Disk b) (Memory c) before between after one two three e t = absurd t.taken
     over (Memory a) (Disk b) c before between after one two three e t = absurd (true≢false (ap (λ (s : Storage D g). is_disk s) e.0))
 
-    by : (a b c : Storage D g) → InputEnds a old.host old.hand held b mid.host mid.hand → Taken b mid.host mid.hand body own c new.host new.hand → length own ≤ 1
+    by : (a b c : Storage D g) → InputEnds a old.host old.hand held b mid.host mid.hand
+        → Taken b mid.host mid.hand body own c new.host new.hand → length own ≤ 1
     by a b c e t = over a b c old.host mid.host new.host old.hand mid.hand new.hand e t

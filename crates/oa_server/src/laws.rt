@@ -2,7 +2,7 @@
 ghost use Rattle.std.specs.Prelude.{◌≡◌, ◌<◌, ◌≤◌, ℕ, false, List, ◌++◌, length};
 ghost use Rattle.oa_groups.specs.Laws.{CallCounts, CallGoesOn, EndCountsAll, HistoryKeepsAnswered, LateCallCounts, OneFault};
 ghost use Rattle.oa_groups.specs.Laws.{OpeningBegins, OthersAreRun, StopIsLink, StopKeepsAnswered};
-ghost use Rattle.oa_groups.specs.Runs.{MakesEvent, TurnsOver as RunOf};
+ghost use Rattle.oa_groups.specs.Runs.{MakesEvent, TurnsOver};
 ghost use Rattle.oa_groups.specs.Turns.{Exchange};
 ghost use Rattle.oa_record.specs.declared.request.Request.{Request as ARequest};
 ghost use Rattle.oa_record.specs.Asks.{Asks};
@@ -28,7 +28,8 @@ use oa_record::laws::one_request;
 /// each turn leaves one, and so do those of groups; an opening, with which locks end, finds one; and a new store has one.
 pub fn what_was_served_is_served_again()
     ensures turn { (old new : State) (body : List ℕ) (reply : ReplyValue) → CanBegin old → Turn old body reply new → CanBegin new }
-    ensures groups { (old new : State) (entries : List (Exchange ReplyValue)) → CanBegin old → RunOf requests old entries new → CanBegin new }
+    ensures groups { (old new : State) (entries : List (Exchange ReplyValue)) → CanBegin old → RunOf requests old entries new
+        → CanBegin new }
     ensures opened { (state : State) → CanBegin state → CanBegin (opened state) }
     ensures first { (bank : ℕ) (library : TreeValue) → IsChecked library → 5242888 ≤ bank → CanBegin (state_of bank library first_table) }
 {

@@ -94,7 +94,8 @@ pub(crate) fn find_bank<D: Disk>(disk: &mut D) -> Result<u8, OpenFault>
     ensures reads { IsTrue (D.is_honest disk.new) → WritesNothing D.image D.moment D.image_since disk.old disk.new }
     ensures after { AfterCalls D.Disk disk.old disk.new result }
     ensures cause { IfErr result (IsCaused (D.failures_of disk.old) (D.failures_of disk.new)) }
-    ensures tells { IfErr result (λ e. IsTrue (D.is_honest disk.new) → DeviceTells (D.contents disk.old) (D.image disk.old) (D.image disk.new) e) }
+    ensures tells { IfErr result (λ e. IsTrue (D.is_honest disk.new)
+        → DeviceTells (D.contents disk.old) (D.image disk.old) (D.image disk.new) e) }
     // at most three calls
     ensures calls { IsTrue (D.is_honest disk.new) → D.moment disk.new ≤ D.moment disk.old + 6 }
 {
@@ -126,13 +127,15 @@ pub(crate) fn find_head<D: Disk>(disk: &mut D) -> Result<(u8, Head), OpenFault>
     ensures synced { OnOk result (IsTrue (D.is_honest disk.new) → Only (D.contents disk.old) (D.image disk.new)) }
     ensures says { IfErr result (λ e. IsTrue (D.is_honest disk.new) → (wanted : Option (List ℕ))
         → RefusalSays wanted (D.size_of disk.old) (D.contents disk.old) e) }
-    ensures early { IfErr result (λ e. IsTrue (D.is_honest disk.new) → IsForeign (D.size_of disk.old) (D.contents disk.old) → ComesOfForeign e) }
+    ensures early { IfErr result (λ e. IsTrue (D.is_honest disk.new) → IsForeign (D.size_of disk.old) (D.contents disk.old)
+        → ComesOfForeign e) }
     ensures any { IfErr result IsHead }
     ensures contents { OnOk result (IsTrue (D.is_honest disk.new) → D.contents disk.new ≡ D.contents disk.old) }
     ensures reads { IsTrue (D.is_honest disk.new) → WritesNothing D.image D.moment D.image_since disk.old disk.new }
     ensures after { AfterCalls D.Disk disk.old disk.new result }
     ensures cause { IfErr result (IsCaused (D.failures_of disk.old) (D.failures_of disk.new)) }
-    ensures tells { IfErr result (λ e. IsTrue (D.is_honest disk.new) → DeviceTells (D.contents disk.old) (D.image disk.old) (D.image disk.new) e) }
+    ensures tells { IfErr result (λ e. IsTrue (D.is_honest disk.new)
+        → DeviceTells (D.contents disk.old) (D.image disk.old) (D.image disk.new) e) }
     ensures calls { IsTrue (D.is_honest disk.new) → D.moment disk.new ≤ D.moment disk.old + 8 }
 {
     let chosen = match find_bank(disk) {
@@ -172,12 +175,14 @@ pub(crate) fn find_room<D: Disk>(alloc: Global, disk: &mut D) -> Result<Room, Op
     ensures synced { OnOk result (IsTrue (D.is_honest disk.new) → Only (D.contents disk.old) (D.image disk.new)) }
     ensures says { IfErr result (λ e. IsTrue (D.is_honest disk.new) → (wanted : Option (List ℕ))
         → RefusalSays wanted (D.size_of disk.old) (D.contents disk.old) e) }
-    ensures early { IfErr result (λ e. IsTrue (D.is_honest disk.new) → IsForeign (D.size_of disk.old) (D.contents disk.old) → ComesOfForeign e) }
+    ensures early { IfErr result (λ e. IsTrue (D.is_honest disk.new) → IsForeign (D.size_of disk.old) (D.contents disk.old)
+        → ComesOfForeign e) }
     ensures contents { OnOk result (IsTrue (D.is_honest disk.new) → D.contents disk.new ≡ D.contents disk.old) }
     ensures reads { IsTrue (D.is_honest disk.new) → WritesNothing D.image D.moment D.image_since disk.old disk.new }
     ensures after { AfterCalls D.Disk disk.old disk.new result }
     ensures cause { IfErr result (IsCaused (D.failures_of disk.old) (D.failures_of disk.new)) }
-    ensures tells { IfErr result (λ e. IsTrue (D.is_honest disk.new) → DeviceTells (D.contents disk.old) (D.image disk.old) (D.image disk.new) e) }
+    ensures tells { IfErr result (λ e. IsTrue (D.is_honest disk.new)
+        → DeviceTells (D.contents disk.old) (D.image disk.old) (D.image disk.new) e) }
     ensures calls { IsTrue (D.is_honest disk.new) → D.moment disk.new ≤ D.moment disk.old + 8 }
 {
     let chosen = match find_bank(disk) {

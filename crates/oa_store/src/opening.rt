@@ -141,10 +141,12 @@ pub(crate) fn find_store<D: Disk>(
     ensures reads { IsTrue (D.is_honest disk.new) → WritesNothing D.image D.moment D.image_since disk.old disk.new }
     ensures says { IfErr result (λ e. IsTrue (D.is_honest disk.new)
         → RefusalSays (Some library.now) (D.size_of disk.old) (D.contents disk.old) e) }
-    ensures early { IfErr result (λ e. IsTrue (D.is_honest disk.new) → IsForeign (D.size_of disk.old) (D.contents disk.old) → ComesOfForeign e) }
+    ensures early { IfErr result (λ e. IsTrue (D.is_honest disk.new) → IsForeign (D.size_of disk.old) (D.contents disk.old)
+        → ComesOfForeign e) }
     ensures after { AfterCalls D.Disk disk.old disk.new result }
     ensures cause { IfErr result (IsCaused (D.failures_of disk.old) (D.failures_of disk.new)) }
-    ensures tells { IfErr result (λ e. IsTrue (D.is_honest disk.new) → DeviceTells (D.contents disk.old) (D.image disk.old) (D.image disk.new) e) }
+    ensures tells { IfErr result (λ e. IsTrue (D.is_honest disk.new)
+        → DeviceTells (D.contents disk.old) (D.image disk.old) (D.image disk.new) e) }
     ensures calls { IfOk result (λ f. IsTrue (D.is_honest disk.new)
         → D.moment disk.new + length library.now ≤ D.moment disk.old + (20 + f.bank.gate)) }
 {

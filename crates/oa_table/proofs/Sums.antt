@@ -15,7 +15,7 @@ use Rattle.std.proofs.lemmas.List.Sums.{sum_by-append, sum_by-set, sum_by-take-d
 use Rattle.std.proofs.lemmas.Map.Entries.{sum_by-insert_entry, sum_by-remove_entry, sum_by-set_value}
 use Rattle.std.proofs.lemmas.Option.{get_or_from_slice_get, slice_get_within}
 use Rattle.oa_model.specs.declared.bound.Bound.{Bound}
-use Rattle.oa_array.specs.Arrays.{ArrayValue, array_element as array_cell_at, kept_by_position, redimensioned, with_cell, with_first, with_locks}
+use Rattle.oa_array.specs.Arrays.{ArrayValue, array_element, kept_by_position, redimensioned, with_cell, with_first, with_locks}
 use Rattle.oa_array.specs.Boxes.{box_size, position_of}
 use Rattle.oa_array.specs.Boxes.{InBounds}
 use Rattle.oa_array.specs.Within.{in_bounds}

@@ -31,8 +31,8 @@ CountsBy before calls answers groups total fault last moments =
 
 -- A session was begun on the disk, and these calls were answered: it may go on, or the device has failed in it.
 pub record Underway {D : Type 0} {g : Ghosts D} (disk : D) (store : Store D g) (before : State) (calls : List ServerCall) (answers : List Answer) (last : State) : Type 0 where
-  pub going : store.stopped ≡ false → (called : List (Called ReplyValue)) × (was : Sitting requests disk store before last called) × CountsBy before calls answers was.session.groups was.session.count false last was.session.moments
-  pub late : store.stopped ≡ true → (called : List (Called ReplyValue)) × (was : IsSessionOn requests g disk store.disk before called last) × (was.stopped ≡ true) × CountsBy before calls answers was.groups was.count true last was.moments
+  pub going : store.stopped ≡ false → (called : List (AnsweredCall ReplyValue)) × (was : Sitting requests disk store before last called) × CountsBy before calls answers was.session.groups was.session.count false last was.session.moments
+  pub late : store.stopped ≡ true → (called : List (AnsweredCall ReplyValue)) × (was : IsSessionOn requests g disk store.disk before called last) × (was.stopped ≡ true) × CountsBy before calls answers was.groups was.count true last was.moments
 
 -- ---- what has come by a moment
 
@@ -110,7 +110,7 @@ nothing call answer last told = record {
 -- ---- a call
 
 module _ {D : Type 0} (g : Ghosts D) (disk : D) (before : State) (calls : List ServerCall) (answers : List Answer) (call : ServerCall) (answer : Answer) where
-  module _ (old new : Store D g) (mid after : State) (called : List (Called ReplyValue)) (was : Sitting requests disk old before mid called) (is : IsServed requests call.group old new mid after (bodies_of call) answer.replies.items) (at : answer.moment ≡ g.moment new.disk)
+  module _ (old new : Store D g) (mid after : State) (called : List (AnsweredCall ReplyValue)) (was : Sitting requests disk old before mid called) (is : IsServed requests call.group old new mid after (bodies_of call) answer.replies.items) (at : answer.moment ≡ g.moment new.disk)
       (so_far : CountsBy before calls answers was.session.groups was.session.count false mid was.session.moments) where
     abbrev now : IsSession requests g.moment g.image_since disk new.disk before (called ++ (call_as_heard call answer) ∷ []) after
     now = session_called requests {g = g} disk old new before mid after called (call_as_heard call answer) was is
@@ -170,7 +170,7 @@ module _ {D : Type 0} (g : Ghosts D) (disk : D) (before : State) (calls : List S
       late = λ stopped. (called ++ (call_as_heard call answer) ∷ [], now, stopped, subst (λ (b : Bool). CountsBy before (calls ++ call ∷ []) (answers ++ answer ∷ []) now.groups now.count b after now.moments) stopped counts_served);
     }
 
-  module _ (late_counts : LateCallCounts requests g) (now : D) (last : State) (called : List (Called ReplyValue)) (was : IsSessionOn requests g disk now before called last) (stopped : was.stopped ≡ true) (told : answer.replies.items ≡ map failed (bodies_of call))
+  module _ (late_counts : LateCallCounts requests g) (now : D) (last : State) (called : List (AnsweredCall ReplyValue)) (was : IsSessionOn requests g disk now before called last) (stopped : was.stopped ≡ true) (told : answer.replies.items ≡ map failed (bodies_of call))
       (so_far : CountsBy before calls answers was.groups was.count true last was.moments) where
     pub counts_late : (session : IsSessionOn requests g disk now before (called ++ (call_as_heard call answer) ∷ []) last) × (session.stopped ≡ true) × CountsBy before (calls ++ call ∷ []) (answers ++ answer ∷ []) session.groups session.count true last session.moments
     counts_late =
@@ -200,9 +200,9 @@ module _ {D : Type 0} (g : Ghosts D) (disk : D) (before : State) (calls : List S
       let counts = counts_late late_counts old.disk mid was.0 was.1 was.2 late.told was.3 in
       record {
         going = λ going. absurd (true≢false (sym late.stopped ∙ going));
-        late = λ again. subst (λ (s : State). (called : List (Called ReplyValue)) × (was : IsSessionOn requests g disk new.disk before called s) × (was.stopped ≡ true)
+        late = λ again. subst (λ (s : State). (called : List (AnsweredCall ReplyValue)) × (was : IsSessionOn requests g disk new.disk before called s) × (was.stopped ≡ true)
             × CountsBy before (calls ++ call ∷ []) (answers ++ answer ∷ []) was.groups was.count true s was.moments) (sym late.state)
-            (subst (λ (d : D). (called : List (Called ReplyValue)) × (was : IsSessionOn requests g disk d before called mid) × (was.stopped ≡ true)
+            (subst (λ (d : D). (called : List (AnsweredCall ReplyValue)) × (was : IsSessionOn requests g disk d before called mid) × (was.stopped ≡ true)
             × CountsBy before (calls ++ call ∷ []) (answers ++ answer ∷ []) was.groups was.count true mid was.moments) (sym late.disk) (was.0 ++ (call_as_heard call answer) ∷ [], counts.0, counts.1, counts.2));
       }
 

@@ -44,7 +44,7 @@ module _ (no_trace : OthersAreRun requests) (goes_on : (old new : State) (entrie
     {D : Type 0} (g : Ghosts D) (keeps : StopKeepsAnswered requests g) (counts_all : EndCountsAll requests g)
     (disk : D) (calls : List ServerCall) (answers : List Answer) (before : State) (begins : CanBegin before) (m stop : ℕ) (c : List ℕ) (start : g.moment disk ≤ m) where
   -- The image may be left by a stop at a moment: the one that was wanted, or the last one of the disk, where that comes before.
-  session_leaves : (now : D) (last : State) (called : List (Called ReplyValue)) (fault : Bool) (session : IsSessionOn requests g disk now before called last)
+  session_leaves : (now : D) (last : State) (called : List (AnsweredCall ReplyValue)) (fault : Bool) (session : IsSessionOn requests g disk now before called last)
       → CountsBy before calls answers session.groups session.count fault last session.moments
       → (m ≡ stop) ⊎ ((g.moment now ≤ m) × (g.moment now ≤ stop)) → MayBeLeft g now m c → Left stop calls answers before c
   session_leaves now last called fault session counts at may =

@@ -19,7 +19,7 @@ use Rattle.oa_history.specs.declared.failing.Told.{Told}
 use Rattle.oa_history.specs.declared.session.ServerCall.{ServerCall}
 
 -- These calls were made since the start: the session may go on, or the device has failed in it.
-pub record AtWork {D : Type 0} {g : Ghosts D} (start : D) (store : Store D g) (before : State) (calls : List (Called ReplyValue)) (last : State) : Type 0 where
+pub record AtWork {D : Type 0} {g : Ghosts D} (start : D) (store : Store D g) (before : State) (calls : List (AnsweredCall ReplyValue)) (last : State) : Type 0 where
   pub going : store.stopped ≡ false → Sitting requests start store before last calls
   pub late : store.stopped ≡ true → (session : IsSessionOn requests g start store.disk before calls last) × (session.stopped ≡ true)
 
@@ -37,7 +37,7 @@ module _ {D : Type 0} (g : Ghosts D) (start : D) (before : State) where
 
   module _ (counts : CallCounts requests g) (goes_on : CallGoesOn requests g) (late_counts : LateCallCounts requests g) where
     -- one call more
-    store_more : (old new : Store D g) (mid after : State) (calls : List (Called ReplyValue)) (call : Called ReplyValue) → AtWork start old before calls mid → ServesStore call.size old new mid call.bodies call.replies after
+    store_more : (old new : Store D g) (mid after : State) (calls : List (AnsweredCall ReplyValue)) (call : AnsweredCall ReplyValue) → AtWork start old before calls mid → ServesStore call.size old new mid call.bodies call.replies after
         → (b : Bool) → old.stopped ≡ b → AtWork start new before (calls ++ call ∷ []) after
     store_more old new mid after calls call is serves false going =
         let served = serves.served going in
@@ -56,28 +56,28 @@ module _ {D : Type 0} (g : Ghosts D) (start : D) (before : State) where
               (subst (λ (d : D). (session : IsSessionOn requests g start d before (calls ++ call ∷ []) mid) × (session.stopped ≡ true)) (sym late.disk) (more.0, more.1));
         }
 
-    storage_more : (old new : Storage D g) (mid after : State) (calls : List (Called ReplyValue)) (call : Called ReplyValue) → OverStore old (λ store. AtWork start store before calls mid) → Serves call.size old new mid call.bodies call.replies after
+    storage_more : (old new : Storage D g) (mid after : State) (calls : List (AnsweredCall ReplyValue)) (call : AnsweredCall ReplyValue) → OverStore old (λ store. AtWork start store before calls mid) → Serves call.size old new mid call.bodies call.replies after
         → OverStore new (λ store. AtWork start store before (calls ++ call ∷ []) after)
     storage_more (Memory old) new mid after calls call is serves = absurd is
     storage_more (Disk old) (Memory new) mid after calls call is serves = absurd serves
     storage_more (Disk old) (Disk new) mid after calls call is serves = store_more old new mid after calls call is serves old.stopped refl
 
     -- all of them
-    pub all_answered : (old new : Storage D g) (mid last : State) (done : List (Called ReplyValue)) (calls : List ServerCall) (told : List Told) → OverStore old (λ store. AtWork start store before done mid) → Answered old mid calls told new last
+    pub all_answered : (old new : Storage D g) (mid last : State) (done : List (AnsweredCall ReplyValue)) (calls : List ServerCall) (told : List Told) → OverStore old (λ store. AtWork start store before done mid) → Answered old mid calls told new last
         → OverStore new (λ store. AtWork start store before (done ++ told_calls calls told) last)
     all_answered old new mid last done [] [] is answered =
-        subst (λ (l : List (Called ReplyValue)). OverStore new (λ store. AtWork start store before l last)) (sym (append-nil done))
+        subst (λ (l : List (AnsweredCall ReplyValue)). OverStore new (λ store. AtWork start store before l last)) (sym (append-nil done))
         (subst (λ (s : State). OverStore new (λ store. AtWork start store before done s)) (sym answered.1)
         (subst (λ (s : Storage D g). OverStore s (λ store. AtWork start store before done mid)) (sym answered.0) is))
     all_answered old new mid last done [] (one ∷ told) is answered = absurd answered
     all_answered old new mid last done (call ∷ calls) [] is answered = absurd answered
     all_answered old new mid last done (call ∷ calls) (one ∷ told) is answered =
         let here = told_call call one in
-        subst (λ (l : List (Called ReplyValue)). OverStore new (λ store. AtWork start store before l last)) (append_assoc done (here ∷ []) (told_calls calls told))
+        subst (λ (l : List (AnsweredCall ReplyValue)). OverStore new (λ store. AtWork start store before l last)) (append_assoc done (here ∷ []) (told_calls calls told))
         (all_answered answered.0 new answered.1 last (done ++ here ∷ []) calls told (storage_more old answered.0 mid answered.1 done here is answered.2) answered.4)
 
   -- the session, as it is
-  pub session_of : (storage : Storage D g) (calls : List (Called ReplyValue)) (last : State) → OverStore storage (λ store. AtWork start store before calls last) → IsSessionOn requests g start (disk_of storage) before calls last
+  pub session_of : (storage : Storage D g) (calls : List (AnsweredCall ReplyValue)) (last : State) → OverStore storage (λ store. AtWork start store before calls last) → IsSessionOn requests g start (disk_of storage) before calls last
   session_of (Memory d) calls last is = absurd is
   session_of (Disk store) calls last is = by store.stopped refl
     where
@@ -86,7 +86,7 @@ module _ {D : Type 0} (g : Ghosts D) (start : D) (before : State) where
       by true stopped = (is.late stopped).0
 
   -- each image has all that was answered
-  pub all_kept : StopKeepsAnswered requests g → EndCountsAll requests g → (now : D) (calls : List (Called ReplyValue)) (last : State) (session : IsSessionOn requests g start now before calls last) → g.moment start ≤ g.moment now
+  pub all_kept : StopKeepsAnswered requests g → EndCountsAll requests g → (now : D) (calls : List (AnsweredCall ReplyValue)) (last : State) (session : IsSessionOn requests g start now before calls last) → g.moment start ≤ g.moment now
       → ((t : ℕ) (c : List ℕ) → t ≤ g.moment now → g.image now c → g.image_since now t c) → (c : List ℕ) → g.image now c → IsAfter requests session.count before session.groups c
   all_kept keeps counts_all now calls last session le since c is =
       let end : g.moment now ≤ g.moment now = omega arith in

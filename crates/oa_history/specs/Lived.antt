@@ -45,7 +45,7 @@ abbrev pub MadeBy : {D : Type 0} {g : Ghosts D} → Server D g → List ServerCa
 MadeBy old calls answers new = Made old.clerk.storage old.clerk.host calls answers new.clerk.storage new.clerk.host
 
 -- one call as a part of a session
-abbrev pub call_as_heard : ServerCall → Answer → Called ReplyValue
+abbrev pub call_as_heard : ServerCall → Answer → AnsweredCall ReplyValue
 call_as_heard call answer = record { size = call.group; bodies = bodies_of call; replies = answer.replies.items }
 
 -- how many groups count of a call that returned at a moment, where the session is stopped at another

@@ -29,10 +29,10 @@ use Rattle.oa_history.specs.declared.surviving.Survived.{Survived}
 -- ---- the calls of a server
 
 -- one call as a part of a session
-abbrev pub told_call : ServerCall → Told → Called ReplyValue
+abbrev pub told_call : ServerCall → Told → AnsweredCall ReplyValue
 told_call call told = record { size = call.group; bodies = bodies_of call; replies = told.replies.items }
 
-abbrev pub told_calls : List ServerCall → List Told → List (Called ReplyValue)
+abbrev pub told_calls : List ServerCall → List Told → List (AnsweredCall ReplyValue)
 told_calls [] told = []
 told_calls (call ∷ calls) [] = []
 told_calls (call ∷ calls) (one ∷ told) = told_call call one ∷ told_calls calls told

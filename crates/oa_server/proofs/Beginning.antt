@@ -13,7 +13,7 @@ use Rattle.oa_turn.specs.States.{State}
 use Rattle.oa_server.specs.Requests.{opened, requests}
 
 module _ (event_kept : EventKept) where
-  pub groups_begin : (old new : State) (entries : List (Exchange ReplyValue)) → CanBegin old → RunOf requests old entries new → CanBegin new
+  pub groups_begin : (old new : State) (entries : List (Exchange ReplyValue)) → CanBegin old → TurnsOver requests old entries new → CanBegin new
   groups_begin old new [] is r = subst CanBegin r is
   groups_begin old new (asked ∷ entries) is r = groups_begin r.0 new entries (turn_begins event_kept old r.0 asked.body asked.reply is r.1.turn) r.2
 

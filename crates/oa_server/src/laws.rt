@@ -28,7 +28,7 @@ use oa_record::laws::one_request;
 /// each turn leaves one, and so do those of groups; an opening, with which locks end, finds one; and a new store has one.
 pub fn what_was_served_is_served_again()
     ensures turn { (old new : State) (body : List ℕ) (reply : ReplyValue) → CanBegin old → Turn old body reply new → CanBegin new }
-    ensures groups { (old new : State) (entries : List (Exchange ReplyValue)) → CanBegin old → RunOf requests old entries new
+    ensures groups { (old new : State) (entries : List (Exchange ReplyValue)) → CanBegin old → TurnsOver requests old entries new
         → CanBegin new }
     ensures opened { (state : State) → CanBegin state → CanBegin (opened state) }
     ensures first { (bank : ℕ) (library : TreeValue) → IsChecked library → 5242888 ≤ bank → CanBegin (state_of bank library first_table) }
@@ -39,7 +39,7 @@ pub fn what_was_served_is_served_again()
 /// Where images hold the state after some first requests of a run of groups, the others go on from that one.
 pub fn rest_of_a_run()
     ensures { (old mid new : State) (front back : List (Exchange ReplyValue))
-        → RunOf requests old (front ++ back) new → RunOf requests old front mid → RunOf requests mid back new }
+        → TurnsOver requests old (front ++ back) new → TurnsOver requests old front mid → TurnsOver requests mid back new }
 {
     one_request();
     one_tree();

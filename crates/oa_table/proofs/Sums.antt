@@ -47,7 +47,7 @@ use Rattle.oa_table.proofs.Entries.{put_new, put_there, put_within, set_weight}
 -- ---- arrays
 
 -- another element
-pub element_sum : (a : ArrayValue Scalar) (index : List ℤ) (old new : Scalar) → array_cell_at a index ≡ Some old
+pub element_sum : (a : ArrayValue Scalar) (index : List ℤ) (old new : Scalar) → array_element a index ≡ Some old
     → array_size (with_cell a index new) + element_size a.elem old ≡ array_size a + element_size a.elem new
 unfolding array_size
 element_sum a index old new there =
@@ -100,7 +100,7 @@ redim_sum a bound n gone come some is h =
 
 -- ---- values
 
-pub element_due : (a : ArrayValue Scalar) (index : List ℤ) (old new : Scalar) → InBounds a.bounds index → array_cell_at a index ≡ Some old → fits_type new a.elem ≡ true
+pub element_due : (a : ArrayValue Scalar) (index : List ℤ) (old new : Scalar) → InBounds a.bounds index → array_element a index ≡ Some old → fits_type new a.elem ≡ true
     → size_due value_size (with_element_put index new (AnArray a)) (AnArray a) + element_size a.elem old ≡ value_size (AnArray a) + element_size a.elem new
 unfolding value_size
 element_due a index old new within there fits = rw ((in_bounds_tells a.bounds index).1 within, fits) (element_sum a index old new there)

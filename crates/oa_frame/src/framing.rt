@@ -1,7 +1,7 @@
 //! How bodies stand in bytes.
-ghost use Rattle.std.specs.Prelude.{◌≡◌, ◌+◌, ◌≤◌, false, vec_capacity};
-ghost use Rattle.oa_model.specs.Limits.{max_request_bytes, max_line_characters};
+ghost use Rattle.std.specs.Prelude.{◌≤◌, vec_capacity};
 ghost use Rattle.oa_stream.specs.Ahead.{ahead};
+ghost use Rattle.oa_frame.specs.Beginnings.{AreUnbroken, HoldLongest};
 ghost use Rattle.oa_frame.specs.Framings.{Hands, Inputs, FitsBuffer, frames, ends_in_read_fault};
 ghost use Rattle.oa_frame.specs.Paces.{Paced};
 
@@ -43,10 +43,8 @@ pub fn read_body<R: Source + Drop, W: Sink>(
     body: &mut Vec<u8>,
     number: u64,
 ) -> Read
-    requires room { max_line_characters + 1 ≤ vec_capacity line.now }
-    requires buffer { max_request_bytes ≤ vec_capacity body.now }
-    requires unbroken { (ahead R.input reader.old).faulted ≡ false }
-    requires unbroken_writer { (W.out writer.old).broken ≡ false }
+    requires buffers { HoldLongest (vec_capacity line.now) (vec_capacity body.now) }
+    requires unbroken { AreUnbroken (ahead R.input reader.old) (W.out writer.old) }
     ensures capacity { vec_capacity line.old ≤ vec_capacity line.new }
     ensures buffer { vec_capacity body.old ≤ vec_capacity body.new }
     ensures within { FitsBuffer result body.new.items }

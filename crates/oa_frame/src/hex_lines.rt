@@ -2,8 +2,9 @@
 ghost use Rattle.std.specs.Prelude.{◌≡◌, ◌<◌, ◌≤◌, ◌+◌, ◌*◌, ℕ, [], true, false, length, slice_index, take, vec_capacity};
 ghost use Rattle.std.specs.Prelude.{Ok, IfSome, IsErr, IsNone};
 ghost use Rattle.hex.specs.Hex.{decode_of, pair_value};
-ghost use Rattle.oa_model.specs.Limits.{max_request_bytes, max_line_characters};
+ghost use Rattle.oa_model.specs.Limits.{max_request_bytes};
 ghost use Rattle.oa_stream.specs.Ahead.{ahead};
+ghost use Rattle.oa_frame.specs.Beginnings.{AreUnbroken, HoldLongest};
 ghost use Rattle.oa_frame.specs.Digits.{HasDigitValue};
 ghost use Rattle.oa_frame.specs.Lines.{DecodesLine, without_return};
 ghost use Rattle.oa_frame.specs.Framings.{Hands, Inputs, FitsBuffer, hex_lines, ends_in_read_fault};
@@ -26,10 +27,8 @@ pub(crate) fn read_hex<R: Source + Drop, W: Sink>(
     body: &mut Vec<u8>,
     number: u64,
 ) -> Read
-    requires room { max_line_characters + 1 ≤ vec_capacity line.now }
-    requires buffer { max_request_bytes ≤ vec_capacity body.now }
-    requires unbroken { (ahead R.input reader.old).faulted ≡ false }
-    requires unbroken_writer { (W.out writer.old).broken ≡ false }
+    requires buffers { HoldLongest (vec_capacity line.now) (vec_capacity body.now) }
+    requires unbroken { AreUnbroken (ahead R.input reader.old) (W.out writer.old) }
     ensures capacity { vec_capacity line.old ≤ vec_capacity line.new }
     ensures buffer { vec_capacity body.old ≤ vec_capacity body.new }
     ensures within { FitsBuffer result body.new.items }

@@ -5,6 +5,7 @@ ghost use Rattle.oa_model.specs.Limits.{max_read_calls, max_request_bytes};
 ghost use Rattle.oa_stream.specs.Ahead.{ahead, read_ahead};
 ghost use Rattle.oa_stream.specs.Sink.{IsHandedOn};
 ghost use Rattle.oa_stream.specs.Source.{Input};
+ghost use Rattle.oa_frame.specs.Beginnings.{AreUnbroken};
 ghost use Rattle.oa_frame.specs.Framings.{Hands, Inputs, WriterStands, FitsBuffer, SaysLength, ends_in_read_fault, records};
 ghost use Rattle.oa_frame.specs.Paces.{Paced};
 ghost use Rattle.oa_frame.specs.Records.{Fetches, Gets, SpendsCalls, is_gone};
@@ -36,8 +37,7 @@ pub(crate) fn read_record<R: Source + Drop, W: Sink>(
     number: u64,
 ) -> Read
     requires buffer { max_request_bytes ≤ vec_capacity body.now }
-    requires unbroken { (ahead R.input reader.old).faulted ≡ false }
-    requires unbroken_writer { (W.out writer.old).broken ≡ false }
+    requires unbroken { AreUnbroken (ahead R.input reader.old) (W.out writer.old) }
     ensures buffer { vec_capacity body.old ≤ vec_capacity body.new }
     ensures within { FitsBuffer result body.new.items }
     ensures input { Inputs records result number body.new.items (ahead R.input reader.old).left (ahead R.input reader.new).left }

@@ -1,8 +1,8 @@
 //! Sessions over a reader and a writer.
-ghost use Rattle.std.specs.Prelude.{◌≡◌, ◌+◌, ◌≤◌, ℕ, Bool, List, false, true, length, take, vec_capacity};
-ghost use Rattle.oa_model.specs.Limits.{max_request_bytes, max_line_characters};
+ghost use Rattle.std.specs.Prelude.{◌≡◌, ◌≤◌, ℕ, Bool, List, false, true, length, take, vec_capacity};
 ghost use Rattle.oa_stream.specs.Ahead.{ahead};
 ghost use Rattle.oa_stream.specs.Sink.{IsHandedOn, Puts};
+ghost use Rattle.oa_frame.specs.Beginnings.{AreUnbroken, HoldLongest};
 ghost use Rattle.oa_frame.specs.Framings.{frames};
 ghost use Rattle.oa_frame.specs.Sessions.{Abandons, AnswersBody, Closes, Finishes, HandsOn};
 ghost use Rattle.oa_frame.specs.Sessions.{PartsBefore, Session, is_answered, last_reply, spelled_all, step};
@@ -86,11 +86,9 @@ pub fn serve<S: Responder, R: Source + Drop, W: Sink>(
     body: &mut Vec<u8>,
 ) -> Served
     requires last { length last.now ≤ 4294967295 }
-    requires room { max_line_characters + 1 ≤ vec_capacity line.now }
-    requires buffer { max_request_bytes ≤ vec_capacity body.now }
+    requires buffers { HoldLongest (vec_capacity line.now) (vec_capacity body.now) }
     requires ready { S.ready server.old }
-    requires unbroken { (ahead R.input reader.old).faulted ≡ false }
-    requires unbroken_writer { (W.out writer.old).broken ≡ false }
+    requires unbroken { AreUnbroken (ahead R.input reader.old) (W.out writer.old) }
     ensures { Session (frames framing) S.alone (step S.alone S.turn S.ends) S.ends last.now (ahead R.input reader.old) (ahead R.input reader.new)
         (W.out writer.old) (W.out writer.new) server.old server.new result }
 {

@@ -1,8 +1,8 @@
 -- Sessions of a server over streams, in memory and over a store.
-use Rattle.std.specs.Prelude.{◌≡◌, ◌⊎◌, ◌<◌, ◌≤◌, ℕ, false, true, List, [], ◌∷◌, ◌++◌, length, map, Result, ⊤}
+use Rattle.std.specs.Prelude.{◌≡◌, ◌⊎◌, ◌<◌, ◌≤◌, ℕ, false, true, List, [], ◌∷◌, ◌++◌, length, map, ⊤}
 use Rattle.oa_disk.specs.declared.disk.Disk.{Ghosts}
 use Rattle.oa_frame.specs.Framings.{Frames}
-use Rattle.oa_frame.specs.Sessions.{Session, joined, spelled_all}
+use Rattle.oa_frame.specs.Sessions.{Session, joined}
 use Rattle.oa_frame.specs.declared.session.Served.{Served}
 use Rattle.oa_groups.specs.Desks.{IsEnded, IsTaken}
 use Rattle.oa_groups.specs.Faults.{IsWhole}
@@ -12,10 +12,9 @@ use Rattle.oa_groups.specs.Sessions.{AnsweredCall}
 use Rattle.oa_groups.specs.Turns.{Exchange, body_of, reply_of}
 use Rattle.oa_record.specs.Replacement.{is_replacement}
 use Rattle.oa_record.specs.Replies.{ReplyValue, reply_record}
-use Rattle.oa_stream.specs.Sink.{Output, Puts}
+use Rattle.oa_stream.specs.Sink.{Output}
 use Rattle.oa_stream.specs.Source.{Input}
 use Rattle.oa_store.specs.declared.store.Store.{Store}
-use Rattle.oa_stream.specs.declared.sink.Unwritten.{Unwritten}
 use Rattle.oa_server.specs.declared.clerk.Clerk.{Clerk}
 use Rattle.oa_server.specs.declared.hand.Hand.{Hand}
 use Rattle.oa_server.specs.declared.storage.Storage.{Storage}
@@ -80,30 +79,6 @@ taken_written old body replies new = Taken old.storage old.host old.hand body re
 
 abbrev pub ended_written : {D : Type 0} {g : Ghosts D} → Clerk D g → List (List ℕ) → Clerk D g → Type 0
 ended_written old replies new = InputEnds old.storage old.host old.hand replies new.storage new.host new.hand
-
--- what is handed out was put on a writer, or the writer failed in it
-pub record PutsTaken {D : Type 0} {g : Ghosts D} (f : Frames) (old : Storage D g) (before : State) (hand : Hand) (body : List ℕ)
-    (new : Storage D g) (after : State) (hand' : Hand) (result : Result (Unit {0}) Unwritten) (out out' : Output) : Type 0 where
-  pub replies : List (List ℕ)
-  pub turned : Taken old before hand body replies new after hand'
-  pub put : Puts result out out' (spelled_all f.spelled replies)
-
-pub record PutsAlone (f : Frames) (before : State) (body : List ℕ) (after : State)
-    (result : Result (Unit {0}) Unwritten) (out out' : Output) : Type 0 where
-  pub replies : List (List ℕ)
-  pub turned : turn_written before body replies after
-  pub put : Puts result out out' (spelled_all f.spelled replies)
-
-pub record PutsEnded {D : Type 0} {g : Ghosts D} (f : Frames) (old : Storage D g) (before : State) (hand : Hand)
-    (new : Storage D g) (after : State) (hand' : Hand) (result : Result (Unit {0}) Unwritten) (out out' : Output) : Type 0 where
-  pub held : List (List ℕ)
-  pub ended : InputEnds old before hand held new after hand'
-  pub put : Puts result out out' (spelled_all f.spelled held)
-
-pub record LeavesEnded {D : Type 0} {g : Ghosts D} (old : Storage D g) (before : State) (hand : Hand)
-    (new : Storage D g) (after : State) (hand' : Hand) : Type 0 where
-  pub held : List (List ℕ)
-  pub ended : InputEnds old before hand held new after hand'
 
 -- what was read and written, whatever the server does
 abbrev pub any_turn : Unit {0} → List ℕ → List (List ℕ) → Unit {0} → Type 0

@@ -6,7 +6,7 @@ use Rattle.oa_frame.proofs.Raws.{record_ahead}
 use Rattle.oa_frame.proofs.records.read_record.Goals as goal
 
 pub returns-in-Some-clause-paced : goal.returns-in-Some-clause-paced
-returns-in-Some-clause-paced g c = paced_ahead _ _ _ _ refl c.requires.unbroken c.advance.ensures.taken
+returns-in-Some-clause-paced g c = paced_ahead _ _ _ _ refl c.requires.unbroken.reader c.advance.ensures.taken
 
 pub returns-in-Some-clause-input : goal.returns-in-Some-clause-input
 returns-in-Some-clause-input g c =
@@ -14,4 +14,4 @@ returns-in-Some-clause-input g c =
     (rw c.buffered-in-Some.ensures at c.copy_front.ensures.front) refl c.advance.ensures.taken.taken
 
 pub returns-in-Some-clause-output : goal.returns-in-Some-clause-output
-returns-in-Some-clause-output g c = writes_none _ c.requires.unbroken_writer
+returns-in-Some-clause-output g c = writes_none _ c.requires.unbroken.writer

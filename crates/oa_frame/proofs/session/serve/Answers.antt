@@ -7,14 +7,14 @@ use Rattle.oa_frame.proofs.session.serve.Goals as goal
 
 pub turns-init : goal.turns-init
 turns-init g c = record {
-  room = c.requires.room;
-  buffer = c.requires.buffer;
+  room = c.requires.buffers.line_places;
+  buffer = c.requires.buffers.body_places;
   count = refl;
   ready = c.requires.ready;
-  unbroken = c.requires.unbroken;
-  unbroken_writer = c.requires.unbroken_writer;
+  unbroken = c.requires.unbroken.reader;
+  unbroken_writer = c.requires.unbroken.writer;
   steady = λ s. s;
-  going = going_start (frames c.args.framing) g.S.Responder.alone _ _ _ _ c.requires.unbroken_writer;
+  going = going_start (frames c.args.framing) g.S.Responder.alone _ _ _ _ c.requires.unbroken.writer;
 }
 
 pub returns-in-Err : goal.returns-in-Err

@@ -1,0 +1,15 @@
+-- What a session begins with.
+use Rattle.std.specs.Prelude.{◌≡◌, ◌+◌, ◌≤◌, ℕ, false}
+use Rattle.oa_model.specs.Limits.{max_line_characters, max_request_bytes}
+use Rattle.oa_stream.specs.Sink.{Output}
+use Rattle.oa_stream.specs.Source.{Input}
+
+-- neither the reader nor the writer has failed
+pub record AreUnbroken (input : Input) (out : Output) : Type 0 where
+  pub reader : input.faulted ≡ false
+  pub writer : out.broken ≡ false
+
+-- two buffers have places for the longest line and for the longest body
+pub record HoldLongest (line body : ℕ) : Type 0 where
+  pub line_places : max_line_characters + 1 ≤ line
+  pub body_places : max_request_bytes ≤ body

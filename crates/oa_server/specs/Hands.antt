@@ -1,14 +1,24 @@
 -- A server at work over a store, and the group in hand.
-use Rattle.std.specs.Prelude.{◌≡◌, ◌⊎◌, ◌<◌, ◌≤◌, ◌++◌, ℕ, true, false, List, [], length, vec_capacity}
+use Rattle.std.specs.Prelude.{◌≡◌, ◌⊎◌, ◌-◌, ◌<◌, ◌≤◌, ◌++◌, ℕ, true, false, List, [], length, vec_capacity, Result, IsOk, OnOk, OnErr}
 use Rattle.oa_disk.specs.declared.disk.Disk.{Ghosts}
 use Rattle.oa_groups.specs.Desks.{Desk, IsDue}
-use Rattle.oa_journal.specs.Shapes.{body_bytes}
+use Rattle.oa_image.specs.Events.{event_image}
+use Rattle.oa_journal.specs.Replays.{Replays}
+use Rattle.oa_journal.specs.Shapes.{ample_bytes, body_bytes}
+use Rattle.oa_keeper.specs.Holding.{Carries, StopsAtWrite}
 use Rattle.oa_keeper.specs.Kept.{HasRoom}
-use Rattle.oa_model.specs.Limits.{group_bytes}
+use Rattle.oa_keeper.specs.declared.fault.KeepFault.{KeepFault}
+use Rattle.oa_model.specs.Limits.{group_bytes, max_event_bytes}
 use Rattle.oa_record.specs.Replies.{ReplyValue}
+use Rattle.oa_store.specs.Writing.{Goes}
 use Rattle.oa_store.specs.declared.store.Store.{Store}
+use Rattle.oa_table.specs.Events.{BringsNoLocks}
+use Rattle.oa_table.specs.Tables.{TableValue}
+use Rattle.oa_table.specs.declared.event.Event.{Event}
 use Rattle.oa_server.specs.declared.hand.Hand.{Hand}
-use Rattle.oa_server.specs.Requests.{requests}
+use Rattle.oa_server.specs.Requests.{HasTurn, requests}
+use Rattle.oa_turn.specs.Events.{held_of}
+use Rattle.oa_turn.specs.Limits.{allowed}
 use Rattle.oa_turn.specs.States.{State}
 
 -- the store, the state, the replies that are held back, the events that are not committed yet
@@ -51,6 +61,42 @@ IsDueFor store state events body = IsDue requests store state events body
 -- The device is called for a checkpoint alone, where one is due.
 abbrev pub CallsWhereDue : {D : Type 0} {g : Ghosts D} → Store D g → Store D g → State → List ℕ → List ℕ → Type 0
 CallsWhereDue old new state events body = (new.disk ≡ old.disk) ⊎ IsDueFor old state events body
+
+-- What a turn over a store leaves of it. What was committed stands; no checkpoint is made that is not due; the store has stopped exactly
+-- where that failed.
+pub record HoldsOn {D T E : Type 0} {g : Ghosts D} (events events' : List ℕ) (held : TableValue) (old new : Store D g)
+    (result : Result T E) : Type 0 where
+  pub carries : Carries events held old new
+  pub undue : ample_bytes ≤ body_bytes old.bank.shape - old.bank.gate → new.disk ≡ old.disk
+  pub room : new.stopped ≡ false → HasRoom events' new
+  pub going : OnOk result (new.stopped ≡ false)
+  pub stops : OnErr result (new.stopped ≡ true)
+  pub goes : Goes old new
+
+-- The checkpoint before a body's event, which was due, has failed: the turn is one that changes nothing that images hold.
+pub record IsCutOff {D : Type 0} {g : Ghosts D} (store : Store D g) (body events events' : List ℕ) (old new : State) : Type 0 where
+  pub turn : HasTurn body old new
+  pub same : events' ≡ events
+  pub due : IsDueFor store old events body
+
+-- a change brings no locks, and no limit refuses it
+pub record CanBeMade (state : State) (event : Event) : Type 0 where
+  pub unlocked : BringsNoLocks event
+  pub allows : IsOk (allowed state.bank event state.table)
+
+-- the event of a change that was made stands behind those in hand
+pub record IsAdded (event : Event) (events events' : List ℕ) (old new : State) : Type 0 where
+  pub replays : Replays (event_image event) (held_of old) (held_of new)
+  pub small : length (event_image event) ≤ max_event_bytes
+  pub some : 0 < length (event_image event)
+  pub behind : events' ≡ events ++ event_image event
+
+-- what a checkpoint before an event leaves of the store, which stops exactly where it fails
+pub record MakesWay {D T : Type 0} {g : Ghosts D} (events : List ℕ) (held : TableValue) (old new : Store D g)
+    (result : Result T KeepFault) : Type 0 where
+  pub carries : Carries events held old new
+  pub stops : StopsAtWrite old new result
+  pub goes : Goes old new
 
 -- replies of which this holds were handed out
 pub record HandsOut (P : List ReplyValue → Type 0) (old new : List ReplyValue) : Type 0 where

@@ -1,20 +1,13 @@
 //! A turn over a store: the event that it makes is held in a batch until its group ends.
-ghost use Rattle.std.specs.Prelude.{◌≡◌, ◌-◌, ◌<◌, ◌≤◌, ◌++◌, List, ℕ, false, length, true, IfOk, IsErr, IsErrOf, IsOk, OnErr, OnOk};
-ghost use Rattle.oa_image.specs.Events.{event as an_event, event_image};
-ghost use Rattle.oa_journal.specs.Replays.{Replays};
-ghost use Rattle.oa_journal.specs.Shapes.{ample_bytes, body_bytes};
-ghost use Rattle.oa_keeper.specs.Holding.{CallsForRoom, Carries, IsOpenFor, StopsAtWrite};
-ghost use Rattle.oa_keeper.specs.Kept.{HasRoom};
+ghost use Rattle.std.specs.Prelude.{◌≡◌, ◌++◌, List, ℕ, false, IfOk, IsErr, IsErrOf, OnErr, OnOk};
+ghost use Rattle.oa_image.specs.Events.{event_image};
+ghost use Rattle.oa_keeper.specs.Holding.{CallsForRoom, IsOpenFor};
 ghost use Rattle.oa_keeper.specs.declared.fault.KeepFault.{KeepFault};
-ghost use Rattle.oa_model.specs.Limits.{max_event_bytes};
 ghost use Rattle.oa_record.specs.Replacement.{is_replacement};
-ghost use Rattle.oa_server.specs.Hands.{CallsWhereDue, HasBanks, IsDueFor};
-ghost use Rattle.oa_server.specs.Requests.{HasTurn, IsHeldBack};
-ghost use Rattle.oa_store.specs.Writing.{Goes};
-ghost use Rattle.oa_table.specs.Events.{BringsNoLocks};
+ghost use Rattle.oa_server.specs.Hands.{CallsWhereDue, CanBeMade, HasBanks, HoldsOn, IsAdded, IsCutOff, MakesWay};
+ghost use Rattle.oa_server.specs.Requests.{IsHeldBack};
 ghost use Rattle.oa_turn.specs.Decisions.{MakesChange};
 ghost use Rattle.oa_turn.specs.Events.{held_of};
-ghost use Rattle.oa_turn.specs.Limits.{allowed};
 ghost use Rattle.oa_turn.specs.Plans.{IsPlanned};
 
 use oa_disk::Disk;
@@ -39,18 +32,10 @@ pub(crate) fn turn_held<D: Disk>(
     requires open { IsOpenFor batch.old store.old }
     requires banks { HasBanks store.old host.old }
     ensures turn { IfOk result (λ reply. IsHeldBack body.now reply batch.old batch.new host.old host.new) }
-    ensures failed { OnErr result (HasTurn body.now host.old host.new) }
-    ensures same { OnErr result (batch.new ≡ batch.old) }
+    ensures failed { OnErr result (IsCutOff store.old body.now batch.old batch.new host.old host.new) }
     // The device is called for a checkpoint alone, where one is due before an event of the body.
     ensures calls { CallsWhereDue store.old store.new host.old batch.old body.now }
-    ensures due { OnErr result (IsDueFor store.old host.old batch.old body.now) }
-    ensures carries { Carries batch.old (held_of host.old) store.old store.new }
-    // No checkpoint is made that is not due.
-    ensures undue { ample_bytes ≤ body_bytes store.old.bank.shape - store.old.bank.gate → store.new.disk ≡ store.old.disk }
-    ensures room { store.new.stopped ≡ false → HasRoom batch.new store.new }
-    ensures going { OnOk result (store.new.stopped ≡ false) }
-    ensures stops { OnErr result (store.new.stopped ≡ true) }
-    ensures goes { Goes store.old store.new }
+    ensures holds { HoldsOn batch.old batch.new (held_of host.old) store.old store.new result }
     ensures banks { HasBanks store.new host.new }
 {
     match host.plan(body) {
@@ -66,29 +51,21 @@ fn hold<D: Disk>(
     batch: &mut Batch,
     planned: Planned,
 ) -> Result<Reply, Broken>
-    requires unlocked { BringsNoLocks planned.event }
-    requires allowed { IsOk (allowed host.old.bank planned.event host.old.table) }
+    requires change { CanBeMade host.old planned.event }
     requires open { IsOpenFor batch.old store.old }
     requires banks { HasBanks store.old host.old }
     ensures turn { IfOk result (λ reply. (body : List ℕ) → is_replacement body ≡ false → IsPlanned host.old body planned
         → IsHeldBack body reply batch.old batch.new host.old host.new) }
-    ensures failed { OnErr result ((body : List ℕ) → is_replacement body ≡ false → IsPlanned host.old body planned → HasTurn body host.old host.new) }
-    ensures same { OnErr result (batch.new ≡ batch.old) }
+    ensures failed { OnErr result ((body : List ℕ) → is_replacement body ≡ false → IsPlanned host.old body planned
+        → IsCutOff store.old body batch.old batch.new host.old host.new) }
     // The device is called for a checkpoint alone, where one is due before the event.
     ensures calls { (body : List ℕ) → is_replacement body ≡ false → IsPlanned host.old body planned
         → CallsWhereDue store.old store.new host.old batch.old body }
-    ensures due { OnErr result ((body : List ℕ) → is_replacement body ≡ false → IsPlanned host.old body planned
-        → IsDueFor store.old host.old batch.old body) }
-    ensures carries { Carries batch.old (held_of host.old) store.old store.new }
-    // No checkpoint is made that is not due.
-    ensures undue { ample_bytes ≤ body_bytes store.old.bank.shape - store.old.bank.gate → store.new.disk ≡ store.old.disk }
-    ensures room { store.new.stopped ≡ false → HasRoom batch.new store.new }
-    ensures going { OnOk result (store.new.stopped ≡ false) }
-    ensures stops { OnErr result (store.new.stopped ≡ true) }
-    ensures goes { Goes store.old store.new }
+    ensures holds { HoldsOn batch.old batch.new (held_of host.old) store.old store.new result }
     ensures banks { HasBanks store.new host.new }
 {
     one_request();
+    is_event(&planned.event);
     let Planned { tag, event, fields } = planned;
     match hold_change(host, store, batch, event) {
         Ok(()) => Ok(Reply::new(tag, HResult::S_OK, None, fields.into_vec())),
@@ -107,22 +84,15 @@ fn hold_change<D: Disk>(
     batch: &mut Batch,
     event: Event,
 ) -> Result<(), KeepFault>
-    requires unlocked { BringsNoLocks event }
-    requires allowed { IsOk (allowed host.old.bank event host.old.table) }
+    requires change { CanBeMade host.old event }
     requires open { IsOpenFor batch.old store.old }
     requires banks { HasBanks store.old host.old }
     ensures change { MakesChange event host.old host.new result }
-    ensures replays { OnOk result (Replays (event_image event) (held_of host.old) (held_of host.new)) }
-    ensures small { OnOk result (length (event_image event) ≤ max_event_bytes) }
-    ensures some { OnOk result (0 < length (event_image event)) }
+    ensures added { OnOk result (IsAdded event batch.old batch.new host.old host.new) }
+    ensures same { OnErr result (batch.new ≡ batch.old) }
     // It is the first event of a group before which the device is called, and no checkpoint is made that is not due.
     ensures calls { CallsForRoom batch.old batch.new store.old store.new result }
-    ensures is { an_event.Is event }
-    ensures event { OnOk result (batch.new ≡ batch.old ++ event_image event) }
-    ensures same { OnErr result (batch.new ≡ batch.old) }
-    ensures carries { Carries batch.old (held_of host.old) store.old store.new }
-    ensures stops { StopsAtWrite store.old store.new result }
-    ensures goes { Goes store.old store.new }
+    ensures way { MakesWay batch.old (held_of host.old) store.old store.new result }
 {
     is_event(&event);
     make_room(store, host.table(), batch)?;
@@ -132,8 +102,7 @@ fn hold_change<D: Disk>(
 
 /// Makes a change that is allowed, and adds its event to those in hand. The growths come in this order: the event's bytes, the table's.
 fn add_change(host: &mut Host, batch: &mut Batch, event: Event) -> Result<(), KeepFault>
-    requires unlocked { BringsNoLocks event }
-    requires allowed { IsOk (allowed host.old.bank event host.old.table) }
+    requires { CanBeMade host.old event }
     ensures change { MakesChange event host.old host.new result }
     ensures event { OnOk result (batch.new ≡ batch.old ++ event_image event) }
     ensures same { OnErr result (batch.new ≡ batch.old) }

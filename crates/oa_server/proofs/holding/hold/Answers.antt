@@ -4,26 +4,27 @@ use Rattle.oa_server.proofs.holding.hold.Goals as goal
 
 pub returns-in-Ok-clause-turn : goal.returns-in-Ok-clause-turn
 returns-in-Ok-clause-turn g c body plain is =
-    held c.one_request.ensures c.args.host.now body c.args.planned plain is _ c.new.result c.args.batch.now c.hold_change.new.batch c.in-Ok.ensures.change.0 c.in-Ok.ensures.change.1 (search rules) c.in-Ok.ensures.replays c.in-Ok.ensures.small c.in-Ok.ensures.event
+    let added = c.in-Ok.ensures.added in
+    held c.one_request.ensures c.args.host.now body c.args.planned plain is _ c.new.result c.args.batch.now c.hold_change.new.batch c.in-Ok.ensures.change.0 c.in-Ok.ensures.change.1 (search rules) added.replays added.small added.behind
 
 pub returns-in-Err-Memory-clause-turn : goal.returns-in-Err-Memory-clause-turn
 returns-in-Err-Memory-clause-turn g c body plain is = starved c.one_request.ensures c.args.host.now body c.args.planned plain is _ c.bare.result c.args.batch.now c.hold_change.new.batch (search rules) c.in-Err-Memory.ensures.same c.bare.ensures
 
 pub returns-clause-failed : goal.returns-clause-failed
-returns-clause-failed g c body plain is = has_turn c.one_request.ensures c.args.host.now body c.args.planned plain is _ (search rules)
+returns-clause-failed g c body plain is = record {
+  turn = has_turn c.one_request.ensures c.args.host.now body c.args.planned plain is _ (search rules);
+  same = search rules;
+  due = record { first = search rules; short = search rules; makes = makes_event c.one_request.ensures c.args.host.now body c.args.planned plain is c.is_event.ensures };
+}
 
 pub returns-in-Ok-clause-calls : goal.returns-in-Ok-clause-calls
 returns-in-Ok-clause-calls g c body plain is =
-    called_where_due c.one_request.ensures c.args.host.now body c.args.planned plain is {g = g.D.Disk} c.args.store.now c.hold_change.new.store c.args.batch.now c.hold_change.ensures.is c.hold_change.ensures.calls.quiet c.hold_change.ensures.calls.undue
+    called_where_due c.one_request.ensures c.args.host.now body c.args.planned plain is {g = g.D.Disk} c.args.store.now c.hold_change.new.store c.args.batch.now c.is_event.ensures c.hold_change.ensures.calls.quiet c.hold_change.ensures.calls.undue
 
 pub returns-in-Err-Memory-clause-calls : goal.returns-in-Err-Memory-clause-calls
 returns-in-Err-Memory-clause-calls g c body plain is =
-    called_where_due c.one_request.ensures c.args.host.now body c.args.planned plain is {g = g.D.Disk} c.args.store.now c.hold_change.new.store c.args.batch.now c.hold_change.ensures.is c.hold_change.ensures.calls.quiet c.hold_change.ensures.calls.undue
+    called_where_due c.one_request.ensures c.args.host.now body c.args.planned plain is {g = g.D.Disk} c.args.store.now c.hold_change.new.store c.args.batch.now c.is_event.ensures c.hold_change.ensures.calls.quiet c.hold_change.ensures.calls.undue
 
 pub returns-clause-calls : goal.returns-clause-calls
 returns-clause-calls g c body plain is =
-    called_where_due c.one_request.ensures c.args.host.now body c.args.planned plain is {g = g.D.Disk} c.args.store.now c.hold_change.new.store c.args.batch.now c.hold_change.ensures.is c.hold_change.ensures.calls.quiet c.hold_change.ensures.calls.undue
-
-pub returns-clause-due : goal.returns-clause-due
-returns-clause-due g c body plain is =
-    record { first = search rules; short = search rules; makes = makes_event c.one_request.ensures c.args.host.now body c.args.planned plain is c.hold_change.ensures.is }
+    called_where_due c.one_request.ensures c.args.host.now body c.args.planned plain is {g = g.D.Disk} c.args.store.now c.hold_change.new.store c.args.batch.now c.is_event.ensures c.hold_change.ensures.calls.quiet c.hold_change.ensures.calls.undue

@@ -8,16 +8,31 @@ use Rattle.oa_server.proofs.holding.turn_held.Goals as goal
 pub returns-in-Answered-clause-turn : goal.returns-in-Answered-clause-turn
 returns-in-Answered-clause-turn g c = answered c.args.body.now c.in-Answered.reply c.args.batch.now c.args.host.now c.plan.new.self c.requires.plain c.in-Answered.ensures.plans.0 c.in-Answered.ensures.plans.1 c.in-Answered.ensures.quiet
 
-pub returns-in-Answered-clause-carries : goal.returns-in-Answered-clause-carries
-returns-in-Answered-clause-carries g c =
+pub returns-in-Answered-clause-holds : goal.returns-in-Answered-clause-holds
+returns-in-Answered-clause-holds g c =
     let store = c.args.store.now in record {
-      any_moment = λ committed first each. nothing_called g.D.Disk.moment g.D.Disk.image_since store.disk (g.D.Disk.image store.disk) store.bank.shape store.chosen store.bank.gate store.library.items committed (λ f left. g.met.D.Disk.only_now store.disk f each.0 left) each.1;
-      each = search rules;
-      library = search rules;
+      carries = record {
+        any_moment = λ committed first each. nothing_called g.D.Disk.moment g.D.Disk.image_since store.disk (g.D.Disk.image store.disk) store.bank.shape store.chosen store.bank.gate store.library.items committed (λ f left. g.met.D.Disk.only_now store.disk f each.0 left) each.1;
+        each = search rules;
+        library = search rules;
+      };
+      undue = search rules;
+      room = search rules;
+      going = search rules;
+      stops = search rules;
+      goes = search rules;
     }
 
-pub returns-in-Change-clause-carries : goal.returns-in-Change-clause-carries
-returns-in-Change-clause-carries g c = carried c.args.batch.now c.args.store.now c.hold.new.store (ap held_of c.in-Change.ensures.plans.2) c.hold.ensures.carries
+pub returns-in-Change-clause-holds : goal.returns-in-Change-clause-holds
+returns-in-Change-clause-holds g c =
+    let said = c.hold.ensures.holds in record {
+      carries = carried c.args.batch.now c.args.store.now c.hold.new.store (ap held_of c.in-Change.ensures.plans.2) said.carries;
+      undue = said.undue;
+      room = said.room;
+      going = said.going;
+      stops = said.stops;
+      goes = said.goes;
+    }
 
 pub returns-in-Answered-clause-banks : goal.returns-in-Answered-clause-banks
 returns-in-Answered-clause-banks g c = c.requires.banks ∙ sym (ordinary_bank c.args.host.now c.plan.new.self c.args.body.now c.in-Answered.reply c.in-Answered.ensures.plans.0)

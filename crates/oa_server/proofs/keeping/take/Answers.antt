@@ -13,7 +13,7 @@ returns-then-not-is_full-clause-held g c is =
       event = said.turn.event;
       held =
           held_one c.args.store.now c.turn_held.new.store c.args.body.now c.in-Ok.reply c.args.host.now c.turn_held.new.host hand.replies.items c.push_reserved-in-Ok.new.self.items hand.batch c.turn_held.new.batch said.turn
-          (search rules) said.going said.carries said.calls said.goes (search rules);
+          (search rules) said.holds.going said.holds.carries said.calls said.holds.goes (search rules);
       short = search rules;
       nothing = refl;
     })
@@ -29,7 +29,7 @@ returns-else-not-is_full-clause-told g c is =
       mid = desk c.turn_held.new.store c.turn_held.new.host c.push_reserved-in-Ok.new.self.items c.turn_held.new.batch;
       held =
           held_one c.args.store.now c.turn_held.new.store c.args.body.now c.in-Ok.reply c.args.host.now c.turn_held.new.host hand.replies.items c.push_reserved-in-Ok.new.self.items hand.batch c.turn_held.new.batch said.turn
-          (search rules) said.going said.carries said.calls said.goes (search rules);
+          (search rules) said.holds.going said.holds.carries said.calls said.holds.goes (search rules);
       full = search rules;
       settled = c.settle.ensures.settled;
     }))

@@ -1,4 +1,4 @@
--- The end of the input.
+-- The end of the input. The crates above cite it of their requests.
 use Rattle.std.proofs.Common.{◌≡◌, ◌⊎◌, inl, inr, ℕ, true, false, true≢false, IsTrue, List, [], ◌∷◌, ◌++◌, length, map, refl, sym, ◌∙◌, ap, subst}
 use Rattle.std.proofs.lemmas.List.{append-nil}
 use Rattle.oa_disk.specs.declared.disk.Disk.{Ghosts}
@@ -12,8 +12,10 @@ use Rattle.oa_groups.specs.Served.{IsServed}
 use Rattle.oa_store.specs.Writing.{Goes}
 use Rattle.oa_groups.specs.Turns.{Exchange, Turns, body_of, reply_of}
 use Rattle.oa_groups.proofs.Called.{calls_none}
-use Rattle.oa_groups.proofs.Entries.{cut_last, either, ends_after, group_ends, joined_push, run_append}
-use Rattle.oa_groups.proofs.Takes.{faulted_as, goes_on, going_as, going_breaks, going_ends, no_entry, some_entry}
+use Rattle.oa_groups.proofs.Entries.{cut_last, either, ends_after, group_ends, joined_push, no_entry, run_append, some_entry}
+use Rattle.oa_groups.proofs.Faulted.{faulted_as}
+use Rattle.oa_groups.proofs.InHand.{going_as, going_breaks, going_ends}
+use Rattle.oa_groups.proofs.Stores.{goes_on}
 
 no_group : {X : Type 0} (x : X) → [] ≡ x ∷ [] → ⊥
 no_group x e = absurd cc

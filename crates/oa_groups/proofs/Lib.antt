@@ -1,7 +1,11 @@
 pub mod Called
 pub mod Calling
-pub mod Ends
 pub mod Entries
-pub mod Histories
+pub mod Stores
 pub mod Running
+pub mod InHand
+pub mod Faulted
+pub mod Alone
 pub mod Takes
+pub mod Ends
+pub mod Histories

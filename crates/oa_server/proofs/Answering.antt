@@ -10,7 +10,8 @@ use Rattle.oa_store.specs.Writing.{Goes}
 use Rattle.oa_groups.specs.Turns.{exchange}
 use Rattle.oa_groups.proofs.Called.{none_or_some}
 use Rattle.oa_groups.proofs.Ends.{underway_ended}
-use Rattle.oa_groups.proofs.Takes.{goes_on, underway_start, underway_taken}
+use Rattle.oa_groups.proofs.Stores.{goes_on}
+use Rattle.oa_groups.proofs.Takes.{underway_start, underway_taken}
 use Rattle.oa_journal.specs.Replays.{Replays}
 use Rattle.oa_groups.specs.Runs.{AllHoldState, HoldsState}
 use Rattle.oa_idl.specs.Canonical.{canonical}

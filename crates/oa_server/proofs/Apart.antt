@@ -8,7 +8,7 @@ use Rattle.oa_frame.specs.declared.session.Served.{Served}
 use Rattle.oa_groups.specs.Desks.{Desk, IsEnded, IsFlushed, IsIdle, IsAfterFault, IsAnsweredAlone, IsTaken}
 use Rattle.oa_store.specs.Writing.{Goes}
 use Rattle.oa_groups.specs.Turns.{Turns, exchange}
-use Rattle.oa_groups.proofs.Takes.{goes_on}
+use Rattle.oa_groups.proofs.Stores.{goes_on}
 use Rattle.oa_record.specs.Replacement.{is_replacement}
 use Rattle.oa_record.specs.Replies.{reply_record}
 use Rattle.oa_store.specs.declared.store.Store.{Store}

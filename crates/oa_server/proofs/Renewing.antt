@@ -9,7 +9,8 @@ use Rattle.oa_groups.specs.Served.{IsServed}
 use Rattle.oa_store.specs.Writing.{Goes}
 use Rattle.oa_groups.specs.Simple.{no_event}
 use Rattle.oa_groups.proofs.Ends.{underway_ended}
-use Rattle.oa_groups.proofs.Takes.{goes_nowhere, underway_start, underway_taken}
+use Rattle.oa_groups.proofs.Stores.{goes_nowhere}
+use Rattle.oa_groups.proofs.Takes.{underway_start, underway_taken}
 use Rattle.oa_journal.specs.Replays.{Replays}
 use Rattle.oa_groups.specs.Turns.{exchange}
 use Rattle.oa_keeper.proofs.Committed.{nothing_called}

@@ -1,0 +1,164 @@
+-- A request that is a group of its own, with nothing in hand.
+use Rattle.std.proofs.Common.{◌≡◌, ◌⊎◌, inl, inr, ℕ, ◌+◌, true, false, IsTrue, List, [], ◌∷◌, ◌++◌}
+use Rattle.std.proofs.Common.{length, map, refl, sym, ◌∙◌, ap, subst, arith, length-append}
+use Rattle.std.proofs.lemmas.List.{append-nil, map-append}
+use Rattle.oa_disk.specs.declared.disk.Disk.{Ghosts}
+use Rattle.oa_store.specs.declared.store.Store.{Store}
+use Rattle.oa_groups.specs.Desks.{Desk, IsAnsweredAlone}
+use Rattle.oa_groups.specs.Faults.{IsWholeBefore}
+use Rattle.oa_groups.specs.Going.{IsCut, IsCutBefore, Going, Faulted}
+use Rattle.oa_groups.specs.Groups.{events_in, joined}
+use Rattle.oa_groups.specs.Runs.{AllHoldState, CallsFor, HoldsState, InTurn, IsAfter, IsRun, TurnsOver}
+use Rattle.oa_groups.specs.Turns.{Exchange, Turns, body_of, reply_of}
+use Rattle.oa_groups.proofs.Called.{calls_none, turn_push}
+use Rattle.oa_groups.proofs.Entries.{apart_group, cut_apart, cut_before, either, joined_push, no_entry, run_append, run_one}
+use Rattle.oa_groups.proofs.Running.{after_all, after_fewer, after_more, run_more, run_on}
+use Rattle.oa_groups.proofs.Stores.{state_held}
+
+module _ {S R : Type 0} (t : Turns S R) where
+  -- nothing is in hand
+  abbrev pub Idle : ℕ → List (List (Exchange R)) → List (Exchange R) → Type 0
+  Idle size groups held = IsCutBefore t.alone size groups held × (held ≡ [])
+
+  module _ {D : Type 0} {g : Ghosts D} (only : (d : D) (c : List ℕ) → IsTrue (g.is_honest d) → g.image_since d (g.moment d) c → g.image d c) (start : Desk S R D g) where
+    abbrev first : S
+    first = start.state
+
+    abbrev Begins : Type 0
+    Begins = AllHoldState t start.store start.state
+
+    abbrev Moments : Desk S R D g → List (List (Exchange R)) → ℕ → Type 0
+    Moments now groups count = (moments : List ℕ) × IsRun t g.moment g.image_since start.store.disk now.store.disk first groups count moments
+
+    module _ {old : Desk S R D g} {bodies : List (List ℕ)} {out : List R} (size : ℕ) (was : Going t (Idle size) start old bodies out) where
+      -- so many groups were answered, and nothing is in hand
+      idle_run : TurnsOver t first (joined was.groups) old.state
+      idle_run = let none = was.cuts.1 in
+          subst (λ (s : S). TurnsOver t first (joined was.groups) s) (subst (λ (l : List (Exchange R)). TurnsOver t was.committed l old.state) none was.runs) was.stands
+
+      idle_turn : InTurn t start.store.disk first was.groups old.store.disk old.state
+      idle_turn = subst (λ (d : D). InTurn t start.store.disk first was.groups d old.state) (sym (marked was.calls))
+          (subst (λ (s : S). InTurn t start.store.disk first was.groups was.mark s) (subst (λ (l : List (Exchange R)). TurnsOver t was.committed l old.state) was.cuts.1 was.runs) was.in_turn)
+        where
+          marked : (old.store.disk ≡ was.mark) ⊎ CallsFor t was.committed was.held → old.store.disk ≡ was.mark
+          marked (inl same) = same
+          marked (inr called) = absurd (calls_none t was.committed (subst (λ (l : List (Exchange R)). CallsFor t was.committed l) was.cuts.1 called))
+
+      module _ (asked : Exchange R) (told : List R) (new : Desk S R D g) (one : IsAnsweredAlone t asked told old new) where
+        abbrev more : List (List (Exchange R))
+        more = was.groups ++ (asked ∷ []) ∷ []
+
+        idle_all : Begins → AllHoldState t old.store old.state
+        idle_all begins = subst (λ (s : S). AllHoldState t old.store s) (subst (λ (l : List (Exchange R)). TurnsOver t was.committed l old.state) was.cuts.1 was.runs) (was.all begins)
+
+        apart_run : TurnsOver t first (joined more) new.state
+        apart_run = subst (λ (l : List (Exchange R)). TurnsOver t first l new.state) (sym (joined_push was.groups (asked ∷ [])))
+            (run_append t first (joined was.groups) old.state (asked ∷ []) new.state idle_run (run_one t old.state asked new.state one.turn))
+
+        apart_has : (c : List ℕ) → HoldsState t old.state c ⊎ HoldsState t new.state c → IsAfter t (length was.groups) first more c
+        apart_has c (inl without) = after_more t (length was.groups) first was.groups ((asked ∷ []) ∷ []) c (after_all t first was.groups old.state c idle_run without)
+        apart_has c (inr with_it) = after_fewer t (length more) (length was.groups) first more c (omega (arith, length-append was.groups ((asked ∷ []) ∷ []))) (after_all t first more new.state c apart_run with_it)
+
+        apart_during : Begins → Moments new more (length was.groups)
+        apart_during begins =
+            let before = was.moments begins in (
+              before.0,
+              run_on t g.moment g.image_since first start.store.disk old.store.disk new.store.disk was.groups ((asked ∷ []) ∷ []) (length was.groups) before.0 (λ c. HoldsState t old.state c ⊎ HoldsState t new.state c) before.1
+                  (one.any_moment (idle_all begins)) apart_has,
+            )
+
+        apart_bodies : bodies ++ asked.body ∷ [] ≡ map body_of (joined more ++ [])
+        apart_bodies =
+            ap (λ (l : List (List ℕ)). l ++ asked.body ∷ []) (was.bodies_are ∙ ap (λ (l : List (Exchange R)). map body_of (joined was.groups ++ l)) was.cuts.1 ∙ ap (λ (l : List (Exchange R)). map body_of l) (append-nil (joined was.groups)))
+            ∙ sym (map-append body_of (joined was.groups) (asked ∷ [])) ∙ ap (λ (l : List (Exchange R)). map body_of l) (sym (joined_push was.groups (asked ∷ [])) ∙ sym (append-nil (joined more)))
+
+        -- the device is called for a replacement that is done
+        apart_done : t.is_done asked.reply ≡ true → CallsFor t old.state (asked ∷ [])
+        apart_done done = record { front = []; asked = asked; back = []; are = refl; state = old.state; run = refl; calls = inr (one.alone, done) }
+
+        apart_calls : (t.is_done asked.reply ≡ false) ⊎ (t.is_done asked.reply ≡ true) → (new.store.disk ≡ old.store.disk) ⊎ CallsFor t old.state (asked ∷ [])
+        apart_calls (inr done) = inr (apart_done done)
+        apart_calls (inl refused) = inl (one.quiet refused)
+
+        apart_turn : (new.store.disk ≡ old.store.disk) ⊎ CallsFor t old.state (asked ∷ []) → InTurn t start.store.disk first more new.store.disk new.state
+        apart_turn calls = turn_push t start.store.disk first was.groups old.store.disk old.state (asked ∷ []) new.store.disk new.state idle_turn (run_one t old.state asked new.state one.turn) calls
+
+        -- the library was replaced, or that was refused
+        pub going_apart : new.store.stopped ≡ false → Going t (IsCut t.alone size) start new (bodies ++ asked.body ∷ []) (out ++ told)
+        going_apart going = record {
+          groups = more;
+          held = [];
+          committed = new.state;
+          cuts = cut_apart t.alone size was.groups asked one.alone (subst (λ (l : List (Exchange R)). IsCutBefore t.alone size was.groups l) was.cuts.1 was.cuts.0);
+          bodies_are = apart_bodies;
+          out_are = ap (λ (l : List R). l ++ told) was.out_are ∙ ap (λ (l : List R). map reply_of (joined was.groups) ++ l) (one.well going) ∙ sym (map-append reply_of (joined was.groups) (asked ∷ []))
+              ∙ ap (λ (l : List (Exchange R)). map reply_of l) (sym (joined_push was.groups (asked ∷ [])));
+          pending_are = one.idle_still.0;
+          events_are = one.idle_still.1;
+          stands = apart_run;
+          runs = refl;
+          same = refl;
+          same_bank = refl;
+          mark = new.store.disk;
+          in_turn = apart_turn (apart_calls (either (t.is_done asked.reply)));
+          calls = inl refl;
+          all = λ begins. one.each going (idle_all begins);
+          moments = λ begins.
+              let on = apart_during begins in
+              let size : length was.groups + 1 ≡ length more = sym (length-append was.groups ((asked ∷ []) ∷ [])) in
+              let here = one.each going (idle_all begins) in
+              let later = run_more t g.moment g.image_since first start.store.disk new.store.disk more (length was.groups) on.0 on.1
+              (λ c since. after_fewer t (length more) (length was.groups + 1) first more c (omega (arith, size)) (after_all t first more new.state c apart_run
+              (state_held t new.store new.state here c (only new.store.disk c here.all.0 since)))) in
+              (_, subst (λ (n : ℕ). IsRun t g.moment g.image_since start.store.disk new.store.disk first more n (on.0 ++ g.moment new.store.disk ∷ [])) size later);
+        }
+
+        -- a call of the device failed in it
+        pub breaks_apart : new.store.stopped ≡ true → Faulted t size (IsWholeBefore t size) start new (bodies ++ asked.body ∷ []) (out ++ told)
+        breaks_apart stopped = record {
+          groups = was.groups;
+          group = asked ∷ [];
+          others = [];
+          committed = old.state;
+          cuts = apart_group t.alone size was.groups asked one.alone (subst (λ (l : List (Exchange R)). IsCutBefore t.alone size was.groups l) was.cuts.1 was.cuts.0);
+          whole = inl (inr (inr one.alone));
+          bodies_are = apart_bodies ∙ ap (λ (l : List (Exchange R)). map body_of l) (append-nil (joined more) ∙ joined_push was.groups (asked ∷ [])) ∙ sym (append-nil (map body_of (joined was.groups ++ asked ∷ [])));
+          replies_are = ap (λ (l : List R). l ++ told) was.out_are ∙ ap (λ (l : List R). map reply_of (joined was.groups) ++ l) (one.broken stopped);
+          stands = idle_run;
+          runs = run_one t old.state asked new.state one.turn;
+          called = apart_done (one.doubt stopped);
+          in_turn = apart_turn (inr (apart_done (one.doubt stopped)));
+          moments = apart_during;
+        }
+
+    -- nothing was in hand
+    pub going_idle : (size : ℕ) (old mid : Desk S R D g) (bodies : List (List ℕ)) (out : List R) → old.pending ≡ [] → (mid.pending ≡ []) × (mid.events ≡ []) → mid.store ≡ old.store → mid.state ≡ old.state
+        → Going t (IsCut t.alone size) start old bodies out → Going t (Idle size) start mid bodies out
+    going_idle size old mid bodies out none idle store state was =
+        let empty : was.held ≡ [] = no_entry was.held (sym was.pending_are ∙ none) in
+        record {
+          groups = was.groups;
+          held = was.held;
+          committed = was.committed;
+          cuts = (cut_before t.alone size was.groups was.held was.cuts, empty);
+          bodies_are = was.bodies_are;
+          out_are = was.out_are;
+          pending_are = idle.0 ∙ sym (ap (λ (l : List (Exchange R)). map reply_of l) empty);
+          events_are = idle.1 ∙ sym (ap (λ (l : List (Exchange R)). events_in l) empty);
+          stands = was.stands;
+          runs = subst (λ (s : S). TurnsOver t was.committed was.held s) (sym state) was.runs;
+          same = ap t.text state ∙ was.same;
+          same_bank = ap t.bank state ∙ was.same_bank;
+          mark = was.mark;
+          in_turn = was.in_turn;
+          calls = idle_calls was.calls;
+          all = λ begins. subst (λ (s : Store D g). AllHoldState t s was.committed) (sym store) (was.all begins);
+          moments = λ begins. let run = was.moments begins in (
+            run.0,
+            subst (λ (s : Store D g). IsRun t g.moment g.image_since start.store.disk s.disk first was.groups (length was.groups) run.0) (sym store) run.1,
+          );
+        }
+      where
+        idle_calls : (old.store.disk ≡ was.mark) ⊎ CallsFor t was.committed was.held → (mid.store.disk ≡ was.mark) ⊎ CallsFor t was.committed was.held
+        idle_calls (inl same) = inl (ap (λ (s : Store D g). s.disk) store ∙ same)
+        idle_calls (inr called) = inr called

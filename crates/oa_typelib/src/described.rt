@@ -6,7 +6,7 @@ use oa_checks::DeclarationKind;
 use oa_idl::Name;
 use oa_model::ValueType;
 use oa_variant::Scalar;
-use std::alloc::{AllocError, AllocFailed};
+use std::alloc::AllocError;
 use std::marker::Model;
 use thiserror::Error;
 
@@ -110,14 +110,6 @@ impl From<AllocError> for DescribeError {
     ghost from_gives = { λ _ e. e ≡ Memory };
 
     fn from(_error: AllocError) -> DescribeError {
-        DescribeError::Memory
-    }
-}
-
-impl<T: Drop> From<AllocFailed<T>> for DescribeError {
-    ghost from_gives = { λ _ e. e ≡ Memory };
-
-    fn from(_error: AllocFailed<T>) -> DescribeError {
         DescribeError::Memory
     }
 }

@@ -84,26 +84,16 @@ fn entered_in(alloc: Global, item: &Item, keys: &[Vec<u16>]) -> Result<Vec<bool>
     }
 }
 
-fn all_entered(
-    alloc: Global,
-    items: &[Item],
-    keys: &[Vec<u16>],
-) -> Result<Vec<Vec<bool>>, AllocError>
-    ensures { IfOk result (λ v. map (λ row. row.items) v.items ≡ map (entered_in (map (λ k. k.items) keys.now)) items.now) }
-{
-    let mut rows = Vec::new(alloc);
-    for item in items {
-        rows.push(entered_in(alloc, item, keys)?)?;
-    }
-    Ok(rows)
-}
-
 /// For each coclass whether its entries name an item, by the item's place.
 fn entered_rows(alloc: Global, items: &[Item]) -> Result<Vec<Vec<bool>>, AllocError>
     ensures { IfOk result (λ v. map (λ row. row.items) v.items ≡ map (entered_in (folded_names items.now)) items.now) }
 {
     let keys = item_keys(alloc, items)?;
-    all_entered(alloc, items, keys.as_slice())
+    let mut rows = Vec::new(alloc);
+    for item in items {
+        rows.push(entered_in(alloc, item, keys.as_slice())?)?;
+    }
+    Ok(rows)
 }
 
 /// What a library keeps of its members and interfaces.

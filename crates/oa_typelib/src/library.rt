@@ -5,7 +5,7 @@ ghost use Rattle.std.specs.Option.{option_and_then, option_map};
 ghost use Rattle.oa_idl.specs.IsTree.{IsTree};
 ghost use Rattle.oa_model.specs.Limits.{max_library_bytes};
 ghost use Rattle.oa_checks.specs.Breaches.{RefusesBreach, first_breach, length_breach, text_breach, tree_breach};
-ghost use Rattle.oa_typelib.specs.Checked.{IsChecked, HasSoundItems};
+ghost use Rattle.oa_typelib.specs.Checked.{IsChecked};
 ghost use Rattle.uuid.specs.Parts.{is_nil_bytes};
 ghost use Rattle.oa_typelib.specs.Contents.{Describes};
 ghost use Rattle.oa_typelib.specs.Descriptions.{description_at, interfaces_of};
@@ -177,13 +177,6 @@ impl Library {
         let _tree = &self.tree;
     }
 
-    // So calls can be bound to each of its properties, each of its coclasses has a default interface, and no entry is left out.
-    fn is_whole(&self)
-        ensures { HasSoundItems self.now }
-    {
-        self.is_checked();
-    }
-
     /// The place of the item with a GUID.
     fn place(&self, guid: &Uuid) -> Option<usize>
         ensures { result ≡ position (λ i. same guid.now (item_guid i)) self.now.items }
@@ -212,7 +205,7 @@ impl Library {
     pub fn interface_at(&self, place: usize) -> Option<Dispinterface<'_>>
         ensures { result ≡ option_and_then as_interface (slice_get self.now.items place) }
     {
-        self.is_whole();
+        self.is_checked();
         let interface = interface_at(self.items(), place)?;
         let members = self.members_at(place)?;
         Some(Dispinterface::of(self.alloc, interface, members))
@@ -289,7 +282,7 @@ impl Library {
         ensures selected { result ≡ selected_in self.now class.now interface.now }
         ensures default { is_nil_bytes interface.now ≡ true → IsSome (class_of self.now class.now) → IsSome result }
     {
-        self.is_whole();
+        self.is_checked();
         if is_zero_guid(interface) {
             return self.default_interface(class);
         }

@@ -3,7 +3,7 @@
 //! Its contract: `serve` writes exactly the replies that its server hands out at the bodies that it read, or a
 //! first part of them where the writer fails (`Session`).
 //!
-//! What stands on it: oa_server, whose sessions are such; oa_value_tests.
+//! What stands on it: oa_server, whose sessions are such; the program, for the digits of a dump.
 #![tactic(auto)]
 
 mod buffer;
@@ -19,4 +19,4 @@ mod writing;
 pub use ends::End;
 pub use framing::{Framing, Read, read_body};
 pub use session::{Responder, Served, serve};
-pub use writing::put_reply;
+pub use writing::{put_hex, put_reply};

@@ -118,8 +118,8 @@ fn length_bytes(head: &[u8], fields: &[u8]) -> [u8; 4]
     ((head.len() + fields.len()) as u32).to_le_bytes()
 }
 
-// Writes bytes as lower-case hexadecimal digits.
-fn put_hex<W: Sink>(writer: &mut W, bytes: &[u8]) -> Result<(), Unwritten>
+/// Writes bytes as lower-case hexadecimal digits, at most 128 of them at a time. Takes no memory.
+pub fn put_hex<W: Sink>(writer: &mut W, bytes: &[u8]) -> Result<(), Unwritten>
     requires unbroken { (W.out writer.old).broken ≡ false }
     ensures { Puts result (W.out writer.old) (W.out writer.new) (encode_lower bytes.now) }
 {

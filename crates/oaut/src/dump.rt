@@ -1,19 +1,17 @@
 //! The objects of a store as lines of text.
-ghost use Rattle.std.specs.Prelude.{◌≡◌, ◌≤◌, false, length, OnOk};
+ghost use Rattle.std.specs.Prelude.{◌≡◌, false, OnOk};
 
 use crate::fault::Fault;
 use crate::store::found;
 use crate::streams::{Streams, write};
+use oa_frame::put_hex;
 use oa_image::{write_key, write_value};
 use oa_store::inspect;
-use oa_stream::{Behind, Outlet, Sink, Unwritten};
+use oa_stream::{Behind, Outlet, Sink};
 use oa_table::{LiveObject, Place, Table};
 use oa_variant::{Scalar, Variant};
 use std::alloc::Global;
 use std::io;
-
-/// How many bytes are turned into digits at a time.
-const PIECE: usize = 32;
 
 /// Writes the objects of a store and their cells on standard output, a line each, or the bytes of its library in their place. Nothing is
 /// written of a file that is refused.
@@ -115,7 +113,7 @@ fn put_key<W: Sink>(key: &[Scalar], image: &mut Vec<u8>, writer: &mut W) -> Resu
     }
     image.clear();
     write_key(key, image)?;
-    put_digits(writer, image)?;
+    put_hex(writer, image)?;
     Ok(())
 }
 
@@ -127,33 +125,7 @@ fn put_value<W: Sink>(value: &Variant, image: &mut Vec<u8>, writer: &mut W) -> R
     image.clear();
     write_value(value, image)?;
     writer.put(b" ")?;
-    put_digits(writer, image)?;
+    put_hex(writer, image)?;
     writer.put(b"\n")?;
     Ok(())
-}
-
-/// Bytes as lower-case hexadecimal digits.
-fn put_digits<W: Sink>(writer: &mut W, bytes: &[u8]) -> Result<(), Unwritten>
-    requires unbroken { (W.out writer.old).broken ≡ false }
-    ensures unbroken { OnOk result ((W.out writer.new).broken ≡ false) }
-{
-    let mut at = 0;
-    'pieces: while at < bytes.len() {
-        let end = at + PIECE.min(bytes.len() - at);
-        put_piece(writer, &bytes[at..end])?;
-        at = end;
-    }
-    Ok(())
-}
-
-/// At most 32 bytes as digits.
-fn put_piece<W: Sink>(writer: &mut W, piece: &[u8]) -> Result<(), Unwritten>
-    requires short { length piece.now ≤ 32 }
-    requires unbroken { (W.out writer.old).broken ≡ false }
-    ensures unbroken { OnOk result ((W.out writer.new).broken ≡ false) }
-{
-    let mut digits = [0u8; 64];
-    let front = &mut digits[..2 * piece.len()];
-    hex::encode_to_slice(piece, front).unwrap();
-    writer.put(front)
 }

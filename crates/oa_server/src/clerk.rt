@@ -14,6 +14,7 @@ use std::alloc::{AllocError, Global};
 /// A library and a table in memory, where the table is kept, and the group in hand.
 #[derive(Drop)]
 pub(crate) struct Clerk<D: Disk> {
+    pub alloc: Global,
     pub host: Host,
     pub storage: Storage<D>,
     /// The group in hand of a session over a store.
@@ -29,6 +30,7 @@ impl<D: Disk> Clerk<D> {
         ensures storage { result.storage ≡ storage }
     {
         Clerk {
+            alloc,
             host,
             storage,
             hand: Hand::none(alloc),
@@ -45,7 +47,12 @@ impl<D: Disk> Clerk<D> {
 }
 
 /// Answers one body.
-pub(crate) fn answer_with<D: Disk>(host: &mut Host, storage: &mut Storage<D>, body: &[u8]) -> Reply
+pub(crate) fn answer_with<D: Disk>(
+    alloc: Global,
+    host: &mut Host,
+    storage: &mut Storage<D>,
+    body: &[u8],
+) -> Reply
     requires banks { bank_of storage.old ≡ host.old.bank }
     ensures answers { AnswersOne storage.old storage.new host.old body.now result host.new }
     ensures memory { InMemory storage.old → Turn host.old body.now result host.new }
@@ -53,12 +60,13 @@ pub(crate) fn answer_with<D: Disk>(host: &mut Host, storage: &mut Storage<D>, bo
 {
     match storage {
         Storage::Memory(_) => host.turn(body),
-        Storage::Disk(store) => answer_over(host, store, body),
+        Storage::Disk(store) => answer_over(alloc, host, store, body),
     }
 }
 
 /// Answers bodies in groups of so many. Err only where memory is refused before anything was done.
 pub(crate) fn run_with<D: Disk>(
+    alloc: Global,
     host: &mut Host,
     storage: &mut Storage<D>,
     bodies: &[Vec<u8>],
@@ -74,6 +82,6 @@ pub(crate) fn run_with<D: Disk>(
 {
     match storage {
         Storage::Memory(_) => host.run(bodies),
-        Storage::Disk(store) => run_over(host, store, bodies, group),
+        Storage::Disk(store) => run_over(alloc, host, store, bodies, group),
     }
 }

@@ -19,10 +19,12 @@ use oa_record::laws::one_request;
 use oa_store::Store;
 use oa_table::Event;
 use oa_turn::{Host, Plan, Planned};
+use std::alloc::Global;
 
 /// One turn over a store. Its event is added to those in hand; before the first of them a checkpoint is made, where one is due. At
 /// `Err` the checkpoint failed.
 pub(crate) fn turn_held<D: Disk>(
+    alloc: Global,
     host: &mut Host,
     store: &mut Store<D>,
     batch: &mut Batch,
@@ -40,12 +42,13 @@ pub(crate) fn turn_held<D: Disk>(
 {
     match host.plan(body) {
         Plan::Answered(reply) => Ok(reply),
-        Plan::Change(planned) => hold(host, store, batch, planned),
+        Plan::Change(planned) => hold(alloc, host, store, batch, planned),
     }
 }
 
 /// Makes a planned change in memory and holds its event, and tells it.
 fn hold<D: Disk>(
+    alloc: Global,
     host: &mut Host,
     store: &mut Store<D>,
     batch: &mut Batch,
@@ -69,9 +72,7 @@ fn hold<D: Disk>(
     let Planned { tag, event, fields } = planned;
     match hold_change(host, store, batch, event) {
         Ok(()) => Ok(Reply::new(tag, HResult::S_OK, None, fields.into_vec())),
-        Err(KeepFault::Memory) => {
-            Ok(Reply::bare(host.allocator(), tag, HResult::E_OUTOFMEMORY, None))
-        }
+        Err(KeepFault::Memory) => Ok(Reply::bare(alloc, tag, HResult::E_OUTOFMEMORY, None)),
         Err(KeepFault::Write) => Err(Broken),
     }
 }

@@ -18,62 +18,52 @@ use oa_model::HResult;
 use oa_record::{Reply, is_replacement, tag_of};
 use oa_store::Store;
 use oa_turn::Host;
-use std::alloc::AllocError;
+use std::alloc::{AllocError, Global};
 
 /// Answers one body: a group of one, whose batch is its own. After a fault of the device the answer is that the store has failed, and
 /// nothing is done.
-pub(crate) fn answer_over<D: Disk>(host: &mut Host, store: &mut Store<D>, body: &[u8]) -> Reply
+pub(crate) fn answer_over<D: Disk>(
+    alloc: Global,
+    host: &mut Host,
+    store: &mut Store<D>,
+    body: &[u8],
+) -> Reply
     requires banks { HasBanks store.old host.old }
     ensures answered { IsAnswered store.old store.new host.old host.new body.now result }
     ensures banks { HasBanks store.new host.new }
 {
     if store.has_stopped() {
-        return Reply::bare(host.allocator(), tag_of(body), HResult::E_FAIL, None);
+        return Reply::bare(alloc, tag_of(body), HResult::E_FAIL, None);
     }
     if is_replacement(body) {
-        return renewed_over(host, store, body);
+        return renewed_over(alloc, host, store, body);
     }
-    let mut batch = Batch::new(host.allocator());
-    let Ok(reply) = turn_held(host, store, &mut batch, body) else {
-        return Reply::bare(
-            host.allocator(),
-            tag_of(body),
-            HResult::STG_E_WRITEFAULT,
-            None,
-        );
+    let mut batch = Batch::new(alloc);
+    let Ok(reply) = turn_held(alloc, host, store, &mut batch, body) else {
+        return Reply::bare(alloc, tag_of(body), HResult::STG_E_WRITEFAULT, None);
     };
     let Ok(()) = commit(store, &mut batch) else {
-        return Reply::bare(
-            host.allocator(),
-            tag_of(body),
-            HResult::STG_E_WRITEFAULT,
-            None,
-        );
+        return Reply::bare(alloc, tag_of(body), HResult::STG_E_WRITEFAULT, None);
     };
     reply
 }
 
 /// Answers one body that asks for another library, which is a group of its own.
-fn renewed_over<D: Disk>(host: &mut Host, store: &mut Store<D>, body: &[u8]) -> Reply
+fn renewed_over<D: Disk>(alloc: Global, host: &mut Host, store: &mut Store<D>, body: &[u8]) -> Reply
     requires goes_on { store.old.stopped ≡ false }
     requires kind { is_replacement body.now ≡ true }
     requires banks { HasBanks store.old host.old }
     ensures renewed { IsRenewed store.old store.new host.old host.new body.now result }
     ensures banks { HasBanks store.new host.new }
 {
-    match renew_over(host, store, body) {
+    match renew_over(alloc, host, store, body) {
         Ok(reply) => reply,
-        Err(_) => Reply::bare(
-            host.allocator(),
-            tag_of(body),
-            HResult::STG_E_WRITEFAULT,
-            None,
-        ),
+        Err(_) => Reply::bare(alloc, tag_of(body), HResult::STG_E_WRITEFAULT, None),
     }
 }
 
 /// Ends the group in hand: its events go out, and its replies may be handed out, or are taken back.
-fn settle<D: Disk>(host: &Host, store: &mut Store<D>, hand: &mut Hand)
+fn settle<D: Disk>(alloc: Global, host: &Host, store: &mut Store<D>, hand: &mut Hand)
     requires goes_on { store.old.stopped ≡ false }
     requires room { HasRoom hand.old.batch store.old }
     requires few { length hand.old.batch + 6 ≤ ample_bytes }
@@ -86,12 +76,13 @@ fn settle<D: Disk>(host: &Host, store: &mut Store<D>, hand: &mut Hand)
     ensures size { hand.new.size ≡ hand.old.size }
 {
     if let Err(_) = commit(store, &mut hand.batch) {
-        withdraw(host.allocator(), &mut hand.replies);
+        withdraw(alloc, &mut hand.replies);
     }
 }
 
 /// Takes one request. Where that ends the group in hand, its replies are to be handed out, those that are in hand then.
 pub(crate) fn take<D: Disk>(
+    alloc: Global,
     host: &mut Host,
     store: &mut Store<D>,
     hand: &mut Hand,
@@ -110,31 +101,26 @@ pub(crate) fn take<D: Disk>(
     ensures size { hand.new.size ≡ hand.old.size }
 {
     if store.has_stopped() {
-        let reply = Reply::bare(host.allocator(), tag_of(body), HResult::E_FAIL, None);
+        let reply = Reply::bare(alloc, tag_of(body), HResult::E_FAIL, None);
         hand.replies.push_reserved(reply);
         return true;
     }
     if is_replacement(body) {
-        take_apart(host, store, hand, body);
+        take_apart(alloc, host, store, hand, body);
         return true;
     }
-    match turn_held(host, store, &mut hand.batch, body) {
+    match turn_held(alloc, host, store, &mut hand.batch, body) {
         Ok(reply) => {
             hand.replies.push_reserved(reply);
             if !hand.is_full() {
                 return false;
             }
-            settle(host, store, hand);
+            settle(alloc, host, store, hand);
             true
         }
         Err(_) => {
-            let reply = Reply::bare(
-                host.allocator(),
-                tag_of(body),
-                HResult::STG_E_WRITEFAULT,
-                None,
-            );
-            withdraw(host.allocator(), &mut hand.replies);
+            let reply = Reply::bare(alloc, tag_of(body), HResult::STG_E_WRITEFAULT, None);
+            withdraw(alloc, &mut hand.replies);
             hand.replies.push_reserved(reply);
             true
         }
@@ -142,20 +128,31 @@ pub(crate) fn take<D: Disk>(
 }
 
 /// The same, behind the end of the group before it, which the device may have failed.
-fn renewed_or_late<D: Disk>(host: &mut Host, store: &mut Store<D>, body: &[u8]) -> Reply
+fn renewed_or_late<D: Disk>(
+    alloc: Global,
+    host: &mut Host,
+    store: &mut Store<D>,
+    body: &[u8],
+) -> Reply
     requires kind { is_replacement body.now ≡ true }
     requires banks { HasBanks store.old host.old }
     ensures renewed { IsRenewedOrLate store.old store.new host.old host.new body.now result }
     ensures banks { HasBanks store.new host.new }
 {
     if !store.has_stopped() {
-        return renewed_over(host, store, body);
+        return renewed_over(alloc, host, store, body);
     }
-    Reply::bare(host.allocator(), tag_of(body), HResult::E_FAIL, None)
+    Reply::bare(alloc, tag_of(body), HResult::E_FAIL, None)
 }
 
 /// Takes a request that is a group of its own: first the group in hand ends. All replies in hand are to be handed out then.
-fn take_apart<D: Disk>(host: &mut Host, store: &mut Store<D>, hand: &mut Hand, body: &[u8])
+fn take_apart<D: Disk>(
+    alloc: Global,
+    host: &mut Host,
+    store: &mut Store<D>,
+    hand: &mut Hand,
+    body: &[u8],
+)
     requires ready { CanTake store.old hand.old }
     requires going { store.old.stopped ≡ false }
     requires kind { is_replacement body.now ≡ true }
@@ -167,14 +164,14 @@ fn take_apart<D: Disk>(host: &mut Host, store: &mut Store<D>, hand: &mut Hand, b
     ensures one { length hand.new.replies.items ≡ length hand.old.replies.items + 1 }
     ensures size { hand.new.size ≡ hand.old.size }
 {
-    finish(host, store, hand);
-    hand.batch = Batch::new(host.allocator());
-    let reply = renewed_or_late(host, store, body);
+    finish(alloc, host, store, hand);
+    hand.batch = Batch::new(alloc);
+    let reply = renewed_or_late(alloc, host, store, body);
     hand.replies.push_reserved(reply);
 }
 
 /// The input has ended: what is in hand is a group, whose replies are to be handed out.
-pub(crate) fn finish<D: Disk>(host: &Host, store: &mut Store<D>, hand: &mut Hand)
+pub(crate) fn finish<D: Disk>(alloc: Global, host: &Host, store: &mut Store<D>, hand: &mut Hand)
     requires ready { CanTake store.old hand.old }
     ensures ended { IsEnded requests hand.new.replies.items (desk_of store.old host.now hand.old)
         (cleared_desk store.new host.now hand.new) }
@@ -186,11 +183,12 @@ pub(crate) fn finish<D: Disk>(host: &Host, store: &mut Store<D>, hand: &mut Hand
     if hand.replies.is_empty() {
         return;
     }
-    settle(host, store, hand);
+    settle(alloc, host, store, hand);
 }
 
 /// Takes one request, and hands the replies of a group that has ended out.
 fn take_on<D: Disk>(
+    alloc: Global,
     host: &mut Host,
     store: &mut Store<D>,
     hand: &mut Hand,
@@ -208,20 +206,26 @@ fn take_on<D: Disk>(
     ensures places { vec_capacity out.old ≤ vec_capacity out.new }
     ensures size { hand.new.size ≡ hand.old.size }
 {
-    if take(host, store, hand, body) {
+    if take(alloc, host, store, hand, body) {
         hand_out(&mut hand.replies, out);
     }
 }
 
 /// The input has ended: the replies in hand are handed out too.
-fn finish_on<D: Disk>(host: &Host, store: &mut Store<D>, hand: &mut Hand, out: &mut Vec<Reply>)
+fn finish_on<D: Disk>(
+    alloc: Global,
+    host: &Host,
+    store: &mut Store<D>,
+    hand: &mut Hand,
+    out: &mut Vec<Reply>,
+)
     requires ready { CanTake store.old hand.old }
     requires places { length out.old.items + length hand.old.replies.items ≤ vec_capacity out.old }
     ensures ended { HandsOut (λ told. IsEnded requests told (desk_of store.old host.now hand.old) (desk_of store.new host.now hand.new))
         out.old.items out.new.items }
     ensures shape { store.new.bank.shape ≡ store.old.bank.shape }
 {
-    finish(host, store, hand);
+    finish(alloc, host, store, hand);
     hand_out(&mut hand.replies, out);
 }
 
@@ -238,6 +242,7 @@ fn hand_out(replies: &mut Vec<Reply>, out: &mut Vec<Reply>)
 
 /// Answers bodies in groups of so many. Err only where memory is refused before anything was done.
 pub(crate) fn run_over<D: Disk>(
+    alloc: Global,
     host: &mut Host,
     store: &mut Store<D>,
     bodies: &[Vec<u8>],
@@ -252,12 +257,11 @@ pub(crate) fn run_over<D: Disk>(
     ensures err { OnErr result ((store.new ≡ store.old) × (host.new ≡ host.old)) }
     ensures banks { HasBanks store.new host.new }
 {
-    let alloc = host.allocator();
     let mut out = Vec::with_capacity(alloc, bodies.len())?;
     let mut hand = Hand::new(alloc, group)?;
     'bodies: for body in bodies {
-        take_on(host, store, &mut hand, body, &mut out);
+        take_on(alloc, host, store, &mut hand, body, &mut out);
     }
-    finish_on(host, store, &mut hand, &mut out);
+    finish_on(alloc, host, store, &mut hand, &mut out);
     Ok(out)
 }

@@ -17,11 +17,13 @@ use oa_model::HResult;
 use oa_record::{Reply, tag_of};
 use oa_store::{CheckpointFault, Store};
 use oa_turn::{Host, Renewal};
+use std::alloc::Global;
 
 /// The turn of a body of opcode 12 over a store, with nothing in hand: a group of its own. The store goes on in its other bank with the other
 /// library; where the body is refused, the device is not called. At `Err` the device has failed, and the turn is in doubt: the state is
 /// the one after it.
 pub(crate) fn renew_over<D: Disk>(
+    alloc: Global,
     host: &mut Host,
     store: &mut Store<D>,
     body: &[u8],
@@ -49,7 +51,7 @@ pub(crate) fn renew_over<D: Disk>(
     match store.checkpoint_with(text_of(&library), host.table()) {
         Ok(()) => {
             host.replace_library(library);
-            Ok(Reply::bare(host.allocator(), tag_of(body), HResult::S_OK, None))
+            Ok(Reply::bare(alloc, tag_of(body), HResult::S_OK, None))
         }
         Err(CheckpointFault::Device(_)) => {
             host.replace_library(library);

@@ -79,7 +79,12 @@ impl<D: Disk> Server<D> {
         ensures answers { AnswersOne self.old.clerk.storage self.new.clerk.storage self.old.clerk.host body.now result self.new.clerk.host }
         ensures memory { InMemory self.old.clerk.storage → Turn self.old.clerk.host body.now result self.new.clerk.host }
     {
-        answer_with(&mut self.clerk.host, &mut self.clerk.storage, body)
+        answer_with(
+            self.clerk.alloc,
+            &mut self.clerk.host,
+            &mut self.clerk.storage,
+            body,
+        )
     }
 
     /// Answers bodies in turn. `group` is from 1 to 1,024: the changes of so many requests are committed together, and their replies stand
@@ -93,11 +98,12 @@ impl<D: Disk> Server<D> {
             → IfOk result (λ replies. Run self.old.clerk.host (map (λ b. b.items) bodies.now) replies.items self.new.clerk.host) }
         ensures err { OnErr result ((self.new.clerk.storage ≡ self.old.clerk.storage) × (self.new.clerk.host ≡ self.old.clerk.host)) }
     {
-        run_with(&mut self.clerk.host, &mut self.clerk.storage, bodies, group)
-    }
-
-    /// The allocator that the server was made with.
-    pub(crate) fn allocator(&self) -> Global {
-        self.clerk.host.allocator()
+        run_with(
+            self.clerk.alloc,
+            &mut self.clerk.host,
+            &mut self.clerk.storage,
+            bodies,
+            group,
+        )
     }
 }

@@ -53,7 +53,7 @@ impl<D: Disk> Responder for Clerk<D> {
                 put_reply(framing, writer, &reply.head(), reply.body())
             }
             Storage::Disk(store) => {
-                if !take(&mut self.host, store, &mut self.hand, body) {
+                if !take(self.alloc, &mut self.host, store, &mut self.hand, body) {
                     return Ok(());
                 }
                 put_held(framing, writer, &mut self.hand.replies)
@@ -65,7 +65,7 @@ impl<D: Disk> Responder for Clerk<D> {
         match &mut self.storage {
             Storage::Memory(_) => Ok(()),
             Storage::Disk(store) => {
-                finish(&self.host, store, &mut self.hand);
+                finish(self.alloc, &self.host, store, &mut self.hand);
                 put_held(framing, writer, &mut self.hand.replies)
             }
         }
@@ -75,7 +75,7 @@ impl<D: Disk> Responder for Clerk<D> {
         match &mut self.storage {
             Storage::Memory(_) => {}
             Storage::Disk(store) => {
-                finish(&self.host, store, &mut self.hand);
+                finish(self.alloc, &self.host, store, &mut self.hand);
                 self.hand.replies.clear();
             }
         }
@@ -181,7 +181,7 @@ fn session_with<D: Disk, R: Source + Drop, W: Sink>(
     ensures output { OnErr result (W.out writer.new ≡ W.out writer.old) }
     ensures state { OnErr result (clerk.new ≡ clerk.old) }
 {
-    let alloc = clerk.host.allocator();
+    let alloc = clerk.alloc;
     let mut line = Vec::with_capacity(alloc, MAX_LINE_CHARACTERS as usize + 1)?;
     let mut body = Vec::with_capacity(alloc, MAX_REQUEST_BYTES as usize)?;
     let hand = Hand::new(alloc, group)?;

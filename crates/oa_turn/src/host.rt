@@ -219,11 +219,6 @@ impl Host {
         self.library = library;
     }
 
-    /// The allocator that the host was made with.
-    pub fn allocator(&self) -> Global {
-        self.alloc
-    }
-
     /// What becomes of a request. Only reads.
     fn decide(&self, request: Request) -> Result<Decision, Undecided>
         ensures decided { Decides (decided self.now request) (may_want_memory self.now request) result }

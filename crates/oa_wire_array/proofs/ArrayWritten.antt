@@ -6,8 +6,8 @@ use Rattle.std.proofs.Common.{inl, inr}
 use Rattle.std.proofs.lemmas.List.Elements.{All-head, All-tail}
 use Rattle.oa_ndr.specs.Forms.{referent, each, pairwise, made}
 use Rattle.oa_ndr.specs.Writing.{put_all, put_unit}
-use Rattle.oa_ndr.proofs.Laws.{Writes, then_writes, with_writes, unit_writes, ignored_writes, nothing_writes, given_writes, referent_writes}
-use Rattle.oa_ndr.proofs.Laws.{each_writes}
+use Rattle.oa_ndr.proofs.WritingLaws.{Writes, then_writes, with_writes, unit_writes, ignored_writes, nothing_writes, given_writes, referent_writes}
+use Rattle.oa_ndr.proofs.WritingLaws.{each_writes}
 use Rattle.oa_model.specs.Types.{vt_of, sf_type_of, element_size_of}
 use Rattle.oa_model.specs.declared.bound.Bound.{Bound}
 use Rattle.oa_model.specs.declared.var_type.VarType.{VarType}

@@ -5,8 +5,8 @@ use Rattle.std.specs.Prelude.{FitsSigned}
 use Rattle.std.specs.Int.{w8, w16, w32, w64, cast_unsigned}
 use mir.Facts.{Fits-of_z, to_z-of_z}
 use Rattle.oa_ndr.specs.Writing.{put_unit}
-use Rattle.oa_ndr.proofs.Laws.{Writes, then_writes, with_writes, unit_writes, ignored_writes, align_writes, any_writes, bytes_writes}
-use Rattle.oa_ndr.proofs.Laws.{nothing_writes, given_writes, referent_writes}
+use Rattle.oa_ndr.proofs.WritingLaws.{Writes, then_writes, with_writes, unit_writes, ignored_writes, align_writes, any_writes, bytes_writes}
+use Rattle.oa_ndr.proofs.WritingLaws.{nothing_writes, given_writes, referent_writes}
 use Rattle.oa_model.specs.Types.{vt_of}
 use Rattle.oa_model.specs.declared.var_type.VarType.{VarType}
 use Rattle.oa_model.specs.declared.var_type.VarType.TheVariants as types

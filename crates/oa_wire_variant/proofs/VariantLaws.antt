@@ -5,8 +5,9 @@ use Rattle.std.proofs.lemmas.Bool.{eqb-true, eq-eqb, ltb-true, ltb-false, and_pa
 use Rattle.oa_ndr.specs.Forms.{unit, referent}
 use Rattle.oa_ndr.specs.Reading.{Cursor, at}
 use Rattle.oa_ndr.proofs.Laws.{Reads, Always, made_reads, fail_reads, choose_reads, unit_reads, referent_reads, bind_reads, with_reads}
-use Rattle.oa_ndr.proofs.Laws.{ignored_then, align_then, same_values, Writes, then_writes, with_writes, unit_writes, ignored_writes}
-use Rattle.oa_ndr.proofs.Laws.{align_writes, given_writes, referent_writes}
+use Rattle.oa_ndr.proofs.Laws.{ignored_then, align_then, same_values}
+use Rattle.oa_ndr.proofs.WritingLaws.{Writes, then_writes, with_writes, unit_writes, ignored_writes}
+use Rattle.oa_ndr.proofs.WritingLaws.{align_writes, given_writes, referent_writes}
 use Rattle.oa_model.specs.Types.{vt_of, type_at, sf_type_of}
 use Rattle.oa_model.specs.declared.var_type.VarType.{VarType}
 use Rattle.oa_array.specs.Arrays.{ArrayValue}

@@ -1,4 +1,4 @@
-use Rattle.oa_ndr.proofs.Laws.{canon_is}
+use Rattle.oa_ndr.proofs.WritingLaws.{canon_is}
 use Rattle.oa_variant.specs.Variants.{unlocked}
 use Rattle.oa_wire_variant.specs.Variants.{variant}
 use Rattle.oa_wire_variant.specs.Canon.{put_variant}

@@ -21,7 +21,8 @@ use Rattle.oa_idl.specs.Limits.{KeepsLimit}
 use Rattle.oa_idl.specs.TextLimits.{limit_of}
 use Rattle.oa_idl.specs.Parsed.{IsParsed}
 use Rattle.oa_idl.specs.IsTree.{MayBeText, IsTree, place_after, Refused, AnyTree, BrokenAt, BreaksLimit, AnswersText, AnswersTree}
-use Rattle.oa_idl.proofs.Parses.{clash, begins_itself}
+use Rattle.oa_idl.proofs.ChoiceParses.{clash}
+use Rattle.oa_idl.proofs.FurtherParses.{begins_itself}
 use Rattle.oa_idl.proofs.OneList.{one_list}
 use Rattle.oa_idl.proofs.Whole.{library_parses}
 use Rattle.oa_idl.proofs.Bounds.{tree_keeps, tree_kept}

@@ -7,8 +7,11 @@ use Rattle.oa_idl.specs.Reading.{ReadStep, Reading, and_then, bind, give, gather
 use Rattle.oa_idl.specs.Reading.ReadStep.{Got, Stuck}
 use Rattle.oa_idl.specs.Grammar.{sign, next_attribute, last_attribute, attributes}
 use Rattle.oa_idl.specs.GrammarReading.{grown_at, next_at, next_grown_at, last_at, attributes_at}
-use Rattle.oa_idl.proofs.Parses.{Parses, Always, NoLimit, enough, said_parses, alike_parses, require_parses, with_parses, skip_parses}
-use Rattle.oa_idl.proofs.Parses.{demand_parses, then_map, this_heads}
+use Rattle.oa_idl.proofs.Parses.{Parses, Always, NoLimit}
+use Rattle.oa_idl.proofs.PartParses.{enough, said_parses, with_parses, skip_parses}
+use Rattle.oa_idl.proofs.FurtherParses.{alike_parses, require_parses}
+use Rattle.oa_idl.proofs.ChoiceParses.{this_heads}
+use Rattle.oa_idl.proofs.FurtherParses.{demand_parses, then_map}
 use Rattle.oa_idl.proofs.Lists.{gather_parses}
 use Rattle.oa_idl.proofs.Heads.{sign_heads, this_some}
 

@@ -13,7 +13,8 @@ use Rattle.oa_idl.specs.Forms.{Word, Then, this, one}
 use Rattle.oa_idl.specs.Words.{same_kind, kind_of, passes, is_text, id_of, word_type, plain_type, if_cell, amount_of, characters_of}
 use Rattle.oa_idl.specs.Reading.{heads}
 use Rattle.oa_idl.specs.Grammar.{sign}
-use Rattle.oa_idl.proofs.Parses.{clash, test_cases, then_heads, this_heads}
+use Rattle.oa_idl.proofs.Parses.{test_cases}
+use Rattle.oa_idl.proofs.ChoiceParses.{clash, then_heads, this_heads}
 
 differ : (a b : List ℕ) (w : Word) → passes a w ≡ true → passes b w ≡ true → bytes_eq b a ≡ true
 unfolding passes

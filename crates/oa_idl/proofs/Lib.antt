@@ -16,6 +16,9 @@ mod OneList
 mod NameLimits
 mod ParameterTexts
 mod Parses
+mod FurtherParses
+mod ChoiceParses
+mod PartParses
 mod PrintedMembers
 mod PrintedParts
 mod PrintedTokens

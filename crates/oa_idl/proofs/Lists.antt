@@ -10,8 +10,13 @@ use Rattle.oa_idl.specs.Forms.{Word, ◌▸◌, given, this, optional, with, lis
 use Rattle.oa_idl.specs.Reading.{ReadStep, Reading, and_then, bind, give, fail, heads, done, choose, later_words, perhaps_at, until, list_at}
 use Rattle.oa_idl.specs.Reading.{gather, gather_at}
 use Rattle.oa_idl.specs.Reading.ReadStep.{Got, Stuck}
-use Rattle.oa_idl.proofs.Parses.{Parses, Always, NoLimit, clash, enough, stuck_at, syntax_stops, said_parses, alike_parses, with_parses}
-use Rattle.oa_idl.proofs.Parses.{given_parses, choose_parses, perhaps_parses, this_parses, then_heads, this_heads, add_fact, less_fact}
+use Rattle.oa_idl.proofs.Parses.{Parses, Always, NoLimit, stuck_at, syntax_stops}
+use Rattle.oa_idl.proofs.PartParses.{enough, said_parses, with_parses}
+use Rattle.oa_idl.proofs.ChoiceParses.{clash}
+use Rattle.oa_idl.proofs.FurtherParses.{alike_parses}
+use Rattle.oa_idl.proofs.Parses.{this_parses}
+use Rattle.oa_idl.proofs.ChoiceParses.{given_parses, choose_parses, perhaps_parses, then_heads, this_heads}
+use Rattle.oa_idl.proofs.FurtherParses.{add_fact, less_fact}
 
 -- each item keeps a limit, by what came before it, and the end does
 abbrev pub KeepsFrom : {S A B : Type 0} → (S → A → S) → (S → A → Type 0) → (S → B → Type 0) → S → List A → B → Type 0

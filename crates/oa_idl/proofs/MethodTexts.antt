@@ -25,8 +25,14 @@ use Rattle.oa_idl.specs.Grammar.MethodAttribute.{MethodId, Propget, Propput, Met
 use Rattle.oa_idl.specs.GrammarReading.{closing_at, numbered_at, method_attribute_at, method_full, method_head_at, result_type_at}
 use Rattle.oa_idl.specs.GrammarReading.{method_body_at, method_at, methods_at, ends_properties}
 use Rattle.oa_idl.proofs.NameLimits.{over_named}
-use Rattle.oa_idl.proofs.Parses.{Parses, Always, NoLimit, clash, said_parses, fact_parses, require_parses, part_parses, skip_parses}
-use Rattle.oa_idl.proofs.Parses.{give_parses, one_parses, choose_parses, this_parses, end_parses, end_part_parses, then_heads, this_heads}
+use Rattle.oa_idl.proofs.Parses.{Parses, Always, NoLimit}
+use Rattle.oa_idl.proofs.PartParses.{said_parses, part_parses, skip_parses}
+use Rattle.oa_idl.proofs.ChoiceParses.{clash}
+use Rattle.oa_idl.proofs.FurtherParses.{fact_parses, require_parses}
+use Rattle.oa_idl.proofs.Parses.{this_parses}
+use Rattle.oa_idl.proofs.PartParses.{give_parses, one_parses}
+use Rattle.oa_idl.proofs.ChoiceParses.{choose_parses, then_heads, this_heads}
+use Rattle.oa_idl.proofs.FurtherParses.{end_parses, end_part_parses}
 use Rattle.oa_idl.proofs.Choices.{tagged_parses, free_branch_parses, first_heads}
 use Rattle.oa_idl.proofs.Lists.{KeepsFrom, both, list_parses}
 use Rattle.oa_idl.proofs.Heads.{other_sign, sign_heads, one_sign_heads, same_heads, this_some, void_no_type}

@@ -21,8 +21,14 @@ use Rattle.oa_idl.specs.Grammar.ParameterAttribute.{IsIn, IsOptional, HasDefault
 use Rattle.oa_idl.specs.GrammarReading.{amount_at, literal_at, default_at, parameter_attribute_at, parameter_full, parameter_head_at}
 use Rattle.oa_idl.specs.GrammarReading.{typed_at, parameter_at, separated_at, parameters_at}
 use Rattle.oa_idl.proofs.NameLimits.{over_named}
-use Rattle.oa_idl.proofs.Parses.{Parses, Always, NoLimit, clash, said_parses, fact_parses, require_parses, part_parses, skip_parses}
-use Rattle.oa_idl.proofs.Parses.{give_parses, one_parses, sure_parses, choose_parses, this_parses, end_parses, then_heads, this_heads}
+use Rattle.oa_idl.proofs.Parses.{Parses, Always, NoLimit}
+use Rattle.oa_idl.proofs.PartParses.{said_parses, part_parses, skip_parses}
+use Rattle.oa_idl.proofs.ChoiceParses.{clash}
+use Rattle.oa_idl.proofs.FurtherParses.{fact_parses, require_parses}
+use Rattle.oa_idl.proofs.Parses.{this_parses}
+use Rattle.oa_idl.proofs.PartParses.{give_parses, one_parses}
+use Rattle.oa_idl.proofs.ChoiceParses.{choose_parses, then_heads, this_heads}
+use Rattle.oa_idl.proofs.FurtherParses.{sure_parses, end_parses}
 use Rattle.oa_idl.proofs.Choices.{tagged_parses, free_branch_parses, first_heads}
 use Rattle.oa_idl.proofs.Lists.{KeepsFrom, list_parses}
 use Rattle.oa_idl.proofs.Heads.{other_sign, sign_heads, one_sign_heads, same_heads, one_heads, this_some, open_no_type, right_no_type}

@@ -25,8 +25,14 @@ use Rattle.oa_idl.specs.GrammarReading.{sign_at, help_at, minor_at, uuid_at, ver
 use Rattle.oa_idl.specs.GrammarReading.{type_word_at, value_type_at, signed_at, id_at, property_attribute_at, property_full}
 use Rattle.oa_idl.specs.GrammarReading.{property_head_at, property_at}
 use Rattle.oa_idl.proofs.NameLimits.{over_named}
-use Rattle.oa_idl.proofs.Parses.{Parses, Always, NoLimit, clash, fact_parses, require_parses, part_parses, skip_parses, give_parses}
-use Rattle.oa_idl.proofs.Parses.{one_parses, sure_parses, choose_parses, this_parses, end_parses, end_part_parses, this_heads}
+use Rattle.oa_idl.proofs.Parses.{Parses, Always, NoLimit}
+use Rattle.oa_idl.proofs.PartParses.{part_parses, skip_parses, give_parses}
+use Rattle.oa_idl.proofs.ChoiceParses.{clash}
+use Rattle.oa_idl.proofs.FurtherParses.{fact_parses, require_parses}
+use Rattle.oa_idl.proofs.Parses.{this_parses}
+use Rattle.oa_idl.proofs.PartParses.{one_parses}
+use Rattle.oa_idl.proofs.ChoiceParses.{choose_parses, this_heads}
+use Rattle.oa_idl.proofs.FurtherParses.{sure_parses, end_parses, end_part_parses}
 use Rattle.oa_idl.proofs.Heads.{sign_heads, one_sign_heads, same_heads, one_heads, this_some, id_no_minus, type_no_sign, unsigned_no_type}
 use Rattle.oa_idl.proofs.Heads.{array_no_type}
 use Rattle.oa_idl.proofs.AttributeLists.{attributes_parses}

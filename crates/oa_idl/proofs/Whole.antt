@@ -27,9 +27,16 @@ use Rattle.oa_idl.specs.GrammarReading.{property_at, closing_at, methods_at, end
 use Rattle.oa_idl.specs.GrammarReading.{last_entry_at, entries_at, coclass_at, item_at, import_at, element_at, elements_within, elements_at}
 use Rattle.oa_idl.specs.GrammarReading.{library_at}
 use Rattle.oa_idl.proofs.NameLimits.{over_named, long_named}
-use Rattle.oa_idl.proofs.Parses.{Parses, Always, NoLimit, clash, enough, said_parses, alike_parses, given_parses, fact_parses}
-use Rattle.oa_idl.proofs.Parses.{require_parses, part_parses, with_parses, skip_parses, give_parses, one_parses, choose_parses}
-use Rattle.oa_idl.proofs.Parses.{perhaps_parses, this_parses, end_part_parses, then_heads, this_heads}
+use Rattle.oa_idl.proofs.Parses.{Parses, Always, NoLimit}
+use Rattle.oa_idl.proofs.PartParses.{enough, said_parses}
+use Rattle.oa_idl.proofs.ChoiceParses.{clash, given_parses}
+use Rattle.oa_idl.proofs.FurtherParses.{alike_parses, fact_parses}
+use Rattle.oa_idl.proofs.PartParses.{part_parses, with_parses, skip_parses, give_parses, one_parses}
+use Rattle.oa_idl.proofs.ChoiceParses.{choose_parses}
+use Rattle.oa_idl.proofs.FurtherParses.{require_parses}
+use Rattle.oa_idl.proofs.Parses.{this_parses}
+use Rattle.oa_idl.proofs.ChoiceParses.{perhaps_parses, then_heads, this_heads}
+use Rattle.oa_idl.proofs.FurtherParses.{end_part_parses}
 use Rattle.oa_idl.proofs.Lists.{KeepsFrom, both, list_parses}
 use Rattle.oa_idl.proofs.Heads.{other_sign, one_sign_heads, sign_heads, same_heads, this_some}
 use Rattle.oa_idl.proofs.Choices.{tagged_parses, branch_parses, first_heads}

@@ -70,10 +70,14 @@ fn between(text: &[u8], start: usize, end: usize) -> &[u8]
 fn digit_of(byte: u8) -> u8
     ensures { result ≡ digit_of byte }
 {
-    if byte <= 57 {
-        return byte.saturating_sub(48);
+    if byte <= b'9' {
+        return byte.saturating_sub(b'0');
     }
-    if 97 <= byte { byte - 87 } else { byte - 55 }
+    if b'a' <= byte {
+        byte - (b'a' - 10)
+    } else {
+        byte - (b'A' - 10)
+    }
 }
 
 /// The number that digits stand for, if it is below 2^96.

@@ -2,9 +2,10 @@
 use Rattle.std.proofs.lemmas.List.{append-nil}
 use Rattle.std.specs.List.{AllByRecursion, flat_map}
 use Rattle.std.proofs.Common.{◌≡◌, ◌⊎◌, ℕ, ◌+◌, List, [], ◌∷◌, length, Result, Ok, refl, sym, ◌∙◌, ap, inl, inr, ⊎_elim, arith}
-use Rattle.std.proofs.Common.{length-append, subst, IfOk}
+use Rattle.std.proofs.Common.{length-append, subst, IfOk, IsTrue}
 use Rattle.oa_disk.specs.Disk.{LeavesOnly}
 use Rattle.oa_disk.specs.Moments.{started}
+use Rattle.oa_disk.specs.declared.disk.Disk.{Ghosts}
 use Rattle.oa_image.specs.Events.{event, event_image}
 use Rattle.oa_image.proofs.Lengths.{event_bytes}
 use Rattle.oa_image.proofs.Unlocked.{brings_none}
@@ -12,11 +13,13 @@ use Rattle.oa_journal.specs.Replays.{Replays, applied_all}
 use Rattle.oa_journal.specs.declared.shape.Shape.{Shape}
 use Rattle.oa_store.specs.Changes.{IsCommit, IsCommitted}
 use Rattle.oa_store.specs.Stores.{IsStoreAt, IsStoreIn}
+use Rattle.oa_store.specs.declared.store.Store.{Store}
 use Rattle.oa_table.proofs.Unlocked.{event_follows}
 use Rattle.oa_table.specs.Events.{applied}
 use Rattle.oa_table.specs.Tables.{TableValue, unlocked_table}
 use Rattle.oa_table.specs.declared.event.Event.{Event}
 use Rattle.oa_table.specs.declared.fault.TableFault.{TableFault}
+use Rattle.oa_keeper.specs.Holding.{Carries}
 use Rattle.oa_keeper.specs.Kept.{EachIs}
 
 module _ (library : List ℕ) (before after : TableValue) (shape : Shape) (chosen gate : ℕ) (group : List ℕ) (image : List ℕ → Type 0) (makes : Replays group before after) (each : EachIs image shape chosen gate library before) where
@@ -32,6 +35,14 @@ module _ (library : List ℕ) (before after : TableValue) (shape : Shape) (chose
 pub nothing_called : {D : Type 0} (moment : D → ℕ) (image_since : D → ℕ → List ℕ → Type 0) (disk : D) (image : List ℕ → Type 0) (shape : Shape) (chosen gate : ℕ) (library : List ℕ) (held : TableValue)
     → ((c : List ℕ) → image_since disk (moment disk) c → image c) → EachIs image shape chosen gate library held → LeavesOnly moment image_since disk disk (λ c. IsStoreIn shape c library held)
 nothing_called moment image_since disk image shape chosen gate library held only each = started moment image_since disk (λ c. IsStoreIn shape c library held) (λ c left. (chosen, gate, each c (only c left)))
+
+-- so what was committed stands
+pub still_carried : {D : Type 0} {g : Ghosts D} (only : (d : D) (c : List ℕ) → IsTrue (g.is_honest d) → g.image_since d (g.moment d) c → g.image d c) (batch : List ℕ) (held : TableValue) (store : Store D g) → Carries batch held store store
+still_carried {D} {g} only batch held store = record {
+  any_moment = λ committed first all. nothing_called g.moment g.image_since store.disk (g.image store.disk) store.bank.shape store.chosen store.bank.gate store.library.items committed (λ c left. only store.disk c all.0 left) all.1;
+  each = λ going committed first all. all;
+  library = refl;
+}
 
 -- no bytes make no change
 pub no_change : (group : List ℕ) (before after : TableValue) → length group ≡ 0 → Replays group before after → before ≡ after

@@ -1,5 +1,5 @@
 use Rattle.std.proofs.Common.{ap, rules, sym, ◌∙◌}
-use Rattle.oa_keeper.proofs.Committed.{nothing_called}
+use Rattle.oa_keeper.proofs.Committed.{still_carried}
 use Rattle.oa_turn.specs.Events.{held_of}
 use Rattle.oa_turn.proofs.SameLibrary.{ordinary_bank}
 use Rattle.oa_server.proofs.Held.{answered, carried}
@@ -9,19 +9,14 @@ pub returns-in-Answered-clause-turn : goal.returns-in-Answered-clause-turn
 returns-in-Answered-clause-turn g c = answered c.args.body.now c.in-Answered.reply c.args.batch.now c.args.host.now c.plan.new.self c.requires.plain c.in-Answered.ensures.plans.0 c.in-Answered.ensures.plans.1 c.in-Answered.ensures.quiet
 
 pub returns-in-Answered-clause-holds : goal.returns-in-Answered-clause-holds
-returns-in-Answered-clause-holds g c =
-    let store = c.args.store.now in record {
-      carries = record {
-        any_moment = λ committed first each. nothing_called g.D.Disk.moment g.D.Disk.image_since store.disk (g.D.Disk.image store.disk) store.bank.shape store.chosen store.bank.gate store.library.items committed (λ f left. g.met.D.Disk.only_now store.disk f each.0 left) each.1;
-        each = search rules;
-        library = search rules;
-      };
-      undue = search rules;
-      room = search rules;
-      going = search rules;
-      stops = search rules;
-      goes = search rules;
-    }
+returns-in-Answered-clause-holds g c = record {
+  carries = still_carried {g = g.D.Disk} (λ d f honest since. g.met.D.Disk.only_now d f honest since) c.args.batch.now _ c.args.store.now;
+  undue = search rules;
+  room = search rules;
+  going = search rules;
+  stops = search rules;
+  goes = search rules;
+}
 
 pub returns-in-Change-clause-holds : goal.returns-in-Change-clause-holds
 returns-in-Change-clause-holds g c =

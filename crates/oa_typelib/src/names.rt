@@ -1,6 +1,5 @@
 //! DISPIDs by names.
-ghost use Rattle.std.specs.Prelude.{◌≡◌, ◌++◌, IfOk, OnOk, is_some, map, position, None, Some};
-ghost use Rattle.std.specs.List.{list_all};
+ghost use Rattle.std.specs.Prelude.{◌≡◌, ◌++◌, IfOk, OnOk, map, position, None, Some};
 ghost use Rattle.oa_model.specs.Folding.{folded, folded_name};
 ghost use Rattle.oa_checks.specs.Libraries.{same_name};
 ghost use Rattle.oa_typelib.specs.Names.{ids_in, named_in, or_unknown, parameter_named, place_as_id, told};
@@ -147,24 +146,18 @@ fn or_unknown(id: Option<i32>) -> i32
     id.unwrap_or(UNKNOWN_DISPID)
 }
 
-fn all_or_unknown(alloc: Global, ids: &[Option<i32>]) -> Result<Vec<i32>, AllocError>
-    ensures { IfOk result (λ v. v.items ≡ map or_unknown ids.now) }
-{
-    ids.iter().map(|id| or_unknown(*id)).collect(alloc)
-}
-
-fn are_known(ids: &[Option<i32>]) -> bool
-    ensures { result ≡ list_all is_some ids.now }
-{
-    ids.iter().all(|id| id.is_some())
-}
-
 /// The answer by the DISPIDs that are known.
 pub(crate) fn told(alloc: Global, ids: &[Option<i32>]) -> Result<DispIds, AllocError>
     ensures { IfOk result (λ d. d ≡ told ids.now) }
 {
+    let mut answered = Vec::with_capacity(alloc, ids.len())?;
+    let mut all_known = true;
+    'ids: for id in ids {
+        answered.push(or_unknown(*id))?;
+        all_known = all_known & id.is_some();
+    }
     Ok(DispIds {
-        ids: all_or_unknown(alloc, ids)?,
-        all_known: are_known(ids),
+        ids: answered,
+        all_known,
     })
 }

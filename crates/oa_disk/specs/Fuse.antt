@@ -1,5 +1,5 @@
 -- What a FuseDisk shows.
-use Rattle.std.specs.Prelude.{◌≡◌, ℕ, ◌+◌, ◌-◌, ◌^◌, ◌<◌, min, Result, IsErr}
+use Rattle.std.specs.Prelude.{◌≡◌, ℕ, ◌+◌, ◌-◌, ◌^◌, ◌<◌, Bool, min, Result, IsErr}
 use Rattle.oa_disk.specs.declared.fuse.FuseDisk.{FuseDisk}
 
 -- the disk that it passes calls on to
@@ -25,3 +25,8 @@ pub record SpendsFuse {D E : Type 0} (old new : FuseDisk D) (result : Result (Un
   pub passed : 0 < old.calls_left → new.refused ≡ old.refused
   pub blown : old.calls_left ≡ 0 → IsErr result
   pub kept : old.calls_left ≡ 0 → new.disk ≡ old.disk
+
+-- A write or a sync changes neither the size of a disk nor whether it is honest.
+pub record KeepsKind {D : Type 0} (size_of : D → ℕ) (is_honest : D → Bool) (old new : D) : Type 0 where
+  pub size : size_of new ≡ size_of old
+  pub honest : is_honest new ≡ is_honest old

@@ -67,7 +67,7 @@ impl<D: Disk> FuseDisk<D> {
 /// and the call fails, and each call takes one of those that are left. A call that is passed on is made once: the time of the
 /// disk within goes on by two moments at most.
 impl<D: Disk> Disk for FuseDisk<D> {
-    ghost use Rattle.oa_disk.specs.Fuse.{SpendsFuse};
+    ghost use Rattle.oa_disk.specs.Fuse.{KeepsKind, SpendsFuse};
 
     ghost size_of = { λ f. D.size_of f.disk };
 
@@ -130,8 +130,7 @@ impl<D: Disk> Disk for FuseDisk<D> {
         ensures any_bytes { OnOk result (IsTrue (D.is_honest self.old.disk)
             → Reaches (Torn at (length bytes.now)) (D.image self.old.disk) (D.image self.new.disk)) }
         ensures time { IsTrue (D.is_honest self.old.disk) → TakesTime D.moment D.image_since D.image self.old.disk self.new.disk }
-        ensures size { D.size_of self.new.disk ≡ D.size_of self.old.disk }
-        ensures honest { D.is_honest self.new.disk ≡ D.is_honest self.old.disk }
+        ensures same { KeepsKind D.size_of D.is_honest self.old.disk self.new.disk }
         ensures fails { FailsAs DeviceFault.Write (failures_with D.failures_of self.old) (failures_with D.failures_of self.new) result }
     {
         spend(&mut self.calls_left, &mut self.refused, DeviceFault::Write)?;
@@ -146,8 +145,7 @@ impl<D: Disk> Disk for FuseDisk<D> {
         ensures stay { OnErr result (IsTrue (D.is_honest self.old.disk) → (c : List ℕ) → D.image self.old.disk c
             → D.image self.new.disk c) }
         ensures time { IsTrue (D.is_honest self.old.disk) → TakesTime D.moment D.image_since D.image self.old.disk self.new.disk }
-        ensures size { D.size_of self.new.disk ≡ D.size_of self.old.disk }
-        ensures honest { D.is_honest self.new.disk ≡ D.is_honest self.old.disk }
+        ensures same { KeepsKind D.size_of D.is_honest self.old.disk self.new.disk }
         ensures fails { FailsAs DeviceFault.Write (failures_with D.failures_of self.old) (failures_with D.failures_of self.new) result }
     {
         spend(&mut self.calls_left, &mut self.refused, DeviceFault::Write)?;

@@ -1,11 +1,14 @@
-pub mod HexDigits
+-- what the crates above cite
 pub mod Spelled
-pub mod Left
-pub mod Sessions
-pub mod Splits
-pub mod Seeks
-pub mod Judged
-pub mod Raws
+
+-- what this crate alone does
+mod HexDigits
+mod Left
+mod Sessions
+mod Splits
+mod Seeks
+mod Judged
+mod Raws
 mod OneSplit
 mod Pieces
 mod OneReading

@@ -1,11 +1,14 @@
+-- what the crates above cite
 pub mod Called
 pub mod Calling
 pub mod Entries
 pub mod Stores
-pub mod Running
-pub mod InHand
-pub mod Faulted
-pub mod Alone
 pub mod Takes
 pub mod Ends
 pub mod Histories
+
+-- what this crate alone does
+mod Running
+mod InHand
+mod Faulted
+mod Alone

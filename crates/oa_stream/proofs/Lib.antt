@@ -1,3 +1,6 @@
+-- what the crates above cite
 pub mod Stretches
-pub mod Kept
-pub mod Held
+
+-- what this crate alone does
+mod Kept
+mod Held

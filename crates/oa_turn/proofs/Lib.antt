@@ -1,25 +1,27 @@
+-- what the crates above cite
 pub mod Relocked
 pub mod Renewing
 pub mod Runs
-pub mod Named
-pub mod Zeros
 pub mod Texts
-pub mod Wants
-pub mod Added
-pub mod Refused
-pub mod Keys
-pub mod Reached
-pub mod Bound
-pub mod Disconnected
-pub mod Found
 pub mod Fitting
 pub mod Changing
-pub mod Planning
 pub mod Allowed
 pub mod Eventless
-pub mod Own
 pub mod NoTrace
 pub mod SameLibrary
 pub mod Tags
 pub mod Beginning
 pub mod OneState
+-- what this crate alone does
+mod Named
+mod Zeros
+mod Wants
+mod Added
+mod Refused
+mod Keys
+mod Reached
+mod Bound
+mod Disconnected
+mod Found
+mod Planning
+mod Own

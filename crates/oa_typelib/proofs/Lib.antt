@@ -1,13 +1,16 @@
+-- what the crates above cite
 pub mod Classes
-pub mod Entries
 pub mod Finds
 pub mod Found
-mod Fronts
-pub mod Grouping
 pub mod Kept
 pub mod Looks
-pub mod Named
 pub mod Naming
 pub mod Same
 pub mod Sound
-pub mod TypedTrees
+
+-- what this crate alone does
+mod Entries
+mod Fronts
+mod Grouping
+mod Named
+mod TypedTrees

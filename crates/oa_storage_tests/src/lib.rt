@@ -8,6 +8,8 @@
 #[cfg(test)]
 mod disk;
 #[cfg(test)]
+mod file;
+#[cfg(test)]
 mod formats;
 #[cfg(test)]
 mod journal;

@@ -5,8 +5,9 @@
 
 First the peak resident memory of a session of short lines and of one of short records, in memory and over a store: at most 5,120 KiB, since no more is touched of the
 buffers of a line and a body than the longest that came. Then puts of arrays of four texts whose records have 65,536, 262,144, 1,048,576 and 4,194,304 bytes,
-so many that all have so many megabytes, and the same with a get of the value behind each put: megabytes of records a second, the best of five runs. The longest are
-read at least as fast as the others, within 1.2.
+so many that all have so many megabytes, and the same with a get of the value behind each put: megabytes of records a second, the best of five runs, and of a program that
+only moves the same bytes (bench/copies.c), since the caches hold short records and not long ones. The longest are answered as fast as the others, within 1.2, where both are
+taken as parts of what that program does.
 """
 import os
 import subprocess
@@ -71,24 +72,24 @@ def resident(command, form, room):
     return peak
 
 
-def best(form, requests, room):
-    """The least seconds of five runs of a session over these requests, of which each is answered."""
-    packed(f"{room}/in", form, requests)
+def best(command, room):
+    """The least seconds of five runs of a command over the requests in a file."""
     taken = []
     for _ in range(5):
         with open(f"{room}/in", "rb") as given, open(f"{room}/out", "wb") as out:
             started = time.perf_counter()
-            status = subprocess.run([PROGRAM, "play", f"{ROOT}/examples/arrays.idl", *form.words], stdin=given, stdout=out).returncode
+            status = subprocess.run(command, stdin=given, stdout=out).returncode
             taken.append(time.perf_counter() - started)
         if status:
             sys.exit(f"status {status}")
-    return min(taken), os.path.getsize(f"{room}/in") + os.path.getsize(f"{room}/out")
+    return min(taken)
 
 
 slow = []
 with tempfile.TemporaryDirectory() as room:
     with open(f"{ROOT}/examples/small.idl", "rb") as file, open(f"{room}/lib.idl", "wb") as copy:
         copy.write(file.read())
+    subprocess.run(["cc", "-O3", "-o", f"{room}/copies", f"{ROOT}/bench/copies.c"], check=True)
     for name, form in ask.FRAMINGS.items():
         subprocess.run([PROGRAM, "format", "it.store", "lib.idl"], cwd=room, check=True, stdout=subprocess.DEVNULL)
         for command in (["play", "lib.idl"], ["serve", "it.store", "lib.idl"]):
@@ -98,14 +99,17 @@ with tempfile.TemporaryDirectory() as room:
                 slow.append(f"{command[0]} as {name} takes {peak:,} KiB")
     for name, form in ask.FRAMINGS.items():
         for what, more in (("puts", []), ("puts and gets", [get_of(NAMES)])):
-            speeds = []
+            parts = []
             for size in SIZES:
                 one = texts(size)
                 count = MEGABYTES * 1_000_000 // (size * (1 + len(more)))
-                seconds, moved = best(form, [ask.ask_create(CLASS), *[one, *more] * count], room)
-                speeds.append(size * count * (1 + len(more)) / seconds / 1e6)
-                print(f"{what} of {size:,} bytes as {name}: {count} in {seconds:.3f} s: {speeds[-1]:,.0f} MB of records a second, {moved / seconds / 1e6:,.0f} MB of the stream")
-            if max(speeds) > 1.2 * speeds[-1]:
-                slow.append(f"{what} of the longest records as {name} run at {speeds[-1]:,.0f} MB a second, others at {max(speeds):,.0f}")
+                packed(f"{room}/in", form, [ask.ask_create(CLASS), *[one, *more] * count])
+                moving = best([f"{room}/copies", name], room)
+                seconds = best([PROGRAM, "play", f"{ROOT}/examples/arrays.idl", *form.words], room)
+                megabytes = size * count * (1 + len(more)) / 1e6
+                parts.append(moving / seconds)
+                print(f"{what} of {size:,} bytes as {name}: {megabytes / seconds:,.0f} MB of records a second, {parts[-1]:.2f} of the {megabytes / moving:,.0f} that moving them alone does")
+            if max(parts) > 1.2 * parts[-1]:
+                slow.append(f"{what} of the longest records as {name} run at {parts[-1]:.2f} of what moving them does, others at {max(parts):.2f}")
 if slow:
     sys.exit("; ".join(slow))

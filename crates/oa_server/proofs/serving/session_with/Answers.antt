@@ -1,4 +1,4 @@
-use Rattle.std.proofs.Common.{refl, rules}
+use Rattle.std.proofs.Common.{rules}
 use Rattle.oa_frame.specs.Framings.{frames}
 use Rattle.oa_server.specs.Serving.{last_written}
 use Rattle.oa_server.proofs.Apart.{session_taken}

@@ -1,4 +1,4 @@
-use Rattle.std.proofs.Common.{rules, [], ◌∷◌, map, refl}
+use Rattle.std.proofs.Common.{rules, [], ◌∷◌, refl}
 use Rattle.oa_frame.specs.Framings.{frames}
 use Rattle.oa_frame.proofs.Spelled.{puts_none, puts_one}
 use Rattle.oa_record.specs.Replies.{reply_record}

@@ -67,5 +67,30 @@ class Asked(Cases):
                     found = self.larges(Over(preloaded, long, framing, group))
                     self.tell(f"a text of {len(LONG)} bytes takes some", found > 0, found)
 
+    def test_what_a_value_asks_for(self):
+        """The reply to a get takes one growth, whatever its value is, and a refusal none; what is put is read once, and a text takes its own block beside that."""
+        front = [oaut.ask_create(worked.ITEM), worked.put(worked.COUNT, worked.i4(7)), worked.put(worked.NAME, worked.text(LONG)), worked.put(worked.GRID, worked.GRID_1_TO_6), worked.put(worked.ANY, worked.OF_VARIANTS)]
+        times = 20
+        with Preloaded() as preloaded:
+            begun = Over(preloaded, Session("", front)).run().calls
+
+            def asks(request):
+                return (Over(preloaded, Session("", front + [request] * times)).run().calls - begun) / times
+
+            gets = (("a long", worked.COUNT), ("a text", worked.NAME), ("an array", worked.GRID), ("an array of VARIANT", worked.ANY))
+            for name, dispid in gets:
+                found = asks(worked.get(dispid))
+                self.tell(f"a get of {name} takes one growth", found == 1, found)
+            found = asks(worked.get(worked.COUNT, of=77))
+            self.tell("a get that is refused takes none", found == 0, found)
+            pairs = (
+                ("an element, and one that is not there", worked.element(worked.GRID, 0, 7), worked.element(worked.GRID, 1, 7)),
+                ("the locks of an array, and of none", worked.call(oaut.LOCK, worked.GRID), worked.call(oaut.LOCK, worked.COUNT)),
+                ("a put of a text, and of a long", worked.put(worked.NAME, worked.text(LONG)), worked.put(worked.COUNT, worked.i4(8))),
+            )
+            for name, one, other in pairs:
+                found = asks(one), asks(other)
+                self.tell(f"{name}: one growth more", found[0] - found[1] == 1, found)
+
     def larges(self, over):
         return over.run(large=LARGE).larges - over.run("nothing", large=LARGE).larges

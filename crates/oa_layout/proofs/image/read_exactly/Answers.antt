@@ -9,10 +9,10 @@ returns-then-is_done g c = record {
 
 pub returns-else-is_done : goal.returns-else-is_done
 returns-else-is_done g c = record {
-  exact = (bytes_left g.F.ReadImage.format c.args.bytes.now c.in-Ok.value c.read.new.r (rw (← c.new-r.ensures) c.in-Ok.ensures) (λ e. let t = c.if-is_done.ensures.1 e in absurd cc), c.place_in.ensures);
+  exact = (bytes_left g.F.ReadImage.format c.args.bytes.now c.in-Ok.value c.read.new.r (rw (← c.new-r.ensures) c.in-Ok.ensures) (λ e. let t = c.if-is_done.ensures.1 e in absurd cc), c.place_in.ensures.within);
 }
 
 pub returns-in-Err : goal.returns-in-Err
 returns-in-Err g c = record {
-  exact = rw c.placed.ensures (refused g.F.ReadImage.format c.args.bytes.now c.in-Err.fault c.read.new.r c.place_in-in-Err.result (rw (← c.new-r.ensures) c.in-Err.ensures) c.place_in-in-Err.ensures);
+  exact = rw c.placed.ensures (refused g.F.ReadImage.format c.args.bytes.now c.in-Err.fault c.read.new.r c.place_in-in-Err.result (rw (← c.new-r.ensures) c.in-Err.ensures) c.place_in-in-Err.ensures.within);
 }

@@ -1,5 +1,5 @@
 //! A description as the fields of a reply.
-ghost use Rattle.std.specs.Prelude.{◌≡◌, ◌≤◌, ◌++◌, length, IfOk, OnOk, option_copied};
+ghost use Rattle.std.specs.Prelude.{◌≡◌, ◌<◌, ◌≤◌, ◌++◌, length, IfOk, OnErr, OnOk, option_copied};
 ghost use Rattle.std.specs.List.{flat_map};
 ghost use Rattle.oa_record.specs.Replies.{string_field};
 ghost use Rattle.oa_typelib.specs.Contents.{content_of};
@@ -130,7 +130,8 @@ fn put_parameters(
 
 /// A count of 2 bytes. Err for one that is greater, as no library has.
 fn count(n: usize) -> Result<u16, AllocError>
-    ensures { IfOk result (λ x. x ≡ n) }
+    ensures value { IfOk result (λ x. x ≡ n) }
+    ensures great { OnErr result (65535 < n) }
 {
     match u16::try_from(n) {
         Ok(n) => Ok(n),
@@ -140,7 +141,8 @@ fn count(n: usize) -> Result<u16, AllocError>
 
 /// A count of 4 bytes. Err for one that is greater, as no library has.
 fn wide_count(n: usize) -> Result<u32, AllocError>
-    ensures { IfOk result (λ x. x ≡ n) }
+    ensures value { IfOk result (λ x. x ≡ n) }
+    ensures great { OnErr result (4294967295 < n) }
 {
     match u32::try_from(n) {
         Ok(n) => Ok(n),

@@ -1,6 +1,5 @@
 -- what the crates above cite
 pub mod Spelled
-
 -- what this crate alone does
 mod HexDigits
 mod Left

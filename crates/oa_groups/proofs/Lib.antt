@@ -6,7 +6,6 @@ pub mod Stores
 pub mod Takes
 pub mod Ends
 pub mod Histories
-
 -- what this crate alone does
 mod Running
 mod InHand

@@ -88,7 +88,7 @@ same_declaration_kind j k = false
 unfoldable pub is_kept_by : DeclarationValue → DeclarationValue → Bool
 is_kept_by was now =
     int_eq was.id now.id && same_declaration_kind was.kind now.kind && same_name was.name now.name
-        && same_result was.value_type now.value_type
+    && same_result was.value_type now.value_type
     && pointwise same_parameter was.parameters now.parameters
 
 -- its DISPID, unless it is kept

@@ -1,6 +1,5 @@
 -- what the crates above cite
 pub mod Stretches
-
 -- what this crate alone does
 mod Kept
 mod Held

@@ -7,7 +7,6 @@ pub mod Looks
 pub mod Naming
 pub mod Same
 pub mod Sound
-
 -- what this crate alone does
 mod Entries
 mod Fronts

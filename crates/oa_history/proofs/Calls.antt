@@ -1,6 +1,6 @@
 -- Calls one after another.
-use Rattle.std.proofs.Common.{rules, ◌≡◌, ℕ, suc, ◌+◌, ◌<◌, ◌≤◌, nat_le, if◌then◌else◌, Bool, true, false, true≢false, List, [], ◌∷◌, ◌++◌, map, take, length, get_or, refl, sym, ◌∙◌, ap, subst, arith, append_assoc, length-append}
-use Rattle.std.proofs.lemmas.List.{append-nil, take_more}
+use Rattle.std.proofs.Common.{rules, ◌≡◌, ℕ, suc, ◌+◌, ◌≤◌, nat_le, if◌then◌else◌, Bool, true, false, true≢false, List, [], ◌∷◌, ◌++◌, map, length, refl, sym, ◌∙◌, ap, subst, arith, append_assoc, length-append}
+use Rattle.std.proofs.lemmas.List.{append-nil}
 use Rattle.oa_disk.specs.declared.disk.Disk.{Ghosts}
 use Rattle.oa_groups.proofs.Calling.{chained, session_called, session_ended}
 use Rattle.oa_groups.proofs.Entries.{joined_two, run_append}
@@ -18,21 +18,19 @@ use Rattle.oa_server.specs.declared.storage.Storage.{Storage}
 use Rattle.oa_server.specs.declared.storage.Storage.TheVariants.{Disk, Memory}
 use Rattle.oa_store.specs.declared.store.Store.{Store}
 use Rattle.oa_history.specs.Kept.{Sits}
-use Rattle.oa_history.specs.Lived.{Made, Plays, bodies_of, call_as_heard, heard_by}
-use Rattle.oa_history.specs.declared.session.Answer.{Answer}
-use Rattle.oa_history.specs.declared.session.ServerCall.{ServerCall}
+use Rattle.oa_history.specs.Stops.{Done, Made, Plays, over_by}
 
 -- ---- a session under way
 
 -- Wherever the session will be stopped: what was answered by calls that had returned by then counts by the clock, too.
-abbrev pub CountsBy : State → List ServerCall → List Answer → List (List (Exchange ReplyValue)) → ℕ → Bool → State → List ℕ → Type 0
-CountsBy before calls answers groups total fault last moments =
-    (stop : ℕ) → (count : ℕ) × Plays stop false before calls answers groups count fault last × (count ≤ total) × (count ≤ answered_by stop moments)
+abbrev pub CountsBy : State → List Done → List (List (Exchange ReplyValue)) → ℕ → Bool → State → List ℕ → Type 0
+CountsBy before calls groups total fault last moments =
+    (stop : ℕ) → (count : ℕ) × Plays stop false before calls groups count fault last × (count ≤ total) × (count ≤ answered_by stop moments)
 
 -- A session was begun on the disk, and these calls were answered: it may go on, or the device has failed in it.
-pub record Underway {D : Type 0} {g : Ghosts D} (disk : D) (store : Store D g) (before : State) (calls : List ServerCall) (answers : List Answer) (last : State) : Type 0 where
-  pub going : store.stopped ≡ false → (called : List (AnsweredCall ReplyValue)) × (was : Sitting requests disk store before last called) × CountsBy before calls answers was.session.groups was.session.count false last was.session.moments
-  pub late : store.stopped ≡ true → (called : List (AnsweredCall ReplyValue)) × (was : IsSessionOn requests g disk store.disk before called last) × (was.stopped ≡ true) × CountsBy before calls answers was.groups was.count true last was.moments
+pub record Underway {D : Type 0} {g : Ghosts D} (disk : D) (store : Store D g) (before : State) (calls : List Done) (last : State) : Type 0 where
+  pub going : store.stopped ≡ false → (called : List (AnsweredCall ReplyValue)) × (was : Sitting requests disk store before last called) × CountsBy before calls was.session.groups was.session.count false last was.session.moments
+  pub late : store.stopped ≡ true → (called : List (AnsweredCall ReplyValue)) × (was : IsSessionOn requests g disk store.disk before called last) × (was.stopped ≡ true) × CountsBy before calls was.groups was.count true last was.moments
 
 -- ---- what has come by a moment
 
@@ -48,8 +46,8 @@ answered_more : (m : ℕ) (xs ys all : List ℕ) → all ≡ xs ++ ys → answer
 answered_more m [] ys all are = omega arith
 answered_more m (x ∷ xs) ys all are = subst (λ (l : List ℕ). by_then m xs ≤ answered_by m l) (sym are) (by_then_more m xs ys)
 
-heard_few : (stop moment here : ℕ) → heard_by stop moment here ≤ here
-heard_few stop moment here = by (nat_le moment stop)
+over_few : (stop moment here : ℕ) → over_by stop moment here ≤ here
+over_few stop moment here = by (nat_le moment stop)
   where
     by : (b : Bool) → (if b then here else 0) ≤ here
     by true = omega arith
@@ -57,42 +55,39 @@ heard_few stop moment here = by (nat_le moment stop)
 
 -- ---- the replies
 
-plays_push : (stop : ℕ) (was : Bool) (first : State) (calls : List ServerCall) (answers : List Answer) (groups : List (List (Exchange ReplyValue))) (count : ℕ) (fails : Bool) (mid : State) (call : ServerCall) (answer : Answer) (own : List (List (Exchange ReplyValue))) (here : ℕ) (is : Bool) (last : State)
-    → Plays stop was first calls answers groups count fails mid → IsCalled requests fails mid (call_as_heard call answer) own here is last
-    → Plays stop was first (calls ++ call ∷ []) (answers ++ answer ∷ []) (groups ++ own) (count + heard_by stop answer.moment here) is last
-plays_push stop was first [] [] groups count fails mid call answer own here is last so_far called = (
+plays_push : (stop : ℕ) (was : Bool) (first : State) (calls : List Done) (groups : List (List (Exchange ReplyValue))) (count : ℕ) (fails : Bool) (mid : State) (one : Done) (own : List (List (Exchange ReplyValue))) (here : ℕ) (is : Bool) (last : State)
+    → Plays stop was first calls groups count fails mid → IsCalled requests fails mid one.call own here is last → Plays stop was first (calls ++ one ∷ []) (groups ++ own) (count + over_by stop one.moment here) is last
+plays_push stop was first [] groups count fails mid one own here is last so_far called = (
   last,
   is,
   own,
   [],
   here,
   0,
-  subst (λ (b : Bool). IsCalled requests b first (call_as_heard call answer) own here is last) so_far.2 (subst (λ (s : State). IsCalled requests fails s (call_as_heard call answer) own here is last) (sym so_far.3) called),
+  subst (λ (b : Bool). IsCalled requests b first one.call own here is last) so_far.2 (subst (λ (s : State). IsCalled requests fails s one.call own here is last) (sym so_far.3) called),
   ap (λ (l : List (List (Exchange ReplyValue))). l ++ own) so_far.0 ∙ sym (append-nil own),
   omega (arith, so_far.1),
   (refl, refl, refl, refl),
 )
-plays_push stop was first [] (a ∷ rest) groups count fails mid call answer own here is last so_far called = absurd so_far
-plays_push stop was first (c ∷ cs) [] groups count fails mid call answer own here is last so_far called = absurd so_far
-plays_push stop was first (c ∷ cs) (a ∷ rest) groups count fails mid call answer own here is last so_far called = (
+plays_push stop was first (c ∷ calls) groups count fails mid one own here is last so_far called = (
   so_far.0,
   so_far.1,
   so_far.2,
   so_far.3 ++ own,
   so_far.4,
-  so_far.5 + heard_by stop answer.moment here,
+  so_far.5 + over_by stop one.moment here,
   so_far.6,
   ap (λ (l : List (List (Exchange ReplyValue))). l ++ own) so_far.7 ∙ append_assoc so_far.2 so_far.3 own,
   omega (arith, so_far.8),
-  plays_push stop so_far.1 so_far.0 cs rest so_far.3 so_far.5 fails mid call answer own here is last so_far.9 called,
+  plays_push stop so_far.1 so_far.0 calls so_far.3 so_far.5 fails mid one own here is last so_far.9 called,
 )
 
 -- a call behind a fault
-nothing : (call : ServerCall) (answer : Answer) (last : State) → answer.replies.items ≡ map failed (bodies_of call) → IsCalled requests true last (call_as_heard call answer) [] 0 true last
-nothing call answer last told = record {
+nothing : (call : AnsweredCall ReplyValue) (last : State) → call.replies ≡ map failed call.bodies → IsCalled requests true last call [] 0 true last
+nothing call last told = record {
   answered = [];
   faulted = [];
-  others = bodies_of call;
+  others = call.bodies;
   served = record {
     bodies_are = refl;
     run = refl;
@@ -109,13 +104,13 @@ nothing call answer last told = record {
 
 -- ---- a call
 
-module _ {D : Type 0} (g : Ghosts D) (disk : D) (before : State) (calls : List ServerCall) (answers : List Answer) (call : ServerCall) (answer : Answer) where
-  module _ (old new : Store D g) (mid after : State) (called : List (AnsweredCall ReplyValue)) (was : Sitting requests disk old before mid called) (is : IsServed requests call.group old new mid after (bodies_of call) answer.replies.items) (at : answer.moment ≡ g.moment new.disk)
-      (so_far : CountsBy before calls answers was.session.groups was.session.count false mid was.session.moments) where
-    abbrev now : IsSession requests g.moment g.image_since disk new.disk before (called ++ (call_as_heard call answer) ∷ []) after
-    now = session_called requests {g = g} disk old new before mid after called (call_as_heard call answer) was is
+module _ {D : Type 0} (g : Ghosts D) (disk : D) (before : State) (calls : List Done) (one : Done) where
+  module _ (old new : Store D g) (mid after : State) (called : List (AnsweredCall ReplyValue)) (was : Sitting requests disk old before mid called) (is : IsServed requests one.call.size old new mid after one.call.bodies one.call.replies) (at : one.moment ≡ g.moment new.disk)
+      (so_far : CountsBy before calls was.session.groups was.session.count false mid was.session.moments) where
+    abbrev now : IsSession requests g.moment g.image_since disk new.disk before (called ++ one.call ∷ []) after
+    now = session_called requests {g = g} disk old new before mid after called one.call was is
 
-    served : IsCalled requests false mid (call_as_heard call answer) (is.groups ++ is.faulted) (length is.groups) new.stopped after
+    served : IsCalled requests false mid one.call (is.groups ++ is.faulted) (length is.groups) new.stopped after
     served = record {
       answered = is.groups;
       faulted = is.faulted;
@@ -128,29 +123,29 @@ module _ {D : Type 0} (g : Ghosts D) (disk : D) (before : State) (calls : List S
       late = λ stopped. absurd (true≢false (sym stopped));
     }
 
-    counts_served : CountsBy before (calls ++ call ∷ []) (answers ++ answer ∷ []) now.groups now.count new.stopped after now.moments
+    counts_served : CountsBy before (calls ++ one ∷ []) now.groups now.count new.stopped after now.moments
     counts_served stop =
-        let one = so_far stop in
+        let due = so_far stop in
         let own = length is.groups in
-        let few = heard_few stop answer.moment own in (
-          one.0 + heard_by stop answer.moment own,
-          plays_push stop false before calls answers was.session.groups one.0 false mid call answer (is.groups ++ is.faulted) own new.stopped after one.1 served,
-          omega (arith, one.2, few),
-          by (nat_le answer.moment stop) refl,
+        let few = over_few stop one.moment own in (
+          due.0 + over_by stop one.moment own,
+          plays_push stop false before calls was.session.groups due.0 false mid one (is.groups ++ is.faulted) own new.stopped after due.1 served,
+          omega (arith, due.2, few),
+          by (nat_le one.moment stop) refl,
         )
       where
-        by : (b : Bool) → nat_le answer.moment stop ≡ b → (so_far stop).0 + (if b then length is.groups else 0) ≤ answered_by stop now.moments
+        by : (b : Bool) → nat_le one.moment stop ≡ b → (so_far stop).0 + (if b then length is.groups else 0) ≤ answered_by stop now.moments
         by true le =
-            let end : answer.moment ≤ stop = search (le, rules) in
-            let all : answered_by stop now.moments ≡ was.session.count + length is.groups = session_ended requests g.moment g.image_since disk new.disk before (called ++ (call_as_heard call answer) ∷ []) after now stop (subst (λ (n : ℕ). n ≤ stop) at end) in
+            let end : one.moment ≤ stop = search (le, rules) in
+            let all : answered_by stop now.moments ≡ was.session.count + length is.groups = session_ended requests g.moment g.image_since disk new.disk before (called ++ one.call ∷ []) after now stop (subst (λ (n : ℕ). n ≤ stop) at end) in
             omega (arith, all, (so_far stop).2)
         by false le =
-            let chain = chained requests {g = g} disk old new before mid after called (call_as_heard call answer) was is in
+            let chain = chained requests {g = g} disk old new before mid after called one.call was is in
             let more = answered_more stop was.session.moments chain.1.0 chain.0 chain.1.1 in
             omega (arith, more, (so_far stop).3)
 
     -- without a fault it may go on
-    abbrev sits : new.stopped ≡ false → Sitting requests disk new before after (called ++ (call_as_heard call answer) ∷ [])
+    abbrev sits : new.stopped ≡ false → Sitting requests disk new before after (called ++ one.call ∷ [])
     sits going = record {
       session = now;
       going = going;
@@ -160,38 +155,38 @@ module _ {D : Type 0} (g : Ghosts D) (disk : D) (before : State) (calls : List S
       all = is.all going was.all;
     }
 
-    underway_served : Underway disk new before (calls ++ call ∷ []) (answers ++ answer ∷ []) after
+    underway_served : Underway disk new before (calls ++ one ∷ []) after
     underway_served = record {
       going = λ going. (
-        called ++ (call_as_heard call answer) ∷ [],
+        called ++ one.call ∷ [],
         sits going,
-        subst (λ (b : Bool). CountsBy before (calls ++ call ∷ []) (answers ++ answer ∷ []) now.groups now.count b after now.moments) going counts_served,
+        subst (λ (b : Bool). CountsBy before (calls ++ one ∷ []) now.groups now.count b after now.moments) going counts_served,
       );
-      late = λ stopped. (called ++ (call_as_heard call answer) ∷ [], now, stopped, subst (λ (b : Bool). CountsBy before (calls ++ call ∷ []) (answers ++ answer ∷ []) now.groups now.count b after now.moments) stopped counts_served);
+      late = λ stopped. (called ++ one.call ∷ [], now, stopped, subst (λ (b : Bool). CountsBy before (calls ++ one ∷ []) now.groups now.count b after now.moments) stopped counts_served);
     }
 
-  module _ (late_counts : LateCallCounts requests g) (now : D) (last : State) (called : List (AnsweredCall ReplyValue)) (was : IsSessionOn requests g disk now before called last) (stopped : was.stopped ≡ true) (told : answer.replies.items ≡ map failed (bodies_of call))
-      (so_far : CountsBy before calls answers was.groups was.count true last was.moments) where
-    pub counts_late : (session : IsSessionOn requests g disk now before (called ++ (call_as_heard call answer) ∷ []) last) × (session.stopped ≡ true) × CountsBy before (calls ++ call ∷ []) (answers ++ answer ∷ []) session.groups session.count true last session.moments
+  module _ (late_counts : LateCallCounts requests g) (now : D) (last : State) (called : List (AnsweredCall ReplyValue)) (was : IsSessionOn requests g disk now before called last) (stopped : was.stopped ≡ true) (told : one.call.replies ≡ map failed one.call.bodies)
+      (so_far : CountsBy before calls was.groups was.count true last was.moments) where
+    pub counts_late : (session : IsSessionOn requests g disk now before (called ++ one.call ∷ []) last) × (session.stopped ≡ true) × CountsBy before (calls ++ one ∷ []) session.groups session.count true last session.moments
     counts_late =
-        let law = late_counts disk now before last called (call_as_heard call answer) was stopped told in (
+        let law = late_counts disk now before last called one.call was stopped told in (
           law.0,
           law.1,
           λ stop.
-              let one = so_far stop in
-              let few = heard_few stop answer.moment 0 in
-              let push = plays_push stop false before calls answers was.groups one.0 true last call answer [] 0 true last one.1 (nothing call answer last told) in
+              let due = so_far stop in
+              let few = over_few stop one.moment 0 in
+              let push = plays_push stop false before calls was.groups due.0 true last one [] 0 true last due.1 (nothing one.call last told) in
               let groups : was.groups ++ [] ≡ law.0.groups = append-nil was.groups ∙ sym law.2 in (
-                one.0 + heard_by stop answer.moment 0,
-                subst (λ (l : List (List (Exchange ReplyValue))). Plays stop false before (calls ++ call ∷ []) (answers ++ answer ∷ []) l (one.0 + heard_by stop answer.moment 0) true last) groups push,
-                omega (arith, one.2, few, law.3),
-                subst (λ (l : List ℕ). one.0 + heard_by stop answer.moment 0 ≤ answered_by stop l) (sym law.4) (omega (arith, one.3, few)),
+                due.0 + over_by stop one.moment 0,
+                subst (λ (l : List (List (Exchange ReplyValue))). Plays stop false before (calls ++ one ∷ []) l (due.0 + over_by stop one.moment 0) true last) groups push,
+                omega (arith, due.2, few, law.3),
+                subst (λ (l : List ℕ). due.0 + over_by stop one.moment 0 ≤ answered_by stop l) (sym law.4) (omega (arith, due.3, few)),
               ),
         )
 
   -- the session goes on by a call
-  on_store : LateCallCounts requests g → (old new : Store D g) (mid after : State) → Underway disk old before calls answers mid → ServesStore call.group old new mid (bodies_of call) answer.replies.items after → answer.moment ≡ g.moment new.disk
-      → (b : Bool) → old.stopped ≡ b → Underway disk new before (calls ++ call ∷ []) (answers ++ answer ∷ []) after
+  on_store : LateCallCounts requests g → (old new : Store D g) (mid after : State) → Underway disk old before calls mid → ServesStore one.call.size old new mid one.call.bodies one.call.replies after → one.moment ≡ g.moment new.disk
+      → (b : Bool) → old.stopped ≡ b → Underway disk new before (calls ++ one ∷ []) after
   on_store late_counts old new mid after is serves at false going =
       let was = is.going going in underway_served old new mid after was.0 was.1 (serves.served going) at was.2
   on_store late_counts old new mid after is serves at true stopped =
@@ -201,20 +196,20 @@ module _ {D : Type 0} (g : Ghosts D) (disk : D) (before : State) (calls : List S
       record {
         going = λ going. absurd (true≢false (sym late.stopped ∙ going));
         late = λ again. subst (λ (s : State). (called : List (AnsweredCall ReplyValue)) × (was : IsSessionOn requests g disk new.disk before called s) × (was.stopped ≡ true)
-            × CountsBy before (calls ++ call ∷ []) (answers ++ answer ∷ []) was.groups was.count true s was.moments) (sym late.state)
+            × CountsBy before (calls ++ one ∷ []) was.groups was.count true s was.moments) (sym late.state)
             (subst (λ (d : D). (called : List (AnsweredCall ReplyValue)) × (was : IsSessionOn requests g disk d before called mid) × (was.stopped ≡ true)
-            × CountsBy before (calls ++ call ∷ []) (answers ++ answer ∷ []) was.groups was.count true mid was.moments) (sym late.disk) (was.0 ++ (call_as_heard call answer) ∷ [], counts.0, counts.1, counts.2));
+            × CountsBy before (calls ++ one ∷ []) was.groups was.count true mid was.moments) (sym late.disk) (was.0 ++ one.call ∷ [], counts.0, counts.1, counts.2));
       }
 
-  pub on_storage : LateCallCounts requests g → (old new : Storage D g) (mid after : State) → OverStore old (λ store. Underway disk store before calls answers mid) → Serves call.group old new mid (bodies_of call) answer.replies.items after
-      → answer.moment ≡ g.moment (disk_of new) → OverStore new (λ store. Underway disk store before (calls ++ call ∷ []) (answers ++ answer ∷ []) after)
+  pub on_storage : LateCallCounts requests g → (old new : Storage D g) (mid after : State) → OverStore old (λ store. Underway disk store before calls mid) → Serves one.call.size old new mid one.call.bodies one.call.replies after
+      → one.moment ≡ g.moment (disk_of new) → OverStore new (λ store. Underway disk store before (calls ++ one ∷ []) after)
   on_storage late_counts (Memory old) new mid after is serves at = absurd is
   on_storage late_counts (Disk old) (Memory new) mid after is serves at = absurd serves
   on_storage late_counts (Disk old) (Disk new) mid after is serves at = on_store late_counts old new mid after is serves at old.stopped refl
 
 -- ---- no call
 
-none_on_store : {D : Type 0} {g : Ghosts D} (disk : D) (store : Store D g) (before : State) → Sits disk store before → Underway disk store before [] [] before
+none_on_store : {D : Type 0} {g : Ghosts D} (disk : D) (store : Store D g) (before : State) → Sits disk store before → Underway disk store before [] before
 none_on_store disk store before is = record {
   going = λ going. let served = is.sits.session.served in ([], is.sits, λ stop. (0, (served.0, refl, refl, refl), omega arith, omega arith));
   late = λ stopped. absurd (true≢false (sym stopped ∙ is.goes_on));
@@ -223,49 +218,31 @@ none_on_store disk store before is = record {
 -- ---- all calls
 
 module _ {D : Type 0} (g : Ghosts D) (late_counts : LateCallCounts requests g) (disk : D) (before : State) where
-  goes_on : (old new : Storage D g) (mid last : State) (done calls : List ServerCall) (told answers : List Answer) → OverStore old (λ store. Underway disk store before done told mid) → Made old mid calls answers new last
-      → OverStore new (λ store. Underway disk store before (done ++ calls) (told ++ answers) last)
-  goes_on old new mid last done [] told [] is made =
-      subst (λ (l : List ServerCall). OverStore new (λ store. Underway disk store before l (told ++ []) last)) (sym (append-nil done))
-      (subst (λ (l : List Answer). OverStore new (λ store. Underway disk store before done l last)) (sym (append-nil told))
-      (subst (λ (s : State). OverStore new (λ store. Underway disk store before done told s)) (sym made.1)
-      (subst (λ (s : Storage D g). OverStore s (λ store. Underway disk store before done told mid)) (sym made.0) is)))
-  goes_on old new mid last done [] told (a ∷ answers) is made = absurd made
-  goes_on old new mid last done (c ∷ calls) told [] is made = absurd made
-  goes_on old new mid last done (c ∷ calls) told (a ∷ answers) is made =
-      let one = on_storage g disk before done told c a late_counts old made.0 mid made.1 is made.2 made.3 in
-      subst (λ (l : List ServerCall). OverStore new (λ store. Underway disk store before l (told ++ a ∷ answers) last)) (append_assoc done (c ∷ []) calls)
-      (subst (λ (l : List Answer). OverStore new (λ store. Underway disk store before ((done ++ c ∷ []) ++ calls) l last)) (append_assoc told (a ∷ []) answers)
-      (goes_on made.0 new made.1 last (done ++ c ∷ []) calls (told ++ a ∷ []) answers one made.4))
+  goes_on : (old new : Storage D g) (mid last : State) (done calls : List Done) → OverStore old (λ store. Underway disk store before done mid) → Made old mid calls new last → OverStore new (λ store. Underway disk store before (done ++ calls) last)
+  goes_on old new mid last done [] is made =
+      subst (λ (l : List Done). OverStore new (λ store. Underway disk store before l last)) (sym (append-nil done))
+      (subst (λ (s : State). OverStore new (λ store. Underway disk store before done s)) (sym made.1)
+      (subst (λ (s : Storage D g). OverStore s (λ store. Underway disk store before done mid)) (sym made.0) is))
+  goes_on old new mid last done (one ∷ calls) is made =
+      let more = on_storage g disk before done one late_counts old made.0 mid made.1 is made.2 made.3 in
+      subst (λ (l : List Done). OverStore new (λ store. Underway disk store before l last)) (append_assoc done (one ∷ []) calls) (goes_on made.0 new made.1 last (done ++ one ∷ []) calls more made.4)
 
-  begun : (storage : Storage D g) → OverStore storage (λ store. Sits disk store before) → OverStore storage (λ store. Underway disk store before [] [] before)
+  begun : (storage : Storage D g) → OverStore storage (λ store. Sits disk store before) → OverStore storage (λ store. Underway disk store before [] before)
   begun (Memory d) is = absurd is
   begun (Disk store) is = none_on_store disk store before is
 
-  pub all_made : (old new : Storage D g) (last : State) (calls : List ServerCall) (answers : List Answer) → OverStore old (λ store. Sits disk store before) → Made old before calls answers new last
-      → OverStore new (λ store. Underway disk store before calls answers last)
-  all_made old new last calls answers is made = goes_on old new before last [] calls [] answers (begun old is) made
+  pub all_made : (old new : Storage D g) (last : State) (calls : List Done) → OverStore old (λ store. Sits disk store before) → Made old before calls new last → OverStore new (λ store. Underway disk store before calls last)
+  all_made old new last calls is made = goes_on old new before last [] calls (begun old is) made
 
 -- ---- one call more is made
 
-pub made_push : {D : Type 0} {g : Ghosts D} (old : Storage D g) (first : State) (calls : List ServerCall) (answers : List Answer) (mid : Storage D g) (state : State) (call : ServerCall) (answer : Answer) (new : Storage D g) (last : State)
-    → Made old first calls answers mid state → Serves call.group mid new state (bodies_of call) answer.replies.items last → answer.moment ≡ g.moment (disk_of new) → Made old first (calls ++ call ∷ []) (answers ++ answer ∷ []) new last
-made_push {D} {g} old first [] [] mid state call answer new last made serves at = (
+pub made_push : {D : Type 0} {g : Ghosts D} (old : Storage D g) (first : State) (calls : List Done) (mid : Storage D g) (state : State) (one : Done) (new : Storage D g) (last : State)
+    → Made old first calls mid state → Serves one.call.size mid new state one.call.bodies one.call.replies last → one.moment ≡ g.moment (disk_of new) → Made old first (calls ++ one ∷ []) new last
+made_push {D} {g} old first [] mid state one new last made serves at = (
   new,
   last,
-  subst (λ (s : State). Serves call.group old new s (bodies_of call) answer.replies.items last) made.1 (subst (λ (s : Storage D g). Serves call.group s new state (bodies_of call) answer.replies.items last) made.0 serves),
+  subst (λ (s : State). Serves one.call.size old new s one.call.bodies one.call.replies last) made.1 (subst (λ (s : Storage D g). Serves one.call.size s new state one.call.bodies one.call.replies last) made.0 serves),
   at,
   (refl, refl),
 )
-made_push old first [] (a ∷ answers) mid state call answer new last made serves at = absurd made
-made_push old first (c ∷ calls) [] mid state call answer new last made serves at = absurd made
-made_push old first (c ∷ calls) (a ∷ answers) mid state call answer new last made serves at = (made.0, made.1, made.2, made.3, made_push made.0 made.1 calls answers mid state call answer new last made.4 serves at)
-
--- the first i + 1 calls
-pub made_more : {D : Type 0} {g : Ghosts D} (old : Storage D g) (first : State) (calls : List ServerCall) (i : ℕ) (answers all : List Answer) (mid : Storage D g) (state : State) (call : ServerCall) (answer : Answer) (new : Storage D g) (last : State)
-    → i < length calls → get_or calls i call ≡ call → all ≡ answers ++ answer ∷ []
-    → Made old first (take i calls) answers mid state → Serves call.group mid new state (bodies_of call) answer.replies.items last → answer.moment ≡ g.moment (disk_of new) → Made old first (take (i + 1) calls) all new last
-made_more old first calls i answers all mid state call answer new last within is all_are made serves at =
-    let here : take (i + 1) calls ≡ take i calls ++ call ∷ [] = rw (take_more calls i call within, is) refl in
-    subst (λ (l : List Answer). Made old first (take (i + 1) calls) l new last) (sym all_are)
-    (subst (λ (l : List ServerCall). Made old first l (answers ++ answer ∷ []) new last) (sym here) (made_push old first (take i calls) answers mid state call answer new last made serves at))
+made_push old first (c ∷ calls) mid state one new last made serves at = (made.0, made.1, made.2, made.3, made_push made.0 made.1 calls mid state one new last made.4 serves at)

@@ -20,10 +20,8 @@ use Rattle.oa_store.specs.Stores.{IsStoreIn}
 use Rattle.oa_store.specs.declared.store.Store.{Store}
 use Rattle.oa_table.specs.Tables.{TableValue}
 use Rattle.oa_history.specs.Kept.{Sits}
-use Rattle.oa_history.specs.Lived.{Made, Stops}
+use Rattle.oa_history.specs.Stops.{Done, Made, Stops}
 use Rattle.oa_history.proofs.Calls.{CountsBy, Underway, all_made}
-use Rattle.oa_history.specs.declared.session.Answer.{Answer}
-use Rattle.oa_history.specs.declared.session.ServerCall.{ServerCall}
 
 -- an image holds a state without its locks
 holds_opened : (state : State) (c : List ℕ) → HoldsState requests state c → HoldsState requests (opened state) c
@@ -33,20 +31,20 @@ opened_again : (state : State) → opened (opened state) ≡ opened state
 opened_again state = ap (λ (t : TableValue). record state { table = t }) (requests.reopens state).0
 
 -- an image that is left, and the state that it holds
-pub record Left (stop : ℕ) (calls : List ServerCall) (answers : List Answer) (before : State) (c : List ℕ) : Type 0 where
+pub record Left (stop : ℕ) (calls : List Done) (before : State) (c : List ℕ) : Type 0 where
   pub after : State
-  pub stops : Stops stop calls answers before after
+  pub stops : Stops stop calls before after
   pub holds : HoldsState requests after c
   pub begins : CanBegin after
   pub unlocked : opened after ≡ after
 
 module _ (no_trace : OthersAreRun requests) (goes_on : (old new : State) (entries : List (Exchange ReplyValue)) → CanBegin old → TurnsOver requests old entries new → CanBegin new) (opens : (state : State) → CanBegin state → CanBegin (opened state))
     {D : Type 0} (g : Ghosts D) (keeps : StopKeepsAnswered requests g) (counts_all : EndCountsAll requests g)
-    (disk : D) (calls : List ServerCall) (answers : List Answer) (before : State) (begins : CanBegin before) (m stop : ℕ) (c : List ℕ) (start : g.moment disk ≤ m) where
+    (disk : D) (calls : List Done) (before : State) (begins : CanBegin before) (m stop : ℕ) (c : List ℕ) (start : g.moment disk ≤ m) where
   -- The image may be left by a stop at a moment: the one that was wanted, or the last one of the disk, where that comes before.
   session_leaves : (now : D) (last : State) (called : List (AnsweredCall ReplyValue)) (fault : Bool) (session : IsSessionOn requests g disk now before called last)
-      → CountsBy before calls answers session.groups session.count fault last session.moments
-      → (m ≡ stop) ⊎ ((g.moment now ≤ m) × (g.moment now ≤ stop)) → MayBeLeft g now m c → Left stop calls answers before c
+      → CountsBy before calls session.groups session.count fault last session.moments
+      → (m ≡ stop) ⊎ ((g.moment now ≤ m) × (g.moment now ≤ stop)) → MayBeLeft g now m c → Left stop calls before c
   session_leaves now last called fault session counts at may =
       let kept : IsAfter requests (answered_by m session.moments) before session.groups c = keeps disk now before called last session m c start may in
       let due = counts stop in
@@ -75,20 +73,20 @@ module _ (no_trace : OthersAreRun requests) (goes_on : (old new : State) (entrie
         unlocked = opened_again kept.state;
       }
 
-  store_leaves : (store : Store D g) (last : State) → Underway disk store before calls answers last → (m ≡ stop) ⊎ ((g.moment store.disk ≤ m) × (g.moment store.disk ≤ stop)) → MayBeLeft g store.disk m c
-      → (b : Bool) → store.stopped ≡ b → Left stop calls answers before c
+  store_leaves : (store : Store D g) (last : State) → Underway disk store before calls last → (m ≡ stop) ⊎ ((g.moment store.disk ≤ m) × (g.moment store.disk ≤ stop)) → MayBeLeft g store.disk m c
+      → (b : Bool) → store.stopped ≡ b → Left stop calls before c
   store_leaves store last is at may false going = let was = is.going going in session_leaves store.disk last was.0 false was.1.session was.2 at may
   store_leaves store last is at may true stopped = let was = is.late stopped in session_leaves store.disk last was.0 true was.1 was.3 at may
 
-  storage_leaves : (storage : Storage D g) (last : State) (now : D) → OverStore storage (λ store. Underway disk store before calls answers last) → now ≡ disk_of storage
-      → (m ≡ stop) ⊎ ((g.moment now ≤ m) × (g.moment now ≤ stop)) → MayBeLeft g now m c → Left stop calls answers before c
+  storage_leaves : (storage : Storage D g) (last : State) (now : D) → OverStore storage (λ store. Underway disk store before calls last) → now ≡ disk_of storage
+      → (m ≡ stop) ⊎ ((g.moment now ≤ m) × (g.moment now ≤ stop)) → MayBeLeft g now m c → Left stop calls before c
   storage_leaves (Memory d) last now is of_it at may = absurd is
   storage_leaves (Disk store) last now is of_it at may = store_leaves store last is
       (subst (λ (d : D). (m ≡ stop) ⊎ ((g.moment d ≤ m) × (g.moment d ≤ stop))) of_it at) (subst (λ (d : D). MayBeLeft g d m c) of_it may) store.stopped refl
 
-  pub leaves : LateCallCounts requests g → (old new : Storage D g) (last : State) (now : D) → OverStore old (λ store. Sits disk store before) → Made old before calls answers new last → now ≡ disk_of new
-      → (m ≡ stop) ⊎ ((g.moment now ≤ m) × (g.moment now ≤ stop)) → MayBeLeft g now m c → Left stop calls answers before c
-  leaves late_counts old new last now opens made of_it at may = storage_leaves new last now (all_made g late_counts disk before old new last calls answers opens made) of_it at may
+  pub leaves : LateCallCounts requests g → (old new : Storage D g) (last : State) (now : D) → OverStore old (λ store. Sits disk store before) → Made old before calls new last → now ≡ disk_of new
+      → (m ≡ stop) ⊎ ((g.moment now ≤ m) × (g.moment now ≤ stop)) → MayBeLeft g now m c → Left stop calls before c
+  leaves late_counts old new last now opens made of_it at may = storage_leaves new last now (all_made g late_counts disk before old new last calls opens made) of_it at may
 
 -- the stop is at the moment that was wanted, or at the disk's last one, where that comes before
 pub min_at : (m stop end n : ℕ) → m ≡ min stop n → n ≡ end → (m ≡ stop) ⊎ ((end ≤ m) × (end ≤ stop))

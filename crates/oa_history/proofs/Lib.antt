@@ -5,6 +5,9 @@ pub mod Found
 pub mod Leaving
 pub mod Living
 pub mod Reading
+pub mod Replying
+pub mod Streams
 pub mod Switched
 pub mod TakenUp
+pub mod Unmade
 pub mod Withstanding

@@ -1,5 +1,5 @@
 -- What stands on a disk between two sessions, and what an opening of it makes.
-use Rattle.std.specs.Prelude.{◌≡◌, false, [], ⊤}
+use Rattle.std.specs.Prelude.{◌≡◌, ◌<◌, ℕ, false, [], ⊤}
 use Rattle.oa_disk.specs.Disk.{NothingPending}
 use Rattle.oa_disk.specs.Memory.{contents_of, image_of, moments_of}
 use Rattle.oa_disk.specs.declared.disk.Disk.{Ghosts}
@@ -12,6 +12,8 @@ use Rattle.oa_turn.specs.States.{State}
 use Rattle.oa_server.specs.Storages.{OverStore}
 use Rattle.oa_server.specs.declared.server.Server.{Server}
 use Rattle.oa_store.specs.Faults.{SpeaksOfContents}
+use Rattle.oa_store.specs.declared.fault.FormatFault.{FormatFault}
+use Rattle.oa_store.specs.declared.fault.FormatFault.TheVariants as formats
 use Rattle.oa_store.specs.declared.store.Store.{Store}
 use Rattle.oa_history.specs.declared.fault.HistoryFault.{HistoryFault}
 use Rattle.oa_history.specs.declared.fault.HistoryFault.TheVariants.{Format, Open, Checkpoint, Text, Memory}
@@ -36,10 +38,24 @@ pub record BeginsServing {D : Type 0} {g : Ghosts D} (disk : D) (server : Server
   pub host : server.clerk.host ≡ state
   pub over : OverStore server.clerk.storage (λ store. Sits disk store state)
 
--- Why there is no history: memory is wanting, or room on the disk, or a call of it has failed. No opening was refused.
+-- Why a store that stands has no history: memory is wanting, or room on the disk, or a call of it has failed. No opening was refused.
 abbrev pub IsWanting : HistoryFault → Type 0
-IsWanting (Format fault) = ⊤
+IsWanting (Format fault) = ⊥
 IsWanting (Open fault) = SpeaksOfContents fault → ⊥
 IsWanting (Checkpoint fault) = ⊤
 IsWanting (Text fault) = ⊤
 IsWanting Memory = ⊤
+
+-- it says no more than that of a disk of this size: one is too small where it has no room for a store
+abbrev pub IsUnformatted : ℕ → FormatFault → Type 0
+IsUnformatted size formats.TooSmall = size < 75505664
+IsUnformatted size (formats.Device fault) = ⊤
+IsUnformatted size formats.Memory = ⊤
+
+-- Why a disk of this size has none: that, or it was not formatted.
+abbrev pub IsUnmade : ℕ → HistoryFault → Type 0
+IsUnmade size (Format fault) = IsUnformatted size fault
+IsUnmade size (Open fault) = SpeaksOfContents fault → ⊥
+IsUnmade size (Checkpoint fault) = ⊤
+IsUnmade size (Text fault) = ⊤
+IsUnmade size Memory = ⊤

@@ -2,4 +2,6 @@ pub mod Between
 pub mod Kept
 pub mod Lived
 pub mod OneGroup
+pub mod Stops
+pub mod Streamed
 pub mod Survived

@@ -5,7 +5,7 @@ ghost use Rattle.oa_journal.specs.Shapes.{default_bank_bytes};
 ghost use Rattle.oa_turn.specs.States.{state_of};
 ghost use Rattle.oa_table.specs.Tables.{first_table};
 ghost use Rattle.oa_history.specs.Between.{IsStoppedFormatting};
-ghost use Rattle.oa_history.specs.Kept.{IsKept, IsFreshDisk, IsWanting};
+ghost use Rattle.oa_history.specs.Kept.{IsKept, IsFreshDisk, IsUnmade};
 
 use crate::HistoryFault;
 use oa_disk::{MemoryDisk, Tear};
@@ -28,7 +28,7 @@ pub fn formatted(
     ensures settled { IfOk result (λ r. IsFreshDisk r.1) }
     ensures formatted { IfOk result (λ r. IsStoppedFormatting (contents_of disk) library.now moment tear r.0 (contents_of r.1)) }
     ensures kept { IfOk result (λ r. moments_of r.0 ≤ moment → IsKept r.1 (state_of default_bank_bytes library.now first_table)) }
-    ensures wanting { IfErr result IsWanting }
+    ensures wanting { IfErr result (IsUnmade disk.first.size) }
 {
     library.is_checked();
     what_was_served_is_served_again();

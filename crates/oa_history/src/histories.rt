@@ -1,6 +1,8 @@
-//! A session in which an object is made, and a checkpoint, stopped before anything of the session is kept, and at their ends.
-use crate::{ServerCall, Session, Step, Stop, relive};
+//! A session in which an object is made, and a checkpoint, stopped before anything of the session is kept, and at their ends; and a session
+//! over a stream behind them.
+use crate::{Asked, Input, Replies, ServerCall, Session, Step, Stop, relive};
 use oa_disk::{MemoryDisk, Tear};
+use oa_frame::Framing;
 use oa_idl::parse;
 use oa_typelib::check;
 use std::alloc::Global;
@@ -29,23 +31,56 @@ fn session(alloc: Global, moment: u64, tear: Tear) -> Option<Step> {
     let mut calls = Vec::new(alloc);
     calls.push(ServerCall::new(bodies, 1)).ok()?;
     Some(Step::Session(Session {
-        calls,
+        asked: Asked::Calls(calls),
         moment,
         tear,
     }))
 }
 
-/// The number of the next object, behind a session and a checkpoint that were stopped at the moment, and another session that was stopped
-/// at its end.
+/// A session over a stream that makes another one, stopped at its end.
+fn streamed(alloc: Global) -> Option<Step> {
+    let mut bytes = Vec::new(alloc);
+    bytes.extend_from_slice(&24u32.to_le_bytes()).ok()?;
+    bytes.extend_from_slice(&CREATE).ok()?;
+    Some(Step::Session(Session {
+        asked: Asked::Stream(Input::new(bytes, Framing::Records, 16)),
+        moment: END,
+        tear: Tear::Lost,
+    }))
+}
+
+/// The number of the object that was made over a stream: it stands behind the length and the head of the reply.
+fn made_over(replies: &Replies) -> Option<u8> {
+    match replies {
+        Replies::Calls(_) => None,
+        Replies::Stream(written) => {
+            let output = written.output.bytes();
+            if output.len() == 28 {
+                Some(output[20])
+            } else {
+                None
+            }
+        }
+    }
+}
+
+/// The number of the next object, behind a session and a checkpoint that were stopped at the moment, and a session over a stream that was
+/// stopped at its end and has told the number before that.
 fn next_of(alloc: Global, moment: u64, tear: Tear) -> Option<u32> {
     let library = check(alloc, parse(alloc, SMALL).ok()?).ok()?;
     let disk = MemoryDisk::new(alloc, 75_505_664, 100, 4000).ok()?;
     let mut steps = Vec::new(alloc);
     steps.push(session(alloc, moment, tear)?).ok()?;
     steps.push(Step::Checkpoint(Stop { moment, tear })).ok()?;
-    steps.push(session(alloc, END, Tear::Lost)?).ok()?;
+    steps.push(streamed(alloc)?).ok()?;
     let lived = relive(alloc, &library, disk, &steps).ok()?;
-    Some(lived.table.next())
+    let made = made_over(&lived.heard.as_slice().last()?.replies)?;
+    let next = lived.table.next();
+    if next == u32::from(made).saturating_add(1) {
+        Some(next)
+    } else {
+        None
+    }
 }
 
 fn expect(rt: &impl Abort, what: &str, holds: bool) {

@@ -4,11 +4,11 @@ ghost use Rattle.oa_disk.specs.Memory.{contents_of};
 ghost use Rattle.oa_journal.specs.Shapes.{default_bank_bytes};
 ghost use Rattle.oa_turn.specs.States.{State, state_of};
 ghost use Rattle.oa_table.specs.Tables.{first_table};
-ghost use Rattle.oa_history.specs.Kept.{IsKept, IsFreshDisk, IsWanting};
+ghost use Rattle.oa_history.specs.Kept.{IsKept, IsFreshDisk, IsUnmade, IsWanting};
 ghost use Rattle.oa_history.specs.Lived.{IsLived, IsStepped};
 
 use crate::opening::{begun, reopened, shown};
-use crate::{Heard, HistoryFault, Opened, Step, checkpointed, stopped};
+use crate::{Heard, HistoryFault, Opened, Replies, Step, checkpointed, stopped};
 use oa_disk::MemoryDisk;
 use oa_table::Table;
 use oa_typelib::Library;
@@ -43,17 +43,18 @@ fn stepped(
         Step::Session(session) => stopped(alloc, disk, session),
         Step::Checkpoint(stop) => {
             let (disk, left) = checkpointed(alloc, disk, *stop)?;
-            let answers = Vec::new(alloc);
-            Ok((Heard { answers, disk }, left))
+            let replies = Replies::Calls(Vec::new(alloc));
+            Ok((Heard { replies, disk }, left))
         }
     }
 }
 
 /// Formats the disk with the library, plays the sessions on it and makes the checkpoints, one after another, and opens it once more.
 ///
-/// Each session opens what the stop before it has left. Its replies are those of a run from the state that was kept, a library and
-/// a table of objects, group for group; and its own stop keeps some first groups of it, whole, all that were answered among them. A checkpoint keeps the state. The state
-/// that is told at last is the one that the last stop has kept. A request that was not answered with S_OK leaves no trace in it.
+/// Each session opens what the stop before it has left. Its replies are those of a run from the state that was kept, a library and a table of
+/// objects, group for group; and its own stop keeps some first groups of it, whole, all that were answered among them: over a stream all whose
+/// replies had been handed out. A checkpoint keeps the state. The state that is told at last is the one that the last stop has kept. A request
+/// that was not answered with S_OK leaves no trace in it.
 ///
 /// Memory is taken for each disk's calls and for what they write. An Err says that it was refused, or that a disk has no room for a store or
 /// for a call more: no opening is refused.
@@ -64,7 +65,7 @@ pub fn relive(
     steps: &[Step],
 ) -> Result<Lived, HistoryFault>
     ensures lived { IfOk result (IsLived (state_of default_bank_bytes library.now first_table) steps.now) }
-    ensures wanting { IfErr result IsWanting }
+    ensures wanting { IfErr result (IsUnmade disk.first.size) }
 {
     let mut disk = begun(alloc, disk, library)?;
     let mut heard = Vec::new(alloc);

@@ -1,5 +1,5 @@
-//! Sessions of a server on a disk in memory, as calls: one after another, each stopped at a moment of its disk's clock
-//! (`relive`), and one over a disk that fails from some call on (`survive`).
+//! Sessions of a server on a disk in memory, as calls: one after another, by calls of the server or over a stream, each
+//! stopped at a moment of its disk's clock (`relive`), and one over a disk that fails from some call on (`survive`).
 //!
 //! Its contract: what each call answers is lived or survived as a reader of the proofs would have it (`IsLived`,
 //! `IsSurvived`); docs/reading-the-proofs.md begins with them.
@@ -10,6 +10,8 @@
 mod checkpointing;
 mod failing;
 mod fault;
+#[cfg(test)]
+mod formats;
 mod formatting;
 #[cfg(test)]
 mod histories;
@@ -20,6 +22,7 @@ mod opening;
 mod script;
 mod session;
 mod stopping;
+mod streaming;
 mod surviving;
 
 pub use checkpointing::checkpointed;
@@ -27,6 +30,8 @@ pub use failing::{Fused, Told, withstood};
 pub use fault::HistoryFault;
 pub use formatting::formatted;
 pub use history::{Lived, relive};
-pub use session::{Answer, Heard, Opened, ServerCall, Session, Step, Stop};
+pub use session::{
+    Answer, Asked, Heard, Input, Opened, Replies, ServerCall, Session, Step, Stop, Written,
+};
 pub use stopping::stopped;
 pub use surviving::{Survived, survive};

@@ -8,7 +8,7 @@ ghost use Rattle.oa_turn.specs.States.{State, state_of};
 ghost use Rattle.oa_store.specs.Stores.{IsStore};
 ghost use Rattle.oa_table.specs.Tables.{first_table};
 ghost use Rattle.oa_typelib.specs.Checked.{IsChecked};
-ghost use Rattle.oa_history.specs.Kept.{BeginsServing, IsKept, IsFreshDisk, IsWanting};
+ghost use Rattle.oa_history.specs.Kept.{BeginsServing, IsKept, IsFreshDisk, IsUnmade, IsWanting};
 ghost use Rattle.oa_history.specs.declared.fault.HistoryFault.TheVariants.{Memory};
 
 use crate::{HistoryFault, Opened};
@@ -31,7 +31,7 @@ pub(crate) fn begun(
 ) -> Result<MemoryDisk, HistoryFault>
     ensures settled { IfOk result IsFreshDisk }
     ensures kept { IfOk result (λ disk. IsKept disk (state_of default_bank_bytes library.now first_table)) }
-    ensures wanting { IfErr result IsWanting }
+    ensures wanting { IfErr result (IsUnmade disk.first.size) }
 {
     library.is_checked();
     what_was_served_is_served_again();

@@ -1,16 +1,23 @@
 //! One script in two sessions, with a checkpoint between them. Each of the three is stopped at every moment of its disk with each tear, and
-//! so is the opening behind each of these stops; and each session is played over disks that fail from each call on.
-ghost use Rattle.std.specs.Prelude.{◌≤◌, IfSome};
+//! so is the opening behind each of these stops; each session is stopped so over a stream too; and each is played over disks that fail from
+//! each call on.
+ghost use Rattle.std.specs.Prelude.{◌≡◌, ◌≤◌, IfSome};
+ghost use Rattle.oa_model.specs.Limits.{max_group};
 ghost use Rattle.oa_history.specs.Kept.{IsFreshDisk};
 
 use crate::opening::begun;
 use crate::surviving::taken_up;
-use crate::{Heard, ServerCall, Session, Stop, Told, checkpointed, stopped, withstood};
+use crate::{
+    Answer, Asked, Heard, Input, Replies, ServerCall, Session, Stop, Survived, Told, checkpointed,
+    stopped, survive, withstood,
+};
 use oa_disk::{DeviceFault, MemoryDisk, Tear};
+use oa_frame::Framing;
 use oa_idl::parse;
 use oa_model::HResult;
 use oa_record::Reply;
-use oa_typelib::check;
+use oa_server::{End, Server};
+use oa_typelib::{Library, check};
 use std::alloc::Global;
 use std::process::Abort;
 use std::rt::HostRuntime;
@@ -29,6 +36,17 @@ const REQUESTS: [&str; 7] = [
     "05000000070000000100000008000000000000000000000000000000000000000000000000000000000000000000000000000000000000000000000000000000030000000a000000",
     "06000000040000000100000001000000000000000000000000000000000000000000000000000000000000000000000000000000040000000100000001000000fdffffff000000001800000000000000030000000000000003000000000000000300000008000000",
     "07000000020000000100000000000000",
+];
+
+/// What they are answered.
+const REPLIES: [&str; 7] = [
+    "0100000000000000ffffffff000000000100000000000000",
+    "0200000000000000ffffffff00000000",
+    "0300000000000000ffffffff00000000",
+    "0400000000000000ffffffff00000000",
+    "0500000000000000ffffffff00000000",
+    "0600000000000000ffffffff00000000",
+    "0700000000000000ffffffff00000000",
 ];
 
 /// The count, the name and the grid are read.
@@ -74,10 +92,10 @@ const READ: [&str; 8] = [
 ];
 
 /// Behind the end of any session.
-const END: u64 = 0xffff_ffff;
+pub(crate) const END: u64 = 0xffff_ffff;
 
 /// What becomes of what was pending.
-const TEARS: [Tear; 7] = [
+pub(crate) const TEARS: [Tear; 7] = [
     Tear::Lost,
     Tear::Kept,
     Tear::Filled(0),
@@ -130,28 +148,59 @@ fn place_of(text: &str, least: usize, most: usize) -> Option<usize> {
 }
 
 /// A disk of zeros, with room for what is played on it.
-fn new_disk(alloc: Global) -> Option<MemoryDisk>
+pub(crate) fn new_disk(alloc: Global) -> Option<MemoryDisk>
     ensures { IfSome result IsFreshDisk }
 {
     MemoryDisk::new(alloc, 75_505_664, 200, 4000).ok()
+}
+
+pub(crate) fn library(alloc: Global) -> Option<Library> {
+    check(alloc, parse(alloc, SMALL).ok()?).ok()
 }
 
 /// A new store of the library.
 fn new_store(alloc: Global) -> Option<MemoryDisk>
     ensures { IfSome result IsFreshDisk }
 {
-    let library = check(alloc, parse(alloc, SMALL).ok()?).ok()?;
-    begun(alloc, new_disk(alloc)?, &library).ok()
+    begun(alloc, new_disk(alloc)?, &library(alloc)?).ok()
+}
+
+/// A store in which an object was made.
+pub(crate) fn store_of_one(alloc: Global) -> Option<MemoryDisk>
+    ensures { IfSome result IsFreshDisk }
+{
+    let store = new_store(alloc)?;
+    let calls = calls_of(alloc, REQUESTS.get(..1)?, 1)?;
+    let (_, store) = played(alloc, &store, calls, END, Tear::Lost)?;
+    Some(store)
 }
 
 /// The disk once more, with what is read of it.
-fn again(disk: &MemoryDisk) -> Option<MemoryDisk>
+pub(crate) fn again(disk: &MemoryDisk) -> Option<MemoryDisk>
     ensures { IfSome result IsFreshDisk }
 {
     disk.crash(disk.moments(), Tear::Kept).ok()
 }
 
-/// Plays a session of these calls on a copy of the disk: what was heard, and what the stop has left.
+/// Plays a session that asks this on a copy of the disk: what was heard, and what the stop has left.
+fn asked(
+    alloc: Global,
+    disk: &MemoryDisk,
+    asked: Asked,
+    moment: u64,
+    tear: Tear,
+) -> Option<(Heard, MemoryDisk)>
+    ensures { IfSome result (λ r. IsFreshDisk r.1) }
+{
+    let session = Session {
+        asked,
+        moment,
+        tear,
+    };
+    stopped(alloc, again(disk)?, &session).ok()
+}
+
+/// The same of these calls.
 fn played(
     alloc: Global,
     disk: &MemoryDisk,
@@ -161,12 +210,30 @@ fn played(
 ) -> Option<(Heard, MemoryDisk)>
     ensures { IfSome result (λ r. IsFreshDisk r.1) }
 {
-    let session = Session {
-        calls,
-        moment,
-        tear,
+    asked(alloc, disk, Asked::Calls(calls), moment, tear)
+}
+
+/// The answers of a session by calls.
+fn answers_of(heard: &Heard) -> Option<&[Answer]> {
+    match &heard.replies {
+        Replies::Calls(answers) => Some(answers.as_slice()),
+        Replies::Stream(_) => None,
+    }
+}
+
+/// The store behind the first session and the checkpoint.
+fn next_store(alloc: Global, store: &MemoryDisk, group: usize) -> Option<MemoryDisk>
+    requires { 1 ≤ group }
+    ensures { IfSome result IsFreshDisk }
+{
+    let calls = calls_of(alloc, REQUESTS.get(..5)?, group)?;
+    let (_, store) = played(alloc, store, calls, END, Tear::Lost)?;
+    let end = Stop {
+        moment: END,
+        tear: Tear::Lost,
     };
-    stopped(alloc, again(disk)?, &session).ok()
+    let (_, store) = checkpointed(alloc, store, end).ok()?;
+    Some(store)
 }
 
 /// What was tried: moments at which a session or a checkpoint was stopped, and openings behind these stops.
@@ -180,7 +247,7 @@ struct Tried {
 fn read_of(alloc: Global, disk: &MemoryDisk, least: usize, most: usize) -> Option<(usize, u64)> {
     let (heard, _) = played(alloc, disk, calls_of(alloc, &READS, 3)?, END, Tear::Kept)?;
     let mut text = String::new(alloc);
-    for answer in heard.answers.as_slice() {
+    for answer in answers_of(&heard)? {
         put_replies(alloc, &mut text, answer.replies.as_slice());
     }
     Some((place_of(text.as_str(), least, most)?, heard.disk.moments()))
@@ -206,14 +273,14 @@ fn openings(
 }
 
 /// How many of the requests were answered by the moment, after `first` of them.
-fn answered_by(heard: &Heard, first: usize, moment: u64) -> usize {
+fn answered_by(heard: &Heard, first: usize, moment: u64) -> Option<usize> {
     let mut count = first;
-    for answer in heard.answers.as_slice() {
+    for answer in answers_of(heard)? {
         if answer.moment <= moment {
             count = count.saturating_add(answer.replies.len());
         }
     }
-    count
+    Some(count)
 }
 
 /// Stops the session of these requests, before which `first` were kept, at each moment.
@@ -235,7 +302,7 @@ fn stops(
     };
     for moment in 0..whole.disk.moments().saturating_add(1) {
         let (heard, left) = played(alloc, disk, calls_of(alloc, lines, group)?, moment, tear)?;
-        let least = answered_by(&heard, first, moment);
+        let least = answered_by(&heard, first, moment)?;
         let count = openings(alloc, &left, least, most, tear)?;
         tried.stops = tried.stops.saturating_add(1);
         tried.openings = tried.openings.saturating_add(count);
@@ -260,7 +327,7 @@ fn checkpoint_stops(alloc: Global, disk: &MemoryDisk, place: usize, tear: Tear) 
 }
 
 /// The first session, the checkpoint and the second session, in groups of so many.
-fn script(alloc: Global, group: usize, tear: Tear) -> Option<[Tried; 3]>
+fn script(alloc: Global, group: usize, tear: Tear) -> Option<Tried>
     requires { 1 ≤ group }
 {
     let store = new_store(alloc)?;
@@ -270,7 +337,12 @@ fn script(alloc: Global, group: usize, tear: Tear) -> Option<[Tried; 3]>
     let between = checkpoint_stops(alloc, &store, 5, tear)?;
     let (_, store) = checkpointed(alloc, store, Stop { moment: END, tear }).ok()?;
     let two = stops(alloc, &store, REQUESTS.get(5..)?, 5, group, tear)?;
-    Some([one, between, two])
+    let stops = one.stops.saturating_add(between.stops);
+    let openings = one.openings.saturating_add(between.openings);
+    Some(Tried {
+        stops: stops.saturating_add(two.stops),
+        openings: openings.saturating_add(two.openings),
+    })
 }
 
 /// What is due behind a session over a disk that fails: so many of the requests were done, or the group in which it has failed too; and
@@ -335,8 +407,12 @@ fn due_of(told: &Result<Vec<Told>, DeviceFault>, first: usize, first_failing: u6
 
 /// How many of the requests a server holds that is opened on this disk, as it is.
 fn read_as_it_is(alloc: Global, disk: MemoryDisk, least: usize, most: usize) -> Option<usize> {
-    let opened = taken_up(alloc, disk).ok()?;
-    let mut server = opened.server;
+    read_by(alloc, taken_up(alloc, disk).ok()?.server, least, most)
+}
+
+/// How many of the requests the server holds.
+fn read_by(alloc: Global, server: Server<MemoryDisk>, least: usize, most: usize) -> Option<usize> {
+    let mut server = server;
     let mut bodies = Vec::new(alloc);
     for line in READS {
         bodies.push(hex::decode(alloc, line).ok()?).ok()?;
@@ -368,6 +444,21 @@ struct Found {
     none: u64,
 }
 
+/// One more, where so many of the requests were found.
+fn counted(found: Found, due: Due, place: usize) -> Option<Found> {
+    let mut found = found;
+    if !due.opened {
+        found.openings = found.openings.saturating_add(1);
+    } else if place == due.most {
+        found.whole = found.whole.saturating_add(1);
+    } else if place == due.least {
+        found.none = found.none.saturating_add(1);
+    } else {
+        return None;
+    }
+    Some(found)
+}
+
 /// Plays the session of these requests over disks that fail from each call on, up to one that does not fail.
 fn failures(
     alloc: Global,
@@ -392,158 +483,270 @@ fn failures(
         if !due.failed {
             return Some(found);
         }
-        if !due.opened {
-            found.openings = found.openings.saturating_add(1);
-        } else if place == due.most {
-            found.whole = found.whole.saturating_add(1);
-        } else if place == due.least {
-            found.none = found.none.saturating_add(1);
-        } else {
-            return None;
+        found = counted(found, due, place)?;
+    }
+    None
+}
+
+/// What `survive` comes to: the same of a new store, and the library and the table that it tells.
+fn survived(alloc: Global, group: usize, first_failing: u64) -> Option<(Due, usize)>
+    requires { 1 ≤ group }
+{
+    let library = library(alloc)?;
+    let calls = calls_of(alloc, REQUESTS.get(..5)?, group)?;
+    let Survived {
+        told,
+        library: text,
+        table,
+        opened,
+    } = survive(
+        alloc,
+        &library,
+        new_disk(alloc)?,
+        calls.as_slice(),
+        first_failing,
+    )
+    .ok()?;
+    let due = due_of(&told, 0, first_failing)?;
+    let place = read_by(alloc, opened.server, due.least, due.most)?;
+    let next = if place == 0 { 1 } else { 2 };
+    if text.as_slice() != library.text() || table.next() != next {
+        return None;
+    }
+    Some((due, place))
+}
+
+/// Plays the first session by `survive`, over disks that fail from each call on, up to one that does not fail.
+fn survivals(alloc: Global, group: usize) -> Option<Found>
+    requires { 1 ≤ group }
+{
+    let mut found = Found {
+        openings: 0,
+        whole: 0,
+        none: 0,
+    };
+    for first_failing in 1..300u64 {
+        let (due, place) = survived(alloc, group, first_failing)?;
+        if !due.failed {
+            return if place == 5 { Some(found) } else { None };
         }
+        found = counted(found, due, place)?;
     }
     None
 }
 
 /// The first session, and the second one behind a checkpoint, in groups of so many.
-fn failing_script(alloc: Global, group: usize) -> Option<[Found; 2]>
+fn failing_script(alloc: Global, group: usize) -> Option<Found>
     requires { 1 ≤ group }
 {
     let store = new_store(alloc)?;
-    let first = REQUESTS.get(..5)?;
-    let one = failures(alloc, &store, first, 0, group)?;
-    let (_, store) = played(
-        alloc,
-        &store,
-        calls_of(alloc, first, group)?,
-        END,
-        Tear::Lost,
-    )?;
-    let (_, store) = checkpointed(
-        alloc,
-        store,
-        Stop {
-            moment: END,
-            tear: Tear::Lost,
-        },
-    )
-    .ok()?;
-    let two = failures(alloc, &store, REQUESTS.get(5..)?, 5, group)?;
-    Some([one, two])
+    let one = failures(alloc, &store, REQUESTS.get(..5)?, 0, group)?;
+    let next = next_store(alloc, &store, group)?;
+    let two = failures(alloc, &next, REQUESTS.get(5..)?, 5, group)?;
+    Some(Found {
+        openings: one.openings.saturating_add(two.openings),
+        whole: one.whole.saturating_add(two.whole),
+        none: one.none.saturating_add(two.none),
+    })
 }
 
-fn expect(rt: &impl Abort, what: &str, holds: bool) {
-    assert!(rt; holds, "{what}");
+/// The requests of these lines, in this framing.
+fn input_of(alloc: Global, lines: &[&str], framing: Framing, group: usize) -> Option<Input>
+    requires positive { 1 ≤ group }
+    requires small { group ≤ max_group }
+{
+    let mut bytes = Vec::new(alloc);
+    for line in lines {
+        put_line(alloc, &mut bytes, *line, framing)?;
+    }
+    Some(Input::new(bytes, framing, group))
+}
+
+fn put_line(alloc: Global, bytes: &mut Vec<u8>, line: &str, framing: Framing) -> Option<()> {
+    match framing {
+        Framing::HexLines => {
+            bytes.extend_from_slice(line.as_bytes()).ok()?;
+            bytes.extend_from_slice(b"\n").ok()
+        }
+        Framing::Records => {
+            let body = hex::decode(alloc, line).ok()?;
+            let length = body.len() as u32;
+            bytes.extend_from_slice(&length.to_le_bytes()).ok()?;
+            bytes.extend_from_slice(body.as_slice()).ok()
+        }
+    }
+}
+/// Whether so many requests were answered so on a stream.
+fn is_answered(heard: &Heard, requests: usize, due: &[u8]) -> bool {
+    match &heard.replies {
+        Replies::Calls(_) => false,
+        Replies::Stream(written) => {
+            let served = written.served;
+            written.output.bytes() == due
+                && served.requests == requests as u64
+                && served.why == End::Closed
+        }
+    }
+}
+
+/// Stops the session of these requests over a stream at each moment. Of its parts, each a group, those count that are over by then: they
+/// make the same calls of the disk as calls of a group each.
+fn stream_stops(
+    alloc: Global,
+    disk: &MemoryDisk,
+    lines: &[&str],
+    first: usize,
+    group: usize,
+    framing: Framing,
+    tear: Tear,
+) -> Option<u64>
+    requires positive { 1 ≤ group }
+    requires small { group ≤ max_group }
+{
+    let most = first.saturating_add(lines.len());
+    let due = input_of(alloc, REPLIES.get(first..most)?, framing, group)?;
+    let (whole, _) = played(alloc, disk, calls_of(alloc, lines, group)?, END, tear)?;
+    let mut count = 0u64;
+    for moment in 0..whole.disk.moments().saturating_add(1) {
+        let input = input_of(alloc, lines, framing, group)?;
+        let (heard, left) = asked(alloc, disk, Asked::Stream(input), moment, tear)?;
+        if !is_answered(&heard, lines.len(), due.bytes.as_slice())
+            || heard.disk.moments() != whole.disk.moments()
+        {
+            return None;
+        }
+        let least = answered_by(&whole, first, moment)?;
+        let _ = read_of(alloc, &left, least, most)?;
+        count = count.saturating_add(1);
+    }
+    Some(count)
+}
+
+/// The first session over a stream, and the second one behind a checkpoint, with each tear: how many stops there were.
+fn stream_script(alloc: Global, group: usize, framing: Framing) -> Option<u64>
+    requires positive { 1 ≤ group }
+    requires small { group ≤ max_group }
+{
+    let store = new_store(alloc)?;
+    let first = REQUESTS.get(..5)?;
+    let next = next_store(alloc, &store, group)?;
+    let mut one = 0u64;
+    let mut two = 0u64;
+    for tear in TEARS {
+        let stops = stream_stops(alloc, &store, first, 0, group, framing, tear)?;
+        one = one.saturating_add(stops);
+        let stops = stream_stops(alloc, &next, REQUESTS.get(5..)?, 5, group, framing, tear)?;
+        two = two.saturating_add(stops);
+    }
+    Some(one.saturating_add(two))
+}
+
+fn expect(rt: &impl Abort, holds: bool) {
+    assert!(rt; holds, "lost");
 }
 
 #[test]
 fn lost_in_groups_of_1(rt: HostRuntime) {
-    expect(&rt, "lost", script(rt.alloc(), 1, Tear::Lost).is_some());
+    expect(&rt, script(rt.alloc(), 1, Tear::Lost).is_some());
 }
 
 #[test]
 fn kept_in_groups_of_1(rt: HostRuntime) {
-    expect(&rt, "kept", script(rt.alloc(), 1, Tear::Kept).is_some());
+    expect(&rt, script(rt.alloc(), 1, Tear::Kept).is_some());
 }
 
 #[test]
 fn filled_with_0_in_groups_of_1(rt: HostRuntime) {
-    expect(
-        &rt,
-        "filled_with_0",
-        script(rt.alloc(), 1, Tear::Filled(0)).is_some(),
-    );
+    expect(&rt, script(rt.alloc(), 1, Tear::Filled(0)).is_some());
 }
 
 #[test]
 fn filled_with_1_in_groups_of_1(rt: HostRuntime) {
-    expect(
-        &rt,
-        "filled_with_1",
-        script(rt.alloc(), 1, Tear::Filled(1)).is_some(),
-    );
+    expect(&rt, script(rt.alloc(), 1, Tear::Filled(1)).is_some());
 }
 
 #[test]
 fn filled_with_7_in_groups_of_1(rt: HostRuntime) {
-    expect(
-        &rt,
-        "filled_with_7",
-        script(rt.alloc(), 1, Tear::Filled(7)).is_some(),
-    );
+    expect(&rt, script(rt.alloc(), 1, Tear::Filled(7)).is_some());
 }
 
 #[test]
 fn filled_with_ff_in_groups_of_1(rt: HostRuntime) {
-    expect(
-        &rt,
-        "filled_with_ff",
-        script(rt.alloc(), 1, Tear::Filled(0xff)).is_some(),
-    );
+    expect(&rt, script(rt.alloc(), 1, Tear::Filled(0xff)).is_some());
 }
 
 #[test]
 fn cut_in_groups_of_1(rt: HostRuntime) {
-    expect(&rt, "cut", script(rt.alloc(), 1, Tear::Cut(1)).is_some());
+    expect(&rt, script(rt.alloc(), 1, Tear::Cut(1)).is_some());
 }
 
 #[test]
 fn lost_in_groups_of_3(rt: HostRuntime) {
-    expect(&rt, "lost", script(rt.alloc(), 3, Tear::Lost).is_some());
+    expect(&rt, script(rt.alloc(), 3, Tear::Lost).is_some());
 }
 
 #[test]
 fn kept_in_groups_of_3(rt: HostRuntime) {
-    expect(&rt, "kept", script(rt.alloc(), 3, Tear::Kept).is_some());
+    expect(&rt, script(rt.alloc(), 3, Tear::Kept).is_some());
 }
 
 #[test]
 fn filled_with_0_in_groups_of_3(rt: HostRuntime) {
-    expect(
-        &rt,
-        "filled_with_0",
-        script(rt.alloc(), 3, Tear::Filled(0)).is_some(),
-    );
+    expect(&rt, script(rt.alloc(), 3, Tear::Filled(0)).is_some());
 }
 
 #[test]
 fn filled_with_1_in_groups_of_3(rt: HostRuntime) {
-    expect(
-        &rt,
-        "filled_with_1",
-        script(rt.alloc(), 3, Tear::Filled(1)).is_some(),
-    );
+    expect(&rt, script(rt.alloc(), 3, Tear::Filled(1)).is_some());
 }
 
 #[test]
 fn filled_with_7_in_groups_of_3(rt: HostRuntime) {
-    expect(
-        &rt,
-        "filled_with_7",
-        script(rt.alloc(), 3, Tear::Filled(7)).is_some(),
-    );
+    expect(&rt, script(rt.alloc(), 3, Tear::Filled(7)).is_some());
 }
 
 #[test]
 fn filled_with_ff_in_groups_of_3(rt: HostRuntime) {
-    expect(
-        &rt,
-        "filled_with_ff",
-        script(rt.alloc(), 3, Tear::Filled(0xff)).is_some(),
-    );
+    expect(&rt, script(rt.alloc(), 3, Tear::Filled(0xff)).is_some());
 }
 
 #[test]
 fn cut_in_groups_of_3(rt: HostRuntime) {
-    expect(&rt, "cut", script(rt.alloc(), 3, Tear::Cut(1)).is_some());
+    expect(&rt, script(rt.alloc(), 3, Tear::Cut(1)).is_some());
 }
 
 #[test]
 fn fails_in_groups_of_1(rt: HostRuntime) {
-    expect(&rt, "fails", failing_script(rt.alloc(), 1).is_some());
+    expect(&rt, failing_script(rt.alloc(), 1).is_some());
+}
+
+#[test]
+fn survives_in_groups_of_1(rt: HostRuntime) {
+    expect(&rt, survivals(rt.alloc(), 1).is_some());
 }
 
 #[test]
 fn fails_in_groups_of_3(rt: HostRuntime) {
-    expect(&rt, "fails", failing_script(rt.alloc(), 3).is_some());
+    expect(&rt, failing_script(rt.alloc(), 3).is_some());
+}
+
+#[test]
+fn survives_in_groups_of_3(rt: HostRuntime) {
+    expect(&rt, survivals(rt.alloc(), 3).is_some());
+}
+
+#[test]
+fn lines_in_groups_of_1(rt: HostRuntime) {
+    expect(
+        &rt,
+        stream_script(rt.alloc(), 1, Framing::HexLines).is_some(),
+    );
+}
+
+#[test]
+fn records_in_groups_of_3(rt: HostRuntime) {
+    expect(
+        &rt,
+        stream_script(rt.alloc(), 3, Framing::Records).is_some(),
+    );
 }

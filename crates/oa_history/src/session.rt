@@ -3,8 +3,10 @@ ghost use Rattle.std.specs.Prelude.{◌≡◌, ◌≤◌};
 ghost use Rattle.oa_model.specs.Limits.{max_group};
 
 use oa_disk::{MemoryDisk, Tear};
+use oa_frame::Framing;
 use oa_record::Reply;
-use oa_server::Server;
+use oa_server::{Served, Server};
+use oa_stream::Gathered;
 
 /// One call of a server: requests, of which so many are a group.
 #[derive(Drop)]
@@ -27,10 +29,45 @@ impl ServerCall {
     }
 }
 
-/// What a session asks, call by call, and where it is stopped.
+/// What a server reads in a session over a stream, and in groups of how many requests it answers.
+#[derive(Drop)]
+pub struct Input {
+    pub bytes: Vec<u8>,
+    /// Whether they are lines of hexadecimal digits, or records.
+    pub framing: Framing,
+    pub group: usize,
+    ghost some: { 1 ≤ group },
+    ghost few: { group ≤ max_group },
+}
+
+impl Input {
+    /// These bytes, whose requests are answered in groups of 1 to 1,024.
+    pub fn new(bytes: Vec<u8>, framing: Framing, group: usize) -> Input
+        requires some { 1 ≤ group }
+        requires few { group ≤ max_group }
+        ensures bytes { result.bytes ≡ bytes }
+        ensures framing { result.framing ≡ framing }
+        ensures group { result.group ≡ group }
+    {
+        Input {
+            bytes,
+            framing,
+            group,
+        }
+    }
+}
+
+/// What is asked in a session: calls of a server, one after another, or what it reads from a stream.
+#[derive(Drop)]
+pub enum Asked {
+    Calls(Vec<ServerCall>),
+    Stream(Input),
+}
+
+/// What a session asks, and where it is stopped.
 #[derive(Drop)]
 pub struct Session {
-    pub calls: Vec<ServerCall>,
+    pub asked: Asked,
     /// The moment of its stop, by its disk's clock, which begins at 0 with its opening: moment `2k - 1` lies within call k of the disk,
     /// and moment `2k` comes after it. A moment behind the session's end is its end.
     pub moment: u64,
@@ -59,10 +96,24 @@ pub struct Answer {
     pub moment: u64,
 }
 
-/// What was heard of a session: the answer of each call, and its disk as it was at its end. A checkpoint has no calls.
+/// What was written in a session over a stream, and how it went.
+#[derive(Drop)]
+pub struct Written {
+    pub output: Gathered,
+    pub served: Served,
+}
+
+/// What was answered in a session: each of its calls, or on a stream.
+#[derive(Drop)]
+pub enum Replies {
+    Calls(Vec<Answer>),
+    Stream(Written),
+}
+
+/// What was heard of a session: its replies, and its disk as it was at its end. A checkpoint has no calls.
 #[derive(Drop)]
 pub struct Heard {
-    pub answers: Vec<Answer>,
+    pub replies: Replies,
     pub disk: MemoryDisk,
 }
 

@@ -1,13 +1,15 @@
 //! One session, and its stop.
-ghost use Rattle.std.specs.Prelude.{◌≡◌, IfOk, IfErr};
+ghost use Rattle.std.specs.Prelude.{◌≡◌, List, IfOk, IfErr, length};
 ghost use Rattle.oa_disk.specs.Memory.{contents_of};
 ghost use Rattle.oa_turn.specs.States.{State};
 ghost use Rattle.oa_history.specs.Kept.{IsKept, IsFreshDisk, IsWanting};
-ghost use Rattle.oa_history.specs.Lived.{IsHeardUntilStop, MadeBy};
+ghost use Rattle.oa_history.specs.Lived.{Asks, IsHeardUntilStop, calls_of};
+ghost use Rattle.oa_history.specs.Stops.{Done, Made};
 ghost use Rattle.oa_history.specs.declared.fault.HistoryFault.TheVariants.{Memory};
 
 use crate::opening::reopened;
-use crate::{Answer, Heard, HistoryFault, Opened, ServerCall, Session};
+use crate::streaming::written;
+use crate::{Answer, Asked, Heard, HistoryFault, Opened, Replies, ServerCall, Session};
 use oa_disk::MemoryDisk;
 use oa_server::Server;
 use oa_server::laws::{
@@ -22,7 +24,9 @@ fn answered(
     server: &mut Server<MemoryDisk>,
     calls: &[ServerCall],
 ) -> Result<Vec<Answer>, HistoryFault>
-    ensures made { IfOk result (λ answers. MadeBy server.old calls.now answers.items server.new) }
+    ensures all { IfOk result (λ answers. length answers.items ≡ length calls.now) }
+    ensures made { IfOk result (λ answers. Made server.old.clerk.storage server.old.clerk.host (calls_of calls.now answers.items)
+        server.new.clerk.storage server.new.clerk.host) }
     ensures wanting { IfErr result (λ fault. fault ≡ Memory) }
 {
     let mut answers = Vec::new(alloc);
@@ -34,7 +38,29 @@ fn answered(
     Ok(answers)
 }
 
-/// Plays one session: opens the store on the disk with its own library, makes the calls, and stops. Answers what was heard, and the disk
+/// Asks a server what a session asks.
+fn replied(
+    alloc: Global,
+    server: &mut Server<MemoryDisk>,
+    asked: &Asked,
+) -> Result<Replies, HistoryFault>
+    ensures asked { IfOk result (λ replies. (done : List Done) × Asks asked.now replies server.old server.new done
+        × Made server.old.clerk.storage server.old.clerk.host done server.new.clerk.storage server.new.clerk.host) }
+    ensures wanting { IfErr result (λ fault. fault ≡ Memory) }
+{
+    match asked {
+        Asked::Calls(calls) => {
+            let answers = answered(alloc, server, calls.as_slice())?;
+            Ok(Replies::Calls(answers))
+        }
+        Asked::Stream(input) => {
+            let written = written(alloc, server, input)?;
+            Ok(Replies::Stream(written))
+        }
+    }
+}
+
+/// Plays one session: opens the store on the disk with its own library, asks what it asks, and stops. Answers what was heard, and the disk
 /// that the stop has left.
 pub fn stopped(
     alloc: Global,
@@ -52,8 +78,8 @@ pub fn stopped(
     sessions_go_on::<MemoryDisk>();
     a_stop_keeps_what_was_answered::<MemoryDisk>();
     let Opened { mut server } = reopened(alloc, disk)?;
-    let answers = answered(alloc, &mut server, session.calls.as_slice())?;
+    let replies = replied(alloc, &mut server, &session.asked)?;
     let disk = server.into_disk();
     let left = disk.crash(session.moment.min(disk.moments()), session.tear)?;
-    Ok((Heard { answers, disk }, left))
+    Ok((Heard { replies, disk }, left))
 }

@@ -7,7 +7,7 @@ ghost use Rattle.oa_turn.specs.Beginnings.{CanBegin};
 ghost use Rattle.oa_server.specs.Requests.{opened, requests};
 ghost use Rattle.oa_turn.specs.States.{State, state_of};
 ghost use Rattle.oa_table.specs.Tables.{first_table};
-ghost use Rattle.oa_history.specs.Kept.{IsWanting};
+ghost use Rattle.oa_history.specs.Kept.{IsUnmade, IsWanting};
 ghost use Rattle.oa_history.specs.Survived.{IsSurvived, IsTakenUp};
 
 use crate::opening::{begun, library_on, shown};
@@ -67,7 +67,7 @@ pub fn survive(
     first_failing: u64,
 ) -> Result<Survived, HistoryFault>
     ensures survived { IfOk result (IsSurvived (state_of default_bank_bytes library.now first_table) calls.now first_failing) }
-    ensures wanting { IfErr result IsWanting }
+    ensures wanting { IfErr result (IsUnmade disk.first.size) }
 {
     what_was_served_is_served_again();
     let disk = begun(alloc, disk, library)?;

@@ -7,6 +7,7 @@ use Rattle.oa_turn.specs.States.{state_of}
 use Rattle.oa_table.specs.Tables.{first_table}
 use Rattle.oa_history.specs.Lived.{Lives}
 use Rattle.oa_history.specs.declared.session.Step.{Step}
+use Rattle.oa_history.proofs.Unmade.{unmade}
 use Rattle.oa_history.proofs.Living.{lives_more, over_all, shown_library, shown_table}
 use Rattle.oa_history.proofs.history.relive.Goals as goal
 
@@ -61,10 +62,10 @@ pub returns-in_err-disk-clause-wanting : goal.returns-in_err-disk-clause-wanting
 returns-in_err-disk-clause-wanting c = let p = err_from_is_err_and c.from_residual.result c.from_residual.ensures.1 in rw (p.1, p.2) c.in_err-disk.ensures.wanting
 
 pub returns-in_err-told-clause-wanting : goal.returns-in_err-told-clause-wanting
-returns-in_err-told-clause-wanting c = let p = err_from_is_err_and c.from_residual-in_err-told.result c.from_residual-in_err-told.ensures.1 in let lives = c.steps.invariant.lives in rw (p.1, p.2) (c.in_err-told.ensures.wanting lives.2 lives.4)
+returns-in_err-told-clause-wanting c = let p = err_from_is_err_and c.from_residual-in_err-told.result c.from_residual-in_err-told.ensures.1 in let lives = c.steps.invariant.lives in rw (p.1, p.2) (unmade c.args.disk.first.size _ (c.in_err-told.ensures.wanting lives.2 lives.4))
 
 pub returns-in_err-text-clause-wanting : goal.returns-in_err-text-clause-wanting
-returns-in_err-text-clause-wanting c = let p = err_from_is_err_and c.from_residual-in_err-text.result c.from_residual-in_err-text.ensures.1 in let lives = c.steps.invariant.lives in rw (p.1, p.2) (c.in_err-text.ensures.wanting lives.2 lives.4.holds)
+returns-in_err-text-clause-wanting c = let p = err_from_is_err_and c.from_residual-in_err-text.result c.from_residual-in_err-text.ensures.1 in let lives = c.steps.invariant.lives in rw (p.1, p.2) (unmade c.args.disk.first.size _ (c.in_err-text.ensures.wanting lives.2 lives.4.holds))
 
 pub returns-in_err-opened-clause-wanting : goal.returns-in_err-opened-clause-wanting
-returns-in_err-opened-clause-wanting c = let p = err_from_is_err_and c.from_residual-in_err-opened.result c.from_residual-in_err-opened.ensures.1 in let lives = c.steps.invariant.lives in rw (p.1, p.2) (c.in_err-opened.ensures.wanting lives.2 lives.4)
+returns-in_err-opened-clause-wanting c = let p = err_from_is_err_and c.from_residual-in_err-opened.result c.from_residual-in_err-opened.ensures.1 in let lives = c.steps.invariant.lives in rw (p.1, p.2) (unmade c.args.disk.first.size _ (c.in_err-opened.ensures.wanting lives.2 lives.4))

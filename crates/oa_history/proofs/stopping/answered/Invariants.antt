@@ -1,6 +1,10 @@
-use Rattle.std.proofs.Common.{take}
-use Rattle.oa_history.specs.Lived.{Made}
+use Rattle.std.proofs.Common.{◌≡◌, length, take}
+use Rattle.oa_history.specs.Lived.{calls_of}
+use Rattle.oa_history.specs.Stops.{Made}
 use Rattle.oa_history.proofs.stopping.answered.Given as goal
 
 abbrev pub invariant-calls : goal.invariant-calls
-invariant-calls l = Made l.fn.server.clerk.storage l.fn.server.clerk.host (take l.call-index l.calls) l.answers.items l.server.clerk.storage l.server.clerk.host
+invariant-calls l = record {
+  all : length l.answers.items ≡ length (take l.call-index l.calls);
+  made : Made l.fn.server.clerk.storage l.fn.server.clerk.host (calls_of (take l.call-index l.calls) l.answers.items) l.server.clerk.storage l.server.clerk.host;
+}

@@ -3,7 +3,7 @@ use Rattle.std.proofs.lemmas.Result.{err_from_is_err_and}
 use Rattle.oa_disk.specs.Memory.{IsTornAt, contents_of, history_of, moments_of}
 use Rattle.oa_disk.specs.Replaying.{since_falls}
 use Rattle.oa_turn.specs.States.{State}
-use Rattle.oa_history.specs.Lived.{Made}
+use Rattle.oa_history.specs.Stops.{Made}
 use Rattle.oa_history.proofs.Leaving.{leaves, min_at}
 use Rattle.oa_history.proofs.stopping.stopped.Goals as goal
 
@@ -13,13 +13,13 @@ returns-clause-stopped c before kept =
     let image = contents_of c.in_ok-left.left in
     let disk = c.into_disk-disk.result in
     let first = c.in_ok-server.field-0.server.clerk in
-    let last = c.answered.new.server.clerk in
+    let last = c.replied.new.server.clerk in
+    let asked = c.in_ok-replies.ensures.asked in
     let begins = c.in_ok-server.ensures.begins before kept in
-    let calls_made : Made first.storage first.host session.calls.items c.in_ok-answers.answers.items last.storage last.host = rw (← c.as_slice.ensures.value) c.in_ok-answers.ensures.made in
-    let made = subst (λ (s : State). Made first.storage s session.calls.items c.in_ok-answers.answers.items last.storage last.host) begins.host calls_made in
+    let made = subst (λ (s : State). Made first.storage s asked.0 last.storage last.host) begins.host asked.2 in
     let left = leaves c.no_trace_of_groups.ensures c.what_was_served_is_served_again.ensures.groups c.what_was_served_is_served_again.ensures.opened _
     c.a_stop_keeps_what_was_answered.ensures.stopped c.a_stop_keeps_what_was_answered.ensures.all
-    c.args.disk session.calls.items c.in_ok-answers.answers.items before kept.begins c.min.result session.moment image (omega (arith, c.requires.start))
+    c.args.disk asked.0 before kept.begins c.min.result session.moment image (omega (arith, c.requires.start))
     c.sessions_go_on.ensures.late first.storage last.storage last.host disk begins.over made c.into_disk-disk.ensures
     (min_at c.min.result session.moment (moments_of disk) c.moments.result c.min.ensures c.moments.ensures)
     (λ k le. since_falls (history_of disk) k c.min.result image le c.in_ok-left.ensures.left) in
@@ -31,8 +31,10 @@ returns-clause-stopped c before kept =
         holds_found = refl;
         first = c.in_ok-server.field-0;
         begins = begins;
-        last = record { server = c.answered.new.server };
-        made = calls_made;
+        last = record { server = c.replied.new.server };
+        calls = asked.0;
+        asks = asked.1;
+        made = made;
         disk = c.into_disk-disk.ensures;
         torn = torn;
         stops = left.stops;

@@ -8,6 +8,7 @@ use Rattle.oa_journal.specs.Shapes.{default_bank_bytes}
 use Rattle.oa_server.specs.Requests.{requests}
 use Rattle.oa_turn.specs.States.{state_of}
 use Rattle.oa_table.specs.Tables.{first_table}
+use Rattle.oa_history.proofs.Unmade.{unmade}
 use Rattle.oa_history.proofs.Living.{shown_held, shown_library}
 use Rattle.oa_history.proofs.surviving.survive.Goals as goal
 
@@ -37,7 +38,7 @@ returns-in_err-disk-clause-wanting c = let p = err_from_is_err_and c.from_residu
 pub returns-in_err-told-clause-wanting : goal.returns-in_err-told-clause-wanting
 returns-in_err-told-clause-wanting c =
     let state = state_of default_bank_bytes c.args.library.now first_table in
-    let p = err_from_is_err_and c.from_residual-in_err-told.result c.from_residual-in_err-told.ensures.1 in rw (p.1, p.2) (c.in_err-told.ensures.wanting state c.in_ok-disk.ensures.kept)
+    let p = err_from_is_err_and c.from_residual-in_err-told.result c.from_residual-in_err-told.ensures.1 in rw (p.1, p.2) (unmade c.args.disk.first.size _ (c.in_err-told.ensures.wanting state c.in_ok-disk.ensures.kept))
 
 pub returns-in_err-text-clause-wanting : goal.returns-in_err-text-clause-wanting
 returns-in_err-text-clause-wanting c =
@@ -45,7 +46,7 @@ returns-in_err-text-clause-wanting c =
     let back = c.in_ok-told.back in
     let withstood = c.in_ok-told.ensures.withstood state c.in_ok-disk.ensures.kept in
     let kept = withstood.kept (contents_of back) (contents_is_image back.first.size (history_of back) back.whole) in
-    let p = err_from_is_err_and c.from_residual-in_err-text.result c.from_residual-in_err-text.ensures.1 in rw (p.1, p.2) (c.in_err-text.ensures.wanting kept.state kept.holds)
+    let p = err_from_is_err_and c.from_residual-in_err-text.result c.from_residual-in_err-text.ensures.1 in rw (p.1, p.2) (unmade c.args.disk.first.size _ (c.in_err-text.ensures.wanting kept.state kept.holds))
 
 pub returns-in_err-opened-clause-wanting : goal.returns-in_err-opened-clause-wanting
 returns-in_err-opened-clause-wanting c =
@@ -55,4 +56,4 @@ returns-in_err-opened-clause-wanting c =
     let withstood = c.in_ok-told.ensures.withstood state new in
     let kept = withstood.kept (contents_of back) (contents_is_image back.first.size (history_of back) back.whole) in
     let begins = c.what_was_served_is_served_again.ensures.groups state kept.state (joined kept.done) new.begins kept.run in
-    let p = err_from_is_err_and c.from_residual-in_err-opened.result c.from_residual-in_err-opened.ensures.1 in rw (p.1, p.2) (c.in_err-opened.ensures.wanting kept.state kept.holds begins)
+    let p = err_from_is_err_and c.from_residual-in_err-opened.result c.from_residual-in_err-opened.ensures.1 in rw (p.1, p.2) (unmade c.args.disk.first.size _ (c.in_err-opened.ensures.wanting kept.state kept.holds begins))

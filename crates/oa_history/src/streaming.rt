@@ -1,0 +1,31 @@
+//! What a server answers on a stream in memory.
+ghost use Rattle.std.specs.Prelude.{◌≡◌, List, IfOk, IfErr};
+ghost use Rattle.oa_history.specs.Stops.{Done, Made};
+ghost use Rattle.oa_history.specs.Streamed.{HasWritten};
+ghost use Rattle.oa_history.specs.declared.fault.HistoryFault.TheVariants.{Memory};
+
+use crate::{HistoryFault, Input, Written};
+use oa_disk::MemoryDisk;
+use oa_frame::Framing;
+use oa_server::Server;
+use oa_stream::{Ahead, Gathered};
+use std::alloc::Global;
+
+/// Answers the requests of the input on a writer in memory.
+pub(crate) fn written(
+    alloc: Global,
+    server: &mut Server<MemoryDisk>,
+    input: &Input,
+) -> Result<Written, HistoryFault>
+    ensures written { IfOk result (λ written. (done : List Done) × HasWritten input.now written server.old server.new done
+        × Made server.old.clerk.storage server.old.clerk.host done server.new.clerk.storage server.new.clerk.host) }
+    ensures wanting { IfErr result (λ fault. fault ≡ Memory) }
+{
+    let mut reader = Ahead::new(alloc, input.bytes.as_slice())?;
+    let mut output = Gathered::new(Vec::new(alloc));
+    let served = match input.framing {
+        Framing::HexLines => server.serve_hex(&mut reader, &mut output, input.group)?,
+        Framing::Records => server.serve(&mut reader, &mut output, input.group)?,
+    };
+    Ok(Written { output, served })
+}

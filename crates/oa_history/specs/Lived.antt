@@ -48,11 +48,11 @@ pub record HasReplied (calls : List ServerCall) (answers : List Answer) (done : 
   pub are : done ≡ calls_of calls answers
 
 -- Calls were made, or the server was given a stream.
-abbrev pub Asks : {D : Type 0} {g : Ghosts D} → Asked → Replies → Server D g → Server D g → List Done → Type 0
-Asks (ask.Calls calls) (told.Calls answers) old new done = HasReplied calls.items answers.items done
-Asks (ask.Stream input) (told.Stream written) old new done = HasWritten input written old new done
-Asks (ask.Calls calls) (told.Stream written) old new done = ⊥
-Asks (ask.Stream input) (told.Calls answers) old new done = ⊥
+abbrev pub HasAsked : {D : Type 0} {g : Ghosts D} → Asked → Replies → Server D g → Server D g → List Done → Type 0
+HasAsked (ask.Calls calls) (told.Calls answers) old new done = HasReplied calls.items answers.items done
+HasAsked (ask.Stream input) (told.Stream written) old new done = HasWritten input written old new done
+HasAsked (ask.Calls calls) (told.Stream written) old new done = ⊥
+HasAsked (ask.Stream input) (told.Calls answers) old new done = ⊥
 
 -- ---- a session and its stop
 
@@ -68,7 +68,7 @@ pub record IsHeardUntilStop (session : Played) (heard : Heard) (found : List ℕ
   -- it was asked what the session asks, as so many calls, each of which was made where the one before was over; and it has handed its disk back
   pub last : Opened
   pub calls : List Done
-  pub asks : Asks session.asked heard.replies first.server last.server calls
+  pub asks : HasAsked session.asked heard.replies first.server last.server calls
   pub made : Made first.server.clerk.storage before calls last.server.clerk.storage last.server.clerk.host
   pub disk : heard.disk ≡ disk_of last.server.clerk.storage
   -- what is left is what a crash of this disk at the moment of the stop leaves, as the tear says

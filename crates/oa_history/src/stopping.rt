@@ -3,7 +3,7 @@ ghost use Rattle.std.specs.Prelude.{◌≡◌, List, IfOk, IfErr, length};
 ghost use Rattle.oa_disk.specs.Memory.{contents_of};
 ghost use Rattle.oa_turn.specs.States.{State};
 ghost use Rattle.oa_history.specs.Kept.{IsKept, IsFreshDisk, IsWanting};
-ghost use Rattle.oa_history.specs.Lived.{Asks, IsHeardUntilStop, calls_of};
+ghost use Rattle.oa_history.specs.Lived.{HasAsked, IsHeardUntilStop, calls_of};
 ghost use Rattle.oa_history.specs.Stops.{Done, Made};
 ghost use Rattle.oa_history.specs.declared.fault.HistoryFault.TheVariants.{Memory};
 
@@ -44,7 +44,7 @@ fn replied(
     server: &mut Server<MemoryDisk>,
     asked: &Asked,
 ) -> Result<Replies, HistoryFault>
-    ensures asked { IfOk result (λ replies. (done : List Done) × Asks asked.now replies server.old server.new done
+    ensures asked { IfOk result (λ replies. (done : List Done) × HasAsked asked.now replies server.old server.new done
         × Made server.old.clerk.storage server.old.clerk.host done server.new.clerk.storage server.new.clerk.host) }
     ensures wanting { IfErr result (λ fault. fault ≡ Memory) }
 {

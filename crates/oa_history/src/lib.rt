@@ -20,6 +20,12 @@ pub mod laws;
 mod opening;
 #[cfg(test)]
 mod script;
+#[cfg(test)]
+mod script_failures;
+#[cfg(test)]
+mod script_stops;
+#[cfg(test)]
+mod script_streams;
 mod session;
 mod stopping;
 mod streaming;

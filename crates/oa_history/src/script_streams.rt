@@ -1,0 +1,133 @@
+//! The script, each of whose two sessions is asked over a stream and stopped at every moment of its disk with each tear.
+ghost use Rattle.std.specs.Prelude.{◌≤◌};
+ghost use Rattle.oa_model.specs.Limits.{max_group};
+
+use crate::script::{
+    END, REQUESTS, TEARS, answered_by, asked, calls_of, expect, new_store, next_store, played,
+    read_of,
+};
+use crate::{Asked, Heard, Input, Replies};
+use oa_disk::{MemoryDisk, Tear};
+use oa_frame::Framing;
+use oa_server::End;
+use std::alloc::Global;
+use std::rt::HostRuntime;
+
+/// What they are answered.
+const REPLIES: [&str; 7] = [
+    "0100000000000000ffffffff000000000100000000000000",
+    "0200000000000000ffffffff00000000",
+    "0300000000000000ffffffff00000000",
+    "0400000000000000ffffffff00000000",
+    "0500000000000000ffffffff00000000",
+    "0600000000000000ffffffff00000000",
+    "0700000000000000ffffffff00000000",
+];
+
+/// The requests of these lines, in this framing.
+fn input_of(alloc: Global, lines: &[&str], framing: Framing, group: usize) -> Option<Input>
+    requires positive { 1 ≤ group }
+    requires small { group ≤ max_group }
+{
+    let mut bytes = Vec::new(alloc);
+    for line in lines {
+        put_line(alloc, &mut bytes, *line, framing)?;
+    }
+    Some(Input::new(bytes, framing, group))
+}
+
+fn put_line(alloc: Global, bytes: &mut Vec<u8>, line: &str, framing: Framing) -> Option<()> {
+    match framing {
+        Framing::HexLines => {
+            bytes.extend_from_slice(line.as_bytes()).ok()?;
+            bytes.extend_from_slice(b"\n").ok()
+        }
+        Framing::Records => {
+            let body = hex::decode(alloc, line).ok()?;
+            let length = body.len() as u32;
+            bytes.extend_from_slice(&length.to_le_bytes()).ok()?;
+            bytes.extend_from_slice(body.as_slice()).ok()
+        }
+    }
+}
+
+/// Whether so many requests were answered so on a stream.
+fn is_answered(heard: &Heard, requests: usize, due: &[u8]) -> bool {
+    match &heard.replies {
+        Replies::Calls(_) => false,
+        Replies::Stream(written) => {
+            let served = written.served;
+            written.output.bytes() == due
+                && served.requests == requests as u64
+                && served.why == End::Closed
+        }
+    }
+}
+
+/// Stops the session of these requests over a stream at each moment. Of its parts, each a group, those count that are over by then: they
+/// make the same calls of the disk as calls of a group each.
+fn stream_stops(
+    alloc: Global,
+    disk: &MemoryDisk,
+    lines: &[&str],
+    first: usize,
+    group: usize,
+    framing: Framing,
+    tear: Tear,
+) -> Option<u64>
+    requires positive { 1 ≤ group }
+    requires small { group ≤ max_group }
+{
+    let most = first.saturating_add(lines.len());
+    let due = input_of(alloc, REPLIES.get(first..most)?, framing, group)?;
+    let (whole, _) = played(alloc, disk, calls_of(alloc, lines, group)?, END, tear)?;
+    let mut count = 0u64;
+    for moment in 0..whole.disk.moments().saturating_add(1) {
+        let input = input_of(alloc, lines, framing, group)?;
+        let (heard, left) = asked(alloc, disk, Asked::Stream(input), moment, tear)?;
+        if !is_answered(&heard, lines.len(), due.bytes.as_slice())
+            || heard.disk.moments() != whole.disk.moments()
+        {
+            return None;
+        }
+        let least = answered_by(&whole, first, moment)?;
+        let _ = read_of(alloc, &left, least, most)?;
+        count = count.saturating_add(1);
+    }
+    Some(count)
+}
+
+/// The first session over a stream, and the second one behind a checkpoint, with each tear: how many stops there were.
+fn stream_script(alloc: Global, group: usize, framing: Framing) -> Option<u64>
+    requires positive { 1 ≤ group }
+    requires small { group ≤ max_group }
+{
+    let store = new_store(alloc)?;
+    let first = REQUESTS.get(..5)?;
+    let next = next_store(alloc, &store, group)?;
+    let mut one = 0u64;
+    let mut two = 0u64;
+    for tear in TEARS {
+        let stops = stream_stops(alloc, &store, first, 0, group, framing, tear)?;
+        one = one.saturating_add(stops);
+        let stops = stream_stops(alloc, &next, REQUESTS.get(5..)?, 5, group, framing, tear)?;
+        two = two.saturating_add(stops);
+    }
+    Some(one.saturating_add(two))
+}
+
+#[test]
+fn lines_in_groups_of_1(rt: HostRuntime) {
+    expect(
+        &rt,
+        stream_script(rt.alloc(), 1, Framing::HexLines).is_some(),
+    );
+}
+
+#[test]
+fn records_in_groups_of_3(rt: HostRuntime) {
+    expect(
+        &rt,
+        stream_script(rt.alloc(), 3, Framing::Records).is_some(),
+    );
+}

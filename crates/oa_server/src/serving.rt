@@ -3,7 +3,7 @@ ghost use Rattle.std.specs.Prelude.{◌≡◌, ◌≤◌, [], IfOk, OnErr, OnOk,
 ghost use Rattle.oa_model.specs.Limits.{max_group};
 ghost use Rattle.oa_stream.specs.Ahead.{ahead};
 ghost use Rattle.oa_stream.specs.Sink.{Puts};
-ghost use Rattle.oa_frame.specs.Beginnings.{AreUnbroken};
+ghost use Rattle.oa_frame.specs.Beginnings.{AreUnbroken, HoldLongest};
 ghost use Rattle.oa_frame.specs.Framings.{frames, hex_lines, records};
 ghost use Rattle.oa_frame.specs.Sessions.{spelled_all};
 ghost use Rattle.oa_record.specs.Replacement.{is_replacement};
@@ -161,8 +161,8 @@ impl<D: Disk> Server<D> {
     }
 }
 
-/// A session in either framing: with a hand of its own, which has the places of a group's replies, and room for the longest line and the
-/// longest body. What memory these take is given back at the end.
+/// A session in either framing, with a hand of its own and room for the longest line and the longest body. What memory these take is given
+/// back at the end.
 fn session_with<D: Disk, R: Source + Drop, W: Sink>(
     clerk: &mut Clerk<D>,
     framing: Framing,
@@ -186,8 +186,31 @@ fn session_with<D: Disk, R: Source + Drop, W: Sink>(
     let mut body = Vec::with_capacity(alloc, MAX_REQUEST_BYTES as usize)?;
     let hand = Hand::new(alloc, group)?;
     clerk.hand = hand;
-    let last = Reply::bare(alloc, 0, HResult::BAD_STUB_DATA, None).head();
-    let served = serve(clerk, framing, &last, reader, writer, &mut line, &mut body);
+    let served = talk(clerk, framing, reader, writer, &mut line, &mut body);
     clerk.hand = Hand::none(alloc);
     Ok(served)
+}
+
+/// The same with all its memory: a hand without a request, which has the places of a group's replies, and room for a line and a body.
+fn talk<D: Disk, R: Source + Drop, W: Sink>(
+    clerk: &mut Clerk<D>,
+    framing: Framing,
+    reader: &mut Ahead<R>,
+    writer: &mut W,
+    line: &mut Vec<u8>,
+    body: &mut Vec<u8>,
+) -> Served
+    requires positive { 1 ≤ clerk.old.hand.size }
+    requires places { clerk.old.hand.size ≤ vec_capacity clerk.old.hand.replies }
+    requires replies { clerk.old.hand.replies.items ≡ [] }
+    requires batch { clerk.old.hand.batch ≡ [] }
+    requires buffers { HoldLongest (vec_capacity line.now) (vec_capacity body.now) }
+    requires unbroken { AreUnbroken (ahead R.input reader.old) (W.out writer.old) }
+    ensures session { HasTalked (frames framing) (ahead R.input reader.old) (ahead R.input reader.new)
+        (W.out writer.old) (W.out writer.new) clerk.old.hand.size clerk.old clerk.new result }
+    ensures memory { InMemory clerk.old.storage → HasTalkedInMemory (frames framing) (ahead R.input reader.old) (ahead R.input reader.new)
+        (W.out writer.old) (W.out writer.new) clerk.old.host clerk.new.host result }
+{
+    let last = Reply::bare(clerk.alloc, 0, HResult::BAD_STUB_DATA, None).head();
+    serve(clerk, framing, &last, reader, writer, line, body)
 }

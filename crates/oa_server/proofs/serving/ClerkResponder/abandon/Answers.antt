@@ -5,8 +5,8 @@ use Rattle.oa_server.proofs.serving.ClerkResponder.abandon.Goals as goal
 pub returns-in-Memory : goal.returns-in-Memory
 returns-in-Memory g c = record { held = []; ended = rw c.in-Memory.is (refl, (refl, refl)) }
 
-pub returns : goal.returns
-returns g c = record {
+pub returns-in-Disk : goal.returns-in-Disk
+returns-in-Disk g c = record {
   held = map reply_record c.finish.new.hand.replies.items;
-  ended = record { told = c.finish.new.hand.replies.items; are = refl; size = c.finish.ensures.size; none = search rules; ended = search rules };
+  ended = rw c.in-Disk.is (record { told = c.finish.new.hand.replies.items; are = refl; size = c.finish.ensures.size; none = search rules; ended = search rules });
 }

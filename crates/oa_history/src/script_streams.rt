@@ -44,7 +44,7 @@ fn put_line(alloc: Global, bytes: &mut Vec<u8>, line: &str, framing: Framing) ->
         }
         Framing::Records => {
             let body = hex::decode(alloc, line).ok()?;
-            let length = body.len() as u32;
+            let length = u32::try_from(body.len()).ok()?;
             bytes.extend_from_slice(&length.to_le_bytes()).ok()?;
             bytes.extend_from_slice(body.as_slice()).ok()
         }

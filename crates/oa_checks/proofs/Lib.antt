@@ -1,3 +1,4 @@
+pub mod Fronts
 pub mod Lists
 pub mod Marks
 pub mod Parameters

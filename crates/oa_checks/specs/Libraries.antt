@@ -11,7 +11,7 @@ use Rattle.oa_idl.specs.declared.parts.Entry.{Entry}
 use Rattle.oa_idl.specs.declared.items.Item.{Item}
 use Rattle.oa_idl.specs.declared.items.Item.TheVariants.{Interface, Coclass}
 -- one default interface in each coclass
-pub use Rattle.oa_idl.specs.Marked.{mark, mark_first, marked_entries, marked_item, marked}
+pub use Rattle.oa_canonical.specs.Marked.{mark, mark_first, marked_entries, marked_item, marked}
 
 -- equal bytes
 abbrev pub same : List ℕ → List ℕ → Bool

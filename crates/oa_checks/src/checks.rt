@@ -35,7 +35,7 @@ pub fn item_name(item: &Item) -> &Name
     }
 }
 
-fn item_guid(item: &Item) -> Uuid
+pub(crate) fn item_guid(item: &Item) -> Uuid
     ensures { result ≡ item_guid item.now }
 {
     match item {

@@ -7,7 +7,7 @@ use Rattle.oa_groups.specs.Laws.{EndCountsAll, LateCallCounts, OthersAreRun, Sto
 use Rattle.oa_groups.specs.Runs.{HoldsState, IsAfter, TurnsOver}
 use Rattle.oa_groups.specs.Sessions.{AnsweredCall, IsSessionOn, answered_by}
 use Rattle.oa_groups.specs.Turns.{Exchange}
-use Rattle.oa_idl.specs.Canonical.{canonical}
+use Rattle.oa_canonical.specs.Canonical.{canonical}
 use Rattle.oa_journal.specs.declared.shape.Shape.TheVariants.{Two}
 use Rattle.oa_record.specs.Replies.{ReplyValue}
 use Rattle.oa_turn.specs.Beginnings.{CanBegin}

@@ -3,7 +3,7 @@ use Rattle.std.proofs.Common.{◌≡◌, ℕ, ◌+◌, ◌<◌, List, [], ◌∷
 use Rattle.std.proofs.lemmas.List.{take_more}
 use Rattle.oa_disk.specs.declared.disk.Disk.{Ghosts}
 use Rattle.oa_groups.specs.Runs.{AllHoldState, HoldsState}
-use Rattle.oa_idl.specs.Canonical.{canonical}
+use Rattle.oa_canonical.specs.Canonical.{canonical}
 use Rattle.oa_journal.specs.declared.shape.Shape.TheVariants.{Two}
 use Rattle.oa_turn.specs.Events.{held_of}
 use Rattle.oa_server.specs.Requests.{opened, requests}

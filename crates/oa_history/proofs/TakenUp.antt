@@ -2,7 +2,7 @@
 use Rattle.std.proofs.Common.{◌≡◌, ⊎_elim, ℕ, List, [], Some, IsTrue, length, refl, sym, ◌∙◌, ap, subst, arith}
 use Rattle.oa_disk.specs.declared.disk.Disk.{Ghosts}
 use Rattle.oa_groups.specs.Runs.{AllHoldState, HoldsState}
-use Rattle.oa_idl.specs.Canonical.{canonical}
+use Rattle.oa_canonical.specs.Canonical.{canonical}
 use Rattle.oa_idl.specs.IsTree.{IsTree}
 use Rattle.oa_idl.specs.Trees.{TreeValue}
 use Rattle.oa_journal.specs.Shapes.{body_bytes}

@@ -10,7 +10,7 @@ use Rattle.oa_disk.specs.declared.memory.MemoryDisk.{MemoryDisk}
 use Rattle.oa_groups.specs.Runs.{AllHoldState, HoldsState, IsAfter}
 use Rattle.oa_groups.specs.Sessions.{AnsweredCall, ServesCalls}
 use Rattle.oa_groups.specs.Turns.{Exchange}
-use Rattle.oa_idl.specs.Canonical.{canonical}
+use Rattle.oa_canonical.specs.Canonical.{canonical}
 use Rattle.oa_record.specs.Replies.{ReplyValue}
 use Rattle.oa_server.specs.Openings.{IsOpened}
 use Rattle.oa_turn.specs.Events.{held_of}

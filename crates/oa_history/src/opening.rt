@@ -12,8 +12,9 @@ ghost use Rattle.oa_history.specs.Kept.{BeginsServing, IsKept, IsFreshDisk, IsUn
 ghost use Rattle.oa_history.specs.declared.fault.HistoryFault.TheVariants.{Memory};
 
 use crate::{HistoryFault, Opened};
+use oa_canonical::laws::marked_is_read;
 use oa_disk::{MemoryDisk, Tear};
-use oa_idl::laws::{marked_is_read, one_tree};
+use oa_idl::laws::one_tree;
 use oa_journal::DEFAULT_BANK_BYTES;
 use oa_keeps::read_library;
 use oa_server::Server;

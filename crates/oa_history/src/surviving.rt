@@ -12,8 +12,9 @@ ghost use Rattle.oa_history.specs.Survived.{IsSurvived, IsTakenUp};
 
 use crate::opening::{begun, library_on, shown};
 use crate::{HistoryFault, Opened, ServerCall, Told, withstood};
+use oa_canonical::laws::marked_is_read;
 use oa_disk::{DeviceFault, MemoryDisk};
-use oa_idl::laws::{marked_is_read, one_tree};
+use oa_idl::laws::one_tree;
 use oa_server::Server;
 use oa_server::laws::{an_opening_finds_what_was_kept, what_was_served_is_served_again};
 use oa_table::Table;

@@ -2,7 +2,7 @@
 use Rattle.std.proofs.Common.{◌≡◌, ℕ, ◌-◌, true, List, [], ◌∷◌, ◌++◌, length, map, refl, sym, ap, subst, ◌∙◌, append_assoc, arith, Result}
 use Rattle.std.proofs.Common.{Ok, Err}
 use Rattle.std.proofs.lemmas.List.{append-nil}
-use Rattle.oa_idl.specs.declared.lexer.Token.{Token}
+use Rattle.oa_tokens.specs.declared.lexer.Token.{Token}
 use Rattle.oa_idl.specs.declared.stop.Stop.TheVariants.{Syntax}
 use Rattle.oa_idl.specs.declared.stop.Stop.TheVariants as stops
 use Rattle.oa_idl.specs.declared.stop.TreeLimit.{TreeLimit}
@@ -11,7 +11,7 @@ use Rattle.oa_idl.specs.declared.stop.Limit.TheVariants as texts
 use Rattle.oa_idl.specs.declared.stop.ParseError.{ParseError}
 use Rattle.oa_idl.specs.declared.stop.ParseError.TheVariants as errors
 use Rattle.oa_idl.specs.Trees.{TreeValue}
-use Rattle.oa_idl.specs.Tokens.{AreTokens}
+use Rattle.oa_tokens.specs.Tokens.{AreTokens}
 use Rattle.oa_idl.specs.Forms.{Word, Then, ◌▸◌, nothing, BeginsWithWords}
 use Rattle.oa_idl.specs.Words.{passes, word_of, words_of}
 use Rattle.oa_idl.specs.Reading.ReadStep.{Got, Stuck}
@@ -23,7 +23,7 @@ use Rattle.oa_idl.specs.Parsed.{IsParsed}
 use Rattle.oa_idl.specs.IsTree.{MayBeText, IsTree, place_after, Refused, AnyTree, BrokenAt, BreaksLimit, AnswersText, AnswersTree}
 use Rattle.oa_idl.proofs.ChoiceParses.{clash}
 use Rattle.oa_idl.proofs.FurtherParses.{begins_itself}
-use Rattle.oa_idl.proofs.OneList.{one_list}
+use Rattle.oa_tokens.proofs.OneList.{one_list}
 use Rattle.oa_idl.proofs.Whole.{library_parses}
 use Rattle.oa_idl.proofs.Bounds.{tree_keeps, tree_kept}
 use Rattle.oa_idl.proofs.Ended.{Ended, ended, end_token, words_are, place_is}

@@ -12,6 +12,30 @@ use Rattle.oa_idl.specs.Reading.ReadStep.{Got, Stuck}
 use Rattle.oa_idl.proofs.Parses.{Parses, Stops, Takes, begins_heads, got, got_is, stuck_at, test_cases}
 use Rattle.oa_idl.proofs.PartParses.{skip_parses}
 
+-- a reading of a part of a form takes what is of the form
+part_takes : {n : ℕ} {C : Type 0} {R : C → Type 0} {F A : C → List Word → Type 0} {K : TreeLimit → C → Type 0} {Q : C → Type 0} {read : Reading C}
+    → Parses n R A K Q read → ((c : C) (text : List Word) → R c → A c text → F c text)
+    → (words : List Word) (x : C) (left : List Word) → length words ≤ n → read words ≡ Got x left → (R x × Q x) × Takes (F x) words left
+part_takes r from words x left le e =
+    let h = r.takes words x left le e in
+    (h.0, record { text = h.1.text; parts = h.1.parts; form = from x h.1.text h.0.0 h.1.form })
+
+-- and it stops where the form does, where what begins as the words do is of the part
+part_stops : {n : ℕ} {C : Type 0} {R : C → Type 0} {F A : C → List Word → Type 0} {K : TreeLimit → C → Type 0} {Q : C → Type 0} {read : Reading C}
+    → Parses n R A K Q read → (test : Word → Bool) (words : List Word)
+    → ((c : C) (text more : List Word) → R c → F c text → heads test (text ++ more) ≡ heads test words → A c text)
+    → (why : Stop) (left : List Word) → length words ≤ n → read words ≡ Stuck why left → Stops R F K words why left
+part_stops r test words into why left le e =
+    let h = r.stuck words why left le e in
+    record {
+      front = h.front;
+      parts = h.parts;
+      named = h.named;
+      apart =
+          λ c text more s k f b.
+          h.apart c text more s k (into c text more s f (sym (begins_heads test h.front left words (text ++ more) h.parts b))) b;
+    }
+
 -- A is the part of F that begins with a word that passes the test, B the part that begins with another
 pub choose_parses : {n : ℕ} {C : Type 0} {R : C → Type 0} {F A B : C → List Word → Type 0} {K : TreeLimit → C → Type 0} {Q : C
     → Type 0} {first other : Reading C} (test : Word → Bool)
@@ -31,31 +55,13 @@ choose_parses {n} {C} {R} {F} {A} {B} {K} {Q} {first} {other} test yes_a no_b fr
   where
     taken : (words : List Word) (x : C) (left : List Word) → length words ≤ n → (v : Bool) → heads test words ≡ v
         → cond v (first words) (other words) ≡ Got x left → (R x × Q x) × Takes (F x) words left
-    taken words x left le true is e = let h = r.takes words x left le e in (h.0, record { text = h.1.text; parts = h.1.parts; form = from_a x h.1.text h.0.0 h.1.form })
-    taken words x left le false is e = let h = q.takes words x left le e in (h.0, record { text = h.1.text; parts = h.1.parts; form = from_b x h.1.text h.0.0 h.1.form })
+    taken words x left le true is e = part_takes r from_a words x left le e
+    taken words x left le false is e = part_takes q from_b words x left le e
 
     stopped : (words : List Word) (why : Stop) (left : List Word) → length words ≤ n → (v : Bool) → heads test words ≡ v
         → cond v (first words) (other words) ≡ Stuck why left → Stops R F K words why left
-    stopped words why left le true is e =
-        let h = r.stuck words why left le e in
-        record {
-          front = h.front;
-          parts = h.parts;
-          named = h.named;
-          apart =
-              λ c text more s k f b.
-              h.apart c text more s k (yes_a c text more s f (sym (begins_heads test h.front left words (text ++ more) h.parts b) ∙ is)) b;
-        }
-    stopped words why left le false is e =
-        let h = q.stuck words why left le e in
-        record {
-          front = h.front;
-          parts = h.parts;
-          named = h.named;
-          apart =
-              λ c text more s k f b.
-              h.apart c text more s k (no_b c text more s f (sym (begins_heads test h.front left words (text ++ more) h.parts b) ∙ is)) b;
-        }
+    stopped words why left le true is e = part_stops r test words (λ c text more s f k. yes_a c text more s f (k ∙ is)) why left le e
+    stopped words why left le false is e = part_stops q test words (λ c text more s f k. no_b c text more s f (k ∙ is)) why left le e
 
 -- no words, and a value that a form tells
 pub given_parses : {n : ℕ} {C : Type 0} {R : C → Type 0} {L : TreeLimit → C → Type 0} {Q : C → Type 0} (v : C) → R v → Q v

@@ -4,9 +4,9 @@ use Rattle.oa_idl.specs.declared.stop.TreeLimit.{TreeLimit}
 use Rattle.oa_idl.specs.Forms.{Word, Then, this}
 use Rattle.oa_idl.specs.Reading.{Reading, bind, give, heads, choose}
 use Rattle.oa_idl.proofs.Parses.{Parses, Always, NoLimit}
-use Rattle.oa_idl.proofs.PartParses.{said_parses}
+use Rattle.oa_idl.proofs.PartParses.{fact_parses, said_parses}
 use Rattle.oa_idl.proofs.ChoiceParses.{choose_parses, then_heads}
-use Rattle.oa_idl.proofs.FurtherParses.{fact_parses, end_part_parses}
+use Rattle.oa_idl.proofs.FurtherParses.{end_part_parses}
 
 -- by the next word: the values with a tag begin with a word that passes the test, the others do not
 pub tagged_parses : {n : ℕ} {C : Type 0} {R : C → Type 0} {F : C → List Word → Type 0} {K : TreeLimit → C → Type 0} {Q : C

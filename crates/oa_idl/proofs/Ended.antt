@@ -4,16 +4,16 @@ use Rattle.std.proofs.Common.{Some, None, refl, sym, ap, subst, ◌∙◌, arith
 use Rattle.std.specs.Prelude.{◌&&◌, ◌==◌, slice_get}
 use Rattle.std.proofs.lemmas.List.{map-append, length-append, length-map}
 use Rattle.std.proofs.Math.Nat.{sub_self}
-use Rattle.oa_idl.specs.declared.lexer.TokenKind.{TokenKind}
-use Rattle.oa_idl.specs.declared.lexer.TokenKind.TheVariants as kinds
-use Rattle.oa_idl.specs.declared.lexer.Token.{Token}
-use Rattle.oa_idl.specs.declared.lexer.Piece.{Piece}
-use Rattle.oa_idl.specs.declared.lexer.Piece.TheVariants.{Word, Gap, Broken}
-use Rattle.oa_idl.specs.declared.scan.Class.TheVariants as classes
-use Rattle.oa_idl.specs.declared.scan.Close.TheVariants.{Quote, Comment}
-use Rattle.oa_idl.specs.Bytes.{is_in, run, end_from, is_guid}
-use Rattle.oa_idl.specs.Tokens.{front, closed, token, AreTokens}
-use Rattle.oa_idl.specs.Tokens.AreTokens.{End, Apart, Next, Rest}
+use Rattle.oa_tokens.specs.declared.lexer.TokenKind.{TokenKind}
+use Rattle.oa_tokens.specs.declared.lexer.TokenKind.TheVariants as kinds
+use Rattle.oa_tokens.specs.declared.lexer.Token.{Token}
+use Rattle.oa_tokens.specs.declared.lexer.Piece.{Piece}
+use Rattle.oa_tokens.specs.declared.lexer.Piece.TheVariants.{Word, Gap, Broken}
+use Rattle.oa_tokens.specs.declared.scan.Class.TheVariants as classes
+use Rattle.oa_tokens.specs.declared.scan.Close.TheVariants.{Quote, Comment}
+use Rattle.oa_tokens.specs.Bytes.{is_in, run, end_from, is_guid}
+use Rattle.oa_tokens.specs.Tokens.{front, closed, token, AreTokens}
+use Rattle.oa_tokens.specs.Tokens.AreTokens.{End, Apart, Next, Rest}
 use Rattle.oa_idl.specs.Forms as forms
 use Rattle.oa_idl.specs.Words.{same_kind, passes, word_of, end_word, words_of}
 use Rattle.oa_idl.specs.IsTree.{token_place, place_after}

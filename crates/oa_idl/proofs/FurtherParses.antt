@@ -12,7 +12,7 @@ use Rattle.oa_idl.specs.Reading.{one_at, require, demand}
 use Rattle.oa_idl.specs.Words.{never_over}
 use Rattle.oa_idl.specs.Reading.ReadStep.{Stuck}
 use Rattle.oa_idl.proofs.Parses.{Always, Keeps, NoLimit, Parses, some, stuck_at, syntax_stops}
-use Rattle.oa_idl.proofs.PartParses.{give_parses, one_parses, part_parses, said_parses, skip_parses}
+use Rattle.oa_idl.proofs.PartParses.{fact_parses, give_parses, one_parses, part_parses, said_parses, skip_parses}
 use Rattle.oa_idl.proofs.ChoiceParses.{clash}
 
 -- a reading that does the same
@@ -22,19 +22,6 @@ alike_parses alike r = record {
   same = r.same;
   takes = λ words x left le e. r.takes words x left le (alike words ∙ e);
   stuck = λ words why left le e. r.stuck words why left le (alike words ∙ e);
-}
-
--- a fact that the form tells
-pub fact_parses : {n : ℕ} {C : Type 0} {R P : C → Type 0} {F : C → List Word → Type 0} {K : TreeLimit → C → Type 0} {Q : C
-    → Type 0} {read : Reading C} → Parses n (λ c. R c × P c) F K Q read → Parses n R (λ c ws. P c × F c ws) K Q read
-fact_parses r = record {
-  same = λ x y f g s t hx hy k h e. r.same x y f g s t (hx, k.0) (hy, h.0) k.1 h.1 e;
-  takes = λ words x left le e.
-      let h = r.takes words x left le e in
-      ((h.0.0.0, h.0.1), record { text = h.1.text; parts = h.1.parts; form = (h.0.0.1, h.1.form) });
-  stuck = λ words why left le e.
-      let h = r.stuck words why left le e in
-      record { front = h.front; parts = h.parts; named = h.named; apart = λ c text more s k f b. h.apart c text more (s, f.0) k f.1 b };
 }
 
 -- only where a test holds

@@ -7,8 +7,8 @@ use Rattle.std.proofs.lemmas.Bool.{and_parts}
 use Rattle.std.proofs.lemmas.Slice.Eq.{bytes_eq-Decides}
 use Rattle.std.proofs.lemmas.List.{length-append}
 use Rattle.oa_model.specs.declared.var_type.VarType.{VarType}
-use Rattle.oa_idl.specs.declared.lexer.TokenKind.{TokenKind}
-use Rattle.oa_idl.specs.declared.lexer.TokenKind.TheVariants as kinds
+use Rattle.oa_tokens.specs.declared.lexer.TokenKind.{TokenKind}
+use Rattle.oa_tokens.specs.declared.lexer.TokenKind.TheVariants as kinds
 use Rattle.oa_idl.specs.Forms.{Word, Then, this, one}
 use Rattle.oa_idl.specs.Words.{same_kind, kind_of, passes, is_text, id_of, word_type, plain_type, if_cell, amount_of, characters_of}
 use Rattle.oa_idl.specs.Reading.{heads}

@@ -26,9 +26,9 @@ use Rattle.oa_idl.specs.GrammarReading.{closing_at, numbered_at, method_attribut
 use Rattle.oa_idl.specs.GrammarReading.{method_body_at, method_at, methods_at, ends_properties}
 use Rattle.oa_idl.proofs.NameLimits.{over_named}
 use Rattle.oa_idl.proofs.Parses.{Parses, Always, NoLimit}
-use Rattle.oa_idl.proofs.PartParses.{said_parses, part_parses, skip_parses}
+use Rattle.oa_idl.proofs.PartParses.{fact_parses, part_parses, said_parses, skip_parses}
 use Rattle.oa_idl.proofs.ChoiceParses.{clash}
-use Rattle.oa_idl.proofs.FurtherParses.{fact_parses, require_parses}
+use Rattle.oa_idl.proofs.FurtherParses.{require_parses}
 use Rattle.oa_idl.proofs.Parses.{this_parses}
 use Rattle.oa_idl.proofs.PartParses.{give_parses, one_parses}
 use Rattle.oa_idl.proofs.ChoiceParses.{choose_parses, then_heads, this_heads}

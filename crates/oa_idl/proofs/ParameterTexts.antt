@@ -22,9 +22,9 @@ use Rattle.oa_idl.specs.GrammarReading.{amount_at, literal_at, default_at, param
 use Rattle.oa_idl.specs.GrammarReading.{typed_at, parameter_at, separated_at, parameters_at}
 use Rattle.oa_idl.proofs.NameLimits.{over_named}
 use Rattle.oa_idl.proofs.Parses.{Parses, Always, NoLimit}
-use Rattle.oa_idl.proofs.PartParses.{said_parses, part_parses, skip_parses}
+use Rattle.oa_idl.proofs.PartParses.{fact_parses, part_parses, said_parses, skip_parses}
 use Rattle.oa_idl.proofs.ChoiceParses.{clash}
-use Rattle.oa_idl.proofs.FurtherParses.{fact_parses, require_parses}
+use Rattle.oa_idl.proofs.FurtherParses.{require_parses}
 use Rattle.oa_idl.proofs.Parses.{this_parses}
 use Rattle.oa_idl.proofs.PartParses.{give_parses, one_parses}
 use Rattle.oa_idl.proofs.ChoiceParses.{choose_parses, then_heads, this_heads}

@@ -109,6 +109,19 @@ said_parses to from there back known r = record {
       };
 }
 
+-- a fact that the form tells
+pub fact_parses : {n : ℕ} {C : Type 0} {R P : C → Type 0} {F : C → List Word → Type 0} {K : TreeLimit → C → Type 0} {Q : C
+    → Type 0} {read : Reading C} → Parses n (λ c. R c × P c) F K Q read → Parses n R (λ c ws. P c × F c ws) K Q read
+fact_parses r = record {
+  same = λ x y f g s t hx hy k h e. r.same x y f g s t (hx, k.0) (hy, h.0) k.1 h.1 e;
+  takes = λ words x left le e.
+      let h = r.takes words x left le e in
+      ((h.0.0.0, h.0.1), record { text = h.1.text; parts = h.1.parts; form = (h.0.0.1, h.1.form) });
+  stuck = λ words why left le e.
+      let h = r.stuck words why left le e in
+      record { front = h.front; parts = h.parts; named = h.named; apart = λ c text more s k f b. h.apart c text more (s, f.0) k f.1 b };
+}
+
 -- no fewer words are left than that
 pub enough : {A : Type 0} (F : A → List Word → Type 0) (n : ℕ) (a : A) (text left : List Word) → F a text → length (text ++ left) ≤ n
     → length left ≤ n
@@ -124,27 +137,8 @@ pub part_parses : {n : ℕ} {A C : Type 0} {F : A → List Word → Type 0} {K :
     → Parses n R (λ c. F (proj c) ▸ G c) L Q (bind read next)
 part_parses {n} {A} {C} {F} {K} {P} {R} {G} {L} {Q} {read} {next} proj r has then =
     said_parses {F = λ c. with F (λ a ws. (proj c ≡ a) × G c ws)} (λ c h. h) (λ c h. h) there back (λ c h. h)
-    (with_parses {G = λ a c ws. (proj c ≡ a) × G c ws} r (enough F n) (λ l a c text h g k. subst (K l) g.0 (has l c h k)) (λ a. inner a))
+    (with_parses {G = λ a c ws. (proj c ≡ a) × G c ws} r (enough F n) (λ l a c text h g k. subst (K l) g.0 (has l c h k)) (λ a. fact_parses (then a)))
   where
-    inner : (a : A) → Parses n R (λ c ws. (proj c ≡ a) × G c ws) L (λ c. P a → Q c) (next a)
-    inner a =
-        let r = then a in
-        record {
-          same = λ x y f g s t hx hy k h e. r.same x y f g s t (hx, k.0) (hy, h.0) k.1 h.1 e;
-          takes = λ words x left le e.
-              let h = r.takes words x left le e in
-              ((h.0.0.0, h.0.1), record { text = h.1.text; parts = h.1.parts; form = (h.0.0.1, h.1.form) });
-          stuck = λ words why left le e.
-              let h = r.stuck words why left le e in
-              record {
-                front = h.front;
-                parts = h.parts;
-                named = h.named;
-                apart =
-                    λ c text more s k f b. h.apart c text more (s, f.0) k f.1 b;
-              };
-        }
-
     there : (c : C) (text : List Word) → R c → with F (λ a ws. (proj c ≡ a) × G c ws) text → (F (proj c) ▸ G c) text
     there c text h f = record { front = f.form.front; back = f.form.back; parts = f.form.parts; first = subst (λ (a : A). F a f.form.front) (sym f.form.second.0) f.form.first; second = f.form.second.1 }
 

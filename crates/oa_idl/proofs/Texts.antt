@@ -26,9 +26,9 @@ use Rattle.oa_idl.specs.GrammarReading.{type_word_at, value_type_at, signed_at, 
 use Rattle.oa_idl.specs.GrammarReading.{property_head_at, property_at}
 use Rattle.oa_idl.proofs.NameLimits.{over_named}
 use Rattle.oa_idl.proofs.Parses.{Parses, Always, NoLimit}
-use Rattle.oa_idl.proofs.PartParses.{part_parses, skip_parses, give_parses}
+use Rattle.oa_idl.proofs.PartParses.{fact_parses, give_parses, part_parses, skip_parses}
 use Rattle.oa_idl.proofs.ChoiceParses.{clash}
-use Rattle.oa_idl.proofs.FurtherParses.{fact_parses, require_parses}
+use Rattle.oa_idl.proofs.FurtherParses.{require_parses}
 use Rattle.oa_idl.proofs.Parses.{this_parses}
 use Rattle.oa_idl.proofs.PartParses.{one_parses}
 use Rattle.oa_idl.proofs.ChoiceParses.{choose_parses, this_heads}

@@ -28,9 +28,9 @@ use Rattle.oa_idl.specs.GrammarReading.{last_entry_at, entries_at, coclass_at, i
 use Rattle.oa_idl.specs.GrammarReading.{library_at}
 use Rattle.oa_idl.proofs.NameLimits.{over_named, long_named}
 use Rattle.oa_idl.proofs.Parses.{Parses, Always, NoLimit}
-use Rattle.oa_idl.proofs.PartParses.{enough, said_parses}
+use Rattle.oa_idl.proofs.PartParses.{enough, fact_parses, said_parses}
 use Rattle.oa_idl.proofs.ChoiceParses.{clash, given_parses}
-use Rattle.oa_idl.proofs.FurtherParses.{alike_parses, fact_parses}
+use Rattle.oa_idl.proofs.FurtherParses.{alike_parses}
 use Rattle.oa_idl.proofs.PartParses.{part_parses, with_parses, skip_parses, give_parses, one_parses}
 use Rattle.oa_idl.proofs.ChoiceParses.{choose_parses}
 use Rattle.oa_idl.proofs.FurtherParses.{require_parses}

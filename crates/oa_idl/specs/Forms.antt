@@ -1,6 +1,6 @@
 -- Languages over the words of a text. A form says which stretches of words stand for a value.
 use Rattle.std.specs.Prelude.{◌≡◌, ℕ, Bool, true, false, List, [], ◌∷◌, ◌++◌, Option, Some, ◌⊎◌}
-use Rattle.oa_idl.specs.declared.lexer.TokenKind.{TokenKind}
+use Rattle.oa_tokens.specs.declared.lexer.TokenKind.{TokenKind}
 
 -- a token with its bytes
 pub record Word : Type 0 where

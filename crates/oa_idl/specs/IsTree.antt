@@ -1,14 +1,14 @@
 -- What parsing answers.
 use Rattle.std.specs.Prelude.{◌≡◌, ℕ, ◌<◌, ◌≤◌, slice_get, Option, Some, None, List, ◌∷◌, ◌++◌, length, Result, Ok, Err}
 use Rattle.oa_model.specs.Limits.{max_library_bytes}
-use Rattle.oa_idl.specs.declared.lexer.Token.{Token}
+use Rattle.oa_tokens.specs.declared.lexer.Token.{Token}
 use Rattle.oa_idl.specs.declared.stop.TreeLimit.{TreeLimit}
 use Rattle.oa_idl.specs.declared.stop.TreeLimit.TheVariants as limits
 use Rattle.oa_idl.specs.declared.stop.Limit.TheVariants as texts
 use Rattle.oa_idl.specs.declared.stop.ParseError.{ParseError}
 use Rattle.oa_idl.specs.declared.stop.ParseError.TheVariants as errors
 use Rattle.oa_idl.specs.Trees.{TreeValue}
-use Rattle.oa_idl.specs.Tokens.{AreTokens}
+use Rattle.oa_tokens.specs.Tokens.{AreTokens}
 use Rattle.oa_idl.specs.Forms.{Word, BeginsWithWords}
 use Rattle.oa_idl.specs.Words.{words_of, NamedAt}
 use Rattle.oa_idl.specs.Grammar.{library}

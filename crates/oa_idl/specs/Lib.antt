@@ -1,17 +1,12 @@
-pub mod Bytes
-pub mod Canonical
 pub mod Forms
 pub mod Grammar
 pub mod GrammarReading
 pub mod IsTree
 pub mod Limits
-pub mod Marked
 pub mod MethodValues
 pub mod Parsed
-pub mod Printable
 pub mod Reading
 pub mod TextLimits
-pub mod Tokens
 pub mod Trees
 pub mod Values
 pub mod Words

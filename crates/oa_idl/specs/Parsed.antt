@@ -1,6 +1,6 @@
 -- What reading the words of a text answers, in terms of the reading.
 use Rattle.std.specs.Prelude.{◌≡◌, ℕ, ◌-◌, List, length, Result, Ok, Err}
-use Rattle.oa_idl.specs.declared.lexer.Token.{Token}
+use Rattle.oa_tokens.specs.declared.lexer.Token.{Token}
 use Rattle.oa_idl.specs.declared.stop.Stop.TheVariants.{Syntax}
 use Rattle.oa_idl.specs.declared.stop.Stop.TheVariants as stops
 use Rattle.oa_idl.specs.declared.stop.TreeLimit.{TreeLimit}

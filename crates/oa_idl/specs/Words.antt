@@ -10,9 +10,9 @@ use Rattle.oa_model.specs.declared.var_type.VarType.{VarType}
 use Rattle.oa_model.specs.declared.var_type.VarType.TheVariants as types
 use Rattle.oa_model.specs.Limits.{max_name_characters}
 use Rattle.oa_model.specs.Types.{sf_type_of}
-use Rattle.oa_idl.specs.declared.lexer.TokenKind.{TokenKind}
-use Rattle.oa_idl.specs.declared.lexer.TokenKind.TheVariants as kinds
-use Rattle.oa_idl.specs.declared.lexer.Token.{Token}
+use Rattle.oa_tokens.specs.declared.lexer.TokenKind.{TokenKind}
+use Rattle.oa_tokens.specs.declared.lexer.TokenKind.TheVariants as kinds
+use Rattle.oa_tokens.specs.declared.lexer.Token.{Token}
 use Rattle.oa_idl.specs.declared.stop.TreeLimit.{TreeLimit}
 use Rattle.oa_idl.specs.declared.stop.TreeLimit.TheVariants as limits
 use Rattle.oa_idl.specs.Forms.{Word}

@@ -14,7 +14,6 @@ ghost use Rattle.oa_idl.specs.Parsed.{IsParsed};
 
 use crate::attributes::{head, property_head};
 use crate::items::{Coclass, Interface, Item};
-use crate::lexer::{Token, TokenKind, tokens};
 use crate::method::Method;
 use crate::methods::methods;
 use crate::parts::{Entry, Property};
@@ -23,6 +22,7 @@ use crate::seen::{EntriesSeen, ItemsSeen};
 use crate::stop::{Limit, ParseError, Stop, TreeLimit};
 use crate::tree::Tree;
 use oa_model::{MAX_COCLASSES, MAX_INTERFACES, MAX_LIBRARY_BYTES, MAX_MEMBERS, ValueType, VarType};
+use oa_tokens::{Token, TokenKind, tokens};
 use std::alloc::Global;
 use uuid::Uuid;
 

@@ -8,12 +8,11 @@ ghost use Rattle.oa_idl.specs.Reading.{ReadsWords, heads, later_words, this_at, 
 ghost use Rattle.uuid.specs.Text.{parsed_hyphenated};
 
 use crate::characters::Characters;
-use crate::lexer::{Token, TokenKind};
 use crate::name::Name;
-use crate::scan::after;
 use crate::sign::{is_reserved, kind_of, same_bytes, type_named};
 use crate::stop::{Stop, TreeLimit};
 use oa_model::{MAX_NAME_CHARACTERS, VarType};
+use oa_tokens::{Token, TokenKind};
 use std::alloc::{AllocError, Global};
 use std::marker::Model;
 use uuid::Uuid;
@@ -47,23 +46,6 @@ fn same_kind(a: TokenKind, b: TokenKind) -> bool
         (TokenKind::Junk, TokenKind::Junk) => true,
         (TokenKind::End, TokenKind::End) => true,
         _ => false,
-    }
-}
-
-/// The bytes from one place to another.
-fn between(text: &[u8], start: usize, end: usize) -> &[u8]
-    ensures { result.now ≡ take (end - start) (drop start text.now) }
-{
-    let from = if start <= text.len() {
-        &text[start..]
-    } else {
-        &text[text.len()..]
-    };
-    let count = if start <= end { end - start } else { 0 };
-    if count <= from.len() {
-        &from[..count]
-    } else {
-        from
     }
 }
 
@@ -112,7 +94,7 @@ fn number_of(text: &[u8]) -> Option<u128>
     ensures small { IfSome result (λ n. n < 2 ^ 96) }
 {
     if is_hexadecimal(text) {
-        return digits(true, after(text, 2));
+        return digits(true, &text[2..]);
     }
     digits(false, text)
 }
@@ -204,6 +186,16 @@ fn characters(alloc: Global, text: &[u8]) -> Result<Option<Characters>, AllocErr
     Ok(None)
 }
 
+/// What stands behind the quote with which a string begins.
+fn behind_quote(text: &[u8]) -> &[u8]
+    ensures { result.now ≡ drop 1 text.now }
+{
+    match text.split_first() {
+        Some((_quote, rest)) => rest,
+        None => text,
+    }
+}
+
 /// The GUID of a text of the form 8-4-4-4-12.
 fn guid_of(text: &[u8]) -> Option<Uuid>
     ensures { result ≡ parsed_hyphenated text.now }
@@ -236,7 +228,7 @@ impl<'a> Reader<'a> {
             return None;
         }
         let token = self.rest[0];
-        Some((token.kind, between(self.text, token.start, token.end)))
+        Some((token.kind, token.bytes_in(self.text)))
     }
 
     /// Goes past the next word.
@@ -465,7 +457,7 @@ impl<'a> Reader<'a> {
         if !same_kind(kind, TokenKind::Text) {
             return Err(Stop::Syntax);
         }
-        match characters(alloc, after(text, 1))? {
+        match characters(alloc, behind_quote(text))? {
             Some(found) => {
                 self.skip();
                 Ok(found)

@@ -3,8 +3,8 @@ ghost use Rattle.std.specs.Prelude.{◌≡◌};
 ghost use Rattle.std.specs.Str.{bytes_eq};
 ghost use Rattle.oa_idl.specs.Words.{kind_of, is_structure, is_type_mark, is_reserved, plain_type, unsigned_type, type_named, if_cell};
 
-use crate::lexer::TokenKind;
 use oa_model::VarType;
+use oa_tokens::TokenKind;
 
 /// What a word is that stands for itself: a name, a mark, or the end of the text, which has no bytes.
 pub(crate) fn kind_of(sign: &[u8]) -> TokenKind

@@ -6,7 +6,7 @@ use Rattle.oa_groups.specs.Groups.{joined}
 use Rattle.oa_groups.specs.Runs.{HoldsState, TurnsOver}
 use Rattle.oa_groups.specs.Turns.{Exchange}
 use Rattle.oa_groups.proofs.Calling.{session_opened}
-use Rattle.oa_idl.specs.Canonical.{canonical}
+use Rattle.oa_canonical.specs.Canonical.{canonical}
 use Rattle.oa_idl.specs.IsTree.{IsTree}
 use Rattle.oa_idl.specs.Trees.{TreeValue}
 use Rattle.oa_record.specs.Replies.{ReplyValue}

@@ -3,7 +3,7 @@ use Rattle.std.proofs.Common.{true, ◌≡◌, ◌≢◌, ◌⊎◌, ⊎_elim, �
 use Rattle.oa_fits.proofs.Kept.{unlocked_fits}
 use Rattle.oa_fits.specs.Fits.{fits}
 use Rattle.oa_groups.specs.Runs.{HoldsState}
-use Rattle.oa_idl.specs.Canonical.{canonical}
+use Rattle.oa_canonical.specs.Canonical.{canonical}
 use Rattle.oa_idl.specs.Trees.{TreeValue}
 use Rattle.oa_image.proofs.Whole.{same_table}
 use Rattle.oa_journal.specs.Bank.{HasHeader, HasLibrary, from_place}

@@ -8,7 +8,7 @@ use Rattle.oa_groups.specs.Served.{IsServed}
 use Rattle.oa_groups.specs.Sessions.{AnsweredCall, IsSessionOn, Sitting, answered_by}
 use Rattle.oa_groups.specs.Groups.{joined}
 use Rattle.oa_groups.specs.Turns.{Exchange, body_of, reply_of}
-use Rattle.oa_idl.specs.Canonical.{canonical}
+use Rattle.oa_canonical.specs.Canonical.{canonical}
 use Rattle.oa_idl.specs.Trees.{TreeValue}
 use Rattle.oa_record.specs.Replies.{ReplyValue}
 use Rattle.oa_journal.specs.declared.shape.Shape.TheVariants.{Two}

@@ -7,7 +7,7 @@ use Rattle.oa_journal.specs.Replays.{Replays}
 use Rattle.oa_turn.proofs.Relocked.{unlocked_twice}
 use Rattle.oa_model.specs.Codes.{e_fail, stg_e_writefault}
 use Rattle.oa_record.specs.Asks.{tag_at}
-use Rattle.oa_idl.specs.Canonical.{canonical}
+use Rattle.oa_canonical.specs.Canonical.{canonical}
 use Rattle.oa_record.specs.Replacement.{is_replacement}
 use Rattle.oa_record.specs.Replies.{ReplyValue}
 use Rattle.oa_table.specs.Tables.{unlocked_table}

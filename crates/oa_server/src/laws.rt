@@ -19,9 +19,10 @@ ghost use Rattle.oa_idl.specs.Trees.{TreeValue};
 ghost use Rattle.oa_table.specs.Tables.{first_table};
 ghost use Rattle.oa_typelib.specs.Checked.{IsChecked};
 
+use oa_canonical::laws::marked_is_read;
 use oa_disk::Disk;
 use oa_fits::laws::changes_that_fit;
-use oa_idl::laws::{marked_is_read, one_tree};
+use oa_idl::laws::one_tree;
 use oa_record::laws::one_request;
 
 /// What was served can be served again, whatever its sessions were and wherever they stopped: from a state with which a server can begin,

@@ -1,7 +1,7 @@
 //! Opening a store with a library: its table has to be one of that library.
 ghost use Rattle.std.specs.Prelude.{◌≡◌, ◌↔◌, ◌⊎◌, ◌≤◌, Some, IsTrue, false, length, true, IfOk, IfErr};
 ghost use Rattle.oa_model.specs.Limits.{max_library_bytes};
-ghost use Rattle.oa_idl.specs.Canonical.{canonical};
+ghost use Rattle.oa_canonical.specs.Canonical.{canonical};
 ghost use Rattle.oa_image.specs.Tables.{FitsBank, is_numbered};
 ghost use Rattle.oa_journal.specs.Shapes.{body_bytes};
 ghost use Rattle.oa_journal.specs.declared.shape.Shape.TheVariants.{Two};
@@ -17,9 +17,10 @@ ghost use Rattle.oa_store.specs.declared.fault.OpenFault.TheVariants.{LibraryDif
 ghost use Rattle.oa_table.specs.Tables.{unlocked_table};
 
 use crate::Server;
+use oa_canonical::laws::marked_is_read;
 use oa_disk::Disk;
 use oa_fits::fits;
-use oa_idl::laws::{marked_is_read, one_tree};
+use oa_idl::laws::one_tree;
 use oa_image::RESERVED_BYTES;
 use oa_image::laws::images_are_counted;
 use oa_store::{OpenFault, Store};

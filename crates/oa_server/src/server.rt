@@ -1,7 +1,7 @@
 //! The server: a library and a table in memory, and where the table is kept.
 ghost use Rattle.std.specs.Prelude.{◌≡◌, ◌≤◌, map, IfOk, OnErr, false};
 ghost use Rattle.oa_model.specs.Limits.{max_group};
-ghost use Rattle.oa_idl.specs.Canonical.{canonical};
+ghost use Rattle.oa_canonical.specs.Canonical.{canonical};
 ghost use Rattle.oa_journal.specs.Shapes.{body_bytes, default_bank_bytes};
 ghost use Rattle.oa_turn.specs.Limits.{IsSoundTable};
 ghost use Rattle.oa_server.specs.Storages.{AnswersOne, InMemory, Serves, disk_of};

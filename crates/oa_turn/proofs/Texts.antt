@@ -1,7 +1,7 @@
 -- A text is that of one library, and a library is that of its canonical text.
 use Rattle.std.proofs.Common.{rules, ◌≡◌, ℕ, ◌≤◌, nat_le, Bool, true, false, if◌then◌else◌, List, length, Option, Some, None, refl, sym, ap, ◌∙◌, subst}
 use Rattle.std.specs.Option.{option_or}
-use Rattle.oa_idl.specs.Canonical.{canonical}
+use Rattle.oa_canonical.specs.Canonical.{canonical}
 use Rattle.oa_idl.specs.IsTree.{IsTree, MayBeText}
 use Rattle.oa_idl.specs.Trees.{TreeValue}
 use Rattle.oa_model.specs.Limits.{max_library_bytes}

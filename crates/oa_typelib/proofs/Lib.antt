@@ -9,7 +9,6 @@ pub mod Same
 pub mod Sound
 -- what this crate alone does
 mod Entries
-mod Fronts
 mod Grouping
 mod Named
 mod TypedTrees

@@ -7,9 +7,8 @@ use Rattle.oa_model.specs.Types.{sf_type_of}
 use Rattle.oa_model.specs.declared.var_type.VarType.{VarType}
 use Rattle.oa_model.specs.declared.var_type.ValueType.{ValueType}
 use Rattle.oa_model.specs.declared.var_type.ValueType.TheVariants.{One, Array}
-use Rattle.oa_idl.specs.declared.lexer.TokenKind.TheVariants as kinds
 use Rattle.oa_idl.specs.Forms.{Word, Form, listed, nowhere}
-use Rattle.oa_idl.specs.Words.{same_kind, word_type, type_named, if_cell}
+use Rattle.oa_idl.specs.Words.{word_type, type_named, if_cell}
 use Rattle.oa_idl.specs.Grammar.{value_type, property, result_type, parameter, separated, method, methods, members, entry}
 use Rattle.oa_idl.specs.Grammar.{entry_grow, last_entry, no_entry, item, LibraryContent, element, elements, items_in, library}
 use Rattle.oa_idl.specs.Grammar.LibraryContent.{Import, OfItem}
@@ -43,7 +42,7 @@ cell_typed (Some s) t e = with_cells s t (sf_type_of s) refl e
 
 word_typed : (unsigned : Bool) (t : VarType) (w : Word) → word_type true unsigned w ≡ Some t → IsSome (sf_type_of t)
 unfolding word_type
-word_typed unsigned t w e = cell_typed (type_named unsigned w.text) t (guarded (same_kind w.kind kinds.Name) (if_cell true (type_named unsigned w.text)) t e)
+word_typed unsigned t w e = cell_typed (type_named unsigned w.text) t (guarded _ (if_cell true (type_named unsigned w.text)) t e)
 
 type_typed : (v : ValueType) (ws : List Word) → value_type v ws → IsDeclarable v
 unfolding value_type

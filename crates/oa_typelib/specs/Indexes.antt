@@ -9,7 +9,7 @@ use Rattle.oa_idl.specs.Values.{InterfaceValue, CoclassValue}
 use Rattle.oa_idl.specs.declared.parts.Entry.{Entry}
 use Rattle.oa_idl.specs.declared.items.Item.{Item}
 use Rattle.oa_idl.specs.declared.items.Item.TheVariants.{Interface, Coclass}
-use Rattle.oa_idl.specs.Canonical.{canonical}
+use Rattle.oa_canonical.specs.Canonical.{canonical}
 use Rattle.oa_checks.specs.declared.declaration.DeclarationKind.{DeclarationKind}
 use Rattle.oa_checks.specs.DeclarationValues.{DeclarationValue}
 use Rattle.oa_checks.specs.Declarations.{declarations, is_put}

@@ -1,6 +1,6 @@
 //! Libraries.
 ghost use Rattle.std.specs.Prelude.{◌≡◌, true, List, ℕ, IfOk, IsSome, nat_le, length, map, position, option_copied, slice_get};
-ghost use Rattle.oa_idl.specs.Canonical.{canonical};
+ghost use Rattle.oa_canonical.specs.Canonical.{canonical};
 ghost use Rattle.std.specs.Option.{option_and_then, option_map};
 ghost use Rattle.oa_idl.specs.IsTree.{IsTree};
 ghost use Rattle.oa_model.specs.Limits.{max_library_bytes};
@@ -23,14 +23,15 @@ use crate::describe::{
 };
 use crate::described::DescribeError;
 use crate::dispinterface::Dispinterface;
-use crate::guids::{is_zero_guid, place_in_front};
 use crate::index::Index;
 use crate::members::Members;
+use oa_canonical::laws::marked_is_read;
+use oa_canonical::print;
 use oa_checks::{
-    CheckError, Checked, Guids, Names, at, check_tree, class_at, interface_at, items_of, mark,
+    CheckError, Checked, Guids, Names, at, check_tree, class_at, interface_at, is_zero_guid,
+    items_of, mark, place_in_front,
 };
-use oa_idl::laws::marked_is_read;
-use oa_idl::{Coclass, Item, Tree, print};
+use oa_idl::{Coclass, Item, Tree};
 use oa_model::MAX_LIBRARY_BYTES;
 use std::alloc::Global;
 use std::marker::Model;

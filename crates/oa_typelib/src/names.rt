@@ -2,7 +2,7 @@
 ghost use Rattle.std.specs.Prelude.{◌≡◌, ◌++◌, IfOk, OnOk, map, position, None, Some};
 ghost use Rattle.oa_model.specs.Folding.{folded, folded_name};
 ghost use Rattle.oa_checks.specs.Libraries.{same_name};
-ghost use Rattle.oa_typelib.specs.Names.{ids_in, named_in, or_unknown, parameter_named, place_as_id, told};
+ghost use Rattle.oa_typelib.specs.Names.{ids_in, named_in, or_unknown, parameter_named, told};
 
 use crate::dispinterface::Dispinterface;
 use oa_checks::Declaration;
@@ -68,17 +68,11 @@ fn parameter_place(parameters: &[Parameter], name: &[u16]) -> Option<usize>
         .position(|p| is_same_name(name, p.name.as_bytes()))
 }
 
-fn place_as_id(place: usize) -> Option<i32>
-    ensures { result ≡ place_as_id place }
-{
-    i32::try_from(place).ok()
-}
-
 /// The DISPID of a parameter.
 fn parameter_named(parameters: &[Parameter], name: &[u16]) -> Option<i32>
     ensures { result ≡ parameter_named parameters.now name.now }
 {
-    place_as_id(parameter_place(parameters, name)?)
+    i32::try_from(parameter_place(parameters, name)?).ok()
 }
 
 /// No DISPID for any of the names.

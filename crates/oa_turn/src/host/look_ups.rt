@@ -10,10 +10,11 @@ use super::Host;
 use crate::decision::{Decision, Undecided};
 use crate::fields::Fields;
 use crate::refusal::Refusal;
+use oa_checks::is_zero_guid;
 use oa_model::HResult;
 use oa_record::{GetIds, ids_field};
 use oa_table::LiveObject;
-use oa_typelib::{DispIds, Dispinterface, is_zero_guid};
+use oa_typelib::{DispIds, Dispinterface};
 use uuid::Uuid;
 
 impl Host {

@@ -2,7 +2,7 @@ use Rattle.std.proofs.Common.{List, ℕ, refl, sym, subst}
 use Rattle.oa_disk.specs.Memory.{contents_of, history_of}
 use Rattle.oa_disk.specs.Replaying.{contents_size}
 use Rattle.oa_groups.specs.Runs.{HoldsState}
-use Rattle.oa_idl.specs.Canonical.{canonical}
+use Rattle.oa_canonical.specs.Canonical.{canonical}
 use Rattle.oa_journal.specs.declared.shape.Shape.TheVariants.{Two}
 use Rattle.oa_turn.specs.Events.{held_of}
 use Rattle.oa_server.specs.Requests.{requests}

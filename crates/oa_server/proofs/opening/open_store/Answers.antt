@@ -1,5 +1,5 @@
 use Rattle.std.proofs.Common.{IsTrue, ℕ, inr, refl, subst, sym, true≢false}
-use Rattle.oa_idl.specs.Canonical.{canonical}
+use Rattle.oa_canonical.specs.Canonical.{canonical}
 use Rattle.oa_journal.specs.Shapes.{body_bytes}
 use Rattle.oa_journal.specs.declared.shape.Shape.{Shape}
 use Rattle.oa_store.specs.Stores.{IsStoreIn}

@@ -1,0 +1,9 @@
+mod FirstDefault
+mod MarkedTrees
+mod PrintedMembers
+mod PrintedParts
+mod PrintedTokens
+mod PrintedTrees
+mod ReadParts
+mod ReadTrees
+mod Spelled

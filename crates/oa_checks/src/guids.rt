@@ -1,0 +1,61 @@
+//! GUIDs as pairs of numbers: two are compared without a look at each byte.
+ghost use Rattle.std.specs.Prelude.{◌≡◌, length, take, drop, position, IfSome, Some};
+ghost use Rattle.std.specs.Int.{from_le_bytes, to_le_bytes, w64};
+ghost use Rattle.oa_checks.specs.Libraries.{item_guid, same};
+ghost use Rattle.uuid.specs.Parts.{is_nil_bytes};
+
+use crate::checks::item_guid;
+use oa_idl::Item;
+use uuid::Uuid;
+
+/// How many items are looked at before all GUIDs are hashed.
+const FRONT: usize = 8;
+
+/// The number of 8 bytes.
+fn number(bytes: &[u8]) -> u64
+    requires { length bytes.now ≡ 8 }
+    ensures number { result ≡ from_le_bytes w64 bytes.now }
+    ensures bytes { to_le_bytes w64 result ≡ bytes.now }
+{
+    u64::from_le_bytes([
+        bytes[0], bytes[1], bytes[2], bytes[3], bytes[4], bytes[5], bytes[6], bytes[7],
+    ])
+}
+
+/// The numbers of its two halves.
+fn halves(guid: &Uuid) -> (u64, u64)
+    ensures numbers { result ≡ (from_le_bytes w64 (take 8 guid.now), from_le_bytes w64 (drop 8 guid.now)) }
+    ensures first { to_le_bytes w64 result.0 ≡ take 8 guid.now }
+    ensures second { to_le_bytes w64 result.1 ≡ drop 8 guid.now }
+{
+    let (first, second) = guid.as_bytes().split_at(8);
+    (number(first), number(second))
+}
+
+/// Whether two GUIDs are one.
+fn is_same(one: &Uuid, other: &Uuid) -> bool
+    ensures { result ≡ same one.now other.now }
+{
+    let (first, second) = halves(one);
+    let (other_first, other_second) = halves(other);
+    first == other_first && second == other_second
+}
+
+/// Whether it is the zero GUID.
+pub fn is_zero_guid(guid: &Uuid) -> bool
+    ensures { result ≡ is_nil_bytes guid.now }
+{
+    is_same(guid, &Uuid::nil())
+}
+
+/// The place of the item with a GUID, where it is one of the first. So an item of a small library is found without hashing.
+pub fn place_in_front(items: &[Item], guid: &Uuid) -> Option<usize>
+    ensures { IfSome result (λ place. position (λ i. same guid.now (item_guid i)) items.now ≡ Some place) }
+{
+    'items: for place in 0..items.len().min(FRONT) {
+        if is_same(guid, &item_guid(&items[place])) {
+            return Some(place);
+        }
+    }
+    None
+}

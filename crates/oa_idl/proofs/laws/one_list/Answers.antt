@@ -1,5 +1,0 @@
-use Rattle.oa_idl.proofs.OneList.{one_list}
-use Rattle.oa_idl.proofs.laws.one_list.Goals as goal
-
-pub returns : goal.returns
-returns c = one_list

@@ -1,0 +1,4 @@
+pub mod OneList
+mod Scans
+mod Spans
+mod Steps

@@ -1,5 +1,5 @@
 //! The places of the default interfaces of coclasses.
-ghost use Rattle.std.specs.Prelude.{◌≡◌, IfOk, map, position};
+ghost use Rattle.std.specs.Prelude.{◌≡◌, IfOk, map, find, position, option_copied};
 ghost use Rattle.oa_model.specs.Folding.{folded_name};
 ghost use Rattle.oa_checks.specs.Libraries.{same};
 ghost use Rattle.oa_typelib.specs.Indexes.{default_among, default_in};
@@ -7,6 +7,12 @@ ghost use Rattle.oa_typelib.specs.Indexes.{default_among, default_in};
 use oa_checks::{Names, folded};
 use oa_idl::{Entry, Item, Name};
 use std::alloc::{AllocError, Global};
+
+fn default_entry(entries: &[Entry]) -> Option<&Entry>
+    ensures { option_copied result ≡ find (λ e. e.is_default) entries.now }
+{
+    entries.iter().find(|e| e.is_default)
+}
 
 /// The place of the item that has a name.
 fn place_named(alloc: Global, names: &Names, name: &Name) -> Result<Option<usize>, AllocError>
@@ -19,7 +25,7 @@ fn place_named(alloc: Global, names: &Names, name: &Name) -> Result<Option<usize
 fn entry_place(alloc: Global, names: &Names, entries: &[Entry]) -> Result<Option<usize>, AllocError>
     ensures { IfOk result (λ place. place ≡ default_among names.now entries.now) }
 {
-    match entries.iter().find(|e| e.is_default) {
+    match default_entry(entries) {
         Some(entry) => place_named(alloc, names, &entry.interface),
         None => Ok(None),
     }

@@ -1,3 +1,4 @@
+mod Bringing
 mod Fallible
 mod Header
 mod Judged

@@ -4,6 +4,7 @@ mod Header
 mod Judged
 pub mod LayoutLaws
 mod Lengths
+mod Longs
 mod Refusals
 mod Replacing
 mod Requests

@@ -1,8 +1,10 @@
+mod Bringing
 mod Fallible
 mod Header
 mod Judged
 pub mod LayoutLaws
 mod Lengths
+mod Longs
 mod Refusals
 mod Replacing
 mod Requests

@@ -119,7 +119,7 @@ no_parts body (BadVarType i) short none s = absurd none
 no_parts body Memory short none s = record { long = s.0; short = short; opcode = s.1 }
 
 -- what the values of a layout answer is the answer
-asks : (body : List ℕ) (parts : Layout) (q : Request) → length body ≤ max_request_bytes → whole layout_at body ≡ Some parts → TakesRequest parts q
+pub asks : (body : List ℕ) (parts : Layout) (q : Request) → length body ≤ max_request_bytes → whole layout_at body ≡ Some parts → TakesRequest parts q
     → Asks body q
 asks body parts q short read t = record { parts = parts; lies = lies_so body parts short read; values = t.values; spelled = t.spelled; is = t.is }
 

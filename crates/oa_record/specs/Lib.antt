@@ -6,5 +6,6 @@ pub mod Reading
 pub mod Shown
 pub mod Judging
 pub mod Replacement
+pub mod ValueCalls
 pub mod Replies
 pub mod Faults

@@ -1,9 +1,10 @@
 //! The fields of replies. Each is made as a body of its own, or added to one that is being made.
-ghost use Rattle.std.specs.Prelude.{◌≡◌, ◌↔◌, ◌<◌, ◌≤◌, ◌+◌, ◌*◌, ◌++◌, length, replicate, take, IfOk, IsErrOf, OnErr, OnOk};
+ghost use Rattle.std.specs.Prelude.{[], ◌≡◌, ◌↔◌, ◌<◌, ◌≤◌, ◌+◌, ◌*◌, ◌++◌, length, replicate, take, IfOk, IsErrOf, OnErr, OnOk};
 ghost use Rattle.std.specs.List.{flat_map};
 ghost use Rattle.oa_ndr.specs.Forms.{padding};
 ghost use Rattle.oa_variant.specs.declared.variant.Variant.TheVariants.{One};
-ghost use Rattle.oa_wire_array.specs.Canon.{max_wire_scalar};
+ghost use Rattle.oa_ndr.specs.Writing.{put_unit};
+ghost use Rattle.oa_wire_array.specs.Canon.{max_wire_scalar, put_head};
 ghost use Rattle.oa_wire_variant.specs.Canon.{canon};
 ghost use Rattle.oa_record.specs.Replies.{word, half_word, lost_field, signed_word, number_field, object_field, variant_field, ids_field, string_field};
 ghost use Rattle.oa_record.specs.declared.fault.FieldFault.TheVariants.{TooLong};
@@ -104,6 +105,18 @@ pub fn lost_field(alloc: Global, guid: &Uuid, dispid: i32) -> Result<Vec<u8>, Al
     Ok(field)
 }
 
+// The field of a long, all of its bytes laid out at once.
+#[tactic(auto, unfolding(crate::specs::Replies::word))]
+fn long_field(bits: u32) -> [u8; 32]
+    ensures { result ≡ number_field 24 ++ put_unit 4 bits (put_unit 4 3 (put_head 3 3 [])) }
+{
+    let [a, b, c, d] = bits.to_le_bytes();
+    [
+        24, 0, 0, 0, 0, 0, 0, 0, 3, 0, 0, 0, 0, 0, 0, 0, 3, 0, 0, 0, 0, 0, 0, 0, 3, 0, 0, 0, a, b,
+        c, d,
+    ]
+}
+
 // Adds a value of `len` bytes as a field.
 fn add_value(out: &mut Vec<u8>, value: &Variant, len: usize) -> Result<(), AllocError>
     requires counted { len ≡ length (canon value.now) }
@@ -137,11 +150,15 @@ pub fn put_variant_field(out: &mut Vec<u8>, value: &Variant) -> Result<(), Field
 /// The fields of a reply that are a value: u32 count of the value's bytes, u32 reserved, these bytes, zeros up to a multiple of 8.
 ///
 /// `TooLong` for an array above 4,294,967,264 bytes on the wire, and for nothing else.
+#[tactic(auto, using(crate::proofs::Longs::long_is))]
 pub fn variant_field(alloc: Global, value: &Variant) -> Result<Vec<u8>, FieldFault>
     ensures value { IfOk result (λ v. v.items ≡ variant_field value.now) }
     ensures len { IfOk result (λ v. length v.items ≤ 4294967279) }
     ensures long { IsErrOf result TooLong ↔ (4294967264 < length (canon value.now)) }
 {
+    if let Variant::One(Scalar::I4(number)) = value {
+        return Ok(Vec::from_slice(alloc, &long_field(number.cast_unsigned()))?);
+    }
     let len = wire_len(value);
     if len > MAX_VALUE_BYTES {
         return Err(FieldFault::TooLong);

@@ -1,5 +1,6 @@
 //! The layout of a body, with the bytes of its variant fields.
-ghost use Rattle.std.specs.Prelude.{◌≡◌, ℕ, ◌<◌, ◌≤◌, map, length, IfOk};
+ghost use Rattle.std.specs.Prelude.{◌≡◌, ℕ, ◌<◌, ◌≤◌, map, length, None, Some, IfOk};
+ghost use Rattle.std.specs.Option.{option_map};
 ghost use Rattle.oa_ndr.specs.Reading.{many, unit_at, whole};
 ghost use Rattle.oa_wire_array.specs.ArrayReading.{bound_at};
 ghost use Rattle.oa_record.specs.Reading.{
@@ -25,17 +26,22 @@ ghost use Rattle.oa_record.specs.Reading.{
   fields_at,
   layout_at,
 };
+ghost use Rattle.oa_record.specs.Layouts.{Layout};
 ghost use Rattle.oa_record.specs.Shown.{shown};
+ghost use Rattle.oa_record.specs.ValueCalls.{parts_bringing};
 ghost use Rattle.oa_record.specs.declared.opcode.Opcode.TheVariants as opcodes;
 
 use crate::body_parts::Parts;
-use crate::raw_call::RawCall;
+use crate::raw_call::{RawCall, ValueParts};
 use crate::{CallHead, GetIds, Names, Opcode, RecordFault};
 use oa_array::Indices;
 use oa_model::{Bound, MAX_ARGUMENTS, MAX_DIMENSIONS, MAX_NAMES, guid_from_wire};
 use oa_ndr::{Ndr, Short};
 use std::alloc::Global;
 use uuid::Uuid;
+
+/// The name of a put's new value (DISPID_PROPERTYPUT, MS-OAUT section 2.2.32.1).
+const NEW_VALUE: i32 = -3;
 
 // A GUID in wire order.
 #[tactic(auto, unfolding(oa_ndr::specs::Reading::bind, oa_ndr::specs::Reading::give, crate::specs::Reading::guid_at))]
@@ -129,6 +135,67 @@ fn call<'a>(alloc: Global, r: &mut Ndr<'a>) -> Result<RawCall<'a>, RecordFault>
     r.align(8)?;
     let fields = fields(alloc, count, r)?;
     Ok(RawCall::new(head, named, fields))
+}
+
+// No lists behind counts of 0.
+#[tactic(auto, unfolding(oa_ndr::specs::Reading::bind, oa_ndr::specs::Reading::give, crate::specs::Reading::lists_at), using(crate::proofs::Bringing::many_none))]
+fn no_lists(head: CallHead, r: &mut Ndr<'_>) -> Result<(), Short>
+    ensures { IfOk result (λ u. lists_at head 0 0 r.old ≡ Some (parts_bringing head None, r.new)) }
+{
+    r.align(8)
+}
+
+// The lists behind counts of 1: the name of a new value, and the bytes of its field.
+#[tactic(auto, unfolding(oa_ndr::specs::Reading::bind, oa_ndr::specs::Reading::give, crate::specs::Reading::lists_at), using(crate::proofs::Bringing::many_one))]
+fn new_value<'a>(head: CallHead, r: &mut Ndr<'a>) -> Result<&'a [u8], Short>
+    ensures { IfOk result (λ f. lists_at head 1 1 r.old ≡ Some (parts_bringing head (Some f.now), r.new)) }
+{
+    if dispid(r)? != NEW_VALUE {
+        return Err(Short);
+    }
+    r.align(8)?;
+    field(r)
+}
+
+// A call that brings no more than a new value, whose field has these bytes. Err of any other.
+#[tactic(auto, unfolding(oa_ndr::specs::Reading::bind, oa_ndr::specs::Reading::choose, crate::specs::Reading::call_at))]
+fn value_call<'a>(r: &mut Ndr<'a>) -> Result<ValueParts<'a>, Short>
+    ensures { IfOk result (λ c. call_at r.old ≡ Some (parts_bringing c.head (option_map (λ f. f.now) c.field), r.new)) }
+{
+    let head = call_head(r)?;
+    let count = r.u32()?;
+    let named_count = r.u32()?;
+    if count == 0 && named_count == 0 {
+        no_lists(head, r)?;
+        return Ok(ValueParts { head, field: None });
+    }
+    if count == 1 && named_count == 1 {
+        let field = Some(new_value(head, r)?);
+        return Ok(ValueParts { head, field });
+    }
+    Err(Short)
+}
+
+/// The head of an INVOKE that brings no more than a new value, and the bytes of that value's field. Err of any other body.
+#[tactic(auto, unfolding(oa_ndr::specs::Reading::bind, oa_ndr::specs::Reading::give, crate::specs::Reading::layout_at, crate::specs::Reading::listed_at, crate::specs::Reading::fields_at))]
+pub(crate) fn read_value_parts(body: &[u8]) -> Result<ValueParts<'_>, Short>
+    ensures { IfOk result (λ c. whole layout_at body.now ≡ Some (Layout.InvokeBody (parts_bringing c.head (option_map (λ f. f.now) c.field)))) }
+{
+    let mut r = Ndr::new(body);
+    r.u32()?;
+    let number = r.u16()?;
+    r.u16()?;
+    let Some(Opcode::Invoke) = Opcode::listed(number) else {
+        return Err(Short);
+    };
+    let Ok(call) = value_call(&mut r) else {
+        return Err(Short);
+    };
+    if r.rest().is_empty() {
+        Ok(call)
+    } else {
+        Err(Short)
+    }
 }
 
 // An index list.

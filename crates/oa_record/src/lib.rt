@@ -30,7 +30,7 @@ pub use fields::{
 };
 pub use names::Names;
 pub use opcode::{Opcode, opcode_of};
-pub use reading::{read_request, tag_of};
+pub use reading::{read_request, read_value_call, tag_of};
 pub use replacement::{is_replacement, replacement_text};
 pub use reply::Reply;
-pub use request::{Call, CallHead, GetIds, Request};
+pub use request::{Call, CallHead, GetIds, Request, ValueCall};

@@ -13,6 +13,13 @@ pub(crate) struct RawCall<'a> {
     fields: Vec<&'a [u8]>,
 }
 
+/// The head of a call that brings no more than a new value, with the bytes of that value's field.
+#[derive(Drop)]
+pub(crate) struct ValueParts<'a> {
+    pub head: CallHead,
+    pub field: Option<&'a [u8]>,
+}
+
 impl<'a> Model for RawCall<'a> {
     ghost use Rattle.std.specs.Prelude.{◌≤◌, length, map};
     ghost use Rattle.oa_record.specs.CallParts.{CallParts};

@@ -1,16 +1,19 @@
 //! Bodies as requests.
-ghost use Rattle.std.specs.Prelude.{◌≡◌, ◌<◌, ◌≤◌, ◌++◌, ◌∷◌, [], map, length, IfOk, IfErr};
-ghost use Rattle.oa_record.specs.Asks.{IsRequest, call_of, tag_at};
+ghost use Rattle.std.specs.Prelude.{◌≡◌, ◌<◌, ◌≤◌, ◌++◌, ◌∷◌, [], map, length, IfOk, IfErr, IfSome};
+ghost use Rattle.oa_record.specs.Asks.{Asks, IsRequest, call_of, tag_at};
 ghost use Rattle.oa_record.specs.Judging.{AnswersFields, Requests, TestsFields, TestsField, put_fault};
 ghost use Rattle.oa_record.specs.Layouts.{Layout};
 ghost use Rattle.oa_record.specs.Reading.{parts_of_element, put_of};
 ghost use Rattle.oa_record.specs.Shown.{shown};
+ghost use Rattle.oa_record.specs.ValueCalls.{SpellsNew, bringing};
+ghost use Rattle.std.specs.Option.{option_map};
 ghost use Rattle.oa_record.specs.declared.fault.RecordFault.TheVariants.{Memory};
+ghost use Rattle.oa_record.specs.declared.request.Request.TheVariants.{Invoke};
 
 use crate::body_parts::Parts;
-use crate::layout::read_parts;
-use crate::raw_call::RawCall;
-use crate::{Call, RecordFault, Request};
+use crate::layout::{read_parts, read_value_parts};
+use crate::raw_call::{RawCall, ValueParts};
+use crate::{Call, RecordFault, Request, ValueCall};
 use byteorder::{ByteOrder, LittleEndian};
 use oa_array::Indices;
 use oa_model::MAX_REQUEST_BYTES;
@@ -173,4 +176,35 @@ pub fn read_request(alloc: Global, body: &[u8]) -> Result<Request, RecordFault>
     }
     let parts = read_parts(alloc, body)?;
     request(alloc, parts)
+}
+
+// The call of these parts, with the value of the field where it has one.
+fn value_call(alloc: Global, parts: ValueParts<'_>) -> Option<ValueCall>
+    ensures { IfSome result (λ call. (call.head ≡ parts.entry.head) × SpellsNew (option_map (λ f. f.now) parts.entry.field) call.value) }
+{
+    let ValueParts { head, field } = parts;
+    let Some(bytes) = field else {
+        return Some(ValueCall { head, value: None });
+    };
+    match read_variant(alloc, bytes) {
+        Ok(value) => Some(ValueCall {
+            head,
+            value: Some(value),
+        }),
+        Err(_) => None,
+    }
+}
+
+/// The call of an INVOKE that brings no more than a put's new value, read without a list. None of any other body, and of one that
+/// `read_request` refuses.
+pub fn read_value_call(alloc: Global, body: &[u8]) -> Option<ValueCall>
+    ensures { IfSome result (λ call. Asks body.now (Invoke (bringing call.head call.value))) }
+{
+    if body.len() <= MAX_REQUEST_BYTES as usize {
+        let Ok(parts) = read_value_parts(body) else {
+            return None;
+        };
+        return value_call(alloc, parts);
+    }
+    None
 }

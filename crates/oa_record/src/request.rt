@@ -91,3 +91,13 @@ pub struct Call {
     /// The arguments.
     pub arguments: Arguments,
 }
+
+/// An INVOKE that brings no more than a put's new value: without arguments, or with one alone, which is named DISPID_PROPERTYPUT (MS-OAUT
+/// section 2.2.32.1). So it takes no list.
+#[derive(Debug, Drop)]
+pub struct ValueCall {
+    /// What is called, and how.
+    pub head: CallHead,
+    /// The new value; None without arguments.
+    pub value: Option<Variant>,
+}

@@ -320,6 +320,26 @@ fn a_stop_at_each_moment_leaves_what_was_done(rt: HostRuntime) -> Result<(), Fai
     Ok(())
 }
 
+/// Whether a store that is open is written by both sessions, with a checkpoint between them; None where it is not made. Memory is taken
+/// before that alone: `cli/test_raw_memory.py` refuses all from each call of the allocator on.
+fn written(alloc: Global) -> Option<bool> {
+    let mut disk = MemoryDisk::new(alloc, SIZE, 100, 2000).ok()?;
+    if make(alloc, &mut disk) != WELL {
+        return None;
+    }
+    let (mut store, table) = Store::open(alloc, disk, LIBRARY).ok()?;
+    let end = begin(&mut store);
+    Some(end == WELL && go_on(&mut store, &table) == WELL)
+}
+
+#[test]
+fn an_open_store_takes_no_memory(rt: HostRuntime) -> Result<(), Fail> {
+    let found = written(rt.alloc());
+    assert!(rt; found.is_some(), "not made");
+    assert_eq!(rt; found, Some(true));
+    Ok(())
+}
+
 /// The calls of the script, R for a read, W for a write or a sync.
 const CALLS: &str = "WWWWWWWWWRRRRRRRRRWWWWWWWWWRRRRRRRRRWWWWWWWWW";
 

@@ -33,3 +33,5 @@ mod typelib;
 #[cfg(test)]
 mod variant;
 pub mod wire_variant;
+#[cfg(test)]
+mod without_memory;

@@ -1,0 +1,154 @@
+//! Calls that take no memory, one behind another, over values that are made first. With ample memory each is answered so;
+//! `cli/test_raw_memory.py` refuses all memory from each call of the allocator on, and then the values are not made.
+use crate::arrays::array;
+use crate::asserts::expect;
+use oa_array::SafeArray;
+use oa_bstr::Bstr;
+use oa_cells::Cells;
+use oa_idl::parse;
+use oa_image::Pieces;
+use oa_model::{Bound, VarType};
+use oa_ndr::Ndr;
+use oa_record::tag_of;
+use oa_table::{CellName, Event, Place, Table};
+use oa_typelib::{Access, Library, check};
+use oa_variant::{Scalar, Variant};
+use oa_wire_variant::wire_len;
+use std::alloc::{AllocError, Global};
+use std::process::Abort;
+use std::rt::HostRuntime;
+use uuid::Uuid;
+
+/// Whether a text of four bytes is told.
+fn is_told(text: &Bstr) -> bool {
+    text.byte_len() == 4
+        && text.as_bytes() == [72, 0, 105, 0].as_slice()
+        && text.unit(1) == 105
+        && Bstr::null().is_null()
+}
+
+fn text(alloc: Global) -> Option<bool> {
+    let text = Bstr::from_bytes(alloc, &[72, 0, 105, 0]).ok()?;
+    Some(is_told(&text))
+}
+
+/// Whether a cell of two sevens becomes another.
+fn is_replaced(cells: &mut Cells<u8>) -> bool {
+    cells.len() == 2 && *cells.get(0) == 7 && cells.replace(1, 9) == 7
+}
+
+fn two_sevens(alloc: Global) -> Result<Cells<u8>, AllocError> {
+    Cells::filled_by(alloc, 2, |_: usize| -> Result<u8, AllocError> { Ok(7) })
+}
+
+fn cells(alloc: Global) -> Option<bool> {
+    let mut cells = two_sevens(alloc).ok()?;
+    Some(is_replaced(&mut cells))
+}
+
+const TWO: [Bound; 1] = [Bound { count: 2, lower: 0 }];
+
+/// Whether an element of an array is put while it is locked, and found.
+fn is_put(array: &mut SafeArray<Scalar>) -> bool {
+    let is_locked = array.lock().is_ok();
+    let is_put = array.put_element(&[1], Scalar::I4(7)).is_ok();
+    let is_there = array.element(&[1]).is_ok() && array.element(&[2]).is_err();
+    is_locked && is_put && is_there && array.locks() == 1 && array.unlock().is_ok()
+}
+
+fn elements(alloc: Global) -> Option<bool> {
+    let mut array: SafeArray<Scalar> = SafeArray::create(alloc, VarType::I4, &TWO).ok()?;
+    Some(is_put(&mut array))
+}
+
+/// Whether a value of two cells is measured, and parts of a body are read.
+fn is_measured(value: &Variant) -> bool {
+    let mut reader = Ndr::new(&[1, 2, 3, 4, 5, 6]);
+    let is_read = reader.u32().is_ok() && reader.u16().is_ok() && reader.u8().is_err();
+    is_read && wire_len(value) == 76 && tag_of(&[7, 0, 0, 0, 2, 0, 0, 0]) == 7
+}
+
+fn fields(alloc: Global) -> Option<bool> {
+    let value = array(alloc, VarType::I4, &TWO)?;
+    Some(is_measured(&value))
+}
+
+/// The cell of a property without parameters, in the object 1.
+fn name(alloc: Global) -> CellName {
+    let place = Place::new(Uuid::nil(), 8, Vec::new(alloc));
+    CellName { object: 1, place }
+}
+
+/// Whether the array in a cell is locked, and the table told.
+fn is_locked(table: &mut Table, name: &CellName) -> bool {
+    let is_locked = table.lock(name).is_ok() && table.locked(1);
+    let is_there = table.get(name).is_some() && table.class_of(1).is_some() && table.next() == 2;
+    let mut front = [0u8; 8];
+    let is_given = Pieces::new(table).fill(&mut front) == 8 && front[0] == 2;
+    let without = table.size_after(&Event::Release { number: 2 });
+    is_locked && is_there && is_given && without == table.image_size() && table.unlock(name).is_ok()
+}
+
+fn table(alloc: Global) -> Option<bool> {
+    let mut table = Table::new(alloc);
+    table.create(1, Uuid::nil()).ok()?;
+    let value = array(alloc, VarType::I4, &TWO)?;
+    table.put(name(alloc), value).ok()?;
+    Some(is_locked(&mut table, &name(alloc)))
+}
+
+const LIBRARY: &str = "[uuid(11223344-5566-7788-99aa-bbccddeeff01)] library L {
+[uuid(11223344-5566-7788-99aa-bbccddeeff02)] dispinterface D { properties: [id(1)] long Count; }
+[uuid(11223344-5566-7788-99aa-bbccddeeff03)] coclass C { dispinterface D; } }";
+
+/// Whether a coclass, an interface of it and its member are found.
+fn is_found(library: &Library) -> bool {
+    let class = Uuid::from_u128(0x1122_3344_5566_7788_99aa_bbcc_ddee_ff03);
+    match library.select(&class, &Uuid::nil()) {
+        Some(interface) => {
+            library.class(&class).is_some() && interface.member(1, Access::Get).is_ok()
+        }
+        None => false,
+    }
+}
+
+fn library(alloc: Global) -> Option<bool> {
+    let tree = parse(alloc, LIBRARY).ok()?;
+    let library = check(alloc, tree).ok()?;
+    Some(is_found(&library))
+}
+
+fn told(rt: &impl Abort, found: Option<bool>) {
+    expect(rt, "not made", found.is_some());
+    expect(rt, "answered otherwise", found == Some(true));
+}
+
+#[test]
+fn texts(rt: HostRuntime) {
+    told(&rt, text(rt.alloc()));
+}
+
+#[test]
+fn rows_of_cells(rt: HostRuntime) {
+    told(&rt, cells(rt.alloc()));
+}
+
+#[test]
+fn arrays(rt: HostRuntime) {
+    told(&rt, elements(rt.alloc()));
+}
+
+#[test]
+fn fields_of_bodies(rt: HostRuntime) {
+    told(&rt, fields(rt.alloc()));
+}
+
+#[test]
+fn tables(rt: HostRuntime) {
+    told(&rt, table(rt.alloc()));
+}
+
+#[test]
+fn libraries(rt: HostRuntime) {
+    told(&rt, library(rt.alloc()));
+}

@@ -4,9 +4,19 @@ use Rattle.std.proofs.Common.{slice_get, refl, sym, ◌∙◌, ap, subst, arith}
 use Rattle.std.proofs.lemmas.List.{drop-drop, take-append-drop}
 use Rattle.oa_disk.specs.declared.call.DeviceCall.{DeviceCall}
 use Rattle.oa_disk.specs.declared.call.DeviceCall.TheVariants.{Read, Write, Sync}
-use Rattle.oa_disk.specs.Replay.{DiskState, IsImage, IsImageOfSome, IsOutside, AllInside, OneInside, NoSync, during_call, after_call, last_state, states}
+use Rattle.oa_disk.specs.Replay.{DiskState, IsImage, IsImageOfSome, IsOutside, AllInside, during_call, after_call, last_state, states}
 use Rattle.oa_disk.specs.Replay.{count_of, count_all, overwritten}
 use Rattle.oa_disk.specs.Overwritten.{length-overwritten, overwritten_below, overwritten_above}
+
+-- the call is inside
+abbrev pub OneInside : ℕ → DeviceCall → Type 0
+OneInside size Read = Unit {0}
+OneInside size (Write at count) = at + count ≤ size
+OneInside size Sync = Unit {0}
+
+-- none of them is a sync
+abbrev pub NoSync : List DeviceCall → Type 0
+NoSync calls = (k : ℕ) → slice_get calls k ≡ Some Sync → ⊥
 
 one_inside : (size : ℕ) (call : DeviceCall) (at count : ℕ) → OneInside size call → Some call ≡ Some (Write at count) → at + count ≤ size
 one_inside size Read at count fits is = absurd (cc)

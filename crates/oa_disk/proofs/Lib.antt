@@ -2,7 +2,9 @@ mod Calls
 mod Entered
 mod Laid
 mod Noted
+pub mod Ranges
 mod Recorded
 mod Shown
 mod Steps
+pub mod Switched
 mod Tearing

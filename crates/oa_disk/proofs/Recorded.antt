@@ -6,14 +6,14 @@ use Rattle.std.proofs.lemmas.Bool.{cases_lt}
 use Rattle.oa_disk.specs.Disk.{HasBytesAt, Torn, Follows, Reaches, AllBytes, Stays, WritesUnsynced, Syncs, Elapses}
 use Rattle.oa_disk.specs.declared.call.DeviceCall.{DeviceCall}
 use Rattle.oa_disk.specs.declared.call.DeviceCall.TheVariants.{Read, Write, Sync}
-use Rattle.oa_disk.specs.Replay.{DiskState, IsImage, IsImageOfSome, IsOutside, OneInside, states, last_state, synced, during_call, after_call, count_of}
+use Rattle.oa_disk.specs.Replay.{DiskState, IsImage, IsImageOfSome, IsOutside, states, last_state, synced, during_call, after_call, count_of}
 use Rattle.oa_disk.specs.Replay.{count_all, overwritten}
 use Rattle.oa_disk.specs.History.{History, IsHistory, Fits, with_call, disk_state, contents_of, image_of, moment_of, image_since_of}
 use Rattle.oa_disk.specs.Overwritten.{take_bytes, drop_bytes, append_bytes, overwritten_bytes, length-overwritten, overwritten_below}
 use Rattle.oa_disk.specs.Overwritten.{overwritten_in, overwritten_above, overwritten_holds, overwritten_torn, torn_from}
-use Rattle.oa_disk.specs.Ranges.{Torn_refl}
+use Rattle.oa_disk.proofs.Ranges.{Torn_refl}
 use Rattle.oa_disk.specs.Replaying.{length-states, counts_last, contents_size, contents_bytes}
-use Rattle.oa_disk.proofs.Calls.{inside_push}
+use Rattle.oa_disk.proofs.Calls.{OneInside, inside_push}
 
 pub last_push : (calls : List DeviceCall) (state : DiskState) (bytes : List ℕ) (call : DeviceCall) (more : List ℕ) → count_all calls ≡ length bytes
     → count_of call ≡ length more

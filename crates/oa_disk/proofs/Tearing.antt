@@ -9,12 +9,12 @@ use Rattle.oa_disk.specs.declared.call.DeviceCall.TheVariants.{Read, Write, Sync
 use Rattle.oa_disk.specs.declared.crash.Tear.{Tear}
 use Rattle.oa_disk.specs.declared.crash.Tear.TheVariants.{Lost, Kept, Filled, Cut}
 use Rattle.oa_disk.specs.Overwritten.{length-overwritten, overwritten_below, overwritten_above}
-use Rattle.oa_disk.specs.Replay.{DiskState, IsImage, AllInside, NoSync, during_call, after_call, last_state, states, synced, contents_after, overwritten}
+use Rattle.oa_disk.specs.Replay.{DiskState, IsImage, AllInside, during_call, after_call, last_state, states, synced, contents_after, overwritten}
 use Rattle.oa_disk.specs.Replay.{count_all}
 use Rattle.oa_disk.specs.Replaying.{state_size}
 use Rattle.oa_disk.specs.Tear.{torn, tear_behind, torn_all, IsTorn}
 use Rattle.oa_disk.proofs.Calls.{AgreesOutsidePending, Keeps, last_state-append, torn_within, torn_after, even_state, odd_state}
-use Rattle.oa_disk.proofs.Calls.{no_sync_drop, inside_drop}
+use Rattle.oa_disk.proofs.Calls.{NoSync, no_sync_drop, inside_drop}
 use Rattle.oa_disk.proofs.Calls.{inside_take, count_parts}
 use Rattle.oa_disk.proofs.Steps.{get_at}
 

@@ -9,7 +9,6 @@ pub mod Ledger
 pub mod Memory
 pub mod Moments
 pub mod Overwritten
-pub mod Ranges
 pub mod Record
 pub mod Replay
 pub mod Replaying

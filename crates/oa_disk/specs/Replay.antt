@@ -61,16 +61,6 @@ count_all (call ∷ calls) = count_of call + count_all calls
 abbrev pub AllInside : ℕ → List DeviceCall → Type 0
 AllInside size calls = (k at count : ℕ) → slice_get calls k ≡ Some (Write at count) → at + count ≤ size
 
--- the call is inside
-abbrev pub OneInside : ℕ → DeviceCall → Type 0
-OneInside size Read = Unit {0}
-OneInside size (Write at count) = at + count ≤ size
-OneInside size Sync = Unit {0}
-
--- none of them is a sync
-abbrev pub NoSync : List DeviceCall → Type 0
-NoSync calls = (k : ℕ) → slice_get calls k ≡ Some Sync → ⊥
-
 -- nothing is pending
 abbrev pub synced : List ℕ → DiskState
 synced contents = record { contents = contents; pending = [] }

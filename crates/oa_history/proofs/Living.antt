@@ -11,7 +11,7 @@ use Rattle.oa_turn.specs.States.{State}
 use Rattle.oa_server.specs.Storages.{OverStore}
 use Rattle.oa_server.specs.declared.storage.Storage.{Storage}
 use Rattle.oa_server.specs.declared.storage.Storage.TheVariants.{Disk, Memory}
-use Rattle.oa_store.specs.OneStore.{one_store}
+use Rattle.oa_store.proofs.OneStore.{one_store}
 use Rattle.oa_store.specs.Stores.{IsStore}
 use Rattle.oa_table.specs.Tables.{TableValue}
 use Rattle.oa_history.specs.Kept.{Sits}

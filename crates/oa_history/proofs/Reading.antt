@@ -10,9 +10,10 @@ use Rattle.oa_idl.specs.declared.items.Item.{Item}
 use Rattle.oa_idl.specs.declared.items.Item.TheVariants.{Interface, Coclass}
 use Rattle.oa_idl.specs.declared.parts.Entry.{Entry}
 use Rattle.oa_journal.specs.Bank.{HasHeader, from_place}
-use Rattle.oa_journal.specs.Banks.{bank_header}
-use Rattle.oa_journal.specs.Damages.{IsDamagedBody, bank_library, not_damaged, one_library}
-use Rattle.oa_journal.specs.Unique.{one_head}
+use Rattle.oa_journal.proofs.Banks.{bank_header}
+use Rattle.oa_journal.specs.Damages.{IsDamagedBody}
+use Rattle.oa_journal.proofs.Damages.{bank_library, not_damaged, one_library}
+use Rattle.oa_journal.proofs.Unique.{one_head}
 use Rattle.oa_journal.specs.declared.shape.Shape.{Shape}
 use Rattle.oa_journal.specs.declared.shape.Shape.TheVariants.{One, Two}
 use Rattle.oa_store.specs.Faults.{IsDamaged, SpeaksOfContents, RefusalSays}

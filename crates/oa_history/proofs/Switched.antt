@@ -14,7 +14,8 @@ use Rattle.oa_turn.specs.Events.{held_of}
 use Rattle.oa_server.specs.Requests.{opened, requests}
 use Rattle.oa_turn.specs.States.{State}
 use Rattle.oa_store.specs.Changes.{IsSwitch, IsSwitched}
-use Rattle.oa_store.specs.OneStore.{AreSameStores, one_store}
+use Rattle.oa_store.specs.OneStore.{AreSameStores}
+use Rattle.oa_store.proofs.OneStore.{one_store}
 use Rattle.oa_store.specs.Reads.{WritesNothing}
 use Rattle.oa_store.specs.Stores.{IsStoreAt}
 use Rattle.oa_store.specs.declared.store.Store.{Store}

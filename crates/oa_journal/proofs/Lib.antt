@@ -1,7 +1,14 @@
 mod Appended
 mod Applied
+pub mod Banks
 mod Counted
+pub mod Damages
+mod Fronts
+mod LaidOut
 mod Laying
+pub mod Lockless
 mod Opened
 mod Sealing
+mod Shapes
 mod Slices
+pub mod Unique

@@ -37,8 +37,3 @@ abbrev pub IsCaused : ℕ → ℕ → BankFault → Type 0
 IsCaused before now (banks.Damaged place) = now ≡ before
 IsCaused before now (banks.Device fault) = HasCounted before now
 IsCaused before now banks.Memory = now ≡ before
-
--- the damage of a bank that stands at a place of a disk
-abbrev pub on_disk : ℕ → ImageFault → BankFault
-on_disk place (images.Damaged at) = banks.Damaged (place + at)
-on_disk place images.Memory = banks.Memory

@@ -1,8 +1,7 @@
 -- The two formats of a bank, which differ in the head's bytes, in the size of the body, and in where a store has the body. All that
 -- stands in a body is the same in both.
 use Rattle.std.specs.Prelude.{if◌then◌else◌}
-use Rattle.std.proofs.Common.{◌≡◌, ◌==◌, ℕ, ◌+◌, ◌*◌, ◌≤◌, refl, ap, arith}
-use Rattle.std.proofs.lemmas.Bool.{cond_both, eqb-true}
+use Rattle.std.proofs.Common.{◌==◌, ℕ, ◌+◌, ◌*◌, ◌≤◌}
 use Rattle.oa_journal.specs.declared.shape.Shape.{Shape}
 use Rattle.oa_journal.specs.declared.shape.Shape.TheVariants.{One, Two}
 
@@ -46,24 +45,3 @@ ample_bytes = 4718597
 -- the format whose body has so many bytes
 abbrev pub shape_of : ℕ → Shape
 shape_of size = if size == 16777184 then One else Two size
-
-pub body_small : (shape : Shape) → IsShape shape → body_bytes shape ≤ 1073741824
-body_small One is = omega arith
-body_small (Two size) is = is.1
-
-pub told_small : (shape : Shape) → IsShape shape → told_size shape ≤ 1073741824
-told_small One is = omega arith
-told_small (Two size) is = is.1
-
--- a head tells its format
-pub one_shape : (a b : Shape) → format_of a ≡ format_of b → told_size a ≡ told_size b → a ≡ b
-one_shape One One format size = refl
-one_shape One (Two n) format size = absurd cc
-one_shape (Two m) One format size = absurd cc
-one_shape (Two m) (Two n) format size = ap Two size
-
--- so does the body's size
-pub shape_of_bytes : (shape : Shape) → IsShape shape → shape_of (body_bytes shape) ≡ shape
-shape_of_bytes One is = refl
-shape_of_bytes (Two size) is = cond_both (size == 16777184) One (Two size) (λ (s : Shape). s ≡ Two size)
-    (λ e. absurd (omega (arith, eqb-true size 16777184 e, is.0))) (λ e. refl)

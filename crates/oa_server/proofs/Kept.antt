@@ -10,7 +10,7 @@ use Rattle.oa_canonical.specs.Canonical.{canonical}
 use Rattle.oa_idl.specs.IsTree.{IsTree}
 use Rattle.oa_idl.specs.Trees.{TreeValue}
 use Rattle.oa_record.specs.Replies.{ReplyValue}
-use Rattle.oa_store.specs.OneStore.{one_store}
+use Rattle.oa_store.proofs.OneStore.{one_store}
 use Rattle.oa_journal.specs.Shapes.{body_bytes}
 use Rattle.oa_journal.specs.declared.shape.Shape.{Shape}
 use Rattle.oa_journal.specs.declared.shape.Shape.TheVariants.{Two}

@@ -7,14 +7,14 @@ use Rattle.oa_canonical.specs.Canonical.{canonical}
 use Rattle.oa_idl.specs.Trees.{TreeValue}
 use Rattle.oa_image.proofs.Whole.{same_table}
 use Rattle.oa_journal.specs.Bank.{HasHeader, HasLibrary, from_place}
-use Rattle.oa_journal.specs.Banks.{bank_header}
-use Rattle.oa_journal.specs.Damages.{bank_library, one_library}
+use Rattle.oa_journal.proofs.Banks.{bank_header}
+use Rattle.oa_journal.proofs.Damages.{bank_library, one_library}
 use Rattle.oa_journal.specs.Shapes.{body_bytes, format_of}
-use Rattle.oa_journal.specs.Unique.{one_head}
+use Rattle.oa_journal.proofs.Unique.{one_head}
 use Rattle.oa_journal.specs.declared.shape.Shape.{Shape}
 use Rattle.oa_journal.specs.declared.shape.Shape.TheVariants.{One, Two}
 use Rattle.oa_store.specs.Faults.{SpeaksOfContents, RefusalSays}
-use Rattle.oa_store.specs.OneStore.{one_store}
+use Rattle.oa_store.proofs.OneStore.{one_store}
 use Rattle.oa_store.specs.Stores.{IsFormatted, IsNewStore, IsStoreAt, IsStoreIn, body_place, head_place}
 use Rattle.oa_store.specs.declared.fault.OpenFault.{OpenFault}
 use Rattle.oa_store.specs.declared.fault.OpenFault.TheVariants.{NotAStore, OldFormat, LibraryDiffers, Damaged, Device, Memory}

@@ -1,5 +1,6 @@
 mod Changed
 mod Counted
 mod LaidDown
+pub mod OneStore
 mod Opened
 mod Upgraded

@@ -6,12 +6,13 @@ use Rattle.oa_disk.specs.declared.disk.DeviceFault.TheVariants as devices
 use Rattle.oa_table.specs.Tables.{TableValue}
 use Rattle.oa_journal.specs.declared.shape.Shape.{Shape}
 use Rattle.oa_journal.specs.declared.shape.Shape.TheVariants.{One, Two}
-use Rattle.oa_journal.specs.Banks.{bank_header}
-use Rattle.oa_journal.specs.Unique.{one_head}
+use Rattle.oa_journal.proofs.Banks.{bank_header}
+use Rattle.oa_journal.proofs.Unique.{one_head}
 use Rattle.oa_journal.specs.Bank.{from_place, IsBank, HasHead, HasHeader, HasLibrary}
 use Rattle.oa_journal.specs.declared.bank.Bank.{Bank}
 use Rattle.oa_journal.specs.Append.{IsAt}
-use Rattle.oa_journal.specs.Damages.{IsDamagedBank, bank_library, not_damaged, one_library}
+use Rattle.oa_journal.specs.Damages.{IsDamagedBank}
+use Rattle.oa_journal.proofs.Damages.{bank_library, not_damaged, one_library}
 use Rattle.oa_store.specs.declared.fault.OpenFault.{OpenFault}
 use Rattle.oa_store.specs.declared.fault.OpenFault.TheVariants.{NotAStore, OldFormat, LibraryDiffers, Damaged, Device, Memory}
 use Rattle.oa_store.specs.Faults.{SpeaksOfContents, ComesOfBanks, IfDamaged, IsDamaged, IsFailed, HasWanted, RefusalSays, DeviceTells}

@@ -9,12 +9,12 @@ use Rattle.oa_journal.specs.declared.shape.Shape.TheVariants.{One, Two}
 use Rattle.oa_journal.specs.Shapes.{body_bytes}
 use Rattle.oa_journal.specs.Append.{IsAt, TornBank}
 use Rattle.oa_journal.specs.Bank.{from_place, IsBank}
-use Rattle.oa_journal.specs.Lockless.{no_locks}
+use Rattle.oa_journal.proofs.Lockless.{no_locks}
 use Rattle.oa_store.specs.declared.fault.OpenFault.{OpenFault}
 use Rattle.oa_store.specs.declared.fault.OpenFault.TheVariants.{NotAStore, OldFormat, LibraryDiffers, Damaged, Device, Memory}
 use Rattle.oa_store.specs.Changes.{IsMove, IsMoved, IsUpgrade}
 use Rattle.oa_store.specs.Faults.{IsHead, ComesOfBanks, IsOld, IfDamaged, IsDamaged, IsCaused, IsCausedUpgrade, IsFailed, IsFailedUpgrade, RefusalSays, SaysOld, DeviceTells, TellsOld, of_opening}
-use Rattle.oa_store.specs.OneStore.{one_store_at}
+use Rattle.oa_store.proofs.OneStore.{one_store_at}
 use Rattle.oa_store.specs.Stores.{body_place, head_place, IsStoreAt, IsStoreIn}
 
 -- a refusal of an opening, as one of an upgrade

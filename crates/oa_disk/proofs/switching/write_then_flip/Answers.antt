@@ -1,7 +1,7 @@
 use Rattle.std.proofs.Common.{inl, inr, List, ℕ, length, ◌∙◌}
 use Rattle.std.proofs.lemmas.Result.{on_ok_weaker}
 use Rattle.oa_disk.specs.Moments.{started, goes_on, chained}
-use Rattle.oa_disk.specs.Ranges.{Torn_refl}
+use Rattle.oa_disk.proofs.Ranges.{Torn_refl}
 use Rattle.oa_disk.specs.Switch.{MaySwitch}
 use Rattle.oa_disk.proofs.switching.write_then_flip.Goals as goal
 

@@ -1,4 +1,4 @@
-use Rattle.oa_journal.specs.Damages as law
+use Rattle.oa_journal.proofs.Damages as law
 use Rattle.oa_journal.proofs.laws.bank_has_its_library.Goals as goal
 
 pub returns : goal.returns

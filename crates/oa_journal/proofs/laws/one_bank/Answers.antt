@@ -1,4 +1,4 @@
-use Rattle.oa_journal.specs.Banks as law
+use Rattle.oa_journal.proofs.Banks as law
 use Rattle.oa_journal.proofs.laws.one_bank.Goals as goal
 
 pub returns : goal.returns

@@ -3,8 +3,8 @@ use Rattle.oa_disk.specs.Disk.{HasBytesAt}
 use Rattle.oa_journal.specs.declared.bank.BankFault.{BankFault}
 use Rattle.oa_journal.specs.declared.bank.BankFault.TheVariants as banks
 use Rattle.oa_journal.specs.Bank.{from_place}
-use Rattle.oa_journal.specs.Banks.{table_numbered}
-use Rattle.oa_journal.specs.Lockless.{image_unlocked}
+use Rattle.oa_journal.proofs.Banks.{table_numbered}
+use Rattle.oa_journal.proofs.Lockless.{image_unlocked}
 use Rattle.oa_journal.proofs.Opened.{no_snapshot}
 use Rattle.oa_journal.proofs.reading.first_at.Goals as goal
 

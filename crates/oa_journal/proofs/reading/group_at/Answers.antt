@@ -2,8 +2,8 @@ use Rattle.std.proofs.Common.{◌≡◌, ◌∙◌, ◌+◌, List, ℕ, length, 
 use Rattle.std.specs.Int.{to_le_bytes, w32}
 use Rattle.oa_disk.specs.Disk.{HasBytesAt}
 use Rattle.oa_journal.specs.Bank.{from_place, Shows}
-use Rattle.oa_journal.specs.Fronts.{held}
-use Rattle.oa_journal.specs.Unique.{same_number}
+use Rattle.oa_journal.proofs.Fronts.{held}
+use Rattle.oa_journal.proofs.Unique.{same_number}
 use Rattle.oa_journal.proofs.reading.group_at.Goals as goal
 
 pub returns-in-Ok-group_bytes-clause-found : goal.returns-in-Ok-group_bytes-clause-found

@@ -1,6 +1,6 @@
 use Rattle.std.proofs.Common.{◌≡◌}
 use Rattle.oa_journal.specs.Bank.{from_place}
-use Rattle.oa_journal.specs.Unique.{one_head}
+use Rattle.oa_journal.proofs.Unique.{one_head}
 use Rattle.oa_journal.proofs.reading.head_of.Goals as goal
 
 pub returns-in-Err-clause-damaged : goal.returns-in-Err-clause-damaged

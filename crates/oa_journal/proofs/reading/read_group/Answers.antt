@@ -1,7 +1,7 @@
 use Rattle.std.proofs.Common.{◌≡◌, ◌∙◌, ◌+◌, ◌<◌, ℕ, List, length, ap, sym, subst, arith}
 use Rattle.oa_journal.specs.Bank.{from_place, IsGroupAt}
-use Rattle.oa_journal.specs.Banks.{group_numbered}
-use Rattle.oa_journal.specs.Lockless.{group_unlocked}
+use Rattle.oa_journal.proofs.Banks.{group_numbered}
+use Rattle.oa_journal.proofs.Lockless.{group_unlocked}
 use Rattle.oa_journal.proofs.Applied.{no_group}
 use Rattle.oa_journal.proofs.reading.read_group.Goals as goal
 

@@ -1,4 +1,4 @@
-use Rattle.oa_store.specs.OneStore.{one_store}
+use Rattle.oa_store.proofs.OneStore.{one_store}
 use Rattle.oa_store.proofs.laws.one_store.Goals as goal
 
 pub returns : goal.returns

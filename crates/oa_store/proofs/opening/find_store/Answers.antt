@@ -3,7 +3,8 @@ use Rattle.oa_journal.specs.declared.bank.Bank.{Bank}
 use Rattle.oa_journal.specs.declared.shape.Shape.{Shape}
 use Rattle.oa_journal.specs.Append.{IsAt}
 use Rattle.oa_journal.specs.Bank.{from_place, IsBank, HasLibrary}
-use Rattle.oa_journal.specs.Damages.{HasNoHeader, IsDamagedBank, bank_library, one_library}
+use Rattle.oa_journal.specs.Damages.{HasNoHeader, IsDamagedBank}
+use Rattle.oa_journal.proofs.Damages.{bank_library, one_library}
 use Rattle.oa_journal.specs.Shapes.{body_bytes}
 use Rattle.oa_store.specs.Faults.{IsDamaged}
 use Rattle.oa_store.specs.Stores.{body_place, head_place, IsStoreAt}

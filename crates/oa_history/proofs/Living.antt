@@ -1,20 +1,15 @@
 -- One step more, and what is told at last.
 use Rattle.std.proofs.Common.{◌≡◌, ℕ, ◌+◌, ◌<◌, List, [], ◌∷◌, ◌++◌, take, length, get_or, refl, sym, ◌∙◌, ap, subst}
 use Rattle.std.proofs.lemmas.List.{take_more}
-use Rattle.oa_disk.specs.declared.disk.Disk.{Ghosts}
-use Rattle.oa_groups.specs.Runs.{AllHoldState, HoldsState}
+use Rattle.oa_groups.specs.Runs.{HoldsState}
 use Rattle.oa_canonical.specs.Canonical.{canonical}
 use Rattle.oa_journal.specs.declared.shape.Shape.TheVariants.{Two}
 use Rattle.oa_turn.specs.Events.{held_of}
 use Rattle.oa_server.specs.Requests.{opened, requests}
 use Rattle.oa_turn.specs.States.{State}
-use Rattle.oa_server.specs.Storages.{OverStore}
-use Rattle.oa_server.specs.declared.storage.Storage.{Storage}
-use Rattle.oa_server.specs.declared.storage.Storage.TheVariants.{Disk, Memory}
 use Rattle.oa_store.proofs.OneStore.{one_store}
 use Rattle.oa_store.specs.Stores.{IsStore}
 use Rattle.oa_table.specs.Tables.{TableValue}
-use Rattle.oa_history.specs.Kept.{Sits}
 use Rattle.oa_history.specs.Lived.{IsStepped, Lives}
 use Rattle.oa_history.specs.declared.session.Heard.{Heard}
 use Rattle.oa_history.specs.declared.session.Step.{Step}
@@ -39,11 +34,6 @@ lives_more found before steps i heard all left mid step told image after within 
     let here : take (i + 1) steps ≡ take i steps ++ step ∷ [] = rw (take_more steps i step within, is) refl in
     subst (λ (hs : List Heard). Lives found before (take (i + 1) steps) hs image after) (sym all_are)
     (subst (λ (ss : List Step). Lives found before ss (heard ++ told ∷ []) image after) (sym here) (lives_push found before (take i steps) heard left mid step told image after lives one))
-
--- a store that a session is begun over holds the state
-pub over_all : {D : Type 0} {g : Ghosts D} (disk : D) (storage : Storage D g) (state : State) → OverStore storage (λ store. Sits disk store state) → OverStore storage (λ store. AllHoldState requests store state)
-over_all disk (Memory d) state is = absurd is
-over_all disk (Disk store) state is = is.sits.all
 
 -- what is shown of a store is what it holds of the state
 pub shown_library : (image text : List ℕ) (table : TableValue) (state : State) → IsStore image text table → HoldsState requests state image → text ≡ canonical state.library

@@ -1,5 +1,9 @@
--- Why there is no store.
-use Rattle.std.proofs.Common.{◌≡◌, ◌<◌, ℕ, refl}
+-- Why there is no store, and no checkpoint of one.
+use Rattle.std.proofs.Common.{◌≡◌, ◌<◌, ℕ, Bool, false, true, true≢false, Err, IsErrOf, Result, refl, sym, ◌∙◌, ap}
+use Rattle.oa_disk.specs.declared.disk.DeviceFault.{DeviceFault}
+use Rattle.oa_disk.specs.declared.disk.DeviceFault.TheVariants.{Write}
+use Rattle.oa_store.specs.declared.fault.CheckpointFault.{CheckpointFault}
+use Rattle.oa_store.specs.declared.fault.CheckpointFault.TheVariants as checkpoints
 use Rattle.oa_store.specs.declared.fault.FormatFault.{FormatFault}
 use Rattle.oa_store.specs.declared.fault.FormatFault.TheVariants.{TooSmall, Device, Memory}
 use Rattle.oa_history.specs.Kept.{IsUnformatted, IsUnmade, IsWanting}
@@ -15,6 +19,12 @@ unformatted size Memory small = tt
 pub unmade : (size : ℕ) (fault : HistoryFault) → IsWanting fault → IsUnmade size fault
 unmade size (histories.Format fault) wanting = absurd wanting
 unmade size (histories.Open fault) wanting = wanting
-unmade size (histories.Checkpoint fault) wanting = tt
+unmade size (histories.Checkpoint fault) wanting = wanting
 unmade size (histories.Text fault) wanting = tt
 unmade size histories.Memory wanting = tt
+
+-- a checkpoint of a store that goes on fails by a write
+pub write_failed : (was : Bool) (result : Result (Unit {0}) CheckpointFault) (fault : CheckpointFault) → result ≡ Err fault → was ≡ false → (IsErrOf result checkpoints.Stopped → was ≡ true) → ((device : DeviceFault) → IsErrOf result (checkpoints.Device device) → device ≡ Write)
+    → fault ≡ checkpoints.Device Write
+write_failed was result checkpoints.Stopped is going late fails = absurd (true≢false (sym (late is) ∙ going))
+write_failed was result (checkpoints.Device device) is going late fails = ap checkpoints.Device (fails device is)

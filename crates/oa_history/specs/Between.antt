@@ -6,6 +6,7 @@ use Rattle.oa_disk.specs.declared.crash.Tear.{Tear}
 use Rattle.oa_disk.specs.declared.disk.Disk.{Ghosts}
 use Rattle.oa_disk.specs.declared.memory.MemoryDisk.{MemoryDisk}
 use Rattle.oa_canonical.specs.Canonical.{canonical}
+use Rattle.oa_groups.specs.Runs.{HoldsState}
 use Rattle.oa_idl.specs.Trees.{TreeValue}
 use Rattle.oa_image.specs.Tables.{is_numbered}
 use Rattle.oa_journal.specs.Banks.{first_gate}
@@ -13,6 +14,7 @@ use Rattle.oa_journal.specs.Shapes.{default_bank_bytes}
 use Rattle.oa_journal.specs.declared.shape.Shape.TheVariants.{Two}
 use Rattle.oa_turn.specs.Events.{held_of}
 use Rattle.oa_turn.specs.States.{State}
+use Rattle.oa_server.specs.Requests.{requests}
 use Rattle.oa_store.specs.Changes.{IsNoneOrFirst}
 use Rattle.oa_store.specs.Reads.{WritesNothing}
 use Rattle.oa_store.specs.Stores.{IsStoreAt}
@@ -35,8 +37,8 @@ pub record IsFoundStore {D : Type 0} {g : Ghosts D} (disk : D) (store : Store D 
   pub numbered : is_numbered table ≡ true
   pub reads : WritesNothing g.image g.moment g.image_since disk store.disk
 
--- The store of the state that was found in one bank stands in the other one, without groups, once the last call of the disk has ended; what
--- is left is what a crash of the disk at the moment of the stop leaves, as the tear says.
+-- The store of the state that was found in one bank stands in the other one, without groups, once the last call of the disk has ended. What
+-- is left is what a crash of the disk at the moment of the stop leaves, as the tear says, and holds the state, wherever that is.
 pub record IsCheckpointed (found : List ℕ) (stop : Stop) (disk : MemoryDisk) (left : List ℕ) (state : State) : Type 0 where
   pub chosen : ℕ
   pub gate : ℕ
@@ -44,3 +46,4 @@ pub record IsCheckpointed (found : List ℕ) (stop : Stop) (disk : MemoryDisk) (
   pub is : (c : List ℕ) → image_of disk c
       → IsStoreAt (Two state.bank) (1 - chosen) (first_gate (canonical state.library) (held_of state)) (canonical state.library) (held_of state) c
   pub torn : IsTornAt disk stop.tear (min stop.moment (moments_of disk)) left
+  pub holds : HoldsState requests state left

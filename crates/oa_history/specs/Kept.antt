@@ -2,6 +2,7 @@
 use Rattle.std.specs.Prelude.{◌≡◌, ◌<◌, ℕ, false, [], ⊤}
 use Rattle.oa_disk.specs.Disk.{NothingPending}
 use Rattle.oa_disk.specs.Memory.{contents_of, image_of, moments_of}
+use Rattle.oa_disk.specs.declared.disk.DeviceFault.TheVariants as devices
 use Rattle.oa_disk.specs.declared.disk.Disk.{Ghosts}
 use Rattle.oa_disk.specs.declared.memory.MemoryDisk.{MemoryDisk}
 use Rattle.oa_groups.specs.Runs.{HoldsState}
@@ -12,6 +13,7 @@ use Rattle.oa_turn.specs.States.{State}
 use Rattle.oa_server.specs.Storages.{OverStore}
 use Rattle.oa_server.specs.declared.server.Server.{Server}
 use Rattle.oa_store.specs.Faults.{SpeaksOfContents}
+use Rattle.oa_store.specs.declared.fault.CheckpointFault.TheVariants as checkpoints
 use Rattle.oa_store.specs.declared.fault.FormatFault.{FormatFault}
 use Rattle.oa_store.specs.declared.fault.FormatFault.TheVariants as formats
 use Rattle.oa_store.specs.declared.store.Store.{Store}
@@ -42,7 +44,7 @@ pub record BeginsServing {D : Type 0} {g : Ghosts D} (disk : D) (server : Server
 abbrev pub IsWanting : HistoryFault → Type 0
 IsWanting (Format fault) = ⊥
 IsWanting (Open fault) = SpeaksOfContents fault → ⊥
-IsWanting (Checkpoint fault) = ⊤
+IsWanting (Checkpoint fault) = fault ≡ checkpoints.Device devices.Write
 IsWanting (Text fault) = ⊤
 IsWanting Memory = ⊤
 
@@ -56,6 +58,6 @@ IsUnformatted size formats.Memory = ⊤
 abbrev pub IsUnmade : ℕ → HistoryFault → Type 0
 IsUnmade size (Format fault) = IsUnformatted size fault
 IsUnmade size (Open fault) = SpeaksOfContents fault → ⊥
-IsUnmade size (Checkpoint fault) = ⊤
+IsUnmade size (Checkpoint fault) = fault ≡ checkpoints.Device devices.Write
 IsUnmade size (Text fault) = ⊤
 IsUnmade size Memory = ⊤

@@ -3,16 +3,16 @@ use Rattle.std.specs.Prelude.{◌≡◌, ℕ, min, List, [], ◌∷◌, map, len
 use Rattle.oa_disk.specs.Memory.{contents_of, moments_of, IsTornAt}
 use Rattle.oa_disk.specs.declared.disk.Disk.{Ghosts}
 use Rattle.oa_disk.specs.declared.memory.MemoryDisk.{MemoryDisk}
-use Rattle.oa_groups.specs.Runs.{AllHoldState, HoldsState}
+use Rattle.oa_groups.specs.Runs.{HoldsState}
 use Rattle.oa_groups.specs.Sessions.{AnsweredCall}
 use Rattle.oa_canonical.specs.Canonical.{canonical}
 use Rattle.oa_record.specs.Replies.{ReplyValue}
 use Rattle.oa_server.specs.Requests.{requests}
 use Rattle.oa_turn.specs.States.{State}
-use Rattle.oa_server.specs.Storages.{OverStore, disk_of}
+use Rattle.oa_server.specs.Storages.{disk_of}
 use Rattle.oa_server.specs.declared.server.Server.{Server}
 use Rattle.oa_history.specs.Between.{IsCheckpointed}
-use Rattle.oa_history.specs.Kept.{BeginsServing}
+use Rattle.oa_history.specs.Kept.{BeginsServing, IsFreshDisk}
 use Rattle.oa_history.specs.Stops.{Done, Made, Stops}
 use Rattle.oa_history.specs.Streamed.{HasWritten}
 use Rattle.oa_history.specs.declared.history.Lived.{Lived}
@@ -60,8 +60,9 @@ HasAsked (ask.Stream input) (told.Calls answers) old new done = ⊥
 -- a store of the state after.
 pub record IsHeardUntilStop (session : Played) (heard : Heard) (found : List ℕ) (before : State) (left : List ℕ)
     (after : State) : Type 0 where
-  -- a server was opened on a disk that holds what was found, and serves the state before
+  -- a server was opened on a disk that holds what was found, whose clock begins with the opening; and it serves the state before
   pub start : MemoryDisk
+  pub fresh : IsFreshDisk start
   pub holds_found : contents_of start ≡ found
   pub first : Opened
   pub begins : BeginsServing start first.server before
@@ -97,15 +98,16 @@ Lives found before (step ∷ steps) (heard ∷ others) left after =
 Lives found before [] (heard ∷ others) left after = ⊥
 Lives found before (step ∷ steps) [] left after = ⊥
 
--- What is played on a new store of a state, and told at last: a server that serves the state that is left, over a store that holds it; the
--- store's library, and its table.
+-- What is played on a new store of a state, and told at last: a server that was opened on what is left, and serves the state that this is a
+-- store of; the store's library, and its table.
 pub record IsLived (state : State) (steps : List Step) (lived : Lived) : Type 0 where
   pub new : List ℕ
   pub holds : HoldsState requests state new
   pub left : List ℕ
   pub last : State
   pub lives : Lives new state steps lived.heard.items left last
-  pub serves : lived.opened.server.clerk.host ≡ last
-  pub over : OverStore lived.opened.server.clerk.storage (λ store. AllHoldState requests store last)
+  pub end : MemoryDisk
+  pub holds_left : contents_of end ≡ left
+  pub begins : BeginsServing end lived.opened.server last
   pub library : lived.library.items ≡ canonical last.library
   pub table : lived.table ≡ last.table

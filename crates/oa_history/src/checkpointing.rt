@@ -1,5 +1,5 @@
 //! A checkpoint between two sessions, and its stop.
-ghost use Rattle.std.specs.Prelude.{◌≡◌, ◌↔◌, IsTrue, IfOk, IfErr};
+ghost use Rattle.std.specs.Prelude.{◌≡◌, ◌↔◌, false, IsTrue, IfOk, IfErr};
 ghost use Rattle.oa_disk.specs.Memory.{contents_of};
 ghost use Rattle.oa_journal.specs.Shapes.{body_bytes};
 ghost use Rattle.oa_image.specs.Tables.{FitsBank};
@@ -27,6 +27,7 @@ fn has_room(store: &Store<MemoryDisk>, table: &Table) -> bool
 /// Opens the store on the disk with its own library. As by a server it is refused where its table leaves too little room in a bank.
 fn opened_store(alloc: Global, disk: MemoryDisk) -> Result<(Store<MemoryDisk>, Table), HistoryFault>
     ensures opened { IfOk result (λ r. IsFoundStore disk r.0 r.1) }
+    ensures goes_on { IfOk result (λ r. r.0.stopped ≡ false) }
     ensures room { IfOk result (λ r. FitsBank (body_bytes r.0.bank.shape) r.1) }
     ensures wanting { IfErr result (λ fault. (state : State) → IsKept disk state → IsWanting fault) }
 {

@@ -1,4 +1,5 @@
-use Rattle.std.proofs.Common.{ℕ, ◌≤◌, ◌-◌, min, subst, arith, refl}
+use Rattle.std.proofs.Common.{ℕ, ◌≤◌, ◌-◌, min, Err, subst, arith, refl}
+use Rattle.std.proofs.lemmas.Result.{err_from_is_err_and}
 use Rattle.oa_disk.specs.Memory.{IsTornAt, contents_of, history_of, image_of, image_since_of, moments_of}
 use Rattle.oa_disk.specs.Replaying.{since_falls}
 use Rattle.oa_disk.specs.declared.memory.MemoryDisk.{MemoryDisk}
@@ -8,6 +9,7 @@ use Rattle.oa_journal.specs.declared.shape.Shape.TheVariants.{Two}
 use Rattle.oa_turn.specs.Events.{held_of}
 use Rattle.oa_store.specs.Stores.{IsStoreAt}
 use Rattle.oa_history.proofs.Switched.{moved, next_is, state_at, still_holds}
+use Rattle.oa_history.proofs.Unmade.{write_failed}
 use Rattle.oa_history.proofs.checkpointing.checkpointed.Goals as goal
 
 pub returns-clause-checkpointed : goal.returns-clause-checkpointed
@@ -33,6 +35,15 @@ returns-clause-checkpointed c state kept =
         is = λ l here. subst (λ (n : ℕ). IsStoreAt (Two state.bank) (1 - store.chosen) n (canonical state.library) (held_of state) l) (next_is _ disk state kept.holds store text table opened.contents)
             (moved _ disk state kept.holds store text table opened.contents opened.found opened.unlocked new next (c.in_default.ensures.leaves.done refl) l (subst (λ (d : MemoryDisk). image_of d l) c.into_disk-disk.ensures here));
         torn = torn;
+        holds = holds;
       },
       record { holds = holds; begins = kept.begins; unlocked = kept.unlocked },
     )
+
+pub returns-in-Err-clause-wanting : goal.returns-in-Err-clause-wanting
+returns-in-Err-clause-wanting c state kept =
+    let stops = c.in-Err.ensures.stops in
+    write_failed c.in_ok-store.store.stopped (Err c.in-Err.fault) c.in-Err.fault refl c.in_ok-store.ensures.goes_on stops.stopped.0 stops.fault
+
+pub returns-in_err-left-clause-wanting : goal.returns-in_err-left-clause-wanting
+returns-in_err-left-clause-wanting c = let p = err_from_is_err_and c.from_residual-in_err-left.result c.from_residual-in_err-left.ensures.1 in rw (p.1, p.2) (λ state kept. tt)

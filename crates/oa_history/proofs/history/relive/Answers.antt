@@ -8,7 +8,7 @@ use Rattle.oa_table.specs.Tables.{first_table}
 use Rattle.oa_history.specs.Lived.{Lives}
 use Rattle.oa_history.specs.declared.session.Step.{Step}
 use Rattle.oa_history.proofs.Unmade.{unmade}
-use Rattle.oa_history.proofs.Living.{lives_more, over_all, shown_library, shown_table}
+use Rattle.oa_history.proofs.Living.{lives_more, shown_library, shown_table}
 use Rattle.oa_history.proofs.history.relive.Goals as goal
 
 pub steps-init : goal.steps-init
@@ -45,15 +45,15 @@ returns-clause-lived c =
     let first = state_of default_bank_bytes c.args.library.now first_table in
     let disk = c.steps.disk in
     let kept = lives.4 in
-    let begins = c.in_ok-opened.ensures.begins lives.2 kept in
     record {
       new = lives.0;
       holds = lives.1;
       left = contents_of disk;
       last = lives.2;
       lives = subst (λ (ss : List Step). Lives lives.0 first ss c.steps.heard.items (contents_of disk) lives.2) (take_all c.steps.step-index c.args.steps.now c.steps-test.false) lives.3;
-      serves = begins.host;
-      over = over_all disk c.in_ok-opened.opened.server.clerk.storage lives.2 begins.over;
+      end = disk;
+      holds_left = refl;
+      begins = c.in_ok-opened.ensures.begins lives.2 kept;
       library = shown_library (contents_of disk) c.in_ok-text.text.items c.in_ok-text.table lives.2 c.in_ok-text.ensures.shown kept.holds;
       table = shown_table (contents_of disk) c.in_ok-text.text.items c.in_ok-text.table lives.2 kept.unlocked c.in_ok-text.ensures.shown kept.holds;
     }

@@ -28,6 +28,7 @@ returns-clause-stopped c before kept =
       left.after,
       record {
         start = c.args.disk;
+        fresh = c.requires;
         holds_found = refl;
         first = c.in_ok-server.field-0;
         begins = begins;

@@ -21,6 +21,8 @@ mod Refused
 mod Keys
 mod Reached
 mod Bound
+mod Keyless
+mod Bringing
 mod Disconnected
 mod Found
 mod Planning

@@ -1,10 +1,12 @@
 -- The cell of a property that a call names, or the first refusal (MS-OAUT section 3.1.4.4; the order of the refusals is this project's
 -- choice). What an INVOKE reads or puts is such a cell, and so is what a request on an array's elements or locks is about.
-use Rattle.std.specs.Prelude.{◌≡◌, ℕ, ◌==◌, if◌then◌else◌, List, Result, Ok, Err}
+use Rattle.std.specs.Prelude.{◌≡◌, ℕ, ℤ, ◌==◌, if◌then◌else◌, List, [], Result, Ok, Err}
 use Rattle.oa_model.specs.Codes.{e_outofmemory}
 use Rattle.oa_bind.specs.declared.fault.BindFault.{BindFault}
 use Rattle.oa_bind.specs.Bindings.{bound_to}
 use Rattle.oa_bind.specs.Calls.{BoundCallValue}
+use Rattle.oa_idl.specs.Values.{InterfaceValue}
+use Rattle.oa_model.specs.declared.var_type.ValueType.{ValueType}
 use Rattle.oa_record.specs.declared.request.Call.{Call}
 use Rattle.oa_record.specs.declared.request.CallHead.{CallHead}
 use Rattle.oa_table.specs.declared.name.CellName.{CellName}
@@ -29,6 +31,13 @@ use Rattle.oa_turn.specs.States.{State}
 abbrev pub member_found : Result (MemberValue × Kind) MemberFault → Result (MemberValue × Kind) Refusal
 member_found (Ok found) = Ok found
 member_found (Err fault) = refused (member_code fault)
+
+-- the member is a property without parameters, with values of this type, and has the form that is asked for
+pub record IsKeyless (interface : InterfaceValue) (dispid : ℤ) (access : Access) (declared : ValueType) (form : Kind) : Type 0 where
+  pub member : MemberValue
+  pub found : member_found (member_in interface dispid access) ≡ Ok (member, form)
+  pub typed : member.value_type ≡ declared
+  pub keyless : member.parameters ≡ []
 
 -- the form that arguments are bound in: that of the member which an INVOKE's flags ask for, and else, whatever form the member must
 -- have, a get

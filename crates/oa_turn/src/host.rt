@@ -17,7 +17,7 @@ use crate::plan::{Plan, Planned};
 use crate::refusal::Refusal;
 use oa_model::HResult;
 use oa_record::laws::one_request;
-use oa_record::{Reply, Request, is_replacement, read_request, tag_of};
+use oa_record::{Reply, Request, ValueCall, is_replacement, read_request, read_value_call, tag_of};
 use oa_table::{Event, Table};
 use oa_typelib::Library;
 use std::alloc::{AllocError, Global};
@@ -37,6 +37,7 @@ mod release;
 pub(crate) mod renewal;
 mod type_info;
 mod unlock;
+mod value_call;
 
 /// A library and a table of its objects, in memory, and how large the table may grow: what a server's answers depend on.
 pub struct Host {
@@ -130,8 +131,24 @@ impl Host {
         }
     }
 
-    /// The same, but a change that was decided may still be refused.
+    /// The same, but a change that was decided may still be refused. A call that brings no more than a new value is looked at first, since
+    /// most are such calls.
+    #[tactic(auto, using(crate::proofs::Bringing::drafts, crate::proofs::Bringing::quiet))]
     fn draft(&mut self, body: &[u8]) -> Plan
+        ensures drafts { Drafts self.old body.now self.new result }
+        ensures quiet { HasNoEvent self.old body.now result }
+    {
+        one_request();
+        if let Some(ValueCall { head, value }) = read_value_call(self.alloc, body)
+            && let Some(plan) = self.plan_value(tag_of(body), head, value)
+        {
+            return plan;
+        }
+        self.draft_request(body)
+    }
+
+    /// The same of any request.
+    fn draft_request(&mut self, body: &[u8]) -> Plan
         ensures drafts { Drafts self.old body.now self.new result }
         ensures quiet { HasNoEvent self.old body.now result }
     {

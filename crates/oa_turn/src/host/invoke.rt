@@ -57,7 +57,7 @@ impl Host {
     }
 
     /// The value of a cell of an object as the fields of a reply.
-    fn value_field(
+    pub(super) fn value_field(
         &self,
         object: &LiveObject,
         name: &CellName,

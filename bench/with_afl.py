@@ -78,7 +78,7 @@ def main():
     fill(FOLDER, {"lib.idl": LIBRARY, **{f"seeds/{number}": it for number, it in enumerate(seeds())}})
     words = {"records": ["play", f"{FOLDER}/lib.idl"], "libraries": ["check", "-"], "stores": ["dump", f"{FOLDER}/it.store"]}[PART]
     told = {"AFL_PRELOAD": f"{FOLDER}/coverage.so", "BLOCKS": f"{FOLDER}/blocks", "SEEDS": f"{FOLDER}/seeds", "AFL_SKIP_BIN_CHECK": "1", "AFL_NO_AFFINITY": "1", "AFL_I_DONT_CARE_ABOUT_MISSING_CRASHES": "1"}
-    told.update({"AFL_SKIP_CPUFREQ": "1", "AFL_NO_UI": "1", "AFL_AUTORESUME": "1", "AFL_FORKSRV_INIT_TMOUT": "60000", "AFL_QUIET": "1"})
+    told.update({"AFL_SKIP_CPUFREQ": "1", "AFL_NO_UI": "1", "AFL_AUTORESUME": "1", "AFL_FORKSRV_INIT_TMOUT": "600000", "AFL_QUIET": "1"})
     if PART == "stores":
         told["STORE"] = "1"
         with open(f"{FOLDER}/it.store", "wb") as file:

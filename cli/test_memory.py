@@ -1,4 +1,5 @@
 """The memory of the program: an opening takes what the store holds, a checkpoint takes none, and a request is answered in as much as it and its reply are long."""
+import struct
 import tempfile
 import unittest
 
@@ -6,14 +7,18 @@ import full
 import store
 import wire
 import worked
+from model import LIBRARY, first_library
 from preloaded import COMPILER, Preloaded, fast_folder
 from refused_growths import LONG, Over, Session
-from running import Cases, fill, run_in
+from running import Cases, fill, run_in, within
 from wire import oaut
 
 MEBIBYTE = 1_024  # KiB
 PAGES = 256  # KiB that may come and go without a growth of the program
 LARGE = 65_536
+LITTLE = 32 * 2**20  # for a session that begins: a line has 8 MiB, a body 4
+# growths of TYPEINFO of each interface of the library, whose parts are made once
+DESCRIBED = (34, 24, 8)
 
 
 class Memory(Cases):
@@ -26,6 +31,15 @@ class Memory(Cases):
                 run_in(room, ["format", "--bank", str(bank), "it.store", "lib.idl"])
                 peak, _ = full.opening(room)
                 self.tell(f"a store without objects in banks of {bank} bytes is opened in less than 8 MiB", 1_024 < peak < 8 * MEBIBYTE, peak)
+
+    def test_a_session_in_little_memory(self):
+        body = struct.pack("<I", 1) + oaut.ask_create(worked.ITEM)
+        for name, framing in oaut.FRAMINGS.items():
+            for words in (["play"], *(["serve", "it.store", "--group", str(it)] for it in (1, 1_024))):
+                with tempfile.TemporaryDirectory(dir=fast_folder()) as room:
+                    fill(room, {"lib.idl": LIBRARY, "it.store": store.formatted(first_library().text())})
+                    got = run_in(room, [*words, "lib.idl", *framing.words], framing.pack([body]), before=within(LITTLE))
+                self.tell(f"{' '.join(words)}, {name}: a session in {LITTLE >> 20} MiB", got[0] == 0 and got[2] == b"", got)
 
     def test_a_full_table(self):
         text = full.library(59, "BSTR")
@@ -83,6 +97,9 @@ class Asked(Cases):
                 self.tell(f"a get of {name} takes one growth", found == 1, found)
             found = asks(worked.get(worked.COUNT, of=77))
             self.tell("a get that is refused takes none", found == 0, found)
+            for index, most in enumerate(DESCRIBED):
+                found = asks(oaut.ask_type_info(index))
+                self.tell(f"the description of interface {index} takes {most} growths at most", 0 < found <= most, found)
             pairs = (
                 ("an element, and one that is not there", worked.element(worked.GRID, 0, 7), worked.element(worked.GRID, 1, 7)),
                 ("the locks of an array, and of none", worked.call(oaut.LOCK, worked.GRID), worked.call(oaut.LOCK, worked.COUNT)),

@@ -7,9 +7,9 @@ use oa_bstr::Bstr;
 use oa_cells::Cells;
 use oa_idl::parse;
 use oa_image::Pieces;
-use oa_model::{Bound, VarType};
+use oa_model::{Bound, ValueType, VarType};
 use oa_ndr::Ndr;
-use oa_record::tag_of;
+use oa_record::{RecordFault, read_request, tag_of};
 use oa_table::{CellName, Event, Place, Table};
 use oa_typelib::{Access, Library, check};
 use oa_variant::{Scalar, Variant};
@@ -53,7 +53,8 @@ fn is_put(array: &mut SafeArray<Scalar>) -> bool {
     let is_locked = array.lock().is_ok();
     let is_put = array.put_element(&[1], Scalar::I4(7)).is_ok();
     let is_there = array.element(&[1]).is_ok() && array.element(&[2]).is_err();
-    is_locked && is_put && is_there && array.locks() == 1 && array.unlock().is_ok()
+    let is_told = array.locks() == 1 && array.bounds().len() == 1;
+    is_locked && is_put && is_there && is_told && array.unlock().is_ok()
 }
 
 fn elements(alloc: Global) -> Option<bool> {
@@ -61,16 +62,42 @@ fn elements(alloc: Global) -> Option<bool> {
     Some(is_put(&mut array))
 }
 
-/// Whether a value of two cells is measured, and parts of a body are read.
+/// A byte, numbers of 2, 4 and 8 bytes, a referent, and two bytes, each at its place.
+const PARTS: [u8; 22] = [
+    1, 0, 2, 0, 3, 0, 0, 0, 4, 0, 0, 0, 0, 0, 0, 0, 0, 0, 2, 0, 5, 6,
+];
+
+/// Whether parts of each kind are read, and no more.
+fn are_read() -> bool {
+    let mut reader = Ndr::new(&PARTS);
+    let small = reader.u8().ok() == Some(1) && reader.align(2).is_ok();
+    let numbers = reader.u16().ok() == Some(2) && reader.u32().ok() == Some(3);
+    let large = reader.u64().ok() == Some(4) && reader.referent().ok() == Some(true);
+    let bytes = reader.bytes(2).is_ok() && reader.u8().is_err();
+    small && numbers && large && bytes
+}
+
+/// Whether a value of two cells is measured, and its type is told.
 fn is_measured(value: &Variant) -> bool {
-    let mut reader = Ndr::new(&[1, 2, 3, 4, 5, 6]);
-    let is_read = reader.u32().is_ok() && reader.u16().is_ok() && reader.u8().is_err();
-    is_read && wire_len(value) == 76 && tag_of(&[7, 0, 0, 0, 2, 0, 0, 0]) == 7
+    let is_array = matches!(value.value_type(), ValueType::Array(VarType::I4));
+    are_read() && is_array && wire_len(value) == 76
+}
+
+/// Whether a release is read, and what is none is refused: a body that is too short, and one that asks for what there is not.
+fn are_told(alloc: Global) -> bool {
+    let release = [7, 0, 0, 0, 2, 0, 0, 0, 1, 0, 0, 0, 0, 0, 0, 0];
+    let short = [7, 0, 0, 0, 2, 0];
+    let unknown = [7, 0, 0, 0, 99, 0, 0, 0];
+    tag_of(&short) == 0
+        && tag_of(&unknown) == 7
+        && read_request(alloc, &release).is_ok()
+        && matches!(read_request(alloc, &short), Err(RecordFault::Stub))
+        && matches!(read_request(alloc, &unknown), Err(RecordFault::Stub))
 }
 
 fn fields(alloc: Global) -> Option<bool> {
     let value = array(alloc, VarType::I4, &TWO)?;
-    Some(is_measured(&value))
+    Some(is_measured(&value) && are_told(alloc))
 }
 
 /// The cell of a property without parameters, in the object 1.
@@ -103,6 +130,10 @@ const LIBRARY: &str = "[uuid(11223344-5566-7788-99aa-bbccddeeff01)] library L {
 
 /// Whether a coclass, an interface of it and its member are found.
 fn is_found(library: &Library) -> bool {
+    let interface = Uuid::from_u128(0x1122_3344_5566_7788_99aa_bbcc_ddee_ff02);
+    if library.interface(&interface).is_none() {
+        return false;
+    }
     let class = Uuid::from_u128(0x1122_3344_5566_7788_99aa_bbcc_ddee_ff03);
     match library.select(&class, &Uuid::nil()) {
         Some(interface) => {

@@ -48,10 +48,15 @@ def arrays():
 
 def laid(room, text, cells, form=2):
     """A store of a library in a folder, with one object of these cells; answers the bytes of its table's image."""
+    return laid_objects(room, text, {1: (CLASS, cells)}, form)
+
+
+def laid_objects(room, text, objects, form=2):
+    """The same with these objects."""
     with open(f"{room}/lib.idl", "wb") as file:
         file.write(text)
     kept = subprocess.run([PROGRAM, "check", f"{room}/lib.idl"], check=True, stdout=subprocess.PIPE).stdout
-    image = store.table_image(2, {1: (CLASS, cells)})
+    image = store.table_image(len(objects) + 1, objects)
     begun = store.formatted(kept) if form == 2 else store.formatted_before(kept)
     disk = store.laid(begun, form, 0, kept, image, store.BANK if form == 2 else store.OLD_BANK)
     with open(f"{room}/it.store", "wb") as file:

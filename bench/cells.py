@@ -1,0 +1,65 @@
+#!/usr/bin/env python3
+"""The resident memory of the program over tables of many small cells, as so many times the table's image.
+
+    python3 bench/cells.py [PROGRAM [FOLDER]]      PROGRAM is crates/oaut/out/oaut where none is given, FOLDER the one that the files are made in (the current one)
+
+Printed of each table: the MiB of its image, those that are resident of a server that has opened it and at most until then, those that `dump` takes at most, and what is resident beyond a server
+without objects, as so many times the image.
+"""
+import os
+import re
+import struct
+import sys
+import tempfile
+
+ROOT = os.path.dirname(os.path.dirname(os.path.abspath(__file__)))
+sys.path.append(f"{ROOT}/cli")
+if len(sys.argv) > 1:
+    os.environ["OAUT_PROGRAM"] = os.path.abspath(sys.argv[1])
+FOLDER = sys.argv[2] if len(sys.argv) > 2 else "."
+import full
+import store
+import wire
+from memory import peak_of, resident_of
+from stores import CLASS, FACE
+
+LONG = lambda at: (wire.I4, struct.pack("<i", at))
+SHORT = lambda at: (wire.BSTR, struct.pack("<I", 8) + struct.pack("<II", at, at))
+ARRAY = lambda at: store.Array(wire.I4, [(2, 0)], [LONG(at)[1], LONG(at + 1)[1]])
+PROPERTY = "[propget, id(1)] {0} Of({1}); [propput, id(1)] void Of({1}, {0} value);"
+
+
+def library(type, parameters):
+    """A library with the coclass of `full`, whose property 1 has so many parameters, and whose properties 2 and 3 have none."""
+    parts = full.library(3, type).decode()
+    if parameters:
+        names = ", ".join(f"long p{it}" for it in range(parameters))
+        parts = re.sub(r"\[id\(1\)\] [^;]*; ", "", parts).replace("methods: ", "methods: " + PROPERTY.format(type, names))
+    return parts.encode()
+
+
+def one(count, parameters, value):
+    """An object with so many cells."""
+    return {1: (CLASS, {(FACE, 1, tuple(LONG(at) for _ in range(parameters))): value(at) for at in range(count)})}
+
+
+TABLES = (
+    ("no objects", library("long", 0), {}),
+    ("300,000 longs of three parameters", library("long", 3), one(300_000, 3, LONG)),
+    ("400,000 longs of one parameter", library("long", 1), one(400_000, 1, LONG)),
+    ("300,000 texts of 8 bytes, of one parameter", library("BSTR", 1), one(300_000, 1, SHORT)),
+    ("250,000 arrays of two longs, of one parameter", library("SAFEARRAY(long)", 1), one(250_000, 1, ARRAY)),
+    ("65,536 objects of three longs", library("long", 0), {it: (CLASS, {(FACE, at, ()): LONG(at) for at in (1, 2, 3)}) for it in range(1, 65_537)}),
+    ("65,536 objects of one long", library("long", 0), {it: (CLASS, {(FACE, 1, ()): LONG(it)}) for it in range(1, 65_537)}),
+)
+
+with tempfile.TemporaryDirectory(dir=FOLDER) as room:
+    nothing = 0
+    for what, text, objects in TABLES:
+        size = full.laid_objects(room, text, objects) / 1024
+        with full.Serving(room) as session:
+            session.ask(wire.live_objects(1))
+            now, most = resident_of(session.child.pid), peak_of(session.child.pid)
+        dumped, _ = full.peak_of_run("dump", f"{room}/it.store")
+        nothing = nothing or now
+        print(f"{what}: image {size / 1024:.1f}, resident {now / 1024:.1f}, at most {most / 1024:.1f}; dump at most {dumped / 1024:.1f}; {(now - nothing) / size:.1f} times the image", flush=True)

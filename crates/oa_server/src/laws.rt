@@ -11,6 +11,7 @@ ghost use Rattle.oa_record.specs.Replies.{ReplyValue};
 ghost use Rattle.oa_server.specs.Laws.{AnsweredAreRun, FoundIsKept, OpenedBegins, OpenedJoins, PartsCount, PartsGoOn};
 ghost use Rattle.oa_turn.specs.Beginnings.{CanBegin};
 ghost use Rattle.oa_turn.specs.Events.{change_bytes};
+ghost use Rattle.oa_turn.specs.Limits.{least_bank};
 ghost use Rattle.oa_server.specs.Requests.{opened, requests};
 ghost use Rattle.oa_turn.specs.States.{State, state_of};
 ghost use Rattle.oa_turn.specs.Steps.{outcome};
@@ -32,7 +33,7 @@ pub fn what_was_served_is_served_again()
     ensures groups { (old new : State) (entries : List (Exchange ReplyValue)) → CanBegin old → TurnsOver requests old entries new
         → CanBegin new }
     ensures opened { (state : State) → CanBegin state → CanBegin (opened state) }
-    ensures first { (bank : ℕ) (library : TreeValue) → IsChecked library → 5242888 ≤ bank → CanBegin (state_of bank library first_table) }
+    ensures first { (bank : ℕ) (library : TreeValue) → IsChecked library → least_bank ≤ bank → CanBegin (state_of bank library first_table) }
 {
     changes_that_fit();
 }

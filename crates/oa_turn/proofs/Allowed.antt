@@ -24,7 +24,7 @@ use Rattle.oa_table.specs.Tables.{TableValue, first_table, unlocked_table}
 use Rattle.oa_turn.specs.declared.decision.LockChange.{LockChange}
 use Rattle.oa_turn.specs.declared.decision.LockChange.TheVariants.{Lock, Unlock}
 use Rattle.oa_turn.specs.Decisions.{relocked}
-use Rattle.oa_turn.specs.Limits.{IsSoundTable, allowed, limited, within_limits}
+use Rattle.oa_turn.specs.Limits.{IsSoundTable, allowed, least_bank, limited, within_limits}
 
 -- a table that is allowed
 pub record IsWithin (bank : ℕ) (event : Event) (made new : TableValue) : Type 0 where
@@ -133,5 +133,5 @@ first_image : length (table_image first_table) ≡ 8
 unfolding a_table objects only made_where counted coded next_by times u32 raw
 first_image = refl
 
-pub first_sound : (bank : ℕ) → 5242888 ≤ bank → IsSoundTable bank first_table
+pub first_sound : (bank : ℕ) → least_bank ≤ bank → IsSoundTable bank first_table
 first_sound bank large = record { numbered = refl; small = omega (arith, large, first_image) }

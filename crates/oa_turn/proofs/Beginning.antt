@@ -13,7 +13,7 @@ use Rattle.oa_turn.specs.declared.decision.Decision.TheVariants.{Answer, Change,
 use Rattle.oa_turn.specs.declared.decision.LockChange.{LockChange}
 use Rattle.oa_turn.specs.declared.refusal.Refusal.{Refusal}
 use Rattle.oa_turn.specs.Decisions.{after_outcome, changed, outcome_of, relocked, relocking, with_table}
-use Rattle.oa_turn.specs.Limits.{IsSoundTable, allowed}
+use Rattle.oa_turn.specs.Limits.{IsSoundTable, allowed, least_bank}
 use Rattle.oa_turn.specs.Beginnings.{CanBegin}
 use Rattle.oa_turn.proofs.SameLibrary.{turn_bank}
 use Rattle.oa_turn.specs.States.{State}
@@ -89,5 +89,5 @@ module _ (event_kept : EventKept) where
       let sound = subst (λ (n : ℕ). IsSoundTable n new.table) (sym (turn_bank old new body reply turn)) (turn_sound old new body reply turn (sound_of old is)) in
       record { checked = fit.0; serves = record { fit = fit.1; small = sound.small }; numbered = sound.numbered }
 
-pub first_begins : (bank : ℕ) (library : TreeValue) → IsChecked library → 5242888 ≤ bank → CanBegin (record { bank = bank; library = library; table = first_table })
+pub first_begins : (bank : ℕ) (library : TreeValue) → IsChecked library → least_bank ≤ bank → CanBegin (record { bank = bank; library = library; table = first_table })
 first_begins bank library is large = let sound = first_sound bank large in record { checked = is; serves = record { fit = refl; small = sound.small }; numbered = sound.numbered }

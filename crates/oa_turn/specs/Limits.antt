@@ -1,6 +1,6 @@
 -- The limits on what a change makes. (This project's choice: a table has to leave so much of a bank's body that a group of one event fits
 -- behind it, and a server in memory refuses what one over a store refuses.)
-use Rattle.std.specs.Prelude.{◌≡◌, ◌⊎◌, ◌-◌, ℕ, nat_lt, if◌then◌else◌, length, true, Option, Some, None, Result, Ok, Err, IsOk}
+use Rattle.std.specs.Prelude.{◌≡◌, ◌⊎◌, ◌+◌, ◌-◌, ℕ, nat_lt, if◌then◌else◌, length, true, Option, Some, None, Result, Ok, Err, IsOk}
 use Rattle.oa_image.specs.Tables.{FitsBank, reserved_bytes}
 use Rattle.oa_model.specs.Limits.{max_event_bytes}
 use Rattle.oa_image.specs.Events.{event_image}
@@ -12,6 +12,10 @@ use Rattle.oa_table.specs.declared.fault.TableFault.{TableFault}
 use Rattle.oa_table.specs.Events.{applied}
 use Rattle.oa_table.specs.Faults.{table_code}
 use Rattle.oa_table.specs.Tables.{TableValue}
+
+-- how many bytes the body of a bank has at least: what is left free, and the image of a table without objects
+abbrev pub least_bank : ℕ
+least_bank = reserved_bytes + 8
 
 -- the image of the event, and then that of the table after it, in a bank of this size
 abbrev pub within_limits : ℕ → Event → TableValue → Result TableValue HResult

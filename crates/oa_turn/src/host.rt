@@ -1,7 +1,7 @@
 //! A library and a table in memory, and one turn after another.
 ghost use Rattle.std.specs.Prelude.{◌≡◌, ◌-◌, ◌≤◌, List, ℕ, [], map, IsOk, IfOk, OnErr};
 ghost use Rattle.oa_turn.specs.Decisions.{ChangesNoLocks, Decides, MakesChange, after_outcome, relocked, relocking};
-ghost use Rattle.oa_turn.specs.Limits.{IsSoundTable, allowed};
+ghost use Rattle.oa_turn.specs.Limits.{IsSoundTable, allowed, least_bank};
 ghost use Rattle.oa_turn.specs.Plans.{Drafts, HasNoEvent, HoldsSame, IsDrafted, Plans, PlansChange};
 ghost use Rattle.oa_turn.specs.Steps.{decided, reply_with, may_want_memory};
 ghost use Rattle.oa_turn.specs.Turns.{Ordinary, Run, Turn};
@@ -74,7 +74,7 @@ impl Model for Host {
 impl Host {
     /// A library, and the table at first, over banks of this size. It refuses what one over a new store of such banks refuses.
     pub fn new(alloc: Global, bank: u32, library: Library) -> Host
-        requires { 5242888 ≤ bank }
+        requires { least_bank ≤ bank }
         ensures { result ≡ record { bank = bank; library = library; table = first_table } }
     {
         Host {

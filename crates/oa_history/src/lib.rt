@@ -10,22 +10,10 @@
 mod checkpointing;
 mod failing;
 mod fault;
-#[cfg(test)]
-mod formats;
 mod formatting;
-#[cfg(test)]
-mod histories;
 mod history;
 pub mod laws;
 mod opening;
-#[cfg(test)]
-mod script;
-#[cfg(test)]
-mod script_failures;
-#[cfg(test)]
-mod script_stops;
-#[cfg(test)]
-mod script_streams;
 mod session;
 mod stopping;
 mod streaming;

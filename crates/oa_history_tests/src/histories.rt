@@ -1,8 +1,8 @@
 //! A session in which an object is made, and a checkpoint, stopped before anything of the session is kept, and at their ends; and a session
 //! over a stream behind them.
-use crate::{Asked, Input, Replies, ServerCall, Session, Step, Stop, relive};
 use oa_disk::{MemoryDisk, Tear};
 use oa_frame::Framing;
+use oa_history::{Asked, Input, Replies, ServerCall, Session, Step, Stop, relive};
 use oa_idl::parse;
 use oa_typelib::check;
 use std::alloc::Global;

@@ -1,12 +1,11 @@
 //! A format that is stopped at every moment with each tear, over zeros and over a store: what is found then is what the place of its stop and
 //! the tear say.
-use crate::opening::shown;
-use crate::script::{END, TEARS, again, library, new_disk, store_of_one};
-use crate::{HistoryFault, formatted};
+use crate::counts::format_moments;
+use crate::script::{END, TEARS, Tried, again, expect, library, new_disk, store_of_one};
 use oa_disk::{MemoryDisk, Tear};
-use oa_store::OpenFault;
+use oa_history::formatted;
+use oa_store::{OpenFault, inspect};
 use std::alloc::Global;
-use std::process::Abort;
 use std::rt::HostRuntime;
 
 /// What stands on a disk: no store; a bank without a head, at this place; a store whose next object gets this number.
@@ -18,10 +17,11 @@ enum Stands {
 }
 
 fn standing(alloc: Global, disk: &MemoryDisk) -> Option<Stands> {
-    match shown(alloc, disk) {
+    let mut copy = again(disk)?;
+    match inspect(alloc, &mut copy) {
         Ok((_, table)) => Some(Stands::Store(table.next())),
-        Err(HistoryFault::Open(OpenFault::NotAStore)) => Some(Stands::Nothing),
-        Err(HistoryFault::Open(OpenFault::Damaged(place))) => Some(Stands::Damaged(place)),
+        Err(OpenFault::NotAStore) => Some(Stands::Nothing),
+        Err(OpenFault::Damaged(place)) => Some(Stands::Damaged(place)),
         Err(_) => None,
     }
 }
@@ -48,10 +48,13 @@ fn due(moment: u64, tear: Tear, held: Stands, open: Stands) -> Stands {
     }
 }
 
-/// Stops a format of the disk at each moment with each tear: how many stops found what is due.
-fn format_stops(alloc: Global, disk: &MemoryDisk, held: Stands, open: Stands) -> Option<u64> {
+/// Stops a format of the disk at each moment with each tear, and looks at what is found.
+fn format_stops(alloc: Global, disk: &MemoryDisk, held: Stands, open: Stands) -> Option<Tried> {
     let library = library(alloc)?;
-    let mut count = 0u64;
+    let mut tried = Tried {
+        stops: 0,
+        openings: 0,
+    };
     for tear in TEARS {
         let (whole, _) = formatted(alloc, again(disk)?, &library, END, tear).ok()?;
         for moment in 0..whole.moments().saturating_add(1) {
@@ -59,14 +62,20 @@ fn format_stops(alloc: Global, disk: &MemoryDisk, held: Stands, open: Stands) ->
             if standing(alloc, &left)? != due(moment, tear, held, open) {
                 return None;
             }
-            count = count.saturating_add(1);
+            tried.stops = tried.stops.saturating_add(1);
+            tried.openings = tried.openings.saturating_add(1);
         }
     }
-    Some(count)
+    Some(tried)
 }
 
-fn expect(rt: &impl Abort, holds: bool) {
-    assert!(rt; holds, "another number of stops, or another store");
+/// With each of seven tears a stop at each moment, and a look behind it: 119.
+fn all() -> Tried {
+    let stops = 7 * format_moments();
+    Tried {
+        stops,
+        openings: stops,
+    }
 }
 
 /// Over zeros, where the byte 1 alone makes a store without a bank's head.
@@ -77,8 +86,7 @@ fn format_over_zeros(rt: HostRuntime) {
         Some(disk) => format_stops(alloc, &disk, Stands::Nothing, Stands::Damaged(8192)),
         None => None,
     };
-    // 7 tears, and the start and two moments of each of 8 calls
-    expect(&rt, stops == Some(7 * 17));
+    expect(&rt, stops, all());
 }
 
 /// Over a store with an object, which the byte 1 brings back.
@@ -89,5 +97,5 @@ fn format_over_a_store(rt: HostRuntime) {
         Some(disk) => format_stops(alloc, &disk, Stands::Store(2), Stands::Store(2)),
         None => None,
     };
-    expect(&rt, stops == Some(7 * 17));
+    expect(&rt, stops, all());
 }

@@ -1,11 +1,12 @@
-//! One script in two sessions, with a checkpoint between them: what is asked, what is read after so many of its requests, and how the tests
-//! play it.
+//! One script in two sessions, with a checkpoint between them: what is asked, what is read after so many of its requests, and how
+//! the tests play it.
 ghost use Rattle.std.specs.Prelude.{◌≤◌, IfSome};
 ghost use Rattle.oa_history.specs.Kept.{IsFreshDisk};
 
-use crate::opening::begun;
-use crate::{Answer, Asked, Heard, Replies, ServerCall, Session, Stop, checkpointed, stopped};
 use oa_disk::{MemoryDisk, Tear};
+use oa_history::{
+    Answer, Asked, Heard, Replies, ServerCall, Session, Stop, checkpointed, formatted, stopped,
+};
 use oa_idl::parse;
 use oa_record::Reply;
 use oa_server::Server;
@@ -30,7 +31,7 @@ pub(crate) const REQUESTS: [&str; 7] = [
 ];
 
 /// The count, the name and the grid are read.
-const READS: [&str; 3] = [
+pub(crate) const READS: [&str; 3] = [
     "08000000040000000100000001000000000000000000000000000000000000000000000000000000000000000000000000000000020000000000000000000000",
     "09000000040000000100000002000000000000000000000000000000000000000000000000000000000000000000000000000000020000000000000000000000",
     "0a000000040000000100000008000000000000000000000000000000000000000000000000000000000000000000000000000000020000000000000000000000",
@@ -142,7 +143,8 @@ pub(crate) fn library(alloc: Global) -> Option<Library> {
 pub(crate) fn new_store(alloc: Global) -> Option<MemoryDisk>
     ensures { IfSome result IsFreshDisk }
 {
-    begun(alloc, new_disk(alloc)?, &library(alloc)?).ok()
+    let (_, store) = formatted(alloc, new_disk(alloc)?, &library(alloc)?, END, Tear::Kept).ok()?;
+    Some(store)
 }
 
 /// A store in which an object was made.
@@ -224,11 +226,16 @@ pub(crate) fn read_of(
     most: usize,
 ) -> Option<(usize, u64)> {
     let (heard, _) = played(alloc, disk, calls_of(alloc, &READS, 3)?, END, Tear::Kept)?;
+    Some((place_in(alloc, &heard, least, most)?, heard.disk.moments()))
+}
+
+/// How many of the requests were found by a session that has read the three properties.
+pub(crate) fn place_in(alloc: Global, heard: &Heard, least: usize, most: usize) -> Option<usize> {
     let mut text = String::new(alloc);
-    for answer in answers_of(&heard)? {
+    for answer in answers_of(heard)? {
         put_replies(alloc, &mut text, answer.replies.as_slice());
     }
-    Some((place_of(text.as_str(), least, most)?, heard.disk.moments()))
+    place_of(text.as_str(), least, most)
 }
 
 /// How many of the requests were answered by the moment, after `first` of them.
@@ -260,6 +267,33 @@ pub(crate) fn read_by(
     place_of(text.as_str(), least, most)
 }
 
-pub(crate) fn expect(rt: &impl Abort, holds: bool) {
-    assert!(rt; holds, "lost");
+/// What was tried: moments at which something was stopped, and openings of what these stops have left.
+#[derive(Clone, Copy, Debug, PartialEq, Eq)]
+pub(crate) struct Tried {
+    pub stops: u64,
+    pub openings: u64,
+}
+
+/// What was tried here and there.
+pub(crate) fn both(one: Tried, other: Tried) -> Tried {
+    Tried {
+        stops: one.stops.saturating_add(other.stops),
+        openings: one.openings.saturating_add(other.openings),
+    }
+}
+
+/// Prints what was tried, and ends the test where something of the script was lost, or another number was tried than is due.
+pub(crate) fn expect(rt: &(impl Abort + Print), tried: Option<Tried>, due: Tried) {
+    match tried {
+        Some(tried) => {
+            let _ = println!(rt; "{} stops, {} openings", tried.stops, tried.openings);
+            assert!(rt;
+                tried == due,
+                "due are {} stops, {} openings",
+                due.stops,
+                due.openings
+            );
+        }
+        None => assert!(rt; false, "lost"),
+    }
 }

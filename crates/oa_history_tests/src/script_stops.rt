@@ -2,20 +2,14 @@
 //! the opening behind each of these stops.
 ghost use Rattle.std.specs.Prelude.{◌≤◌};
 
+use crate::counts::{checkpoint_moments, session_moments};
 use crate::script::{
-    END, REQUESTS, again, answered_by, calls_of, expect, new_store, played, read_of,
+    END, REQUESTS, Tried, again, answered_by, both, calls_of, expect, new_store, played, read_of,
 };
-use crate::{Stop, checkpointed};
 use oa_disk::{MemoryDisk, Tear};
+use oa_history::{Stop, checkpointed};
 use std::alloc::Global;
 use std::rt::HostRuntime;
-
-/// What was tried: moments at which a session or a checkpoint was stopped, and openings behind these stops.
-#[derive(Clone, Copy, Debug, PartialEq, Eq)]
-struct Tried {
-    stops: u64,
-    openings: u64,
-}
 
 /// Opens the disk that a stop has left, which holds `least` to `most` of the requests; and so does each disk that a stop of that opening has
 /// left, as many. Answers how many openings there were.
@@ -90,80 +84,97 @@ fn script(alloc: Global, group: usize, tear: Tear) -> Option<Tried>
     let between = checkpoint_stops(alloc, &store, 5, tear)?;
     let (_, store) = checkpointed(alloc, store, Stop { moment: END, tear }).ok()?;
     let two = stops(alloc, &store, REQUESTS.get(5..)?, 5, group, tear)?;
-    let stops = one.stops.saturating_add(between.stops);
-    let openings = one.openings.saturating_add(between.openings);
-    Some(Tried {
-        stops: stops.saturating_add(two.stops),
-        openings: openings.saturating_add(two.openings),
-    })
+    Some(both(both(one, between), two))
+}
+
+/// What is due of a script whose sessions have so many groups: a stop at each moment of both, and of the checkpoint's opening and its own
+/// calls; behind each of them an opening, and for each moment of that one a stop of it and an opening again.
+fn due(first: u16, second: u16) -> Tried {
+    let stops = session_moments(first) + checkpoint_moments() + session_moments(second);
+    // the last moment of the session that reads is its end
+    let moments = session_moments(0) - 1;
+    Tried {
+        stops,
+        openings: stops * (1 + 2 * moments),
+    }
+}
+
+/// Five groups, and two: 129 stops, 5,289 openings.
+fn due_of_1() -> Tried {
+    due(5, 2)
+}
+
+/// Two groups, and one: 97 stops, 3,977 openings.
+fn due_of_3() -> Tried {
+    due(2, 1)
 }
 
 #[test]
 fn lost_in_groups_of_1(rt: HostRuntime) {
-    expect(&rt, script(rt.alloc(), 1, Tear::Lost).is_some());
+    expect(&rt, script(rt.alloc(), 1, Tear::Lost), due_of_1());
 }
 
 #[test]
 fn kept_in_groups_of_1(rt: HostRuntime) {
-    expect(&rt, script(rt.alloc(), 1, Tear::Kept).is_some());
+    expect(&rt, script(rt.alloc(), 1, Tear::Kept), due_of_1());
 }
 
 #[test]
 fn filled_with_0_in_groups_of_1(rt: HostRuntime) {
-    expect(&rt, script(rt.alloc(), 1, Tear::Filled(0)).is_some());
+    expect(&rt, script(rt.alloc(), 1, Tear::Filled(0)), due_of_1());
 }
 
 #[test]
 fn filled_with_1_in_groups_of_1(rt: HostRuntime) {
-    expect(&rt, script(rt.alloc(), 1, Tear::Filled(1)).is_some());
+    expect(&rt, script(rt.alloc(), 1, Tear::Filled(1)), due_of_1());
 }
 
 #[test]
 fn filled_with_7_in_groups_of_1(rt: HostRuntime) {
-    expect(&rt, script(rt.alloc(), 1, Tear::Filled(7)).is_some());
+    expect(&rt, script(rt.alloc(), 1, Tear::Filled(7)), due_of_1());
 }
 
 #[test]
 fn filled_with_ff_in_groups_of_1(rt: HostRuntime) {
-    expect(&rt, script(rt.alloc(), 1, Tear::Filled(0xff)).is_some());
+    expect(&rt, script(rt.alloc(), 1, Tear::Filled(0xff)), due_of_1());
 }
 
 #[test]
 fn cut_in_groups_of_1(rt: HostRuntime) {
-    expect(&rt, script(rt.alloc(), 1, Tear::Cut(1)).is_some());
+    expect(&rt, script(rt.alloc(), 1, Tear::Cut(1)), due_of_1());
 }
 
 #[test]
 fn lost_in_groups_of_3(rt: HostRuntime) {
-    expect(&rt, script(rt.alloc(), 3, Tear::Lost).is_some());
+    expect(&rt, script(rt.alloc(), 3, Tear::Lost), due_of_3());
 }
 
 #[test]
 fn kept_in_groups_of_3(rt: HostRuntime) {
-    expect(&rt, script(rt.alloc(), 3, Tear::Kept).is_some());
+    expect(&rt, script(rt.alloc(), 3, Tear::Kept), due_of_3());
 }
 
 #[test]
 fn filled_with_0_in_groups_of_3(rt: HostRuntime) {
-    expect(&rt, script(rt.alloc(), 3, Tear::Filled(0)).is_some());
+    expect(&rt, script(rt.alloc(), 3, Tear::Filled(0)), due_of_3());
 }
 
 #[test]
 fn filled_with_1_in_groups_of_3(rt: HostRuntime) {
-    expect(&rt, script(rt.alloc(), 3, Tear::Filled(1)).is_some());
+    expect(&rt, script(rt.alloc(), 3, Tear::Filled(1)), due_of_3());
 }
 
 #[test]
 fn filled_with_7_in_groups_of_3(rt: HostRuntime) {
-    expect(&rt, script(rt.alloc(), 3, Tear::Filled(7)).is_some());
+    expect(&rt, script(rt.alloc(), 3, Tear::Filled(7)), due_of_3());
 }
 
 #[test]
 fn filled_with_ff_in_groups_of_3(rt: HostRuntime) {
-    expect(&rt, script(rt.alloc(), 3, Tear::Filled(0xff)).is_some());
+    expect(&rt, script(rt.alloc(), 3, Tear::Filled(0xff)), due_of_3());
 }
 
 #[test]
 fn cut_in_groups_of_3(rt: HostRuntime) {
-    expect(&rt, script(rt.alloc(), 3, Tear::Cut(1)).is_some());
+    expect(&rt, script(rt.alloc(), 3, Tear::Cut(1)), due_of_3());
 }

@@ -1,15 +1,16 @@
 //! The script, each of whose two sessions is played over disks that fail from each call on.
 ghost use Rattle.std.specs.Prelude.{◌≤◌};
 
+use crate::counts::{COMMIT, OPENING};
 use crate::script::{
-    REQUESTS, TEARS, again, calls_of, expect, library, new_disk, new_store, next_store, read_by,
-    read_of,
+    REQUESTS, TEARS, again, calls_of, library, new_disk, new_store, next_store, read_by, read_of,
 };
-use crate::surviving::taken_up;
-use crate::{Survived, Told, survive, withstood};
 use oa_disk::{DeviceFault, MemoryDisk};
+use oa_history::{Survived, Told, survive, withstood};
 use oa_model::HResult;
+use oa_server::Server;
 use std::alloc::Global;
+use std::process::Abort;
 use std::rt::HostRuntime;
 
 /// What is due behind a session over a disk that fails: so many of the requests were done, or the group in which it has failed too; and
@@ -74,29 +75,43 @@ fn due_of(told: &Result<Vec<Told>, DeviceFault>, first: usize, first_failing: u6
 
 /// How many of the requests a server holds that is opened on this disk, as it is.
 fn read_as_it_is(alloc: Global, disk: MemoryDisk, least: usize, most: usize) -> Option<usize> {
-    read_by(alloc, taken_up(alloc, disk).ok()?.server, least, most)
+    match Server::open(alloc, disk, library(alloc)?) {
+        Ok(server) => read_by(alloc, server, least, most),
+        Err(_) => None,
+    }
 }
 
-/// Whether each loss of power now leaves the requests that are due, with the group that is in doubt or without it.
-fn is_due(alloc: Global, disk: &MemoryDisk, due: Due) -> Option<bool> {
+/// A loss of power now with each tear: how many there were, if each leaves the requests that are due, with the group that is in doubt or
+/// without it.
+fn losses_of(alloc: Global, disk: &MemoryDisk, due: Due) -> Option<u64> {
+    let mut count = 0u64;
     for tear in TEARS {
         let left = disk.crash(disk.moments(), tear).ok()?;
         let (place, _) = read_of(alloc, &left, due.least, due.most)?;
         if place != due.least && place != due.most {
             return None;
         }
+        count = count.saturating_add(1);
     }
-    Some(true)
+    Some(count)
 }
 
 /// What was found behind calls over disks that fail: how often an opening has met the fault, and how often a group that was then found whole,
-/// or not at all.
+/// or not at all; and how many losses of power were tried then.
 #[derive(Clone, Copy, Debug, PartialEq, Eq)]
 struct Found {
     openings: u64,
     whole: u64,
     none: u64,
+    losses: u64,
 }
+
+const NOTHING: Found = Found {
+    openings: 0,
+    whole: 0,
+    none: 0,
+    losses: 0,
+};
 
 /// One more, where so many of the requests were found.
 fn counted(found: Found, due: Due, place: usize) -> Option<Found> {
@@ -123,21 +138,18 @@ fn failures(
 ) -> Option<Found>
     requires { 1 ≤ group }
 {
-    let mut found = Found {
-        openings: 0,
-        whole: 0,
-        none: 0,
-    };
+    let mut found = NOTHING;
     for first_failing in 1..300u64 {
         let calls = calls_of(alloc, lines, group)?;
         let (told, back) = withstood(alloc, again(disk)?, calls.as_slice(), first_failing).ok()?;
         let due = due_of(&told, first, first_failing)?;
-        let _ = is_due(alloc, &back, due)?;
+        let losses = losses_of(alloc, &back, due)?;
         let place = read_as_it_is(alloc, back, due.least, due.most)?;
         if !due.failed {
             return Some(found);
         }
         found = counted(found, due, place)?;
+        found.losses = found.losses.saturating_add(losses);
     }
     None
 }
@@ -174,11 +186,7 @@ fn survived(alloc: Global, group: usize, first_failing: u64) -> Option<(Due, usi
 fn survivals(alloc: Global, group: usize) -> Option<Found>
     requires { 1 ≤ group }
 {
-    let mut found = Found {
-        openings: 0,
-        whole: 0,
-        none: 0,
-    };
+    let mut found = NOTHING;
     for first_failing in 1..300u64 {
         let (due, place) = survived(alloc, group, first_failing)?;
         if !due.failed {
@@ -201,25 +209,63 @@ fn failing_script(alloc: Global, group: usize) -> Option<Found>
         openings: one.openings.saturating_add(two.openings),
         whole: one.whole.saturating_add(two.whole),
         none: one.none.saturating_add(two.none),
+        losses: one.losses.saturating_add(two.losses),
     })
+}
+
+/// What is due of sessions that have so many openings and groups, with so many losses of power behind each failure. Each call of the disk has
+/// failed once. A group whose bytes, sync or gate has failed is not there: a call that fails is not made. Where the sync behind its gate has
+/// failed, the gate was written, and is read.
+fn due_by(sessions: u16, groups: u16, losses: u16) -> Found {
+    let openings = u64::from(sessions) * OPENING;
+    let commits = u64::from(groups) * COMMIT;
+    Found {
+        openings,
+        whole: u64::from(groups),
+        none: commits - u64::from(groups),
+        losses: (openings + commits) * u64::from(losses),
+    }
+}
+
+/// Prints what was found, and ends the test where something else was.
+fn expect(rt: &(impl Abort + Print), found: Option<Found>, due: Found) {
+    match found {
+        Some(found) => {
+            let _ = println!(rt;
+                "{} openings, {} groups found, {} not, {} losses of power",
+                found.openings, found.whole, found.none, found.losses
+            );
+            assert!(rt;
+                found == due,
+                "due are {} openings, {} groups, {} not, {} losses of power",
+                due.openings,
+                due.whole,
+                due.none,
+                due.losses
+            );
+        }
+        None => assert!(rt; false, "lost"),
+    }
 }
 
 #[test]
 fn fails_in_groups_of_1(rt: HostRuntime) {
-    expect(&rt, failing_script(rt.alloc(), 1).is_some());
+    // seven groups in two sessions, and seven tears
+    expect(&rt, failing_script(rt.alloc(), 1), due_by(2, 7, 7));
 }
 
 #[test]
 fn survives_in_groups_of_1(rt: HostRuntime) {
-    expect(&rt, survivals(rt.alloc(), 1).is_some());
+    // the five groups of the first session
+    expect(&rt, survivals(rt.alloc(), 1), due_by(1, 5, 0));
 }
 
 #[test]
 fn fails_in_groups_of_3(rt: HostRuntime) {
-    expect(&rt, failing_script(rt.alloc(), 3).is_some());
+    expect(&rt, failing_script(rt.alloc(), 3), due_by(2, 3, 7));
 }
 
 #[test]
 fn survives_in_groups_of_3(rt: HostRuntime) {
-    expect(&rt, survivals(rt.alloc(), 3).is_some());
+    expect(&rt, survivals(rt.alloc(), 3), due_by(1, 2, 0));
 }

@@ -2,13 +2,14 @@
 ghost use Rattle.std.specs.Prelude.{◌≤◌};
 ghost use Rattle.oa_model.specs.Limits.{max_group};
 
+use crate::counts::session_moments;
 use crate::script::{
-    END, REQUESTS, TEARS, answered_by, asked, calls_of, expect, new_store, next_store, played,
-    read_of,
+    END, REQUESTS, TEARS, Tried, answered_by, asked, both, calls_of, expect, new_store, next_store,
+    played, read_of,
 };
-use crate::{Asked, Heard, Input, Replies};
 use oa_disk::{MemoryDisk, Tear};
 use oa_frame::Framing;
+use oa_history::{Asked, Heard, Input, Replies};
 use oa_server::End;
 use std::alloc::Global;
 use std::rt::HostRuntime;
@@ -74,14 +75,17 @@ fn stream_stops(
     group: usize,
     framing: Framing,
     tear: Tear,
-) -> Option<u64>
+) -> Option<Tried>
     requires positive { 1 ≤ group }
     requires small { group ≤ max_group }
 {
     let most = first.saturating_add(lines.len());
     let due = input_of(alloc, REPLIES.get(first..most)?, framing, group)?;
     let (whole, _) = played(alloc, disk, calls_of(alloc, lines, group)?, END, tear)?;
-    let mut count = 0u64;
+    let mut tried = Tried {
+        stops: 0,
+        openings: 0,
+    };
     for moment in 0..whole.disk.moments().saturating_add(1) {
         let input = input_of(alloc, lines, framing, group)?;
         let (heard, left) = asked(alloc, disk, Asked::Stream(input), moment, tear)?;
@@ -92,35 +96,47 @@ fn stream_stops(
         }
         let least = answered_by(&whole, first, moment)?;
         let _ = read_of(alloc, &left, least, most)?;
-        count = count.saturating_add(1);
+        tried.stops = tried.stops.saturating_add(1);
+        tried.openings = tried.openings.saturating_add(1);
     }
-    Some(count)
+    Some(tried)
 }
 
-/// The first session over a stream, and the second one behind a checkpoint, with each tear: how many stops there were.
-fn stream_script(alloc: Global, group: usize, framing: Framing) -> Option<u64>
+/// The first session over a stream, and the second one behind a checkpoint, with each tear.
+fn stream_script(alloc: Global, group: usize, framing: Framing) -> Option<Tried>
     requires positive { 1 ≤ group }
     requires small { group ≤ max_group }
 {
     let store = new_store(alloc)?;
     let first = REQUESTS.get(..5)?;
     let next = next_store(alloc, &store, group)?;
-    let mut one = 0u64;
-    let mut two = 0u64;
+    let mut tried = Tried {
+        stops: 0,
+        openings: 0,
+    };
     for tear in TEARS {
-        let stops = stream_stops(alloc, &store, first, 0, group, framing, tear)?;
-        one = one.saturating_add(stops);
-        let stops = stream_stops(alloc, &next, REQUESTS.get(5..)?, 5, group, framing, tear)?;
-        two = two.saturating_add(stops);
+        let one = stream_stops(alloc, &store, first, 0, group, framing, tear)?;
+        let two = stream_stops(alloc, &next, REQUESTS.get(5..)?, 5, group, framing, tear)?;
+        tried = both(tried, both(one, two));
     }
-    Some(one.saturating_add(two))
+    Some(tried)
+}
+
+/// What is due of sessions of so many groups: with each of seven tears a stop at each moment of both, and an opening behind it.
+fn due(first: u16, second: u16) -> Tried {
+    let stops = 7 * (session_moments(first) + session_moments(second));
+    Tried {
+        stops,
+        openings: stops,
+    }
 }
 
 #[test]
 fn lines_in_groups_of_1(rt: HostRuntime) {
     expect(
         &rt,
-        stream_script(rt.alloc(), 1, Framing::HexLines).is_some(),
+        stream_script(rt.alloc(), 1, Framing::HexLines),
+        due(5, 2),
     );
 }
 
@@ -128,6 +144,7 @@ fn lines_in_groups_of_1(rt: HostRuntime) {
 fn records_in_groups_of_3(rt: HostRuntime) {
     expect(
         &rt,
-        stream_script(rt.alloc(), 3, Framing::Records).is_some(),
+        stream_script(rt.alloc(), 3, Framing::Records),
+        due(2, 1),
     );
 }

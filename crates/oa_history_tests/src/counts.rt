@@ -1,0 +1,36 @@
+//! How often the disk is called for the script, and how many moments its clock has then: by the calls that docs/store.md counts.
+ghost use Rattle.std.specs.Prelude.{◌≡◌, ◌+◌, ◌*◌};
+
+/// The calls of an opening: a sync, and reads of the first byte, of the selector, of the head three times, of the library twice, of the
+/// snapshot, and of the first gate. With that one all groups of the script are read.
+pub const OPENING: u64 = 10;
+
+/// Those of a group's commit: its bytes, a sync, its gate, a sync.
+pub const COMMIT: u64 = 4;
+
+/// Those of a checkpoint: the head, the body in one piece, a sync, the selector, a sync.
+pub const CHECKPOINT: u64 = 5;
+
+/// Those of a format: the first byte, a sync, the head, the body in one piece, the selector, a sync, the first byte, a sync.
+pub const FORMAT: u64 = 8;
+
+/// The moments of a session of so many groups, each with an event: its start, and two of each call of the disk.
+pub fn session_moments(groups: u16) -> u64
+    ensures { result ≡ 21 + 8 * groups }
+{
+    1 + 2 * (OPENING + COMMIT * u64::from(groups))
+}
+
+/// Those of a checkpoint, and of the opening before it.
+pub fn checkpoint_moments() -> u64
+    ensures { result ≡ 31 }
+{
+    1 + 2 * (OPENING + CHECKPOINT)
+}
+
+/// Those of a format.
+pub fn format_moments() -> u64
+    ensures { result ≡ 17 }
+{
+    1 + 2 * FORMAT
+}

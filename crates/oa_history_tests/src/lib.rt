@@ -1,0 +1,23 @@
+//! Tests of sessions on a disk in memory that are stopped at every moment, or fail at every call, as a caller of
+//! oa_history sees them.
+//!
+//! Its contract: that of every function, to be safe; how often each test stops, opens and fails is counted, and held.
+//!
+//! What stands on it: no crate.
+#![tactic(auto)]
+
+pub mod counts;
+#[cfg(test)]
+mod formats;
+#[cfg(test)]
+mod histories;
+#[cfg(test)]
+mod script;
+#[cfg(test)]
+mod script_failures;
+#[cfg(test)]
+mod script_histories;
+#[cfg(test)]
+mod script_stops;
+#[cfg(test)]
+mod script_streams;

@@ -1,0 +1,137 @@
+//! The script as histories of `relive`, in each of which one of its steps is stopped, at each moment with each tear; what is kept is read by a
+//! session behind it, and by the server that the history hands back.
+ghost use Rattle.std.specs.Prelude.{◌≤◌};
+
+use crate::counts::{checkpoint_moments, session_moments};
+use crate::script::{
+    END, READS, REQUESTS, TEARS, Tried, answered_by, calls_of, expect, library, new_disk, place_in,
+    read_by,
+};
+use oa_disk::Tear;
+use oa_history::{Asked, Lived, Session, Step, Stop, relive};
+use std::alloc::Global;
+use std::rt::HostRuntime;
+
+/// One of the three steps.
+#[derive(Clone, Copy, Debug, PartialEq, Eq)]
+enum Place {
+    First,
+    Between,
+    Second,
+}
+
+const PLACES: [Place; 3] = [Place::First, Place::Between, Place::Second];
+
+/// A session of these requests.
+fn session(alloc: Global, lines: &[&str], group: usize, moment: u64, tear: Tear) -> Option<Step>
+    requires { 1 ≤ group }
+{
+    let calls = calls_of(alloc, lines, group)?;
+    Some(Step::Session(Session {
+        asked: Asked::Calls(calls),
+        moment,
+        tear,
+    }))
+}
+
+/// The steps up to the one that is stopped at the moment, and a session that reads.
+fn steps_to(alloc: Global, place: Place, group: usize, moment: u64, tear: Tear) -> Option<Vec<Step>>
+    requires { 1 ≤ group }
+{
+    let first = REQUESTS.get(..5)?;
+    let mut steps = Vec::new(alloc);
+    match place {
+        Place::First => steps
+            .push(session(alloc, first, group, moment, tear)?)
+            .ok()?,
+        Place::Between => {
+            steps.push(session(alloc, first, group, END, tear)?).ok()?;
+            steps.push(Step::Checkpoint(Stop { moment, tear })).ok()?;
+        }
+        Place::Second => {
+            steps.push(session(alloc, first, group, END, tear)?).ok()?;
+            steps
+                .push(Step::Checkpoint(Stop { moment: END, tear }))
+                .ok()?;
+            let second = REQUESTS.get(5..)?;
+            steps
+                .push(session(alloc, second, group, moment, tear)?)
+                .ok()?;
+        }
+    }
+    steps.push(session(alloc, &READS, 3, END, tear)?).ok()?;
+    Some(steps)
+}
+
+/// One history. Answers the last moment of the step that was stopped, and how many openings there were: one for each step, and the last one.
+fn history(alloc: Global, place: Place, group: usize, moment: u64, tear: Tear) -> Option<(u64, u64)>
+    requires { 1 ≤ group }
+{
+    let steps = steps_to(alloc, place, group, moment, tear)?;
+    let Lived { heard, opened, .. } = relive(
+        alloc,
+        &library(alloc)?,
+        new_disk(alloc)?,
+        steps.as_slice(),
+    ).ok()?;
+    let openings = (heard.len() as u64).saturating_add(1);
+    let (stopped, least, most) = match place {
+        Place::First => {
+            let stopped = heard.as_slice().first()?;
+            (stopped, answered_by(stopped, 0, moment)?, 5)
+        }
+        Place::Between => (heard.as_slice().get(1)?, 5, 5),
+        Place::Second => {
+            let stopped = heard.as_slice().get(2)?;
+            (stopped, answered_by(stopped, 5, moment)?, 7)
+        }
+    };
+    let kept = place_in(alloc, heard.as_slice().last()?, least, most)?;
+    let _ = read_by(alloc, opened.server, kept, kept)?;
+    Some((stopped.disk.moments(), openings))
+}
+
+/// Stops each of the three steps at each moment with each tear.
+fn histories(alloc: Global, group: usize) -> Option<Tried>
+    requires { 1 ≤ group }
+{
+    let mut tried = Tried {
+        stops: 0,
+        openings: 0,
+    };
+    for tear in TEARS {
+        for place in PLACES {
+            let (end, _) = history(alloc, place, group, END, tear)?;
+            for moment in 0..end.saturating_add(1) {
+                let (_, openings) = history(alloc, place, group, moment, tear)?;
+                tried.stops = tried.stops.saturating_add(1);
+                tried.openings = tried.openings.saturating_add(openings);
+            }
+        }
+    }
+    Some(tried)
+}
+
+/// What is due where the sessions have so many groups, with each of seven tears: a history of three openings for each moment of the first
+/// one, of four for each of the checkpoint, of five for each of the second one.
+fn due(first: u16, second: u16) -> Tried {
+    let (one, between, two) = (
+        session_moments(first),
+        checkpoint_moments(),
+        session_moments(second),
+    );
+    Tried {
+        stops: 7 * (one + between + two),
+        openings: 7 * (3 * one + 4 * between + 5 * two),
+    }
+}
+
+#[test]
+fn histories_in_groups_of_1(rt: HostRuntime) {
+    expect(&rt, histories(rt.alloc(), 1), due(5, 2));
+}
+
+#[test]
+fn histories_in_groups_of_3(rt: HostRuntime) {
+    expect(&rt, histories(rt.alloc(), 3), due(2, 1));
+}

@@ -90,13 +90,14 @@ def main():
         dictionary = ["-x", f"{FOLDER}/words"]
     print(f"{len(found)} blocks", flush=True)
     log = open(f"{FOLDER}/log", "wb")
-    afl = lambda *more: subprocess.run([*more, "-m", "none", "-t", "2000", "--", PROGRAM, *words], env={**os.environ, **told}, stdout=log, stderr=log, stdin=subprocess.DEVNULL, cwd=FOLDER, check=False)
-    afl("afl-fuzz", "-i", f"{FOLDER}/seeds", "-o", f"{FOLDER}/out", "-V", SECONDS, *dictionary)
+    # (afl-showmap waits for the program to begin by this time too)
+    afl = lambda most, *more: subprocess.run([*more, "-m", "none", "-t", most, "--", PROGRAM, *words], env={**os.environ, **told}, stdout=log, stderr=log, stdin=subprocess.DEVNULL, cwd=FOLDER, check=False)
+    afl("2000", "afl-fuzz", "-i", f"{FOLDER}/seeds", "-o", f"{FOLDER}/out", "-V", SECONDS, *dictionary)
     judge()
     reached = {}
     for folder in ("seeds", "out/default/queue"):
         shutil.rmtree(f"{FOLDER}/maps", ignore_errors=True)
-        afl("afl-showmap", "-q", "-i", folder, "-o", "maps")
+        afl("60000", "afl-showmap", "-q", "-i", folder, "-o", "maps")
         for name in os.listdir(f"{FOLDER}/maps"):
             with open(f"{FOLDER}/maps/{name}") as file:
                 reached[f"{FOLDER}/{folder}/{name}"] = {line.split(":")[0] for line in file}

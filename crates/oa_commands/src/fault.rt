@@ -1,5 +1,7 @@
 //! What ends the program early: one line on standard error, and a status.
-ghost use Rattle.std.specs.Prelude.{◌≤◌};
+ghost use Rattle.std.specs.Prelude.{◌≡◌};
+ghost use Rattle.oa_commands.specs.Statuses.{status_of};
+ghost use Rattle.oa_commands.specs.declared.fault.Fault.TheVariants as faults;
 
 use crate::place::Place;
 use oa_checks::CheckError;
@@ -88,7 +90,7 @@ impl Fault {
     /// 1 for a file, a device, a reader or a writer, 2 for a command line or a library, 3 for a store, 4 for a record, 5 for want of
     /// memory.
     pub fn status(&self) -> u8
-        ensures fails { 1 ≤ result }
+        ensures { result ≡ status_of self.now }
     {
         match self {
             Fault::CannotRead(_)
@@ -118,6 +120,8 @@ impl Fault {
 }
 
 impl From<AllocError> for Fault {
+    ghost from_gives = { λ _ e. e ≡ faults.Memory };
+
     fn from(_e: AllocError) -> Fault {
         Fault::Memory
     }
@@ -130,18 +134,24 @@ impl<T: Drop> From<AllocFailed<T>> for Fault {
 }
 
 impl From<ParseError> for Fault {
+    ghost from_gives = { λ f e. e ≡ faults.Parse f };
+
     fn from(e: ParseError) -> Fault {
         Fault::Parse(e)
     }
 }
 
 impl From<CheckError> for Fault {
+    ghost from_gives = { λ f e. e ≡ faults.Check f };
+
     fn from(e: CheckError) -> Fault {
         Fault::Check(e)
     }
 }
 
 impl From<Unwritten> for Fault {
+    ghost from_gives = { λ _ e. e ≡ faults.Write };
+
     fn from(_e: Unwritten) -> Fault {
         Fault::Write
     }

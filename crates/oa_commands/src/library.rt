@@ -1,5 +1,7 @@
 //! Texts of libraries, and the libraries that they stand for.
 ghost use Rattle.std.specs.Prelude.{◌≤◌, length, IfSome};
+ghost use Rattle.std.specs.Prelude.{IfErr};
+ghost use Rattle.oa_commands.specs.Statuses.{IsBeforeStores};
 
 use crate::fault::Fault;
 use crate::shown::shown_name;
@@ -19,7 +21,9 @@ const PIECE: u64 = 65_536;
 
 /// The text of a library, from a file or from standard input. Of a text above the limit one piece at a time is kept, and it is read on only
 /// as long as it is UTF-8: that fault goes before the limit, wherever it stands.
-pub(crate) fn read_text(rt: &HostRuntime, alloc: Global, path: &str) -> Result<String, Fault> {
+pub(crate) fn read_text(rt: &HostRuntime, alloc: Global, path: &str) -> Result<String, Fault>
+    ensures { IfErr result IsBeforeStores }
+{
     if path == STANDARD_INPUT {
         return text_of(alloc, &mut rt.reader(), path);
     }
@@ -30,17 +34,23 @@ pub(crate) fn read_text(rt: &HostRuntime, alloc: Global, path: &str) -> Result<S
 }
 
 /// The library of a file or of standard input.
-pub fn read_library(rt: &HostRuntime, alloc: Global, path: &str) -> Result<Library, Fault> {
+pub fn read_library(rt: &HostRuntime, alloc: Global, path: &str) -> Result<Library, Fault>
+    ensures { IfErr result IsBeforeStores }
+{
     library_of(alloc, &read_text(rt, alloc, path)?)
 }
 
 /// The library that a text stands for.
-pub(crate) fn library_of(alloc: Global, text: &str) -> Result<Library, Fault> {
+pub(crate) fn library_of(alloc: Global, text: &str) -> Result<Library, Fault>
+    ensures { IfErr result IsBeforeStores }
+{
     Ok(check(alloc, parse(alloc, text)?)?)
 }
 
 /// Why a file cannot be read.
-pub(crate) fn unread(alloc: Global, error: &io::Error, path: &str) -> Fault {
+pub(crate) fn unread(alloc: Global, error: &io::Error, path: &str) -> Fault
+    ensures { IsBeforeStores result }
+{
     if error.kind() == ErrorKind::OutOfMemory {
         return Fault::Memory;
     }
@@ -51,7 +61,9 @@ pub(crate) fn unread(alloc: Global, error: &io::Error, path: &str) -> Fault {
 }
 
 /// What a reader gives, up to its end, as a text. One byte above the limit tells that the text breaks it.
-fn text_of<R: Read>(alloc: Global, reader: &mut R, path: &str) -> Result<String, Fault> {
+fn text_of<R: Read>(alloc: Global, reader: &mut R, path: &str) -> Result<String, Fault>
+    ensures { IfErr result IsBeforeStores }
+{
     let mut bytes = Vec::new(alloc);
     if let Err(error) = reader
         .by_ref()
@@ -67,12 +79,9 @@ fn text_of<R: Read>(alloc: Global, reader: &mut R, path: &str) -> Result<String,
 }
 
 /// Why a text is refused that begins with these bytes, more than a text may have: it is not UTF-8, or it breaks the limit.
-fn refusal_of_long<R: Read>(
-    alloc: Global,
-    reader: &mut R,
-    mut bytes: Vec<u8>,
-    path: &str,
-) -> Fault {
+fn refusal_of_long<R: Read>(alloc: Global, reader: &mut R, mut bytes: Vec<u8>, path: &str) -> Fault
+    ensures { IsBeforeStores result }
+{
     for _ in 0..u64::MAX {
         let Some(whole) = whole_characters(&bytes) else {
             return Fault::NotUtf8;

@@ -1,5 +1,7 @@
 //! Files that hold a store.
 ghost use Rattle.std.specs.Prelude.{◌≤◌};
+ghost use Rattle.std.specs.Prelude.{IfErr};
+ghost use Rattle.oa_commands.specs.Statuses.{IsBeforeStores, TellsFailure};
 
 use crate::fault::Fault;
 use crate::library::{read_library, unread};
@@ -25,7 +27,10 @@ pub(crate) fn store_bytes(bank: u32) -> u64 {
 
 /// Makes a file the store of a library, without objects, with banks of so many bytes, and says so. A file that is not there is made; one
 /// that is there is used in its own length, and what it held is gone.
-pub fn format_store(rt: &HostRuntime, path: &str, library: &str, bank: u32) -> Result<(), Fault> {
+#[tactic(auto, using(crate::proofs::Failing::tells))]
+pub fn format_store(rt: &HostRuntime, path: &str, library: &str, bank: u32) -> Result<(), Fault>
+    ensures { TellsFailure result }
+{
     let _streams = Streams::new(rt);
     make_store(rt, path, library, bank.clamp(LEAST_BANK, MOST_BANK))?;
     write(rt, b"formatted\n")
@@ -44,7 +49,9 @@ fn make_store(rt: &HostRuntime, path: &str, library: &str, bank: u32) -> Result<
 }
 
 /// The file of a store that is there. No other process has it from then on, until the disk goes.
-pub fn found(rt: &HostRuntime, alloc: Global, path: &str) -> Result<FileDisk, Fault> {
+pub fn found(rt: &HostRuntime, alloc: Global, path: &str) -> Result<FileDisk, Fault>
+    ensures { IfErr result IsBeforeStores }
+{
     opened(rt, path).map_err(|error| unopened(alloc, &error, path))
 }
 
@@ -72,7 +79,9 @@ fn made(rt: &HostRuntime, alloc: Global, path: &str, size: u64) -> Result<FileDi
 }
 
 /// Why the file of a store was not opened.
-pub(crate) fn unopened(alloc: Global, error: &io::Error, path: &str) -> Fault {
+pub(crate) fn unopened(alloc: Global, error: &io::Error, path: &str) -> Fault
+    ensures { IsBeforeStores result }
+{
     if error.kind() == ErrorKind::WouldBlock {
         return in_use(alloc, path);
     }
@@ -80,7 +89,9 @@ pub(crate) fn unopened(alloc: Global, error: &io::Error, path: &str) -> Fault {
 }
 
 /// A file that another process has.
-pub(crate) fn in_use(alloc: Global, path: &str) -> Fault {
+pub(crate) fn in_use(alloc: Global, path: &str) -> Fault
+    ensures { IsBeforeStores result }
+{
     match shown_name(alloc, path) {
         Ok(path) => Fault::InUse(path),
         Err(_) => Fault::Memory,

@@ -1,11 +1,16 @@
 //! Standard streams: what is written on one, and what takes the place of those that are closed.
+ghost use Rattle.std.specs.Prelude.{IfErr};
+ghost use Rattle.oa_commands.specs.Statuses.{IsBeforeStores};
+
 use crate::fault::Fault;
 use oa_stream::{Outlet, Sink};
 use std::fs::File;
 use std::io;
 
 /// Writes bytes on standard output, and all of them before it answers.
-pub(crate) fn write(rt: &HostRuntime, bytes: &[u8]) -> Result<(), Fault> {
+pub(crate) fn write(rt: &HostRuntime, bytes: &[u8]) -> Result<(), Fault>
+    ensures { IfErr result IsBeforeStores }
+{
     let mut writer = Outlet::new(io::writer(rt));
     writer.put(bytes)?;
     writer.deliver()?;

@@ -1,4 +1,7 @@
 //! The canonical text of a library.
+ghost use Rattle.std.specs.Prelude.{IfErr};
+ghost use Rattle.oa_commands.specs.Statuses.{IsBeforeStores};
+
 use crate::fault::Fault;
 use crate::library::{library_of, read_text};
 use crate::place::Place;
@@ -7,7 +10,9 @@ use oa_idl::ParseError;
 use std::alloc::Global;
 
 /// Writes the canonical text of a library's file on standard output. Nothing is written of a library that is refused.
-pub fn write_text(rt: &HostRuntime, path: &str, shows_place: bool) -> Result<(), Fault> {
+pub fn write_text(rt: &HostRuntime, path: &str, shows_place: bool) -> Result<(), Fault>
+    ensures { IfErr result IsBeforeStores }
+{
     let alloc = rt.alloc();
     let text = read_text(rt, alloc, path)?;
     match library_of(alloc, &text) {
@@ -18,7 +23,10 @@ pub fn write_text(rt: &HostRuntime, path: &str, shows_place: bool) -> Result<(),
 }
 
 /// A fault with its place in the text, where it has one and memory is found for it.
-fn placed(alloc: Global, path: &str, text: &str, fault: Fault) -> Fault {
+fn placed(alloc: Global, path: &str, text: &str, fault: Fault) -> Fault
+    requires { IsBeforeStores fault }
+    ensures { IsBeforeStores result }
+{
     match fault {
         Fault::Parse(error @ ParseError::Syntax(at)) => match Place::of(alloc, path, text, at) {
             Ok(place) => Fault::At(error, place),

@@ -23,7 +23,7 @@ impl<K, V> Model for Row<K, V> {
     ghost view = { λ r. r.entries.items };
 }
 
-/// Makes room for one more item. A full vector grows by a quarter of its length, so that few places are spare.
+/// Makes room for one more item. A full vector grows by an eighth of its length, so that few places are spare, and a full row has none.
 pub(crate) fn make_room<T>(items: &mut Vec<T>) -> Result<(), AllocError>
     ensures items { items.new.items ≡ items.old.items }
     ensures room { OnOk result (vec_len items.new < vec_capacity items.new) }
@@ -32,7 +32,7 @@ pub(crate) fn make_room<T>(items: &mut Vec<T>) -> Result<(), AllocError>
     if len < items.capacity() {
         return Ok(());
     }
-    items.reserve_exact(len / 4 + 1)
+    items.reserve_exact(len / 8 + 1)
 }
 
 /// Where the key is among entries in order, or where it would stand.

@@ -59,10 +59,10 @@ fn value_by(to: VarType, i: usize, argument: Variant) -> Result<Scalar, BindFaul
     ensures { result ≡ value_by_argument to i argument }
 {
     match argument {
-        Variant::One(scalar) => match coerce_scalar(scalar, to) {
-            Ok(value) => Ok(value),
-            Err((_, fault)) => Err(BindFault::at(fault.code(), i as u32)),
-        },
+        Variant::One(scalar) => {
+            let at = i as u32;
+            coerce_scalar(scalar, to).map_err(|(_, fault)| BindFault::at(fault.code(), at))
+        }
         Variant::Array(_) => Err(BindFault::at(HResult::DISP_E_TYPEMISMATCH, i as u32)),
     }
 }

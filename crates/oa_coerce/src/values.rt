@@ -85,10 +85,10 @@ fn value_by_rule(
                 if scalar.var_type() != VarType::Empty {
                     return Err((Variant::One(scalar), CoerceFault::TypeMismatch));
                 }
-                match Variant::zero(alloc, declared) {
-                    Ok(made) => Ok(made),
-                    Err(_) => Err((Variant::One(scalar), CoerceFault::Memory)),
-                }
+                Variant::zero(alloc, declared).map_err(|_| (
+                    Variant::One(scalar),
+                    CoerceFault::Memory,
+                ))
             }
         },
         Variant::Array(array) => Err((Variant::Array(array), CoerceFault::TypeMismatch)),

@@ -133,10 +133,7 @@ fn count(n: usize) -> Result<u16, AllocError>
     ensures value { IfOk result (λ x. x ≡ n) }
     ensures great { OnErr result (65535 < n) }
 {
-    match u16::try_from(n) {
-        Ok(n) => Ok(n),
-        Err(_) => Err(AllocError),
-    }
+    u16::try_from(n).map_err(|_| AllocError)
 }
 
 /// A count of 4 bytes. Err for one that is greater, as no library has.
@@ -144,10 +141,7 @@ fn wide_count(n: usize) -> Result<u32, AllocError>
     ensures value { IfOk result (λ x. x ≡ n) }
     ensures great { OnErr result (4294967295 < n) }
 {
-    match u32::try_from(n) {
-        Ok(n) => Ok(n),
-        Err(_) => Err(AllocError),
-    }
+    u32::try_from(n).map_err(|_| AllocError)
 }
 
 /// DISPID, kind, flags, type, the number of parameters, a reserved number.

@@ -33,10 +33,7 @@ pub fn make_room<D: Disk>(
     if !store.checkpoint_due() {
         return Ok(());
     }
-    match store.checkpoint(table) {
-        Ok(()) => Ok(()),
-        Err(CheckpointFault::Device(_) | CheckpointFault::Stopped) => Err(KeepFault::Write),
-    }
+    store.checkpoint(table).map_err(|_| KeepFault::Write)
 }
 
 /// Ends a group: its events go out under one gate, with two writes and two syncs. A group without events makes no call of the device.

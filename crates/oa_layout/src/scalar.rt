@@ -53,10 +53,7 @@ fn read_text(alloc: Global, r: &mut Ndr<'_>) -> Result<Bstr, ReadFault>
         None => Ok(Bstr::null()),
         Some(n) => {
             let bytes = read_bytes(n as usize, r)?;
-            match Bstr::from_bytes(alloc, bytes) {
-                Ok(text) => Ok(text),
-                Err(_) => Err(ReadFault::Memory),
-            }
+            Bstr::from_bytes(alloc, bytes).map_err(|_| ReadFault::Memory)
         }
     }
 }

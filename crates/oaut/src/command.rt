@@ -1,19 +1,7 @@
-//! The command line.
-use crate::fault::Fault;
-use crate::store::{LEAST_BANK, MOST_BANK};
+//! What the command line may be: the commands with their words, options and help.
 use clap::{Arg, ArgAction, Command, value_parser};
+use oa_commands::{LEAST_BANK, MOST_BANK};
 use std::alloc::{AllocError, Global};
-use std::env;
-use std::io::ErrorKind;
-
-/// The words of the command line, with the program's name.
-pub(crate) fn words(rt: &HostRuntime, alloc: Global) -> Result<Vec<String>, Fault> {
-    match env::args(rt) {
-        Ok(words) => Ok(words.collect(alloc)?),
-        Err(error) if error.kind() == ErrorKind::OutOfMemory => Err(Fault::Memory),
-        Err(_) => Err(Fault::Words),
-    }
-}
 
 /// A word that has to be there.
 fn word<'a>(alloc: Global, name: &'a str, help: &'a str) -> Arg<'a> {
@@ -38,65 +26,80 @@ fn library_or_input<'a>(alloc: Global) -> Arg<'a> {
     )
 }
 
+/// A word that may be there, and takes no value.
+fn flag<'a>(alloc: Global, name: &'a str, help: &'a str) -> Arg<'a> {
+    Arg::new(alloc, name)
+        .long(name)
+        .action(ArgAction::SetTrue)
+        .help(help)
+}
+
+/// A command without arguments.
+fn named<'a>(alloc: Global, name: &'a str, about: &'a str, more: &'a str) -> Command<'a> {
+    Command::new(alloc, name).about(about).after_help(more)
+}
+
 /// Sessions over lines of digits.
 fn hex<'a>(alloc: Global) -> Arg<'a> {
-    Arg::new(alloc, "hex")
-        .long("hex")
-        .action(ArgAction::SetTrue)
-        .help("Take one request a line in hexadecimal digits, and write each reply as such a line")
+    flag(
+        alloc,
+        "hex",
+        "Take one request a line in hexadecimal digits, and write each reply as such a line",
+    )
 }
 
 fn play<'a>(alloc: Global) -> Result<Command<'a>, AllocError> {
-    Command::new(alloc, "play")
-        .about("Answers the requests of standard input on standard output, with objects in memory")
-        .after_help(
-            "Each request and each reply is a record: its length in 4 bytes, little-endian, and that many bytes.\n\nExample, four requests and their replies as lines:\n  oaut play examples/small.idl --hex < examples/first.hex",
-        )
-        .arg(library(alloc))?
-        .arg(hex(alloc))
+    named(
+        alloc,
+        "play",
+        "Answers the requests of standard input on standard output, with objects in memory",
+        "Each request and each reply is a record: its length in 4 bytes, little-endian, and that many bytes.\n\nExample, four requests and their replies as lines:\n  oaut play examples/small.idl --hex < examples/first.hex",
+    )
+    .arg(library(alloc))?
+    .arg(hex(alloc))
 }
 
 /// The place of a syntax fault.
 fn place<'a>(alloc: Global) -> Arg<'a> {
-    Arg::new(alloc, "where")
-        .long("where")
-        .action(ArgAction::SetTrue)
-        .help(
-            "After a syntax fault, write its line and column, the text of that line, and a caret under the place",
-        )
+    flag(
+        alloc,
+        "where",
+        "After a syntax fault, write its line and column, the text of that line, and a caret under the place",
+    )
 }
 
 fn check<'a>(alloc: Global) -> Result<Command<'a>, AllocError> {
-    Command::new(alloc, "check")
-        .about("Checks a type library, and writes its canonical text on standard output")
-        .after_help(
-            "Examples:\n  oaut check examples/full.idl\n  oaut check --where - < examples/full.idl",
-        )
-        .arg(library_or_input(alloc))?
-        .arg(place(alloc))
+    named(
+        alloc,
+        "check",
+        "Checks a type library, and writes its canonical text on standard output",
+        "Examples:\n  oaut check examples/full.idl\n  oaut check --where - < examples/full.idl",
+    )
+    .arg(library_or_input(alloc))?
+    .arg(place(alloc))
 }
 
 fn format<'a>(alloc: Global) -> Result<Command<'a>, AllocError> {
-    Command::new(alloc, "format")
-        .about("Makes a file the store of a type library, without objects")
-        .after_help(
-            "A file that is not there is made, with 33,562,624 bytes and twice B, which is all that a store will ever take. One that is there begins anew, in its own length: the objects that it held are gone.\n\nExample:\n  oaut format items.store examples/small.idl",
-        )
-        .arg(word(alloc, "STORE", "The store's file"))?
-        .arg(library_or_input(alloc))?
-        .arg(bank(alloc))
+    named(
+        alloc,
+        "format",
+        "Makes a file the store of a type library, without objects",
+        "A file that is not there is made, with 33,562,624 bytes and twice B, which is all that a store will ever take. One that is there begins anew, in its own length: the objects that it held are gone.\n\nExample:\n  oaut format items.store examples/small.idl",
+    )
+    .arg(word(alloc, "STORE", "The store's file"))?
+    .arg(library_or_input(alloc))?
+    .arg(bank(alloc))
 }
 
 fn upgrade<'a>(alloc: Global) -> Result<Command<'a>, AllocError> {
-    Command::new(alloc, "upgrade")
-        .about(
-            "Brings a store of format 1 to format 2, which this program serves, with what it holds",
-        )
-        .after_help(
-            "A file that is too short is lengthened to 33,562,624 bytes and twice B. A stop at any moment leaves the store in the old format or in the new one, and the same command goes on from there. There is no way back.\n\nExample:\n  oaut upgrade items.store",
-        )
-        .arg(word(alloc, "STORE", "The store's file"))?
-        .arg(bank(alloc))
+    named(
+        alloc,
+        "upgrade",
+        "Brings a store of format 1 to format 2, which this program serves, with what it holds",
+        "A file that is too short is lengthened to 33,562,624 bytes and twice B. A stop at any moment leaves the store in the old format or in the new one, and the same command goes on from there. There is no way back.\n\nExample:\n  oaut upgrade items.store",
+    )
+    .arg(word(alloc, "STORE", "The store's file"))?
+    .arg(bank(alloc))
 }
 
 /// How large a bank is.
@@ -116,7 +119,7 @@ fn group<'a>(alloc: Global) -> Arg<'a> {
     Arg::new(alloc, "group")
         .long("group")
         .value_name("N")
-        .value_parser(value_parser!(u16).range(1..=1024))
+        .value_parser(value_parser!(u32).range(1..=1024))
         .default_value("1")
         .help(
             "Commit N requests together, from 1 to 1024, and write their replies behind that; with 1 each request is committed before its reply",
@@ -124,35 +127,36 @@ fn group<'a>(alloc: Global) -> Arg<'a> {
 }
 
 fn serve<'a>(alloc: Global) -> Result<Command<'a>, AllocError> {
-    Command::new(alloc, "serve")
-        .about(
-            "Answers the requests of standard input on standard output, with objects that a store keeps",
-        )
-        .after_help(
-            "A reply tells that what it changed is on the device. Requests and replies are as those of play.\n\nExample:\n  oaut format items.store examples/small.idl\n  oaut serve items.store examples/small.idl --hex < examples/first.hex",
-        )
-        .arg(word(alloc, "STORE", "The store's file, as format made it"))?
-        .arg(library(alloc))?
-        .arg(group(alloc))?
-        .arg(hex(alloc))
+    named(
+        alloc,
+        "serve",
+        "Answers the requests of standard input on standard output, with objects that a store keeps",
+        "A reply tells that what it changed is on the device. Requests and replies are as those of play.\n\nExample:\n  oaut format items.store examples/small.idl\n  oaut serve items.store examples/small.idl --hex < examples/first.hex",
+    )
+    .arg(word(alloc, "STORE", "The store's file, as format made it"))?
+    .arg(library(alloc))?
+    .arg(group(alloc))?
+    .arg(hex(alloc))
 }
 
 fn dump<'a>(alloc: Global) -> Result<Command<'a>, AllocError> {
-    Command::new(alloc, "dump")
-        .about("Writes the objects of a store and their cells on standard output, one line each")
-        .after_help(
-            "The lines: next NUMBER, and of each object: object NUMBER CLASS, cell INTERFACE DISPID KEY VALUE. KEY and VALUE are images in hexadecimal digits, - is a key of no scalars. Nothing of the store is changed, and it may be of either format.\n\nExamples:\n  oaut dump items.store\n  oaut dump items.store --library > items.idl",
-        )
-        .arg(word(alloc, "STORE", "The store's file"))?
-        .arg(kept_library(alloc))
+    named(
+        alloc,
+        "dump",
+        "Writes the objects of a store and their cells on standard output, one line each",
+        "The lines: next NUMBER, and of each object: object NUMBER CLASS, cell INTERFACE DISPID KEY VALUE. KEY and VALUE are images in hexadecimal digits, - is a key of no scalars. Nothing of the store is changed, and it may be of either format.\n\nExamples:\n  oaut dump items.store\n  oaut dump items.store --library > items.idl",
+    )
+    .arg(word(alloc, "STORE", "The store's file"))?
+    .arg(kept_library(alloc))
 }
 
 /// The library of a store in the place of its objects.
 fn kept_library<'a>(alloc: Global) -> Arg<'a> {
-    Arg::new(alloc, "library")
-        .long("library")
-        .action(ArgAction::SetTrue)
-        .help("Write the canonical text of the store's library alone")
+    flag(
+        alloc,
+        "library",
+        "Write the canonical text of the store's library alone",
+    )
 }
 
 /// A command with one more subcommand.
@@ -163,17 +167,22 @@ fn with<'a>(
     command.subcommand(part?)
 }
 
+/// The program without its commands.
+fn program<'a>(alloc: Global) -> Command<'a> {
+    named(
+        alloc,
+        "oaut",
+        "A server of OLE Automation objects, whose coclasses a type library describes",
+        "Examples:\n  oaut check examples/full.idl\n  oaut play examples/small.idl --hex < examples/first.hex\nEach command says more under --help, as in oaut play --help.",
+    )
+    .version("0.1.0")
+    .disable_help_subcommand(true)
+    .subcommand_required(true)
+}
+
 /// What the program takes.
 pub(crate) fn command<'a>(alloc: Global) -> Result<Command<'a>, AllocError> {
-    let command = Command::new(alloc, "oaut")
-        .version("0.1.0")
-        .about("A server of OLE Automation objects, whose coclasses a type library describes")
-        .after_help(
-            "Examples:\n  oaut check examples/full.idl\n  oaut play examples/small.idl --hex < examples/first.hex\nEach command says more under --help, as in oaut play --help.",
-        )
-        .disable_help_subcommand(true)
-        .subcommand_required(true);
-    let command = with(command, play(alloc))?;
+    let command = with(program(alloc), play(alloc))?;
     let command = with(command, serve(alloc))?;
     let command = with(command, format(alloc))?;
     let command = with(command, upgrade(alloc))?;

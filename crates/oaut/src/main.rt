@@ -6,24 +6,16 @@
 #![tactic(auto)]
 
 mod command;
-mod dump;
-mod fault;
-mod library;
-mod place;
 mod play;
 mod serve;
 mod session;
-mod shown;
-mod store;
-mod streams;
-mod text;
-mod upgrade;
 
-use crate::fault::Fault;
-use crate::store::LEAST_BANK;
 use clap::ArgMatches;
 use clap::error::ErrorKind;
+use oa_commands::{Fault, LEAST_BANK, format_store, upgrade_store, write_dump, write_text};
+use std::alloc::Global;
 use std::process::ExitCode;
+use std::{env, io};
 
 fn main(rt: HostRuntime) -> ExitCode {
     match run(&rt) {
@@ -39,9 +31,8 @@ fn main(rt: HostRuntime) -> ExitCode {
 /// Does what the command line asks.
 fn run(rt: &HostRuntime) -> Result<ExitCode, Fault> {
     let alloc = rt.alloc();
-    let words = command::words(rt, alloc)?;
-    let command = command::command(alloc)?;
-    let matches = match command.try_get_matches_from(words.as_slice()) {
+    let words = words(rt, alloc)?;
+    let matches = match command::command(alloc)?.try_get_matches_from(words.as_slice()) {
         Ok(matches) => matches,
         Err(error) if error.kind() == ErrorKind::OutOfMemory => return Err(Fault::Memory),
         Err(error) => {
@@ -53,6 +44,15 @@ fn run(rt: &HostRuntime) -> Result<ExitCode, Fault> {
         }
     };
     perform(rt, &matches)
+}
+
+/// The words of the command line, with the program's name.
+fn words(rt: &HostRuntime, alloc: Global) -> Result<Vec<String>, Fault> {
+    match env::args(rt) {
+        Ok(words) => Ok(words.collect(alloc)?),
+        Err(error) if error.kind() == io::ErrorKind::OutOfMemory => Err(Fault::Memory),
+        Err(_) => Err(Fault::Words),
+    }
 }
 
 /// Carries out the command that was matched. It stands apart, since all that `run` holds is dropped at each of its exits.
@@ -97,13 +97,13 @@ fn serves(rt: &HostRuntime, arguments: &ArgMatches) -> Result<(), Fault> {
         rt,
         arguments.get_str("STORE").unwrap_or(""),
         arguments.get_str("LIB").unwrap_or(""),
-        arguments.get_one::<u16>("group").unwrap_or(1),
+        arguments.get_one::<u32>("group").unwrap_or(1),
         arguments.get_flag("hex"),
     )
 }
 
 fn formats(rt: &HostRuntime, arguments: &ArgMatches) -> Result<(), Fault> {
-    store::format_store(
+    format_store(
         rt,
         arguments.get_str("STORE").unwrap_or(""),
         arguments.get_str("LIB").unwrap_or(""),
@@ -112,7 +112,7 @@ fn formats(rt: &HostRuntime, arguments: &ArgMatches) -> Result<(), Fault> {
 }
 
 fn upgrades(rt: &HostRuntime, arguments: &ArgMatches) -> Result<(), Fault> {
-    upgrade::upgrade_store(
+    upgrade_store(
         rt,
         arguments.get_str("STORE").unwrap_or(""),
         arguments.get_one::<u32>("bank").unwrap_or(LEAST_BANK),
@@ -120,7 +120,7 @@ fn upgrades(rt: &HostRuntime, arguments: &ArgMatches) -> Result<(), Fault> {
 }
 
 fn dumps(rt: &HostRuntime, arguments: &ArgMatches) -> Result<(), Fault> {
-    dump::write_dump(
+    write_dump(
         rt,
         arguments.get_str("STORE").unwrap_or(""),
         arguments.get_flag("library"),
@@ -128,7 +128,7 @@ fn dumps(rt: &HostRuntime, arguments: &ArgMatches) -> Result<(), Fault> {
 }
 
 fn checks(rt: &HostRuntime, arguments: &ArgMatches) -> Result<(), Fault> {
-    text::write_text(
+    write_text(
         rt,
         arguments.get_str("LIB").unwrap_or(""),
         arguments.get_flag("where"),

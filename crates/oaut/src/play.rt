@@ -1,7 +1,6 @@
 //! Answering requests with objects in memory.
-use crate::fault::Fault;
-use crate::library::{STANDARD_INPUT, read_library};
 use crate::session::hold;
+use oa_commands::{Fault, STANDARD_INPUT, read_library};
 use oa_server::Server;
 
 /// Holds a session over a library, with objects in memory.

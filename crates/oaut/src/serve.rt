@@ -1,21 +1,18 @@
 //! Answering requests with objects that a store keeps.
-use crate::fault::Fault;
-use crate::library::{STANDARD_INPUT, read_library};
 use crate::session::hold;
-use crate::store::found;
-use crate::streams::Streams;
+use oa_commands::{Fault, STANDARD_INPUT, Streams, found, read_library};
 use oa_disk::FileDisk;
 use oa_server::Server;
 
 /// The greatest number of requests that are committed together.
-const MOST: u16 = 1024;
+const MOST: u32 = 1024;
 
 /// Holds a session over a store of a library, so many requests committed together.
 pub(crate) fn serve(
     rt: &HostRuntime,
     store: &str,
     library: &str,
-    group: u16,
+    group: u32,
     hex: bool,
 ) -> Result<(), Fault> {
     if library == STANDARD_INPUT {
@@ -23,7 +20,7 @@ pub(crate) fn serve(
     }
     let _streams = Streams::new(rt);
     let mut server = opened(rt, store, library)?;
-    hold(rt, &mut server, usize::from(group.clamp(1, MOST)), hex)
+    hold(rt, &mut server, group.clamp(1, MOST) as usize, hex)
 }
 
 /// A server over a store of a library.
@@ -31,8 +28,5 @@ fn opened(rt: &HostRuntime, store: &str, library: &str) -> Result<Server<FileDis
     let alloc = rt.alloc();
     let library = read_library(rt, alloc, library)?;
     let disk = found(rt, alloc, store)?;
-    match Server::open(alloc, disk, library) {
-        Ok(server) => Ok(server),
-        Err((_, fault)) => Err(Fault::from(fault)),
-    }
+    Server::open(alloc, disk, library).map_err(|(_, fault)| Fault::from(fault))
 }

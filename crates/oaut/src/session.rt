@@ -2,7 +2,7 @@
 ghost use Rattle.std.specs.Prelude.{◌≤◌};
 ghost use Rattle.oa_model.specs.Limits.{max_group};
 
-use crate::fault::Fault;
+use oa_commands::Fault;
 use oa_disk::Disk;
 use oa_model::MAX_LINE_CHARACTERS;
 use oa_server::{End, Server};

@@ -15,7 +15,7 @@ use std::io;
 
 /// Writes the objects of a store and their cells on standard output, a line each, or the bytes of its library in their place. Nothing is
 /// written of a file that is refused.
-pub(crate) fn write_dump(rt: &HostRuntime, path: &str, library: bool) -> Result<(), Fault> {
+pub fn write_dump(rt: &HostRuntime, path: &str, library: bool) -> Result<(), Fault> {
     let _streams = Streams::new(rt);
     let (text, table) = kept(rt, path)?;
     if library {

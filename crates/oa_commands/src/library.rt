@@ -12,7 +12,7 @@ use std::io;
 use std::io::{ErrorKind, Read};
 
 /// The word that stands for standard input in the place of a file.
-pub(crate) const STANDARD_INPUT: &str = "-";
+pub const STANDARD_INPUT: &str = "-";
 
 /// The bytes that are read at once of what stands behind a text's limit.
 const PIECE: u64 = 65_536;
@@ -30,7 +30,7 @@ pub(crate) fn read_text(rt: &HostRuntime, alloc: Global, path: &str) -> Result<S
 }
 
 /// The library of a file or of standard input.
-pub(crate) fn read_library(rt: &HostRuntime, alloc: Global, path: &str) -> Result<Library, Fault> {
+pub fn read_library(rt: &HostRuntime, alloc: Global, path: &str) -> Result<Library, Fault> {
     library_of(alloc, &read_text(rt, alloc, path)?)
 }
 

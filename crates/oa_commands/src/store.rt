@@ -12,10 +12,11 @@ use std::fs::OpenOptions;
 use std::io;
 use std::io::ErrorKind;
 
-/// The least and the greatest number of bytes that a bank of a store can have.
-pub(crate) const LEAST_BANK: u32 = 20_971_520;
+/// The least number of bytes that a bank of a store can have.
+pub const LEAST_BANK: u32 = 20_971_520;
 
-pub(crate) const MOST_BANK: u32 = 1_073_741_824;
+/// The greatest number of bytes that a bank of a store can have.
+pub const MOST_BANK: u32 = 1_073_741_824;
 
 /// How many bytes a store takes whose banks have so many.
 pub(crate) fn store_bytes(bank: u32) -> u64 {
@@ -24,12 +25,7 @@ pub(crate) fn store_bytes(bank: u32) -> u64 {
 
 /// Makes a file the store of a library, without objects, with banks of so many bytes, and says so. A file that is not there is made; one
 /// that is there is used in its own length, and what it held is gone.
-pub(crate) fn format_store(
-    rt: &HostRuntime,
-    path: &str,
-    library: &str,
-    bank: u32,
-) -> Result<(), Fault> {
+pub fn format_store(rt: &HostRuntime, path: &str, library: &str, bank: u32) -> Result<(), Fault> {
     let _streams = Streams::new(rt);
     make_store(rt, path, library, bank.clamp(LEAST_BANK, MOST_BANK))?;
     write(rt, b"formatted\n")
@@ -48,11 +44,8 @@ fn make_store(rt: &HostRuntime, path: &str, library: &str, bank: u32) -> Result<
 }
 
 /// The file of a store that is there. No other process has it from then on, until the disk goes.
-pub(crate) fn found(rt: &HostRuntime, alloc: Global, path: &str) -> Result<FileDisk, Fault> {
-    match opened(rt, path) {
-        Ok(disk) => Ok(disk),
-        Err(error) => Err(unopened(alloc, &error, path)),
-    }
+pub fn found(rt: &HostRuntime, alloc: Global, path: &str) -> Result<FileDisk, Fault> {
+    opened(rt, path).map_err(|error| unopened(alloc, &error, path))
 }
 
 /// A file as a disk, from whatever beginning it has.
@@ -68,18 +61,14 @@ fn found_or_made(
     size: u64,
 ) -> Result<FileDisk, Fault> {
     match opened(rt, path) {
-        Ok(disk) => Ok(disk),
         Err(error) if error.kind() == ErrorKind::NotFound => made(rt, alloc, path, size),
-        Err(error) => Err(unopened(alloc, &error, path)),
+        found => found.map_err(|error| unopened(alloc, &error, path)),
     }
 }
 
 /// A new file for a store, of so many zeros.
 fn made(rt: &HostRuntime, alloc: Global, path: &str, size: u64) -> Result<FileDisk, Fault> {
-    match FileDisk::create(rt, path, size) {
-        Ok(disk) => Ok(disk),
-        Err(error) => Err(unwritten(alloc, &error, path)),
-    }
+    FileDisk::create(rt, path, size).map_err(|error| unwritten(alloc, &error, path))
 }
 
 /// Why the file of a store was not opened.

@@ -1,4 +1,6 @@
 //! What ends the program early: one line on standard error, and a status.
+ghost use Rattle.std.specs.Prelude.{◌≤◌};
+
 use crate::place::Place;
 use oa_checks::CheckError;
 use oa_disk::DeviceFault;
@@ -10,52 +12,74 @@ use thiserror::Error;
 
 /// Why the program ends with a status other than 0.
 #[derive(Debug, Drop, Error)]
-pub(crate) enum Fault {
+pub enum Fault {
+    /// A word of the command line is no UTF-8.
     #[error("command line is not UTF-8")]
     Words,
+    /// The library is to be read from standard input, as the requests are.
     #[error("standard input holds the requests, so LIB cannot be -")]
     TwoInputs,
+    /// The file of this name is not there, or cannot be opened or read.
     #[error("cannot read {0}")]
     CannotRead(String),
+    /// The file of this name cannot be made or lengthened.
     #[error("cannot write {0}")]
     CannotWrite(String),
+    /// Another process has the file of this name.
     #[error("cannot read {0}\n{0}: in use by another process")]
     InUse(String),
+    /// The text of a library is no UTF-8.
     #[error("library is not UTF-8")]
     NotUtf8,
+    /// The text of a library is not of the grammar, or breaks a limit.
     #[error("{0}")]
     Parse(ParseError),
+    /// The same, with its place in the text.
     #[error("{0}\n{1}")]
     At(ParseError, Place),
+    /// A library is refused.
     #[error("{0}")]
     Check(CheckError),
+    /// A store's file is too short for its banks.
     #[error("disk too small")]
     TooSmall,
+    /// A file holds no store.
     #[error("not a store")]
     NotAStore,
+    /// A store is of format 1, which is not served.
     #[error("old format")]
     OldFormat,
+    /// A store that is to be upgraded is of format 2 already.
     #[error("already format 2")]
     AlreadyNew,
+    /// A store keeps another library.
     #[error("library differs")]
     LibraryDiffers,
+    /// The bytes at this place of a store are not those of a store.
     #[error("damaged at {0}")]
     Damaged(u64),
-    // The numbers are STG_E_WRITEFAULT and STG_E_READFAULT.
+    /// A write of a store's file failed. The number is STG_E_WRITEFAULT, that below STG_E_READFAULT.
     #[error("device fault 0x8003001d")]
     DeviceWrite,
+    /// A read of a store's file failed.
     #[error("device fault 0x8003001e")]
     DeviceRead,
+    /// The requests end within a record or a line.
     #[error("record cut")]
     Cut,
+    /// A record or a line is too long.
     #[error("record too long")]
     TooLong,
+    /// This line is none of hexadecimal digits.
     #[error("bad hex on line {0}")]
     BadHex(u64),
+    /// The requests cannot be read.
     #[error("read fault")]
     Read,
+    /// Standard output takes no more.
     #[error("write fault")]
     Write,
+    /// There is no memory.
     #[error("out of memory")]
     Memory,
 }
@@ -63,7 +87,9 @@ pub(crate) enum Fault {
 impl Fault {
     /// 1 for a file, a device, a reader or a writer, 2 for a command line or a library, 3 for a store, 4 for a record, 5 for want of
     /// memory.
-    pub(crate) fn status(&self) -> u8 {
+    pub fn status(&self) -> u8
+        ensures fails { 1 ≤ result }
+    {
         match self {
             Fault::CannotRead(_)
             | Fault::CannotWrite(_)

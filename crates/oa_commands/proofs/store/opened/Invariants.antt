@@ -1,4 +1,4 @@
-use Rattle.oaut.proofs.store.opened.Given as goal
+use Rattle.oa_commands.proofs.store.opened.Given as goal
 
 abbrev pub ghost-over : goal.ghost-over
 ghost-over a = λ _. 0

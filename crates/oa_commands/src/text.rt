@@ -7,7 +7,7 @@ use oa_idl::ParseError;
 use std::alloc::Global;
 
 /// Writes the canonical text of a library's file on standard output. Nothing is written of a library that is refused.
-pub(crate) fn write_text(rt: &HostRuntime, path: &str, shows_place: bool) -> Result<(), Fault> {
+pub fn write_text(rt: &HostRuntime, path: &str, shows_place: bool) -> Result<(), Fault> {
     let alloc = rt.alloc();
     let text = read_text(rt, alloc, path)?;
     match library_of(alloc, &text) {

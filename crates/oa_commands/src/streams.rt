@@ -16,7 +16,7 @@ pub(crate) fn write(rt: &HostRuntime, bytes: &[u8]) -> Result<(), Fault> {
 /// and be read as the requests or written over by the replies. A folder can be neither read nor written, so a closed stream stays one that
 /// fails.
 #[derive(Drop)]
-pub(crate) struct Streams {
+pub struct Streams {
     input: Option<File>,
     output: Option<File>,
     errors: Option<File>,
@@ -24,7 +24,7 @@ pub(crate) struct Streams {
 
 impl Streams {
     /// Takes what is free of the first three numbers of files.
-    pub(crate) fn new(rt: &HostRuntime) -> Streams {
+    pub fn new(rt: &HostRuntime) -> Streams {
         Streams {
             input: File::open(rt, "/").ok(),
             output: File::open(rt, "/").ok(),

@@ -15,7 +15,7 @@ use std::os::unix::fs::FileExt;
 const PIECE: usize = 65_536;
 
 /// Brings a store of format 1 to format 2, with banks of so many bytes, and says so. A file that is too short for it is lengthened.
-pub(crate) fn upgrade_store(rt: &HostRuntime, path: &str, bank: u32) -> Result<(), Fault> {
+pub fn upgrade_store(rt: &HostRuntime, path: &str, bank: u32) -> Result<(), Fault> {
     let _streams = Streams::new(rt);
     renew(rt, path, bank.clamp(LEAST_BANK, MOST_BANK))?;
     write(rt, b"upgraded\n")
@@ -50,17 +50,15 @@ fn refuse_others(alloc: Global, disk: FileDisk) -> Result<(), Fault> {
 
 /// Lengthens a shorter file to so many bytes.
 fn lengthen(rt: &HostRuntime, alloc: Global, path: &str, size: u64) -> Result<(), Fault> {
-    let file = match OpenOptions::new().read(true).write(true).open(rt, path) {
-        Ok(file) => file,
-        Err(error) => return Err(unopened(alloc, &error, path)),
-    };
+    let file = OpenOptions::new()
+        .read(true)
+        .write(true)
+        .open(rt, path)
+        .map_err(|error| unopened(alloc, &error, path))?;
     if let Err(error) = file.try_lock() {
         return Err(unopened(alloc, &io::Error::from(error), path));
     }
-    match fill_up(&file, size) {
-        Ok(()) => Ok(()),
-        Err(error) => Err(unwritten(alloc, &error, path)),
-    }
+    fill_up(&file, size).map_err(|error| unwritten(alloc, &error, path))
 }
 
 /// Adds zeros to a file up to that length. Where that fails, it has its length of before.

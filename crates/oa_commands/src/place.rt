@@ -5,7 +5,7 @@ use std::fmt;
 
 /// A place in a text, with the line that it stands in. A line ends at CR, LF or both.
 #[derive(Debug, Drop)]
-pub(crate) struct Place {
+pub struct Place {
     /// The file, the line and the column, from 1 on, in characters.
     head: String,
     /// The text of the line, with `?` for what would not be shown.

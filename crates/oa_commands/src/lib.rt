@@ -1,0 +1,26 @@
+//! The commands on a library's text and on a store's file, what they print, and what ends the program early: one line and a status.
+//!
+//! Its contract: it is safe and total, and a fault's status is none of success. What the commands print, their statuses and their calls
+//! of the system are tested (`cli/`).
+//!
+//! What stands on it: the program.
+#![tactic(auto)]
+
+mod dump;
+mod fault;
+mod library;
+mod place;
+mod shown;
+mod store;
+mod streams;
+mod text;
+mod upgrade;
+
+pub use dump::write_dump;
+pub use fault::Fault;
+pub use library::{STANDARD_INPUT, read_library};
+pub use place::Place;
+pub use store::{LEAST_BANK, MOST_BANK, format_store, found};
+pub use streams::Streams;
+pub use text::write_text;
+pub use upgrade::upgrade_store;

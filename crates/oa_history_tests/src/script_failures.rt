@@ -3,7 +3,8 @@ ghost use Rattle.std.specs.Prelude.{◌≤◌};
 
 use crate::counts::{COMMIT, OPENING};
 use crate::script::{
-    REQUESTS, TEARS, again, calls_of, library, new_disk, new_store, next_store, read_by, read_of,
+    TEARS, again, calls_of, first, library, new_disk, new_store, next_store, read_by, read_of,
+    second,
 };
 use oa_disk::{DeviceFault, MemoryDisk};
 use oa_history::{Survived, Told, survive, withstood};
@@ -159,7 +160,7 @@ fn survived(alloc: Global, group: usize, first_failing: u64) -> Option<(Due, usi
     requires { 1 ≤ group }
 {
     let library = library(alloc)?;
-    let calls = calls_of(alloc, REQUESTS.get(..5)?, group)?;
+    let calls = calls_of(alloc, first(), group)?;
     let Survived {
         told,
         library: text,
@@ -202,9 +203,9 @@ fn failing_script(alloc: Global, group: usize) -> Option<Found>
     requires { 1 ≤ group }
 {
     let store = new_store(alloc)?;
-    let one = failures(alloc, &store, REQUESTS.get(..5)?, 0, group)?;
+    let one = failures(alloc, &store, first(), 0, group)?;
     let next = next_store(alloc, &store, group)?;
-    let two = failures(alloc, &next, REQUESTS.get(5..)?, 5, group)?;
+    let two = failures(alloc, &next, second(), 5, group)?;
     Some(Found {
         openings: one.openings.saturating_add(two.openings),
         whole: one.whole.saturating_add(two.whole),

@@ -4,8 +4,8 @@ ghost use Rattle.std.specs.Prelude.{◌≤◌};
 
 use crate::counts::{checkpoint_moments, session_moments};
 use crate::script::{
-    END, READS, REQUESTS, TEARS, Tried, answered_by, calls_of, expect, library, new_disk, place_in,
-    read_by,
+    END, TEARS, Tried, answered_by, calls_of, expect, first, library, new_disk, place_in, read_by,
+    reads, second,
 };
 use oa_disk::Tear;
 use oa_history::{Asked, Lived, Session, Step, Stop, relive};
@@ -22,44 +22,36 @@ enum Place {
 
 const PLACES: [Place; 3] = [Place::First, Place::Between, Place::Second];
 
-/// A session of these requests.
-fn session(alloc: Global, lines: &[&str], group: usize, moment: u64, tear: Tear) -> Option<Step>
+/// Adds a session of these requests.
+fn add(alloc: Global, steps: &mut Vec<Step>, lines: &[&str], group: usize, stop: Stop) -> Option<()>
     requires { 1 ≤ group }
 {
     let calls = calls_of(alloc, lines, group)?;
-    Some(Step::Session(Session {
+    let session = Session {
         asked: Asked::Calls(calls),
-        moment,
-        tear,
-    }))
+        moment: stop.moment,
+        tear: stop.tear,
+    };
+    steps.push(Step::Session(session)).ok()
 }
 
 /// The steps up to the one that is stopped at the moment, and a session that reads.
 fn steps_to(alloc: Global, place: Place, group: usize, moment: u64, tear: Tear) -> Option<Vec<Step>>
     requires { 1 ≤ group }
 {
-    let first = REQUESTS.get(..5)?;
+    let stop = Stop { moment, tear };
+    let end = Stop { moment: END, tear };
     let mut steps = Vec::new(alloc);
-    match place {
-        Place::First => steps
-            .push(session(alloc, first, group, moment, tear)?)
-            .ok()?,
-        Place::Between => {
-            steps.push(session(alloc, first, group, END, tear)?).ok()?;
-            steps.push(Step::Checkpoint(Stop { moment, tear })).ok()?;
-        }
-        Place::Second => {
-            steps.push(session(alloc, first, group, END, tear)?).ok()?;
-            steps
-                .push(Step::Checkpoint(Stop { moment: END, tear }))
-                .ok()?;
-            let second = REQUESTS.get(5..)?;
-            steps
-                .push(session(alloc, second, group, moment, tear)?)
-                .ok()?;
-        }
+    let of_first = if place == Place::First { stop } else { end };
+    add(alloc, &mut steps, first(), group, of_first)?;
+    if place != Place::First {
+        let between = if place == Place::Between { stop } else { end };
+        steps.push(Step::Checkpoint(between)).ok()?;
     }
-    steps.push(session(alloc, &READS, 3, END, tear)?).ok()?;
+    if place == Place::Second {
+        add(alloc, &mut steps, second(), group, stop)?;
+    }
+    add(alloc, &mut steps, reads(), 3, end)?;
     Some(steps)
 }
 

@@ -4,7 +4,8 @@ ghost use Rattle.std.specs.Prelude.{◌≤◌};
 
 use crate::counts::{checkpoint_moments, session_moments};
 use crate::script::{
-    END, REQUESTS, Tried, again, answered_by, both, calls_of, expect, new_store, played, read_of,
+    END, Tried, again, answered_by, both, calls_of, expect, first, new_store, played, read_of,
+    second,
 };
 use oa_disk::{MemoryDisk, Tear};
 use oa_history::{Stop, checkpointed};
@@ -78,12 +79,12 @@ fn script(alloc: Global, group: usize, tear: Tear) -> Option<Tried>
     requires { 1 ≤ group }
 {
     let store = new_store(alloc)?;
-    let first = REQUESTS.get(..5)?;
+    let first = first();
     let one = stops(alloc, &store, first, 0, group, tear)?;
     let (_, store) = played(alloc, &store, calls_of(alloc, first, group)?, END, tear)?;
     let between = checkpoint_stops(alloc, &store, 5, tear)?;
     let (_, store) = checkpointed(alloc, store, Stop { moment: END, tear }).ok()?;
-    let two = stops(alloc, &store, REQUESTS.get(5..)?, 5, group, tear)?;
+    let two = stops(alloc, &store, second(), 5, group, tear)?;
     Some(both(both(one, between), two))
 }
 

@@ -4,8 +4,8 @@ ghost use Rattle.oa_model.specs.Limits.{max_group};
 
 use crate::counts::session_moments;
 use crate::script::{
-    END, REQUESTS, TEARS, Tried, answered_by, asked, both, calls_of, expect, new_store, next_store,
-    played, read_of,
+    END, TEARS, Tried, answered_by, asked, both, calls_of, expect, first, new_store, next_store,
+    played, read_of, second,
 };
 use oa_disk::{MemoryDisk, Tear};
 use oa_frame::Framing;
@@ -108,7 +108,7 @@ fn stream_script(alloc: Global, group: usize, framing: Framing) -> Option<Tried>
     requires small { group ≤ max_group }
 {
     let store = new_store(alloc)?;
-    let first = REQUESTS.get(..5)?;
+    let first = first();
     let next = next_store(alloc, &store, group)?;
     let mut tried = Tried {
         stops: 0,
@@ -116,7 +116,7 @@ fn stream_script(alloc: Global, group: usize, framing: Framing) -> Option<Tried>
     };
     for tear in TEARS {
         let one = stream_stops(alloc, &store, first, 0, group, framing, tear)?;
-        let two = stream_stops(alloc, &next, REQUESTS.get(5..)?, 5, group, framing, tear)?;
+        let two = stream_stops(alloc, &next, second(), 5, group, framing, tear)?;
         tried = both(tried, both(one, two));
     }
     Some(tried)

@@ -1,7 +1,7 @@
 //! Tests of sessions over tables in memory, as a caller of the crates sees them; what a program shows of them its
 //! cases try (`cli/`).
 //!
-//! Its contract: that of every function, to be safe; its readers and writers cut, fail and wait as a test says.
+//! Its contract: that of every function, to be safe; its writer fails where a test says.
 //!
 //! What stands on it: no crate.
 #![tactic(auto)]

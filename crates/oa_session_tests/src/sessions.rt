@@ -1,17 +1,17 @@
-//! Sessions of a small library over readers and writers in memory.
+//! Bodies that are answered without a session, and sessions over a writer that fails at some call. All else of sessions is shown by the cases of the
+//! program.
 ghost use Rattle.std.specs.Prelude.{◌≡◌, ◌≤◌, false};
 ghost use Rattle.oa_model.specs.Limits.{max_group};
 ghost use Rattle.oa_stream.specs.Ahead.{ahead};
 
-use crate::streams::{Halting, Refusing, Small};
+use crate::streams::Small;
 use oa_disk::NoDisk;
 use oa_idl::parse;
 use oa_record::Reply;
 use oa_server::{End, Served, Server};
-use oa_stream::{Ahead, Gathered, Inlet, Outlet, Sink, Source};
+use oa_stream::{Ahead, Outlet, Sink, Source};
 use oa_typelib::check;
 use std::alloc::Global;
-use std::io::ErrorKind;
 use std::process::Abort;
 use std::rt::HostRuntime;
 
@@ -124,13 +124,12 @@ fn bodies_are_answered(rt: HostRuntime) {
     expect(&rt, "groups of 1024", runs(alloc, 1024) == Some(true));
 }
 
-/// How a session of lines or of records with a new server went.
+/// How a session of lines with a new server went.
 fn talked<R: Source + Drop, W: Sink>(
     alloc: Global,
     reader: &mut Ahead<R>,
     writer: &mut W,
     group: usize,
-    hex: bool,
 ) -> Option<Served>
     requires positive { 1 ≤ group }
     requires small { group ≤ max_group }
@@ -138,213 +137,9 @@ fn talked<R: Source + Drop, W: Sink>(
     requires unbroken_writer { (W.out writer.old).broken ≡ false }
 {
     let mut server = small(alloc)?;
-    let served = if hex {
-        server.serve_hex(reader, writer, group)
-    } else {
-        server.serve(reader, writer, group)
-    };
+    let served = server.serve_hex(reader, writer, group);
     drop(server);
     served.ok()
-}
-
-/// How a session over a source went that writes these bytes.
-fn served<R: Source + Drop>(
-    alloc: Global,
-    source: R,
-    group: usize,
-    hex: bool,
-    want: &[u8],
-) -> Option<Served>
-    requires positive { 1 ≤ group }
-    requires small { group ≤ max_group }
-    requires unbroken { (R.input source).faulted ≡ false }
-{
-    let mut reader = Ahead::new(alloc, source).ok()?;
-    let mut writer = Gathered::new(Vec::new(alloc));
-    let how = talked(alloc, &mut reader, &mut writer, group, hex);
-    if writer.bytes() == want { how } else { None }
-}
-
-/// The end of a session whose input ends behind the worked bodies.
-const CLOSED: Served = Served {
-    requests: 4,
-    why: End::Closed,
-};
-
-/// Whether the worked bodies have their replies in a session.
-fn are_served(alloc: Global, group: usize) -> bool
-    requires positive { 1 ≤ group }
-    requires small { group ≤ max_group }
-{
-    let how = served(alloc, REQUESTS.as_bytes(), group, true, REPLIES.as_bytes());
-    how == Some(CLOSED)
-}
-
-#[test]
-fn lines_are_answered(rt: HostRuntime) {
-    let alloc = rt.alloc();
-    expect(&rt, "groups of 1", are_served(alloc, 1));
-    expect(&rt, "groups of 3", are_served(alloc, 3));
-    expect(&rt, "groups of 1024", are_served(alloc, 1024));
-}
-
-/// A session of lines or of records: what comes, how many requests it has and how it ends, and what is written.
-struct Session {
-    name: &'static str,
-    hex: bool,
-    input: &'static [u8],
-    requests: u64,
-    why: End,
-    replies: &'static [u8],
-}
-
-/// A record that asks for an object, and some bytes behind it.
-macro_rules! asked {
-    ($($byte:literal),*) => {
-        &[
-            24, 0, 0, 0, 1, 0, 0, 0, 1, 0, 0, 0, 0x44, 0x33, 0x22, 0x11, 0x66, 0x55, 0x88, 0x77, 0x99, 0xaa, 0xbb, 0xcc, 0xdd, 0xee,
-            0xff, 3, $($byte),*
-        ]
-    };
-}
-
-/// The record of its reply, and some bytes behind it.
-macro_rules! answered {
-    ($($byte:literal),*) => {
-        &[
-            24, 0, 0, 0, 1, 0, 0, 0, 0, 0, 0, 0, 0xff, 0xff, 0xff, 0xff, 0, 0, 0, 0, 1, 0, 0, 0, 0, 0, 0, 0, $($byte),*
-        ]
-    };
-}
-
-static SESSIONS: [Session; 9] = [
-    Session {
-        name: "no line",
-        hex: true,
-        input: b"",
-        requests: 0,
-        why: End::Closed,
-        replies: b"",
-    },
-    Session {
-        name: "an empty line",
-        hex: true,
-        input: b"\n01",
-        requests: 0,
-        why: End::Closed,
-        replies: b"",
-    },
-    Session {
-        name: "a digit that is none",
-        hex: true,
-        input: b"0g\n01",
-        requests: 0,
-        why: End::BadHex(1),
-        replies: b"",
-    },
-    Session {
-        name: "half a byte behind a body without a tag",
-        hex: true,
-        input: b"01\n0\n",
-        requests: 1,
-        why: End::BadHex(2),
-        replies: b"00000000f7060780ffffffff00000000\n",
-    },
-    Session {
-        name: "no end of a line, whose opcode is none",
-        hex: true,
-        input: b"0700000063000000",
-        requests: 1,
-        why: End::Closed,
-        replies: b"07000000f7060780ffffffff00000000\n",
-    },
-    Session {
-        name: "nothing behind a record",
-        hex: false,
-        input: asked!(),
-        requests: 1,
-        why: End::Closed,
-        replies: answered!(),
-    },
-    Session {
-        name: "a length of 0",
-        hex: false,
-        input: asked!(0, 0, 0, 0, 1),
-        requests: 1,
-        why: End::Closed,
-        replies: answered!(),
-    },
-    Session {
-        name: "a record that is cut",
-        hex: false,
-        input: asked!(2, 0, 0, 0, 1),
-        requests: 1,
-        why: End::Cut,
-        replies: answered!(
-            16, 0, 0, 0, 0, 0, 0, 0, 0xf7, 6, 7, 0x80, 0xff, 0xff, 0xff, 0xff, 0, 0, 0, 0
-        ),
-    },
-    Session {
-        name: "a length too large",
-        hex: false,
-        input: asked!(1, 0, 64, 0, 1),
-        requests: 1,
-        why: End::TooLong,
-        replies: answered!(
-            16, 0, 0, 0, 0, 0, 0, 0, 0xf7, 6, 7, 0x80, 0xff, 0xff, 0xff, 0xff, 0, 0, 0, 0
-        ),
-    },
-];
-
-/// Whether a session goes so.
-fn goes(alloc: Global, row: &Session) -> bool {
-    let how = Served {
-        requests: row.requests,
-        why: row.why,
-    };
-    served(alloc, row.input, 7, row.hex, row.replies) == Some(how)
-}
-
-#[test]
-fn sessions_end(rt: HostRuntime) {
-    for row in &SESSIONS {
-        expect(&rt, row.name, goes(rt.alloc(), row));
-    }
-}
-
-/// Whether a session over a reader that always fails in this way ends behind so many calls of it, with nothing written.
-fn is_refused(alloc: Global, kind: ErrorKind, calls: u32) -> bool {
-    let mut refusing = Refusing { kind, calls: 0 };
-    let how = served(alloc, Inlet::new(&mut refusing), 1, true, b"");
-    let fault = Served {
-        requests: 0,
-        why: End::ReadFault,
-    };
-    how == Some(fault) && refusing.calls == calls
-}
-
-#[test]
-fn readers_that_never_give_a_byte_end_a_session(rt: HostRuntime) {
-    let alloc = rt.alloc();
-    let interrupted = is_refused(alloc, ErrorKind::Interrupted, 16_777_216);
-    expect(&rt, "interrupted", interrupted);
-    let other = is_refused(alloc, ErrorKind::Other, 1);
-    expect(&rt, "another error", other);
-}
-
-/// Whether the worked bodies have their replies over a reader of one byte in every second call.
-fn are_written_slowly(alloc: Global) -> bool {
-    let reader = Halting {
-        rest: REQUESTS.as_bytes(),
-        calls: 0,
-    };
-    let how = served(alloc, Inlet::new(reader), 1, true, REPLIES.as_bytes());
-    how == Some(CLOSED)
-}
-
-#[test]
-fn a_byte_in_every_second_call_is_enough(rt: HostRuntime) {
-    expect(&rt, "the worked bodies", are_written_slowly(rt.alloc()));
 }
 
 /// Whether a session over the three requests for an object fails behind so many requests where the writer fails after so many calls, and
@@ -358,7 +153,7 @@ fn fails(alloc: Global, group: usize, calls: u32, requests: u64, left: usize) ->
     };
     let taken = Vec::new(alloc);
     let mut writer = Outlet::new(Small { taken, calls });
-    let served = talked(alloc, &mut reader, &mut writer, group, true);
+    let served = talked(alloc, &mut reader, &mut writer, group);
     let why = End::WriteFault;
     served == Some(Served { requests, why }) && reader.buffered().len() == left
 }

@@ -18,9 +18,9 @@ use crate::size::{place_size, value_size};
 use crate::{CellName, Event, LiveObject, Object, TableFault};
 use oa_array::Indices;
 use oa_model::{Bound, GREATEST_OBJECT_NUMBER, MAX_CELLS, MAX_DIMENSIONS, MAX_TEXT_BYTES};
+use oa_ordered::Iter;
 use oa_variant::{Scalar, Variant};
 use std::alloc::{AllocError, Global};
-use std::collections::btree_map::Iter;
 use std::marker::Model;
 use uuid::Uuid;
 

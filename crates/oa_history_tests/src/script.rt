@@ -125,12 +125,17 @@ fn put_digits(alloc: Global, text: &mut String, bytes: &[u8]) {
     }
 }
 
-/// The replies as lines.
-fn put_replies(alloc: Global, text: &mut String, replies: &[Reply]) {
+/// A reply as a line.
+pub(crate) fn put_reply(alloc: Global, text: &mut String, reply: &Reply) {
+    put_digits(alloc, text, &reply.head());
+    put_digits(alloc, text, reply.body());
+    let _ = text.push_str("\n");
+}
+
+/// Replies as lines.
+pub(crate) fn put_replies(alloc: Global, text: &mut String, replies: &[Reply]) {
     for reply in replies {
-        put_digits(alloc, text, &reply.head());
-        put_digits(alloc, text, reply.body());
-        let _ = text.push_str("\n");
+        put_reply(alloc, text, reply);
     }
 }
 
@@ -290,6 +295,19 @@ pub(crate) fn read_by(
 pub(crate) struct Tried {
     pub stops: u64,
     pub openings: u64,
+}
+
+pub(crate) const NOTHING: Tried = Tried {
+    stops: 0,
+    openings: 0,
+};
+
+/// One more stop, with so many openings behind it.
+pub(crate) fn one_more(tried: Tried, openings: u64) -> Tried {
+    Tried {
+        stops: tried.stops.saturating_add(1),
+        openings: tried.openings.saturating_add(openings),
+    }
 }
 
 /// What was tried here and there.

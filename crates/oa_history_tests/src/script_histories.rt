@@ -4,8 +4,8 @@ ghost use Rattle.std.specs.Prelude.{◌≤◌};
 
 use crate::counts::{checkpoint_moments, session_moments};
 use crate::script::{
-    END, TEARS, Tried, answered_by, calls_of, expect, first, library, new_disk, place_in, read_by,
-    reads, second,
+    END, NOTHING, TEARS, Tried, answered_by, calls_of, expect, first, library, new_disk, one_more,
+    place_in, read_by, reads, second,
 };
 use oa_disk::Tear;
 use oa_history::{Asked, Lived, Session, Step, Stop, relive};
@@ -35,22 +35,42 @@ fn add(alloc: Global, steps: &mut Vec<Step>, lines: &[&str], group: usize, stop:
     steps.push(Step::Session(session)).ok()
 }
 
+fn add_checkpoint(steps: &mut Vec<Step>, stop: Stop) -> Option<()> {
+    steps.push(Step::Checkpoint(stop)).ok()
+}
+
+/// Adds the steps up to the one that is stopped.
+fn add_up_to(
+    alloc: Global,
+    steps: &mut Vec<Step>,
+    place: Place,
+    group: usize,
+    stop: Stop,
+    end: Stop,
+) -> Option<()>
+    requires { 1 ≤ group }
+{
+    match place {
+        Place::First => add(alloc, steps, first(), group, stop),
+        Place::Between => {
+            add(alloc, steps, first(), group, end)?;
+            add_checkpoint(steps, stop)
+        }
+        Place::Second => {
+            add(alloc, steps, first(), group, end)?;
+            add_checkpoint(steps, end)?;
+            add(alloc, steps, second(), group, stop)
+        }
+    }
+}
+
 /// The steps up to the one that is stopped at the moment, and a session that reads.
 fn steps_to(alloc: Global, place: Place, group: usize, moment: u64, tear: Tear) -> Option<Vec<Step>>
     requires { 1 ≤ group }
 {
-    let stop = Stop { moment, tear };
     let end = Stop { moment: END, tear };
     let mut steps = Vec::new(alloc);
-    let of_first = if place == Place::First { stop } else { end };
-    add(alloc, &mut steps, first(), group, of_first)?;
-    if place != Place::First {
-        let between = if place == Place::Between { stop } else { end };
-        steps.push(Step::Checkpoint(between)).ok()?;
-    }
-    if place == Place::Second {
-        add(alloc, &mut steps, second(), group, stop)?;
-    }
+    add_up_to(alloc, &mut steps, place, group, Stop { moment, tear }, end)?;
     add(alloc, &mut steps, reads(), 3, end)?;
     Some(steps)
 }
@@ -87,17 +107,13 @@ fn history(alloc: Global, place: Place, group: usize, moment: u64, tear: Tear) -
 fn histories(alloc: Global, group: usize) -> Option<Tried>
     requires { 1 ≤ group }
 {
-    let mut tried = Tried {
-        stops: 0,
-        openings: 0,
-    };
+    let mut tried = NOTHING;
     for tear in TEARS {
         for place in PLACES {
             let (end, _) = history(alloc, place, group, END, tear)?;
             for moment in 0..end.saturating_add(1) {
                 let (_, openings) = history(alloc, place, group, moment, tear)?;
-                tried.stops = tried.stops.saturating_add(1);
-                tried.openings = tried.openings.saturating_add(openings);
+                tried = one_more(tried, openings);
             }
         }
     }

@@ -4,20 +4,14 @@ ghost use Rattle.std.specs.Prelude.{◌≡◌, ◌≤◌, false};
 ghost use Rattle.oa_model.specs.Limits.{max_group};
 ghost use Rattle.oa_stream.specs.Ahead.{ahead};
 
+use crate::histories::{expect, small_library};
+use crate::script::{put_replies, put_reply};
 use crate::streams::Small;
 use oa_disk::NoDisk;
-use oa_idl::parse;
-use oa_record::Reply;
 use oa_server::{End, Served, Server};
 use oa_stream::{Ahead, Outlet, Sink, Source};
-use oa_typelib::check;
 use std::alloc::Global;
-use std::process::Abort;
 use std::rt::HostRuntime;
-
-const SMALL: &str = "[uuid(11223344-5566-7788-99AA-BBCCDDEEFF01), version(1.0)] library Demo {
-[uuid(11223344-5566-7788-99AA-BBCCDDEEFF02)] dispinterface DItem { properties: [id(1)] long Count; }
-[uuid(11223344-5566-7788-99AA-BBCCDDEEFF03)] coclass Item { [default] dispinterface DItem; } }";
 
 /// The worked bodies as lines: an object is made, its property read, put and read again.
 const REQUESTS: &str = "0100000001000000443322116655887799aabbccddeeff03
@@ -48,8 +42,7 @@ const CREATES: &str =
 
 /// A server of the library.
 fn small(alloc: Global) -> Option<Server<NoDisk>> {
-    let library = check(alloc, parse(alloc, SMALL).ok()?).ok()?;
-    Some(Server::in_memory(alloc, library))
+    Some(Server::in_memory(alloc, small_library(alloc)?))
 }
 
 /// The bodies that some lines spell. Where memory is refused some are missing, and the replies are others.
@@ -63,18 +56,6 @@ fn bodies(alloc: Global, lines: &str) -> Vec<Vec<u8>> {
     bodies
 }
 
-fn put_digits(alloc: Global, text: &mut String, bytes: &[u8]) {
-    if let Ok(digits) = hex::encode(alloc, bytes) {
-        let _ = text.push_str(digits.as_str());
-    }
-}
-
-fn put_reply(alloc: Global, text: &mut String, reply: &Reply) {
-    put_digits(alloc, text, &reply.head());
-    put_digits(alloc, text, reply.body());
-    let _ = text.push_str("\n");
-}
-
 /// Whether `run` replies so to the worked bodies.
 fn is_run(alloc: Global, server: &mut Server<NoDisk>, group: usize) -> Option<bool>
     requires positive { 1 ≤ group }
@@ -82,9 +63,7 @@ fn is_run(alloc: Global, server: &mut Server<NoDisk>, group: usize) -> Option<bo
 {
     let replies = server.run(bodies(alloc, REQUESTS).as_slice(), group).ok()?;
     let mut text = String::new(alloc);
-    for reply in replies.as_slice() {
-        put_reply(alloc, &mut text, reply);
-    }
+    put_replies(alloc, &mut text, replies.as_slice());
     Some(text.as_str() == REPLIES)
 }
 
@@ -108,11 +87,6 @@ fn runs(alloc: Global, group: usize) -> Option<bool>
     let holds = is_run(alloc, &mut server, group)? && is_answered(alloc, &mut server);
     drop(server);
     Some(holds)
-}
-
-/// Ends a test if something does not hold.
-fn expect(rt: &impl Abort, what: &str, holds: bool) {
-    assert!(rt; holds, "{what}");
 }
 
 // A body that always answers want of memory meets every contract: here memory is ample, and each call gives its answer.

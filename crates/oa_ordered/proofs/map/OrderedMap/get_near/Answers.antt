@@ -1,4 +1,4 @@
-use Rattle.std.proofs.Common.{◌∙◌, ap, sym, slice_index_or}
+use Rattle.std.proofs.Common.{◌∙◌, ap, sym, slice_index_or, arith}
 use Rattle.oa_ordered.specs.Rows.{IsFound, IsGap}
 use Rattle.oa_ordered.proofs.Joined.{row_is}
 use Rattle.oa_ordered.proofs.Places.{found_lookup, gap_lookup}

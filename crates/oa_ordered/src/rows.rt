@@ -57,7 +57,6 @@ pub(crate) fn place_of<K: Ord, V>(rows: &[Row<K, V>], key: &K) -> Result<Place, 
 }
 
 /// Where the key is, or where it would stand. Looks first where the entry stands before which there are so many in full rows.
-#[inline(always)]
 pub(crate) fn place_near<K: Ord, V>(
     rows: &[Row<K, V>],
     key: &K,

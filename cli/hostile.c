@@ -4,6 +4,7 @@
                          system takes before `main` and behind it is neither counted nor refused
    SHORT                 a read or a write brings so many bytes at most
    INTERRUPTED           each read of standard input is interrupted (1), or each write to standard output (2)
+   TIMES                 behind so many interruptions such a call is made, and then they begin anew; where nothing is said, none is made
    BLOCKED               the same calls would block
    LARGE                 how many bytes are many
    TOLD                  a file, which gets the number of calls of the allocator, of blocks that were not freed, of reads of standard input, of
@@ -29,7 +30,7 @@ ssize_t __pread64(int file, void *into, size_t size, off64_t at);
 ssize_t __pwrite64(int file, const void *from, size_t size, off64_t at);
 
 static int counts;
-static long calls, blocks, reads, writes, larges, refused, refused_from, interrupted, blocked;
+static long calls, blocks, reads, writes, larges, refused, refused_from, interrupted, times, in_a_row, blocked;
 static size_t most = (size_t)-1, large = (size_t)-1;
 
 static long number(const char *name) {
@@ -85,6 +86,10 @@ void free(void *block) {
 
 /* what keeps a call from standard input (1) or standard output (2) from being made */
 static int kept_off(long stream) {
+    if (interrupted == stream && times > 0 && in_a_row++ == times) {
+        in_a_row = 0;
+        return 0;
+    }
     errno = interrupted == stream ? EINTR : EAGAIN;
     return interrupted == stream || blocked == stream;
 }
@@ -130,6 +135,7 @@ static int counted(int count, char **words, char **variables) {
     refused = number("REFUSE");
     refused_from = number("REFUSE_FROM");
     interrupted = number("INTERRUPTED");
+    times = number("TIMES");
     blocked = number("BLOCKED");
     if (number("SHORT") > 0) most = number("SHORT");
     if (number("LARGE") > 0) large = number("LARGE");

@@ -16,12 +16,27 @@ from codes import WRITE_FAULT
 from fuzz import known_stores
 from model import BSTR, LIBRARY
 from preloaded import COMPILER, Preloaded, StoreFile
-from running import CREATE, CREATED, PROGRAM, SMALL, Cases, fault, fill, run_in
+from running import CREATE, CREATED, PROGRAM, REPLIES, REQUESTS, SMALL, Cases, fault, fill, run_in
 from test_hostile import stub, tagged
-from test_sessions import LINE_LIMIT
+from test_sessions import ANSWERED, ASKED, LINE_LIMIT, STUB, STUB_RECORD, records
 
 READ_CALLS = 2 * LINE_LIMIT  # of one record or line
 WRITE_CALLS = 4_194_304  # that may be interrupted in one put
+# sessions that are cut and interrupted: what comes, the status, and what is written
+CUT = [
+    ("the first path", ["--hex"], REQUESTS, 0, REPLIES, b""),
+    ("lines that end by CR LF", ["--hex"], REQUESTS.replace(b"\n", b"\r\n"), 0, REPLIES, b""),
+    ("a digit that is none", ["--hex"], b"01\n1z\n22\n", 4, STUB + b"\n", fault("bad hex on line 2")),
+    ("a last line without its end", ["--hex"], b"01\n" + CREATE, 0, STUB + b"\n" + CREATED + b"\n", b""),
+    ("an empty line", ["--hex"], CREATE + b"\n\n01\n", 0, CREATED + b"\n", b""),
+    ("no bytes", ["--hex"], b"", 0, b"", b""),
+    ("records", [], records(REQUESTS), 0, records(REPLIES), b""),
+    ("a length of 0", [], ASKED + bytes(4) + b"\5", 0, ANSWERED, b""),
+    ("a length that is cut", [], ASKED + bytes(2), 4, ANSWERED + STUB_RECORD, fault("record cut")),
+    ("a record that is cut", [], struct.pack("<I", 3) + b"\7\x08", 4, STUB_RECORD, fault("record cut")),
+    ("a length that is too large", [], struct.pack("<I", LINE_LIMIT // 2 + 1) + b"\7", 4, STUB_RECORD, fault("record too long")),
+    ("no records", [], b"", 0, b"", b""),
+]
 
 
 @unittest.skipUnless(COMPILER, "cc is not there")
@@ -43,6 +58,25 @@ class Bytewise(Cases):
             preloaded.fill("given", oaut.Raw.pack([body, bytes.fromhex(CREATE.decode())]))
             got = preloaded.run(["play", preloaded.path("lib.idl")], "given", short=1)
             self.tell("the longest record, a byte a read", got[:3] == (0, oaut.Raw.pack([stub(body), bytes.fromhex(CREATED.decode())]), b""), (got[0], got[1][:80], got[2], got.reads))
+
+    def test_cuts_and_interruptions_change_nothing(self):
+        """However few bytes a call brings, and however often it is interrupted before that, as long as that is not for ever."""
+        with Preloaded() as preloaded:
+            preloaded.fill("lib.idl", SMALL)
+            for name, words, given, *due in CUT:
+                preloaded.fill("given", given)
+                for short in (1, 2, 3, 5):
+                    for times in (0, 1, 5):
+                        for stream in (1, 2) if times else (0,):
+                            got = preloaded.run(["play", *words, preloaded.path("lib.idl")], "given", short=short, interrupted=stream, times=times)
+                            self.tell(f"{name}, {short} bytes a call, stream {stream} interrupted {times} times", [*got[:3]] == due, got)
+
+    def test_one_interruption_fewer_than_for_ever(self):
+        with Preloaded() as preloaded:
+            preloaded.fill("lib.idl", SMALL)
+            for words in ([], ["--hex"]):
+                got = preloaded.run(["play", *words, preloaded.path("lib.idl")], interrupted=1, times=READ_CALLS - 1)
+                self.tell(f"the last read of a body is not interrupted, {words or 'records'}", (got[:3], got.reads) == ((0, b"", b""), READ_CALLS), got)
 
     def test_reads_that_are_interrupted_for_ever(self):
         with Preloaded() as preloaded:

@@ -1,7 +1,9 @@
 //! A format that is stopped at every moment with each tear, over zeros and over a store: what is found then is what the place of its stop and
 //! the tear say.
 use crate::counts::format_moments;
-use crate::script::{END, TEARS, Tried, again, expect, library, new_disk, store_of_one};
+use crate::script::{
+    END, NOTHING, TEARS, Tried, again, expect, library, new_disk, one_more, store_of_one,
+};
 use oa_disk::{MemoryDisk, Tear};
 use oa_history::formatted;
 use oa_store::{OpenFault, inspect};
@@ -51,10 +53,7 @@ fn due(moment: u64, tear: Tear, held: Stands, open: Stands) -> Stands {
 /// Stops a format of the disk at each moment with each tear, and looks at what is found.
 fn format_stops(alloc: Global, disk: &MemoryDisk, held: Stands, open: Stands) -> Option<Tried> {
     let library = library(alloc)?;
-    let mut tried = Tried {
-        stops: 0,
-        openings: 0,
-    };
+    let mut tried = NOTHING;
     for tear in TEARS {
         let (whole, _) = formatted(alloc, again(disk)?, &library, END, tear).ok()?;
         for moment in 0..whole.moments().saturating_add(1) {
@@ -62,8 +61,7 @@ fn format_stops(alloc: Global, disk: &MemoryDisk, held: Stands, open: Stands) ->
             if standing(alloc, &left)? != due(moment, tear, held, open) {
                 return None;
             }
-            tried.stops = tried.stops.saturating_add(1);
-            tried.openings = tried.openings.saturating_add(1);
+            tried = one_more(tried, 1);
         }
     }
     Some(tried)

@@ -1,10 +1,11 @@
 //! A session in which an object is made, and a checkpoint, stopped before anything of the session is kept, and at their ends; and a session
 //! over a stream behind them.
+use crate::script::{END, calls_of, first};
 use oa_disk::{MemoryDisk, Tear};
 use oa_frame::Framing;
-use oa_history::{Asked, Input, Replies, ServerCall, Session, Step, Stop, relive};
+use oa_history::{Asked, Input, Replies, Session, Step, Stop, relive};
 use oa_idl::parse;
-use oa_typelib::check;
+use oa_typelib::{Library, check};
 use std::alloc::Global;
 use std::process::Abort;
 use std::rt::HostRuntime;
@@ -14,22 +15,14 @@ const SMALL: &str = "[uuid(11223344-5566-7788-99AA-BBCCDDEEFF01), version(1.0)] 
 [uuid(11223344-5566-7788-99AA-BBCCDDEEFF03)] coclass Item { [default] dispinterface DItem; } }";
 
 /// Tag 1, opcode 1, and the coclass.
-const CREATE: [u8; 24] = [
+static CREATE: [u8; 24] = [
     1, 0, 0, 0, 1, 0, 0, 0, 0x44, 0x33, 0x22, 0x11, 0x66, 0x55, 0x88, 0x77, 0x99, 0xaa, 0xbb, 0xcc,
     0xdd, 0xee, 0xff, 3,
 ];
 
-/// Behind the end of any session.
-const END: u64 = 0xffff_ffff;
-
 /// A session that makes an object, stopped at the moment.
 fn session(alloc: Global, moment: u64, tear: Tear) -> Option<Step> {
-    let mut body = Vec::new(alloc);
-    body.extend_from_slice(&CREATE).ok()?;
-    let mut bodies = Vec::new(alloc);
-    bodies.push(body).ok()?;
-    let mut calls = Vec::new(alloc);
-    calls.push(ServerCall::new(bodies, 1)).ok()?;
+    let calls = calls_of(alloc, first().get(..1)?, 1)?;
     Some(Step::Session(Session {
         asked: Asked::Calls(calls),
         moment,
@@ -64,10 +57,15 @@ fn made_over(replies: &Replies) -> Option<u8> {
     }
 }
 
+/// A library of one interface with one property.
+pub(crate) fn small_library(alloc: Global) -> Option<Library> {
+    check(alloc, parse(alloc, SMALL).ok()?).ok()
+}
+
 /// The number of the next object, behind a session and a checkpoint that were stopped at the moment, and a session over a stream that was
 /// stopped at its end and has told the number before that.
 fn next_of(alloc: Global, moment: u64, tear: Tear) -> Option<u32> {
-    let library = check(alloc, parse(alloc, SMALL).ok()?).ok()?;
+    let library = small_library(alloc)?;
     let disk = MemoryDisk::new(alloc, 75_505_664, 100, 4000).ok()?;
     let mut steps = Vec::new(alloc);
     steps.push(session(alloc, moment, tear)?).ok()?;
@@ -83,7 +81,8 @@ fn next_of(alloc: Global, moment: u64, tear: Tear) -> Option<u32> {
     }
 }
 
-fn expect(rt: &impl Abort, what: &str, holds: bool) {
+/// Ends a test where something does not hold.
+pub(crate) fn expect(rt: &impl Abort, what: &str, holds: bool) {
     assert!(rt; holds, "{what}");
 }
 

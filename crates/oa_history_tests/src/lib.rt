@@ -1,5 +1,5 @@
 //! Tests of sessions on a disk in memory that are stopped at every moment, or fail at every call, as a caller of
-//! oa_history sees them.
+//! oa_history sees them; and of sessions over tables in memory, as far as no program shows them.
 //!
 //! Its contract: that of every function, to be safe; how often each test stops, opens and fails is counted, and held.
 //!
@@ -21,3 +21,6 @@ mod script_histories;
 mod script_stops;
 #[cfg(test)]
 mod script_streams;
+#[cfg(test)]
+mod sessions;
+pub mod streams;

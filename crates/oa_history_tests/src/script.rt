@@ -18,20 +18,23 @@ const SMALL: &str = "[uuid(11223344-5566-7788-99AA-BBCCDDEEFF01), version(1.0)] 
 [uuid(11223344-5566-7788-99AA-BBCCDDEEFF02)] dispinterface DItem { properties: [id(1)] long Count; [id(2)] BSTR Name; [id(8)] SAFEARRAY(short) Grid; }
 [uuid(11223344-5566-7788-99AA-BBCCDDEEFF03)] coclass Item { [default] dispinterface DItem; } }";
 
-/// An object is made, and its count, its name and its grid are put; the grid gets another first bound. In the second session the count is
-/// put again, and the object is released.
-pub(crate) const REQUESTS: [&str; 7] = [
+/// An object is made, and its count, its name and its grid are put; the grid gets another first bound.
+static FIRST: [&str; 5] = [
     "0100000001000000443322116655887799aabbccddeeff03",
     "02000000040000000100000001000000000000000000000000000000000000000000000000000000000000000000000000000000040000000100000001000000fdffffff000000001800000000000000030000000000000003000000000000000300000007000000",
     "03000000040000000100000002000000000000000000000000000000000000000000000000000000000000000000000000000000040000000100000001000000fdffffff00000000280000000000000005000000000000000800000000000000080000000000020002000000040000000200000048006900",
     "04000000040000000100000008000000000000000000000000000000000000000000000000000000000000000000000000000000040000000100000001000000fdffffff0000000058000000000000000b0000000000000002200000000000000020000000000200000002000200000002008000020000000000020002000000060000000000020002000000ffffffff030000000500000006000000010002000300040005000600",
     "05000000070000000100000008000000000000000000000000000000000000000000000000000000000000000000000000000000000000000000000000000000030000000a000000",
+];
+
+/// In the second session the count is put again, and the object is released.
+static SECOND: [&str; 2] = [
     "06000000040000000100000001000000000000000000000000000000000000000000000000000000000000000000000000000000040000000100000001000000fdffffff000000001800000000000000030000000000000003000000000000000300000008000000",
     "07000000020000000100000000000000",
 ];
 
 /// The count, the name and the grid are read.
-pub(crate) const READS: [&str; 3] = [
+static READS: [&str; 3] = [
     "08000000040000000100000001000000000000000000000000000000000000000000000000000000000000000000000000000000020000000000000000000000",
     "09000000040000000100000002000000000000000000000000000000000000000000000000000000000000000000000000000000020000000000000000000000",
     "0a000000040000000100000008000000000000000000000000000000000000000000000000000000000000000000000000000000020000000000000000000000",
@@ -43,7 +46,7 @@ const GONE: &str = "0800000008010180ffffffff00000000
 ";
 
 /// What is read after so many of the requests.
-const READ: [&str; 8] = [
+static READ: [&str; 8] = [
     GONE,
     "0800000000000000ffffffff000000001800000000000000030000000000000003000000000000000300000000000000
 0900000000000000ffffffff000000001800000000000000030000000000000008000000000000000800000000000000
@@ -71,6 +74,21 @@ const READ: [&str; 8] = [
 ",
     GONE,
 ];
+
+/// The requests of the first session, five of them.
+pub(crate) fn first() -> &'static [&'static str] {
+    &FIRST
+}
+
+/// Those of the second one, two of them.
+pub(crate) fn second() -> &'static [&'static str] {
+    &SECOND
+}
+
+/// Those that read.
+pub(crate) fn reads() -> &'static [&'static str] {
+    &READS
+}
 
 /// Behind the end of any session.
 pub(crate) const END: u64 = 0xffff_ffff;
@@ -107,20 +125,25 @@ fn put_digits(alloc: Global, text: &mut String, bytes: &[u8]) {
     }
 }
 
-/// The replies as lines.
-fn put_replies(alloc: Global, text: &mut String, replies: &[Reply]) {
+/// A reply as a line.
+pub(crate) fn put_reply(alloc: Global, text: &mut String, reply: &Reply) {
+    put_digits(alloc, text, &reply.head());
+    put_digits(alloc, text, reply.body());
+    let _ = text.push_str("\n");
+}
+
+/// Replies as lines.
+pub(crate) fn put_replies(alloc: Global, text: &mut String, replies: &[Reply]) {
     for reply in replies {
-        put_digits(alloc, text, &reply.head());
-        put_digits(alloc, text, reply.body());
-        let _ = text.push_str("\n");
+        put_reply(alloc, text, reply);
     }
 }
 
 /// How many of the requests lead to what is read, from `least` to `most` of them.
 fn place_of(text: &str, least: usize, most: usize) -> Option<usize> {
     let mut place = 0usize;
-    for read in READ {
-        if least <= place && place <= most && *text == *read {
+    for read in &READ {
+        if least <= place && place <= most && *text == **read {
             return Some(place);
         }
         place = place.saturating_add(1);
@@ -152,7 +175,7 @@ pub(crate) fn store_of_one(alloc: Global) -> Option<MemoryDisk>
     ensures { IfSome result IsFreshDisk }
 {
     let store = new_store(alloc)?;
-    let calls = calls_of(alloc, REQUESTS.get(..1)?, 1)?;
+    let calls = calls_of(alloc, first().get(..1)?, 1)?;
     let (_, store) = played(alloc, &store, calls, END, Tear::Lost)?;
     Some(store)
 }
@@ -208,7 +231,7 @@ pub(crate) fn next_store(alloc: Global, store: &MemoryDisk, group: usize) -> Opt
     requires { 1 ≤ group }
     ensures { IfSome result IsFreshDisk }
 {
-    let calls = calls_of(alloc, REQUESTS.get(..5)?, group)?;
+    let calls = calls_of(alloc, first(), group)?;
     let (_, store) = played(alloc, store, calls, END, Tear::Lost)?;
     let end = Stop {
         moment: END,
@@ -225,7 +248,7 @@ pub(crate) fn read_of(
     least: usize,
     most: usize,
 ) -> Option<(usize, u64)> {
-    let (heard, _) = played(alloc, disk, calls_of(alloc, &READS, 3)?, END, Tear::Kept)?;
+    let (heard, _) = played(alloc, disk, calls_of(alloc, reads(), 3)?, END, Tear::Kept)?;
     Some((place_in(alloc, &heard, least, most)?, heard.disk.moments()))
 }
 
@@ -258,8 +281,8 @@ pub(crate) fn read_by(
 ) -> Option<usize> {
     let mut server = server;
     let mut bodies = Vec::new(alloc);
-    for line in READS {
-        bodies.push(hex::decode(alloc, line).ok()?).ok()?;
+    for line in reads() {
+        bodies.push(hex::decode(alloc, *line).ok()?).ok()?;
     }
     let replies = server.run(bodies.as_slice(), 3).ok()?;
     let mut text = String::new(alloc);
@@ -272,6 +295,19 @@ pub(crate) fn read_by(
 pub(crate) struct Tried {
     pub stops: u64,
     pub openings: u64,
+}
+
+pub(crate) const NOTHING: Tried = Tried {
+    stops: 0,
+    openings: 0,
+};
+
+/// One more stop, with so many openings behind it.
+pub(crate) fn one_more(tried: Tried, openings: u64) -> Tried {
+    Tried {
+        stops: tried.stops.saturating_add(1),
+        openings: tried.openings.saturating_add(openings),
+    }
 }
 
 /// What was tried here and there.

@@ -3,12 +3,15 @@ ghost use Rattle.std.specs.Prelude.{◌≤◌};
 
 use crate::counts::{COMMIT, OPENING};
 use crate::script::{
-    REQUESTS, TEARS, again, calls_of, library, new_disk, new_store, next_store, read_by, read_of,
+    TEARS, again, calls_of, first, library, new_disk, new_store, next_store, read_by, read_of,
+    second,
 };
-use oa_disk::{DeviceFault, MemoryDisk};
+use oa_disk::{DeviceFault, MemoryDisk, Tear};
 use oa_history::{Survived, Told, survive, withstood};
 use oa_model::HResult;
 use oa_server::Server;
+use oa_table::Table;
+use oa_typelib::Library;
 use std::alloc::Global;
 use std::process::Abort;
 use std::rt::HostRuntime;
@@ -81,13 +84,19 @@ fn read_as_it_is(alloc: Global, disk: MemoryDisk, least: usize, most: usize) -> 
     }
 }
 
+/// How many of the requests a loss of power now with this tear leaves.
+fn left_by(alloc: Global, disk: &MemoryDisk, due: Due, tear: Tear) -> Option<usize> {
+    let left = disk.crash(disk.moments(), tear).ok()?;
+    let (place, _) = read_of(alloc, &left, due.least, due.most)?;
+    Some(place)
+}
+
 /// A loss of power now with each tear: how many there were, if each leaves the requests that are due, with the group that is in doubt or
 /// without it.
 fn losses_of(alloc: Global, disk: &MemoryDisk, due: Due) -> Option<u64> {
     let mut count = 0u64;
     for tear in TEARS {
-        let left = disk.crash(disk.moments(), tear).ok()?;
-        let (place, _) = read_of(alloc, &left, due.least, due.most)?;
+        let place = left_by(alloc, disk, due, tear)?;
         if place != due.least && place != due.most {
             return None;
         }
@@ -154,32 +163,43 @@ fn failures(
     None
 }
 
+/// Whether the library and the table are told that a server behind so many of the requests has.
+fn are_told(library: &Library, text: &[u8], table: &Table, place: usize) -> bool {
+    let next = if place == 0 { 1 } else { 2 };
+    text == library.text() && table.next() == next
+}
+
+/// What is due of calls that have survived, and how many of the requests were found.
+fn found_by(
+    alloc: Global,
+    library: &Library,
+    survived: Survived,
+    first_failing: u64,
+) -> Option<(Due, usize)> {
+    let due = due_of(&survived.told, 0, first_failing)?;
+    let Survived {
+        library: text,
+        table,
+        opened,
+        ..
+    } = survived;
+    let place = read_by(alloc, opened.server, due.least, due.most)?;
+    if are_told(library, text.as_slice(), &table, place) {
+        Some((due, place))
+    } else {
+        None
+    }
+}
+
 /// What `survive` comes to: the same of a new store, and the library and the table that it tells.
 fn survived(alloc: Global, group: usize, first_failing: u64) -> Option<(Due, usize)>
     requires { 1 ≤ group }
 {
     let library = library(alloc)?;
-    let calls = calls_of(alloc, REQUESTS.get(..5)?, group)?;
-    let Survived {
-        told,
-        library: text,
-        table,
-        opened,
-    } = survive(
-        alloc,
-        &library,
-        new_disk(alloc)?,
-        calls.as_slice(),
-        first_failing,
-    )
-    .ok()?;
-    let due = due_of(&told, 0, first_failing)?;
-    let place = read_by(alloc, opened.server, due.least, due.most)?;
-    let next = if place == 0 { 1 } else { 2 };
-    if text.as_slice() != library.text() || table.next() != next {
-        return None;
-    }
-    Some((due, place))
+    let calls = calls_of(alloc, first(), group)?;
+    let disk = new_disk(alloc)?;
+    let survived = survive(alloc, &library, disk, calls.as_slice(), first_failing).ok()?;
+    found_by(alloc, &library, survived, first_failing)
 }
 
 /// Plays the first session by `survive`, over disks that fail from each call on, up to one that does not fail.
@@ -202,9 +222,9 @@ fn failing_script(alloc: Global, group: usize) -> Option<Found>
     requires { 1 ≤ group }
 {
     let store = new_store(alloc)?;
-    let one = failures(alloc, &store, REQUESTS.get(..5)?, 0, group)?;
+    let one = failures(alloc, &store, first(), 0, group)?;
     let next = next_store(alloc, &store, group)?;
-    let two = failures(alloc, &next, REQUESTS.get(5..)?, 5, group)?;
+    let two = failures(alloc, &next, second(), 5, group)?;
     Some(Found {
         openings: one.openings.saturating_add(two.openings),
         whole: one.whole.saturating_add(two.whole),

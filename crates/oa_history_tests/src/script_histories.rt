@@ -4,8 +4,8 @@ ghost use Rattle.std.specs.Prelude.{◌≤◌};
 
 use crate::counts::{checkpoint_moments, session_moments};
 use crate::script::{
-    END, READS, REQUESTS, TEARS, Tried, answered_by, calls_of, expect, library, new_disk, place_in,
-    read_by,
+    END, NOTHING, TEARS, Tried, answered_by, calls_of, expect, first, library, new_disk, one_more,
+    place_in, read_by, reads, second,
 };
 use oa_disk::Tear;
 use oa_history::{Asked, Lived, Session, Step, Stop, relive};
@@ -22,44 +22,56 @@ enum Place {
 
 const PLACES: [Place; 3] = [Place::First, Place::Between, Place::Second];
 
-/// A session of these requests.
-fn session(alloc: Global, lines: &[&str], group: usize, moment: u64, tear: Tear) -> Option<Step>
+/// Adds a session of these requests.
+fn add(alloc: Global, steps: &mut Vec<Step>, lines: &[&str], group: usize, stop: Stop) -> Option<()>
     requires { 1 ≤ group }
 {
     let calls = calls_of(alloc, lines, group)?;
-    Some(Step::Session(Session {
+    let session = Session {
         asked: Asked::Calls(calls),
-        moment,
-        tear,
-    }))
+        moment: stop.moment,
+        tear: stop.tear,
+    };
+    steps.push(Step::Session(session)).ok()
+}
+
+fn add_checkpoint(steps: &mut Vec<Step>, stop: Stop) -> Option<()> {
+    steps.push(Step::Checkpoint(stop)).ok()
+}
+
+/// Adds the steps up to the one that is stopped.
+fn add_up_to(
+    alloc: Global,
+    steps: &mut Vec<Step>,
+    place: Place,
+    group: usize,
+    stop: Stop,
+    end: Stop,
+) -> Option<()>
+    requires { 1 ≤ group }
+{
+    match place {
+        Place::First => add(alloc, steps, first(), group, stop),
+        Place::Between => {
+            add(alloc, steps, first(), group, end)?;
+            add_checkpoint(steps, stop)
+        }
+        Place::Second => {
+            add(alloc, steps, first(), group, end)?;
+            add_checkpoint(steps, end)?;
+            add(alloc, steps, second(), group, stop)
+        }
+    }
 }
 
 /// The steps up to the one that is stopped at the moment, and a session that reads.
 fn steps_to(alloc: Global, place: Place, group: usize, moment: u64, tear: Tear) -> Option<Vec<Step>>
     requires { 1 ≤ group }
 {
-    let first = REQUESTS.get(..5)?;
+    let end = Stop { moment: END, tear };
     let mut steps = Vec::new(alloc);
-    match place {
-        Place::First => steps
-            .push(session(alloc, first, group, moment, tear)?)
-            .ok()?,
-        Place::Between => {
-            steps.push(session(alloc, first, group, END, tear)?).ok()?;
-            steps.push(Step::Checkpoint(Stop { moment, tear })).ok()?;
-        }
-        Place::Second => {
-            steps.push(session(alloc, first, group, END, tear)?).ok()?;
-            steps
-                .push(Step::Checkpoint(Stop { moment: END, tear }))
-                .ok()?;
-            let second = REQUESTS.get(5..)?;
-            steps
-                .push(session(alloc, second, group, moment, tear)?)
-                .ok()?;
-        }
-    }
-    steps.push(session(alloc, &READS, 3, END, tear)?).ok()?;
+    add_up_to(alloc, &mut steps, place, group, Stop { moment, tear }, end)?;
+    add(alloc, &mut steps, reads(), 3, end)?;
     Some(steps)
 }
 
@@ -95,17 +107,13 @@ fn history(alloc: Global, place: Place, group: usize, moment: u64, tear: Tear) -
 fn histories(alloc: Global, group: usize) -> Option<Tried>
     requires { 1 ≤ group }
 {
-    let mut tried = Tried {
-        stops: 0,
-        openings: 0,
-    };
+    let mut tried = NOTHING;
     for tear in TEARS {
         for place in PLACES {
             let (end, _) = history(alloc, place, group, END, tear)?;
             for moment in 0..end.saturating_add(1) {
                 let (_, openings) = history(alloc, place, group, moment, tear)?;
-                tried.stops = tried.stops.saturating_add(1);
-                tried.openings = tried.openings.saturating_add(openings);
+                tried = one_more(tried, openings);
             }
         }
     }

@@ -4,12 +4,26 @@ ghost use Rattle.std.specs.Prelude.{◌≤◌};
 
 use crate::counts::{checkpoint_moments, session_moments};
 use crate::script::{
-    END, REQUESTS, Tried, again, answered_by, both, calls_of, expect, new_store, played, read_of,
+    END, NOTHING, Tried, again, answered_by, both, calls_of, expect, first, new_store, one_more,
+    played, read_of, second,
 };
 use oa_disk::{MemoryDisk, Tear};
 use oa_history::{Stop, checkpointed};
 use std::alloc::Global;
 use std::rt::HostRuntime;
+
+/// Whether a disk that holds so many of the requests does so behind a stop of its opening at the moment.
+fn is_opened_again(
+    alloc: Global,
+    disk: &MemoryDisk,
+    place: usize,
+    moment: u64,
+    tear: Tear,
+) -> Option<()> {
+    let (_, left) = played(alloc, disk, Vec::new(alloc), moment, tear)?;
+    let _ = read_of(alloc, &left, place, place)?;
+    Some(())
+}
 
 /// Opens the disk that a stop has left, which holds `least` to `most` of the requests; and so does each disk that a stop of that opening has
 /// left, as many. Answers how many openings there were.
@@ -23,14 +37,31 @@ fn openings(
     let (place, end) = read_of(alloc, disk, least, most)?;
     let mut count = 1u64;
     for moment in 0..end {
-        let (_, left) = played(alloc, disk, Vec::new(alloc), moment, tear)?;
-        let _ = read_of(alloc, &left, place, place)?;
+        is_opened_again(alloc, disk, place, moment, tear)?;
         count = count.saturating_add(2);
     }
     Some(count)
 }
 
-/// Stops the session of these requests, before which `first` were kept, at each moment.
+/// The session of these requests, before which `first` were kept, stopped at the moment: how many openings there were behind it.
+fn stopped_session(
+    alloc: Global,
+    disk: &MemoryDisk,
+    lines: &[&str],
+    first: usize,
+    group: usize,
+    stop: Stop,
+) -> Option<u64>
+    requires { 1 ≤ group }
+{
+    let calls = calls_of(alloc, lines, group)?;
+    let (heard, left) = played(alloc, disk, calls, stop.moment, stop.tear)?;
+    let least = answered_by(&heard, first, stop.moment)?;
+    let most = first.saturating_add(lines.len());
+    openings(alloc, &left, least, most, stop.tear)
+}
+
+/// Stops the session of these requests at each moment.
 fn stops(
     alloc: Global,
     disk: &MemoryDisk,
@@ -41,18 +72,11 @@ fn stops(
 ) -> Option<Tried>
     requires { 1 ≤ group }
 {
-    let most = first.saturating_add(lines.len());
     let (whole, _) = played(alloc, disk, calls_of(alloc, lines, group)?, END, tear)?;
-    let mut tried = Tried {
-        stops: 0,
-        openings: 0,
-    };
+    let mut tried = NOTHING;
     for moment in 0..whole.disk.moments().saturating_add(1) {
-        let (heard, left) = played(alloc, disk, calls_of(alloc, lines, group)?, moment, tear)?;
-        let least = answered_by(&heard, first, moment)?;
-        let count = openings(alloc, &left, least, most, tear)?;
-        tried.stops = tried.stops.saturating_add(1);
-        tried.openings = tried.openings.saturating_add(count);
+        let count = stopped_session(alloc, disk, lines, first, group, Stop { moment, tear })?;
+        tried = one_more(tried, count);
     }
     Some(tried)
 }
@@ -60,15 +84,10 @@ fn stops(
 /// Stops a checkpoint of the disk, which holds so many of the requests, at each moment.
 fn checkpoint_stops(alloc: Global, disk: &MemoryDisk, place: usize, tear: Tear) -> Option<Tried> {
     let (whole, _) = checkpointed(alloc, again(disk)?, Stop { moment: END, tear }).ok()?;
-    let mut tried = Tried {
-        stops: 0,
-        openings: 0,
-    };
+    let mut tried = NOTHING;
     for moment in 0..whole.moments().saturating_add(1) {
         let (_, left) = checkpointed(alloc, again(disk)?, Stop { moment, tear }).ok()?;
-        let count = openings(alloc, &left, place, place, tear)?;
-        tried.stops = tried.stops.saturating_add(1);
-        tried.openings = tried.openings.saturating_add(count);
+        tried = one_more(tried, openings(alloc, &left, place, place, tear)?);
     }
     Some(tried)
 }
@@ -78,12 +97,12 @@ fn script(alloc: Global, group: usize, tear: Tear) -> Option<Tried>
     requires { 1 ≤ group }
 {
     let store = new_store(alloc)?;
-    let first = REQUESTS.get(..5)?;
+    let first = first();
     let one = stops(alloc, &store, first, 0, group, tear)?;
     let (_, store) = played(alloc, &store, calls_of(alloc, first, group)?, END, tear)?;
     let between = checkpoint_stops(alloc, &store, 5, tear)?;
     let (_, store) = checkpointed(alloc, store, Stop { moment: END, tear }).ok()?;
-    let two = stops(alloc, &store, REQUESTS.get(5..)?, 5, group, tear)?;
+    let two = stops(alloc, &store, second(), 5, group, tear)?;
     Some(both(both(one, between), two))
 }
 

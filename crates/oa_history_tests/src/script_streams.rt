@@ -4,18 +4,18 @@ ghost use Rattle.oa_model.specs.Limits.{max_group};
 
 use crate::counts::session_moments;
 use crate::script::{
-    END, REQUESTS, TEARS, Tried, answered_by, asked, both, calls_of, expect, new_store, next_store,
-    played, read_of,
+    END, NOTHING, TEARS, Tried, answered_by, asked, both, calls_of, expect, first, new_store,
+    next_store, one_more, played, read_of, second,
 };
 use oa_disk::{MemoryDisk, Tear};
 use oa_frame::Framing;
-use oa_history::{Asked, Heard, Input, Replies};
+use oa_history::{Asked, Heard, Input, Replies, Stop};
 use oa_server::End;
 use std::alloc::Global;
 use std::rt::HostRuntime;
 
 /// What they are answered.
-const REPLIES: [&str; 7] = [
+static REPLIES: [&str; 7] = [
     "0100000000000000ffffffff000000000100000000000000",
     "0200000000000000ffffffff00000000",
     "0300000000000000ffffffff00000000",
@@ -65,6 +65,25 @@ fn is_answered(heard: &Heard, requests: usize, due: &[u8]) -> bool {
     }
 }
 
+/// Whether a session over a stream that is stopped at the moment is answered so, and how many moments its disk has then; what it leaves has
+/// `least` to `most` of the requests.
+fn stopped_stream(
+    alloc: Global,
+    disk: &MemoryDisk,
+    input: Input,
+    due: &[u8],
+    stop: Stop,
+    (requests, least, most): (usize, usize, usize),
+) -> Option<u64> {
+    let (heard, left) = asked(alloc, disk, Asked::Stream(input), stop.moment, stop.tear)?;
+    let _ = read_of(alloc, &left, least, most)?;
+    if is_answered(&heard, requests, due) {
+        Some(heard.disk.moments())
+    } else {
+        None
+    }
+}
+
 /// Stops the session of these requests over a stream at each moment. Of its parts, each a group, those count that are over by then: they
 /// make the same calls of the disk as calls of a group each.
 fn stream_stops(
@@ -82,22 +101,16 @@ fn stream_stops(
     let most = first.saturating_add(lines.len());
     let due = input_of(alloc, REPLIES.get(first..most)?, framing, group)?;
     let (whole, _) = played(alloc, disk, calls_of(alloc, lines, group)?, END, tear)?;
-    let mut tried = Tried {
-        stops: 0,
-        openings: 0,
-    };
-    for moment in 0..whole.disk.moments().saturating_add(1) {
+    let end = whole.disk.moments();
+    let mut tried = NOTHING;
+    for moment in 0..end.saturating_add(1) {
         let input = input_of(alloc, lines, framing, group)?;
-        let (heard, left) = asked(alloc, disk, Asked::Stream(input), moment, tear)?;
-        if !is_answered(&heard, lines.len(), due.bytes.as_slice())
-            || heard.disk.moments() != whole.disk.moments()
-        {
+        let counts = (lines.len(), answered_by(&whole, first, moment)?, most);
+        let stop = Stop { moment, tear };
+        if stopped_stream(alloc, disk, input, due.bytes.as_slice(), stop, counts)? != end {
             return None;
         }
-        let least = answered_by(&whole, first, moment)?;
-        let _ = read_of(alloc, &left, least, most)?;
-        tried.stops = tried.stops.saturating_add(1);
-        tried.openings = tried.openings.saturating_add(1);
+        tried = one_more(tried, 1);
     }
     Some(tried)
 }
@@ -108,15 +121,12 @@ fn stream_script(alloc: Global, group: usize, framing: Framing) -> Option<Tried>
     requires small { group ≤ max_group }
 {
     let store = new_store(alloc)?;
-    let first = REQUESTS.get(..5)?;
+    let first = first();
     let next = next_store(alloc, &store, group)?;
-    let mut tried = Tried {
-        stops: 0,
-        openings: 0,
-    };
+    let mut tried = NOTHING;
     for tear in TEARS {
         let one = stream_stops(alloc, &store, first, 0, group, framing, tear)?;
-        let two = stream_stops(alloc, &next, REQUESTS.get(5..)?, 5, group, framing, tear)?;
+        let two = stream_stops(alloc, &next, second(), 5, group, framing, tear)?;
         tried = both(tried, both(one, two));
     }
     Some(tried)

@@ -63,6 +63,7 @@ fn dispid(r: &mut Ndr<'_>) -> Result<i32, Short>
 }
 
 // The bytes of a variant field.
+#[inline(always)]
 #[tactic(auto, unfolding(oa_ndr::specs::Reading::bind, oa_ndr::specs::Reading::give, crate::specs::Reading::field_at))]
 fn field<'a>(r: &mut Ndr<'a>) -> Result<&'a [u8], Short>
     ensures { ReadsFixed (λ x. x.now) result r.new (field_at r.old) }
@@ -99,6 +100,7 @@ fn fields<'a>(alloc: Global, count: u32, r: &mut Ndr<'a>) -> Result<Vec<&'a [u8]
 }
 
 // Object, DISPID, GUIDs, lcid and flags, and a reserved number.
+#[inline(always)]
 #[tactic(auto, unfolding(oa_ndr::specs::Reading::bind, oa_ndr::specs::Reading::give, crate::specs::Reading::call_head_at))]
 fn call_head(r: &mut Ndr<'_>) -> Result<CallHead, Short>
     ensures { ReadsFixed (λ x. x) result r.new (call_head_at r.old) }
@@ -146,6 +148,7 @@ fn no_lists(head: CallHead, r: &mut Ndr<'_>) -> Result<(), Short>
 }
 
 // The lists behind counts of 1: the name of a new value, and the bytes of its field.
+#[inline(always)]
 #[tactic(auto, unfolding(oa_ndr::specs::Reading::bind, oa_ndr::specs::Reading::give, crate::specs::Reading::lists_at), using(crate::proofs::Bringing::many_one))]
 fn new_value<'a>(head: CallHead, r: &mut Ndr<'a>) -> Result<&'a [u8], Short>
     ensures { IfOk result (λ f. lists_at head 1 1 r.old ≡ Some (parts_bringing head (Some f.now), r.new)) }

@@ -4,10 +4,10 @@ use oa_disk::{DeviceFault, Disk, FuseDisk, MemoryDisk, NoDisk, Tear, flip, write
 use std::alloc::Global;
 use std::test::Fail;
 
-pub(crate) const SIZE: usize = 16;
+const SIZE: usize = 16;
 
 #[derive(Clone, Copy)]
-pub(crate) enum Kind {
+enum Kind {
     Read,
     Write,
     Sync,
@@ -16,10 +16,10 @@ pub(crate) enum Kind {
 use Kind::{Read, Sync, Write};
 
 /// A call, its place, and the bytes that it writes or gives.
-pub(crate) type Step = (Kind, u64, &'static [u8]);
+type Step = (Kind, u64, &'static [u8]);
 
 /// Writes that overlap between syncs, writes that lie apart, and writes that no sync follows.
-pub(crate) const SCRIPT: [Step; 12] = [
+const SCRIPT: [Step; 12] = [
     (Write, 0, &[1, 2, 3, 4]),
     (Read, 2, &[3]),
     (Sync, 0, &[]),
@@ -39,7 +39,7 @@ pub(crate) const SCRIPT: [Step; 12] = [
 ];
 
 /// What the disk holds after the script.
-pub(crate) const LAST: [u8; SIZE] = [30, 2, 5, 6, 9, 10, 11, 12, 21, 22, 23, 24, 25, 26, 41, 42];
+const LAST: [u8; SIZE] = [30, 2, 5, 6, 9, 10, 11, 12, 21, 22, 23, 24, 25, 26, 41, 42];
 
 /// A byte that a call writes: the number of the call, from 1, the place, and the byte.
 type Written = (u64, usize, u8);
@@ -121,7 +121,7 @@ fn make<D: Disk>(disk: &mut D, step: Step) -> Result<(), DeviceFault> {
 }
 
 /// Makes the calls in order, up to the first that fails, and says how many succeeded.
-pub(crate) fn play<D: Disk>(disk: &mut D, steps: &[Step]) -> u64 {
+fn play<D: Disk>(disk: &mut D, steps: &[Step]) -> u64 {
     let mut made = 0u64;
     for step in steps {
         if make(disk, *step).is_err() {
@@ -133,10 +133,10 @@ pub(crate) fn play<D: Disk>(disk: &mut D, steps: &[Step]) -> u64 {
 }
 
 /// A call, its answer, and the count of failures after it.
-pub(crate) type Row = (Step, Result<(), DeviceFault>, u64);
+type Row = (Step, Result<(), DeviceFault>, u64);
 
 /// Whether each call has its answer and its count.
-pub(crate) fn answers<D: Disk>(disk: &mut D, rows: &[Row]) -> bool {
+fn answers<D: Disk>(disk: &mut D, rows: &[Row]) -> bool {
     for (step, wanted, failures) in rows {
         if make(disk, *step) != *wanted || disk.failures() != *failures {
             return false;

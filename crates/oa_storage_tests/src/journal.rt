@@ -41,10 +41,10 @@ struct Tried {
 }
 
 impl Tried {
-    /// With a library of 279 bytes and the table at first, in three calls of its disk.
+    /// With a library of 7 bytes and the table at first, in three calls of its disk.
     fn new(alloc: Global, calls: usize) -> Option<Tried> {
         let mut disk = MemoryDisk::new(alloc, DISK, calls, 21_000_000).ok()?;
-        let bank = begin(&mut disk, &[108; 279], &Table::new(alloc)).ok()?;
+        let bank = begin(&mut disk, b"library", &Table::new(alloc)).ok()?;
         disk.sync().ok()?;
         Some(Tried { alloc, disk, bank })
     }
@@ -60,16 +60,16 @@ impl Tried {
 
 /// How long a batch is, how often it is added, what is answered, and the room behind it.
 const FRAMES: [(usize, u32, Result<(), AppendFault>, u32); 4] = [
-    (26, 1, Ok(()), 20_971_207),
-    (4_000_000, 5, Ok(()), 971_207),
-    (971_207, 1, Err(AppendFault::Full), 971_207),
-    (971_206, 1, Ok(()), 1),
+    (26, 1, Ok(()), 20_971_479),
+    (4_000_000, 5, Ok(()), 971_479),
+    (971_479, 1, Err(AppendFault::Full), 971_479),
+    (971_478, 1, Ok(()), 1),
 ];
 
 /// The first of these batches that is answered otherwise; None where the new bank has another room.
 fn filled(alloc: Global) -> Option<Option<usize>> {
     let mut tried = Tried::new(alloc, 50)?;
-    if tried.bank.room() != 20_971_233 || tried.bank.size() != BODY {
+    if tried.bank.room() != 20_971_505 || tried.bank.size() != BODY {
         return None;
     }
     for (count, times, wanted, left) in FRAMES {

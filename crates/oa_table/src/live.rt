@@ -15,10 +15,9 @@ use crate::size::{place_size, value_size};
 use crate::value::{lock, locks_of, put_element, redim, replace, unlock};
 use crate::{Place, TableFault};
 use oa_model::Bound;
+use oa_ordered::{Iter, OrderedMap};
 use oa_variant::{Scalar, Variant};
 use std::alloc::Global;
-use std::collections::BTreeMap;
-use std::collections::btree_map::Iter;
 use std::marker::Model;
 use uuid::Uuid;
 
@@ -26,7 +25,7 @@ use uuid::Uuid;
 #[derive(Drop)]
 pub struct LiveObject {
     class: Uuid,
-    cells: BTreeMap<Place, Variant>,
+    cells: OrderedMap<Place, Variant>,
 }
 
 impl Model for LiveObject {
@@ -34,7 +33,7 @@ impl Model for LiveObject {
 
     ghost Value = { ObjectValue };
 
-    ghost view = { λ o. record { class = o.class; cells = o.cells.entries } };
+    ghost view = { λ o. record { class = o.class; cells = o.cells } };
 }
 
 impl LiveObject {
@@ -44,13 +43,13 @@ impl LiveObject {
     {
         LiveObject {
             class,
-            cells: BTreeMap::new(alloc),
+            cells: OrderedMap::new(alloc),
         }
     }
 
     /// An object of a coclass with these cells.
-    pub(crate) fn of_cells(class: Uuid, cells: BTreeMap<Place, Variant>) -> LiveObject
-        ensures { result ≡ record { class = class; cells = cells.entries } }
+    pub(crate) fn of_cells(class: Uuid, cells: OrderedMap<Place, Variant>) -> LiveObject
+        ensures { result ≡ record { class = class; cells = cells } }
     {
         LiveObject { class, cells }
     }

@@ -18,10 +18,9 @@ use crate::parts::ordered_objects;
 use crate::{CellName, Event, LiveObject, Object, TableFault};
 use oa_array::{ArrayFault, Indices};
 use oa_model::{Bound, GREATEST_OBJECT_NUMBER};
+use oa_ordered::{Iter, OrderedMap};
 use oa_variant::{Scalar, Variant};
 use std::alloc::{AllocError, Global};
-use std::collections::BTreeMap;
-use std::collections::btree_map::Iter;
 use std::marker::Model;
 use uuid::Uuid;
 
@@ -30,7 +29,7 @@ use uuid::Uuid;
 pub(crate) struct Objects {
     alloc: Global,
     next: u32,
-    objects: BTreeMap<u32, LiveObject>,
+    objects: OrderedMap<u32, LiveObject>,
 }
 
 impl Model for Objects {
@@ -38,7 +37,12 @@ impl Model for Objects {
 
     ghost Value = { TableValue };
 
-    ghost view = { λ t. record { next = t.next; objects = t.objects.entries } };
+    ghost view = { λ t. record { next = t.next; objects = t.objects } };
+}
+
+/// Where an object stands among all as long as none before it was released.
+fn near(number: u32) -> usize {
+    number.saturating_sub(1) as usize
 }
 
 impl Objects {
@@ -49,7 +53,7 @@ impl Objects {
         Objects {
             alloc,
             next: 1,
-            objects: BTreeMap::new(alloc),
+            objects: OrderedMap::new(alloc),
         }
     }
 
@@ -101,14 +105,14 @@ impl Objects {
     pub(crate) fn get(&self, number: u32) -> Option<&LiveObject>
         ensures { option_map (λ o. o.now) result ≡ object_at number self.now }
     {
-        self.objects.get(&number)
+        self.objects.get_near(&number, near(number))
     }
 
     /// Whether an array of an object is locked. Looks at the object's own cells.
     pub(crate) fn locked(&self, number: u32) -> bool
         ensures { result ≡ locked_in (object_at number self.now) }
     {
-        match self.objects.get(&number) {
+        match self.objects.get_near(&number, near(number)) {
             Some(object) => object.is_locked(),
             None => false,
         }
@@ -137,7 +141,7 @@ impl Objects {
     pub(crate) fn lock(&mut self, name: &CellName) -> Result<u16, TableFault>
         ensures { CountsLocks (with_lock name.now self.old) (locks_at name.now) self.old self.new result }
     {
-        let Some(found) = self.objects.get_mut(&name.object) else {
+        let Some(found) = self.objects.get_mut_near(&name.object, near(name.object)) else {
             return Err(TableFault::NoObject);
         };
         found.lock(&name.place)
@@ -147,7 +151,7 @@ impl Objects {
     pub(crate) fn unlock(&mut self, name: &CellName) -> Result<u16, TableFault>
         ensures { CountsLocks (without_lock name.now self.old) (locks_at name.now) self.old self.new result }
     {
-        let Some(found) = self.objects.get_mut(&name.object) else {
+        let Some(found) = self.objects.get_mut_near(&name.object, near(name.object)) else {
             return Err(TableFault::NoObject);
         };
         found.unlock(&name.place)
@@ -187,6 +191,7 @@ impl Objects {
     }
 
     /// Sets a cell. Answers what that takes from the size of the image, and what it adds.
+    #[inline(always)]
     pub(crate) fn put(
         &mut self,
         name: CellName,
@@ -197,7 +202,7 @@ impl Objects {
         ensures small { IfOk result (λ change. change.come ≤ largest_cell) }
     {
         let CellName { object, place } = name;
-        let Some(found) = self.objects.get_mut(&object) else {
+        let Some(found) = self.objects.get_mut_near(&object, near(object)) else {
             let name = CellName { object, place };
             return Err((Event::Put { name, value }, TableFault::NoObject));
         };
@@ -219,7 +224,7 @@ impl Objects {
     ) -> Result<(), (Event, TableFault)>
         ensures { let event = Event.PutElement name index value in Does event (applied event self.old) self.old self.new result }
     {
-        let Some(found) = self.objects.get_mut(&name.object) else {
+        let Some(found) = self.objects.get_mut_near(&name.object, near(name.object)) else {
             return Err((
                 Event::PutElement { name, index, value },
                 TableFault::NoObject,
@@ -234,7 +239,7 @@ impl Objects {
     fn redim(&mut self, name: CellName, bound: Bound) -> Result<(), (Event, TableFault)>
         ensures { let event = Event.Redim name bound in Does event (applied event self.old) self.old self.new result }
     {
-        let Some(found) = self.objects.get_mut(&name.object) else {
+        let Some(found) = self.objects.get_mut_near(&name.object, near(name.object)) else {
             return Err((Event::Redim { name, bound }, TableFault::NoObject));
         };
         let Err((bound, fault)) = found.redim(self.alloc, &name.place, bound) else {

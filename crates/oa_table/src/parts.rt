@@ -5,18 +5,18 @@ ghost use Rattle.oa_table.specs.Parts.{in_order, ordered_object};
 ghost use Rattle.oa_table.specs.Places.{place_cmp};
 
 use crate::{LiveObject, Object, Place};
+use oa_ordered::OrderedMap;
 use oa_variant::Variant;
 use std::alloc::{AllocError, Global};
-use std::collections::BTreeMap;
 
 /// Cells in the order of their places.
 fn ordered_cells(
     alloc: Global,
     cells: Vec<(Place, Variant)>,
-) -> Result<BTreeMap<Place, Variant>, AllocError>
-    ensures { IfOk result (λ ordered. ordered.entries ≡ in_order place_cmp cells.items) }
+) -> Result<OrderedMap<Place, Variant>, AllocError>
+    ensures { IfOk result (λ ordered. ordered ≡ in_order place_cmp cells.items) }
 {
-    let mut ordered = BTreeMap::new(alloc);
+    let mut ordered = OrderedMap::new(alloc);
     'cells: for (place, value) in cells {
         ordered.insert(place, value)?;
     }
@@ -27,10 +27,10 @@ fn ordered_cells(
 pub(crate) fn ordered_objects(
     alloc: Global,
     objects: Vec<Object>,
-) -> Result<BTreeMap<u32, LiveObject>, AllocError>
-    ensures { IfOk result (λ ordered. ordered.entries ≡ in_order nat_cmp (map ordered_object objects.items)) }
+) -> Result<OrderedMap<u32, LiveObject>, AllocError>
+    ensures { IfOk result (λ ordered. ordered ≡ in_order nat_cmp (map ordered_object objects.items)) }
 {
-    let mut ordered = BTreeMap::new(alloc);
+    let mut ordered = OrderedMap::new(alloc);
     'objects: for object in objects {
         let (number, class, cells) = object.into_parts();
         let cells = ordered_cells(alloc, cells)?;

@@ -18,9 +18,9 @@ use crate::size::{place_size, value_size};
 use crate::{CellName, Event, LiveObject, Object, TableFault};
 use oa_array::Indices;
 use oa_model::{Bound, GREATEST_OBJECT_NUMBER, MAX_CELLS, MAX_DIMENSIONS, MAX_TEXT_BYTES};
+use oa_ordered::Iter;
 use oa_variant::{Scalar, Variant};
 use std::alloc::{AllocError, Global};
-use std::collections::btree_map::Iter;
 use std::marker::Model;
 use uuid::Uuid;
 
@@ -252,6 +252,7 @@ impl Table {
 
     /// Makes a change: the table is the one after the event. An event that does not apply, or for which no memory is found, is handed
     /// back with the reason, and nothing changes. A value that is put has no locks.
+    #[inline(always)]
     pub fn apply(&mut self, event: Event) -> Result<(), (Event, TableFault)>
         requires { BringsNoLocks event }
         ensures { Does event (applied event self.old) self.old self.new result }
@@ -277,6 +278,7 @@ impl Table {
     }
 
     /// `apply` of the event that sets a cell: one look-up finds what this changes of the size too.
+    #[inline(always)]
     pub fn put(&mut self, name: CellName, value: Variant) -> Result<(), (Event, TableFault)>
         requires { locks_of value ≡ 0 }
         ensures { let event = Event.Put name value in Does event (applied event self.old) self.old self.new result }

@@ -28,10 +28,6 @@ answered p true e access forms.Put asked may = absurd (true≢false (sym may))
 answered p false e access forms.Get asked may = rw (e, sym asked) refl
 answered p false e access forms.Put asked may = rw (e, sym asked) refl
 
-pub may_get : (b : Bool) → lets forms.Get (kind_of_property b) ≡ true
-may_get true = refl
-may_get false = refl
-
 no_parameters : (p : Property) (b : Bool) → p.readonly ≡ b → own_parameters (of_property p) ≡ []
 no_parameters p true e = rw e refl
 no_parameters p false e = rw e refl

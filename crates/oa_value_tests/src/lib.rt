@@ -13,8 +13,6 @@ mod bstr;
 #[cfg(test)]
 mod cells;
 #[cfg(test)]
-mod frame;
-#[cfg(test)]
 mod image;
 #[cfg(test)]
 mod model;
@@ -28,8 +26,6 @@ mod shown;
 mod stream;
 #[cfg(test)]
 mod table;
-#[cfg(test)]
-mod typelib;
 #[cfg(test)]
 mod variant;
 pub mod wire_variant;

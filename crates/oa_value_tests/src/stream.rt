@@ -1,18 +1,20 @@
-//! What the standard library's answers become, and what the buffers pass on.
+//! What the answers of a writer of the standard library become, and what the buffers pass on. What those of a reader become, and sessions over readers
+//! that cut and are interrupted, is shown by the cases of the program.
 ghost use Rattle.std.specs.Prelude.{false, ◌≡◌};
 
 use crate::asserts::expect;
 use crate::stream::Step::{Ends, Fails, Interrupts, Moves};
+use oa_frame::laws;
 use oa_stream::{
-    Ahead, Cutting, Gathered, Inlet, Interrupted, More, Next, Outlet, Sink, Source, Unwritten,
+    Ahead, Cutting, Gathered, Interrupted, More, Next, Outlet, Sink, Source, Unwritten,
 };
 use std::alloc::Global;
-use std::io::{self, ErrorKind, Read, Write};
+use std::io::{self, ErrorKind, Write};
 use std::rt::HostRuntime;
 
-// What one call of a reader or a writer of the standard library does.
+// What one call of a writer of the standard library does.
 #[derive(Clone, Copy)]
-pub(crate) enum Step {
+enum Step {
     Moves,
     Ends,
     Interrupts,
@@ -21,13 +23,13 @@ pub(crate) enum Step {
 
 // Its calls in turn, a flush being one of them.
 #[derive(Drop)]
-pub(crate) struct Scripted<'a> {
+struct Scripted<'a> {
     steps: &'a [Step],
-    pub(crate) calls: usize,
+    calls: usize,
 }
 
 impl<'a> Scripted<'a> {
-    pub(crate) fn new(steps: &'a [Step]) -> Scripted<'a> {
+    fn new(steps: &'a [Step]) -> Scripted<'a> {
         Scripted { steps, calls: 0 }
     }
 
@@ -43,13 +45,6 @@ impl<'a> Scripted<'a> {
     }
 }
 
-impl<'a> Read for Scripted<'a> {
-    fn read(&mut self, buffer: &mut [u8]) -> io::Result<usize> {
-        let count = self.next()?;
-        Ok(count.min(buffer.len()))
-    }
-}
-
 impl<'a> Write for Scripted<'a> {
     fn write(&mut self, bytes: &[u8]) -> io::Result<usize> {
         let count = self.next()?;
@@ -59,43 +54,6 @@ impl<'a> Write for Scripted<'a> {
     fn flush(&mut self) -> io::Result<()> {
         self.next()?;
         Ok(())
-    }
-}
-
-// What the reader of the standard library does, and what is told of it.
-struct Reading {
-    name: &'static str,
-    step: Step,
-    next: Next,
-}
-
-// A table of them, one a line.
-macro_rules! readings {
-    ($($name:literal: $step:expr => $next:expr;)*) => {
-        [$(Reading { name: $name, step: $step, next: $next }),*]
-    };
-}
-
-static READINGS: [Reading; 4] = readings! {
-    "a byte": Moves => Next::Bytes(1);
-    "the end": Ends => Next::End;
-    "an interruption": Interrupts => Next::Again;
-    "a failure": Fails => Next::Fault;
-};
-
-// What is told of one call, and how many calls it took.
-fn filled(step: Step) -> (Next, usize) {
-    let steps = [step];
-    let mut reader = Scripted::new(&steps);
-    let mut buffer = [0u8; 4];
-    let next = Inlet::new(&mut reader).fill(&mut buffer);
-    (next, reader.calls)
-}
-
-#[test]
-fn an_interrupted_read_is_no_failure(rt: HostRuntime) {
-    for row in &READINGS {
-        expect(&rt, row.name, filled(row.step) == (row.next, 1));
     }
 }
 
@@ -179,6 +137,8 @@ fn interrupted_once() -> (Next, Next, u64, [u8; 4]) {
 
 #[test]
 fn a_reader_is_interrupted_so_many_times(rt: HostRuntime) {
+    laws::one_line();
+    laws::one_end();
     let wanted = (Next::Again, Next::Bytes(2), 2, *b"ab\0\0");
     expect(&rt, "two calls", interrupted_once() == wanted);
 }

@@ -83,21 +83,37 @@ fn is_measured(value: &Variant) -> bool {
     are_read() && is_array && wire_len(value) == 76
 }
 
-/// Whether a release is read, and what is none is refused: a body that is too short, and one that asks for what there is not.
-fn are_told(alloc: Global) -> bool {
-    let release = [7, 0, 0, 0, 2, 0, 0, 0, 1, 0, 0, 0, 0, 0, 0, 0];
-    let short = [7, 0, 0, 0, 2, 0];
-    let unknown = [7, 0, 0, 0, 99, 0, 0, 0];
-    tag_of(&short) == 0
-        && tag_of(&unknown) == 7
-        && read_request(alloc, &release).is_ok()
-        && matches!(read_request(alloc, &short), Err(RecordFault::Stub))
-        && matches!(read_request(alloc, &unknown), Err(RecordFault::Stub))
+/// A body, its tag, and whether it is read.
+type Row = (&'static [u8], u32, bool);
+
+/// A release; a body that is too short; and one that asks for what there is not.
+static BODIES: [Row; 3] = [
+    (&[7, 0, 0, 0, 2, 0, 0, 0, 1, 0, 0, 0, 0, 0, 0, 0], 7, true),
+    (&[7, 0, 0, 0, 2, 0], 0, false),
+    (&[7, 0, 0, 0, 99, 0, 0, 0], 7, false),
+];
+
+/// Whether a body is read, or refused as bad stub data.
+fn is_judged(alloc: Global, body: &[u8], is_read: bool) -> bool {
+    match read_request(alloc, body) {
+        Ok(_) => is_read,
+        Err(fault) => !is_read && matches!(fault, RecordFault::Stub),
+    }
+}
+
+/// Whether each body is told so.
+fn are_told(alloc: Global, rows: &[Row]) -> bool {
+    for (body, tag, is_read) in rows {
+        if tag_of(*body) != *tag || !is_judged(alloc, *body, *is_read) {
+            return false;
+        }
+    }
+    true
 }
 
 fn fields(alloc: Global) -> Option<bool> {
     let value = array(alloc, VarType::I4, &TWO)?;
-    Some(is_measured(&value) && are_told(alloc))
+    Some(is_measured(&value) && are_told(alloc, &BODIES))
 }
 
 /// The cell of a property without parameters, in the object 1.
@@ -124,16 +140,23 @@ fn table(alloc: Global) -> Option<bool> {
     Some(is_locked(&mut table, &name(alloc)))
 }
 
+/// Its first interface is named by no coclass.
 const LIBRARY: &str = "[uuid(11223344-5566-7788-99aa-bbccddeeff01)] library L {
+[uuid(11223344-5566-7788-99aa-bbccddeeff04)] dispinterface E { properties: [id(2)] long Size; }
 [uuid(11223344-5566-7788-99aa-bbccddeeff02)] dispinterface D { properties: [id(1)] long Count; }
 [uuid(11223344-5566-7788-99aa-bbccddeeff03)] coclass C { dispinterface D; } }";
 
+/// Whether the interface that no coclass names is found, with its property.
+fn is_found_alone(library: &Library) -> bool {
+    let interface = Uuid::from_u128(0x1122_3344_5566_7788_99aa_bbcc_ddee_ff04);
+    match library.interface(&interface) {
+        Some(interface) => interface.property(2).is_some(),
+        None => false,
+    }
+}
+
 /// Whether a coclass, an interface of it and its member are found.
 fn is_found(library: &Library) -> bool {
-    let interface = Uuid::from_u128(0x1122_3344_5566_7788_99aa_bbcc_ddee_ff02);
-    if library.interface(&interface).is_none() {
-        return false;
-    }
     let class = Uuid::from_u128(0x1122_3344_5566_7788_99aa_bbcc_ddee_ff03);
     match library.select(&class, &Uuid::nil()) {
         Some(interface) => {
@@ -146,7 +169,7 @@ fn is_found(library: &Library) -> bool {
 fn library(alloc: Global) -> Option<bool> {
     let tree = parse(alloc, LIBRARY).ok()?;
     let library = check(alloc, tree).ok()?;
-    Some(is_found(&library))
+    Some(is_found(&library) && is_found_alone(&library))
 }
 
 fn told(rt: &impl Abort, found: Option<bool>) {

@@ -1,1 +1,2 @@
 mod VariantLaws
+mod Longs

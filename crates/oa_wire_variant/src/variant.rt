@@ -1,6 +1,6 @@
 //! Whole fields.
 
-ghost use Rattle.std.specs.Prelude.{◌≡◌, ◌++◌, ◌-◌, ◌<◌, ◌≤◌, ◌^◌, length, IsSome, OnOk, OnErr};
+ghost use Rattle.std.specs.Prelude.{◌≡◌, ◌++◌, ◌-◌, ◌<◌, ◌≤◌, ◌^◌, length, IfSome, IsSome, OnOk, OnErr, Some};
 ghost use Rattle.oa_model.specs.Types.{type_at, sf_type_of};
 ghost use Rattle.oa_ndr.specs.Reading.{whole};
 ghost use Rattle.oa_ndr.specs.Writing.{in_field};
@@ -14,6 +14,8 @@ ghost use Rattle.oa_wire_variant.specs.Reading.{
   array_value_at,
   variant_at,
 };
+ghost use Rattle.oa_variant.specs.declared.scalar.Scalar.TheVariants.{I4};
+ghost use Rattle.oa_variant.specs.declared.variant.Variant.TheVariants.{One};
 ghost use Rattle.oa_wire_variant.specs.Canon.{canon, put_variant, put_array_head, put_sized_array, IsArrayLen};
 
 use byteorder::{ByteOrder, LittleEndian};
@@ -30,6 +32,11 @@ use std::mem;
 
 // The flag of arrays in a vt (MS-OAUT 2.2.7).
 const VT_ARRAY: u16 = 0x2000;
+
+// The vt of longs, which is their discriminant too (MS-OAUT 2.2.7), and how many bytes their field has.
+const VT_I4: u16 = 3;
+
+const LONG_BYTES: usize = 24;
 
 // Where the second referent of an array stands.
 const SECOND_REFERENT: usize = 24;
@@ -110,10 +117,27 @@ fn variant(alloc: Global, r: &mut Ndr<'_>) -> Result<Variant, ReadFault>
     array_value(alloc, vt, r)
 }
 
+// The number of a long, the value that most fields spell. None of any other field.
+#[tactic(auto, using(crate::proofs::Longs::long_reads))]
+fn long(bytes: &[u8]) -> Option<i32>
+    ensures { IfSome result (λ number. whole variant_at bytes.now ≡ Some (One (I4 number))) }
+{
+    if bytes.len() == LONG_BYTES
+        && LittleEndian::read_u16(&bytes[8..]) == VT_I4
+        && LittleEndian::read_u32(&bytes[16..]) == VT_I4 as u32
+    {
+        return Some(LittleEndian::read_u32(&bytes[20..]).cast_signed());
+    }
+    None
+}
+
 fn whole(alloc: Global, bytes: &[u8]) -> Result<Variant, ReadFault>
     ensures value { ReadsWholeField result (whole variant_at bytes.now) }
     ensures memory { OnMemory result (TakesMemory bytes.now) }
 {
+    if let Some(number) = long(bytes) {
+        return Ok(Variant::One(Scalar::I4(number)));
+    }
     let mut r = Ndr::new(bytes);
     let value = variant(alloc, &mut r)?;
     if !r.rest().is_empty() {

@@ -1,11 +1,13 @@
 //! An INVOKE that brings no more than a put's new value, of a property without parameters.
 ghost use Rattle.std.specs.Prelude.{◌≡◌, [], true, IfSome, Ok, Some};
+ghost use Rattle.oa_checks.specs.Declarations.{kind_of_property};
 ghost use Rattle.oa_coerce.specs.Answers.{coerced};
 ghost use Rattle.oa_record.specs.ValueCalls.{bringing};
 ghost use Rattle.oa_record.specs.declared.request.Request.TheVariants.{Invoke};
 ghost use Rattle.oa_table.specs.Tables.{object_at};
 ghost use Rattle.oa_turn.specs.Cells.{IsKeyless};
 ghost use Rattle.oa_turn.specs.Plans.{PlansGet, PlansPut, PlansValue};
+ghost use Rattle.oa_typelib.specs.Members.{lets};
 ghost use Rattle.oa_variant.specs.Variants.{HasZero};
 
 use super::Host;
@@ -71,6 +73,7 @@ impl Host {
     }
 
     /// A put sets its cell to what the argument becomes as a value of the declared type. None where it becomes none.
+    #[inline(always)]
     #[tactic(auto, using(crate::proofs::Zeros::no_locks))]
     fn plan_put(
         &self,
@@ -111,9 +114,19 @@ fn find_keyless(
         return None;
     };
     let form = access.kind()?;
+    if lets(form, property.readonly) {
+        Some((property.value_type, form))
+    } else {
+        None
+    }
+}
+
+/// Whether a property has a form: one that is only read has no put.
+fn lets(form: Kind, readonly: bool) -> bool
+    ensures { result ≡ lets form (kind_of_property readonly) }
+{
     match form {
-        Kind::Get => Some((property.value_type, Kind::Get)),
-        Kind::Put if property.readonly => None,
-        Kind::Put => Some((property.value_type, Kind::Put)),
+        Kind::Get => true,
+        Kind::Put => !readonly,
     }
 }

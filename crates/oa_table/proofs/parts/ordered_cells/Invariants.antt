@@ -6,6 +6,6 @@ use Rattle.oa_table.proofs.parts.ordered_cells.Given as goal
 
 abbrev pub invariant-cells : goal.invariant-cells
 invariant-cells l = record {
-  so_far : with_entries place_cmp l.ordered.entries (into_iter_items l.place-iterator) ≡ in_order place_cmp l.fn.cells.items;
+  so_far : with_entries place_cmp l.ordered (into_iter_items l.place-iterator) ≡ in_order place_cmp l.fn.cells.items;
   count : into_iter_len l.place-iterator ≡ length (into_iter_items l.place-iterator);
 }

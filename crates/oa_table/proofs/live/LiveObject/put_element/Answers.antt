@@ -5,5 +5,5 @@ use Rattle.oa_table.proofs.live.LiveObject.put_element.Goals as goal
 
 pub returns : goal.returns
 returns c =
-    rw (← c.self.view_is) (does_in_cell c.args.place.now (with_element_put c.args.index.now c.args.element) c.self.inside.class c.self.inside.cells.entries _ c.in-Some.value.now c.put_element.new.value (sym c.in-Some.ensures.value)
-    (c.get_mut.follows.holds c.put_element.new.value).0 c.args.element c.put_element.result c.put_element.ensures)
+    rw (← c.self.view_is) (does_in_cell c.args.place.now (with_element_put c.args.index.now c.args.element) c.self.inside.class c.self.inside.cells _ c.in-Some.value.now c.put_element.new.value (sym c.in-Some.ensures.value)
+    (c.get_mut.follows.holds c.put_element.new.value) c.args.element c.put_element.result c.put_element.ensures)

@@ -6,13 +6,11 @@ use Rattle.oa_checks.specs.Declarations.{declarations}
 use Rattle.oa_idl.specs.Values.{InterfaceValue}
 use Rattle.oa_idl.specs.declared.parts.Property.{Property}
 use Rattle.oa_typelib.specs.Members.{forms_with}
-use Rattle.oa_typelib.specs.declared.access.Kind.{Kind}
-use Rattle.oa_typelib.specs.declared.access.Kind.TheVariants as forms
-use Rattle.oa_turn.proofs.Keyless.{keyless, may_get, only_one}
+use Rattle.oa_turn.proofs.Keyless.{keyless, only_one}
 use Rattle.oa_turn.proofs.host.value_call.find_keyless.Goals as goal
 
-pub returns-in-Get-clause-found : goal.returns-in-Get-clause-found
-returns-in-Get-clause-found c =
+pub returns-then-lets-clause-found : goal.returns-then-lets-clause-found
+returns-then-lets-clause-found c =
     let i = c.args.interface.now in
     let places = c.places_with-places.result.now in
     let place = get_or places 0 0 in
@@ -21,18 +19,4 @@ returns-in-Get-clause-found c =
     let same = c.deref.ensures.value ∙ ap (λ (x : InterfaceValue). x.properties) (c.behind-interface.view_is ∙ c.interface.ensures) in
     let at = subst (λ (ps : List Property). slice_get ps place ≡ Some p) same
     (slice_get_read c.deref.result.now (length c.deref.result.now) place p refl c.in_ok-property.ensures.lookup.3.0 c.in_ok-property.ensures.lookup.1) in
-    let asked = ap (λ (k : Kind). Some k) (sym c.in-Get.is) ∙ c.in_ok-form.ensures in
-    keyless i c.args.dispid c.args.access forms.Get places place p all (only_one places 0 c.if-places-ne1.false) at asked (may_get p.readonly)
-
-pub returns-in-Put-2-clause-found : goal.returns-in-Put-2-clause-found
-returns-in-Put-2-clause-found c =
-    let i = c.args.interface.now in
-    let places = c.places_with-places.result.now in
-    let place = get_or places 0 0 in
-    let p = c.in_ok-property.property.now in
-    let all = subst (λ (z : ℤ). filter_map (slice_get (declarations i)) places ≡ forms_with z i) (to_z-of_z c.ranges.dispid) c.places_with-places.ensures in
-    let same = c.deref.ensures.value ∙ ap (λ (x : InterfaceValue). x.properties) (c.behind-interface.view_is ∙ c.interface.ensures) in
-    let at = subst (λ (ps : List Property). slice_get ps place ≡ Some p) same
-    (slice_get_read c.deref.result.now (length c.deref.result.now) place p refl c.in_ok-property.ensures.lookup.3.0 c.in_ok-property.ensures.lookup.1) in
-    let asked = ap (λ (k : Kind). Some k) (sym c.in-Put.is) ∙ c.in_ok-form.ensures in
-    keyless i c.args.dispid c.args.access forms.Put places place p all (only_one places 0 c.if-places-ne1.false) at asked (rw c.if-property.false refl)
+    keyless i c.args.dispid c.args.access c.in_ok-form.form places place p all (only_one places 0 c.if-places-ne1.false) at c.in_ok-form.ensures (sym c.lets.ensures ∙ c.if-lets.true)

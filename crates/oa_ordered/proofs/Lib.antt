@@ -1,0 +1,4 @@
+pub mod Keys
+pub mod Split
+pub mod Joined
+pub mod Places

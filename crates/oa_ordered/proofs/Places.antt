@@ -1,0 +1,227 @@
+-- Where a key is in rows that are in order, and what calls of a map do there.
+use Rattle.std.proofs.Common.{◌≡◌, ◌∙◌, ◌<◌, ◌≤◌, ◌≢◌, ◌+◌, ◌-◌, ◌^◌, ℕ, suc, List, [], ◌∷◌, ◌++◌, Bool, true, false, Some, None, length, take, drop, get_or, set, slice_get, refl, sym, ap, subst, ⊎_elim, arith}
+use mathlib.Core.Bool.{true≢false}
+use Rattle.std.specs.List.Sorted.{IsStrictlySortedBy}
+use Rattle.std.specs.Option.{option_map}
+use Rattle.std.specs.Map.{lookup, remove_entry, set_value}
+use Rattle.std.specs.BTreeMap.{insert_entry, is_at}
+use Rattle.std.specs.Ordering.{is_lt}
+use Rattle.std.specs.Cmp.{IsTotalOrder}
+use Rattle.std.specs.declared.cmp.Ordering.{Ordering}
+use Rattle.std.specs.declared.cmp.Ordering.TheVariants.{Less, Equal, Greater}
+use Rattle.std.proofs.lemmas.List.{append-nil, append_cancel_left, drop_all, get_or_past, length-append, take_more}
+use Rattle.std.proofs.lemmas.Bool.{cases_lt}
+use Rattle.oa_ordered.specs.Rows.{AllAbove, AllBelow, AreFilled, IsFirst, IsFound, IsFoundIn, IsGap, IsGapIn, IsOrdered, IsRowFor, IsTable, after, before, begins_after, from, joined, with_value}
+use Rattle.oa_ordered.proofs.Keys.{above_of, all_append, below_of, ordered_back, ordered_changed, ordered_front, ordered_with, ordered_without}
+use Rattle.oa_ordered.proofs.Split.{insert_gap, insert_here, lookup_gap, lookup_here, remove_gap, remove_here, set_gap, set_here}
+use Rattle.oa_ordered.proofs.Joined.{changed, drop_next, entry_split, filled_row, filled_set, from_at, get_is, joined_at, length_with_value, parts_at, row_of, some_at, whole}
+
+less_from_test : (r : Ordering) → is_lt r ≡ true → r ≡ Less
+less_from_test Less h = refl
+less_from_test Equal h = absurd (true≢false (sym h))
+less_from_test Greater h = absurd (true≢false (sym h))
+
+module _ {K X : Type 0} (cmp : K → K → Ordering) (total : IsTotalOrder cmp) (key : K) where
+  -- among the entries of one row
+  module _ (es : List (K × X)) (rises : IsOrdered cmp es) (m : ℕ) (lt : m < length es) (e d : K × X) (is : e ≡ get_or es m d) where
+    split : es ≡ take m es ++ e ∷ drop (suc m) es
+    split = subst (λ x. es ≡ take m es ++ x ∷ drop (suc m) es) (sym is) (parts_at es m d lt)
+
+    rest : drop m es ≡ e ∷ drop (suc m) es
+    rest = subst (λ x. drop m es ≡ x ∷ drop (suc m) es) (sym is) (drop_next es m d lt)
+
+    in_parts : IsOrdered cmp (take m es ++ e ∷ drop (suc m) es)
+    in_parts = subst (IsOrdered cmp) split rises
+
+    pub above_from : Less ≡ cmp key e.0 → AllAbove cmp key (drop m es)
+    above_from less = rw rest (above_of cmp total key e (drop (suc m) es) (ordered_back cmp (take m es) (e ∷ drop (suc m) es) in_parts) (sym less))
+
+    pub found_at : Equal ≡ cmp key e.0 → IsFoundIn cmp key es m
+    found_at same = record {
+      place = lt;
+      below = below_of cmp total key (take m es) e (drop (suc m) es) in_parts (ap is_lt (sym same));
+      here = rw rest (sym same);
+    }
+
+    pub below_through : Greater ≡ cmp key e.0 → AllBelow cmp key (take (m + 1) es)
+    below_through greater =
+        let more : take (m + 1) es ≡ take m es ++ e ∷ [] = subst (λ x. take (m + 1) es ≡ take m es ++ x ∷ []) (sym is) (take_more es m d lt) in
+        rw more (all_append (λ (x : K × X). cmp key x.0 ≡ Greater) (take m es) (e ∷ []) (below_of cmp total key (take m es) e (drop (suc m) es) in_parts (ap is_lt (sym greater))) (sym greater, tt))
+
+  begins_above : (row others : List (K × X)) → IsOrdered cmp (row ++ others) → begins_after cmp key row ≡ true → AllAbove cmp key (row ++ others)
+  begins_above [] others rises test = absurd (true≢false (sym test))
+  begins_above (e ∷ es) others rises test = above_of cmp total key e (es ++ others) rises (less_from_test (cmp key e.0) test)
+
+  begins_below : (front row others : List (K × X)) → IsOrdered cmp (front ++ (row ++ others)) → 0 < length row → begins_after cmp key row ≡ false → AllBelow cmp key front
+  begins_below front [] others rises some test = absurd (omega (arith, some))
+  begins_below front (e ∷ es) others rises some test = below_of cmp total key front e (es ++ others) rises test
+
+  -- among the rows
+  module _ (rows : List (List (K × X))) (rises : IsOrdered cmp (joined rows)) (m : ℕ) (lt : m < length rows) where
+    in_rows : IsOrdered cmp (joined (take m rows) ++ (row_of rows m ++ joined (drop (suc m) rows)))
+    in_rows = subst (IsOrdered cmp) (joined_at rows m lt) rises
+
+    pub row_ordered : IsOrdered cmp (row_of rows m)
+    row_ordered = ordered_front cmp (row_of rows m) (joined (drop (suc m) rows)) (ordered_back cmp (joined (take m rows)) (row_of rows m ++ joined (drop (suc m) rows)) in_rows)
+
+    pub rows_above : begins_after cmp key (row_of rows m) ≡ true → AllAbove cmp key (joined (drop m rows))
+    rows_above test =
+        rw (drop_next rows m [] lt) (begins_above (row_of rows m) (joined (drop (suc m) rows)) (ordered_back cmp (joined (take m rows)) (row_of rows m ++ joined (drop (suc m) rows)) in_rows) test)
+
+    pub rows_below : AreFilled rows → begins_after cmp key (row_of rows m) ≡ false → AllBelow cmp key (joined (take m rows))
+    rows_below filled test = begins_below (joined (take m rows)) (row_of rows m) (joined (drop (suc m) rows)) in_rows (filled_row rows m lt filled) test
+
+  pub row_for_all : (rows : List (List (K × X))) (low high : ℕ) → low ≤ high → (0 < length rows → low < high) → high ≤ length rows → high ≤ low + 1
+      → AllBelow cmp key (joined (take low rows)) → AllAbove cmp key (joined (drop high rows)) → IsRowFor cmp key rows low
+  row_for_all rows low high middle one inside near below above = record {
+    place = omega (arith, middle, inside);
+    one = λ some. omega (arith, one some, inside);
+    below = below;
+    above = ⊎_elim
+        (λ more. subst (λ n. AllAbove cmp key (joined (drop n rows))) (next more) above)
+        (λ past. rw (drop_all (suc low) rows past) tt)
+        (cases_lt (suc low) (length rows));
+  }
+    where
+      next : suc low < length rows → high ≡ suc low
+      next more = omega (arith, one (omega (arith, more)), near)
+
+  module _ (rows : List (List (K × X))) (row : ℕ) (of : IsRowFor cmp key rows row) where
+    pub found_in_rows : (at : ℕ) → row < length rows → IsFoundIn cmp key (row_of rows row) at → IsFound cmp key rows row at
+    found_in_rows at lt found = record {
+      in_rows = lt;
+      in_row = found.place;
+      below = all_append (λ (x : K × X). cmp key x.0 ≡ Greater) (joined (take row rows)) (take at (row_of rows row)) of.below found.below;
+      here = first_of (drop at (row_of rows row)) (joined (drop (suc row) rows)) found.here;
+    }
+      where
+        first_of : (xs ys : List (K × X)) → IsFirst cmp key xs → IsFirst cmp key (xs ++ ys)
+        first_of [] ys here = absurd here
+        first_of (x ∷ xs) ys here = here
+
+    pub gap_in_rows : (at : ℕ) → row < length rows → IsGapIn cmp key (row_of rows row) at → IsGap cmp key rows row at
+    gap_in_rows at lt gap = record {
+      in_rows = of.place;
+      in_row = gap.place;
+      below = all_append (λ (x : K × X). cmp key x.0 ≡ Greater) (joined (take row rows)) (take at (row_of rows row)) of.below gap.below;
+      above = all_append (λ (x : K × X). cmp key x.0 ≡ Less) (drop at (row_of rows row)) (joined (drop (suc row) rows)) gap.above of.above;
+    }
+
+    pub gap_past_rows : length rows ≤ row → IsGap cmp key rows row 0
+    gap_past_rows past = record {
+      in_rows = of.place;
+      in_row = omega arith;
+      below = rw (append-nil (joined (take row rows))) of.below;
+      above = rw (get_or_past rows row [] past) of.above;
+    }
+
+  -- where an entry has the key, it is found
+  pub found_there : (rows : List (List (K × X))) → IsOrdered cmp (joined rows) → (row at : ℕ) (e d : K × X) → row < length rows → at < length (row_of rows row) → e ≡ get_or (row_of rows row) at d
+      → cmp key e.0 ≡ Equal → IsFound cmp key rows row at
+  found_there rows rises row at e d lt in_row is same = record {
+    in_rows = lt;
+    in_row = in_row;
+    below = below_of cmp total key (before rows row at) e (after rows row at) (subst (IsOrdered cmp) (entry_split rows row at e d lt in_row is) rises) (ap is_lt same);
+    here = rw (from_at rows row at e d in_row is) same;
+  }
+
+  -- what a call does where the key is
+  module _ (rows : List (List (K × X))) (row at : ℕ) (found : IsFound cmp key rows row at) (e d : K × X) (is : e ≡ get_or (row_of rows row) at d) where
+    pub found_split : joined rows ≡ before rows row at ++ e ∷ after rows row at
+    found_split = entry_split rows row at e d found.in_rows found.in_row is
+
+    here : cmp key e.0 ≡ Equal
+    here = subst (IsFirst cmp key) (from_at rows row at e d found.in_row is) found.here
+
+    pub found_lookup : lookup (is_at (cmp key)) (joined rows) ≡ Some e.1
+    found_lookup = rw found_split (lookup_here cmp key e (after rows row at) here (before rows row at) found.below)
+
+    pub found_set : (w : X) → joined (set rows row (with_value (row_of rows row) at w)) ≡ set_value (is_at (cmp key)) (joined rows) w
+    found_set w = changed rows row at e d w found.in_rows found.in_row is ∙ sym (rw found_split (set_here cmp key e (after rows row at) here (before rows row at) w found.below))
+
+    pub found_insert : (w : X) → joined (set rows row (with_value (row_of rows row) at w)) ≡ insert_entry cmp (joined rows) key w
+    found_insert w = changed rows row at e d w found.in_rows found.in_row is ∙ sym (rw found_split (insert_here cmp key e (after rows row at) here (before rows row at) w found.below))
+
+  -- what stands at its place is what a look-up finds
+  pub found_read : (rows : List (List (K × X))) (row at : ℕ) → IsFound cmp key rows row at → option_map (λ e. e.1) (slice_get (row_of rows row) at) ≡ lookup (is_at (cmp key)) (joined rows)
+  found_read rows row at found =
+      let e = some_at (row_of rows row) at found.in_row in
+      ap (option_map (λ x. x.1)) (get_is (row_of rows row) at e.0 e.0 found.in_row e.1) ∙ sym (found_lookup rows row at found e.0 e.0 e.1)
+
+  -- where the entries are parted at an entry, the key's place is that one's
+  module _ (rows : List (List (K × X))) (row at : ℕ) (found : IsFound cmp key rows row at) (e : K × X) (parts : joined rows ≡ before rows row at ++ e ∷ after rows row at) where
+    parted_here : cmp key e.0 ≡ Equal
+    parted_here =
+        let both = sym (whole rows row at (omega (arith, found.in_rows)) (omega (arith, found.in_row))) ∙ parts in
+        subst (IsFirst cmp key) (append_cancel_left (before rows row at) (from rows row at) (e ∷ after rows row at) both) found.here
+
+    pub parted_lookup : lookup (is_at (cmp key)) (joined rows) ≡ Some e.1
+    parted_lookup = rw parts (lookup_here cmp key e (after rows row at) parted_here (before rows row at) found.below)
+
+    pub parted_remove : remove_entry (is_at (cmp key)) (joined rows) ≡ before rows row at ++ after rows row at
+    parted_remove = rw parts (remove_here cmp key e (after rows row at) parted_here (before rows row at) found.below)
+
+  -- and where it would stand
+  module _ (rows : List (List (K × X))) (row at : ℕ) (gap : IsGap cmp key rows row at) where
+    gap_split : joined rows ≡ before rows row at ++ from rows row at
+    gap_split = whole rows row at gap.in_rows gap.in_row
+
+    pub gap_lookup : lookup (is_at (cmp key)) (joined rows) ≡ None
+    gap_lookup = rw gap_split (lookup_gap cmp key (before rows row at) (from rows row at) gap.below gap.above)
+
+    pub gap_remove : remove_entry (is_at (cmp key)) (joined rows) ≡ joined rows
+    gap_remove = rw gap_split (remove_gap cmp key (before rows row at) (from rows row at) gap.below gap.above)
+
+    pub gap_set : (w : X) → set_value (is_at (cmp key)) (joined rows) w ≡ joined rows
+    gap_set w = rw gap_split (set_gap cmp key (before rows row at) (from rows row at) w gap.below gap.above)
+
+    pub gap_insert : (v : X) → before rows row at ++ (key, v) ∷ from rows row at ≡ insert_entry cmp (joined rows) key v
+    gap_insert v = sym (rw gap_split (insert_gap cmp key (before rows row at) v (from rows row at) gap.below gap.above))
+
+  longer : (front : List (K × X)) (e : K × X) (back : List (K × X)) → length (front ++ e ∷ back) ≡ length (front ++ back) + 1
+  longer front e back = omega (arith, length-append front (e ∷ back), length-append front back)
+
+  -- what it leaves is a table
+  pub table_changed : (rows : List (List (K × X))) (len row at : ℕ) → IsTable cmp rows len → IsFound cmp key rows row at → (e d : K × X) → e ≡ get_or (row_of rows row) at d → (w : X)
+      → IsTable cmp (set rows row (with_value (row_of rows row) at w)) len
+  table_changed rows len row at table found e d is w =
+      let parts = found_split rows row at found e d is in
+      let new = changed rows row at e d w found.in_rows found.in_row is in
+      let front = before rows row at in
+      let back = after rows row at in
+      let some : 0 < length (with_value (row_of rows row) at w) = omega (arith, length_with_value (row_of rows row) at w, found.in_row) in
+      record {
+        ordered = rw new (ordered_changed cmp front e w back (subst (IsOrdered cmp) parts table.ordered));
+        filled = filled_set rows row (with_value (row_of rows row) at w) found.in_rows some table.filled;
+        count = rw new (omega (arith, table.count, ap length parts, longer front e back, longer front (e.0, w) back));
+        few = table.few;
+      }
+
+  pub table_inserted : (rows new : List (List (K × X))) (len row at : ℕ) (v : X) → IsTable cmp rows len → IsGap cmp key rows row at → len ≢ 2 ^ 63 - 1 → AreFilled new
+      → joined new ≡ before rows row at ++ (key, v) ∷ from rows row at → IsTable cmp new (len + 1)
+  table_inserted rows new len row at v table gap most filled is =
+      let parts = whole rows row at gap.in_rows gap.in_row in
+      let front = before rows row at in
+      let back = from rows row at in
+      record {
+        ordered = rw is (ordered_with cmp total key front v back (subst (IsOrdered cmp) parts table.ordered) gap.below gap.above);
+        filled = filled;
+        count = rw is (omega (arith, table.count, ap length parts, longer front (key, v) back));
+        few = omega (arith, table.few, most);
+      }
+
+  pub table_removed : (rows new : List (List (K × X))) (len row at : ℕ) (e : K × X) → IsTable cmp rows len → AreFilled new → joined rows ≡ before rows row at ++ e ∷ after rows row at
+      → joined new ≡ before rows row at ++ after rows row at → IsTable cmp new (len - 1)
+  table_removed rows new len row at e table filled parts is =
+      let front = before rows row at in
+      let back = after rows row at in
+      record {
+        ordered = rw is (ordered_without cmp front e back (subst (IsOrdered cmp) parts table.ordered));
+        filled = filled;
+        count = rw is (omega (arith, table.count, ap length parts, longer front e back));
+        few = omega (arith, table.few);
+      }
+
+pub no_table : {K X : Type 0} (cmp : K → K → Ordering) → IsTable {K = K} {X = X} cmp [] 0
+unfolding IsStrictlySortedBy
+no_table cmp = record { ordered = tt; filled = tt; count = refl; few = omega arith }

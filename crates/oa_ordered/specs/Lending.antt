@@ -1,0 +1,9 @@
+-- What a row ends as, where one of its values is lent.
+use Rattle.std.specs.Prelude.{ℕ, List}
+use Rattle.std.specs.Borrow.{Lends, Fml, RattleType, MutBor}
+use Rattle.oa_ordered.specs.Rows.{with_value}
+use Rattle.oa_ordered.specs.contracts.row.Row.{the_row}
+
+-- the value at the place is the last one written through r
+abbrev pub lends_value : (K V : RattleType) → MutBor (List (K.Denot × V.Denot)) → ℕ → MutBor V.Denot → Fml
+lends_value K V s at r = Lends (the_row K V) V s r (with_value s.now at)

@@ -1,0 +1,15 @@
+//! A map that is kept in the order of its keys, and as dense as its entries.
+//!
+//! Its contract: `OrderedMap` is the list of its entries, whose keys rise, and its calls do to the list what those of std's `BTreeMap` do
+//! to theirs; what is refused for want of memory is handed back, and nothing changes.
+//!
+//! What stands on it: oa_table keeps objects and cells in it.
+#![tactic(auto)]
+
+mod iter;
+mod map;
+mod row;
+mod rows;
+
+pub use iter::Iter;
+pub use map::OrderedMap;

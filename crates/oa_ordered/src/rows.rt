@@ -1,0 +1,216 @@
+//! Rows, whose entries in turn are those of a map.
+ghost use Rattle.std.specs.Prelude.{◌≡◌, ◌<◌, ◌≤◌, ◌++◌, ◌∷◌, [], take, drop, suc, length, slice_index_or, false, IsTrue, IfOk, IfErr, OnOk, OnErr};
+ghost use Rattle.std.specs.List.{remove};
+ghost use Rattle.oa_ordered.specs.Rows.{AreFilled, IsFound, IsGap, IsOrdered, IsRowFor, after, before, from, joined};
+
+use crate::row::{Row, make_room, place_in};
+use std::alloc::{AllocError, AllocFailed, Global};
+use std::cmp::Ordering;
+
+/// How many entries a row takes before it is split.
+const FULL: usize = 64;
+
+/// How many entries of a full row stay in it where it is split.
+const HALF: usize = FULL / 2;
+
+/// A place in rows: the row, and the place in it.
+#[derive(Clone, Copy)]
+pub(crate) struct Place {
+    pub(crate) row: usize,
+    pub(crate) at: usize,
+}
+
+/// The row in which the key is or would stand: the last that begins at or before it, or else the first.
+fn row_for<K: Ord, V>(rows: &[Row<K, V>], key: &K) -> usize
+    requires ordered { IsOrdered K.cmp (joined rows.now) }
+    requires filled { AreFilled rows.now }
+    ensures { IsRowFor K.cmp key.now rows.now result }
+{
+    let mut low = 0;
+    let mut high = rows.len();
+    'halves: while high - low > 1 {
+        let middle = low + (high - low) / 2;
+        if rows[middle].begins_after(key) {
+            high = middle;
+        } else {
+            low = middle;
+        }
+    }
+    low
+}
+
+/// Where the key is, or where it would stand.
+pub(crate) fn place_of<K: Ord, V>(rows: &[Row<K, V>], key: &K) -> Result<Place, Place>
+    requires ordered { IsOrdered K.cmp (joined rows.now) }
+    requires filled { AreFilled rows.now }
+    ensures found { IfOk result (λ p. IsFound K.cmp key.now rows.now p.row p.at) }
+    ensures absent { IfErr result (λ p. IsGap K.cmp key.now rows.now p.row p.at) }
+{
+    let row = row_for(rows, key);
+    if row == rows.len() {
+        return Err(Place { row, at: 0 });
+    }
+    match place_in(rows[row].as_slice(), key) {
+        Ok(at) => Ok(Place { row, at }),
+        Err(at) => Err(Place { row, at }),
+    }
+}
+
+/// Where the key is, or where it would stand. Looks first where the entry stands before which there are so many in full rows.
+pub(crate) fn place_near<K: Ord, V>(
+    rows: &[Row<K, V>],
+    key: &K,
+    near: usize,
+) -> Result<Place, Place>
+    requires ordered { IsOrdered K.cmp (joined rows.now) }
+    requires filled { AreFilled rows.now }
+    ensures found { IfOk result (λ p. IsFound K.cmp key.now rows.now p.row p.at) }
+    ensures absent { IfErr result (λ p. IsGap K.cmp key.now rows.now p.row p.at) }
+{
+    let row = near / FULL;
+    let at = near % FULL;
+    if row < rows.len() {
+        let entries = rows[row].as_slice();
+        if at < entries.len() {
+            if let Ordering::Equal = key.cmp(&entries[at].0) {
+                return Ok(Place { row, at });
+            }
+        }
+    }
+    place_of(rows, key)
+}
+
+/// Adds a row of one entry behind the others.
+fn begin_row<K: Drop, V: Drop>(
+    alloc: Global,
+    rows: &mut Vec<Row<K, V>>,
+    entry: (K, V),
+) -> Result<(), AllocFailed<(K, V)>>
+    requires { AreFilled rows.old.items }
+    ensures ok { OnOk result (joined rows.new.items ≡ joined rows.old.items ++ entry ∷ []) }
+    ensures err { OnErr result (joined rows.new.items ≡ joined rows.old.items) }
+    ensures filled { AreFilled rows.new.items }
+    ensures handed_back { IfErr result (λ failed. failed.value ≡ entry) }
+{
+    if make_room(rows).is_err() {
+        return Err(AllocFailed { value: entry });
+    }
+    let mut row = Row::new(alloc);
+    row.insert(0, entry)?;
+    rows.push_reserved(row);
+    Ok(())
+}
+
+/// Splits a full row in two.
+fn split<K: Drop, V: Drop>(rows: &mut Vec<Row<K, V>>, row: usize) -> Result<(), AllocError>
+    requires row { row < length rows.old.items }
+    requires full { FULL ≤ length (slice_index_or rows.old.items row []) }
+    ensures ok { OnOk result (rows.new.items ≡ take row rows.old.items ++ take HALF (slice_index_or rows.old.items row []) ∷ drop HALF (slice_index_or rows.old.items row []) ∷ drop (suc row) rows.old.items) }
+    ensures err { OnErr result (rows.new.items ≡ rows.old.items) }
+{
+    make_room(rows)?;
+    let upper = rows[row].split_off(HALF)?;
+    let Ok(()) = rows.insert(row + 1, upper) else {
+        unreachable!();
+    };
+    Ok(())
+}
+
+/// Puts an entry at a place of a row.
+fn insert_free<K: Drop, V: Drop>(
+    rows: &mut Vec<Row<K, V>>,
+    place: Place,
+    entry: (K, V),
+) -> Result<(), AllocFailed<(K, V)>>
+    requires row { place.row < length rows.old.items }
+    requires place { place.at ≤ length (slice_index_or rows.old.items place.row []) }
+    requires filled { AreFilled rows.old.items }
+    ensures ok { OnOk result (joined rows.new.items ≡ before rows.old.items place.row place.at ++ entry ∷ from rows.old.items place.row place.at) }
+    ensures err { OnErr result (rows.new.items ≡ rows.old.items) }
+    ensures count { length rows.new.items ≡ length rows.old.items }
+    ensures filled { AreFilled rows.new.items }
+    ensures handed_back { IfErr result (λ failed. failed.value ≡ entry) }
+{
+    rows[place.row].insert(place.at, entry)
+}
+
+/// Splits a row that is longer than a full one; without memory it stays as it is.
+fn split_long<K: Drop, V: Drop>(rows: &mut Vec<Row<K, V>>, row: usize)
+    requires row { row < length rows.old.items }
+    requires filled { AreFilled rows.old.items }
+    ensures same { joined rows.new.items ≡ joined rows.old.items }
+    ensures filled { AreFilled rows.new.items }
+{
+    if rows[row].len() <= FULL {
+        return;
+    }
+    let Ok(()) = split(rows, row) else {
+        return;
+    };
+}
+
+/// Whether a place is behind all entries, where no row is or the last one is full.
+#[tactic(auto, using(crate::proofs::Joined::nothing_past_rows, crate::proofs::Joined::nothing_past_last))]
+fn is_past_full<K, V>(rows: &[Row<K, V>], place: Place) -> bool
+    requires row { place.row ≤ length rows.now }
+    ensures past { IsTrue result → from rows.now place.row place.at ≡ [] }
+    ensures inside { result ≡ false → place.row < length rows.now }
+{
+    if place.row == rows.len() {
+        return true;
+    }
+    place.row + 1 == rows.len() && place.at >= FULL && place.at == rows[place.row].len()
+}
+
+/// Puts an entry at a place, before those from there on. Behind all others it begins a row where the last is full, so that rising keys
+/// fill the rows.
+pub(crate) fn insert_at<K: Drop, V: Drop>(
+    alloc: Global,
+    rows: &mut Vec<Row<K, V>>,
+    place: Place,
+    entry: (K, V),
+) -> Result<(), AllocFailed<(K, V)>>
+    requires row { place.row ≤ length rows.old.items }
+    requires place { place.at ≤ length (slice_index_or rows.old.items place.row []) }
+    requires filled { AreFilled rows.old.items }
+    ensures ok { OnOk result (joined rows.new.items ≡ before rows.old.items place.row place.at ++ entry ∷ from rows.old.items place.row place.at) }
+    ensures err { OnErr result (joined rows.new.items ≡ joined rows.old.items) }
+    ensures filled { AreFilled rows.new.items }
+    ensures handed_back { IfErr result (λ failed. failed.value ≡ entry) }
+{
+    if is_past_full(rows, place) {
+        return begin_row(alloc, rows, entry);
+    }
+    let row = place.row;
+    insert_free(rows, place, entry)?;
+    split_long(rows, row);
+    Ok(())
+}
+
+/// Takes a row out.
+fn drop_row<K: Drop, V: Drop>(rows: &mut Vec<Row<K, V>>, row: usize)
+    requires { row < length rows.old.items }
+    ensures { rows.new.items ≡ remove rows.old.items row }
+{
+    rows.remove(row);
+    if rows.len() <= rows.capacity() / 2 {
+        rows.shrink_to_fit();
+    }
+}
+
+/// Takes the entry at a place out, and its row where that was the last one in it.
+pub(crate) fn remove_at<K: Drop, V: Drop>(rows: &mut Vec<Row<K, V>>, place: Place) -> (K, V)
+    requires row { place.row < length rows.old.items }
+    requires place { place.at < length (slice_index_or rows.old.items place.row []) }
+    requires filled { AreFilled rows.old.items }
+    ensures entry { joined rows.old.items ≡ before rows.old.items place.row place.at ++ result ∷ after rows.old.items place.row place.at }
+    ensures rest { joined rows.new.items ≡ before rows.old.items place.row place.at ++ after rows.old.items place.row place.at }
+    ensures filled { AreFilled rows.new.items }
+{
+    let Place { row, at } = place;
+    let entry = rows[row].remove(at);
+    if rows[row].len() == 0 {
+        drop_row(rows, row);
+    }
+    entry
+}

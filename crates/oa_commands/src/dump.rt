@@ -1,5 +1,6 @@
 //! The objects of a store as lines of text.
 ghost use Rattle.std.specs.Prelude.{◌≡◌, false, OnOk};
+ghost use Rattle.oa_commands.specs.Statuses.{TellsFailure};
 
 use crate::fault::Fault;
 use crate::store::found;
@@ -15,7 +16,10 @@ use std::io;
 
 /// Writes the objects of a store and their cells on standard output, a line each, or the bytes of its library in their place. Nothing is
 /// written of a file that is refused.
-pub fn write_dump(rt: &HostRuntime, path: &str, library: bool) -> Result<(), Fault> {
+#[tactic(auto, using(crate::proofs::Failing::tells))]
+pub fn write_dump(rt: &HostRuntime, path: &str, library: bool) -> Result<(), Fault>
+    ensures { TellsFailure result }
+{
     let _streams = Streams::new(rt);
     let (text, table) = kept(rt, path)?;
     if library {

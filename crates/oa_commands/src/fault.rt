@@ -1,5 +1,6 @@
 //! What ends the program early: one line on standard error, and a status.
-ghost use Rattle.std.specs.Prelude.{◌≤◌};
+ghost use Rattle.std.specs.Prelude.{◌≡◌};
+ghost use Rattle.oa_commands.specs.Statuses.{status_of};
 
 use crate::place::Place;
 use oa_checks::CheckError;
@@ -88,7 +89,7 @@ impl Fault {
     /// 1 for a file, a device, a reader or a writer, 2 for a command line or a library, 3 for a store, 4 for a record, 5 for want of
     /// memory.
     pub fn status(&self) -> u8
-        ensures fails { 1 ≤ result }
+        ensures { result ≡ status_of self.now }
     {
         match self {
             Fault::CannotRead(_)

@@ -1,5 +1,6 @@
 //! Texts of libraries, and the libraries that they stand for.
 ghost use Rattle.std.specs.Prelude.{◌≤◌, length, IfSome};
+ghost use Rattle.oa_commands.specs.Statuses.{TellsFailure};
 
 use crate::fault::Fault;
 use crate::shown::shown_name;
@@ -30,7 +31,10 @@ pub(crate) fn read_text(rt: &HostRuntime, alloc: Global, path: &str) -> Result<S
 }
 
 /// The library of a file or of standard input.
-pub fn read_library(rt: &HostRuntime, alloc: Global, path: &str) -> Result<Library, Fault> {
+#[tactic(auto, using(crate::proofs::Failing::tells))]
+pub fn read_library(rt: &HostRuntime, alloc: Global, path: &str) -> Result<Library, Fault>
+    ensures { TellsFailure result }
+{
     library_of(alloc, &read_text(rt, alloc, path)?)
 }
 

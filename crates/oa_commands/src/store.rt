@@ -1,5 +1,6 @@
 //! Files that hold a store.
 ghost use Rattle.std.specs.Prelude.{◌≤◌};
+ghost use Rattle.oa_commands.specs.Statuses.{TellsFailure};
 
 use crate::fault::Fault;
 use crate::library::{read_library, unread};
@@ -25,7 +26,10 @@ pub(crate) fn store_bytes(bank: u32) -> u64 {
 
 /// Makes a file the store of a library, without objects, with banks of so many bytes, and says so. A file that is not there is made; one
 /// that is there is used in its own length, and what it held is gone.
-pub fn format_store(rt: &HostRuntime, path: &str, library: &str, bank: u32) -> Result<(), Fault> {
+#[tactic(auto, using(crate::proofs::Failing::tells))]
+pub fn format_store(rt: &HostRuntime, path: &str, library: &str, bank: u32) -> Result<(), Fault>
+    ensures { TellsFailure result }
+{
     let _streams = Streams::new(rt);
     make_store(rt, path, library, bank.clamp(LEAST_BANK, MOST_BANK))?;
     write(rt, b"formatted\n")
@@ -44,7 +48,10 @@ fn make_store(rt: &HostRuntime, path: &str, library: &str, bank: u32) -> Result<
 }
 
 /// The file of a store that is there. No other process has it from then on, until the disk goes.
-pub fn found(rt: &HostRuntime, alloc: Global, path: &str) -> Result<FileDisk, Fault> {
+#[tactic(auto, using(crate::proofs::Failing::tells))]
+pub fn found(rt: &HostRuntime, alloc: Global, path: &str) -> Result<FileDisk, Fault>
+    ensures { TellsFailure result }
+{
     opened(rt, path).map_err(|error| unopened(alloc, &error, path))
 }
 

@@ -1,4 +1,6 @@
 //! The canonical text of a library.
+ghost use Rattle.oa_commands.specs.Statuses.{TellsFailure};
+
 use crate::fault::Fault;
 use crate::library::{library_of, read_text};
 use crate::place::Place;
@@ -7,7 +9,10 @@ use oa_idl::ParseError;
 use std::alloc::Global;
 
 /// Writes the canonical text of a library's file on standard output. Nothing is written of a library that is refused.
-pub fn write_text(rt: &HostRuntime, path: &str, shows_place: bool) -> Result<(), Fault> {
+#[tactic(auto, using(crate::proofs::Failing::tells))]
+pub fn write_text(rt: &HostRuntime, path: &str, shows_place: bool) -> Result<(), Fault>
+    ensures { TellsFailure result }
+{
     let alloc = rt.alloc();
     let text = read_text(rt, alloc, path)?;
     match library_of(alloc, &text) {

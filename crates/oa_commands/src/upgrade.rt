@@ -1,5 +1,6 @@
 //! Bringing the file of a store to format 2.
 ghost use Rattle.std.specs.Prelude.{◌≤◌};
+ghost use Rattle.oa_commands.specs.Statuses.{TellsFailure};
 
 use crate::fault::Fault;
 use crate::store::{LEAST_BANK, MOST_BANK, found, store_bytes, unopened, unwritten};
@@ -15,7 +16,10 @@ use std::os::unix::fs::FileExt;
 const PIECE: usize = 65_536;
 
 /// Brings a store of format 1 to format 2, with banks of so many bytes, and says so. A file that is too short for it is lengthened.
-pub fn upgrade_store(rt: &HostRuntime, path: &str, bank: u32) -> Result<(), Fault> {
+#[tactic(auto, using(crate::proofs::Failing::tells))]
+pub fn upgrade_store(rt: &HostRuntime, path: &str, bank: u32) -> Result<(), Fault>
+    ensures { TellsFailure result }
+{
     let _streams = Streams::new(rt);
     renew(rt, path, bank.clamp(LEAST_BANK, MOST_BANK))?;
     write(rt, b"upgraded\n")

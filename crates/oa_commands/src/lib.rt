@@ -1,7 +1,7 @@
 //! The commands on a library's text and on a store's file, what they print, and what ends the program early: one line and a status.
 //!
-//! Its contract: it is safe and total, and a fault's status is none of success. What the commands print, their statuses and their calls
-//! of the system are tested (`cli/`).
+//! Its contract: it is safe and total, each fault has the status of one table, and none of them is that of success (`status_of`). What the
+//! commands print and their calls of the system are tested (`cli/`).
 //!
 //! What stands on it: the program.
 #![tactic(auto)]

@@ -1,6 +1,5 @@
 //! Files that hold a store.
-ghost use Rattle.std.specs.Prelude.{◌≤◌};
-ghost use Rattle.std.specs.Prelude.{IfErr};
+ghost use Rattle.std.specs.Prelude.{◌≤◌, IfErr};
 ghost use Rattle.oa_commands.specs.Statuses.{IsBeforeStores, TellsFailure};
 
 use crate::fault::Fault;

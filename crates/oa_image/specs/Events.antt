@@ -1,5 +1,6 @@
 -- The images of events: a byte that says which kind, and what the event has (this project's choice).
 use Rattle.std.proofs.Common.{◌≡◌, ℕ, ℤ, eqb, List, [], refl, sym, ◌∙◌, arith}
+use Rattle.std.specs.Prelude.{⊤}
 use Rattle.std.specs.Prelude.{◌==◌, pos}
 use Rattle.std.proofs.lemmas.Bool.{eqb-true}
 use Rattle.oa_model.specs.declared.bound.Bound.{Bound}
@@ -114,3 +115,9 @@ event = tagged event_kind u8 of_kind kind_agrees
 -- the bytes of an event
 abbrev pub event_image : Event → List ℕ
 event_image = event.image
+
+-- ---- what a proof opens of all events
+
+unfoldable pub events : ⊤
+unfolding create release put put_element redim of_kind event
+events = tt

@@ -1,4 +1,5 @@
 -- The images of names of cells (this project's choice).
+use Rattle.std.specs.Prelude.{⊤}
 use Rattle.std.proofs.Common.{List, refl}
 use Rattle.oa_variant.specs.declared.scalar.Scalar.{Scalar}
 use Rattle.oa_table.specs.Places.{PlaceValue}
@@ -17,3 +18,9 @@ place = made (λ p. record { interface = p.0; dispid = p.1.0; key = p.1.1 }) (λ
 
 unfoldable pub name : Format CellName
 name = made (λ p. record { object = p.0; place = p.1 }) (λ n. (n.object, n.place)) (u32 ▸ place) (λ p. refl) (λ n. refl)
+
+-- ---- what a proof opens of a name and its parts
+
+unfoldable pub names : ⊤
+unfolding key place name
+names = tt

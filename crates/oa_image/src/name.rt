@@ -17,7 +17,7 @@ use oa_table::{CellName, Place};
 use oa_variant::Scalar;
 use std::alloc::Global;
 
-#[tactic(auto, unfolding(oa_ndr::specs::Reading::bind, oa_ndr::specs::Reading::give, oa_layout::specs::Formats::made_where, oa_layout::specs::Formats::next_by, oa_layout::specs::Formats::counted, crate::specs::Names::key))]
+#[tactic(auto, unfolding(oa_layout::specs::Formats::combinators, crate::specs::Names::key))]
 fn read_key(alloc: Global, r: &mut Ndr<'_>) -> Result<Vec<Scalar>, ReadFault>
     ensures read { ReadsImageBy (λ v. v.items) result r.new (names.key.read r.old) }
     ensures few { IfOk result (λ v. length v.items ≤ max_key_scalars) }
@@ -26,7 +26,7 @@ fn read_key(alloc: Global, r: &mut Ndr<'_>) -> Result<Vec<Scalar>, ReadFault>
     read_times::<ScalarFormat>(alloc, count as usize, r)
 }
 
-#[tactic(auto, unfolding(oa_layout::specs::Formats::made_where, oa_layout::specs::Formats::next_by, oa_layout::specs::Formats::times, oa_layout::specs::Formats::counted, crate::specs::Names::key), using(oa_layout::specs::Windows::added_added))]
+#[tactic(auto, unfolding(oa_layout::specs::Formats::combinators, crate::specs::Names::key), using(oa_layout::specs::Windows::added_added))]
 fn put_key(key: &[Scalar], w: &mut Window, out: &mut [u8])
     requires { length key.now ≤ max_key_scalars }
     ensures { Adds (names.key.image key.now) w.old w.new out.old out.new }
@@ -43,7 +43,7 @@ impl ReadImage for PlaceFormat {
 
     ghost format = { names.place };
 
-    #[tactic(auto, unfolding(oa_ndr::specs::Reading::bind, oa_ndr::specs::Reading::give, oa_layout::specs::Formats::made_where, oa_layout::specs::Formats::next_by, crate::specs::Names::place))]
+    #[tactic(auto, unfolding(oa_layout::specs::Formats::combinators, crate::specs::Names::place))]
     fn read(alloc: Global, r: &mut Ndr<'_>) -> Result<Place, ReadFault> {
         let interface = read_guid(r)?;
         let dispid = read_i32(r)?;
@@ -53,7 +53,7 @@ impl ReadImage for PlaceFormat {
 }
 
 impl PutImage for PlaceFormat {
-    #[tactic(auto, unfolding(oa_layout::specs::Formats::made_where, oa_layout::specs::Formats::next_by, crate::specs::Names::place), using(oa_layout::specs::Windows::added_added))]
+    #[tactic(auto, unfolding(oa_layout::specs::Formats::combinators, crate::specs::Names::place), using(oa_layout::specs::Windows::added_added))]
     fn put(value: &Place, w: &mut Window, out: &mut [u8]) {
         let key = value.key();
         put_guid(&value.interface(), w, out);
@@ -70,7 +70,7 @@ impl ReadImage for NameFormat {
 
     ghost format = { names.name };
 
-    #[tactic(auto, unfolding(oa_ndr::specs::Reading::bind, oa_ndr::specs::Reading::give, oa_layout::specs::Formats::made_where, oa_layout::specs::Formats::next_by, crate::specs::Names::name))]
+    #[tactic(auto, unfolding(oa_layout::specs::Formats::combinators, crate::specs::Names::name))]
     fn read(alloc: Global, r: &mut Ndr<'_>) -> Result<CellName, ReadFault> {
         let object = read_u32(r)?;
         let place = PlaceFormat::read(alloc, r)?;
@@ -79,7 +79,7 @@ impl ReadImage for NameFormat {
 }
 
 impl PutImage for NameFormat {
-    #[tactic(auto, unfolding(oa_layout::specs::Formats::made_where, oa_layout::specs::Formats::next_by, crate::specs::Names::name), using(oa_layout::specs::Windows::added_added))]
+    #[tactic(auto, unfolding(oa_layout::specs::Formats::combinators, crate::specs::Names::name), using(oa_layout::specs::Windows::added_added))]
     fn put(value: &CellName, w: &mut Window, out: &mut [u8]) {
         put_u32(value.object, w, out);
         PlaceFormat::put(&value.place, w, out)
@@ -100,7 +100,7 @@ fn scalars_len(scalars: &[Scalar]) -> usize
 }
 
 // How many bytes the image of a name has.
-#[tactic(auto, unfolding(oa_layout::specs::Formats::raw, oa_layout::specs::Formats::made_where, oa_layout::specs::Formats::next_by, oa_layout::specs::Formats::times, oa_layout::specs::Formats::counted, oa_layout::specs::Numbers::u16, oa_layout::specs::Numbers::u32, oa_layout::specs::Numbers::i32, oa_layout::specs::Numbers::guid, crate::specs::Names::key, crate::specs::Names::place, crate::specs::Names::name))]
+#[tactic(auto, unfolding(oa_layout::specs::Formats::combinators, oa_layout::specs::Numbers::numbers, crate::specs::Names::names))]
 pub(crate) fn name_len(name: &CellName) -> usize
     ensures value { result ≡ length (names.name.image name.now) }
     ensures small { result ≤ 26 + max_scalar_bytes * max_key_scalars }

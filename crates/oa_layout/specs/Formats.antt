@@ -1,5 +1,6 @@
 -- Formats: which values have an image, the image of each as bytes, and how it is read. A format holds the proof that reading takes
 -- exactly the images, so whoever describes a format by the words below has its reader's laws.
+use Rattle.std.specs.Prelude.{⊤}
 use Rattle.std.proofs.Common.{◌≡◌, ℕ, zero, suc, ◌+◌, ◌<◌, ◌≤◌, Bool, true, false, cond, ltb, List, [], ◌∷◌, ◌++◌, length, take, drop}
 use Rattle.std.proofs.Common.{Option, Some, None, refl, sym, ap, subst, ◌∙◌, append_assoc, arith}
 use Rattle.std.specs.List.{AllByRecursion, flat_map}
@@ -310,3 +311,8 @@ abbrev pub rising : {A : Type 0} → (A → A → Bool) → List A → Bool
 rising before [] = true
 rising before (x ∷ []) = true
 rising before (x ∷ y ∷ xs) = cond (before x y) (rising before (y ∷ xs)) false
+
+-- ---- what a proof opens to see how a format is made of others, and read
+unfoldable pub combinators : ⊤
+unfolding bind give fail raw nothing never next_by made_where coded times counted only case tagged
+combinators = tt

@@ -1,6 +1,7 @@
 -- The formats of numbers, the lowest byte first, of GUIDs and of truth values (this project's choice).
 use Rattle.std.proofs.Common.{◌≡◌, ℕ, zero, suc, ◌<◌, ◌^◌, Bool, true, false, cond, eqb, List, [], ◌∷◌, length, get_or, Option, Some, None}
 use Rattle.std.proofs.Common.{refl, sym, ap, ◌∙◌, arith, rules, ℤ}
+use Rattle.std.specs.Prelude.{⊤}
 use Rattle.std.specs.Prelude.{FitsSigned, ◌==◌, if◌then◌else◌}
 use Rattle.std.specs.Int.{w8, w16, w32, w64, from_le_bytes, to_le_bytes, cast_signed, cast_unsigned}
 use mir.Facts.{Fits-of_z, to_z-of_z}
@@ -116,3 +117,8 @@ truth_here true = (omega arith, refl)
 unfoldable pub truth : Format Bool
 unfolding u8 made_where
 truth = coded (λ b. Unit {0}) truth_of truth_code u8 (λ n b is e. (tt, truth_there n b e)) (λ b is. truth_here b)
+
+-- ---- what a proof opens to count the bytes of a number
+unfoldable pub numbers : ⊤
+unfolding u8 u16 u32 u64 i8 i16 i32 i64 guid truth
+numbers = tt

@@ -1,6 +1,7 @@
 -- The images of texts, DECIMAL and scalars (this project's choice).
 use Rattle.std.proofs.Common.{◌≡◌, ℕ, ℤ, ◌+◌, ◌*◌, ◌<◌, ◌≤◌, ◌^◌, Bool, true, false, cond, eqb, leb, List, length, Option, Some, None, refl}
 use Rattle.std.proofs.Common.{sym, ap, subst, arith, rules}
+use Rattle.std.specs.Prelude.{⊤}
 use Rattle.std.specs.Prelude.{◌==◌, nat_le, if◌then◌else◌, pos}
 use Rattle.std.proofs.lemmas.Bool.{eqb-true, leb-true, le-leb}
 use Rattle.oa_model.specs.Limits.{max_text_bytes}
@@ -259,3 +260,13 @@ vt = coded (λ t. Unit {0}) type_at vt_of u16 (λ n t is e. (tt, type_there n t 
 
 unfoldable pub scalar : Format Scalar
 scalar = tagged type_of vt of_type type_agrees
+
+-- ---- what a proof opens of texts, and of scalars
+
+unfoldable pub texts : ⊤
+unfolding text_header text_of_size text
+texts = tt
+
+unfoldable pub scalar_parts : ⊤
+unfolding vt scalar
+scalar_parts = tt

@@ -2,6 +2,7 @@
 -- project's choice).
 use Rattle.std.proofs.Common.{◌≡◌, ℕ, ◌+◌, ◌-◌, ◌<◌, ◌≤◌, ◌^◌, Bool, true, false, cond, leb, [], Option, Some, None, refl, sym, ap, ◌∙◌}
 use Rattle.std.proofs.Common.{arith}
+use Rattle.std.specs.Prelude.{⊤}
 use Rattle.std.specs.Prelude.{nat_le, if◌then◌else◌}
 use Rattle.std.proofs.lemmas.Bool.{leb-true, le-leb, lt-leb}
 use Rattle.oa_model.specs.Invoke.{vt_array}
@@ -97,3 +98,9 @@ content_agrees (kinds.Array t) v h = h.0
 
 unfoldable pub value : Format Variant
 value = tagged value_type_of kind content content_agrees
+
+-- ---- what a proof opens of a value and its number
+
+unfoldable pub contents : ⊤
+unfolding kind content value
+contents = tt

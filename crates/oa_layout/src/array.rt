@@ -32,7 +32,7 @@ impl ReadImage for BoundFormat {
 
     ghost format = { arrays.bound };
 
-    #[tactic(auto, unfolding(oa_ndr::specs::Reading::bind, oa_ndr::specs::Reading::give, crate::specs::Formats::made_where, crate::specs::Formats::next_by, crate::specs::Arrays::bound))]
+    #[tactic(auto, unfolding(crate::specs::Formats::combinators, crate::specs::Arrays::bound))]
     fn read(_alloc: Global, r: &mut Ndr<'_>) -> Result<Bound, ReadFault> {
         let count = read_u32(r)?;
         let lower = read_i32(r)?;
@@ -41,7 +41,7 @@ impl ReadImage for BoundFormat {
 }
 
 impl PutImage for BoundFormat {
-    #[tactic(auto, unfolding(crate::specs::Formats::made_where, crate::specs::Formats::next_by, crate::specs::Arrays::bound), using(crate::specs::Windows::added_added))]
+    #[tactic(auto, unfolding(crate::specs::Formats::combinators, crate::specs::Arrays::bound), using(crate::specs::Windows::added_added))]
     fn put(value: &Bound, w: &mut Window, out: &mut [u8]) {
         put_u32(value.count, w, out);
         put_i32(value.lower, w, out)
@@ -90,7 +90,7 @@ fn read_cells(
 }
 
 // The bounds, and how many cells they make.
-#[tactic(auto, unfolding(oa_ndr::specs::Reading::bind, oa_ndr::specs::Reading::give, crate::specs::Formats::made_where, crate::specs::Formats::next_by, crate::specs::Formats::coded, crate::specs::Formats::counted, crate::specs::Formats::only, crate::specs::Arrays::bounds_of), using(crate::specs::Arrays::shape_here, crate::proofs::Loops::shape_not))]
+#[tactic(auto, unfolding(crate::specs::Formats::combinators, crate::specs::Arrays::bounds_of), using(crate::specs::Arrays::shape_here, crate::proofs::Loops::shape_not))]
 fn read_bounds(
     alloc: Global,
     elem: VarType,
@@ -108,7 +108,7 @@ fn read_bounds(
 }
 
 // What stands behind the number of the type.
-#[tactic(auto, unfolding(oa_ndr::specs::Reading::bind, oa_ndr::specs::Reading::give, crate::specs::Formats::made_where, crate::specs::Formats::next_by, crate::specs::Arrays::array_of), using(crate::proofs::Loops::all_fit))]
+#[tactic(auto, unfolding(crate::specs::Formats::combinators, crate::specs::Arrays::array_of), using(crate::proofs::Loops::all_fit))]
 pub(crate) fn read_array(
     alloc: Global,
     elem: VarType,
@@ -142,7 +142,7 @@ fn put_cells(elem: VarType, cells: &[Scalar], w: &mut Window, out: &mut [u8])
 }
 
 // What stands behind the number of the type.
-#[tactic(auto, unfolding(crate::specs::Formats::made_where, crate::specs::Formats::next_by, crate::specs::Formats::coded, crate::specs::Formats::times, crate::specs::Formats::counted, crate::specs::Formats::only, crate::specs::Arrays::bounds_of, crate::specs::Arrays::array_of), using(crate::specs::Windows::added_added))]
+#[tactic(auto, unfolding(crate::specs::Formats::combinators, crate::specs::Arrays::bounds_of, crate::specs::Arrays::array_of), using(crate::specs::Windows::added_added))]
 pub(crate) fn put_array(a: &SafeArray<Scalar>, w: &mut Window, out: &mut [u8])
     ensures { Adds ((arrays.array_of a.now.elem).image a.now) w.old w.new out.old out.new }
 {
@@ -165,7 +165,7 @@ pub fn put_element(elem: VarType, s: &Scalar, w: &mut Window, out: &mut [u8])
 }
 
 /// Adds what stands before the cells in the image of an array.
-#[tactic(auto, unfolding(crate::specs::Formats::made_where, crate::specs::Formats::next_by, crate::specs::Formats::coded, crate::specs::Formats::times, crate::specs::Formats::counted, crate::specs::Formats::only, crate::specs::Arrays::bounds_of, crate::specs::Variants::kind, crate::specs::Elements::array_head), using(crate::specs::Windows::added_added))]
+#[tactic(auto, unfolding(crate::specs::Formats::combinators, crate::specs::Arrays::bounds_of, crate::specs::Variants::kind, crate::specs::Elements::array_head), using(crate::specs::Windows::added_added))]
 pub fn put_array_head(a: &SafeArray<Scalar>, w: &mut Window, out: &mut [u8])
     ensures { Adds (array_head a.now) w.old w.new out.old out.new }
 {
@@ -202,7 +202,7 @@ fn cells_len(elem: VarType, cells: &[Scalar]) -> usize
 }
 
 // The bytes behind the number of the type.
-#[tactic(auto, unfolding(crate::specs::Formats::made_where, crate::specs::Formats::next_by, crate::specs::Formats::coded, crate::specs::Formats::times, crate::specs::Formats::counted, crate::specs::Formats::only, crate::specs::Numbers::u16, crate::specs::Arrays::bounds_of, crate::specs::Arrays::array_of))]
+#[tactic(auto, unfolding(crate::specs::Formats::combinators, crate::specs::Numbers::u16, crate::specs::Arrays::bounds_of, crate::specs::Arrays::array_of))]
 pub(crate) fn array_len(a: &SafeArray<Scalar>) -> usize
     ensures value { result ≡ length ((arrays.array_of a.now.elem).image a.now) }
     ensures small { result ≤ max_array_image }

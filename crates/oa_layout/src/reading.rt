@@ -19,7 +19,7 @@ pub(crate) fn read_bytes<'a>(n: usize, r: &mut Ndr<'a>) -> Result<&'a [u8], Read
 }
 
 /// The next byte.
-#[tactic(auto, unfolding(oa_ndr::specs::Reading::bind, oa_ndr::specs::Reading::give, crate::specs::Formats::made_where, crate::specs::Numbers::u8))]
+#[tactic(auto, unfolding(oa_ndr::specs::Reading::steps, crate::specs::Formats::made_where, crate::specs::Numbers::u8))]
 pub fn read_u8(r: &mut Ndr<'_>) -> Result<u8, ReadFault>
     ensures { ReadsImage result r.new (numbers.u8.read r.old) }
 {
@@ -28,7 +28,7 @@ pub fn read_u8(r: &mut Ndr<'_>) -> Result<u8, ReadFault>
 }
 
 /// A number of 2 bytes.
-#[tactic(auto, unfolding(oa_ndr::specs::Reading::bind, oa_ndr::specs::Reading::give, crate::specs::Formats::made_where, crate::specs::Numbers::u16))]
+#[tactic(auto, unfolding(oa_ndr::specs::Reading::steps, crate::specs::Formats::made_where, crate::specs::Numbers::u16))]
 pub fn read_u16(r: &mut Ndr<'_>) -> Result<u16, ReadFault>
     ensures { ReadsImage result r.new (numbers.u16.read r.old) }
 {
@@ -37,7 +37,7 @@ pub fn read_u16(r: &mut Ndr<'_>) -> Result<u16, ReadFault>
 }
 
 /// A number of 4 bytes.
-#[tactic(auto, unfolding(oa_ndr::specs::Reading::bind, oa_ndr::specs::Reading::give, crate::specs::Formats::made_where, crate::specs::Numbers::u32))]
+#[tactic(auto, unfolding(oa_ndr::specs::Reading::steps, crate::specs::Formats::made_where, crate::specs::Numbers::u32))]
 pub fn read_u32(r: &mut Ndr<'_>) -> Result<u32, ReadFault>
     ensures { ReadsImage result r.new (numbers.u32.read r.old) }
 {
@@ -46,7 +46,7 @@ pub fn read_u32(r: &mut Ndr<'_>) -> Result<u32, ReadFault>
 }
 
 /// A number of 8 bytes.
-#[tactic(auto, unfolding(oa_ndr::specs::Reading::bind, oa_ndr::specs::Reading::give, crate::specs::Formats::made_where, crate::specs::Numbers::u64))]
+#[tactic(auto, unfolding(oa_ndr::specs::Reading::steps, crate::specs::Formats::made_where, crate::specs::Numbers::u64))]
 pub(crate) fn read_u64(r: &mut Ndr<'_>) -> Result<u64, ReadFault>
     ensures { ReadsImage result r.new (numbers.u64.read r.old) }
 {
@@ -55,7 +55,7 @@ pub(crate) fn read_u64(r: &mut Ndr<'_>) -> Result<u64, ReadFault>
 }
 
 /// A signed number of one byte.
-#[tactic(auto, unfolding(oa_ndr::specs::Reading::bind, oa_ndr::specs::Reading::give, crate::specs::Formats::made_where, crate::specs::Numbers::i8))]
+#[tactic(auto, unfolding(oa_ndr::specs::Reading::steps, crate::specs::Formats::made_where, crate::specs::Numbers::i8))]
 pub(crate) fn read_i8(r: &mut Ndr<'_>) -> Result<i8, ReadFault>
     ensures { ReadsImage result r.new (numbers.i8.read r.old) }
 {
@@ -63,7 +63,7 @@ pub(crate) fn read_i8(r: &mut Ndr<'_>) -> Result<i8, ReadFault>
 }
 
 /// A signed number of 2 bytes.
-#[tactic(auto, unfolding(oa_ndr::specs::Reading::bind, oa_ndr::specs::Reading::give, crate::specs::Formats::made_where, crate::specs::Numbers::i16))]
+#[tactic(auto, unfolding(oa_ndr::specs::Reading::steps, crate::specs::Formats::made_where, crate::specs::Numbers::i16))]
 pub(crate) fn read_i16(r: &mut Ndr<'_>) -> Result<i16, ReadFault>
     ensures { ReadsImage result r.new (numbers.i16.read r.old) }
 {
@@ -71,7 +71,7 @@ pub(crate) fn read_i16(r: &mut Ndr<'_>) -> Result<i16, ReadFault>
 }
 
 /// A signed number of 4 bytes.
-#[tactic(auto, unfolding(oa_ndr::specs::Reading::bind, oa_ndr::specs::Reading::give, crate::specs::Formats::made_where, crate::specs::Numbers::i32))]
+#[tactic(auto, unfolding(oa_ndr::specs::Reading::steps, crate::specs::Formats::made_where, crate::specs::Numbers::i32))]
 pub fn read_i32(r: &mut Ndr<'_>) -> Result<i32, ReadFault>
     ensures { ReadsImage result r.new (numbers.i32.read r.old) }
 {
@@ -79,7 +79,7 @@ pub fn read_i32(r: &mut Ndr<'_>) -> Result<i32, ReadFault>
 }
 
 /// A signed number of 8 bytes.
-#[tactic(auto, unfolding(oa_ndr::specs::Reading::bind, oa_ndr::specs::Reading::give, crate::specs::Formats::made_where, crate::specs::Numbers::i64))]
+#[tactic(auto, unfolding(oa_ndr::specs::Reading::steps, crate::specs::Formats::made_where, crate::specs::Numbers::i64))]
 pub(crate) fn read_i64(r: &mut Ndr<'_>) -> Result<i64, ReadFault>
     ensures { ReadsImage result r.new (numbers.i64.read r.old) }
 {
@@ -87,7 +87,7 @@ pub(crate) fn read_i64(r: &mut Ndr<'_>) -> Result<i64, ReadFault>
 }
 
 /// A GUID in wire order (MS-DTYP section 2.3.4.2).
-#[tactic(auto, unfolding(oa_ndr::specs::Reading::bind, oa_ndr::specs::Reading::give, crate::specs::Formats::made_where, crate::specs::Numbers::guid))]
+#[tactic(auto, unfolding(oa_ndr::specs::Reading::steps, crate::specs::Formats::made_where, crate::specs::Numbers::guid))]
 pub fn read_guid(r: &mut Ndr<'_>) -> Result<Uuid, ReadFault>
     ensures { ReadsImage result r.new (numbers.guid.read r.old) }
 {
@@ -99,7 +99,7 @@ pub fn read_guid(r: &mut Ndr<'_>) -> Result<Uuid, ReadFault>
 }
 
 /// A truth value: one byte, 0 or 1.
-#[tactic(auto, unfolding(oa_ndr::specs::Reading::bind, oa_ndr::specs::Reading::give, crate::specs::Formats::coded, crate::specs::Numbers::truth))]
+#[tactic(auto, unfolding(oa_ndr::specs::Reading::steps, crate::specs::Formats::coded, crate::specs::Numbers::truth))]
 pub(crate) fn read_truth(r: &mut Ndr<'_>) -> Result<bool, ReadFault>
     ensures { ReadsImage result r.new (numbers.truth.read r.old) }
 {

@@ -45,7 +45,7 @@ fn read_text_header(r: &mut Ndr<'_>) -> Result<Option<u32>, ReadFault>
     Err(ReadFault::Broken)
 }
 
-#[tactic(auto, unfolding(oa_ndr::specs::Reading::bind, oa_ndr::specs::Reading::give, crate::specs::Formats::tagged, crate::specs::Formats::nothing, crate::specs::Formats::case, crate::specs::Values::text_of_size, crate::specs::Values::text))]
+#[tactic(auto, unfolding(crate::specs::Formats::combinators, crate::specs::Values::texts))]
 fn read_text(alloc: Global, r: &mut Ndr<'_>) -> Result<Bstr, ReadFault>
     ensures { ReadsImage result r.new (values.text.read r.old) }
 {
@@ -58,7 +58,7 @@ fn read_text(alloc: Global, r: &mut Ndr<'_>) -> Result<Bstr, ReadFault>
     }
 }
 
-#[tactic(auto, unfolding(oa_ndr::specs::Reading::bind, oa_ndr::specs::Reading::give, crate::specs::Formats::coded, crate::specs::Formats::next_by, crate::specs::Values::decimal))]
+#[tactic(auto, unfolding(crate::specs::Formats::combinators, crate::specs::Values::decimal))]
 fn read_decimal(r: &mut Ndr<'_>) -> Result<Decimal, ReadFault>
     ensures { ReadsImage result r.new (values.decimal.read r.old) }
 {
@@ -84,7 +84,7 @@ fn read_vt(r: &mut Ndr<'_>) -> Result<VarType, ReadFault>
 }
 
 // What stands behind the number of the type.
-#[tactic(auto, unfolding(oa_ndr::specs::Reading::bind, oa_ndr::specs::Reading::give, oa_ndr::specs::Reading::fail, crate::specs::Formats::nothing, crate::specs::Formats::never, crate::specs::Formats::case, crate::specs::Values::of_type))]
+#[tactic(auto, unfolding(crate::specs::Formats::combinators, crate::specs::Values::of_type))]
 pub(crate) fn read_content(
     alloc: Global,
     var_type: VarType,
@@ -115,7 +115,7 @@ pub(crate) fn read_content(
     })
 }
 
-#[tactic(auto, unfolding(crate::specs::Formats::tagged, crate::specs::Formats::coded, crate::specs::Formats::raw, crate::specs::Formats::nothing, crate::specs::Formats::case, crate::specs::Values::text_header, crate::specs::Values::text_of_size, crate::specs::Values::text), using(crate::specs::Windows::added_added))]
+#[tactic(auto, unfolding(crate::specs::Formats::combinators, crate::specs::Values::texts), using(crate::specs::Windows::added_added))]
 fn put_text(text: &Bstr, w: &mut Window, out: &mut [u8])
     ensures { Adds (values.text.image text.now) w.old w.new out.old out.new }
 {
@@ -126,7 +126,7 @@ fn put_text(text: &Bstr, w: &mut Window, out: &mut [u8])
     put_bytes(text.as_bytes(), w, out)
 }
 
-#[tactic(auto, unfolding(crate::specs::Formats::coded, crate::specs::Formats::next_by, crate::specs::Values::decimal), using(crate::specs::Windows::added_added))]
+#[tactic(auto, unfolding(crate::specs::Formats::combinators, crate::specs::Values::decimal), using(crate::specs::Windows::added_added))]
 fn put_decimal(d: &Decimal, w: &mut Window, out: &mut [u8])
     ensures { Adds (values.decimal.image d.now) w.old w.new out.old out.new }
 {
@@ -138,7 +138,7 @@ fn put_decimal(d: &Decimal, w: &mut Window, out: &mut [u8])
 }
 
 // What stands behind the number of the type.
-#[tactic(auto, unfolding(crate::specs::Formats::nothing, crate::specs::Formats::case, crate::specs::Values::of_type), using(crate::proofs::Adding::added_none))]
+#[tactic(auto, unfolding(crate::specs::Formats::combinators, crate::specs::Values::of_type), using(crate::proofs::Adding::added_none))]
 pub(crate) fn put_content(s: &Scalar, w: &mut Window, out: &mut [u8])
     ensures { Adds ((values.of_type (type_of s.now)).image s.now) w.old w.new out.old out.new }
 {
@@ -179,14 +179,14 @@ impl ReadImage for ScalarFormat {
 }
 
 impl PutImage for ScalarFormat {
-    #[tactic(auto, unfolding(crate::specs::Formats::tagged, crate::specs::Formats::coded, crate::specs::Values::vt, crate::specs::Values::scalar), using(crate::specs::Windows::added_added))]
+    #[tactic(auto, unfolding(crate::specs::Formats::combinators, crate::specs::Values::scalar_parts), using(crate::specs::Windows::added_added))]
     fn put(value: &Scalar, w: &mut Window, out: &mut [u8]) {
         put_u16(value.var_type().vt(), w, out);
         put_content(value, w, out)
     }
 }
 
-#[tactic(auto, unfolding(crate::specs::Formats::tagged, crate::specs::Formats::coded, crate::specs::Formats::raw, crate::specs::Formats::nothing, crate::specs::Formats::made_where, crate::specs::Formats::case, crate::specs::Numbers::u32, crate::specs::Values::text_header, crate::specs::Values::text_of_size, crate::specs::Values::text))]
+#[tactic(auto, unfolding(crate::specs::Formats::combinators, crate::specs::Numbers::u32, crate::specs::Values::texts))]
 fn text_len(text: &Bstr) -> usize
     ensures value { result ≡ length (values.text.image text.now) }
     ensures small { result ≤ max_content_bytes }
@@ -198,7 +198,7 @@ fn text_len(text: &Bstr) -> usize
 }
 
 // The bytes behind the number of the type.
-#[tactic(auto, unfolding(crate::specs::Formats::coded, crate::specs::Formats::raw, crate::specs::Formats::nothing, crate::specs::Formats::made_where, crate::specs::Formats::next_by, crate::specs::Formats::case, crate::specs::Values::of_type, crate::specs::Values::decimal, crate::specs::Numbers::u8, crate::specs::Numbers::u16, crate::specs::Numbers::u32, crate::specs::Numbers::u64, crate::specs::Numbers::i8, crate::specs::Numbers::i16, crate::specs::Numbers::i32, crate::specs::Numbers::i64, crate::specs::Numbers::truth))]
+#[tactic(auto, unfolding(crate::specs::Formats::combinators, crate::specs::Values::of_type, crate::specs::Values::decimal, crate::specs::Numbers::numbers))]
 pub(crate) fn content_len(s: &Scalar) -> usize
     ensures value { result ≡ length ((values.of_type (type_of s.now)).image s.now) }
     ensures small { result ≤ max_content_bytes }
@@ -224,7 +224,7 @@ pub(crate) fn content_len(s: &Scalar) -> usize
 }
 
 /// How many bytes the image of a scalar has: at most six more than a text.
-#[tactic(auto, unfolding(crate::specs::Formats::tagged, crate::specs::Formats::coded, crate::specs::Formats::made_where, crate::specs::Numbers::u16, crate::specs::Values::vt, crate::specs::Values::scalar))]
+#[tactic(auto, unfolding(crate::specs::Formats::combinators, crate::specs::Numbers::u16, crate::specs::Values::scalar_parts))]
 pub fn scalar_image_len(s: &Scalar) -> usize
     ensures value { result ≡ length (values.scalar.image s.now) }
     ensures small { result ≤ max_scalar_bytes }

@@ -1,6 +1,7 @@
 -- Reading as functions on lists: the value at the front and what is left, or None.
 --
 -- The steps are unfoldable, so that the laws in proofs/Laws need no continuation written out, and the code's clauses show names.
+use Rattle.std.specs.Prelude.{⊤}
 use Rattle.std.specs.Prelude.{◌≡◌, ℕ, zero, suc, ◌+◌, ◌==◌, Bool, not, nat_lt, if◌then◌else◌, List, [], ◌∷◌, length, take, drop, Option}
 use Rattle.std.specs.Prelude.{Some, None, Result, Ok, Err}
 use Rattle.byteorder.specs.Endian.{little_number}
@@ -42,6 +43,11 @@ fail s = None
 
 unfoldable pub choose : {A : Type 0} → Bool → Reading A → Reading A → Reading A
 choose b one other s = if b then one s else other s
+
+-- what a proof opens to follow a reading step by step
+unfoldable pub steps : ⊤
+unfolding bind give fail choose
+steps = tt
 
 -- What a call on a reader returned, seen by view, and left is what reading gives; without a value the reader is as before.
 abbrev pub Gives : {X Y E : Type 0} → (X → Y) → Result X E → Cursor → Cursor → Option (Y × Cursor) → Type 0

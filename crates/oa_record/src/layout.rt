@@ -101,7 +101,7 @@ fn fields<'a>(alloc: Global, count: u32, r: &mut Ndr<'a>) -> Result<Vec<&'a [u8]
 
 // Object, DISPID, GUIDs, lcid and flags, and a reserved number.
 #[inline(always)]
-#[tactic(auto, unfolding(oa_ndr::specs::Reading::bind, oa_ndr::specs::Reading::give, crate::specs::Reading::call_head_at))]
+#[tactic(auto, unfolding(oa_ndr::specs::Reading::steps, crate::specs::Reading::call_head_at))]
 fn call_head(r: &mut Ndr<'_>) -> Result<CallHead, Short>
     ensures { ReadsFixed (λ x. x) result r.new (call_head_at r.old) }
 {
@@ -123,7 +123,7 @@ fn call_head(r: &mut Ndr<'_>) -> Result<CallHead, Short>
 }
 
 // These, the counts, and the lists behind them.
-#[tactic(auto, unfolding(oa_ndr::specs::Reading::bind, oa_ndr::specs::Reading::give, oa_ndr::specs::Reading::choose, oa_ndr::specs::Reading::fail, crate::specs::Reading::call_at, crate::specs::Reading::lists_at))]
+#[tactic(auto, unfolding(oa_ndr::specs::Reading::steps, crate::specs::Reading::call_at, crate::specs::Reading::lists_at))]
 fn call<'a>(alloc: Global, r: &mut Ndr<'a>) -> Result<RawCall<'a>, RecordFault>
     ensures { ReadsBody (λ x. x) result r.new (call_at r.old) }
 {
@@ -140,7 +140,7 @@ fn call<'a>(alloc: Global, r: &mut Ndr<'a>) -> Result<RawCall<'a>, RecordFault>
 }
 
 // No lists behind counts of 0.
-#[tactic(auto, unfolding(oa_ndr::specs::Reading::bind, oa_ndr::specs::Reading::give, crate::specs::Reading::lists_at), using(crate::proofs::Bringing::many_none))]
+#[tactic(auto, unfolding(oa_ndr::specs::Reading::steps, crate::specs::Reading::lists_at), using(crate::proofs::Bringing::many_none))]
 fn no_lists(head: CallHead, r: &mut Ndr<'_>) -> Result<(), Short>
     ensures { IfOk result (λ u. lists_at head 0 0 r.old ≡ Some (parts_bringing head None, r.new)) }
 {
@@ -149,7 +149,7 @@ fn no_lists(head: CallHead, r: &mut Ndr<'_>) -> Result<(), Short>
 
 // The lists behind counts of 1: the name of a new value, and the bytes of its field.
 #[inline(always)]
-#[tactic(auto, unfolding(oa_ndr::specs::Reading::bind, oa_ndr::specs::Reading::give, crate::specs::Reading::lists_at), using(crate::proofs::Bringing::many_one))]
+#[tactic(auto, unfolding(oa_ndr::specs::Reading::steps, crate::specs::Reading::lists_at), using(crate::proofs::Bringing::many_one))]
 fn new_value<'a>(head: CallHead, r: &mut Ndr<'a>) -> Result<&'a [u8], Short>
     ensures { IfOk result (λ f. lists_at head 1 1 r.old ≡ Some (parts_bringing head (Some f.now), r.new)) }
 {
@@ -180,7 +180,7 @@ fn value_call<'a>(r: &mut Ndr<'a>) -> Result<ValueParts<'a>, Short>
 }
 
 /// The head of an INVOKE that brings no more than a new value, and the bytes of that value's field. Err of any other body.
-#[tactic(auto, unfolding(oa_ndr::specs::Reading::bind, oa_ndr::specs::Reading::give, crate::specs::Reading::layout_at, crate::specs::Reading::listed_at, crate::specs::Reading::fields_at))]
+#[tactic(auto, unfolding(oa_ndr::specs::Reading::steps, crate::specs::Reading::layout_at, crate::specs::Reading::listed_at, crate::specs::Reading::fields_at))]
 pub(crate) fn read_value_parts(body: &[u8]) -> Result<ValueParts<'_>, Short>
     ensures { IfOk result (λ c. whole layout_at body.now ≡ Some (Layout.InvokeBody (parts_bringing c.head (option_map (λ f. f.now) c.field)))) }
 {
@@ -202,7 +202,7 @@ pub(crate) fn read_value_parts(body: &[u8]) -> Result<ValueParts<'_>, Short>
 }
 
 // An index list.
-#[tactic(auto, unfolding(oa_ndr::specs::Reading::bind, oa_ndr::specs::Reading::give, oa_ndr::specs::Reading::choose, oa_ndr::specs::Reading::fail, crate::specs::Reading::indices_at, crate::specs::Reading::index_list_at))]
+#[tactic(auto, unfolding(oa_ndr::specs::Reading::steps, crate::specs::Reading::indices_at, crate::specs::Reading::index_list_at))]
 fn indices(alloc: Global, r: &mut Ndr<'_>) -> Result<Indices, RecordFault>
     ensures { ReadsBody (λ x. x) result r.new (indices_at r.old) }
 {
@@ -217,7 +217,7 @@ fn indices(alloc: Global, r: &mut Ndr<'_>) -> Result<Indices, RecordFault>
 }
 
 // A call that names an array, and the index list of a cell.
-#[tactic(auto, unfolding(oa_ndr::specs::Reading::bind, oa_ndr::specs::Reading::give, crate::specs::Reading::element_at))]
+#[tactic(auto, unfolding(oa_ndr::specs::Reading::steps, crate::specs::Reading::element_at))]
 fn element<'a>(alloc: Global, r: &mut Ndr<'a>) -> Result<(RawCall<'a>, Indices), RecordFault>
     ensures { ReadsBody (λ x. parts_of_element x.0 x.1) result r.new (element_at r.old) }
 {
@@ -227,7 +227,7 @@ fn element<'a>(alloc: Global, r: &mut Ndr<'a>) -> Result<(RawCall<'a>, Indices),
 }
 
 // A new first listed bound.
-#[tactic(auto, unfolding(oa_ndr::specs::Reading::bind, oa_ndr::specs::Reading::give, oa_wire_array::specs::ArrayReading::bound_at, oa_wire_array::specs::Reading::signed_at))]
+#[tactic(auto, unfolding(oa_ndr::specs::Reading::steps, oa_wire_array::specs::ArrayReading::bound_at, oa_wire_array::specs::Reading::signed_at))]
 fn bound(r: &mut Ndr<'_>) -> Result<Bound, Short>
     ensures { ReadsFixed (λ x. x) result r.new (bound_at r.old) }
 {
@@ -276,7 +276,7 @@ fn strings(alloc: Global, count: u32, r: &mut Ndr<'_>) -> Result<Vec<Vec<u16>>, 
 }
 
 // Object, GUIDs and lcid, the count, and the names behind it.
-#[tactic(auto, unfolding(oa_ndr::specs::Reading::bind, oa_ndr::specs::Reading::give, oa_ndr::specs::Reading::choose, oa_ndr::specs::Reading::fail, crate::specs::Reading::get_ids_at, crate::specs::Reading::names_at))]
+#[tactic(auto, unfolding(oa_ndr::specs::Reading::steps, crate::specs::Reading::get_ids_at, crate::specs::Reading::names_at))]
 fn get_ids(alloc: Global, r: &mut Ndr<'_>) -> Result<GetIds, RecordFault>
     ensures { ReadsBody (λ x. x) result r.new (get_ids_at r.old) }
 {
@@ -319,7 +319,7 @@ fn get_element<'a>(alloc: Global, r: &mut Ndr<'a>) -> Result<Parts<'a>, RecordFa
 }
 
 // The same, and a new value.
-#[tactic(auto, unfolding(oa_ndr::specs::Reading::bind, oa_ndr::specs::Reading::give, crate::specs::Reading::fields_at, crate::specs::Reading::put_at))]
+#[tactic(auto, unfolding(oa_ndr::specs::Reading::steps, crate::specs::Reading::fields_at, crate::specs::Reading::put_at))]
 fn put_element<'a>(alloc: Global, r: &mut Ndr<'a>) -> Result<Parts<'a>, RecordFault>
     ensures { ReadsBody shown result r.new (fields_at opcodes.PutElement r.old) }
 {
@@ -328,7 +328,7 @@ fn put_element<'a>(alloc: Global, r: &mut Ndr<'a>) -> Result<Parts<'a>, RecordFa
 }
 
 // A call that names an array, and its new first listed bound.
-#[tactic(auto, unfolding(oa_ndr::specs::Reading::bind, oa_ndr::specs::Reading::give, crate::specs::Reading::fields_at, crate::specs::Reading::redim_at))]
+#[tactic(auto, unfolding(oa_ndr::specs::Reading::steps, crate::specs::Reading::fields_at, crate::specs::Reading::redim_at))]
 fn redimension<'a>(alloc: Global, r: &mut Ndr<'a>) -> Result<Parts<'a>, RecordFault>
     ensures { ReadsBody shown result r.new (fields_at opcodes.Redimension r.old) }
 {
@@ -359,7 +359,7 @@ fn fields_of<'a>(alloc: Global, opcode: Opcode, r: &mut Ndr<'a>) -> Result<Parts
 }
 
 /// The parts of a whole body. Want of memory comes only where the opcode's body takes some.
-#[tactic(auto, unfolding(oa_ndr::specs::Reading::bind, oa_ndr::specs::Reading::fail, crate::specs::Reading::layout_at, crate::specs::Reading::listed_at))]
+#[tactic(auto, unfolding(oa_ndr::specs::Reading::steps, crate::specs::Reading::layout_at, crate::specs::Reading::listed_at))]
 pub(crate) fn read_parts(alloc: Global, body: &[u8]) -> Result<Parts<'_>, RecordFault>
     ensures all { ReadsBodyToItsEnd shown result (whole layout_at body.now) }
     ensures memory { Starves result body.now }

@@ -34,7 +34,7 @@ use oa_ndr::Ndr;
 use oa_variant::Scalar;
 use std::alloc::{AllocError, Global};
 
-#[tactic(auto, unfolding(oa_ndr::specs::Reading::bind, oa_ndr::specs::Reading::give, crate::specs::ArrayReading::bound_at, crate::specs::Reading::signed_at))]
+#[tactic(auto, unfolding(oa_ndr::specs::Reading::steps, crate::specs::ArrayReading::bound_at, crate::specs::Reading::signed_at))]
 fn bound(r: &mut Ndr<'_>) -> Result<Bound, ReadFault>
     ensures { ReadsField result r.new (bound_at r.old) }
 {
@@ -77,7 +77,7 @@ fn blank(alloc: Global, count: usize) -> Result<Cells<Scalar>, AllocError>
     )
 }
 
-#[tactic(auto, unfolding(oa_ndr::specs::Reading::bind, oa_ndr::specs::Reading::give, oa_ndr::specs::Reading::choose, crate::specs::ArrayReading::text_cell_at))]
+#[tactic(auto, unfolding(oa_ndr::specs::Reading::steps, crate::specs::ArrayReading::text_cell_at))]
 fn text_cell(alloc: Global, is_set: bool, r: &mut Ndr<'_>) -> Result<Scalar, ReadFault>
     ensures { ReadsField result r.new (text_cell_at is_set r.old) }
 {
@@ -87,7 +87,7 @@ fn text_cell(alloc: Global, is_set: bool, r: &mut Ndr<'_>) -> Result<Scalar, Rea
     Ok(Scalar::Bstr(Bstr::null()))
 }
 
-#[tactic(auto, unfolding(oa_ndr::specs::Reading::give, oa_ndr::specs::Reading::choose, crate::specs::ArrayReading::variant_cell_at))]
+#[tactic(auto, unfolding(oa_ndr::specs::Reading::steps, crate::specs::ArrayReading::variant_cell_at))]
 fn variant_cell(alloc: Global, is_set: bool, r: &mut Ndr<'_>) -> Result<Scalar, ReadFault>
     ensures { ReadsField result r.new (variant_cell_at is_set r.old) }
 {
@@ -209,7 +209,7 @@ fn is_count(elem: VarType, bounds: &[Bound], count: u32) -> bool
     }
 }
 
-#[tactic(auto, unfolding(oa_ndr::specs::Reading::bind, oa_ndr::specs::Reading::give, crate::specs::ArrayReading::cells_at))]
+#[tactic(auto, unfolding(oa_ndr::specs::Reading::steps, crate::specs::ArrayReading::cells_at))]
 fn cells(
     alloc: Global,
     elem: VarType,
@@ -225,7 +225,7 @@ fn cells(
 }
 
 // The bounds, the maximum count of the data, the data.
-#[tactic(auto, unfolding(oa_ndr::specs::Reading::bind, oa_ndr::specs::Reading::choose, oa_ndr::specs::Reading::fail, crate::specs::ArrayReading::data_at))]
+#[tactic(auto, unfolding(oa_ndr::specs::Reading::steps, crate::specs::ArrayReading::data_at))]
 fn data(
     alloc: Global,
     elem: VarType,
@@ -244,7 +244,7 @@ fn data(
 }
 
 // The maximum count, cDims, fFeatures, cbElements, cLocks, sfType, Size and the pointer, with what lies behind them.
-#[tactic(auto, unfolding(oa_ndr::specs::Reading::bind, oa_ndr::specs::Reading::choose, oa_ndr::specs::Reading::fail, crate::specs::ArrayReading::header_at))]
+#[tactic(auto, unfolding(oa_ndr::specs::Reading::steps, crate::specs::ArrayReading::header_at))]
 fn header(alloc: Global, elem: VarType, r: &mut Ndr<'_>) -> Result<SafeArray<Scalar>, ReadFault>
     ensures value { ReadsField result r.new (header_at elem r.old) }
     ensures memory { OnMemory result (28 ≤ length r.old.rest) }
@@ -263,7 +263,7 @@ fn header(alloc: Global, elem: VarType, r: &mut Ndr<'_>) -> Result<SafeArray<Sca
     Err(ReadFault::BadStub)
 }
 
-#[tactic(auto, unfolding(oa_ndr::specs::Reading::bind, oa_ndr::specs::Reading::choose, oa_ndr::specs::Reading::fail, crate::specs::ArrayReading::array_at))]
+#[tactic(auto, unfolding(oa_ndr::specs::Reading::steps, crate::specs::ArrayReading::array_at))]
 fn array(alloc: Global, elem: VarType, r: &mut Ndr<'_>) -> Result<SafeArray<Scalar>, ReadFault>
     ensures value { ReadsField result r.new (array_at elem r.old) }
     ensures memory { OnMemory result (32 ≤ length r.old.rest) }

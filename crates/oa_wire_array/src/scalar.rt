@@ -34,7 +34,7 @@ use oa_ndr::{Ndr, NdrOut};
 use oa_variant::{Decimal, Scalar};
 use std::alloc::{AllocError, Global};
 
-#[tactic(auto, unfolding(oa_ndr::specs::Reading::bind, oa_ndr::specs::Reading::give, oa_ndr::specs::Reading::choose, oa_ndr::specs::Reading::fail, crate::specs::Reading::sign_at))]
+#[tactic(auto, unfolding(oa_ndr::specs::Reading::steps, crate::specs::Reading::sign_at))]
 fn sign(r: &mut Ndr<'_>) -> Result<bool, ReadFault>
     ensures value { ReadsField result r.new (sign_at r.old) }
     ensures memory { OnMemory result ⊥ }
@@ -46,7 +46,7 @@ fn sign(r: &mut Ndr<'_>) -> Result<bool, ReadFault>
     }
 }
 
-#[tactic(auto, unfolding(oa_ndr::specs::Reading::bind, oa_ndr::specs::Reading::give, oa_ndr::specs::Reading::choose, oa_ndr::specs::Reading::fail, crate::specs::Reading::decimal_at))]
+#[tactic(auto, unfolding(oa_ndr::specs::Reading::steps, crate::specs::Reading::decimal_at))]
 fn decimal(r: &mut Ndr<'_>) -> Result<Decimal, ReadFault>
     ensures value { ReadsField result r.new (decimal_at r.old) }
     ensures memory { OnMemory result ⊥ }
@@ -65,7 +65,7 @@ fn decimal(r: &mut Ndr<'_>) -> Result<Decimal, ReadFault>
 }
 
 // The arm of a type.
-#[tactic(auto, unfolding(oa_ndr::specs::Reading::bind, oa_ndr::specs::Reading::give, oa_ndr::specs::Reading::fail, crate::specs::Reading::arm_at, crate::specs::Reading::signed_at, crate::specs::Reading::truth_at))]
+#[tactic(auto, unfolding(oa_ndr::specs::Reading::steps, crate::specs::Reading::arm_at, crate::specs::Reading::signed_at, crate::specs::Reading::truth_at))]
 pub(crate) fn arm(alloc: Global, var_type: VarType, r: &mut Ndr<'_>) -> Result<Scalar, ReadFault>
     ensures value { ReadsField result r.new (arm_at var_type r.old) }
     ensures memory { OnMemory result (var_type ≡ types.Bstr) }
@@ -92,7 +92,7 @@ pub(crate) fn arm(alloc: Global, var_type: VarType, r: &mut Ndr<'_>) -> Result<S
     })
 }
 
-#[tactic(auto, unfolding(oa_ndr::specs::Reading::bind, oa_ndr::specs::Reading::choose, oa_ndr::specs::Reading::fail, crate::specs::Reading::arm_of, crate::specs::Reading::union_at))]
+#[tactic(auto, unfolding(oa_ndr::specs::Reading::steps, crate::specs::Reading::arm_of, crate::specs::Reading::union_at))]
 fn union(alloc: Global, vt: u16, r: &mut Ndr<'_>) -> Result<Scalar, ReadFault>
     ensures value { ReadsField result r.new (union_at vt r.old) }
     ensures memory { OnMemory result ((vt ≡ 8) × (4 ≤ length r.old.rest)) }

@@ -24,7 +24,7 @@ fn units(n: u32) -> u32
 }
 
 // The bytes behind the three numbers.
-#[tactic(auto, unfolding(oa_ndr::specs::Reading::bind, oa_ndr::specs::Reading::give, crate::specs::Reading::body_at, crate::specs::Reading::text_at))]
+#[tactic(auto, unfolding(oa_ndr::specs::Reading::steps, crate::specs::Reading::body_at, crate::specs::Reading::text_at))]
 fn text(alloc: Global, len: u32, r: &mut Ndr<'_>) -> Result<Bstr, ReadFault>
     ensures { ReadsField result r.new (text_at len r.old) }
 {
@@ -37,7 +37,7 @@ fn text(alloc: Global, len: u32, r: &mut Ndr<'_>) -> Result<Bstr, ReadFault>
 }
 
 // The maximum count, cBytes, clSize and the bytes.
-#[tactic(auto, unfolding(oa_ndr::specs::Reading::bind, oa_ndr::specs::Reading::give, oa_ndr::specs::Reading::choose, oa_ndr::specs::Reading::fail, crate::specs::Reading::blob_at))]
+#[tactic(auto, unfolding(oa_ndr::specs::Reading::steps, crate::specs::Reading::blob_at))]
 pub(crate) fn blob(alloc: Global, r: &mut Ndr<'_>) -> Result<Bstr, ReadFault>
     ensures value { ReadsField result r.new (blob_at r.old) }
     ensures memory { OnMemory result (12 ≤ length r.old.rest) }
@@ -58,7 +58,7 @@ pub(crate) fn blob(alloc: Global, r: &mut Ndr<'_>) -> Result<Bstr, ReadFault>
 }
 
 // A referent and its pointee.
-#[tactic(auto, unfolding(oa_ndr::specs::Reading::bind, oa_ndr::specs::Reading::give, oa_ndr::specs::Reading::choose, crate::specs::Reading::bstr_at))]
+#[tactic(auto, unfolding(oa_ndr::specs::Reading::steps, crate::specs::Reading::bstr_at))]
 pub(crate) fn bstr(alloc: Global, r: &mut Ndr<'_>) -> Result<Bstr, ReadFault>
     ensures { ReadsField result r.new (bstr_at r.old) }
 {

@@ -60,7 +60,7 @@ fn array(alloc: Global, elem: VarType, r: &mut Ndr<'_>) -> Result<SafeArray<Scal
     }
 }
 
-#[tactic(auto, unfolding(oa_ndr::specs::Reading::bind, oa_ndr::specs::Reading::give, crate::specs::Reading::scalar_value_at))]
+#[tactic(auto, unfolding(oa_ndr::specs::Reading::steps, crate::specs::Reading::scalar_value_at))]
 fn scalar_value(alloc: Global, vt: u16, r: &mut Ndr<'_>) -> Result<Variant, ReadFault>
     ensures value { ReadsField result r.new (scalar_value_at vt r.old) }
     ensures memory { OnMemory result ((vt ≡ 8) × (4 ≤ length r.old.rest)) }
@@ -69,7 +69,7 @@ fn scalar_value(alloc: Global, vt: u16, r: &mut Ndr<'_>) -> Result<Variant, Read
 }
 
 // The discriminant, the first referent and the array.
-#[tactic(auto, unfolding(oa_ndr::specs::Reading::bind, oa_ndr::specs::Reading::choose, oa_ndr::specs::Reading::fail, crate::specs::Reading::array_union_at))]
+#[tactic(auto, unfolding(oa_ndr::specs::Reading::steps, crate::specs::Reading::array_union_at))]
 fn array_union(
     alloc: Global,
     elem: VarType,
@@ -87,7 +87,7 @@ fn array_union(
     Err(ReadFault::BadStub)
 }
 
-#[tactic(auto, unfolding(oa_ndr::specs::Reading::bind, oa_ndr::specs::Reading::give, oa_ndr::specs::Reading::fail, crate::specs::Reading::array_value_at))]
+#[tactic(auto, unfolding(oa_ndr::specs::Reading::steps, crate::specs::Reading::array_value_at))]
 fn array_value(alloc: Global, vt: u16, r: &mut Ndr<'_>) -> Result<Variant, ReadFault>
     requires { 8192 ≤ vt }
     ensures value { ReadsField result r.new (array_value_at (type_at (vt - 8192)) vt r.old) }
@@ -99,7 +99,7 @@ fn array_value(alloc: Global, vt: u16, r: &mut Ndr<'_>) -> Result<Variant, ReadF
     }
 }
 
-#[tactic(auto, unfolding(oa_ndr::specs::Reading::bind, oa_ndr::specs::Reading::choose, crate::specs::Reading::variant_at))]
+#[tactic(auto, unfolding(oa_ndr::specs::Reading::steps, crate::specs::Reading::variant_at))]
 fn variant(alloc: Global, r: &mut Ndr<'_>) -> Result<Variant, ReadFault>
     ensures value { ReadsField result r.new (variant_at r.old) }
     ensures memory { OnMemory result (TakesMemory (from_multiple 8 r.old)) }

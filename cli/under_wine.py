@@ -1,0 +1,401 @@
+"""The COM bridge, clients/com, as its tests have it: built by mingw-w64, registered under Wine, before a server behind a socket; and copies of its
+sources with a planted fault. What is not installed leaves its tests out, each by its name."""
+import concurrent.futures
+import contextlib
+import functools
+import os
+import random
+import re
+import shutil
+import signal
+import socket
+import struct
+import subprocess
+import tempfile
+import threading
+import time
+import unittest
+import uuid
+
+import wire  # which finds the client's module
+from running import PROGRAM, ROOT, Cases, short
+
+oaut = wire.oaut
+COM = f"{ROOT}/clients/com"
+TESTS = f"{COM}/tests"
+TIMEOUT = 300
+# behind so many seconds what is not begun under Wine is left out, each by its name
+LIMIT, BEGUN = float(os.environ.get("OAUT_COM_SECONDS") or 210), time.monotonic()
+
+ITEM = uuid.UUID("11223344-5566-7788-99aa-bbccddeeff03")
+
+
+def hub_of(first):
+    """The class of a library's hub, from the GUID of its first interface."""
+    one, two, three, *rest = uuid.UUID(first).fields
+    return uuid.UUID(fields=(one ^ 0x6F617574, two ^ 0x6875, three ^ 0x6221, *rest))
+
+
+HUB = hub_of("11223344-5566-7788-99aa-bbccddeeff02")
+
+
+def left_out(*tools):
+    """Leaves a test or a class of them out where a tool is not there."""
+    missing = [it for it in tools if not shutil.which(it)]
+    return unittest.skipIf(missing, f"{', '.join(missing)} not there")
+
+
+under_wine = left_out("x86_64-w64-mingw32-gcc", "wine")
+
+
+def text(path):
+    with open(path) as file:
+        return file.read()
+
+
+def write(path, content):
+    with open(path, "w", newline="") as file:
+        file.write(content)
+    return path
+
+
+def built(words, **how):
+    """What a build says, and its status."""
+    done = subprocess.run(words, stdout=subprocess.PIPE, stderr=subprocess.STDOUT, timeout=TIMEOUT, **how)
+    return done.returncode, done.stdout.decode("utf-8", "replace")
+
+
+# --- a server behind a socket, for one client after another
+
+
+class Server:
+    """Accepts on a port of its own and starts the program for each client in turn. Its words may change: the next client's program has them. Where
+    records are looked at, they go through this process, which keeps the requests' bodies, spoils some replies of a thousand, and ends a session
+    behind so many requests for types, once."""
+
+    def __init__(self):
+        self.words, self.looks, self.spoils, self.requests = None, False, 0, []
+        self.types_left, self.is_last = 0, False
+        self.chance = random.Random(20261126)
+        self.child = None
+        self.port = 0
+        self.listen()
+
+    def listen(self):
+        self.listening = socket.socket()
+        self.listening.setsockopt(socket.SOL_SOCKET, socket.SO_REUSEADDR, 1)
+        self.listening.bind(("127.0.0.1", self.port))
+        self.listening.listen(8)
+        self.port = self.listening.getsockname()[1]
+        self.thread = threading.Thread(target=self.accept, args=(self.listening,), daemon=True)
+        self.thread.start()
+
+    def accept(self, listening):
+        while True:
+            try:
+                client, _ = listening.accept()
+            except OSError:
+                return
+            with client:
+                client.setsockopt(socket.IPPROTO_TCP, socket.TCP_NODELAY, 1)
+                if self.looks:
+                    self.look(client)
+                else:
+                    self.child = subprocess.Popen(self.words, stdin=client, stdout=client, stderr=subprocess.DEVNULL)
+                    self.child.wait()
+
+    def look(self, client):
+        self.child = child = subprocess.Popen(self.words, stdin=subprocess.PIPE, stdout=subprocess.PIPE, stderr=subprocess.DEVNULL)
+        back = threading.Thread(target=self.carry_back, args=(child.stdout, client), daemon=True)
+        back.start()
+        with client.makefile("rb") as asked, contextlib.suppress(OSError):  # a client that resets its connection, or a program that has ended
+            while (body := record(asked)) is not None:
+                self.requests.append(body)
+                if self.types_left and body[4] == oaut.TYPEINFO:
+                    self.types_left -= 1
+                    self.is_last = not self.types_left
+                child.stdin.write(struct.pack("<I", len(body)) + body)
+                child.stdin.flush()
+        with contextlib.suppress(OSError):
+            child.stdin.close()
+        child.wait()
+        back.join()
+        child.stdout.close()
+
+    def carry_back(self, replies, client):
+        try:
+            while (body := record(replies)) is not None:
+                whole = self.spoiled(struct.pack("<I", len(body)) + body)
+                client.sendall(whole, socket.MSG_MORE if self.is_last else 0)
+                if self.is_last:  # it comes with the connection's end, so that the client sees that before it asks again
+                    self.is_last = False
+                    break
+        except OSError:
+            pass
+        try:
+            client.shutdown(socket.SHUT_RDWR)
+        except OSError:
+            pass
+
+    def spoiled(self, whole):
+        if self.chance.randrange(1000) >= self.spoils:
+            return whole
+        changed = bytearray(whole)
+        for _ in range(self.chance.choice((1, 1, 2, 4))):
+            # the record's length seldom: what is too long is waited for
+            place = self.chance.randrange(4 if self.chance.random() < 0.97 else 0, len(whole))
+            changed[place] = self.chance.choice((0, 1, 2, 0x20, 0x7F, 0x80, 0xFF, self.chance.randrange(256)))
+        return bytes(changed)
+
+    def ends(self, child, seconds=20):
+        """Waits until a client's program has ended, since the client has hung up."""
+        try:
+            child.wait(seconds)
+        except subprocess.TimeoutExpired:
+            return False
+        return True
+
+    def close(self):
+        try:
+            self.listening.shutdown(socket.SHUT_RDWR)
+        except OSError:
+            pass
+        self.listening.close()
+        if self.child and self.child.poll() is None:
+            self.child.kill()
+        self.thread.join(20)
+
+
+def record(stream):
+    """The body of the next record, None at the end."""
+    head = stream.read(4)
+    if len(head) < 4:
+        return None
+    body = stream.read(struct.unpack("<I", head)[0])
+    return body if len(body) == struct.unpack("<I", head)[0] else None
+
+
+# --- Wine
+
+
+class Wine:
+    """A folder of Wine's and a Wine server of their own."""
+
+    def __init__(self, room):
+        self.room = room
+        self.env = {**os.environ, "WINEPREFIX": f"{room}/wine", "WINEDEBUG": "-all", "WINEARCH": "win64", "WINEDLLOVERRIDES": "mscoree,mshtml=", "LC_ALL": "C.UTF-8"}
+        self.env.pop("DISPLAY", None)
+        os.mkdir(f"{room}/wine")
+        quiet = {"env": self.env, "stdin": subprocess.DEVNULL, "stdout": subprocess.DEVNULL, "stderr": subprocess.DEVNULL}
+        # without one of our own each command waits until Wine's last background process has closed its pipe
+        server = next(it for it in ("/usr/lib/wine/wineserver64", shutil.which("wineserver") or "wineserver") if os.path.exists(it) or "/" not in it)
+        self.server = subprocess.Popen([server, "-f", "-p"], **quiet)
+        subprocess.run(["wine", "wineboot", "-i"], timeout=TIMEOUT, **quiet)
+
+    def start(self, *words):
+        return subprocess.Popen(["wine", *words], env=self.env, cwd=self.room, stdin=subprocess.DEVNULL, stdout=subprocess.PIPE, stderr=subprocess.DEVNULL)
+
+    def run(self, *words, given=None):
+        """The status and the output; where it takes too long, None and what came."""
+        try:
+            done = subprocess.run(["wine", *words], env=self.env, cwd=self.room, input=given or b"", stdout=subprocess.PIPE, stderr=subprocess.DEVNULL, timeout=TIMEOUT)
+        except subprocess.TimeoutExpired as late:
+            return None, plain(late.stdout or b"")
+        return done.returncode, plain(done.stdout)
+
+    def close(self):
+        # by this signal it ends what runs in its folder, too
+        self.server.send_signal(signal.SIGINT)
+        self.server.wait(20)
+
+
+def plain(output):
+    return output.decode("utf-8", "replace").replace("\r\n", "\n")
+
+
+def windows(path):
+    return "Z:" + path.replace("/", "\\")
+
+
+class Bridge:
+    """The bridge as it is built and registered, before a server on a store of tests/demo.idl."""
+
+    def __init__(self):
+        self.room = tempfile.mkdtemp(prefix="oaut-com-")
+        self.wine = self.server = None
+        try:
+            os.mkdir(f"{self.room}/built")
+            self.builds = [built([f"{COM}/build.sh", f"{self.room}/built"]), built([f"{TESTS}/build.sh", "windows", f"{self.room}/built"])]
+            self.dll = f"{self.room}/built/oautcom.dll"
+            self.library = f"{TESTS}/demo.idl"
+            self.server = Server()
+            self.new_store()
+            self.wine = Wine(self.room)
+            if shutil.which("x86_64-w64-mingw32-widl"):
+                self.builds.append(built([f"{COM}/typelib.sh", PROGRAM, self.library, f"{self.room}/built/Demo.tlb"]))
+            self.registered = self.register("Demo")
+        except BaseException:
+            self.close()
+            raise
+
+    def new_store(self, library=None):
+        """A store of a library, which the next client finds."""
+        self.library = library or f"{TESTS}/demo.idl"
+        self.store = f"{self.room}/{len(os.listdir(self.room))}.store"
+        subprocess.run([PROGRAM, "format", self.store, self.library], check=True, stdout=subprocess.DEVNULL, timeout=TIMEOUT)
+        self.server.words = [PROGRAM, "serve", self.store, self.library]
+
+    def add_item(self):
+        """Makes an object in the store, with an array that can be locked."""
+        with oaut.serve(self.store, self.library, program=PROGRAM) as session:
+            session.create("Item").Grid = [1, 2, 3]
+
+    def register(self, name, *more):
+        return self.wine.run("regsvr32", "/s", "/n", *more, f"/i:{name}@127.0.0.1:{self.server.port}", self.dll)[0]
+
+    def enter(self, lines):
+        """Enters lines of a .reg file."""
+        file = write(f"{self.room}/some.reg", "REGEDIT4\n\n" + lines)
+        return self.wine.run("regedit", "/S", windows(file))[0]
+
+    def set(self, **numbers):
+        """Numbers of the class and of the hub, beside what is registered anew."""
+        self.register("Demo")
+        values = "".join(f'"{name}"=dword:{number:08x}\n' for name, number in numbers.items())
+        self.enter("".join(f"[HKEY_CLASSES_ROOT\\CLSID\\{{{it}}}\\Oaut]\n{values}\n" for it in (ITEM, HUB)))
+
+    def script(self, name):
+        """A script of the tests, behind what all of them share."""
+        shared = text(f"{TESTS}/same.vbs") if name.endswith(".vbs") else ""
+        write(f"{self.room}/{name}", shared + text(f"{TESTS}/{name}"))
+        return ["cscript", "//nologo", name]
+
+    def close(self):
+        if self.server:
+            self.server.close()
+        if self.wine:
+            self.wine.close()
+        shutil.rmtree(self.room, ignore_errors=True)
+
+
+@functools.lru_cache(None)
+def bridge():
+    made = Bridge()
+    unittest.addModuleCleanup(made.close)
+    return made
+
+
+class Told(Cases):
+    def each(self, name, output):
+        """The cases that a script or a program of the tests tells, of those that stand in its text. Wine's cscript has the status 0 also where a
+        script breaks off, and behind On Error Resume Next it says nothing of a line with an error."""
+        lines = (output or "").splitlines()
+        told = {line[5:] for line in lines if line.startswith("ok   ")}
+        for case in {*re.findall(r'\b(?:Same|Refused|same|refused)[ (]"([^"]+)"', text(f"{TESTS}/{name}")), *told}:
+            self.tell(f"{name}: {case}", case in told, [line for line in lines if line.startswith(f"BAD  {case}")])
+        for line in lines:
+            if line.startswith("BAD  "):
+                self.tell(f"{name}: {line[5:]}", False, line)
+        self.tell(f"{name}: to its end", lines[-1:] == ["end"], short("\n".join(lines[-6:])))
+
+    def bad(self, output):
+        """How many cases of an output failed, and one more where it did not come to its end."""
+        lines = (output or "").splitlines()
+        return sum(it.startswith("BAD") for it in lines) + (lines[-1:] != ["end"])
+
+
+class UnderWine(Told):
+    @classmethod
+    def setUpClass(cls):
+        cls.bridge = bridge()
+        cls.wine, cls.server = cls.bridge.wine, cls.bridge.server
+
+    def setUp(self):
+        if time.monotonic() - BEGUN > LIMIT:
+            self.skipTest(f"{LIMIT} seconds are over")
+
+    def runs(self, script, *words):
+        self.each(script, self.wine.run(*self.bridge.script(script), *words)[1])
+
+    def held(self, script, *words):
+        """A script that waits for a file, up to its line "ready": the process, the file, what it has told."""
+        go = tempfile.mktemp(dir=self.bridge.room)
+        process = self.wine.start(*self.bridge.script(script), windows(go), *words)
+        told = b""
+        while b"ready" not in told and (line := process.stdout.readline()):
+            told += line
+        return process, go, told
+
+    def finish(self, held):
+        """Lets it go on, and gives all that it tells."""
+        process, go, told = held
+        if process.poll() is None:
+            write(go, "")
+        try:
+            told += process.communicate(timeout=TIMEOUT)[0]
+        except subprocess.TimeoutExpired:
+            process.kill()
+            told += process.communicate()[0]
+        return plain(told)
+
+    def types(self):
+        """What a script tells whose server ends while it tells its types."""
+        self.server.looks, self.server.types_left = True, 1
+        try:
+            return self.wine.run(*self.bridge.script("types.vbs"))[1]
+        finally:
+            self.server.looks = False
+
+    def started(self):
+        """What a client tells that ends before the process that it has started, and whether its connection ends with it."""
+        go = tempfile.mktemp(dir=self.bridge.room)
+        client = self.wine.start(f"{self.bridge.room}/built/client.exe", "starts", windows(go))
+        told = b""
+        while b"end" not in told and (line := client.stdout.readline()):
+            told += line
+        ended = self.server.ends(self.server.child, 4)
+        write(go, "")
+        told += client.communicate(timeout=TIMEOUT)[0]
+        return f"{'ok   ' if ended else 'BAD  '}its server ends\n{plain(told)}"
+
+    def lost(self):
+        """What a script tells whose server is killed while it has a put."""
+        held = self.held("lost.vbs")
+        child = self.server.child
+        child.send_signal(signal.SIGSTOP)
+        threading.Timer(1.5, child.kill).start()
+        return self.finish(held)
+
+
+# --- faults that are planted
+
+
+def planted(room, file, edits):
+    """A copy of the sources with an edit."""
+    shutil.copytree(COM, f"{room}/com")
+    path = f"{room}/com/{file}"
+    source = text(path)
+    for old, new in edits:
+        if source.count(old) != 1:
+            raise AssertionError(f"{file} does not have once: {old}")
+        source = source.replace(old, new)
+    write(path, source)
+    return f"{room}/com"
+
+
+def all_planted(faults, build, *words):
+    """Of each fault a folder with what is built of it, and what the build said; they are built at once."""
+    rooms = {name: tempfile.TemporaryDirectory() for name in faults}
+
+    def one(name):
+        room = rooms[name]
+        return room, built([f"{planted(room.name, *faults[name][:2])}/{build}", *words, room.name], env={**os.environ, "CFLAGS": "-O0"})
+
+    with concurrent.futures.ThreadPoolExecutor(os.cpu_count()) as pool:
+        return dict(zip(rooms, pool.map(one, rooms)))
+
+
+def is_placed(file, edits):
+    """Whether each text that a fault takes the place of stands once in its file."""
+    source = text(f"{COM}/{file}")
+    return all(source.count(old) == 1 and old != new for old, new in edits)

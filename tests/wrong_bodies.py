@@ -6,6 +6,7 @@
 The crates are made in a temporary folder, with a history of their own. The edits are tried as anybody would try them and as the gate does (--gate): there the first crate has
 changed since all were tried, and of the second one part in six is tried.
 """
+import collections
 import os
 import subprocess
 import sys
@@ -15,7 +16,7 @@ ROOT = os.path.dirname(os.path.dirname(os.path.abspath(__file__)))
 TOOL = os.path.join(ROOT, "bin", "wrong-bodies")
 sys.dont_write_bytecode = True
 sys.path.insert(0, os.path.join(ROOT, "tools"))
-from wrong_bodies.choice import PARTS, TRIED, Choice, part_of, read_tried, write_tried
+from wrong_bodies.choice import PARTS, TRIED, Choice, parts_of, read_tried, write_tried
 
 SOURCE = """//! Steps and the lesser of two numbers.
 #![tactic(auto)]
@@ -106,13 +107,14 @@ EDITS = {
 
 
 
-# Edits of the second crate: whether each is in the part that the commit chooses, its text, and how its line begins, None where it has none.
+# Edits of the second crate, in the order of their names: whether each is in the last part of all edits, its text, and how its line begins, None where it has none.
 ABOVE_EDITS = {
-    "tried": (True, "old:     steps::twice_above(n)\nnew:     steps::above(n)\n", "refused by a clause: four_above"),
-    "tried_and_stands": (True, "old:     steps::twice_above(n)\nnew:     steps::above(steps::above(n))\n", "NOT REFUSED: four_above"),
-    "left": (False, "old:     steps::twice_above(n)\nnew:     steps::above(n)\n", None),
-    "left_and_cannot_be_placed": (False, "old:     steps::thrice_above(n)\nnew:     n\n", "not tried: an 'old:' text is in src/lib.rt 0 times"),
-    "left_and_does_not_compile": (False, "old:     steps::twice_above(n)\nnew:     steps::thrice_above(n)\n", "not tried: it did not reach the prover"),
+    "a_short_step": (False, "old:     steps::twice_above(n)\nnew:     steps::above(n)\n", None),
+    "b_cannot_be_placed": (False, "old:     steps::thrice_above(n)\nnew:     n\n", "not tried: an 'old:' text is in src/lib.rt 0 times"),
+    "c_does_not_compile": (False, "old:     steps::twice_above(n)\nnew:     steps::thrice_above(n)\n", "not tried: it did not reach the prover"),
+    "d_short_step": (True, "old:     steps::twice_above(n)\nnew:     steps::above(n)\n", "refused by a clause: four_above"),
+    "e_no_step": (True, "old:     steps::twice_above(n)\nnew:     n\n", "refused by a clause: four_above"),
+    "f_two_steps": (True, "old:     steps::twice_above(n)\nnew:     steps::above(steps::above(n))\n", "NOT REFUSED: four_above"),
 }
 
 counts = {True: 0, False: 0}
@@ -153,11 +155,6 @@ def ran(root, wanted, last, *flags):
     return lines
 
 
-def named(name, part):
-    """Returns a name for an edit of the second crate that is in a part."""
-    return next(it for it in (f"{name}_{count}" for count in range(1_000)) if part_of(f"above/{it}") == part)
-
-
 def tried_over(root, **commits):
     """Says of these crates over which commit all of their edits were tried."""
     write(f"{root}/{TRIED}", "# a comment\n" + "".join(f"{name} {it} 2026-01-01 7\n" for name, it in commits.items()))
@@ -166,18 +163,22 @@ def tried_over(root, **commits):
 def choices(root):
     """Looks at what is chosen, commit by commit, where nothing but the commits changes: each edit comes again and again."""
     crates, below = ["steps", "above"], {"steps": [], "above": ["steps"]}
-    chosen = lambda: Choice(root, crates, True)
+    labels, seen = [f"{name}/{count}" for name in crates for count in range(31)], {}
+    chosen = lambda: Choice(root, labels, True)
     tried_over(root, steps=git(root, "rev-parse", "HEAD"), above=git(root, "rev-parse", "HEAD"))
-    labels, seen = [f"above/{count}" for count in range(60)], {}
+    sizes = collections.Counter(parts_of(labels).values())
+    tell("the parts are of one length", sorted(sizes) == [*range(PARTS)] and max(sizes.values()) - min(sizes.values()) < 2, sizes)
+    tell("a part has its edits one after another", [*parts_of(labels).values()] == sorted(parts_of(labels).values()))
+    of_part = lambda head: [it for it, part in parts_of(labels).items() if part == int(head, 16) % PARTS]
     for count in range(40):
         head = commit(root, f"{count}")
         choice = chosen()
         tried = [it for it in labels if choice.is_tried(it)]
-        tell(f"what commit {count} chooses", choice.whole == set() and tried == [it for it in labels if part_of(it) == int(head, 16) % PARTS], choice.why)
+        tell(f"what commit {count} chooses", choice.whole == set() and tried == of_part(head), choice.why)
         for it in tried:
             seen[it] = seen.get(it, 0) + 1
     tell("each edit is chosen by one commit or another", sorted(seen) == sorted(labels), sorted({*labels} - {*seen}))
-    tell("without the gate all are tried", all(Choice(root, crates, False).is_tried(it) for it in labels))
+    tell("without the gate all are tried", all(Choice(root, labels, False).is_tried(it) for it in labels))
     for path, is_counted in (("src/lib.rt", True), ("specs/S.antt", True), ("proofs/P.antt", True), ("wrong-bodies/new.edit", True), ("must-fail/new.edit", False), ("out/x", False)):
         write(f"{root}/crates/above/{path}", "x")
         tell(f"a crate with another {path} has changed: {is_counted}", chosen().whole == ({"above"} if is_counted else set()), chosen().why)
@@ -197,7 +198,7 @@ def choices(root):
     ):
         tried_over(root, **lines)
         choice = chosen()
-        well = choice.whole == whole and [it for it in labels if choice.is_tried(it)] == [it for it in labels if "above" in whole or part_of(it) == int(newer, 16) % PARTS]
+        well = choice.whole == whole and [it for it in labels if choice.is_tried(it)] == [it for it in labels if it.partition("/")[0] in whole or it in of_part(newer)]
         tell(name, well and f"all of {len(whole)} of 2 crates" in choice.why, choice.why)
     tried_over(root, steps=newer, above=older)
     tell("what stands above a crate that changed since is compiled", chosen().has_changed("steps", "above") and not chosen().has_changed("above", "above"))
@@ -237,16 +238,17 @@ def main():
         tell("what a proof file alone refuses is listed", any(line.startswith("   steps/a_step_and_one: proofs") or line.startswith("   steps/a_step_and_one: three_above") for line in lines), lines[-8:])
         # as the gate does: all of the crate that has changed since, and one part of the crate above it
         above = {}
-        for name, (is_chosen, text, want) in ABOVE_EDITS.items():
-            name = named(name, 0 if is_chosen else 1)
+        for name, (_, text, want) in ABOVE_EDITS.items():
             above[f"above/{name}"] = want
             write(f"{root}/crates/above/wrong-bodies/{name}.edit", f"file: src/lib.rt\n{text}")
         before = commit(root, "all tried")
         tried_over(root, steps=before, above=before)
         write(f"{root}/crates/steps/src/lib.rt", SOURCE + "\n// changed\n")
-        while int(commit(root, "one crate changed"), 16) % PARTS:
+        parts = parts_of([*sorted(steps), *above])
+        tell("the parts of the second crate's edits", all((parts[f"above/{name}"] == PARTS - 1) == is_last for name, (is_last, _, _) in ABOVE_EDITS.items()), parts)
+        while int(commit(root, "one crate changed"), 16) % PARTS != PARTS - 1:
             pass
-        ran(root, {**steps, **above}, f"{refused + 1} refused, {len(EDITS) - refused + 3} not, 1 left to other commits", "--gate")
+        ran(root, {**steps, **above}, f"{refused + 2} refused, {len(EDITS) - refused + 3} not, 1 left to other commits", "--gate")
         choices(root)
     print(f"{counts[True]} passed, {counts[False]} failed")
     return 1 if counts[False] else 0

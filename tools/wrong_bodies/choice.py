@@ -1,10 +1,10 @@
 """Which wrong bodies the gate tries: all of each crate whose sources, specs, proofs or wrong bodies have changed since all of them were tried, and of the others one part in six.
 
-The part is chosen by the commit: its hash and an edit's name alone say whether the edit is tried, so each comes again and again, and none is left out for good. The file
-wrong-bodies/TRIED names, crate by crate, the commit over which all of the crate's edits were tried and refused."""
+The part is chosen by the commit: its hash says which of six runs of the list of all edits are tried, so each comes again and again, and none is left out for good. The list is
+by crates, so that a part has few of them: most of what a check costs is read before its first edit. The file wrong-bodies/TRIED names, crate by crate, the commit over which
+all of the crate's edits were tried and refused."""
 import datetime
 import functools
-import hashlib
 import os
 import subprocess
 
@@ -26,9 +26,9 @@ def git(root, *words):
     return None if ran.returncode else ran.stdout
 
 
-def part_of(label):
-    """Returns the part of an edit, by its crate's name and its own."""
-    return int.from_bytes(hashlib.sha256(label.encode()).digest()[:8], "big") % PARTS
+def parts_of(labels):
+    """Returns the part of each edit: their list is cut into runs of one length."""
+    return {label: PARTS * at // len(labels) for at, label in enumerate(labels)}
 
 
 def read_tried(root):
@@ -50,10 +50,12 @@ def changed_crates(root, commit):
 
 
 class Choice:
-    """Which edits of these crates are tried: without the gate all, and in it those of the crates that are to be tried whole, and of the others the commit's part."""
+    """Which of all edits are tried: without the gate all, and in it those of the crates that are to be tried whole, and of the others the commit's part."""
 
-    def __init__(self, root, crates, is_for_gate):
-        self.is_for_gate, self.whole, self.part, self.why = is_for_gate, {*crates}, None, ""
+    def __init__(self, root, labels, is_for_gate):
+        crates = {it.partition("/")[0] for it in labels}
+        self.is_for_gate, self.whole, self.part, self.why = is_for_gate, crates, None, ""
+        self.parts = parts_of(labels)
         if not is_for_gate:
             return
         self.tried = read_tried(root)
@@ -65,7 +67,7 @@ class Choice:
         self.part = int(head, 16) % PARTS
         self.whole = {it for it in crates if self.has_changed(it, it)}
         named = f": {', '.join(sorted(self.whole))}" if 0 < len(self.whole) <= NAMED else ""
-        self.why = f"part {self.part + 1} of {PARTS}, by the commit, and all of {len(self.whole)} of {len({*crates})} crates, changed since they were tried{named}"
+        self.why = f"part {self.part + 1} of {PARTS}, by the commit, and all of {len(self.whole)} of {len(crates)} crates, changed since they were tried{named}"
 
     def has_changed(self, crate, since):
         """Whether a crate has changed since all edits of another, or its own, were tried, or nobody knows."""
@@ -75,7 +77,7 @@ class Choice:
         return changed is None or crate in changed
 
     def is_tried(self, label):
-        return label.partition("/")[0] in self.whole or part_of(label) == self.part
+        return label.partition("/")[0] in self.whole or self.parts.get(label, self.part) == self.part
 
 
 def write_tried(root, counts, below):

@@ -4,8 +4,8 @@ ghost use Rattle.std.specs.Prelude.{◌≤◌};
 
 use crate::counts::{checkpoint_moments, session_moments};
 use crate::script::{
-    END, NOTHING, Tried, again, answered_by, both, calls_of, expect, first, new_store, one_more,
-    played, read_of, second,
+    END, NOTHING, TEARS, Tried, again, answered_by, both, calls_of, expect, first, new_store,
+    one_more, played, read_of, second,
 };
 use oa_disk::{MemoryDisk, Tear};
 use oa_history::{Stop, checkpointed};
@@ -119,81 +119,17 @@ fn due(first: u16, second: u16) -> Tried {
 }
 
 /// Five groups, and two: 129 stops, 5,289 openings.
-fn due_of_1() -> Tried {
-    due(5, 2)
+#[test]
+fn stops_in_groups_of_1(rt: HostRuntime) {
+    for tear in TEARS {
+        expect(&rt, script(rt.alloc(), 1, tear), due(5, 2));
+    }
 }
 
 /// Two groups, and one: 97 stops, 3,977 openings.
-fn due_of_3() -> Tried {
-    due(2, 1)
-}
-
 #[test]
-fn lost_in_groups_of_1(rt: HostRuntime) {
-    expect(&rt, script(rt.alloc(), 1, Tear::Lost), due_of_1());
-}
-
-#[test]
-fn kept_in_groups_of_1(rt: HostRuntime) {
-    expect(&rt, script(rt.alloc(), 1, Tear::Kept), due_of_1());
-}
-
-#[test]
-fn filled_with_0_in_groups_of_1(rt: HostRuntime) {
-    expect(&rt, script(rt.alloc(), 1, Tear::Filled(0)), due_of_1());
-}
-
-#[test]
-fn filled_with_1_in_groups_of_1(rt: HostRuntime) {
-    expect(&rt, script(rt.alloc(), 1, Tear::Filled(1)), due_of_1());
-}
-
-#[test]
-fn filled_with_7_in_groups_of_1(rt: HostRuntime) {
-    expect(&rt, script(rt.alloc(), 1, Tear::Filled(7)), due_of_1());
-}
-
-#[test]
-fn filled_with_ff_in_groups_of_1(rt: HostRuntime) {
-    expect(&rt, script(rt.alloc(), 1, Tear::Filled(0xff)), due_of_1());
-}
-
-#[test]
-fn cut_in_groups_of_1(rt: HostRuntime) {
-    expect(&rt, script(rt.alloc(), 1, Tear::Cut(1)), due_of_1());
-}
-
-#[test]
-fn lost_in_groups_of_3(rt: HostRuntime) {
-    expect(&rt, script(rt.alloc(), 3, Tear::Lost), due_of_3());
-}
-
-#[test]
-fn kept_in_groups_of_3(rt: HostRuntime) {
-    expect(&rt, script(rt.alloc(), 3, Tear::Kept), due_of_3());
-}
-
-#[test]
-fn filled_with_0_in_groups_of_3(rt: HostRuntime) {
-    expect(&rt, script(rt.alloc(), 3, Tear::Filled(0)), due_of_3());
-}
-
-#[test]
-fn filled_with_1_in_groups_of_3(rt: HostRuntime) {
-    expect(&rt, script(rt.alloc(), 3, Tear::Filled(1)), due_of_3());
-}
-
-#[test]
-fn filled_with_7_in_groups_of_3(rt: HostRuntime) {
-    expect(&rt, script(rt.alloc(), 3, Tear::Filled(7)), due_of_3());
-}
-
-#[test]
-fn filled_with_ff_in_groups_of_3(rt: HostRuntime) {
-    expect(&rt, script(rt.alloc(), 3, Tear::Filled(0xff)), due_of_3());
-}
-
-#[test]
-fn cut_in_groups_of_3(rt: HostRuntime) {
-    expect(&rt, script(rt.alloc(), 3, Tear::Cut(1)), due_of_3());
+fn stops_in_groups_of_3(rt: HostRuntime) {
+    for tear in TEARS {
+        expect(&rt, script(rt.alloc(), 3, tear), due(2, 1));
+    }
 }

@@ -1,10 +1,10 @@
 //! A session in which an object is made, and a checkpoint, stopped before anything of the session is kept, and at their ends; and a session
 //! over a stream behind them.
-use crate::script::{END, first, library};
+use crate::script::{END, first, library, new_disk};
 use crate::script_histories::{add, add_checkpoint};
-use oa_disk::{MemoryDisk, Tear};
+use oa_disk::Tear;
 use oa_frame::Framing;
-use oa_history::{Asked, Input, Replies, Session, Step, Stop, relive};
+use oa_history::{Asked, Input, Lived, Replies, Session, Step, Stop, relive};
 use std::alloc::Global;
 use std::process::Abort;
 use std::rt::HostRuntime;
@@ -50,20 +50,25 @@ fn made_over(replies: &Replies) -> Option<u8> {
     }
 }
 
-/// The number of the next object, behind a session and a checkpoint that were stopped at the moment, and a session over a stream that was
-/// stopped at its end and has told the number before that.
-fn next_of(alloc: Global, moment: u64, tear: Tear) -> Option<u32> {
-    let library = library(alloc)?;
-    let disk = MemoryDisk::new(alloc, 75_505_664, 100, 4000).ok()?;
-    let mut steps = Vec::new(alloc);
-    add_all(alloc, &mut steps, Stop { moment, tear })?;
-    let lived = relive(alloc, &library, disk, &steps).ok()?;
+/// The number of the next object, where the last session has told the number before that.
+fn next_in(lived: &Lived) -> Option<u32> {
     let made = made_over(&lived.heard.as_slice().last()?.replies)?;
     let next = lived.table.next();
     if next == u32::from(made).saturating_add(1) {
         Some(next)
     } else {
         None
+    }
+}
+
+/// The same behind a session and a checkpoint that were stopped at the moment, and a session over a stream that was stopped at its end.
+fn next_of(alloc: Global, moment: u64, tear: Tear) -> Option<u32> {
+    let mut steps = Vec::new(alloc);
+    add_all(alloc, &mut steps, Stop { moment, tear })?;
+    let library = library(alloc)?;
+    match relive(alloc, &library, new_disk(alloc)?, &steps) {
+        Ok(lived) => next_in(&lived),
+        Err(_) => None,
     }
 }
 

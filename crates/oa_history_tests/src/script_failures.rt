@@ -18,7 +18,7 @@ use std::rt::HostRuntime;
 
 /// What is due behind a session over a disk that fails: so many of the requests were done, or the group in which it has failed too; and
 /// whether it has failed, and was opened.
-#[derive(Clone, Copy, Debug, PartialEq, Eq)]
+#[derive(Clone, Copy)]
 struct Due {
     least: usize,
     most: usize,
@@ -84,11 +84,10 @@ fn read_as_it_is(alloc: Global, disk: MemoryDisk, least: usize, most: usize) -> 
     }
 }
 
-/// How many of the requests a loss of power now with this tear leaves.
-fn left_by(alloc: Global, disk: &MemoryDisk, due: Due, tear: Tear) -> Option<usize> {
+/// How many of the requests a loss of power now with this tear leaves, and the moments of the opening behind it.
+fn left_by(alloc: Global, disk: &MemoryDisk, due: Due, tear: Tear) -> Option<(usize, u64)> {
     let left = disk.crash(disk.moments(), tear).ok()?;
-    let (place, _) = read_of(alloc, &left, due.least, due.most)?;
-    Some(place)
+    read_of(alloc, &left, due.least, due.most)
 }
 
 /// A loss of power now with each tear: how many there were, if each leaves the requests that are due, with the group that is in doubt or
@@ -96,7 +95,7 @@ fn left_by(alloc: Global, disk: &MemoryDisk, due: Due, tear: Tear) -> Option<usi
 fn losses_of(alloc: Global, disk: &MemoryDisk, due: Due) -> Option<u64> {
     let mut count = 0u64;
     for tear in TEARS {
-        let place = left_by(alloc, disk, due, tear)?;
+        let (place, _) = left_by(alloc, disk, due, tear)?;
         if place != due.least && place != due.most {
             return None;
         }
@@ -107,7 +106,7 @@ fn losses_of(alloc: Global, disk: &MemoryDisk, due: Due) -> Option<u64> {
 
 /// What was found behind calls over disks that fail: how often an opening has met the fault, and how often a group that was then found whole,
 /// or not at all; and how many losses of power were tried then.
-#[derive(Clone, Copy, Debug, PartialEq, Eq)]
+#[derive(Clone, Copy, PartialEq, Eq)]
 struct Found {
     openings: u64,
     whole: u64,

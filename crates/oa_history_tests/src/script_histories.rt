@@ -13,7 +13,7 @@ use std::alloc::Global;
 use std::rt::HostRuntime;
 
 /// One of the three steps.
-#[derive(Clone, Copy, Debug, PartialEq, Eq)]
+#[derive(Clone, Copy)]
 enum Place {
     First,
     Between,
@@ -89,22 +89,23 @@ fn add_all(
     add(alloc, steps, reads(), 3, end)
 }
 
+/// Which of the steps it is, how many of the requests were made before it, and how many behind it.
+fn bounds_of(place: Place) -> (usize, usize, usize) {
+    match place {
+        Place::First => (0, 0, 5),
+        Place::Between => (1, 5, 5),
+        Place::Second => (2, 5, 7),
+    }
+}
+
 /// Of what was heard in a history: the last moment of the step that was stopped, how many openings there were, one for each step and
 /// the last one, and how many of the requests were kept.
 fn kept_of(alloc: Global, heard: &[Heard], place: Place, moment: u64) -> Option<(u64, u64, usize)> {
-    let openings = (heard.len() as u64).saturating_add(1);
-    let (stopped, least, most) = match place {
-        Place::First => {
-            let stopped = heard.first()?;
-            (stopped, answered_by(stopped, 0, moment)?, 5)
-        }
-        Place::Between => (heard.get(1)?, 5, 5),
-        Place::Second => {
-            let stopped = heard.get(2)?;
-            (stopped, answered_by(stopped, 5, moment)?, 7)
-        }
-    };
+    let (step, first, most) = bounds_of(place);
+    let stopped = heard.get(step)?;
+    let least = answered_by(stopped, first, moment)?;
     let kept = place_in(alloc, heard.last()?, least, most)?;
+    let openings = (heard.len() as u64).saturating_add(1);
     Some((stopped.disk.moments(), openings, kept))
 }
 

@@ -8,21 +8,21 @@ use crate::script::{
     one_more, played, read_of, second,
 };
 use oa_disk::{MemoryDisk, Tear};
-use oa_history::{Stop, checkpointed};
+use oa_history::{Heard, Stop, checkpointed};
 use std::alloc::Global;
 use std::rt::HostRuntime;
 
-/// Whether a disk that holds so many of the requests does so behind a stop of its opening at the moment.
-fn is_opened_again(
+/// Whether a disk that holds so many of the requests does so behind a stop of its opening at the moment: as many, and the moments of the
+/// opening behind it.
+fn opened_again(
     alloc: Global,
     disk: &MemoryDisk,
     place: usize,
     moment: u64,
     tear: Tear,
-) -> Option<()> {
+) -> Option<(usize, u64)> {
     let (_, left) = played(alloc, disk, Vec::new(alloc), moment, tear)?;
-    let _ = read_of(alloc, &left, place, place)?;
-    Some(())
+    read_of(alloc, &left, place, place)
 }
 
 /// Opens the disk that a stop has left, which holds `least` to `most` of the requests; and so does each disk that a stop of that opening has
@@ -37,10 +37,24 @@ fn openings(
     let (place, end) = read_of(alloc, disk, least, most)?;
     let mut count = 1u64;
     for moment in 0..end {
-        is_opened_again(alloc, disk, place, moment, tear)?;
+        let _ = opened_again(alloc, disk, place, moment, tear)?;
         count = count.saturating_add(2);
     }
     Some(count)
+}
+
+/// Opens what a stop of a session has left, before which `first` of the requests were kept, and behind which at most `most` are. Answers how
+/// many openings there were.
+fn openings_behind(
+    alloc: Global,
+    heard: &Heard,
+    left: &MemoryDisk,
+    first: usize,
+    most: usize,
+    stop: Stop,
+) -> Option<u64> {
+    let least = answered_by(heard, first, stop.moment)?;
+    openings(alloc, left, least, most, stop.tear)
 }
 
 /// The session of these requests, before which `first` were kept, stopped at the moment: how many openings there were behind it.
@@ -56,9 +70,8 @@ fn stopped_session(
 {
     let calls = calls_of(alloc, lines, group)?;
     let (heard, left) = played(alloc, disk, calls, stop.moment, stop.tear)?;
-    let least = answered_by(&heard, first, stop.moment)?;
     let most = first.saturating_add(lines.len());
-    openings(alloc, &left, least, most, stop.tear)
+    openings_behind(alloc, &heard, &left, first, most, stop)
 }
 
 /// Stops the session of these requests at each moment.

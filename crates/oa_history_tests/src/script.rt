@@ -279,11 +279,10 @@ pub(crate) fn answered_by(heard: &Heard, first: usize, moment: u64) -> Option<us
 /// How many of the requests the server holds.
 pub(crate) fn read_by(
     alloc: Global,
-    server: Server<MemoryDisk>,
+    server: &mut Server<MemoryDisk>,
     least: usize,
     most: usize,
 ) -> Option<usize> {
-    let mut server = server;
     let mut bodies = Vec::new(alloc);
     for line in reads() {
         bodies.push(hex::decode(alloc, *line).ok()?).ok()?;

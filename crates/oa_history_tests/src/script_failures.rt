@@ -79,7 +79,7 @@ fn due_of(told: &Result<Vec<Told>, DeviceFault>, first: usize, first_failing: u6
 /// How many of the requests a server holds that is opened on this disk, as it is.
 fn read_as_it_is(alloc: Global, disk: MemoryDisk, least: usize, most: usize) -> Option<usize> {
     match Server::open(alloc, disk, library(alloc)?) {
-        Ok(server) => read_by(alloc, server, least, most),
+        Ok(mut server) => read_by(alloc, &mut server, least, most),
         Err(_) => None,
     }
 }
@@ -172,18 +172,12 @@ fn are_told(library: &Library, text: &[u8], table: &Table, place: usize) -> bool
 fn found_by(
     alloc: Global,
     library: &Library,
-    survived: Survived,
+    survived: &mut Survived,
     first_failing: u64,
 ) -> Option<(Due, usize)> {
     let due = due_of(&survived.told, 0, first_failing)?;
-    let Survived {
-        library: text,
-        table,
-        opened,
-        ..
-    } = survived;
-    let place = read_by(alloc, opened.server, due.least, due.most)?;
-    if are_told(library, text.as_slice(), &table, place) {
+    let place = read_by(alloc, &mut survived.opened.server, due.least, due.most)?;
+    if are_told(library, survived.library.as_slice(), &survived.table, place) {
         Some((due, place))
     } else {
         None
@@ -197,8 +191,10 @@ fn survived(alloc: Global, group: usize, first_failing: u64) -> Option<(Due, usi
     let library = library(alloc)?;
     let calls = calls_of(alloc, first(), group)?;
     let disk = new_disk(alloc)?;
-    let survived = survive(alloc, &library, disk, calls.as_slice(), first_failing).ok()?;
-    found_by(alloc, &library, survived, first_failing)
+    match survive(alloc, &library, disk, calls.as_slice(), first_failing) {
+        Ok(mut survived) => found_by(alloc, &library, &mut survived, first_failing),
+        Err(_) => None,
+    }
 }
 
 /// Plays the first session by `survive`, over disks that fail from each call on, up to one that does not fail.

@@ -110,9 +110,9 @@ fn kept_of(alloc: Global, heard: &[Heard], place: Place, moment: u64) -> Option<
 }
 
 /// The same of a history whose server reads what was kept, but for how many of the requests these are.
-fn read_in(alloc: Global, lived: Lived, place: Place, moment: u64) -> Option<(u64, u64)> {
+fn read_in(alloc: Global, lived: &mut Lived, place: Place, moment: u64) -> Option<(u64, u64)> {
     let (end, openings, kept) = kept_of(alloc, lived.heard.as_slice(), place, moment)?;
-    let _ = read_by(alloc, lived.opened.server, kept, kept)?;
+    let _ = read_by(alloc, &mut lived.opened.server, kept, kept)?;
     Some((end, openings))
 }
 
@@ -124,7 +124,7 @@ fn history(alloc: Global, place: Place, group: usize, moment: u64, tear: Tear) -
     add_all(alloc, &mut steps, place, group, Stop { moment, tear })?;
     let library = library(alloc)?;
     match relive(alloc, &library, new_disk(alloc)?, steps.as_slice()) {
-        Ok(lived) => read_in(alloc, lived, place, moment),
+        Ok(mut lived) => read_in(alloc, &mut lived, place, moment),
         Err(_) => None,
     }
 }

@@ -7,7 +7,7 @@ ghost use Rattle.oa_turn.specs.States.{State};
 ghost use Rattle.oa_history.specs.Kept.{IsKept, IsFreshDisk, IsWanting};
 ghost use Rattle.oa_history.specs.Between.{IsCheckpointed, IsFoundStore};
 
-use crate::opening::library_on;
+use crate::reopening::library_on;
 use crate::{HistoryFault, Stop};
 use oa_disk::MemoryDisk;
 use oa_image::RESERVED_BYTES;

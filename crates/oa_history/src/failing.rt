@@ -5,7 +5,7 @@ ghost use Rattle.oa_history.specs.Kept.{IsKept, IsFreshDisk, IsWanting};
 ghost use Rattle.oa_history.specs.Survived.{AnsweredBy, BeginsOver, HoldsAlone, IsWithstood};
 ghost use Rattle.oa_history.specs.declared.fault.HistoryFault.TheVariants.{Memory};
 
-use crate::opening::library_on;
+use crate::reopening::library_on;
 use crate::{HistoryFault, ServerCall};
 use oa_disk::{DeviceFault, Disk, FuseDisk, MemoryDisk};
 use oa_record::Reply;

@@ -7,7 +7,7 @@ ghost use Rattle.oa_table.specs.Tables.{first_table};
 ghost use Rattle.oa_history.specs.Kept.{IsKept, IsFreshDisk, IsUnmade, IsWanting};
 ghost use Rattle.oa_history.specs.Lived.{IsLived, IsStepped};
 
-use crate::opening::{begun, reopened, shown};
+use crate::reopening::{begun, reopened, shown};
 use crate::{Heard, HistoryFault, Opened, Replies, Step, checkpointed, stopped};
 use oa_disk::MemoryDisk;
 use oa_table::Table;

@@ -13,7 +13,7 @@ mod fault;
 mod formatting;
 mod history;
 pub mod laws;
-mod opening;
+mod reopening;
 mod session;
 mod stopping;
 mod streaming;

@@ -7,7 +7,7 @@ ghost use Rattle.oa_history.specs.Lived.{HasAsked, IsHeardUntilStop, calls_of};
 ghost use Rattle.oa_history.specs.Stops.{Done, Made};
 ghost use Rattle.oa_history.specs.declared.fault.HistoryFault.TheVariants.{Memory};
 
-use crate::opening::reopened;
+use crate::reopening::reopened;
 use crate::streaming::written;
 use crate::{Answer, Asked, Heard, HistoryFault, Opened, Replies, ServerCall, Session};
 use oa_disk::MemoryDisk;

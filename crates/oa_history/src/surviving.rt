@@ -10,7 +10,7 @@ ghost use Rattle.oa_table.specs.Tables.{first_table};
 ghost use Rattle.oa_history.specs.Kept.{IsUnmade, IsWanting};
 ghost use Rattle.oa_history.specs.Survived.{IsSurvived, IsTakenUp};
 
-use crate::opening::{begun, library_on, shown};
+use crate::reopening::{begun, library_on, shown};
 use crate::{HistoryFault, Opened, ServerCall, Told, withstood};
 use oa_canonical::laws::marked_is_read;
 use oa_disk::{DeviceFault, MemoryDisk};

@@ -11,7 +11,7 @@ use std::alloc::Global;
 use std::rt::HostRuntime;
 
 /// What stands on a disk: no store; a bank without a head, at this place; a store whose next object gets this number.
-#[derive(Clone, Copy, Debug, PartialEq, Eq)]
+#[derive(Clone, Copy, PartialEq, Eq)]
 enum Stands {
     Nothing,
     Damaged(u64),

@@ -166,8 +166,10 @@ pub(crate) fn library(alloc: Global) -> Option<Library> {
 pub(crate) fn new_store(alloc: Global) -> Option<MemoryDisk>
     ensures { IfSome result IsFreshDisk }
 {
-    let (_, store) = formatted(alloc, new_disk(alloc)?, &library(alloc)?, END, Tear::Kept).ok()?;
-    Some(store)
+    match formatted(alloc, new_disk(alloc)?, &library(alloc)?, END, Tear::Kept) {
+        Ok((_, store)) => Some(store),
+        Err(_) => None,
+    }
 }
 
 /// A store in which an object was made.
@@ -237,8 +239,10 @@ pub(crate) fn next_store(alloc: Global, store: &MemoryDisk, group: usize) -> Opt
         moment: END,
         tear: Tear::Lost,
     };
-    let (_, store) = checkpointed(alloc, store, end).ok()?;
-    Some(store)
+    match checkpointed(alloc, store, end) {
+        Ok((_, store)) => Some(store),
+        Err(_) => None,
+    }
 }
 
 /// How many of the requests the disk holds, by its three properties, and the moments of its opening.
@@ -275,11 +279,10 @@ pub(crate) fn answered_by(heard: &Heard, first: usize, moment: u64) -> Option<us
 /// How many of the requests the server holds.
 pub(crate) fn read_by(
     alloc: Global,
-    server: Server<MemoryDisk>,
+    server: &mut Server<MemoryDisk>,
     least: usize,
     most: usize,
 ) -> Option<usize> {
-    let mut server = server;
     let mut bodies = Vec::new(alloc);
     for line in reads() {
         bodies.push(hex::decode(alloc, *line).ok()?).ok()?;
@@ -291,7 +294,7 @@ pub(crate) fn read_by(
 }
 
 /// What was tried: moments at which something was stopped, and openings of what these stops have left.
-#[derive(Clone, Copy, Debug, PartialEq, Eq)]
+#[derive(Clone, Copy, PartialEq, Eq)]
 pub(crate) struct Tried {
     pub stops: u64,
     pub openings: u64,

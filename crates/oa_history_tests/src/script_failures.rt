@@ -18,7 +18,7 @@ use std::rt::HostRuntime;
 
 /// What is due behind a session over a disk that fails: so many of the requests were done, or the group in which it has failed too; and
 /// whether it has failed, and was opened.
-#[derive(Clone, Copy, Debug, PartialEq, Eq)]
+#[derive(Clone, Copy)]
 struct Due {
     least: usize,
     most: usize,
@@ -79,16 +79,15 @@ fn due_of(told: &Result<Vec<Told>, DeviceFault>, first: usize, first_failing: u6
 /// How many of the requests a server holds that is opened on this disk, as it is.
 fn read_as_it_is(alloc: Global, disk: MemoryDisk, least: usize, most: usize) -> Option<usize> {
     match Server::open(alloc, disk, library(alloc)?) {
-        Ok(server) => read_by(alloc, server, least, most),
+        Ok(mut server) => read_by(alloc, &mut server, least, most),
         Err(_) => None,
     }
 }
 
-/// How many of the requests a loss of power now with this tear leaves.
-fn left_by(alloc: Global, disk: &MemoryDisk, due: Due, tear: Tear) -> Option<usize> {
+/// How many of the requests a loss of power now with this tear leaves, and the moments of the opening behind it.
+fn left_by(alloc: Global, disk: &MemoryDisk, due: Due, tear: Tear) -> Option<(usize, u64)> {
     let left = disk.crash(disk.moments(), tear).ok()?;
-    let (place, _) = read_of(alloc, &left, due.least, due.most)?;
-    Some(place)
+    read_of(alloc, &left, due.least, due.most)
 }
 
 /// A loss of power now with each tear: how many there were, if each leaves the requests that are due, with the group that is in doubt or
@@ -96,7 +95,7 @@ fn left_by(alloc: Global, disk: &MemoryDisk, due: Due, tear: Tear) -> Option<usi
 fn losses_of(alloc: Global, disk: &MemoryDisk, due: Due) -> Option<u64> {
     let mut count = 0u64;
     for tear in TEARS {
-        let place = left_by(alloc, disk, due, tear)?;
+        let (place, _) = left_by(alloc, disk, due, tear)?;
         if place != due.least && place != due.most {
             return None;
         }
@@ -107,7 +106,7 @@ fn losses_of(alloc: Global, disk: &MemoryDisk, due: Due) -> Option<u64> {
 
 /// What was found behind calls over disks that fail: how often an opening has met the fault, and how often a group that was then found whole,
 /// or not at all; and how many losses of power were tried then.
-#[derive(Clone, Copy, Debug, PartialEq, Eq)]
+#[derive(Clone, Copy, PartialEq, Eq)]
 struct Found {
     openings: u64,
     whole: u64,
@@ -173,18 +172,12 @@ fn are_told(library: &Library, text: &[u8], table: &Table, place: usize) -> bool
 fn found_by(
     alloc: Global,
     library: &Library,
-    survived: Survived,
+    survived: &mut Survived,
     first_failing: u64,
 ) -> Option<(Due, usize)> {
     let due = due_of(&survived.told, 0, first_failing)?;
-    let Survived {
-        library: text,
-        table,
-        opened,
-        ..
-    } = survived;
-    let place = read_by(alloc, opened.server, due.least, due.most)?;
-    if are_told(library, text.as_slice(), &table, place) {
+    let place = read_by(alloc, &mut survived.opened.server, due.least, due.most)?;
+    if are_told(library, survived.library.as_slice(), &survived.table, place) {
         Some((due, place))
     } else {
         None
@@ -198,8 +191,10 @@ fn survived(alloc: Global, group: usize, first_failing: u64) -> Option<(Due, usi
     let library = library(alloc)?;
     let calls = calls_of(alloc, first(), group)?;
     let disk = new_disk(alloc)?;
-    let survived = survive(alloc, &library, disk, calls.as_slice(), first_failing).ok()?;
-    found_by(alloc, &library, survived, first_failing)
+    match survive(alloc, &library, disk, calls.as_slice(), first_failing) {
+        Ok(mut survived) => found_by(alloc, &library, &mut survived, first_failing),
+        Err(_) => None,
+    }
 }
 
 /// Plays the first session by `survive`, over disks that fail from each call on, up to one that does not fail.

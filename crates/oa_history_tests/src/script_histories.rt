@@ -8,12 +8,12 @@ use crate::script::{
     place_in, read_by, reads, second,
 };
 use oa_disk::Tear;
-use oa_history::{Asked, Lived, Session, Step, Stop, relive};
+use oa_history::{Asked, Heard, Lived, Session, Step, Stop, relive};
 use std::alloc::Global;
 use std::rt::HostRuntime;
 
 /// One of the three steps.
-#[derive(Clone, Copy, Debug, PartialEq, Eq)]
+#[derive(Clone, Copy)]
 enum Place {
     First,
     Between,
@@ -23,7 +23,13 @@ enum Place {
 const PLACES: [Place; 3] = [Place::First, Place::Between, Place::Second];
 
 /// Adds a session of these requests.
-fn add(alloc: Global, steps: &mut Vec<Step>, lines: &[&str], group: usize, stop: Stop) -> Option<()>
+pub(crate) fn add(
+    alloc: Global,
+    steps: &mut Vec<Step>,
+    lines: &[&str],
+    group: usize,
+    stop: Stop,
+) -> Option<()>
     requires { 1 ≤ group }
 {
     let calls = calls_of(alloc, lines, group)?;
@@ -35,7 +41,8 @@ fn add(alloc: Global, steps: &mut Vec<Step>, lines: &[&str], group: usize, stop:
     steps.push(Step::Session(session)).ok()
 }
 
-fn add_checkpoint(steps: &mut Vec<Step>, stop: Stop) -> Option<()> {
+/// Adds a checkpoint.
+pub(crate) fn add_checkpoint(steps: &mut Vec<Step>, stop: Stop) -> Option<()> {
     steps.push(Step::Checkpoint(stop)).ok()
 }
 
@@ -64,43 +71,62 @@ fn add_up_to(
     }
 }
 
-/// The steps up to the one that is stopped at the moment, and a session that reads.
-fn steps_to(alloc: Global, place: Place, group: usize, moment: u64, tear: Tear) -> Option<Vec<Step>>
+/// Adds the steps up to the one that is stopped, and a session that reads.
+fn add_all(
+    alloc: Global,
+    steps: &mut Vec<Step>,
+    place: Place,
+    group: usize,
+    stop: Stop,
+) -> Option<()>
     requires { 1 ≤ group }
 {
-    let end = Stop { moment: END, tear };
-    let mut steps = Vec::new(alloc);
-    add_up_to(alloc, &mut steps, place, group, Stop { moment, tear }, end)?;
-    add(alloc, &mut steps, reads(), 3, end)?;
-    Some(steps)
+    let end = Stop {
+        moment: END,
+        tear: stop.tear,
+    };
+    add_up_to(alloc, steps, place, group, stop, end)?;
+    add(alloc, steps, reads(), 3, end)
 }
 
-/// One history. Answers the last moment of the step that was stopped, and how many openings there were: one for each step, and the last one.
+/// Which of the steps it is, how many of the requests were made before it, and how many behind it.
+fn bounds_of(place: Place) -> (usize, usize, usize) {
+    match place {
+        Place::First => (0, 0, 5),
+        Place::Between => (1, 5, 5),
+        Place::Second => (2, 5, 7),
+    }
+}
+
+/// Of what was heard in a history: the last moment of the step that was stopped, how many openings there were, one for each step and
+/// the last one, and how many of the requests were kept.
+fn kept_of(alloc: Global, heard: &[Heard], place: Place, moment: u64) -> Option<(u64, u64, usize)> {
+    let (step, first, most) = bounds_of(place);
+    let stopped = heard.get(step)?;
+    let least = answered_by(stopped, first, moment)?;
+    let kept = place_in(alloc, heard.last()?, least, most)?;
+    let openings = (heard.len() as u64).saturating_add(1);
+    Some((stopped.disk.moments(), openings, kept))
+}
+
+/// The same of a history whose server reads what was kept, but for how many of the requests these are.
+fn read_in(alloc: Global, lived: &mut Lived, place: Place, moment: u64) -> Option<(u64, u64)> {
+    let (end, openings, kept) = kept_of(alloc, lived.heard.as_slice(), place, moment)?;
+    let _ = read_by(alloc, &mut lived.opened.server, kept, kept)?;
+    Some((end, openings))
+}
+
+/// One history. Answers the last moment of the step that was stopped, and how many openings there were.
 fn history(alloc: Global, place: Place, group: usize, moment: u64, tear: Tear) -> Option<(u64, u64)>
     requires { 1 ≤ group }
 {
-    let steps = steps_to(alloc, place, group, moment, tear)?;
-    let Lived { heard, opened, .. } = relive(
-        alloc,
-        &library(alloc)?,
-        new_disk(alloc)?,
-        steps.as_slice(),
-    ).ok()?;
-    let openings = (heard.len() as u64).saturating_add(1);
-    let (stopped, least, most) = match place {
-        Place::First => {
-            let stopped = heard.as_slice().first()?;
-            (stopped, answered_by(stopped, 0, moment)?, 5)
-        }
-        Place::Between => (heard.as_slice().get(1)?, 5, 5),
-        Place::Second => {
-            let stopped = heard.as_slice().get(2)?;
-            (stopped, answered_by(stopped, 5, moment)?, 7)
-        }
-    };
-    let kept = place_in(alloc, heard.as_slice().last()?, least, most)?;
-    let _ = read_by(alloc, opened.server, kept, kept)?;
-    Some((stopped.disk.moments(), openings))
+    let mut steps = Vec::new(alloc);
+    add_all(alloc, &mut steps, place, group, Stop { moment, tear })?;
+    let library = library(alloc)?;
+    match relive(alloc, &library, new_disk(alloc)?, steps.as_slice()) {
+        Ok(mut lived) => read_in(alloc, &mut lived, place, moment),
+        Err(_) => None,
+    }
 }
 
 /// Stops each of the three steps at each moment with each tear.

@@ -4,25 +4,25 @@ ghost use Rattle.std.specs.Prelude.{◌≤◌};
 
 use crate::counts::{checkpoint_moments, session_moments};
 use crate::script::{
-    END, NOTHING, Tried, again, answered_by, both, calls_of, expect, first, new_store, one_more,
-    played, read_of, second,
+    END, NOTHING, TEARS, Tried, again, answered_by, both, calls_of, expect, first, new_store,
+    one_more, played, read_of, second,
 };
 use oa_disk::{MemoryDisk, Tear};
-use oa_history::{Stop, checkpointed};
+use oa_history::{Heard, Stop, checkpointed};
 use std::alloc::Global;
 use std::rt::HostRuntime;
 
-/// Whether a disk that holds so many of the requests does so behind a stop of its opening at the moment.
-fn is_opened_again(
+/// Whether a disk that holds so many of the requests does so behind a stop of its opening at the moment: as many, and the moments of the
+/// opening behind it.
+fn opened_again(
     alloc: Global,
     disk: &MemoryDisk,
     place: usize,
     moment: u64,
     tear: Tear,
-) -> Option<()> {
+) -> Option<(usize, u64)> {
     let (_, left) = played(alloc, disk, Vec::new(alloc), moment, tear)?;
-    let _ = read_of(alloc, &left, place, place)?;
-    Some(())
+    read_of(alloc, &left, place, place)
 }
 
 /// Opens the disk that a stop has left, which holds `least` to `most` of the requests; and so does each disk that a stop of that opening has
@@ -37,10 +37,24 @@ fn openings(
     let (place, end) = read_of(alloc, disk, least, most)?;
     let mut count = 1u64;
     for moment in 0..end {
-        is_opened_again(alloc, disk, place, moment, tear)?;
+        let _ = opened_again(alloc, disk, place, moment, tear)?;
         count = count.saturating_add(2);
     }
     Some(count)
+}
+
+/// Opens what a stop of a session has left, before which `first` of the requests were kept, and behind which at most `most` are. Answers how
+/// many openings there were.
+fn openings_behind(
+    alloc: Global,
+    heard: &Heard,
+    left: &MemoryDisk,
+    first: usize,
+    most: usize,
+    stop: Stop,
+) -> Option<u64> {
+    let least = answered_by(heard, first, stop.moment)?;
+    openings(alloc, left, least, most, stop.tear)
 }
 
 /// The session of these requests, before which `first` were kept, stopped at the moment: how many openings there were behind it.
@@ -56,9 +70,8 @@ fn stopped_session(
 {
     let calls = calls_of(alloc, lines, group)?;
     let (heard, left) = played(alloc, disk, calls, stop.moment, stop.tear)?;
-    let least = answered_by(&heard, first, stop.moment)?;
     let most = first.saturating_add(lines.len());
-    openings(alloc, &left, least, most, stop.tear)
+    openings_behind(alloc, &heard, &left, first, most, stop)
 }
 
 /// Stops the session of these requests at each moment.
@@ -119,81 +132,17 @@ fn due(first: u16, second: u16) -> Tried {
 }
 
 /// Five groups, and two: 129 stops, 5,289 openings.
-fn due_of_1() -> Tried {
-    due(5, 2)
+#[test]
+fn stops_in_groups_of_1(rt: HostRuntime) {
+    for tear in TEARS {
+        expect(&rt, script(rt.alloc(), 1, tear), due(5, 2));
+    }
 }
 
 /// Two groups, and one: 97 stops, 3,977 openings.
-fn due_of_3() -> Tried {
-    due(2, 1)
-}
-
 #[test]
-fn lost_in_groups_of_1(rt: HostRuntime) {
-    expect(&rt, script(rt.alloc(), 1, Tear::Lost), due_of_1());
-}
-
-#[test]
-fn kept_in_groups_of_1(rt: HostRuntime) {
-    expect(&rt, script(rt.alloc(), 1, Tear::Kept), due_of_1());
-}
-
-#[test]
-fn filled_with_0_in_groups_of_1(rt: HostRuntime) {
-    expect(&rt, script(rt.alloc(), 1, Tear::Filled(0)), due_of_1());
-}
-
-#[test]
-fn filled_with_1_in_groups_of_1(rt: HostRuntime) {
-    expect(&rt, script(rt.alloc(), 1, Tear::Filled(1)), due_of_1());
-}
-
-#[test]
-fn filled_with_7_in_groups_of_1(rt: HostRuntime) {
-    expect(&rt, script(rt.alloc(), 1, Tear::Filled(7)), due_of_1());
-}
-
-#[test]
-fn filled_with_ff_in_groups_of_1(rt: HostRuntime) {
-    expect(&rt, script(rt.alloc(), 1, Tear::Filled(0xff)), due_of_1());
-}
-
-#[test]
-fn cut_in_groups_of_1(rt: HostRuntime) {
-    expect(&rt, script(rt.alloc(), 1, Tear::Cut(1)), due_of_1());
-}
-
-#[test]
-fn lost_in_groups_of_3(rt: HostRuntime) {
-    expect(&rt, script(rt.alloc(), 3, Tear::Lost), due_of_3());
-}
-
-#[test]
-fn kept_in_groups_of_3(rt: HostRuntime) {
-    expect(&rt, script(rt.alloc(), 3, Tear::Kept), due_of_3());
-}
-
-#[test]
-fn filled_with_0_in_groups_of_3(rt: HostRuntime) {
-    expect(&rt, script(rt.alloc(), 3, Tear::Filled(0)), due_of_3());
-}
-
-#[test]
-fn filled_with_1_in_groups_of_3(rt: HostRuntime) {
-    expect(&rt, script(rt.alloc(), 3, Tear::Filled(1)), due_of_3());
-}
-
-#[test]
-fn filled_with_7_in_groups_of_3(rt: HostRuntime) {
-    expect(&rt, script(rt.alloc(), 3, Tear::Filled(7)), due_of_3());
-}
-
-#[test]
-fn filled_with_ff_in_groups_of_3(rt: HostRuntime) {
-    expect(&rt, script(rt.alloc(), 3, Tear::Filled(0xff)), due_of_3());
-}
-
-#[test]
-fn cut_in_groups_of_3(rt: HostRuntime) {
-    expect(&rt, script(rt.alloc(), 3, Tear::Cut(1)), due_of_3());
+fn stops_in_groups_of_3(rt: HostRuntime) {
+    for tear in TEARS {
+        expect(&rt, script(rt.alloc(), 3, tear), due(2, 1));
+    }
 }

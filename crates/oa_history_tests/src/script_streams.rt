@@ -25,16 +25,22 @@ static REPLIES: [&str; 7] = [
     "0700000000000000ffffffff00000000",
 ];
 
-/// The requests of these lines, in this framing.
-fn input_of(alloc: Global, lines: &[&str], framing: Framing, group: usize) -> Option<Input>
-    requires positive { 1 ≤ group }
-    requires small { group ≤ max_group }
-{
+/// These lines in this framing.
+fn bytes_of(alloc: Global, lines: &[&str], framing: Framing) -> Option<Vec<u8>> {
     let mut bytes = Vec::new(alloc);
     for line in lines {
         put_line(alloc, &mut bytes, *line, framing)?;
     }
-    Some(Input::new(bytes, framing, group))
+    Some(bytes)
+}
+
+/// The requests of these lines, asked over a stream.
+fn stream_of(alloc: Global, lines: &[&str], framing: Framing, group: usize) -> Option<Asked>
+    requires positive { 1 ≤ group }
+    requires small { group ≤ max_group }
+{
+    let bytes = bytes_of(alloc, lines, framing)?;
+    Some(Asked::Stream(Input::new(bytes, framing, group)))
 }
 
 fn put_line(alloc: Global, bytes: &mut Vec<u8>, line: &str, framing: Framing) -> Option<()> {
@@ -65,23 +71,35 @@ fn is_answered(heard: &Heard, requests: usize, due: &[u8]) -> bool {
     }
 }
 
-/// Whether a session over a stream that is stopped at the moment is answered so, and how many moments its disk has then; what it leaves has
-/// `least` to `most` of the requests.
-fn stopped_stream(
+/// How many moments the disk of a session over a stream has, which is answered so, and what its stop has left has `least` to `most` of the
+/// requests.
+fn moments_of(
     alloc: Global,
-    disk: &MemoryDisk,
-    input: Input,
+    heard: &Heard,
+    left: &MemoryDisk,
     due: &[u8],
-    stop: Stop,
-    (requests, least, most): (usize, usize, usize),
+    counts: (usize, usize, usize),
 ) -> Option<u64> {
-    let (heard, left) = asked(alloc, disk, Asked::Stream(input), stop.moment, stop.tear)?;
-    let _ = read_of(alloc, &left, least, most)?;
-    if is_answered(&heard, requests, due) {
+    let (requests, least, most) = counts;
+    let _ = read_of(alloc, left, least, most)?;
+    if is_answered(heard, requests, due) {
         Some(heard.disk.moments())
     } else {
         None
     }
+}
+
+/// Stops a session over a stream at the moment: how many moments its disk has then, where it is answered so.
+fn stopped_stream(
+    alloc: Global,
+    disk: &MemoryDisk,
+    stream: Asked,
+    due: &[u8],
+    stop: Stop,
+    counts: (usize, usize, usize),
+) -> Option<u64> {
+    let (heard, left) = asked(alloc, disk, stream, stop.moment, stop.tear)?;
+    moments_of(alloc, &heard, &left, due, counts)
 }
 
 /// Stops the session of these requests over a stream at each moment. Of its parts, each a group, those count that are over by then: they
@@ -99,15 +117,15 @@ fn stream_stops(
     requires small { group ≤ max_group }
 {
     let most = first.saturating_add(lines.len());
-    let due = input_of(alloc, REPLIES.get(first..most)?, framing, group)?;
+    let due = bytes_of(alloc, REPLIES.get(first..most)?, framing)?;
     let (whole, _) = played(alloc, disk, calls_of(alloc, lines, group)?, END, tear)?;
     let end = whole.disk.moments();
     let mut tried = NOTHING;
     for moment in 0..end.saturating_add(1) {
-        let input = input_of(alloc, lines, framing, group)?;
+        let stream = stream_of(alloc, lines, framing, group)?;
         let counts = (lines.len(), answered_by(&whole, first, moment)?, most);
         let stop = Stop { moment, tear };
-        if stopped_stream(alloc, disk, input, due.bytes.as_slice(), stop, counts)? != end {
+        if stopped_stream(alloc, disk, stream, due.as_slice(), stop, counts)? != end {
             return None;
         }
         tried = one_more(tried, 1);

@@ -4,8 +4,8 @@ ghost use Rattle.std.specs.Prelude.{◌≡◌, ◌≤◌, false};
 ghost use Rattle.oa_model.specs.Limits.{max_group};
 ghost use Rattle.oa_stream.specs.Ahead.{ahead};
 
-use crate::histories::{expect, small_library};
-use crate::script::{put_replies, put_reply};
+use crate::histories::expect;
+use crate::script::{library, put_replies, put_reply};
 use crate::streams::Small;
 use oa_disk::NoDisk;
 use oa_server::{End, Served, Server};
@@ -41,8 +41,8 @@ const CREATES: &str =
     "0100000001000000443322116655887799aabbccddeeff03\r\n0200000001000000443322116655887799aabbccddeeff03\r\n0300000001000000443322116655887799aabbccddeeff03\r\n";
 
 /// A server of the library.
-fn small(alloc: Global) -> Option<Server<NoDisk>> {
-    Some(Server::in_memory(alloc, small_library(alloc)?))
+fn new_server(alloc: Global) -> Option<Server<NoDisk>> {
+    Some(Server::in_memory(alloc, library(alloc)?))
 }
 
 /// The bodies that some lines spell. Where memory is refused some are missing, and the replies are others.
@@ -83,7 +83,7 @@ fn runs(alloc: Global, group: usize) -> Option<bool>
     requires positive { 1 ≤ group }
     requires small { group ≤ max_group }
 {
-    let mut server = small(alloc)?;
+    let mut server = new_server(alloc)?;
     let holds = is_run(alloc, &mut server, group)? && is_answered(alloc, &mut server);
     drop(server);
     Some(holds)
@@ -110,7 +110,7 @@ fn talked<R: Source + Drop, W: Sink>(
     requires unbroken { (ahead R.input reader.old).faulted ≡ false }
     requires unbroken_writer { (W.out writer.old).broken ≡ false }
 {
-    let mut server = small(alloc)?;
+    let mut server = new_server(alloc)?;
     let served = server.serve_hex(reader, writer, group);
     drop(server);
     served.ok()

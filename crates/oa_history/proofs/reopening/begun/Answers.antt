@@ -4,7 +4,7 @@ use Rattle.oa_disk.specs.Replaying.{only_now}
 use Rattle.oa_journal.specs.declared.shape.Shape.TheVariants.{Two}
 use Rattle.oa_store.specs.Stores.{IsStoreIn}
 use Rattle.oa_table.specs.Tables.{first_table}
-use Rattle.oa_history.proofs.opening.begun.Goals as goal
+use Rattle.oa_history.proofs.reopening.begun.Goals as goal
 
 pub returns-clause-kept : goal.returns-clause-kept
 returns-clause-kept c =

@@ -2,7 +2,7 @@ use Rattle.std.proofs.Common.{ℕ, subst}
 use Rattle.oa_disk.specs.Memory.{IsTornAt, contents_of}
 use Rattle.oa_disk.specs.declared.crash.Tear.TheVariants.{Kept}
 use Rattle.oa_history.proofs.Crashed.{kept_is_read}
-use Rattle.oa_history.proofs.opening.copied.Goals as goal
+use Rattle.oa_history.proofs.reopening.copied.Goals as goal
 
 pub returns-clause-contents : goal.returns-clause-contents
 returns-clause-contents c =

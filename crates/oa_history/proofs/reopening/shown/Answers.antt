@@ -8,7 +8,7 @@ use Rattle.oa_turn.specs.Events.{held_of}
 use Rattle.oa_server.specs.Requests.{requests}
 use Rattle.oa_store.specs.Stores.{IsStore}
 use Rattle.oa_history.proofs.Reading.{shown_to_all}
-use Rattle.oa_history.proofs.opening.shown.Goals as goal
+use Rattle.oa_history.proofs.reopening.shown.Goals as goal
 
 pub returns-in-Ok-clause-shown : goal.returns-in-Ok-clause-shown
 returns-in-Ok-clause-shown c = subst (λ (l : List ℕ). IsStore l c.in-Ok.shown.0.items c.in-Ok.shown.1) c.in_ok-copy.ensures.contents (c.in-Ok.ensures.found.contents refl)

@@ -4,7 +4,7 @@ use Rattle.oa_disk.specs.Memory.{contents_of}
 use Rattle.oa_turn.proofs.Texts.{is_read}
 use Rattle.oa_history.proofs.Living.{shown_library}
 use Rattle.oa_history.proofs.Reading.{library_again}
-use Rattle.oa_history.proofs.opening.library_on.Goals as goal
+use Rattle.oa_history.proofs.reopening.library_on.Goals as goal
 
 pub returns-in-Ok-clause-kept : goal.returns-in-Ok-clause-kept
 returns-in-Ok-clause-kept c state holds checked =

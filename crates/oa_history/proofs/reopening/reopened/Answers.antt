@@ -1,7 +1,7 @@
 use Rattle.std.proofs.Common.{refl}
 use Rattle.std.proofs.lemmas.Result.{err_from_is_err_and}
 use Rattle.oa_history.proofs.Found.{never_refused, serves, sits}
-use Rattle.oa_history.proofs.opening.reopened.Goals as goal
+use Rattle.oa_history.proofs.reopening.reopened.Goals as goal
 
 pub returns-in-Ok-clause-begins : goal.returns-in-Ok-clause-begins
 returns-in-Ok-clause-begins c state kept =

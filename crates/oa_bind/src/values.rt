@@ -137,16 +137,12 @@ fn new_value_by(
     requires few { i < 32 }
     ensures { BindsAs (λ v. v) (told_of_argument i (coerced argument declared)) result }
 {
-    match coerce(alloc, argument, declared) {
-        Ok(value) => Ok(value),
-        Err((_, CoerceFault::Overflow)) => {
-            Err(BindFault::at(HResult::DISP_E_OVERFLOW, i as u32))
-        }
-        Err((_, CoerceFault::TypeMismatch)) => {
-            Err(BindFault::at(HResult::DISP_E_TYPEMISMATCH, i as u32))
-        }
-        Err((_, CoerceFault::Memory)) => Err(BindFault::of(HResult::E_OUTOFMEMORY)),
-    }
+    let at = i as u32;
+    coerce(alloc, argument, declared).map_err(|(_, fault)| match fault {
+        CoerceFault::Overflow => BindFault::at(HResult::DISP_E_OVERFLOW, at),
+        CoerceFault::TypeMismatch => BindFault::at(HResult::DISP_E_TYPEMISMATCH, at),
+        CoerceFault::Memory => BindFault::of(HResult::E_OUTOFMEMORY),
+    })
 }
 
 /// The new value of a put. Its argument is taken out.

@@ -16,7 +16,7 @@ pub record SoFar {C : Type 0} (F : Format C) (bytes : List ℕ) (xs : List C) (s
   pub parts : bytes ≡ flat_map F.image xs ++ s.rest
   pub ok : IsBytes s.rest
 
-all_and : {C : Type 0} (P : C → Type 0) (xs : List C) (x : C) → AllByRecursion P xs → P x → AllByRecursion P (xs ++ x ∷ [])
+pub all_and : {C : Type 0} (P : C → Type 0) (xs : List C) (x : C) → AllByRecursion P xs → P x → AllByRecursion P (xs ++ x ∷ [])
 all_and P [] x all p = (p, tt)
 all_and P (y ∷ ys) x all p = (all.0, all_and P ys x all.1 p)
 

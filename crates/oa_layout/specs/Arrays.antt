@@ -1,7 +1,7 @@
 -- The images of arrays: the bounds, and the cells without their type, or with it in an array of VARIANT (this project's choice).
-use Rattle.std.proofs.Common.{◌≡◌, Bool, true, ltb, leb, List, length, refl}
+use Rattle.std.proofs.Common.{◌≡◌, Bool, true, List, length, refl}
 use Rattle.std.specs.Prelude.{nat_lt, nat_le, ◌&&◌, is_some}
-use Rattle.std.proofs.lemmas.Bool.{ltb-true, lt-ltb, leb-true, le-leb, and_parts}
+use Rattle.std.proofs.lemmas.Bool.{lt-ltb, le-leb}
 use Rattle.oa_model.specs.Limits.{max_dimensions, max_cells}
 use Rattle.oa_model.specs.Types.{sf_type_of}
 use Rattle.oa_model.specs.declared.bound.Bound.{Bound}
@@ -21,14 +21,6 @@ bound = made (λ p. record { count = p.0; lower = p.1 }) (λ b. (b.count, b.lowe
 abbrev pub is_shape : VarType → List Bound → Bool
 is_shape t bounds =
     is_some (sf_type_of t) && nat_lt 0 (length bounds) && nat_le (length bounds) max_dimensions && nat_le (box_size bounds) max_cells
-
-pub shape_there : (t : VarType) (bounds : List Bound) → is_shape t bounds ≡ true → IsArrayShape t bounds
-shape_there t bounds e =
-    let a3 = and_parts (is_some (sf_type_of t) && ltb 0 (length bounds) && leb (length bounds) max_dimensions)
-    (leb (box_size bounds) max_cells) e in
-    let a2 = and_parts (is_some (sf_type_of t) && ltb 0 (length bounds)) (leb (length bounds) max_dimensions) a3.0 in
-    let a1 = and_parts (is_some (sf_type_of t)) (ltb 0 (length bounds)) a2.0 in
-    record { typed = a1.0; some = ltb-true _ _ a1.1; few = leb-true _ _ a2.1; small = leb-true _ _ a3.1 }
 
 pub shape_here : (t : VarType) (bounds : List Bound) → IsArrayShape t bounds → is_shape t bounds ≡ true
 shape_here t bounds shape = rw (shape.typed, lt-ltb _ _ shape.some, le-leb _ _ shape.few, le-leb _ _ shape.small) refl

@@ -1,7 +1,7 @@
 -- The entries of rows in turn, on both sides of a place.
-use Rattle.std.proofs.Common.{◌≡◌, ◌∙◌, ◌<◌, ◌≤◌, ◌+◌, ◌-◌, ℕ, zero, suc, List, [], ◌∷◌, ◌++◌, Option, Some, Result, Ok, Err, OnErr, length, take, drop, get_or, set, slice_get, refl, sym, ap, subst, ⊎_elim, arith}
-use Rattle.std.specs.List.{insert, remove, AllByRecursion, flat_map}
-use Rattle.std.proofs.lemmas.List.{append_assoc, append-nil, take-append-drop, take_all, drop_all, get_or_past, set_split, set-get_or, get_or_default, take-set, drop-set-lt, length-take-le, length-drop, nil_from_length}
+use Rattle.std.proofs.Common.{◌≡◌, ◌∙◌, ◌<◌, ◌≤◌, ◌+◌, ℕ, zero, suc, List, [], ◌∷◌, ◌++◌, Some, Result, Ok, Err, OnErr, length, take, drop, get_or, set, slice_get, refl, sym, ap, subst, ⊎_elim, arith}
+use Rattle.std.specs.List.{insert, remove}
+use Rattle.std.proofs.lemmas.List.{append_assoc, append-nil, take-append-drop, take_all, drop_all, get_or_past, set_split, get_or_default, take-set, drop-set-lt, length-take-le, length-drop, nil_from_length}
 use Rattle.std.proofs.lemmas.List.Concat.{flat_map-append}
 use Rattle.std.proofs.lemmas.Bool.{cases_lt}
 use Rattle.oa_ordered.specs.Rows.{AreFilled, after, before, from, joined, with_value}

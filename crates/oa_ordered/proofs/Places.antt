@@ -14,7 +14,7 @@ use Rattle.std.proofs.lemmas.Bool.{cases_lt}
 use Rattle.oa_ordered.specs.Rows.{AllAbove, AllBelow, AreFilled, IsFirst, IsFound, IsFoundIn, IsGap, IsGapIn, IsOrdered, IsRowFor, IsTable, after, before, begins_after, from, joined, with_value}
 use Rattle.oa_ordered.proofs.Keys.{above_of, all_append, below_of, ordered_back, ordered_changed, ordered_front, ordered_with, ordered_without}
 use Rattle.oa_ordered.proofs.Split.{insert_gap, insert_here, lookup_gap, lookup_here, remove_gap, remove_here, set_gap, set_here}
-use Rattle.oa_ordered.proofs.Joined.{changed, drop_next, entry_split, filled_row, filled_set, from_at, get_is, joined_at, length_with_value, parts_at, row_of, some_at, whole}
+use Rattle.oa_ordered.proofs.Joined.{changed, drop_next, entry_split, filled_row, filled_set, from_at, get_is, joined_at, length_with_value, parts_at, row_is, row_of, some_at, whole}
 
 less_from_test : (r : Ordering) → is_lt r ≡ true → r ≡ Less
 less_from_test Less h = refl
@@ -64,12 +64,17 @@ module _ {K X : Type 0} (cmp : K → K → Ordering) (total : IsTotalOrder cmp) 
     pub row_ordered : IsOrdered cmp (row_of rows m)
     row_ordered = ordered_front cmp (row_of rows m) (joined (drop (suc m) rows)) (ordered_back cmp (joined (take m rows)) (row_of rows m ++ joined (drop (suc m) rows)) in_rows)
 
-    pub rows_above : begins_after cmp key (row_of rows m) ≡ true → AllAbove cmp key (joined (drop m rows))
-    rows_above test =
-        rw (drop_next rows m [] lt) (begins_above (row_of rows m) (joined (drop (suc m) rows)) (ordered_back cmp (joined (take m rows)) (row_of rows m ++ joined (drop (suc m) rows)) in_rows) test)
+    -- by where that row, as it was read, begins
+    module _ (read d : List (K × X)) (is : read ≡ get_or rows m d) where
+      begins : (b : Bool) → b ≡ begins_after cmp key read → begins_after cmp key (row_of rows m) ≡ b
+      begins b test = sym (subst (λ row. b ≡ begins_after cmp key row) (row_is rows m read d lt is) test)
 
-    pub rows_below : AreFilled rows → begins_after cmp key (row_of rows m) ≡ false → AllBelow cmp key (joined (take m rows))
-    rows_below filled test = begins_below (joined (take m rows)) (row_of rows m) (joined (drop (suc m) rows)) in_rows (filled_row rows m lt filled) test
+      pub rows_above : true ≡ begins_after cmp key read → AllAbove cmp key (joined (drop m rows))
+      rows_above test =
+          rw (drop_next rows m [] lt) (begins_above (row_of rows m) (joined (drop (suc m) rows)) (ordered_back cmp (joined (take m rows)) (row_of rows m ++ joined (drop (suc m) rows)) in_rows) (begins true test))
+
+      pub rows_below : AreFilled rows → false ≡ begins_after cmp key read → AllBelow cmp key (joined (take m rows))
+      rows_below filled test = begins_below (joined (take m rows)) (row_of rows m) (joined (drop (suc m) rows)) in_rows (filled_row rows m lt filled) (begins false test)
 
   pub row_for_all : (rows : List (List (K × X))) (low high : ℕ) → low ≤ high → (0 < length rows → low < high) → high ≤ length rows → high ≤ low + 1
       → AllBelow cmp key (joined (take low rows)) → AllAbove cmp key (joined (drop high rows)) → IsRowFor cmp key rows low
@@ -125,90 +130,104 @@ module _ {K X : Type 0} (cmp : K → K → Ordering) (total : IsTotalOrder cmp) 
     here = rw (from_at rows row at e d in_row is) same;
   }
 
-  -- what a call does where the key is
-  module _ (rows : List (List (K × X))) (row at : ℕ) (found : IsFound cmp key rows row at) (e d : K × X) (is : e ≡ get_or (row_of rows row) at d) where
-    pub found_split : joined rows ≡ before rows row at ++ e ∷ after rows row at
-    found_split = entry_split rows row at e d found.in_rows found.in_row is
-
-    here : cmp key e.0 ≡ Equal
-    here = subst (IsFirst cmp key) (from_at rows row at e d found.in_row is) found.here
-
-    pub found_lookup : lookup (is_at (cmp key)) (joined rows) ≡ Some e.1
-    found_lookup = rw found_split (lookup_here cmp key e (after rows row at) here (before rows row at) found.below)
-
-    pub found_set : (w : X) → joined (set rows row (with_value (row_of rows row) at w)) ≡ set_value (is_at (cmp key)) (joined rows) w
-    found_set w = changed rows row at e d w found.in_rows found.in_row is ∙ sym (rw found_split (set_here cmp key e (after rows row at) here (before rows row at) w found.below))
-
-    pub found_insert : (w : X) → joined (set rows row (with_value (row_of rows row) at w)) ≡ insert_entry cmp (joined rows) key w
-    found_insert w = changed rows row at e d w found.in_rows found.in_row is ∙ sym (rw found_split (insert_here cmp key e (after rows row at) here (before rows row at) w found.below))
-
-  -- what stands at its place is what a look-up finds
-  pub found_read : (rows : List (List (K × X))) (row at : ℕ) → IsFound cmp key rows row at → option_map (λ e. e.1) (slice_get (row_of rows row) at) ≡ lookup (is_at (cmp key)) (joined rows)
-  found_read rows row at found =
-      let e = some_at (row_of rows row) at found.in_row in
-      ap (option_map (λ x. x.1)) (get_is (row_of rows row) at e.0 e.0 found.in_row e.1) ∙ sym (found_lookup rows row at found e.0 e.0 e.1)
-
-  -- where the entries are parted at an entry, the key's place is that one's
-  module _ (rows : List (List (K × X))) (row at : ℕ) (found : IsFound cmp key rows row at) (e : K × X) (parts : joined rows ≡ before rows row at ++ e ∷ after rows row at) where
-    parted_here : cmp key e.0 ≡ Equal
-    parted_here =
-        let both = sym (whole rows row at (omega (arith, found.in_rows)) (omega (arith, found.in_row))) ∙ parts in
-        subst (IsFirst cmp key) (append_cancel_left (before rows row at) (from rows row at) (e ∷ after rows row at) both) found.here
-
-    pub parted_lookup : lookup (is_at (cmp key)) (joined rows) ≡ Some e.1
-    parted_lookup = rw parts (lookup_here cmp key e (after rows row at) parted_here (before rows row at) found.below)
-
-    pub parted_remove : remove_entry (is_at (cmp key)) (joined rows) ≡ before rows row at ++ after rows row at
-    parted_remove = rw parts (remove_here cmp key e (after rows row at) parted_here (before rows row at) found.below)
-
-  -- and where it would stand
-  module _ (rows : List (List (K × X))) (row at : ℕ) (gap : IsGap cmp key rows row at) where
-    gap_split : joined rows ≡ before rows row at ++ from rows row at
-    gap_split = whole rows row at gap.in_rows gap.in_row
-
-    pub gap_lookup : lookup (is_at (cmp key)) (joined rows) ≡ None
-    gap_lookup = rw gap_split (lookup_gap cmp key (before rows row at) (from rows row at) gap.below gap.above)
-
-    pub gap_remove : remove_entry (is_at (cmp key)) (joined rows) ≡ joined rows
-    gap_remove = rw gap_split (remove_gap cmp key (before rows row at) (from rows row at) gap.below gap.above)
-
-    pub gap_set : (w : X) → set_value (is_at (cmp key)) (joined rows) w ≡ joined rows
-    gap_set w = rw gap_split (set_gap cmp key (before rows row at) (from rows row at) w gap.below gap.above)
-
-    pub gap_insert : (v : X) → before rows row at ++ (key, v) ∷ from rows row at ≡ insert_entry cmp (joined rows) key v
-    gap_insert v = sym (rw gap_split (insert_gap cmp key (before rows row at) v (from rows row at) gap.below gap.above))
-
   longer : (front : List (K × X)) (e : K × X) (back : List (K × X)) → length (front ++ e ∷ back) ≡ length (front ++ back) + 1
   longer front e back = omega (arith, length-append front (e ∷ back), length-append front back)
 
-  -- what it leaves is a table
-  pub table_changed : (rows : List (List (K × X))) (len row at : ℕ) → IsTable cmp rows len → IsFound cmp key rows row at → (e d : K × X) → e ≡ get_or (row_of rows row) at d → (w : X)
-      → IsTable cmp (set rows row (with_value (row_of rows row) at w)) len
-  table_changed rows len row at table found e d is w =
-      let parts = found_split rows row at found e d is in
-      let new = changed rows row at e d w found.in_rows found.in_row is in
-      let front = before rows row at in
-      let back = after rows row at in
-      let some : 0 < length (with_value (row_of rows row) at w) = omega (arith, length_with_value (row_of rows row) at w, found.in_row) in
-      record {
-        ordered = rw new (ordered_changed cmp front e w back (subst (IsOrdered cmp) parts table.ordered));
-        filled = filled_set rows row (with_value (row_of rows row) at w) found.in_rows some table.filled;
-        count = rw new (omega (arith, table.count, ap length parts, longer front e back, longer front (e.0, w) back));
-        few = table.few;
-      }
+  -- Calls look for the key in the rows as a slice. Where it was found, in the row as it was read there:
+  module _ (rows : List (List (K × X))) {seen : List (List (K × X))} (same : seen ≡ rows) (row at : ℕ) (place : IsFound cmp key seen row at) (read d : List (K × X)) (is : read ≡ get_or rows row d) where
+    there : IsFound cmp key rows row at
+    there = subst (λ all. IsFound cmp key all row at) same place
 
-  pub table_inserted : (rows new : List (List (K × X))) (len row at : ℕ) (v : X) → IsTable cmp rows len → IsGap cmp key rows row at → len ≢ 2 ^ 63 - 1 → AreFilled new
-      → joined new ≡ before rows row at ++ (key, v) ∷ from rows row at → IsTable cmp new (len + 1)
-  table_inserted rows new len row at v table gap most filled is =
-      let parts = whole rows row at gap.in_rows gap.in_row in
-      let front = before rows row at in
-      let back = from rows row at in
-      record {
-        ordered = rw is (ordered_with cmp total key front v back (subst (IsOrdered cmp) parts table.ordered) gap.below gap.above);
-        filled = filled;
-        count = rw is (omega (arith, table.count, ap length parts, longer front (key, v) back));
-        few = omega (arith, table.few, most);
-      }
+    its_row : read ≡ row_of rows row
+    its_row = row_is rows row read d there.in_rows is
+
+    entry : (e : K × X) × (e ≡ get_or (row_of rows row) at e)
+    entry = some_at (row_of rows row) at there.in_row
+
+    entry_parts : joined rows ≡ before rows row at ++ entry.0 ∷ after rows row at
+    entry_parts = entry_split rows row at entry.0 entry.0 there.in_rows there.in_row entry.1
+
+    here : cmp key entry.0.0 ≡ Equal
+    here = subst (IsFirst cmp key) (from_at rows row at entry.0 entry.0 there.in_row entry.1) there.here
+
+    entry_changed : (w : X) → joined (set rows row (with_value read at w)) ≡ before rows row at ++ (entry.0.0, w) ∷ after rows row at
+    entry_changed w = ap (λ all. joined (set rows row (with_value all at w))) its_row ∙ changed rows row at entry.0 entry.0 w there.in_rows there.in_row entry.1
+
+    -- what stands there is what a look-up finds
+    pub found_read : option_map (λ e. e.1) (slice_get read at) ≡ lookup (is_at (cmp key)) (joined rows)
+    found_read =
+        let looked_up : lookup (is_at (cmp key)) (joined rows) ≡ Some entry.0.1 = rw entry_parts (lookup_here cmp key entry.0 (after rows row at) here (before rows row at) there.below) in
+        ap (λ all. option_map (λ e. e.1) (slice_get all at)) its_row ∙ (ap (option_map (λ e. e.1)) (get_is (row_of rows row) at entry.0 entry.0 there.in_row entry.1) ∙ sym looked_up)
+
+    pub found_lookup : (e x : K × X) → e ≡ get_or read at x → lookup (is_at (cmp key)) (joined rows) ≡ Some e.1
+    found_lookup e x at_place = sym found_read ∙ ap (option_map (λ y. y.1)) (get_is read at e x (subst (λ all. at < length all) (sym its_row) there.in_row) at_place)
+
+    -- and with another value
+    pub found_set : (w : X) → joined (set rows row (with_value read at w)) ≡ set_value (is_at (cmp key)) (joined rows) w
+    found_set w = entry_changed w ∙ sym (rw entry_parts (set_here cmp key entry.0 (after rows row at) here (before rows row at) w there.below))
+
+    pub found_insert : (w : X) → joined (set rows row (with_value read at w)) ≡ insert_entry cmp (joined rows) key w
+    found_insert w = entry_changed w ∙ sym (rw entry_parts (insert_here cmp key entry.0 (after rows row at) here (before rows row at) w there.below))
+
+    pub table_changed : (len : ℕ) → IsTable cmp rows len → (w : X) → IsTable cmp (set rows row (with_value read at w)) len
+    table_changed len table w =
+        let front = before rows row at in
+        let back = after rows row at in
+        let some : 0 < length (with_value read at w) = rw its_row (omega (arith, length_with_value (row_of rows row) at w, there.in_row)) in
+        record {
+          ordered = rw (entry_changed w) (ordered_changed cmp front entry.0 w back (subst (IsOrdered cmp) entry_parts table.ordered));
+          filled = filled_set rows row (with_value read at w) there.in_rows some table.filled;
+          count = rw (entry_changed w) (omega (arith, table.count, ap length entry_parts, longer front entry.0 back, longer front (entry.0.0, w) back));
+          few = table.few;
+        }
+
+  -- where the entries are parted at an entry, the key's place is that one's
+  module _ (rows : List (List (K × X))) {seen : List (List (K × X))} (same : seen ≡ rows) (row at : ℕ) (place : IsFound cmp key seen row at) (e : K × X) (parts : joined rows ≡ before rows row at ++ e ∷ after rows row at) where
+    parted_at : IsFound cmp key rows row at
+    parted_at = subst (λ all. IsFound cmp key all row at) same place
+
+    parted_here : cmp key e.0 ≡ Equal
+    parted_here =
+        let both = sym (whole rows row at (omega (arith, parted_at.in_rows)) (omega (arith, parted_at.in_row))) ∙ parts in
+        subst (IsFirst cmp key) (append_cancel_left (before rows row at) (from rows row at) (e ∷ after rows row at) both) parted_at.here
+
+    pub parted_lookup : lookup (is_at (cmp key)) (joined rows) ≡ Some e.1
+    parted_lookup = rw parts (lookup_here cmp key e (after rows row at) parted_here (before rows row at) parted_at.below)
+
+    pub parted_remove : remove_entry (is_at (cmp key)) (joined rows) ≡ before rows row at ++ after rows row at
+    parted_remove = rw parts (remove_here cmp key e (after rows row at) parted_here (before rows row at) parted_at.below)
+
+  -- and where it would stand
+  module _ (rows : List (List (K × X))) {seen : List (List (K × X))} (same : seen ≡ rows) (row at : ℕ) (place : IsGap cmp key seen row at) where
+    gap_there : IsGap cmp key rows row at
+    gap_there = subst (λ all. IsGap cmp key all row at) same place
+
+    gap_split : joined rows ≡ before rows row at ++ from rows row at
+    gap_split = whole rows row at gap_there.in_rows gap_there.in_row
+
+    pub gap_lookup : lookup (is_at (cmp key)) (joined rows) ≡ None
+    gap_lookup = rw gap_split (lookup_gap cmp key (before rows row at) (from rows row at) gap_there.below gap_there.above)
+
+    pub gap_remove : remove_entry (is_at (cmp key)) (joined rows) ≡ joined rows
+    gap_remove = rw gap_split (remove_gap cmp key (before rows row at) (from rows row at) gap_there.below gap_there.above)
+
+    pub gap_set : (w : X) → set_value (is_at (cmp key)) (joined rows) w ≡ joined rows
+    gap_set w = rw gap_split (set_gap cmp key (before rows row at) (from rows row at) w gap_there.below gap_there.above)
+
+    pub gap_insert : (v : X) → before rows row at ++ (key, v) ∷ from rows row at ≡ insert_entry cmp (joined rows) key v
+    gap_insert v = sym (rw gap_split (insert_gap cmp key (before rows row at) v (from rows row at) gap_there.below gap_there.above))
+
+    pub table_inserted : (new : List (List (K × X))) (len : ℕ) (v : X) → IsTable cmp rows len → len ≢ 2 ^ 63 - 1 → AreFilled new
+        → joined new ≡ before rows row at ++ (key, v) ∷ from rows row at → IsTable cmp new (len + 1)
+    table_inserted new len v table most filled is =
+        let front = before rows row at in
+        let back = from rows row at in
+        record {
+          ordered = rw is (ordered_with cmp total key front v back (subst (IsOrdered cmp) gap_split table.ordered) gap_there.below gap_there.above);
+          filled = filled;
+          count = rw is (omega (arith, table.count, ap length gap_split, longer front (key, v) back));
+          few = omega (arith, table.few, most);
+        }
 
   pub table_removed : (rows new : List (List (K × X))) (len row at : ℕ) (e : K × X) → IsTable cmp rows len → AreFilled new → joined rows ≡ before rows row at ++ e ∷ after rows row at
       → joined new ≡ before rows row at ++ after rows row at → IsTable cmp new (len - 1)

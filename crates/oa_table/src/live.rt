@@ -175,10 +175,7 @@ impl LiveObject {
         let Some(old) = self.cells.get_mut(&place) else {
             return self.put_new(place, value);
         };
-        match replace(old, value) {
-            Ok(change) => Ok(change),
-            Err((value, fault)) => Err(((place, value), fault)),
-        }
+        replace(old, value).map_err(|(value, fault)| ((place, value), fault))
     }
 
     /// Sets a cell that was never put.

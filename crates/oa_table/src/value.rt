@@ -82,10 +82,9 @@ pub(crate) fn redim(
 {
     match value {
         Variant::One(_) => Err((bound, TableFault::NotArray)),
-        Variant::Array(array) => match array.redim(alloc, bound) {
-            Ok(()) => Ok(()),
-            Err(fault) => Err((bound, of_array(fault))),
-        },
+        Variant::Array(array) => array
+            .redim(alloc, bound)
+            .map_err(|fault| (bound, of_array(fault))),
     }
 }
 
@@ -105,10 +104,7 @@ pub(crate) fn lock(value: &mut Variant) -> Result<u16, TableFault>
 {
     match value {
         Variant::One(_) => Err(TableFault::NotArray),
-        Variant::Array(array) => match array.lock() {
-            Ok(count) => Ok(count),
-            Err(fault) => Err(TableFault::Array(fault)),
-        },
+        Variant::Array(array) => array.lock().map_err(TableFault::Array),
     }
 }
 
@@ -118,9 +114,6 @@ pub(crate) fn unlock(value: &mut Variant) -> Result<u16, TableFault>
 {
     match value {
         Variant::One(_) => Err(TableFault::NotArray),
-        Variant::Array(array) => match array.unlock() {
-            Ok(count) => Ok(count),
-            Err(fault) => Err(TableFault::Array(fault)),
-        },
+        Variant::Array(array) => array.unlock().map_err(TableFault::Array),
     }
 }

@@ -1,6 +1,7 @@
 -- A body that asks for another library.
-use Rattle.std.proofs.Common.{◌≡◌, ◌⊎◌, inl, inr, ℕ, false, List, Option, Some, None, Err, refl, sym, ap, ◌∙◌, subst}
+use Rattle.std.proofs.Common.{◌≡◌, ◌⊎◌, inl, inr, ℕ, false, List, Option, Some, None, Result, Ok, Err, refl, sym, ap, ◌∙◌, subst}
 use Rattle.std.specs.Prelude.{IsSome}
+use Rattle.std.specs.Result.{IsErrAnd, MatchResult}
 use Rattle.oa_idl.specs.Trees.{TreeValue}
 use Rattle.oa_keeps.specs.Keeps.{first_lost}
 use Rattle.oa_keeps.specs.declared.lost.Lost.{Lost}
@@ -13,7 +14,7 @@ use Rattle.oa_record.specs.Asks.{tag_at}
 use Rattle.oa_record.specs.Replacement.{text_in}
 use Rattle.oa_record.specs.Replies.{ReplyValue}
 use Rattle.oa_turn.specs.Events.{is_done}
-use Rattle.oa_turn.specs.Renewals.{IsNext, RefusesLoss, text_code}
+use Rattle.oa_turn.specs.Renewals.{IsLibraryOf, IsNext, RefusesLoss, text_code}
 use Rattle.oa_turn.specs.Replacing.{AsksLibrary, Replacement, after_replacement, replacement_reply}
 use Rattle.oa_turn.specs.States.{State}
 use Rattle.oa_turn.specs.Steps.{refusal}
@@ -34,9 +35,16 @@ module _ (body : List ℕ) where
     has_text = subst IsSome (sym lies) refl
 
     -- a text that gives no library, or one that memory was refused to
-    pub text_unread : (e : TextError) → IsTextOf text (Err e) → ((text_code e ≡ bad_stub_data) × ((library : TreeValue) → AsksLibrary body library → ⊥)) ⊎ ((text_code e ≡ e_outofmemory) × IsSome (text_in body))
+    text_unread : (e : TextError) → IsTextOf text (Err e) → ((text_code e ≡ bad_stub_data) × ((library : TreeValue) → AsksLibrary body library → ⊥)) ⊎ ((text_code e ≡ e_outofmemory) × IsSome (text_in body))
     text_unread NoLibrary none = inl (refl, λ library asks. none library (subst (λ (l : List ℕ). StandsFor l library) (one_text text asks.text (sym lies ∙ asks.lies)) asks.stands))
     text_unread Memory any = inr (refl, has_text)
+
+    -- what was made of the answer for a text: its library, or the code where there is none
+    pub text_told : (P : TextError → HResult → Type 0) (from : Result TreeValue TextError) (to : Result TreeValue HResult) → IsTextOf text from
+        → MatchResult from (λ library. to ≡ Ok library) (λ e. IsErrAnd to (P e)) → ((e : TextError) (code : HResult) → P e code → code ≡ text_code e) → IsLibraryOf body to
+    text_told P (Ok library) to is made coded = rw made (record { text = text; lies = lies; stands = is })
+    text_told P (Err e) (Ok library) is made coded = absurd made
+    text_told P (Err e) (Err code) is made coded = rw (coded e code made) (text_unread e is)
 
 -- ---- what becomes of it
 module _ (state : State) (body : List ℕ) (reply : ReplyValue) where

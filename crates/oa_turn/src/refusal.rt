@@ -1,7 +1,9 @@
 //! Why a request is refused.
 ghost use Rattle.std.specs.Prelude.{◌≡◌, None};
+ghost use Rattle.oa_array.specs.Faults.{array_code};
 ghost use Rattle.oa_typelib.specs.MemberCodes.{member_code};
 
+use oa_array::ArrayFault;
 use oa_model::HResult;
 use oa_typelib::MemberFault;
 
@@ -18,6 +20,14 @@ impl Refusal {
         ensures { result ≡ record { code = code; index = None } }
     {
         Refusal { code, index: None }
+    }
+}
+
+impl From<ArrayFault> for Refusal {
+    ghost from_gives = { λ fault refusal. refusal ≡ record { code = array_code fault; index = None } };
+
+    fn from(fault: ArrayFault) -> Refusal {
+        Refusal::of(fault.code())
     }
 }
 

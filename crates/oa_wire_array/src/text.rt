@@ -30,10 +30,7 @@ fn text(alloc: Global, len: u32, r: &mut Ndr<'_>) -> Result<Bstr, ReadFault>
 {
     let bytes = r.bytes(len as usize)?;
     r.bytes(len as usize % 2)?;
-    match Bstr::from_bytes(alloc, bytes) {
-        Ok(text) => Ok(text),
-        Err(_) => Err(ReadFault::Memory),
-    }
+    Bstr::from_bytes(alloc, bytes).map_err(|_| ReadFault::Memory)
 }
 
 // The maximum count, cBytes, clSize and the bytes.

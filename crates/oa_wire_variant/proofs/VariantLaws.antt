@@ -1,6 +1,7 @@
 -- Reading a whole field reads its form, and what is written is of the form.
 use Rattle.std.proofs.Common.{◌≡◌, ℕ, ◌+◌, ◌-◌, ◌/◌, ◌%◌, ◌^◌, ◌<◌, ◌≤◌, ◌⊎◌, inl, inr, Bool, true, false, eqb, ltb, ◌&&◌, ◌||◌, is_some}
 use Rattle.std.proofs.Common.{List, [], ◌++◌, length, Result, Ok, Err, Option, Some, None, refl, sym, ap, ◌∙◌, arith}
+use Rattle.std.specs.Result.{IsErrAnd, MatchResult}
 use Rattle.std.proofs.lemmas.Bool.{eqb-true, eq-eqb, ltb-true, ltb-false, and_parts, and_from, or_left, or_right, true≢false}
 use Rattle.oa_ndr.specs.Forms.{unit, referent}
 use Rattle.oa_ndr.specs.Reading.{Cursor, at}
@@ -18,7 +19,9 @@ use Rattle.oa_variant.specs.declared.variant.Variant.{Variant}
 use Rattle.oa_variant.specs.declared.variant.Variant.TheVariants.{One, Array}
 use Rattle.oa_wire_array.specs.declared.fault.WireFault.{WireFault}
 use Rattle.oa_wire_array.specs.declared.fault.WireFault.TheVariants.{BadStub, BadVarType, Memory}
-use Rattle.oa_wire_array.specs.Reading.{Stretch}
+use Rattle.oa_wire_array.specs.declared.fault.ReadFault.{ReadFault}
+use Rattle.oa_wire_array.specs.declared.fault.ReadFault.TheVariants as faults
+use Rattle.oa_wire_array.specs.Reading.{ReadsField, Stretch}
 use Rattle.oa_wire_array.specs.Arrays.{array, IsArrayFront}
 use Rattle.oa_wire_array.specs.ArrayReading.{array_at}
 use Rattle.oa_wire_array.specs.ArrayCanon.{put_array}
@@ -140,7 +143,7 @@ untyped t a old end none e stretch =
 abbrev done : ArrayValue Scalar → Cursor → Option (ArrayValue Scalar × Cursor)
 done a s = Some (a, s)
 
-pub array_answers : (t : VarType) (result : Result (ArrayValue Scalar) WireFault) (old new : Cursor) → IsArrayFront t result old new → AsRead result new (array_at t old)
+array_answers : (t : VarType) (result : Result (ArrayValue Scalar) WireFault) (old new : Cursor) → IsArrayFront t result old new → AsRead result new (array_at t old)
 array_answers t (Ok a) old new h =
     let s = h.1 in
     let again = (array_reads t).again old.position s.text new.rest a h.0 s.form in
@@ -150,6 +153,17 @@ array_answers t (Ok a) old new h =
 array_answers t (Err BadStub) old new h = no_array t old h.1
 array_answers t (Err BadVarType) old new h = no_array t old (λ a end e stretch. untyped t a old end h.0 e stretch)
 array_answers t (Err Memory) old new h = tt
+
+-- and what was made of its answer: the array, or what each refusal becomes
+pub array_told : (P : WireFault → ReadFault → Type 0) (t : VarType) (from : Result (ArrayValue Scalar) WireFault) (to : Result (ArrayValue Scalar) ReadFault) (old new : Cursor)
+    → IsArrayFront t from old new → MatchResult from (λ a. to ≡ Ok a) (λ e. IsErrAnd to (P e))
+    → ((f : ReadFault) → P BadStub f → f ≡ faults.BadStub) → ((f : ReadFault) → P BadVarType f → f ≡ faults.BadStub) → ((f : ReadFault) → P Memory f → f ≡ faults.Memory)
+    → ReadsField to new (array_at t old)
+array_told P t (Ok a) to old new h is stub type memory = rw is (array_answers t (Ok a) old new h)
+array_told P t (Err e) (Ok a) old new h is stub type memory = absurd is
+array_told P t (Err BadStub) (Err f) old new h is stub type memory = rw (stub f is) (array_answers t (Err BadStub) old new h)
+array_told P t (Err BadVarType) (Err f) old new h is stub type memory = rw (type f is) (array_answers t (Err BadVarType) old new h)
+array_told P t (Err Memory) (Err f) old new h is stub type memory = rw (memory f is) tt
 
 -- ---- lengths
 

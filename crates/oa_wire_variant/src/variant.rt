@@ -20,7 +20,7 @@ ghost use Rattle.oa_wire_variant.specs.Canon.{canon, put_variant, put_array_head
 
 use byteorder::{ByteOrder, LittleEndian};
 use oa_array::SafeArray;
-use oa_model::{ValueType, VarType};
+use oa_model::{VT_ARRAY, ValueType, VarType};
 use oa_ndr::{Ndr, NdrOut};
 use oa_variant::{Scalar, Variant};
 use oa_wire_array::{
@@ -29,9 +29,6 @@ use oa_wire_array::{
 };
 use std::alloc::{AllocError, Global};
 use std::mem;
-
-// The flag of arrays in a vt (MS-OAUT 2.2.7).
-const VT_ARRAY: u16 = 0x2000;
 
 // The vt of longs, which is their discriminant too (MS-OAUT 2.2.7), and how many bytes their field has.
 const VT_I4: u16 = 3;
@@ -52,12 +49,10 @@ fn array(alloc: Global, elem: VarType, r: &mut Ndr<'_>) -> Result<SafeArray<Scal
     ensures value { ReadsField result r.new (array_at elem r.old) }
     ensures memory { OnMemory result (IsSome (sf_type_of elem)) }
 {
-    match read_array(alloc, r, elem) {
-        Ok(array) => Ok(array),
-        Err(WireFault::BadStub) => Err(ReadFault::BadStub),
-        Err(WireFault::BadVarType) => Err(ReadFault::BadStub),
-        Err(WireFault::Memory) => Err(ReadFault::Memory),
-    }
+    read_array(alloc, r, elem).map_err(|fault| match fault {
+        WireFault::BadStub | WireFault::BadVarType => ReadFault::BadStub,
+        WireFault::Memory => ReadFault::Memory,
+    })
 }
 
 #[tactic(auto, unfolding(oa_ndr::specs::Reading::steps, crate::specs::Reading::scalar_value_at))]
@@ -183,11 +178,10 @@ fn field_fault(bytes: &[u8]) -> WireFault
 pub fn read_variant(alloc: Global, bytes: &[u8]) -> Result<Variant, WireFault>
     ensures exact { ReadsVariant bytes.now result }
 {
-    match whole(alloc, bytes) {
-        Ok(value) => Ok(value),
-        Err(ReadFault::Memory) => Err(WireFault::Memory),
-        Err(ReadFault::BadStub) => Err(field_fault(bytes)),
-    }
+    whole(alloc, bytes).map_err(|fault| match fault {
+        ReadFault::Memory => WireFault::Memory,
+        ReadFault::BadStub => field_fault(bytes),
+    })
 }
 
 // How many bytes `write_variant` adds. Of an array it is what clSize counts.

@@ -51,19 +51,14 @@ pub(super) fn element_type_of(index: &[i32], value: &Variant) -> Result<VarType,
 fn element_at<'a>(index: &[i32], array: &'a SafeArray<Scalar>) -> Result<&'a Scalar, Refusal>
     ensures { result_map_both (λ s. s.now) (λ e. e) result ≡ element_at index.now array.now }
 {
-    match array.element(index) {
-        Ok(element) => Ok(element),
-        Err(fault) => Err(Refusal::of(fault.code())),
-    }
+    Ok(array.element(index)?)
 }
 
 fn type_at(index: &[i32], array: &SafeArray<Scalar>) -> Result<VarType, Refusal>
     ensures { result ≡ element_type_at index.now array.now }
 {
-    match array.element(index) {
-        Ok(_) => Ok(array.elem()),
-        Err(fault) => Err(Refusal::of(fault.code())),
-    }
+    array.element(index)?;
+    Ok(array.elem())
 }
 
 /// Why no index list reaches an element of a cell that was never put: the zero of its type is no array, or an array without indices.

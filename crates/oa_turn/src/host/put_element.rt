@@ -69,10 +69,9 @@ fn as_element(elem: VarType, value: Variant) -> Result<Scalar, Refusal>
     ensures { result ≡ as_element elem value }
 {
     match value {
-        Variant::One(scalar) => match coerce_scalar(scalar, elem) {
-            Ok(element) => Ok(element),
-            Err((_, fault)) => Err(Refusal::of(fault.code())),
-        },
+        Variant::One(scalar) => {
+            coerce_scalar(scalar, elem).map_err(|(_, fault)| Refusal::of(fault.code()))
+        }
         Variant::Array(_) => Err(Refusal::of(CoerceFault::TypeMismatch.code())),
     }
 }

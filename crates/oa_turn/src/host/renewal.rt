@@ -26,10 +26,7 @@ fn library_of(alloc: Global, body: &[u8]) -> Result<Library, HResult>
     let Some(text) = replacement_text(body) else {
         return Err(HResult::BAD_STUB_DATA);
     };
-    match read_library(alloc, text) {
-        Ok(library) => Ok(library),
-        Err(fault) => Err(text_code(fault)),
-    }
+    read_library(alloc, text).map_err(text_code)
 }
 
 /// What is answered where a text gives no library.

@@ -1,4 +1,4 @@
-use Rattle.std.proofs.Common.{◌≡◌, ◌∙◌, length, sym, ap, slice_set, slice_index_or, arith}
+use Rattle.std.proofs.Common.{◌≡◌, ◌∙◌, length, sym, ap}
 use Rattle.std.proofs.lemmas.List.{get_or-set_same}
 use Rattle.oa_ordered.proofs.Joined.{entry_split, filled_dropped, joined_dropped, removed, row_is}
 use Rattle.oa_ordered.proofs.rows.remove_at.Goals as goal

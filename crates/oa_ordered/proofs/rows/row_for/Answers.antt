@@ -1,6 +1,4 @@
-use Rattle.std.proofs.Common.{◌≡◌, ◌∙◌, ◌+◌, ◌-◌, ◌/◌, ◌<◌, true, false, [], length, sym, subst, arith}
-use Rattle.std.proofs.lemmas.List.{get_or_default}
-use Rattle.oa_ordered.specs.Rows.{begins_after}
+use Rattle.std.proofs.Common.{◌+◌, ◌-◌, ◌/◌, ◌<◌, length, arith}
 use Rattle.oa_ordered.proofs.Places.{row_for_all, rows_above, rows_below}
 use Rattle.oa_ordered.proofs.rows.row_for.Goals as goal
 
@@ -11,13 +9,12 @@ halves-preserved-then-begins_after g c =
     let rows = c.args.rows.now in
     let middle = c.halves.low + (c.halves.high - c.halves.low) / 2 in
     let lt : middle < length rows = omega (arith, i.inside, test) in
-    let test' = subst (λ row. begins_after g.K.Ord.cmp c.args.key.now row ≡ true) (c.index-rows-middle.is ∙ get_or_default rows middle c.index-rows-middle.result [] lt) (sym c.if-begins_after.ensures) in
     record {
       middle = omega arith;
       one = λ some. omega (arith, test);
       inside = omega (arith, lt);
       below = i.below;
-      above = rows_above g.K.Ord.cmp g.met.K.Ord.total c.args.key.now rows c.requires.ordered middle lt test';
+      above = rows_above g.K.Ord.cmp g.met.K.Ord.total c.args.key.now rows c.requires.ordered middle lt c.index-rows-middle.result c.index-rows-middle.result c.index-rows-middle.is c.if-begins_after.ensures;
     }
 
 pub halves-preserved : goal.halves-preserved
@@ -27,12 +24,11 @@ halves-preserved g c =
     let rows = c.args.rows.now in
     let middle = c.halves.low + (c.halves.high - c.halves.low) / 2 in
     let lt : middle < length rows = omega (arith, i.inside, test) in
-    let test' = subst (λ row. begins_after g.K.Ord.cmp c.args.key.now row ≡ false) (c.index-rows-middle.is ∙ get_or_default rows middle c.index-rows-middle.result [] lt) (sym c.if-begins_after.ensures) in
     record {
       middle = omega (arith, test);
       one = λ some. omega (arith, test);
       inside = i.inside;
-      below = rows_below g.K.Ord.cmp g.met.K.Ord.total c.args.key.now rows c.requires.ordered middle lt c.requires.filled test';
+      below = rows_below g.K.Ord.cmp g.met.K.Ord.total c.args.key.now rows c.requires.ordered middle lt c.index-rows-middle.result c.index-rows-middle.result c.index-rows-middle.is c.requires.filled c.if-begins_after.ensures;
       above = i.above;
     }
 

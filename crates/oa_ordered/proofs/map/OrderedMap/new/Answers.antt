@@ -1,6 +1,3 @@
-use Rattle.std.proofs.Common.{arith}
-use Rattle.std.specs.List.Sorted.{IsStrictlySortedBy}
-use Rattle.oa_ordered.specs.Rows.{IsTable}
 use Rattle.oa_ordered.proofs.Places.{no_table}
 use Rattle.oa_ordered.proofs.map.OrderedMap.new.Goals as goal
 

@@ -1,10 +1,12 @@
 use Rattle.std.proofs.Common.{sym}
+use Rattle.std.proofs.lemmas.Result.{err_from_is_err_and}
 use Rattle.oa_turn.proofs.Reached.{element_is, element_is_outside}
 use Rattle.oa_turn.proofs.host.array_cell.element_at.Goals as goal
 
-pub returns-in-Ok : goal.returns-in-Ok
-returns-in-Ok c = sym (element_is c.args.array.now c.args.index.now c.in-Ok.element.now c.in-Ok.ensures.0 c.in-Ok.ensures.1)
+pub returns : goal.returns
+returns c = sym (element_is c.args.array.now c.args.index.now c.in_ok-element.field-0.now c.in_ok-element.ensures.0 c.in_ok-element.ensures.1)
 
-pub returns-in-Err : goal.returns-in-Err
-returns-in-Err c =
-    rw (c.of.ensures, c.code.ensures, c.in-Err.ensures.1) (sym (element_is_outside c.args.array.now c.args.index.now c.in-Err.ensures.0))
+pub returns-in_err-element : goal.returns-in_err-element
+returns-in_err-element c =
+    let told = err_from_is_err_and c.from_residual.result c.from_residual.ensures.1 in
+    rw (told.1, told.2, c.in_err-element.ensures.1) (sym (element_is_outside c.args.array.now c.args.index.now c.in_err-element.ensures.0))

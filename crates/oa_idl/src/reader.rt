@@ -11,11 +11,18 @@ use crate::characters::Characters;
 use crate::name::Name;
 use crate::sign::{is_reserved, kind_of, same_bytes, type_named};
 use crate::stop::{Stop, TreeLimit};
-use oa_model::{MAX_NAME_CHARACTERS, VarType};
+use oa_model::{MAX_NAME_CHARACTERS, UNKNOWN_DISPID, VarType};
 use oa_tokens::{Token, TokenKind};
 use std::alloc::{AllocError, Global};
 use std::marker::Model;
 use uuid::Uuid;
+
+/// A number is below this, 2^96.
+const NUMBER_BOUND: u128 = 1 << 96;
+/// The DISPID of a put's new value (DISPID_PROPERTYPUT).
+const NEW_VALUE: i32 = -3;
+/// The characters of a GUID of the form 8-4-4-4-12.
+const GUID_CHARACTERS: usize = 36;
 
 /// The words of a text that were not read yet.
 #[derive(Drop)]
@@ -63,7 +70,7 @@ fn digit_of(byte: u8) -> u8
 }
 
 /// The number that digits stand for, if it is below 2^96.
-#[tactic(auto, unfolding(crate::specs::Words::number_from), using(crate::proofs::Digits::digits_go_on, crate::proofs::Digits::digits_stop, crate::proofs::Digits::digits_end))]
+#[tactic(auto, unfolding(crate::specs::Words::number_from), using(crate::proofs::Digits::digit_steps))]
 fn digits(hexadecimal: bool, text: &[u8]) -> Option<u128>
     ensures small { IfSome result (λ n. n < 2 ^ 96) }
     ensures value { result ≡ below (2 ^ 96) (number_from (if hexadecimal then 16 else 10) 0 text.now) }
@@ -73,7 +80,7 @@ fn digits(hexadecimal: bool, text: &[u8]) -> Option<u128>
     let mut n = 0;
     while n < text.len() {
         let next = base * value + u128::from(digit_of(text[n]));
-        if next >= 0x1_0000_0000_0000_0000_0000_0000 {
+        if next >= NUMBER_BOUND {
             return None;
         }
         value = next;
@@ -127,7 +134,11 @@ fn id_from(negative: bool, hexadecimal: bool, number: Option<u128>) -> Option<i3
     ensures { result ≡ id_from negative hexadecimal number }
 {
     let id = id_number(negative, hexadecimal, number?)?;
-    if id == -1 || id == -3 { None } else { Some(id) }
+    if id == UNKNOWN_DISPID || id == NEW_VALUE {
+        None
+    } else {
+        Some(id)
+    }
 }
 
 fn amount_from(negative: bool, number: Option<u128>) -> Option<i128>
@@ -153,7 +164,7 @@ fn is_escaped(byte: u8) -> bool
 }
 
 /// The characters up to the quote that closes a string, None where one cannot stand.
-#[tactic(auto, using(crate::proofs::Strings::escape_taken, crate::proofs::Strings::escape_refused, crate::proofs::Strings::string_closed, crate::proofs::Strings::escape_begins, crate::proofs::Strings::character_taken, crate::proofs::Strings::character_refused, crate::proofs::Strings::characters_end))]
+#[tactic(auto, using(crate::proofs::Strings::character_steps))]
 fn characters(alloc: Global, text: &[u8]) -> Result<Option<Characters>, AllocError>
     ensures { IfOk result (λ found. found ≡ characters_from false text.now) }
 {
@@ -200,7 +211,7 @@ fn behind_quote(text: &[u8]) -> &[u8]
 fn guid_of(text: &[u8]) -> Option<Uuid>
     ensures { result ≡ parsed_hyphenated text.now }
 {
-    if text.len() != 36 {
+    if text.len() != GUID_CHARACTERS {
         return None;
     }
     Uuid::try_parse_ascii(text).ok()
@@ -297,7 +308,7 @@ impl<'a> Reader<'a> {
     }
 
     /// Takes this sign where it stands.
-    #[tactic(auto, unfolding(crate::specs::Reading::perhaps_at))]
+    #[tactic(auto, unfolding(crate::proofs::OnReadings::combinators))]
     pub(crate) fn perhaps(&mut self, sign: &[u8])
         ensures { self.new ≡ (if heads (passes sign.now) self.old then later_words self.old else self.old) }
     {

@@ -308,11 +308,7 @@ fn library(alloc: Global, r: &mut Reader<'_>) -> Result<Tree, Stop>
 fn place_of_rest(end: usize, tokens: &[Token], left: usize) -> usize
     ensures { result ≡ place_after end tokens.now (length tokens.now - left) }
 {
-    let read = if left <= tokens.len() {
-        tokens.len() - left
-    } else {
-        0
-    };
+    let read = tokens.len().saturating_sub(left);
     match tokens.get(read) {
         Some(token) => token.start,
         None => end,

@@ -1,10 +1,12 @@
 //! Reading the words of a text from the front.
-ghost use Rattle.std.specs.Prelude.{◌≡◌, ◌-◌, ◌+◌, ◌*◌, ◌<◌, ◌^◌, ◌&&◌, if◌then◌else◌, length, take, drop, map, false, IfOk, IfSome};
+ghost use Rattle.std.specs.Prelude.{◌≡◌, ◌-◌, ◌+◌, ◌*◌, ◌<◌, ◌^◌, ◌&&◌, if◌then◌else◌, length, take, drop, map, false, IfOk, IfErr, IfSome};
 ghost use Rattle.oa_idl.specs.Words.{word_of, passes, is_text, name_of, over, guid_of, digit_of, number_from, number_of};
 ghost use Rattle.oa_idl.specs.Words.{is_hexadecimal, below, part_from, part_of, id_number, id_from, id_of, word_type, same_kind};
 ghost use Rattle.oa_idl.specs.Words.{never_over, amount_from, amount_of, is_printable, is_escaped, characters_from, characters_of};
 ghost use Rattle.oa_idl.specs.Grammar.{entry_word};
-ghost use Rattle.oa_idl.specs.Reading.{ReadsWords, heads, later_words, this_at, one_at, perhaps_at, done, seen_first, first_of};
+ghost use Rattle.oa_idl.specs.Reading.{ReadsWords, heads, later_words, this_at, one_at, if_meant, perhaps_at, done, seen_first, first_of};
+ghost use Rattle.oa_idl.specs.NextWords.{text_of, seen_text};
+ghost use Rattle.oa_idl.specs.declared.stop.Stop.TheVariants.{Syntax};
 ghost use Rattle.uuid.specs.Text.{parsed_hyphenated};
 
 use crate::characters::Characters;
@@ -242,6 +244,28 @@ impl<'a> Reader<'a> {
         Some((token.kind, token.bytes_in(self.text)))
     }
 
+    /// The bytes of the next word, where it is of this kind.
+    fn text_of(&self, kind: TokenKind) -> Result<&'a [u8], Stop>
+        ensures text { seen_text result ≡ text_of kind self.now }
+        ensures syntax { IfErr result (λ e. e ≡ Syntax) }
+    {
+        match self.first() {
+            Some((found, text)) if same_kind(found, kind) => Ok(text),
+            _ => Err(Stop::Syntax),
+        }
+    }
+
+    /// Takes the next word, which stands for this, or cannot stand there.
+    fn taken<T>(&mut self, meant: Option<T>) -> Result<T, Stop>
+        ensures { ReadsWords (λ x. x) result self.new (if_meant meant never_over self.old) }
+    {
+        let Some(value) = meant else {
+            return Err(Stop::Syntax);
+        };
+        self.skip();
+        Ok(value)
+    }
+
     /// Goes past the next word.
     #[tactic(auto, using(crate::proofs::Maps::map_rest))]
     pub(crate) fn skip(&mut self)
@@ -280,16 +304,12 @@ impl<'a> Reader<'a> {
     pub(crate) fn entry_word(&mut self) -> Result<(), Stop>
         ensures { ReadsWords (λ _. done) result self.new (this_at entry_word self.old) }
     {
-        let Some((kind, text)) = self.first() else {
+        let text = self.text_of(TokenKind::Name)?;
+        if !same_bytes(text, b"dispinterface") && !same_bytes(text, b"interface") {
             return Err(Stop::Syntax);
-        };
-        if same_kind(kind, TokenKind::Name)
-            && (same_bytes(text, b"dispinterface") || same_bytes(text, b"interface"))
-        {
-            self.skip();
-            return Ok(());
         }
-        Err(Stop::Syntax)
+        self.skip();
+        Ok(())
     }
 
     /// Takes a string.
@@ -297,12 +317,7 @@ impl<'a> Reader<'a> {
     pub(crate) fn text(&mut self) -> Result<(), Stop>
         ensures { ReadsWords (λ _. done) result self.new (this_at is_text self.old) }
     {
-        let Some((kind, _text)) = self.first() else {
-            return Err(Stop::Syntax);
-        };
-        if !same_kind(kind, TokenKind::Text) {
-            return Err(Stop::Syntax);
-        }
+        self.text_of(TokenKind::Text)?;
         self.skip();
         Ok(())
     }
@@ -329,10 +344,8 @@ impl<'a> Reader<'a> {
         ensures value { ReadsWords (λ n. n) result self.new (one_at name_of (over limit bound count) self.old) }
         ensures few { IfOk result (λ _. count < bound) }
     {
-        let Some((kind, text)) = self.first() else {
-            return Err(Stop::Syntax);
-        };
-        if !same_kind(kind, TokenKind::Name) || is_reserved(text) {
+        let text = self.text_of(TokenKind::Name)?;
+        if is_reserved(text) {
             return Err(Stop::Syntax);
         }
         if text.len() > MAX_NAME_CHARACTERS {
@@ -351,19 +364,8 @@ impl<'a> Reader<'a> {
     pub(crate) fn guid(&mut self) -> Result<Uuid, Stop>
         ensures { ReadsWords (λ g. g) result self.new (one_at guid_of never_over self.old) }
     {
-        let Some((kind, text)) = self.first() else {
-            return Err(Stop::Syntax);
-        };
-        if !same_kind(kind, TokenKind::Guid) {
-            return Err(Stop::Syntax);
-        }
-        match guid_of(text) {
-            Some(guid) => {
-                self.skip();
-                Ok(guid)
-            }
-            None => Err(Stop::Syntax),
-        }
+        let text = self.text_of(TokenKind::Guid)?;
+        self.taken(guid_of(text))
     }
 
     /// Takes a part of a version, which counts or is taken as 0.
@@ -371,19 +373,8 @@ impl<'a> Reader<'a> {
     pub(crate) fn part(&mut self, counts: bool) -> Result<u16, Stop>
         ensures { ReadsWords (λ n. n) result self.new (one_at (part_of counts) never_over self.old) }
     {
-        let Some((kind, text)) = self.first() else {
-            return Err(Stop::Syntax);
-        };
-        if !same_kind(kind, TokenKind::Number) {
-            return Err(Stop::Syntax);
-        }
-        match part_from(counts, number_of(text)) {
-            Some(value) => {
-                self.skip();
-                Ok(value)
-            }
-            None => Err(Stop::Syntax),
-        }
+        let text = self.text_of(TokenKind::Number)?;
+        self.taken(part_from(counts, number_of(text)))
     }
 
     /// Takes the number of an id, after a minus or not.
@@ -391,19 +382,8 @@ impl<'a> Reader<'a> {
     pub(crate) fn id(&mut self, negative: bool) -> Result<i32, Stop>
         ensures { ReadsWords (λ n. n) result self.new (one_at (id_of negative) never_over self.old) }
     {
-        let Some((kind, text)) = self.first() else {
-            return Err(Stop::Syntax);
-        };
-        if !same_kind(kind, TokenKind::Number) {
-            return Err(Stop::Syntax);
-        }
-        match id_from(negative, is_hexadecimal(text), number_of(text)) {
-            Some(value) => {
-                self.skip();
-                Ok(value)
-            }
-            None => Err(Stop::Syntax),
-        }
+        let text = self.text_of(TokenKind::Number)?;
+        self.taken(id_from(negative, is_hexadecimal(text), number_of(text)))
     }
 
     /// Takes a word that stands for a type, after `unsigned` or not, in an array or not.
@@ -411,19 +391,8 @@ impl<'a> Reader<'a> {
     pub(crate) fn type_word(&mut self, in_array: bool, unsigned: bool) -> Result<VarType, Stop>
         ensures { ReadsWords (λ t. t) result self.new (one_at (word_type in_array unsigned) never_over self.old) }
     {
-        let Some((kind, text)) = self.first() else {
-            return Err(Stop::Syntax);
-        };
-        if !same_kind(kind, TokenKind::Name) {
-            return Err(Stop::Syntax);
-        }
-        match type_named(in_array, unsigned, text) {
-            Some(found) => {
-                self.skip();
-                Ok(found)
-            }
-            None => Err(Stop::Syntax),
-        }
+        let text = self.text_of(TokenKind::Name)?;
+        self.taken(type_named(in_array, unsigned, text))
     }
 
     /// Whether the next word is a string.
@@ -431,10 +400,7 @@ impl<'a> Reader<'a> {
     pub(crate) fn is_string(&self) -> bool
         ensures { result ≡ heads is_text self.now }
     {
-        match self.first() {
-            Some((kind, _text)) => same_kind(kind, TokenKind::Text),
-            None => false,
-        }
+        self.text_of(TokenKind::Text).is_ok()
     }
 
     /// Takes a number of a default, after a minus or not.
@@ -442,19 +408,8 @@ impl<'a> Reader<'a> {
     pub(crate) fn amount(&mut self, negative: bool) -> Result<i128, Stop>
         ensures { ReadsWords (λ n. n) result self.new (one_at (amount_of negative) never_over self.old) }
     {
-        let Some((kind, text)) = self.first() else {
-            return Err(Stop::Syntax);
-        };
-        if !same_kind(kind, TokenKind::Number) {
-            return Err(Stop::Syntax);
-        }
-        match amount_from(negative, number_of(text)) {
-            Some(value) => {
-                self.skip();
-                Ok(value)
-            }
-            None => Err(Stop::Syntax),
-        }
+        let text = self.text_of(TokenKind::Number)?;
+        self.taken(amount_from(negative, number_of(text)))
     }
 
     /// Takes a default string.
@@ -462,18 +417,7 @@ impl<'a> Reader<'a> {
     pub(crate) fn characters(&mut self, alloc: Global) -> Result<Characters, Stop>
         ensures { ReadsWords (λ n. n) result self.new (one_at characters_of never_over self.old) }
     {
-        let Some((kind, text)) = self.first() else {
-            return Err(Stop::Syntax);
-        };
-        if !same_kind(kind, TokenKind::Text) {
-            return Err(Stop::Syntax);
-        }
-        match characters(alloc, behind_quote(text))? {
-            Some(found) => {
-                self.skip();
-                Ok(found)
-            }
-            None => Err(Stop::Syntax),
-        }
+        let text = self.text_of(TokenKind::Text)?;
+        self.taken(characters(alloc, behind_quote(text))?)
     }
 }

@@ -120,11 +120,9 @@ fn part_from(counts: bool, number: Option<u128>) -> Option<u16>
 fn id_number(negative: bool, hexadecimal: bool, value: u128) -> Option<i32>
     ensures { result ≡ id_number negative hexadecimal value }
 {
-    let Ok(value) = u32::try_from(value) else {
-        return None;
-    };
+    let value = u32::try_from(value).ok()?;
     if negative {
-        return i32::try_from(-i64::from(value)).ok();
+        return 0i32.checked_sub_unsigned(value);
     }
     if hexadecimal {
         return Some(value.cast_signed());

@@ -96,19 +96,11 @@ type_spelled false types.Decimal b x h ends = plain_spelled false types.Decimal 
 type_spelled in_array types.Bstr b x h ends = plain_spelled in_array types.Bstr (codes "BSTR") b x (refl, refl) ends refl (λ _. refl)
 type_spelled in_array types.Variant b x h ends = plain_spelled in_array types.Variant (codes "VARIANT") b x (refl, refl) ends refl (λ _. refl)
 
-right_ends : (x : List ℕ) → EndsWord (41 ∷ x)
-unfolding is_in
-right_ends x = (refl, refl)
-
-space_ends : (x : List ℕ) → EndsWord (32 ∷ x)
-unfolding is_in
-space_ends x = (refl, refl)
-
 pub value_type_spelled : (t : ValueType) (x : List ℕ) → IsValueType t → Spells (value_type t) (value_type_text t ++ 32 ∷ x) (32 ∷ x)
 unfolding value_type value_type_text is_in run passes
-value_type_spelled (values.One t) x h = type_spelled false t 32 x h (space_ends x)
+value_type_spelled (values.One t) x h = type_spelled false t 32 x h (refl, refl)
 value_type_spelled (values.Array t) x h = at (ap (λ (bs : List ℕ). codes "SAFEARRAY(" ++ bs) (append_assoc (type_text t) (codes ")") (32 ∷ x)))
-    (sign_word (codes "SAFEARRAY") (codes "SAFEARRAY") 40 (type_text t ++ 41 ∷ 32 ∷ x) (refl, refl) (refl, refl) refl ▹ left_mark ▹ type_spelled true t 41 (32 ∷ x) h (right_ends (32 ∷ x)) ▹ right_mark)
+    (sign_word (codes "SAFEARRAY") (codes "SAFEARRAY") 40 (type_text t ++ 41 ∷ 32 ∷ x) (refl, refl) (refl, refl) refl ▹ left_mark ▹ type_spelled true t 41 (32 ∷ x) h (refl, refl) ▹ right_mark)
 
 -- ---- numbers
 
@@ -203,7 +195,7 @@ string_spelled cs x h = at (ap (λ (bs : List ℕ). 34 ∷ bs) (sym (append_asso
 -- before the bracket that closes a default
 literal_spelled : (v : Literal) (x : List ℕ) → IsLiteral v → Spells (literal v) (literal_text v ++ 41 ∷ x) (41 ∷ x)
 unfolding literal literal_text is_in run passes
-literal_spelled (literals.Number i) x h = amount_spelled i 41 x h (right_ends x)
+literal_spelled (literals.Number i) x h = amount_spelled i 41 x h (refl, refl)
 literal_spelled (literals.Text cs) x h = at (ap (λ (bs : List ℕ). 34 ∷ bs) (append_assoc (flat_map character_text cs) (34 ∷ []) (41 ∷ x))) (string_spelled cs (41 ∷ x) h)
 literal_spelled (literals.Bool true) x h = sign_word (codes "TRUE") (codes "TRUE") 41 x (refl, refl) (refl, refl) refl
 literal_spelled (literals.Bool false) x h = sign_word (codes "FALSE") (codes "FALSE") 41 x (refl, refl) (refl, refl) refl
@@ -212,7 +204,7 @@ literal_spelled (literals.Bool false) x h = sign_word (codes "FALSE") (codes "FA
 
 numbered_spelled : (i : ℤ) (x : List ℕ) → IsId i → Spells (numbered i) (codes "id(" ++ (signed_decimal i ++ 41 ∷ x)) x
 unfolding is_in run passes
-numbered_spelled i x h = sign_word (codes "id") (codes "id") 40 (signed_decimal i ++ 41 ∷ x) (refl, refl) (refl, refl) refl ▹ left_mark ▹ id_spelled i 41 x h (right_ends x) ▹ right_mark
+numbered_spelled i x h = sign_word (codes "id") (codes "id") 40 (signed_decimal i ++ 41 ∷ x) (refl, refl) (refl, refl) refl ▹ left_mark ▹ id_spelled i 41 x h (refl, refl) ▹ right_mark
 
 property_head_spelled : (i : ℤ) (readonly : Bool) (x : List ℕ) → IsId i
     → Spells (property_head (record { id = i; readonly = readonly }))
@@ -230,12 +222,9 @@ property_layout : (p : Property) (x : List ℕ) → property_text p ++ x ≡ cod
 unfolding property_text id_text named_text
 property_layout p x = ap (λ (bs : List ℕ). codes "[id(" ++ bs) (member_layout (signed_decimal p.id) (readonly_text p.readonly) (value_type_text p.value_type) p.name (codes ";\n") x)
 
-semicolon_ends : (x : List ℕ) → EndsWord (59 ∷ x)
-unfolding is_in
-semicolon_ends x = (refl, refl)
-
 pub property_spelled : (p : Property) (x : List ℕ) → IsProperty p → Spells (property p) (property_text p ++ x) x
-property_spelled p x h = at (property_layout p x) (property_head_spelled p.id p.readonly _ h.0 ▹ value_type_spelled p.value_type _ h.1 ▹ blank (name_spelled p.name 59 (10 ∷ x) h.2 (semicolon_ends (10 ∷ x))) ▹ semicolon_mark ▹ then_line nothing_spelled)
+unfolding is_in
+property_spelled p x h = at (property_layout p x) (property_head_spelled p.id p.readonly _ h.0 ▹ value_type_spelled p.value_type _ h.1 ▹ blank (name_spelled p.name 59 (10 ∷ x) h.2 (refl, refl)) ▹ semicolon_mark ▹ then_line nothing_spelled)
 
 -- ---- parameters
 
@@ -264,42 +253,34 @@ optional_spelled : (b : ℕ) (x : List ℕ) → EndsWord (b ∷ x) → Spells (s
 unfolding is_in run passes
 optional_spelled b x ends = sign_word (codes "optional") (codes "optional") b x (refl, refl) ends refl
 
-close_ends : (x : List ℕ) → EndsWord (93 ∷ x)
-unfolding is_in
-close_ends x = (refl, refl)
-
-comma_ends : (x : List ℕ) → EndsWord (44 ∷ x)
-unfolding is_in
-comma_ends x = (refl, refl)
-
 marked : (i o : Bool) (d : Option Literal) (t : ValueType) (name : List ℕ) (b : ℕ) (x : List ℕ) → IsDefault d → IsValueType t → IsName name
     → EndsWord (b ∷ x)
     → Spells (parameter (record { is_in = i; is_optional = o; default = d; value_type = t; name = name }))
     (parameter_text (record { is_in = i; is_optional = o; default = d; value_type = t; name = name }) ++ b ∷ x) (b ∷ x)
-unfolding parameter parameter_head parameter_text parameter_marks mark_text default_text
+unfolding parameter parameter_head parameter_text parameter_marks mark_text default_text is_in
 marked false false None t name b x h k n ends = said (λ ws f. inr (refl, f)) (typed_spelled t name b x k n ends)
 marked true false None t name b x h k n ends = let y = named_text (value_type_text t) name ++ b ∷ x in
-    said (λ ws f. inl f) (then_blank (attributes_spelled {attribute = parameter_attribute} no_parameter (marks true false None) IsIn refl (in_spelled 93 (32 ∷ y) (close_ends (32 ∷ y))) (last_spelled _ (marks true false None) refl)) ▹ typed_spelled t name b x k n ends)
+    said (λ ws f. inl f) (then_blank (attributes_spelled {attribute = parameter_attribute} no_parameter (marks true false None) IsIn refl (in_spelled 93 (32 ∷ y) (refl, refl)) (last_spelled _ (marks true false None) refl)) ▹ typed_spelled t name b x k n ends)
 marked false true None t name b x h k n ends = let y = named_text (value_type_text t) name ++ b ∷ x in
-    said (λ ws f. inl f) (then_blank (attributes_spelled {attribute = parameter_attribute} no_parameter (marks false true None) IsOptional refl (optional_spelled 93 (32 ∷ y) (close_ends (32 ∷ y))) (last_spelled _ (marks false true None) refl)) ▹ typed_spelled t name b x k n ends)
+    said (λ ws f. inl f) (then_blank (attributes_spelled {attribute = parameter_attribute} no_parameter (marks false true None) IsOptional refl (optional_spelled 93 (32 ∷ y) (refl, refl)) (last_spelled _ (marks false true None) refl)) ▹ typed_spelled t name b x k n ends)
 marked true true None t name b x h k n ends = let y = named_text (value_type_text t) name ++ b ∷ x in
-    said (λ ws f. inl f) (then_blank (attributes_spelled {attribute = parameter_attribute} no_parameter (marks true true None) IsIn refl (in_spelled 44 (codes " optional] " ++ y) (comma_ends (codes " optional] " ++ y)))
-    (next_spelled _ (marks true true None) IsOptional refl (blank (optional_spelled 93 (32 ∷ y) (close_ends (32 ∷ y)))) (last_spelled _ (marks true true None) refl))) ▹ typed_spelled t name b x k n ends)
+    said (λ ws f. inl f) (then_blank (attributes_spelled {attribute = parameter_attribute} no_parameter (marks true true None) IsIn refl (in_spelled 44 (codes " optional] " ++ y) (refl, refl))
+    (next_spelled _ (marks true true None) IsOptional refl (blank (optional_spelled 93 (32 ∷ y) (refl, refl))) (last_spelled _ (marks true true None) refl))) ▹ typed_spelled t name b x k n ends)
 marked false false (Some v) t name b x h k n ends = let y = named_text (value_type_text t) name ++ b ∷ x in
     at (ap (λ (bs : List ℕ). codes "[defaultvalue(" ++ bs) (marked_layout (literal_text v) (named_text (value_type_text t) name) (b ∷ x)))
     (said (λ ws f. inl f) (then_blank (attributes_spelled {attribute = parameter_attribute} no_parameter (marks false false (Some v)) (HasDefault v) refl (default_spelled v (93 ∷ 32 ∷ y) h) (last_spelled _ (marks false false (Some v)) refl)) ▹ typed_spelled t name b x k n ends))
 marked true false (Some v) t name b x h k n ends = let y = named_text (value_type_text t) name ++ b ∷ x in
     at (ap (λ (bs : List ℕ). codes "[in, defaultvalue(" ++ bs) (marked_layout (literal_text v) (named_text (value_type_text t) name) (b ∷ x)))
-    (said (λ ws f. inl f) (then_blank (attributes_spelled {attribute = parameter_attribute} no_parameter (marks true false (Some v)) IsIn refl (in_spelled 44 (codes " defaultvalue(" ++ (literal_text v ++ 41 ∷ 93 ∷ 32 ∷ y)) (comma_ends (codes " defaultvalue(" ++ (literal_text v ++ 41 ∷ 93 ∷ 32 ∷ y))))
+    (said (λ ws f. inl f) (then_blank (attributes_spelled {attribute = parameter_attribute} no_parameter (marks true false (Some v)) IsIn refl (in_spelled 44 (codes " defaultvalue(" ++ (literal_text v ++ 41 ∷ 93 ∷ 32 ∷ y)) (refl, refl))
     (next_spelled _ (marks true false (Some v)) (HasDefault v) refl (blank (default_spelled v (93 ∷ 32 ∷ y) h)) (last_spelled _ (marks true false (Some v)) refl))) ▹ typed_spelled t name b x k n ends))
 marked false true (Some v) t name b x h k n ends = let y = named_text (value_type_text t) name ++ b ∷ x in
     at (ap (λ (bs : List ℕ). codes "[optional, defaultvalue(" ++ bs) (marked_layout (literal_text v) (named_text (value_type_text t) name) (b ∷ x)))
-    (said (λ ws f. inl f) (then_blank (attributes_spelled {attribute = parameter_attribute} no_parameter (marks false true (Some v)) IsOptional refl (optional_spelled 44 (codes " defaultvalue(" ++ (literal_text v ++ 41 ∷ 93 ∷ 32 ∷ y)) (comma_ends (codes " defaultvalue(" ++ (literal_text v ++ 41 ∷ 93 ∷ 32 ∷ y))))
+    (said (λ ws f. inl f) (then_blank (attributes_spelled {attribute = parameter_attribute} no_parameter (marks false true (Some v)) IsOptional refl (optional_spelled 44 (codes " defaultvalue(" ++ (literal_text v ++ 41 ∷ 93 ∷ 32 ∷ y)) (refl, refl))
     (next_spelled _ (marks false true (Some v)) (HasDefault v) refl (blank (default_spelled v (93 ∷ 32 ∷ y) h)) (last_spelled _ (marks false true (Some v)) refl))) ▹ typed_spelled t name b x k n ends))
 marked true true (Some v) t name b x h k n ends = let y = named_text (value_type_text t) name ++ b ∷ x in
     at (ap (λ (bs : List ℕ). codes "[in, optional, defaultvalue(" ++ bs) (marked_layout (literal_text v) (named_text (value_type_text t) name) (b ∷ x)))
-    (said (λ ws f. inl f) (then_blank (attributes_spelled {attribute = parameter_attribute} no_parameter (marks true true (Some v)) IsIn refl (in_spelled 44 (codes " optional, defaultvalue(" ++ (literal_text v ++ 41 ∷ 93 ∷ 32 ∷ y)) (comma_ends (codes " optional, defaultvalue(" ++ (literal_text v ++ 41 ∷ 93 ∷ 32 ∷ y))))
-    (next_spelled _ (marks true true (Some v)) IsOptional refl (blank (optional_spelled 44 (codes " defaultvalue(" ++ (literal_text v ++ 41 ∷ 93 ∷ 32 ∷ y)) (comma_ends (codes " defaultvalue(" ++ (literal_text v ++ 41 ∷ 93 ∷ 32 ∷ y)))))
+    (said (λ ws f. inl f) (then_blank (attributes_spelled {attribute = parameter_attribute} no_parameter (marks true true (Some v)) IsIn refl (in_spelled 44 (codes " optional, defaultvalue(" ++ (literal_text v ++ 41 ∷ 93 ∷ 32 ∷ y)) (refl, refl))
+    (next_spelled _ (marks true true (Some v)) IsOptional refl (blank (optional_spelled 44 (codes " defaultvalue(" ++ (literal_text v ++ 41 ∷ 93 ∷ 32 ∷ y)) (refl, refl)))
     (next_spelled _ (marks true true (Some v)) (HasDefault v) refl (blank (default_spelled v (93 ∷ 32 ∷ y) h)) (last_spelled _ (marks true true (Some v)) refl)))) ▹ typed_spelled t name b x k n ends))
 
 parameter_spelled : (p : Parameter) (b : ℕ) (x : List ℕ) → IsPrintableParameter p → EndsWord (b ∷ x)
@@ -311,9 +292,9 @@ parameter_before p [] h ends = absurd ends
 parameter_before p (b ∷ x) h ends = parameter_spelled p b x h ends
 
 rest_ends : (ps : List Parameter) (x : List ℕ) → EndsWord (flat_map further_text ps ++ 41 ∷ x)
-unfolding further_text
-rest_ends [] x = right_ends x
-rest_ends (p ∷ ps) x = comma_ends (32 ∷ ((parameter_text p ++ flat_map further_text ps) ++ 41 ∷ x))
+unfolding further_text is_in
+rest_ends [] x = (refl, refl)
+rest_ends (p ∷ ps) x = (refl, refl)
 
 right_spelled : (k : MethodKind) (n : ℕ) (x : List ℕ) → may_end k n ≡ true → Spells (last_parameter k n tt) (41 ∷ x) x
 right_spelled k n x e = said (λ ws f. (e, f)) right_mark

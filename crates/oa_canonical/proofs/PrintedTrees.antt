@@ -32,7 +32,7 @@ use Rattle.oa_canonical.specs.Canonical.{version_text, canonical}
 use Rattle.oa_idl.specs.Limits.{KeepsLimit}
 use Rattle.oa_idl.specs.IsTree.{MayBeText, IsTree}
 use Rattle.oa_canonical.specs.Printable.{IsGuid, IsVersion, IsName, IsProperty, IsMethod, AreEntries, IsItem, IsPrintable}
-use Rattle.oa_canonical.proofs.PrintedTokens.{word, HasWords, EndsWord, tokens_at}
+use Rattle.oa_canonical.proofs.PrintedTokens.{word, HasWords, tokens_at}
 use Rattle.oa_canonical.proofs.PrintedTokens.HasWords.{Nil}
 use Rattle.oa_canonical.proofs.Spelled.{Spells, ◌▹◌, at, said, nothing_spelled, left_out, blank, line, then_line, open_mark, close_mark}
 use Rattle.oa_canonical.proofs.Spelled.{begin_mark, finish_mark, left_mark, right_mark, semicolon_mark, colon_mark, dot_mark, sign_word}
@@ -84,10 +84,6 @@ unfolding properties_text properties_line is_in run passes
 members_spelled ps ms x h k = said (λ ws f. inl f) (sign_word (codes "properties") (codes "properties") 58 (10 ∷ (flat_map property_text ps ++ (methods_text ms ++ x))) (refl, refl) (refl, refl) refl ▹ colon_mark
     ▹ line (all_spelled property one_more nowhere methods property_text IsProperty ms (methods_text ms ++ x) x property_spelled (λ s. methods_spelled s ms x k) 0 ps h))
 
-semicolon_ends : (x : List ℕ) → EndsWord (59 ∷ x)
-unfolding is_in
-semicolon_ends x = (refl, refl)
-
 interface_spelled : (name : List ℕ) (ps : List Property) (ms : List MethodValue) (x : List ℕ) → IsName name → AllByRecursion IsProperty ps
     → AllByRecursion IsMethod ms
     → Spells (interface name ps ms)
@@ -100,7 +96,7 @@ interface_spelled name ps ms x n h k = line (sign_word (codes "dispinterface") (
 
 named_spelled : (e : Entry) (x : List ℕ) → IsName e.interface → Spells (named e) (codes "dispinterface " ++ (e.interface ++ 59 ∷ 10 ∷ x)) x
 unfolding is_in run passes
-named_spelled e x h = said (λ ws f. f) (entry_named ▹ blank (name_spelled e.interface 59 (10 ∷ x) h (semicolon_ends (10 ∷ x))) ▹ semicolon_mark ▹ then_line nothing_spelled)
+named_spelled e x h = said (λ ws f. f) (entry_named ▹ blank (name_spelled e.interface 59 (10 ∷ x) h (refl, refl)) ▹ semicolon_mark ▹ then_line nothing_spelled)
   where
     entry_named : Spells (this entry_word) (codes "dispinterface" ++ 32 ∷ (e.interface ++ 59 ∷ 10 ∷ x)) (32 ∷ (e.interface ++ 59 ∷ 10 ∷ x))
     entry_named = said (λ ws f. record { word = f.word; parts = f.parts; is = rw f.is refl }) (sign_word (codes "dispinterface") (codes "dispinterface") 32 (e.interface ++ 59 ∷ 10 ∷ x) (refl, refl) (refl, refl) refl)

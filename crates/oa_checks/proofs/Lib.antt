@@ -1,5 +1,6 @@
 pub mod Fronts
 pub mod Lists
+pub mod Loops
 pub mod Marks
 pub mod Parameters
 pub mod Passes

@@ -1,6 +1,6 @@
 //! The defaults of parameters.
 ghost use Rattle.std.specs.Prelude.{◌≡◌, ◌*ℤ◌, pos, IfOk, is_some};
-ghost use Rattle.oa_checks.specs.Defaults.{natural, whole, decimal_from, number_as, wide, holds_texts};
+ghost use Rattle.oa_checks.specs.Defaults.{whole, decimal_from, number_as, wide, holds_texts};
 ghost use Rattle.oa_checks.specs.Defaults.{text_as, holds_truths, default_of, default_value};
 
 use oa_bstr::{Bstr, BstrError};
@@ -11,67 +11,21 @@ use std::alloc::{AllocError, Global};
 
 /// The longest default string, in characters.
 const MAX_CHARACTERS: usize = 131_072;
-
-fn as_i8(n: i128) -> Option<i8>
-    ensures { result ≡ whole 128 n }
-{
-    i8::try_from(n).ok()
-}
-
-fn as_i16(n: i128) -> Option<i16>
-    ensures { result ≡ whole 32768 n }
-{
-    i16::try_from(n).ok()
-}
-
-fn as_i32(n: i128) -> Option<i32>
-    ensures { result ≡ whole 2147483648 n }
-{
-    i32::try_from(n).ok()
-}
-
-fn as_i64(n: i128) -> Option<i64>
-    ensures { result ≡ whole 9223372036854775808 n }
-{
-    i64::try_from(n).ok()
-}
-
-fn as_u8(n: i128) -> Option<u8>
-    ensures { result ≡ natural 256 n }
-{
-    u8::try_from(n).ok()
-}
-
-fn as_u16(n: i128) -> Option<u16>
-    ensures { result ≡ natural 65536 n }
-{
-    u16::try_from(n).ok()
-}
-
-fn as_u32(n: i128) -> Option<u32>
-    ensures { result ≡ natural 4294967296 n }
-{
-    u32::try_from(n).ok()
-}
-
-fn as_u64(n: i128) -> Option<u64>
-    ensures { result ≡ natural 18446744073709551616 n }
-{
-    u64::try_from(n).ok()
-}
+/// The magnitude of a DECIMAL is below this, 2^96.
+const MAGNITUDE_BOUND: u128 = 1 << 96;
 
 /// A number as a count of ten-thousandths.
 fn as_currency(n: i128) -> Option<i64>
     ensures { result ≡ whole 9223372036854775808 (n *ℤ pos 10000) }
 {
-    as_i64(n.checked_mul(10_000)?)
+    i64::try_from(n.checked_mul(10_000)?).ok()
 }
 
 fn as_decimal(n: i128) -> Option<Decimal>
     ensures { result ≡ decimal_from n }
 {
     let magnitude = n.unsigned_abs();
-    if magnitude < 0x1_0000_0000_0000_0000_0000_0000 {
+    if magnitude < MAGNITUDE_BOUND {
         Some(Decimal::new(n < 0, 0, magnitude))
     } else {
         None
@@ -84,17 +38,17 @@ fn number_as(t: VarType, n: i128) -> Option<Scalar>
     ensures { result ≡ number_as t n }
 {
     match t {
-        VarType::I1 => Some(Scalar::I1(as_i8(n)?)),
-        VarType::I2 => Some(Scalar::I2(as_i16(n)?)),
-        VarType::I4 | VarType::Variant => Some(Scalar::I4(as_i32(n)?)),
-        VarType::I8 => Some(Scalar::I8(as_i64(n)?)),
-        VarType::Int => Some(Scalar::Int(as_i32(n)?)),
-        VarType::Ui1 => Some(Scalar::Ui1(as_u8(n)?)),
-        VarType::Ui2 => Some(Scalar::Ui2(as_u16(n)?)),
-        VarType::Ui4 => Some(Scalar::Ui4(as_u32(n)?)),
-        VarType::Ui8 => Some(Scalar::Ui8(as_u64(n)?)),
-        VarType::Uint => Some(Scalar::Uint(as_u32(n)?)),
-        VarType::Error => Some(Scalar::Error(as_u32(n)?)),
+        VarType::I1 => Some(Scalar::I1(i8::try_from(n).ok()?)),
+        VarType::I2 => Some(Scalar::I2(i16::try_from(n).ok()?)),
+        VarType::I4 | VarType::Variant => Some(Scalar::I4(i32::try_from(n).ok()?)),
+        VarType::I8 => Some(Scalar::I8(i64::try_from(n).ok()?)),
+        VarType::Int => Some(Scalar::Int(i32::try_from(n).ok()?)),
+        VarType::Ui1 => Some(Scalar::Ui1(u8::try_from(n).ok()?)),
+        VarType::Ui2 => Some(Scalar::Ui2(u16::try_from(n).ok()?)),
+        VarType::Ui4 => Some(Scalar::Ui4(u32::try_from(n).ok()?)),
+        VarType::Ui8 => Some(Scalar::Ui8(u64::try_from(n).ok()?)),
+        VarType::Uint => Some(Scalar::Uint(u32::try_from(n).ok()?)),
+        VarType::Error => Some(Scalar::Error(u32::try_from(n).ok()?)),
         VarType::Cy => Some(Scalar::Cy(as_currency(n)?)),
         VarType::Decimal => Some(Scalar::Decimal(as_decimal(n)?)),
         VarType::Empty | VarType::Null | VarType::Bstr | VarType::Bool => None,

@@ -82,26 +82,6 @@ type_no_sign s none in_array t w e = ⊎_elim (λ (p : passes s w ≡ true). abs
         let text : w.text ≡ s = (bytes_eq-Decides w.text s).0 x.1 in
         no_type (same_kind w.kind kinds.Name) in_array (plain_type w.text) (ap plain_type text ∙ none) e
 
-pub unsigned_no_type : plain_type (codes "unsigned") ≡ None
-unfolding plain_type
-unsigned_no_type = refl
-
-pub array_no_type : plain_type (codes "SAFEARRAY") ≡ None
-unfolding plain_type
-array_no_type = refl
-
-pub void_no_type : plain_type (codes "void") ≡ None
-unfolding plain_type
-void_no_type = refl
-
-pub open_no_type : plain_type (codes "[") ≡ None
-unfolding plain_type
-open_no_type = refl
-
-pub right_no_type : plain_type (codes ")") ≡ None
-unfolding plain_type
-right_no_type = refl
-
 -- ---- kinds
 
 kind_known : {A : Type 0} (b : Bool) (o : Option A) (x : A) → (if b then o else None) ≡ Some x → b ≡ true

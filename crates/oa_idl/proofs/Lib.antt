@@ -11,6 +11,7 @@ mod Loop
 mod Maps
 mod MethodTexts
 mod NameLimits
+mod OnReadings
 mod ParameterTexts
 mod Parses
 mod FurtherParses
@@ -18,4 +19,5 @@ mod ChoiceParses
 mod PartParses
 mod Strings
 mod Texts
+mod Told
 mod Whole

@@ -175,6 +175,9 @@ gather_err test step last Syntax n state s t some going h = gather_stops test st
 gather_err test step last (stops.Limit l) n state s t some going h = gather_stops test step last n state s t (stops.Limit l) some going h
 gather_err test step last Memory n state s t some going h = tt
 
+-- what a list of attributes needs
+pub ruleset gathering = (gather_goes_on, gather_ends, gather_err)
+
 -- ---- the states of this grammar's lists
 
 pub entries_early : (s : EntriesSeen) (words : List Word) → s.some ≡ false → last_entry_at s words ≡ Stuck Syntax words

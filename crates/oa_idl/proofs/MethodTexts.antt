@@ -16,7 +16,7 @@ use Rattle.oa_idl.specs.declared.seen.MethodSeen.{MethodSeen}
 use Rattle.oa_idl.specs.declared.seen.MethodHead.{MethodHead}
 use Rattle.oa_idl.specs.MethodValues.{MethodValue}
 use Rattle.oa_idl.specs.Forms.{Word, ◌▸◌, where_is, listed, nowhere}
-use Rattle.oa_idl.specs.Words.{passes, name_of, over}
+use Rattle.oa_idl.specs.Words.{passes, plain_type, name_of, over}
 use Rattle.oa_idl.specs.Reading.{heads, done, list_at}
 use Rattle.oa_idl.specs.Grammar.{sign, one_more, closing, MethodAttribute, numbered, method_attribute, no_method, is_form, method_may}
 use Rattle.oa_idl.specs.Grammar.{method_grow, method_finish, method_head, may_be_void, may_have_type, result_type, method_body, method}
@@ -35,7 +35,7 @@ use Rattle.oa_idl.proofs.ChoiceParses.{choose_parses, then_heads, this_heads}
 use Rattle.oa_idl.proofs.FurtherParses.{end_parses, end_part_parses}
 use Rattle.oa_idl.proofs.Choices.{tagged_parses, free_branch_parses, first_heads}
 use Rattle.oa_idl.proofs.Lists.{KeepsFrom, both, list_parses}
-use Rattle.oa_idl.proofs.Heads.{other_sign, sign_heads, one_sign_heads, same_heads, this_some, void_no_type}
+use Rattle.oa_idl.proofs.Heads.{other_sign, sign_heads, one_sign_heads, same_heads, this_some}
 use Rattle.oa_idl.proofs.AttributeLists.{attributes_parses}
 use Rattle.oa_idl.proofs.Texts.{help_parses, full_left, full_middle, full_right, signed_parses, value_type_parses, value_type_heads}
 use Rattle.oa_idl.proofs.ParameterTexts.{ParameterKeeps, ParameterKept, NoEndLimit, parameters_parses}
@@ -151,9 +151,9 @@ type_in (Some t) = t
 
 void_heads : (k : MethodKind) (o : Option ValueType) (text more : List Word) → result_type k o text
     → heads (passes (codes "void")) (text ++ more) ≡ is_void o
-unfolding result_type
+unfolding result_type plain_type
 void_heads k None text more f = this_heads (passes (codes "void")) text more f.1
-void_heads k (Some t) text more f = value_type_heads (codes "void") void_no_type refl refl t text more f.1
+void_heads k (Some t) text more f = value_type_heads (codes "void") refl refl refl t text more f.1
 
 only_void : (o : Option ValueType) → Always o × (is_void o ≡ true) → o ≡ None
 only_void None h = refl

@@ -12,7 +12,7 @@ use Rattle.oa_idl.specs.declared.parts.MethodKind.{MethodKind}
 use Rattle.oa_idl.specs.declared.parts.Parameter.{Parameter}
 use Rattle.oa_idl.specs.declared.seen.ParameterSeen.{ParameterSeen}
 use Rattle.oa_idl.specs.Forms.{Word, Then, ◌▸◌, one, where_is, listed, nowhere}
-use Rattle.oa_idl.specs.Words.{passes, is_text, name_of, over, amount_of, characters_of}
+use Rattle.oa_idl.specs.Words.{passes, plain_type, is_text, name_of, over, amount_of, characters_of}
 use Rattle.oa_idl.specs.Reading.{heads, done}
 use Rattle.oa_idl.specs.Grammar.{sign, one_more, amount, literal, ParameterAttribute, parameter_attribute, no_parameter, parameter_may}
 use Rattle.oa_idl.specs.Grammar.{parameter_grow, parameter_finish, parameter_head, head_of_parameter, typed, parameter, separated}
@@ -31,7 +31,7 @@ use Rattle.oa_idl.proofs.ChoiceParses.{choose_parses, then_heads, this_heads}
 use Rattle.oa_idl.proofs.FurtherParses.{sure_parses, end_parses}
 use Rattle.oa_idl.proofs.Choices.{tagged_parses, free_branch_parses, first_heads}
 use Rattle.oa_idl.proofs.Lists.{KeepsFrom, list_parses}
-use Rattle.oa_idl.proofs.Heads.{other_sign, sign_heads, one_sign_heads, same_heads, one_heads, this_some, open_no_type, right_no_type}
+use Rattle.oa_idl.proofs.Heads.{other_sign, sign_heads, one_sign_heads, same_heads, one_heads, this_some}
 use Rattle.oa_idl.proofs.Heads.{amount_no_sign, amount_no_text, characters_no_sign, characters_text, minus_no_text, true_no_text}
 use Rattle.oa_idl.proofs.Heads.{false_no_text}
 use Rattle.oa_idl.proofs.AttributeLists.{attributes_parses}
@@ -222,7 +222,8 @@ typed_parses count h = part_parses (λ p. p.value_type) value_type_parses (λ l 
     (λ p k. λ i. record { is_in = (k.0.0.1 i).is_in; is_optional = (k.0.0.1 i).is_optional; default = (k.0.0.1 i).default; value_type = k.0.1 i; name = k.1 i })))
 
 typed_open : (p : Parameter) (text more : List Word) → typed p text → heads (passes (codes "[")) (text ++ more) ≡ false
-typed_open p text more f = then_heads (passes (codes "[")) false text more (λ front left h. value_type_heads (codes "[") open_no_type refl refl p.value_type front left h) f
+unfolding plain_type
+typed_open p text more f = then_heads (passes (codes "[")) false text more (λ front left h. value_type_heads (codes "[") refl refl refl p.value_type front left h) f
 
 -- how the attributes of a parameter begin
 head_begins : (h : ParameterSeen) (test : Word → Bool) (v : Bool) → ((w : Word) → passes (codes "[") w ≡ true → test w ≡ v)
@@ -250,10 +251,10 @@ parameter_parses count = choose_parses {A = λ p. parameter_head (head_of_parame
 
 separated_heads : (b : Bool) (p : Parameter) (text more : List Word) → separated b p text
     → heads (passes (codes ")")) (text ++ more) ≡ false
-unfolding parameter
+unfolding parameter plain_type
 separated_heads true p text more f = ⊎_elim
     (λ (k : (parameter_head (head_of_parameter p) ▸ typed p) text). then_heads (passes (codes ")")) false text more (λ front left h. head_begins (head_of_parameter p) (passes (codes ")")) false (λ w is. other_sign (codes ")") (codes "[") refl w is) front left h) k)
-    (λ (k : where_is (head_of_parameter p ≡ no_parameter) (typed p) text). then_heads (passes (codes ")")) false text more (λ front left h. value_type_heads (codes ")") right_no_type refl refl p.value_type front left h) k.1) f
+    (λ (k : where_is (head_of_parameter p ≡ no_parameter) (typed p) text). then_heads (passes (codes ")")) false text more (λ front left h. value_type_heads (codes ")") refl refl refl p.value_type front left h) k.1) f
 separated_heads false p text more f = sign_heads (codes ")") (codes ",") refl text more f
 
 separated_some : (b : Bool) (p : Parameter) (text : List Word) → separated b p text → 0 < length text

@@ -73,3 +73,6 @@ characters_end front bs n true total le so_far =
 characters_end front bs n false total le so_far =
     let one : characters_from false (drop n bs) ≡ None = rw (drop_all n bs le) refl in
     sym (ap (after_front front) one) ∙ so_far
+
+-- what the loop over characters needs
+pub ruleset character_steps = (escape_taken, escape_refused, string_closed, escape_begins, character_taken, character_refused, characters_end)

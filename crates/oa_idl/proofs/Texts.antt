@@ -33,8 +33,7 @@ use Rattle.oa_idl.proofs.Parses.{this_parses}
 use Rattle.oa_idl.proofs.PartParses.{one_parses}
 use Rattle.oa_idl.proofs.ChoiceParses.{choose_parses, this_heads}
 use Rattle.oa_idl.proofs.FurtherParses.{sure_parses, end_parses, end_part_parses}
-use Rattle.oa_idl.proofs.Heads.{sign_heads, one_sign_heads, same_heads, one_heads, this_some, id_no_minus, type_no_sign, unsigned_no_type}
-use Rattle.oa_idl.proofs.Heads.{array_no_type}
+use Rattle.oa_idl.proofs.Heads.{sign_heads, one_sign_heads, same_heads, one_heads, this_some, id_no_minus, type_no_sign}
 use Rattle.oa_idl.proofs.AttributeLists.{attributes_parses}
 
 pub help_parses : {n : ℕ} → Parses n Always (λ _. help) NoLimit Always help_at
@@ -206,7 +205,7 @@ head_parses {n} counts = attributes_parses head_grow head_full head_finish (λ n
 -- ---- types
 
 type_word_parses : {n : ℕ} (in_array : Bool) → Parses n Always (type_word in_array) NoLimit Always (type_word_at in_array)
-unfolding type_word_at
+unfolding type_word_at plain_type
 type_word_parses in_array = choose_parses {A = λ t. sign (codes "unsigned") ▸ one (word_type in_array true) t} {B = one (word_type in_array false)} (passes (codes "unsigned"))
     (λ t text more _ f is. ⊎_elim (λ (k : (sign (codes "unsigned") ▸ one (word_type in_array true) t) text). k) (λ (k : one (word_type in_array false) t text). absurd (clash is (plain_heads t text more k))) f)
     (λ t text more _ f is. ⊎_elim (λ (k : (sign (codes "unsigned") ▸ one (word_type in_array true) t) text). absurd (clash (same_heads (codes "unsigned") text more k) is)) (λ (k : one (word_type in_array false) t text). k) f)
@@ -215,7 +214,7 @@ type_word_parses in_array = choose_parses {A = λ t. sign (codes "unsigned") ▸
   where
     plain_heads : (t : VarType) (text more : List Word) → one (word_type in_array false) t text
         → heads (passes (codes "unsigned")) (text ++ more) ≡ false
-    plain_heads t text more k = one_heads (word_type in_array false) (passes (codes "unsigned")) t (λ w e. type_no_sign (codes "unsigned") unsigned_no_type in_array t w e) text more k
+    plain_heads t text more k = one_heads (word_type in_array false) (passes (codes "unsigned")) t (λ w e. type_no_sign (codes "unsigned") refl in_array t w e) text more k
 
 abbrev is_array : ValueType → Bool
 is_array (values.One t) = false
@@ -237,7 +236,7 @@ array_form : ValueType → List Word → Type 0
 array_form v = sign (codes "SAFEARRAY") ▸ sign (codes "(") ▸ type_word true (cell_of v) ▸ sign (codes ")")
 
 pub value_type_parses : {n : ℕ} → Parses n Always value_type NoLimit Always value_type_at
-unfolding value_type_at value_type array_form
+unfolding value_type_at value_type array_form plain_type
 value_type_parses = choose_parses {A = λ v ws. (is_array v ≡ true) × array_form v ws} {B = λ v ws. (is_array v ≡ false) × type_word false (cell_of v) ws} (passes (codes "SAFEARRAY"))
     (λ v text more _ f is. yes v text more f is) (λ v text more _ f is. other v text more f is) (λ v text _ f. from_yes v text f) (λ v text _ f. from_other v text f)
     (fact_parses (skip_parses (passes (codes "SAFEARRAY")) (skip_parses (passes (codes "(")) (part_parses cell_of (type_word_parses true) (λ l v h k. tt) (λ t. end_parses (passes (codes ")")) (values.Array t) ((tt, refl), refl) (λ _. tt) (λ v h. only_array t v h.0.1 h.1))))))
@@ -245,7 +244,7 @@ value_type_parses = choose_parses {A = λ v ws. (is_array v ≡ true) × array_f
   where
     word_heads : (t : VarType) (text more : List Word) → type_word false t text → heads (passes (codes "SAFEARRAY")) (text ++ more) ≡ false
     word_heads t text more f = ⊎_elim (λ (k : (sign (codes "unsigned") ▸ one (word_type false true) t) text). sign_heads (codes "SAFEARRAY") (codes "unsigned") refl text more k)
-        (λ (k : one (word_type false false) t text). one_heads (word_type false false) (passes (codes "SAFEARRAY")) t (λ w e. type_no_sign (codes "SAFEARRAY") array_no_type false t w e) text more k) f
+        (λ (k : one (word_type false false) t text). one_heads (word_type false false) (passes (codes "SAFEARRAY")) t (λ w e. type_no_sign (codes "SAFEARRAY") refl false t w e) text more k) f
 
     yes : (v : ValueType) (text more : List Word) → value_type v text → heads (passes (codes "SAFEARRAY")) (text ++ more) ≡ true
         → (is_array v ≡ true) × array_form v text

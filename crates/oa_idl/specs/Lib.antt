@@ -4,6 +4,7 @@ pub mod GrammarReading
 pub mod IsTree
 pub mod Limits
 pub mod MethodValues
+pub mod NextWords
 pub mod Parsed
 pub mod Reading
 pub mod TextLimits

@@ -14,7 +14,7 @@ use crate::seen::{Head, HeadSeen, PropertyHead, PropertySeen};
 use crate::stop::Stop;
 use uuid::Uuid;
 
-#[tactic(auto, unfolding(crate::specs::Reading::bind, crate::specs::GrammarReading::help_at))]
+#[tactic(auto, unfolding(crate::proofs::OnReadings::combinators, crate::specs::GrammarReading::help_at))]
 pub(crate) fn help(r: &mut Reader<'_>) -> Result<(), Stop>
     ensures { ReadsWords (λ _. done) result r.new (help_at r.old) }
 {
@@ -27,7 +27,7 @@ pub(crate) fn help(r: &mut Reader<'_>) -> Result<(), Stop>
 // ---- of a library or an item
 
 /// The second part of a version, 0 where there is none, and the bracket that closes it.
-#[tactic(auto, unfolding(crate::specs::Reading::bind, crate::specs::Reading::give, crate::specs::Reading::choose, crate::specs::GrammarReading::minor_at))]
+#[tactic(auto, unfolding(crate::proofs::OnReadings::combinators, crate::specs::GrammarReading::minor_at))]
 fn minor(r: &mut Reader<'_>, counts: bool) -> Result<u16, Stop>
     ensures { ReadsWords (λ n. n) result r.new (minor_at counts r.old) }
 {
@@ -41,7 +41,7 @@ fn minor(r: &mut Reader<'_>, counts: bool) -> Result<u16, Stop>
     Ok(0)
 }
 
-#[tactic(auto, unfolding(crate::specs::Reading::bind, crate::specs::Reading::give, crate::specs::Reading::choose, crate::specs::Reading::require, crate::specs::GrammarReading::uuid_at, crate::specs::GrammarReading::version_at, crate::specs::GrammarReading::head_attribute_at))]
+#[tactic(auto, unfolding(crate::proofs::OnReadings::combinators, crate::specs::GrammarReading::uuid_at, crate::specs::GrammarReading::version_at, crate::specs::GrammarReading::head_attribute_at))]
 fn head_attribute(r: &mut Reader<'_>, counts: bool, seen: HeadSeen) -> Result<HeadSeen, Stop>
     ensures { ReadsWords (λ s. s) result r.new (grown_at (head_attribute_at counts) head_grow seen r.old) }
 {
@@ -83,7 +83,7 @@ fn head_attribute(r: &mut Reader<'_>, counts: bool, seen: HeadSeen) -> Result<He
     Ok(HeadSeen { help: true, ..seen })
 }
 
-#[tactic(auto, unfolding(crate::specs::Reading::bind, crate::specs::Reading::give, crate::specs::Reading::require))]
+#[tactic(auto, unfolding(crate::proofs::OnReadings::combinators))]
 fn next_head_attribute(r: &mut Reader<'_>, counts: bool, seen: HeadSeen) -> Result<HeadSeen, Stop>
     ensures { ReadsWords (λ s. s) result r.new (next_grown_at (head_attribute_at counts) head_grow head_full seen r.old) }
 {
@@ -94,7 +94,7 @@ fn next_head_attribute(r: &mut Reader<'_>, counts: bool, seen: HeadSeen) -> Resu
     head_attribute(r, counts, seen)
 }
 
-#[tactic(auto, unfolding(crate::specs::Reading::bind, crate::specs::Reading::give, crate::specs::Reading::demand))]
+#[tactic(auto, unfolding(crate::proofs::OnReadings::combinators))]
 fn last_head_attribute(r: &mut Reader<'_>, seen: HeadSeen) -> Result<Head, Stop>
     ensures { ReadsWords (λ h. h) result r.new (last_at head_finish seen r.old) }
 {
@@ -105,7 +105,7 @@ fn last_head_attribute(r: &mut Reader<'_>, seen: HeadSeen) -> Result<Head, Stop>
     Ok(seen.head)
 }
 
-#[tactic(auto, unfolding(crate::specs::Reading::gather, crate::specs::Reading::fail), using(crate::proofs::Loop::gather_goes_on, crate::proofs::Loop::gather_ends, crate::proofs::Loop::gather_err))]
+#[tactic(auto, unfolding(crate::proofs::OnReadings::round), using(crate::proofs::Loop::gathering))]
 fn more_head_attributes(
     r: &mut Reader<'_>,
     counts: bool,
@@ -126,7 +126,7 @@ fn more_head_attributes(
 }
 
 /// The attributes of a library, whose version counts, or of an item.
-#[tactic(auto, unfolding(crate::specs::Reading::bind, crate::specs::Reading::gather_at, crate::specs::GrammarReading::head_at))]
+#[tactic(auto, unfolding(crate::proofs::OnReadings::combinators, crate::specs::GrammarReading::head_at))]
 pub(crate) fn head(r: &mut Reader<'_>, counts: bool) -> Result<Head, Stop>
     ensures { ReadsWords (λ h. h) result r.new (head_at counts r.old) }
 {
@@ -151,7 +151,7 @@ pub(crate) fn head(r: &mut Reader<'_>, counts: bool) -> Result<Head, Stop>
 // ---- of a property
 
 /// A number of an id with its sign.
-#[tactic(auto, unfolding(crate::specs::Reading::bind, crate::specs::Reading::choose, crate::specs::GrammarReading::signed_at))]
+#[tactic(auto, unfolding(crate::proofs::OnReadings::combinators, crate::specs::GrammarReading::signed_at))]
 pub(crate) fn signed(r: &mut Reader<'_>) -> Result<i32, Stop>
     ensures { ReadsWords (λ i. i) result r.new (signed_at r.old) }
 {
@@ -162,7 +162,7 @@ pub(crate) fn signed(r: &mut Reader<'_>) -> Result<i32, Stop>
     r.id(false)
 }
 
-#[tactic(auto, unfolding(crate::specs::Reading::bind, crate::specs::Reading::give, crate::specs::Reading::choose, crate::specs::Reading::require, crate::specs::GrammarReading::id_at, crate::specs::GrammarReading::property_attribute_at))]
+#[tactic(auto, unfolding(crate::proofs::OnReadings::combinators, crate::specs::GrammarReading::id_at, crate::specs::GrammarReading::property_attribute_at))]
 fn property_attribute(r: &mut Reader<'_>, seen: PropertySeen) -> Result<PropertySeen, Stop>
     ensures { ReadsWords (λ s. s) result r.new (grown_at property_attribute_at property_grow seen r.old) }
 {
@@ -196,7 +196,7 @@ fn property_attribute(r: &mut Reader<'_>, seen: PropertySeen) -> Result<Property
     Ok(PropertySeen { help: true, ..seen })
 }
 
-#[tactic(auto, unfolding(crate::specs::Reading::bind, crate::specs::Reading::give, crate::specs::Reading::require))]
+#[tactic(auto, unfolding(crate::proofs::OnReadings::combinators))]
 fn next_property_attribute(r: &mut Reader<'_>, seen: PropertySeen) -> Result<PropertySeen, Stop>
     ensures { ReadsWords (λ s. s) result r.new (next_grown_at property_attribute_at property_grow property_full seen r.old) }
 {
@@ -207,7 +207,7 @@ fn next_property_attribute(r: &mut Reader<'_>, seen: PropertySeen) -> Result<Pro
     property_attribute(r, seen)
 }
 
-#[tactic(auto, unfolding(crate::specs::Reading::bind, crate::specs::Reading::give, crate::specs::Reading::demand))]
+#[tactic(auto, unfolding(crate::proofs::OnReadings::combinators))]
 fn last_property_attribute(r: &mut Reader<'_>, seen: PropertySeen) -> Result<PropertyHead, Stop>
     ensures { ReadsWords (λ h. h) result r.new (last_at property_finish seen r.old) }
 {
@@ -221,7 +221,7 @@ fn last_property_attribute(r: &mut Reader<'_>, seen: PropertySeen) -> Result<Pro
     })
 }
 
-#[tactic(auto, unfolding(crate::specs::Reading::gather, crate::specs::Reading::fail), using(crate::proofs::Loop::gather_goes_on, crate::proofs::Loop::gather_ends, crate::proofs::Loop::gather_err))]
+#[tactic(auto, unfolding(crate::proofs::OnReadings::round), using(crate::proofs::Loop::gathering))]
 fn more_property_attributes(
     r: &mut Reader<'_>,
     seen: PropertySeen,
@@ -241,7 +241,7 @@ fn more_property_attributes(
 }
 
 /// The attributes of a property.
-#[tactic(auto, unfolding(crate::specs::Reading::bind, crate::specs::Reading::gather_at, crate::specs::GrammarReading::property_head_at))]
+#[tactic(auto, unfolding(crate::proofs::OnReadings::combinators, crate::specs::GrammarReading::property_head_at))]
 pub(crate) fn property_head(r: &mut Reader<'_>) -> Result<PropertyHead, Stop>
     ensures { ReadsWords (λ h. h) result r.new (property_head_at r.old) }
 {

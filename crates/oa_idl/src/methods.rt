@@ -19,7 +19,7 @@ use crate::stop::{Stop, TreeLimit};
 use oa_model::{MAX_MEMBERS, ValueType};
 use std::alloc::Global;
 
-#[tactic(auto, unfolding(crate::specs::Reading::bind, crate::specs::Reading::give, crate::specs::GrammarReading::numbered_at))]
+#[tactic(auto, unfolding(crate::proofs::OnReadings::combinators, crate::specs::GrammarReading::numbered_at))]
 fn numbered(r: &mut Reader<'_>) -> Result<i32, Stop>
     ensures { ReadsWords (λ i. i) result r.new (numbered_at r.old) }
 {
@@ -40,7 +40,7 @@ fn is_form(kind: MethodKind) -> bool
     }
 }
 
-#[tactic(auto, unfolding(crate::specs::Reading::bind, crate::specs::Reading::give, crate::specs::Reading::choose, crate::specs::Reading::require, crate::specs::GrammarReading::method_attribute_at))]
+#[tactic(auto, unfolding(crate::proofs::OnReadings::combinators, crate::specs::GrammarReading::method_attribute_at))]
 fn method_attribute(r: &mut Reader<'_>, seen: MethodSeen) -> Result<MethodSeen, Stop>
     ensures { ReadsWords (λ s. s) result r.new (grown_at method_attribute_at method_grow seen r.old) }
 {
@@ -81,7 +81,7 @@ fn method_attribute(r: &mut Reader<'_>, seen: MethodSeen) -> Result<MethodSeen, 
     Ok(MethodSeen { help: true, ..seen })
 }
 
-#[tactic(auto, unfolding(crate::specs::Reading::bind, crate::specs::Reading::give, crate::specs::Reading::require))]
+#[tactic(auto, unfolding(crate::proofs::OnReadings::combinators))]
 fn next_method_attribute(r: &mut Reader<'_>, seen: MethodSeen) -> Result<MethodSeen, Stop>
     ensures { ReadsWords (λ s. s) result r.new (next_grown_at method_attribute_at method_grow method_full seen r.old) }
 {
@@ -92,7 +92,7 @@ fn next_method_attribute(r: &mut Reader<'_>, seen: MethodSeen) -> Result<MethodS
     method_attribute(r, seen)
 }
 
-#[tactic(auto, unfolding(crate::specs::Reading::bind, crate::specs::Reading::give, crate::specs::Reading::demand))]
+#[tactic(auto, unfolding(crate::proofs::OnReadings::combinators))]
 fn last_method_attribute(r: &mut Reader<'_>, seen: MethodSeen) -> Result<MethodHead, Stop>
     ensures { ReadsWords (λ h. h) result r.new (last_at method_finish seen r.old) }
 {
@@ -106,7 +106,7 @@ fn last_method_attribute(r: &mut Reader<'_>, seen: MethodSeen) -> Result<MethodH
     })
 }
 
-#[tactic(auto, unfolding(crate::specs::Reading::gather, crate::specs::Reading::fail), using(crate::proofs::Loop::gather_goes_on, crate::proofs::Loop::gather_ends, crate::proofs::Loop::gather_err))]
+#[tactic(auto, unfolding(crate::proofs::OnReadings::round), using(crate::proofs::Loop::gathering))]
 fn more_method_attributes(
     r: &mut Reader<'_>,
     seen: MethodSeen,
@@ -126,7 +126,7 @@ fn more_method_attributes(
 }
 
 /// The attributes of a method.
-#[tactic(auto, unfolding(crate::specs::Reading::bind, crate::specs::Reading::gather_at, crate::specs::GrammarReading::method_head_at))]
+#[tactic(auto, unfolding(crate::proofs::OnReadings::combinators, crate::specs::GrammarReading::method_head_at))]
 fn method_head(r: &mut Reader<'_>) -> Result<MethodHead, Stop>
     ensures { ReadsWords (λ h. h) result r.new (method_head_at r.old) }
 {
@@ -162,7 +162,7 @@ fn may_have_type(kind: MethodKind) -> bool
 }
 
 /// The type of a result, None for `void`.
-#[tactic(auto, unfolding(crate::specs::Reading::bind, crate::specs::Reading::give, crate::specs::Reading::choose, crate::specs::Reading::require, crate::specs::GrammarReading::result_type_at))]
+#[tactic(auto, unfolding(crate::proofs::OnReadings::combinators, crate::specs::GrammarReading::result_type_at))]
 fn result_type(r: &mut Reader<'_>, kind: MethodKind) -> Result<Option<ValueType>, Stop>
     ensures { ReadsWords (λ t. t) result r.new (result_type_at kind r.old) }
 {
@@ -181,7 +181,7 @@ fn result_type(r: &mut Reader<'_>, kind: MethodKind) -> Result<Option<ValueType>
 }
 
 /// What follows the attributes of a method, after `count` members of its interface.
-#[tactic(auto, unfolding(crate::specs::Reading::bind, crate::specs::Reading::give, crate::specs::Reading::list_at, crate::specs::GrammarReading::parameters_at, crate::specs::GrammarReading::method_body_at))]
+#[tactic(auto, unfolding(crate::proofs::OnReadings::combinators, crate::specs::GrammarReading::parameters_at, crate::specs::GrammarReading::method_body_at))]
 fn method_body(
     alloc: Global,
     r: &mut Reader<'_>,
@@ -206,7 +206,7 @@ fn method_body(
     })
 }
 
-#[tactic(auto, unfolding(crate::specs::Reading::bind, crate::specs::GrammarReading::method_at))]
+#[tactic(auto, unfolding(crate::proofs::OnReadings::combinators, crate::specs::GrammarReading::method_at))]
 fn method(alloc: Global, r: &mut Reader<'_>, count: usize) -> Result<Method, Stop>
     ensures value { ReadsWords (λ m. m) result r.new (method_at count r.old) }
     ensures few { IfOk result (λ _. count < max_members) }
@@ -241,7 +241,7 @@ fn method_list(
 }
 
 /// The section, after `before` members, and the brace that closes the interface.
-#[tactic(auto, unfolding(crate::specs::Reading::bind, crate::specs::Reading::give, crate::specs::Reading::choose, crate::specs::Reading::list_at, crate::specs::GrammarReading::methods_at))]
+#[tactic(auto, unfolding(crate::proofs::OnReadings::combinators, crate::specs::GrammarReading::methods_at))]
 pub(crate) fn methods(alloc: Global, r: &mut Reader<'_>, before: usize) -> Result<Vec<Method>, Stop>
     ensures { ReadsWords (λ v. v.items) result r.new (methods_at before r.old) }
 {

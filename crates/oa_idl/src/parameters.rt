@@ -18,7 +18,7 @@ use oa_model::MAX_PARAMETERS;
 use std::alloc::Global;
 
 /// A number of a default with its sign.
-#[tactic(auto, unfolding(crate::specs::Reading::bind, crate::specs::Reading::choose, crate::specs::GrammarReading::amount_at))]
+#[tactic(auto, unfolding(crate::proofs::OnReadings::combinators, crate::specs::GrammarReading::amount_at))]
 fn amount(r: &mut Reader<'_>) -> Result<i128, Stop>
     ensures { ReadsWords (λ n. n) result r.new (amount_at r.old) }
 {
@@ -29,7 +29,7 @@ fn amount(r: &mut Reader<'_>) -> Result<i128, Stop>
     r.amount(false)
 }
 
-#[tactic(auto, unfolding(crate::specs::Reading::bind, crate::specs::Reading::give, crate::specs::Reading::choose, crate::specs::GrammarReading::literal_at))]
+#[tactic(auto, unfolding(crate::proofs::OnReadings::combinators, crate::specs::GrammarReading::literal_at))]
 fn literal(alloc: Global, r: &mut Reader<'_>) -> Result<Literal, Stop>
     ensures { ReadsWords (λ v. v) result r.new (literal_at r.old) }
 {
@@ -50,7 +50,7 @@ fn literal(alloc: Global, r: &mut Reader<'_>) -> Result<Literal, Stop>
 }
 
 /// What `defaultvalue` says.
-#[tactic(auto, unfolding(crate::specs::Reading::bind, crate::specs::Reading::give, crate::specs::GrammarReading::default_at))]
+#[tactic(auto, unfolding(crate::proofs::OnReadings::combinators, crate::specs::GrammarReading::default_at))]
 fn default(alloc: Global, r: &mut Reader<'_>) -> Result<Literal, Stop>
     ensures { ReadsWords (λ v. v) result r.new (default_at r.old) }
 {
@@ -61,7 +61,7 @@ fn default(alloc: Global, r: &mut Reader<'_>) -> Result<Literal, Stop>
     Ok(value)
 }
 
-#[tactic(auto, unfolding(crate::specs::Reading::bind, crate::specs::Reading::give, crate::specs::Reading::choose, crate::specs::Reading::require, crate::specs::GrammarReading::parameter_attribute_at))]
+#[tactic(auto, unfolding(crate::proofs::OnReadings::combinators, crate::specs::GrammarReading::parameter_attribute_at))]
 fn parameter_attribute(
     alloc: Global,
     r: &mut Reader<'_>,
@@ -100,7 +100,7 @@ fn parameter_attribute(
     })
 }
 
-#[tactic(auto, unfolding(crate::specs::Reading::bind, crate::specs::Reading::give, crate::specs::Reading::require))]
+#[tactic(auto, unfolding(crate::proofs::OnReadings::combinators))]
 fn next_parameter_attribute(
     alloc: Global,
     r: &mut Reader<'_>,
@@ -115,7 +115,7 @@ fn next_parameter_attribute(
     parameter_attribute(alloc, r, seen)
 }
 
-#[tactic(auto, unfolding(crate::specs::Reading::bind, crate::specs::Reading::give, crate::specs::Reading::demand))]
+#[tactic(auto, unfolding(crate::proofs::OnReadings::combinators))]
 fn last_parameter_attribute(r: &mut Reader<'_>, seen: ParameterSeen) -> Result<ParameterSeen, Stop>
     ensures { ReadsWords (λ h. h) result r.new (last_at parameter_finish seen r.old) }
 {
@@ -123,7 +123,7 @@ fn last_parameter_attribute(r: &mut Reader<'_>, seen: ParameterSeen) -> Result<P
     Ok(seen)
 }
 
-#[tactic(auto, unfolding(crate::specs::Reading::gather, crate::specs::Reading::fail), using(crate::proofs::Loop::gather_goes_on, crate::proofs::Loop::gather_ends, crate::proofs::Loop::gather_err))]
+#[tactic(auto, unfolding(crate::proofs::OnReadings::round), using(crate::proofs::Loop::gathering))]
 fn more_parameter_attributes(
     alloc: Global,
     r: &mut Reader<'_>,
@@ -154,7 +154,7 @@ fn no_parameter() -> ParameterSeen
 }
 
 /// The attributes of a parameter.
-#[tactic(auto, unfolding(crate::specs::Reading::bind, crate::specs::Reading::gather_at, crate::specs::GrammarReading::parameter_head_at))]
+#[tactic(auto, unfolding(crate::proofs::OnReadings::combinators, crate::specs::GrammarReading::parameter_head_at))]
 fn parameter_head(alloc: Global, r: &mut Reader<'_>) -> Result<ParameterSeen, Stop>
     ensures { ReadsWords (λ h. h) result r.new (parameter_head_at r.old) }
 {
@@ -165,7 +165,7 @@ fn parameter_head(alloc: Global, r: &mut Reader<'_>) -> Result<ParameterSeen, St
 }
 
 /// The type and name of a parameter after `count` others.
-#[tactic(auto, unfolding(crate::specs::Reading::bind, crate::specs::Reading::give, crate::specs::GrammarReading::typed_at))]
+#[tactic(auto, unfolding(crate::proofs::OnReadings::combinators, crate::specs::GrammarReading::typed_at))]
 fn typed(
     alloc: Global,
     r: &mut Reader<'_>,
@@ -186,7 +186,7 @@ fn typed(
     })
 }
 
-#[tactic(auto, unfolding(crate::specs::Reading::bind, crate::specs::Reading::choose, crate::specs::GrammarReading::parameter_at))]
+#[tactic(auto, unfolding(crate::proofs::OnReadings::combinators, crate::specs::GrammarReading::parameter_at))]
 fn parameter(alloc: Global, r: &mut Reader<'_>, count: usize) -> Result<Parameter, Stop>
     ensures value { ReadsWords (λ p. p) result r.new (parameter_at count r.old) }
     ensures few { IfOk result (λ _. count < max_parameters) }
@@ -199,7 +199,7 @@ fn parameter(alloc: Global, r: &mut Reader<'_>, count: usize) -> Result<Paramete
 }
 
 /// A parameter after `count` others, with the comma before it.
-#[tactic(auto, unfolding(crate::specs::Reading::bind, crate::specs::GrammarReading::separated_at))]
+#[tactic(auto, unfolding(crate::proofs::OnReadings::combinators, crate::specs::GrammarReading::separated_at))]
 fn next_parameter(alloc: Global, r: &mut Reader<'_>, count: usize) -> Result<Parameter, Stop>
     ensures value { ReadsWords (λ p. p) result r.new (next_parameter_at count r.old) }
     ensures few { IfOk result (λ _. count < max_parameters) }

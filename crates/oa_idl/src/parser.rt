@@ -26,7 +26,7 @@ use oa_tokens::{Token, TokenKind, tokens};
 use std::alloc::Global;
 use uuid::Uuid;
 
-#[tactic(auto, unfolding(crate::specs::Reading::bind, crate::specs::Reading::choose, crate::specs::GrammarReading::type_word_at))]
+#[tactic(auto, unfolding(crate::proofs::OnReadings::combinators, crate::specs::GrammarReading::type_word_at))]
 fn type_word(r: &mut Reader<'_>, in_array: bool) -> Result<VarType, Stop>
     ensures { ReadsWords (λ t. t) result r.new (type_word_at in_array r.old) }
 {
@@ -37,7 +37,7 @@ fn type_word(r: &mut Reader<'_>, in_array: bool) -> Result<VarType, Stop>
     r.type_word(in_array, false)
 }
 
-#[tactic(auto, unfolding(crate::specs::Reading::bind, crate::specs::Reading::give, crate::specs::Reading::choose, crate::specs::GrammarReading::value_type_at))]
+#[tactic(auto, unfolding(crate::proofs::OnReadings::combinators, crate::specs::GrammarReading::value_type_at))]
 pub(crate) fn value_type(r: &mut Reader<'_>) -> Result<ValueType, Stop>
     ensures { ReadsWords (λ t. t) result r.new (value_type_at r.old) }
 {
@@ -53,7 +53,7 @@ pub(crate) fn value_type(r: &mut Reader<'_>) -> Result<ValueType, Stop>
 }
 
 /// A property after `count` members of its interface.
-#[tactic(auto, unfolding(crate::specs::Reading::bind, crate::specs::Reading::give, crate::specs::GrammarReading::property_at))]
+#[tactic(auto, unfolding(crate::proofs::OnReadings::combinators, crate::specs::GrammarReading::property_at))]
 fn property(alloc: Global, r: &mut Reader<'_>, count: usize) -> Result<Property, Stop>
     ensures value { ReadsWords (λ p. p) result r.new (property_at count r.old) }
     ensures few { IfOk result (λ _. count < max_members) }
@@ -102,7 +102,7 @@ fn properties(
     Err(Stop::Syntax)
 }
 
-#[tactic(auto, unfolding(crate::specs::Reading::bind, crate::specs::Reading::give, crate::specs::Reading::choose, crate::specs::Reading::list_at, crate::specs::GrammarReading::members_at))]
+#[tactic(auto, unfolding(crate::proofs::OnReadings::combinators, crate::specs::GrammarReading::members_at))]
 fn members(alloc: Global, r: &mut Reader<'_>) -> Result<(Vec<Property>, Vec<Method>), Stop>
     ensures { ReadsWords (λ v. (v.0.items, v.1.items)) result r.new (members_at r.old) }
 {
@@ -116,7 +116,7 @@ fn members(alloc: Global, r: &mut Reader<'_>) -> Result<(Vec<Property>, Vec<Meth
     Ok((Vec::new(alloc), methods))
 }
 
-#[tactic(auto, unfolding(crate::specs::Reading::bind, crate::specs::Reading::give, crate::specs::GrammarReading::interface_at))]
+#[tactic(auto, unfolding(crate::proofs::OnReadings::combinators, crate::specs::GrammarReading::interface_at))]
 fn interface(alloc: Global, r: &mut Reader<'_>, seen: ItemsSeen, guid: Uuid) -> Result<Item, Stop>
     ensures { ReadsWords (λ x. x) result r.new (interface_at seen guid r.old) }
 {
@@ -137,7 +137,7 @@ fn interface(alloc: Global, r: &mut Reader<'_>, seen: ItemsSeen, guid: Uuid) -> 
     }))
 }
 
-#[tactic(auto, unfolding(crate::specs::Reading::bind, crate::specs::Reading::give, crate::specs::GrammarReading::named_at))]
+#[tactic(auto, unfolding(crate::proofs::OnReadings::combinators, crate::specs::GrammarReading::named_at))]
 fn named(alloc: Global, r: &mut Reader<'_>, is_default: bool) -> Result<Entry, Stop>
     ensures { ReadsWords (λ e. e) result r.new (named_at is_default r.old) }
 {
@@ -150,7 +150,7 @@ fn named(alloc: Global, r: &mut Reader<'_>, is_default: bool) -> Result<Entry, S
     })
 }
 
-#[tactic(auto, unfolding(crate::specs::Reading::bind, crate::specs::Reading::give, crate::specs::Reading::choose, crate::specs::Reading::require, crate::specs::GrammarReading::entry_at))]
+#[tactic(auto, unfolding(crate::proofs::OnReadings::combinators, crate::specs::GrammarReading::entry_at))]
 fn entry(alloc: Global, r: &mut Reader<'_>, seen: EntriesSeen) -> Result<Entry, Stop>
     ensures { ReadsWords (λ e. e) result r.new (entry_at seen r.old) }
 {
@@ -202,7 +202,7 @@ fn entries(alloc: Global, r: &mut Reader<'_>, room: usize) -> Result<Vec<Entry>,
     Err(Stop::Syntax)
 }
 
-#[tactic(auto, unfolding(crate::specs::Reading::bind, crate::specs::Reading::give, crate::specs::Reading::list_at, crate::specs::GrammarReading::entries_at, crate::specs::GrammarReading::coclass_at))]
+#[tactic(auto, unfolding(crate::proofs::OnReadings::combinators, crate::specs::GrammarReading::entries_at, crate::specs::GrammarReading::coclass_at))]
 fn coclass(alloc: Global, r: &mut Reader<'_>, seen: ItemsSeen, guid: Uuid) -> Result<Item, Stop>
     ensures { ReadsWords (λ x. x) result r.new (coclass_at seen guid r.old) }
 {
@@ -218,7 +218,7 @@ fn coclass(alloc: Global, r: &mut Reader<'_>, seen: ItemsSeen, guid: Uuid) -> Re
     }))
 }
 
-#[tactic(auto, unfolding(crate::specs::Reading::bind, crate::specs::Reading::choose, crate::specs::GrammarReading::item_at))]
+#[tactic(auto, unfolding(crate::proofs::OnReadings::combinators, crate::specs::GrammarReading::item_at))]
 fn item(alloc: Global, r: &mut Reader<'_>, seen: ItemsSeen) -> Result<Item, Stop>
     ensures { ReadsWords (λ x. x) result r.new (item_at seen r.old) }
 {
@@ -247,7 +247,7 @@ fn counted(seen: ItemsSeen, item: &Item) -> ItemsSeen
 }
 
 /// An import, which is ignored.
-#[tactic(auto, unfolding(crate::specs::Reading::bind, crate::specs::GrammarReading::import_at))]
+#[tactic(auto, unfolding(crate::proofs::OnReadings::combinators, crate::specs::GrammarReading::import_at))]
 fn import(r: &mut Reader<'_>) -> Result<(), Stop>
     ensures { ReadsWords (λ _. done) result r.new (import_at r.old) }
 {
@@ -284,7 +284,7 @@ fn items(alloc: Global, r: &mut Reader<'_>, room: usize) -> Result<Vec<Item>, St
     Err(Stop::Syntax)
 }
 
-#[tactic(auto, unfolding(crate::specs::Reading::bind, crate::specs::Reading::give, crate::specs::Reading::perhaps_at, crate::specs::Reading::list_at, crate::specs::GrammarReading::elements_at, crate::specs::GrammarReading::library_at))]
+#[tactic(auto, unfolding(crate::proofs::OnReadings::combinators, crate::specs::GrammarReading::elements_at, crate::specs::GrammarReading::library_at))]
 fn library(alloc: Global, r: &mut Reader<'_>) -> Result<Tree, Stop>
     ensures { ReadsWords (λ t. t) result r.new (library_at r.old) }
 {
@@ -308,11 +308,7 @@ fn library(alloc: Global, r: &mut Reader<'_>) -> Result<Tree, Stop>
 fn place_of_rest(end: usize, tokens: &[Token], left: usize) -> usize
     ensures { result ≡ place_after end tokens.now (length tokens.now - left) }
 {
-    let read = if left <= tokens.len() {
-        tokens.len() - left
-    } else {
-        0
-    };
+    let read = tokens.len().saturating_sub(left);
     match tokens.get(read) {
         Some(token) => token.start,
         None => end,
@@ -324,15 +320,9 @@ fn parse_words(alloc: Global, text: &[u8], words: &[Token]) -> Result<Tree, Pars
     ensures { IsParsed (length text.now) words.now (map (word_of text.now) words.now) result }
 {
     let mut r = Reader::new(text, words);
-    match library(alloc, &mut r) {
-        Ok(tree) => Ok(tree),
-        Err(Stop::Syntax) => {
-            let left = r.left();
-            Err(ParseError::Syntax(place_of_rest(text.len(), words, left)))
-        }
-        Err(Stop::Limit(limit)) => Err(ParseError::Limit(limit.limit())),
-        Err(Stop::Memory) => Err(ParseError::Memory),
-    }
+    let read = library(alloc, &mut r);
+    let place = place_of_rest(text.len(), words, r.left());
+    read.map_err(|stop| stop.error(place))
 }
 
 /// The tree that a library text stands for.

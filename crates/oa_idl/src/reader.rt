@@ -1,21 +1,30 @@
 //! Reading the words of a text from the front.
-ghost use Rattle.std.specs.Prelude.{◌≡◌, ◌-◌, ◌+◌, ◌*◌, ◌<◌, ◌^◌, ◌&&◌, if◌then◌else◌, length, take, drop, map, false, IfOk, IfSome};
+ghost use Rattle.std.specs.Prelude.{◌≡◌, ◌-◌, ◌+◌, ◌*◌, ◌<◌, ◌^◌, ◌&&◌, if◌then◌else◌, length, take, drop, map, false, IfOk, IfErr, IfSome};
 ghost use Rattle.oa_idl.specs.Words.{word_of, passes, is_text, name_of, over, guid_of, digit_of, number_from, number_of};
 ghost use Rattle.oa_idl.specs.Words.{is_hexadecimal, below, part_from, part_of, id_number, id_from, id_of, word_type, same_kind};
 ghost use Rattle.oa_idl.specs.Words.{never_over, amount_from, amount_of, is_printable, is_escaped, characters_from, characters_of};
 ghost use Rattle.oa_idl.specs.Grammar.{entry_word};
-ghost use Rattle.oa_idl.specs.Reading.{ReadsWords, heads, later_words, this_at, one_at, perhaps_at, done, seen_first, first_of};
+ghost use Rattle.oa_idl.specs.Reading.{ReadsWords, heads, later_words, this_at, one_at, if_meant, perhaps_at, done, seen_first, first_of};
+ghost use Rattle.oa_idl.specs.NextWords.{text_of, seen_text};
+ghost use Rattle.oa_idl.specs.declared.stop.Stop.TheVariants.{Syntax};
 ghost use Rattle.uuid.specs.Text.{parsed_hyphenated};
 
 use crate::characters::Characters;
 use crate::name::Name;
 use crate::sign::{is_reserved, kind_of, same_bytes, type_named};
 use crate::stop::{Stop, TreeLimit};
-use oa_model::{MAX_NAME_CHARACTERS, VarType};
+use oa_model::{MAX_NAME_CHARACTERS, UNKNOWN_DISPID, VarType};
 use oa_tokens::{Token, TokenKind};
 use std::alloc::{AllocError, Global};
 use std::marker::Model;
 use uuid::Uuid;
+
+/// A number is below this, 2^96.
+const NUMBER_BOUND: u128 = 1 << 96;
+/// The DISPID of a put's new value (DISPID_PROPERTYPUT).
+const NEW_VALUE: i32 = -3;
+/// The characters of a GUID of the form 8-4-4-4-12.
+const GUID_CHARACTERS: usize = 36;
 
 /// The words of a text that were not read yet.
 #[derive(Drop)]
@@ -63,7 +72,7 @@ fn digit_of(byte: u8) -> u8
 }
 
 /// The number that digits stand for, if it is below 2^96.
-#[tactic(auto, unfolding(crate::specs::Words::number_from), using(crate::proofs::Digits::digits_go_on, crate::proofs::Digits::digits_stop, crate::proofs::Digits::digits_end))]
+#[tactic(auto, unfolding(crate::specs::Words::number_from), using(crate::proofs::Digits::digit_steps))]
 fn digits(hexadecimal: bool, text: &[u8]) -> Option<u128>
     ensures small { IfSome result (λ n. n < 2 ^ 96) }
     ensures value { result ≡ below (2 ^ 96) (number_from (if hexadecimal then 16 else 10) 0 text.now) }
@@ -73,7 +82,7 @@ fn digits(hexadecimal: bool, text: &[u8]) -> Option<u128>
     let mut n = 0;
     while n < text.len() {
         let next = base * value + u128::from(digit_of(text[n]));
-        if next >= 0x1_0000_0000_0000_0000_0000_0000 {
+        if next >= NUMBER_BOUND {
             return None;
         }
         value = next;
@@ -111,11 +120,9 @@ fn part_from(counts: bool, number: Option<u128>) -> Option<u16>
 fn id_number(negative: bool, hexadecimal: bool, value: u128) -> Option<i32>
     ensures { result ≡ id_number negative hexadecimal value }
 {
-    let Ok(value) = u32::try_from(value) else {
-        return None;
-    };
+    let value = u32::try_from(value).ok()?;
     if negative {
-        return i32::try_from(-i64::from(value)).ok();
+        return 0i32.checked_sub_unsigned(value);
     }
     if hexadecimal {
         return Some(value.cast_signed());
@@ -127,7 +134,11 @@ fn id_from(negative: bool, hexadecimal: bool, number: Option<u128>) -> Option<i3
     ensures { result ≡ id_from negative hexadecimal number }
 {
     let id = id_number(negative, hexadecimal, number?)?;
-    if id == -1 || id == -3 { None } else { Some(id) }
+    if id == UNKNOWN_DISPID || id == NEW_VALUE {
+        None
+    } else {
+        Some(id)
+    }
 }
 
 fn amount_from(negative: bool, number: Option<u128>) -> Option<i128>
@@ -153,7 +164,7 @@ fn is_escaped(byte: u8) -> bool
 }
 
 /// The characters up to the quote that closes a string, None where one cannot stand.
-#[tactic(auto, using(crate::proofs::Strings::escape_taken, crate::proofs::Strings::escape_refused, crate::proofs::Strings::string_closed, crate::proofs::Strings::escape_begins, crate::proofs::Strings::character_taken, crate::proofs::Strings::character_refused, crate::proofs::Strings::characters_end))]
+#[tactic(auto, using(crate::proofs::Strings::character_steps))]
 fn characters(alloc: Global, text: &[u8]) -> Result<Option<Characters>, AllocError>
     ensures { IfOk result (λ found. found ≡ characters_from false text.now) }
 {
@@ -200,7 +211,7 @@ fn behind_quote(text: &[u8]) -> &[u8]
 fn guid_of(text: &[u8]) -> Option<Uuid>
     ensures { result ≡ parsed_hyphenated text.now }
 {
-    if text.len() != 36 {
+    if text.len() != GUID_CHARACTERS {
         return None;
     }
     Uuid::try_parse_ascii(text).ok()
@@ -229,6 +240,28 @@ impl<'a> Reader<'a> {
         }
         let token = self.rest[0];
         Some((token.kind, token.bytes_in(self.text)))
+    }
+
+    /// The bytes of the next word, where it is of this kind.
+    fn text_of(&self, kind: TokenKind) -> Result<&'a [u8], Stop>
+        ensures text { seen_text result ≡ text_of kind self.now }
+        ensures syntax { IfErr result (λ e. e ≡ Syntax) }
+    {
+        match self.first() {
+            Some((found, text)) if same_kind(found, kind) => Ok(text),
+            _ => Err(Stop::Syntax),
+        }
+    }
+
+    /// Takes the next word, which stands for this, or cannot stand there.
+    fn taken<T>(&mut self, meant: Option<T>) -> Result<T, Stop>
+        ensures { ReadsWords (λ x. x) result self.new (if_meant meant never_over self.old) }
+    {
+        let Some(value) = meant else {
+            return Err(Stop::Syntax);
+        };
+        self.skip();
+        Ok(value)
     }
 
     /// Goes past the next word.
@@ -269,16 +302,12 @@ impl<'a> Reader<'a> {
     pub(crate) fn entry_word(&mut self) -> Result<(), Stop>
         ensures { ReadsWords (λ _. done) result self.new (this_at entry_word self.old) }
     {
-        let Some((kind, text)) = self.first() else {
+        let text = self.text_of(TokenKind::Name)?;
+        if !same_bytes(text, b"dispinterface") && !same_bytes(text, b"interface") {
             return Err(Stop::Syntax);
-        };
-        if same_kind(kind, TokenKind::Name)
-            && (same_bytes(text, b"dispinterface") || same_bytes(text, b"interface"))
-        {
-            self.skip();
-            return Ok(());
         }
-        Err(Stop::Syntax)
+        self.skip();
+        Ok(())
     }
 
     /// Takes a string.
@@ -286,18 +315,13 @@ impl<'a> Reader<'a> {
     pub(crate) fn text(&mut self) -> Result<(), Stop>
         ensures { ReadsWords (λ _. done) result self.new (this_at is_text self.old) }
     {
-        let Some((kind, _text)) = self.first() else {
-            return Err(Stop::Syntax);
-        };
-        if !same_kind(kind, TokenKind::Text) {
-            return Err(Stop::Syntax);
-        }
+        self.text_of(TokenKind::Text)?;
         self.skip();
         Ok(())
     }
 
     /// Takes this sign where it stands.
-    #[tactic(auto, unfolding(crate::specs::Reading::perhaps_at))]
+    #[tactic(auto, unfolding(crate::proofs::OnReadings::combinators))]
     pub(crate) fn perhaps(&mut self, sign: &[u8])
         ensures { self.new ≡ (if heads (passes sign.now) self.old then later_words self.old else self.old) }
     {
@@ -318,10 +342,8 @@ impl<'a> Reader<'a> {
         ensures value { ReadsWords (λ n. n) result self.new (one_at name_of (over limit bound count) self.old) }
         ensures few { IfOk result (λ _. count < bound) }
     {
-        let Some((kind, text)) = self.first() else {
-            return Err(Stop::Syntax);
-        };
-        if !same_kind(kind, TokenKind::Name) || is_reserved(text) {
+        let text = self.text_of(TokenKind::Name)?;
+        if is_reserved(text) {
             return Err(Stop::Syntax);
         }
         if text.len() > MAX_NAME_CHARACTERS {
@@ -340,19 +362,8 @@ impl<'a> Reader<'a> {
     pub(crate) fn guid(&mut self) -> Result<Uuid, Stop>
         ensures { ReadsWords (λ g. g) result self.new (one_at guid_of never_over self.old) }
     {
-        let Some((kind, text)) = self.first() else {
-            return Err(Stop::Syntax);
-        };
-        if !same_kind(kind, TokenKind::Guid) {
-            return Err(Stop::Syntax);
-        }
-        match guid_of(text) {
-            Some(guid) => {
-                self.skip();
-                Ok(guid)
-            }
-            None => Err(Stop::Syntax),
-        }
+        let text = self.text_of(TokenKind::Guid)?;
+        self.taken(guid_of(text))
     }
 
     /// Takes a part of a version, which counts or is taken as 0.
@@ -360,19 +371,8 @@ impl<'a> Reader<'a> {
     pub(crate) fn part(&mut self, counts: bool) -> Result<u16, Stop>
         ensures { ReadsWords (λ n. n) result self.new (one_at (part_of counts) never_over self.old) }
     {
-        let Some((kind, text)) = self.first() else {
-            return Err(Stop::Syntax);
-        };
-        if !same_kind(kind, TokenKind::Number) {
-            return Err(Stop::Syntax);
-        }
-        match part_from(counts, number_of(text)) {
-            Some(value) => {
-                self.skip();
-                Ok(value)
-            }
-            None => Err(Stop::Syntax),
-        }
+        let text = self.text_of(TokenKind::Number)?;
+        self.taken(part_from(counts, number_of(text)))
     }
 
     /// Takes the number of an id, after a minus or not.
@@ -380,19 +380,8 @@ impl<'a> Reader<'a> {
     pub(crate) fn id(&mut self, negative: bool) -> Result<i32, Stop>
         ensures { ReadsWords (λ n. n) result self.new (one_at (id_of negative) never_over self.old) }
     {
-        let Some((kind, text)) = self.first() else {
-            return Err(Stop::Syntax);
-        };
-        if !same_kind(kind, TokenKind::Number) {
-            return Err(Stop::Syntax);
-        }
-        match id_from(negative, is_hexadecimal(text), number_of(text)) {
-            Some(value) => {
-                self.skip();
-                Ok(value)
-            }
-            None => Err(Stop::Syntax),
-        }
+        let text = self.text_of(TokenKind::Number)?;
+        self.taken(id_from(negative, is_hexadecimal(text), number_of(text)))
     }
 
     /// Takes a word that stands for a type, after `unsigned` or not, in an array or not.
@@ -400,19 +389,8 @@ impl<'a> Reader<'a> {
     pub(crate) fn type_word(&mut self, in_array: bool, unsigned: bool) -> Result<VarType, Stop>
         ensures { ReadsWords (λ t. t) result self.new (one_at (word_type in_array unsigned) never_over self.old) }
     {
-        let Some((kind, text)) = self.first() else {
-            return Err(Stop::Syntax);
-        };
-        if !same_kind(kind, TokenKind::Name) {
-            return Err(Stop::Syntax);
-        }
-        match type_named(in_array, unsigned, text) {
-            Some(found) => {
-                self.skip();
-                Ok(found)
-            }
-            None => Err(Stop::Syntax),
-        }
+        let text = self.text_of(TokenKind::Name)?;
+        self.taken(type_named(in_array, unsigned, text))
     }
 
     /// Whether the next word is a string.
@@ -420,10 +398,7 @@ impl<'a> Reader<'a> {
     pub(crate) fn is_string(&self) -> bool
         ensures { result ≡ heads is_text self.now }
     {
-        match self.first() {
-            Some((kind, _text)) => same_kind(kind, TokenKind::Text),
-            None => false,
-        }
+        self.text_of(TokenKind::Text).is_ok()
     }
 
     /// Takes a number of a default, after a minus or not.
@@ -431,19 +406,8 @@ impl<'a> Reader<'a> {
     pub(crate) fn amount(&mut self, negative: bool) -> Result<i128, Stop>
         ensures { ReadsWords (λ n. n) result self.new (one_at (amount_of negative) never_over self.old) }
     {
-        let Some((kind, text)) = self.first() else {
-            return Err(Stop::Syntax);
-        };
-        if !same_kind(kind, TokenKind::Number) {
-            return Err(Stop::Syntax);
-        }
-        match amount_from(negative, number_of(text)) {
-            Some(value) => {
-                self.skip();
-                Ok(value)
-            }
-            None => Err(Stop::Syntax),
-        }
+        let text = self.text_of(TokenKind::Number)?;
+        self.taken(amount_from(negative, number_of(text)))
     }
 
     /// Takes a default string.
@@ -451,18 +415,7 @@ impl<'a> Reader<'a> {
     pub(crate) fn characters(&mut self, alloc: Global) -> Result<Characters, Stop>
         ensures { ReadsWords (λ n. n) result self.new (one_at characters_of never_over self.old) }
     {
-        let Some((kind, text)) = self.first() else {
-            return Err(Stop::Syntax);
-        };
-        if !same_kind(kind, TokenKind::Text) {
-            return Err(Stop::Syntax);
-        }
-        match characters(alloc, behind_quote(text))? {
-            Some(found) => {
-                self.skip();
-                Ok(found)
-            }
-            None => Err(Stop::Syntax),
-        }
+        let text = self.text_of(TokenKind::Text)?;
+        self.taken(characters(alloc, behind_quote(text))?)
     }
 }

@@ -1,6 +1,6 @@
 //! Why a text has no tree.
 ghost use Rattle.std.specs.Prelude.{◌≡◌};
-ghost use Rattle.oa_idl.specs.TextLimits.{limit_of};
+ghost use Rattle.oa_idl.specs.TextLimits.{limit_of, error_of};
 ghost use Rattle.oa_idl.specs.declared.stop.Stop.TheVariants.{Memory};
 ghost use Rattle.oa_idl.specs.declared.stop.ParseError.TheVariants as errors;
 
@@ -104,6 +104,19 @@ pub(crate) enum Stop {
     Syntax,
     Limit(TreeLimit),
     Memory,
+}
+
+impl Stop {
+    /// Why the text has no tree, where the next word begins at `place`.
+    pub(crate) fn error(self, place: usize) -> ParseError
+        ensures { result ≡ error_of place self }
+    {
+        match self {
+            Stop::Syntax => ParseError::Syntax(place),
+            Stop::Limit(limit) => ParseError::Limit(limit.limit()),
+            Stop::Memory => ParseError::Memory,
+        }
+    }
 }
 
 impl From<AllocError> for Stop {

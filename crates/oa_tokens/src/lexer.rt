@@ -41,16 +41,8 @@ impl Token {
         ensures { result.now ≡ take (self.end - self.start) (drop self.start text.now) }
     {
         let from = after(text, self.start);
-        let count = if self.start <= self.end {
-            self.end - self.start
-        } else {
-            0
-        };
-        if count <= from.len() {
-            &from[..count]
-        } else {
-            from
-        }
+        let count = self.end.saturating_sub(self.start);
+        &from[..count.min(from.len())]
     }
 }
 

@@ -1,10 +1,10 @@
 -- What the indexes of a library find.
-use Rattle.std.proofs.Common.{◌≡◌, ◌<◌, ◌≤◌, ◌+◌, ℕ, suc, Bool, List, [], ◌∷◌, ◌++◌, length, map, take, drop, get_or}
+use Rattle.std.proofs.Common.{◌≡◌, ◌≤◌, ℕ, Bool, List, [], ◌∷◌, length, map}
 use Rattle.std.proofs.Common.{IfOk, Result, Ok, Err}
-use Rattle.std.proofs.Common.{slice_get, position, find, Option, None, Some, true, false, refl, sym, ap, ◌∙◌, arith, add-one}
+use Rattle.std.proofs.Common.{slice_get, position, find, Option, None, Some, true, false, refl, sym, ap, ◌∙◌, arith}
 use Rattle.std.proofs.lemmas.Bool.Decides.{nat_tests}
 use Rattle.std.proofs.lemmas.Option.{none-some, slice_get-map}
-use Rattle.std.specs.Option.{option_map, option_map_or, option_and_then, option_or, unwrap_or}
+use Rattle.std.specs.Option.{option_map, option_map_or, option_and_then, unwrap_or}
 use Rattle.oa_model.specs.Limits.{max_library_bytes}
 use Rattle.oa_model.specs.Folding.{folded_name}
 use Rattle.std.specs.Prelude.{nat_le, if◌then◌else◌}

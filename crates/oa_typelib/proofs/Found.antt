@@ -1,14 +1,13 @@
 -- What is found among declarations that calls can be bound to.
-use Rattle.std.proofs.Common.{◌≡◌, ◌≤◌, refl, ap, ◌∙◌, map, ℕ, zero, suc, ◌-◌, length, take, ℤ, Bool, true, false, cond}
+use Rattle.std.proofs.Common.{◌≡◌, ◌≤◌, refl, ℕ, zero, suc, ◌-◌, length, take, ℤ, Bool, true, false, cond}
 use Rattle.std.proofs.Common.{if◌then◌else◌, find, List, [], ◌∷◌, Option, Some, None, IfSome, IfOk, Result, Ok, Err, slice_get, arith}
-use Rattle.std.proofs.lemmas.List.{length-take, length-map, take-map}
+use Rattle.std.proofs.lemmas.List.{length-take}
 use Rattle.std.specs.List.{AllByRecursion, filter}
 use Rattle.std.specs.Option.{option_map, option_and_then, option_or}
 use Rattle.std.specs.Ordering.{int_eq}
 use Rattle.oa_model.specs.declared.var_type.ValueType.{ValueType}
 use Rattle.oa_model.specs.declared.var_type.ValueType.TheVariants.{One, Array}
 use Rattle.oa_variant.specs.Variants.{HasZero}
-use Rattle.oa_variant.specs.declared.scalar.Scalar.{Scalar}
 use Rattle.oa_idl.specs.Values.{InterfaceValue}
 use Rattle.oa_idl.specs.declared.parts.Parameter.{Parameter}
 use Rattle.oa_idl.specs.declared.items.Item.{Item}
@@ -16,7 +15,6 @@ use Rattle.oa_idl.specs.declared.items.Item.TheVariants.{Interface, Coclass}
 use Rattle.oa_typelib.specs.Bindable.{IsBindable, IsSoundDeclaration, AreSound, IsSoundItem}
 use Rattle.oa_checks.specs.DeclarationValues.{DeclarationValue}
 use Rattle.oa_checks.specs.Declarations.{declarations, is_put, own_parameters, type_of_value}
-use Rattle.oa_checks.specs.Defaults.{default_value}
 use Rattle.oa_checks.specs.Libraries.{as_interface}
 use Rattle.oa_typelib.specs.Members.{forms_with, form_for, main_form, property_of, kind_asked, has_form, is_method, method_fault}
 use Rattle.oa_typelib.specs.Members.{if_formed, property_answer, answer, lets, member_in, property_in, property_with}

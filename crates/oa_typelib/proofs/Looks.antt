@@ -42,10 +42,6 @@ module _ (m : MembersValue) (ds : List DeclarationValue) (is : m ≡ grouped ds)
       ∙ ap (filter_map (slice_get ds)) (group_of same nat_list_eq_equiv name (map (λ (d : DeclarationValue). folded_name d.name) ds))
       ∙ at_places same (λ (d : DeclarationValue). folded_name d.name) name ds
 
--- ---- the members by names that are gathered
-abbrev pub grouped_by : List (List ℕ) → List ℤ → List (List (Option Scalar)) → MembersValue
-grouped_by names ids defaults = record { by_name = keys_with_places same names; by_id = keys_with_places int_eq ids; defaults = defaults }
-
 -- the defaults that are kept for the declaration at a place
 same_inside : {X : Type 0} (x y : X) → Some x ≡ Some y → x ≡ y
 same_inside x y e = cc

@@ -1,4 +1,4 @@
-use Rattle.std.proofs.Common.{◌≡◌, ◌<◌, ◌∙◌, ap, sym, arith, length}
+use Rattle.std.proofs.Common.{◌∙◌, ap, sym, arith}
 use Rattle.oa_checks.specs.Libraries.{item_guid, same}
 use Rattle.oa_checks.proofs.Fronts.{found_here, comes_later}
 use Rattle.oa_checks.proofs.guids.place_in_front.Goals as goal

@@ -9,7 +9,7 @@ unfolding repeat_at
 loop-key-init g c =
     let e : c.new-seen.result.keys ≡ [] = c.new-seen.ensures.empty in
     let i = c.into_iter-key-iterator.ensures.into_iter_gives in
-    (tt, tt, rw (e, i.0) refl, i.1 ∙ c.args.keys.ok.0 ∙ ap length (sym i.0), rw e refl)
+    (tt, tt, sym (ap (λ ks. ks ++ into_iter_items c.into_iter-key-iterator.result) e ∙ i.0), i.1 ∙ c.args.keys.ok.0 ∙ ap length (sym i.0), rw e refl)
 
 pub returns-then-not-branch : goal.returns-then-not-branch
 returns-then-not-branch g c =

@@ -1,14 +1,8 @@
+use Rattle.std.proofs.Common.{length, map, rules}
+use Rattle.oa_idl.specs.Words.{word_of}
+use Rattle.oa_idl.proofs.Told.{parsed}
 use Rattle.oa_idl.proofs.parser.parse_words.Goals as goal
 
-pub returns-in-Ok : goal.returns-in-Ok
-returns-in-Ok c = (c.library.new.r, rw c.new-r.ensures at c.in-Ok.ensures)
-
-pub returns-in-Err-Syntax : goal.returns-in-Err-Syntax
-returns-in-Err-Syntax c =
-    let e = rw c.in-Err-Syntax.field-0-is at c.in-Err-Syntax.ensures in
-    (c.library.new.r, rw c.new-r.ensures at e, rw c.left-left.ensures at c.place_of_rest.ensures)
-
-pub returns-in-Err-Limit : goal.returns-in-Err-Limit
-returns-in-Err-Limit c =
-    let e = rw c.in-Err-Limit.field-0-is at c.in-Err-Limit.ensures in
-    (c.library.new.r, c.in-Err-Limit.limit, c.limit.ensures, rw c.new-r.ensures at e)
+pub returns : goal.returns
+returns c = parsed (length c.args.text.now) c.place_of_rest-place.result c.args.words.now (map (word_of c.args.text.now) c.args.words.now) c.library-read.new.r c.library-read.result _ c.map_err.result
+    (λ stop e h. search (rules, h)) (rw c.left.ensures at c.place_of_rest-place.ensures) (rw c.new-r.ensures at c.library-read.ensures) c.map_err.ensures.cases

@@ -1,0 +1,12 @@
+-- What a reading is made of: an answer that computes one unfolds it, and the definition of that reading.
+use Rattle.std.specs.Prelude.{⊤}
+use Rattle.oa_idl.specs.Reading.{bind, give, choose, require, demand, perhaps_at, list_at, gather_at, gather, fail}
+
+unfoldable pub combinators : ⊤
+unfolding bind give choose require demand perhaps_at list_at gather_at
+combinators = tt
+
+-- one round of the reading of a list of attributes
+unfoldable pub round : ⊤
+unfolding gather fail
+round = tt

@@ -1,0 +1,16 @@
+-- What the next word is.
+use Rattle.std.specs.Prelude.{ℕ, if◌then◌else◌, List, [], ◌∷◌, Option, Some, None, Result, Ok, Err}
+use Rattle.std.specs.Borrow.{Bor}
+use Rattle.oa_tokens.specs.declared.lexer.TokenKind.{TokenKind}
+use Rattle.oa_idl.specs.declared.stop.Stop.{Stop}
+use Rattle.oa_idl.specs.Forms.{Word}
+use Rattle.oa_idl.specs.Words.{same_kind}
+
+-- its bytes, where it is of a kind
+abbrev pub text_of : TokenKind → List Word → Option (List ℕ)
+text_of kind [] = None
+text_of kind (w ∷ words) = if same_kind w.kind kind then Some w.text else None
+
+abbrev pub seen_text : Result (Bor (List ℕ)) Stop → Option (List ℕ)
+seen_text (Ok text) = Some text.now
+seen_text (Err e) = None

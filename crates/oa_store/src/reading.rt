@@ -150,10 +150,7 @@ pub(crate) fn find_store<D: Disk>(
     ensures calls { IfOk result (λ f. IsTrue (D.is_honest disk.new)
         → D.moment disk.new + length library.now ≤ D.moment disk.old + (20 + f.bank.gate)) }
 {
-    let found = match find_room(alloc, disk) {
-        Ok(found) => found,
-        Err(fault) => return Err(fault),
-    };
+    let found = find_room(alloc, disk)?;
     if let Shape::One = found.head.shape {
         return Err(OpenFault::OldFormat);
     }
@@ -164,24 +161,19 @@ pub(crate) fn find_store<D: Disk>(
         library: mut kept,
     } = found;
     let mut bank = bank_of(head.shape, chosen);
-    let text = match read_library(alloc, disk, &mut bank) {
-        Ok(text) => text,
-        Err(fault) => return Err(fault),
-    };
+    let text = read_library(alloc, disk, &mut bank)?;
     if !same(&text, library) {
         return Err(OpenFault::LibraryDiffers);
     }
     kept.extend_from_slice(library).unwrap();
-    match read_all(alloc, disk, &mut bank, buffer) {
-        Ok((_, table, buffer)) => Ok(Found {
-            library: kept,
-            table,
-            chosen,
-            bank,
-            buffer,
-        }),
-        Err(fault) => Err(fault),
-    }
+    let (_, table, buffer) = read_all(alloc, disk, &mut bank, buffer)?;
+    Ok(Found {
+        library: kept,
+        table,
+        chosen,
+        bank,
+        buffer,
+    })
 }
 
 /// The library and the table of the bank of that number, whose head was found.
@@ -213,10 +205,8 @@ pub(crate) fn look<D: Disk>(
         → D.moment disk.new + length r.0.items ≤ D.moment disk.old + (8 + r.2.gate)) }
 {
     let mut bank = bank_of(shape, chosen);
-    match read_all(alloc, disk, &mut bank, buffer) {
-        Ok((library, table, buffer)) => Ok((library, table, bank, buffer)),
-        Err(fault) => Err(fault),
-    }
+    let (library, table, buffer) = read_all(alloc, disk, &mut bank, buffer)?;
+    Ok((library, table, bank, buffer))
 }
 
 /// The library and the table of the store that is on the disk, whichever library it is, in either format. It writes nothing, and begins
@@ -227,15 +217,10 @@ pub fn inspect<D: Disk>(alloc: Global, disk: &mut D) -> Result<(Vec<u8>, Table),
     ensures reads { IsTrue (D.is_honest disk.new) → WritesNothing D.image D.moment D.image_since disk.old disk.new }
     ensures after { AfterCalls D.Disk disk.old disk.new result }
 {
-    let (chosen, head) = match find_head(disk) {
-        Ok(found) => found,
-        Err(fault) => return Err(fault),
-    };
+    let (chosen, head) = find_head(disk)?;
     let Ok(buffer) = buffer(alloc) else {
         return Err(OpenFault::Memory);
     };
-    match look(alloc, disk, chosen, head.shape, buffer) {
-        Ok((library, table, _, _)) => Ok((library, table)),
-        Err(fault) => Err(fault),
-    }
+    let (library, table, _, _) = look(alloc, disk, chosen, head.shape, buffer)?;
+    Ok((library, table))
 }

@@ -10,7 +10,7 @@ ghost use Rattle.oa_table.specs.Tables.{unlocked_table};
 ghost use Rattle.oa_turn.specs.Events.{is_done};
 ghost use Rattle.oa_turn.specs.Replacing.{Replacement};
 
-use crate::opening::text_of;
+use crate::starting::text_of;
 use oa_disk::Disk;
 use oa_keeper::Broken;
 use oa_model::HResult;

@@ -1,4 +1,4 @@
-//! Opening a store with a library: its table has to be one of that library.
+//! Starting a server over a store: its table has to be one of the library, and small enough for a bank.
 ghost use Rattle.std.specs.Prelude.{◌≡◌, ◌↔◌, ◌⊎◌, ◌≤◌, Some, IsTrue, false, length, true, IfOk, IfErr};
 ghost use Rattle.oa_model.specs.Limits.{max_library_bytes};
 ghost use Rattle.oa_canonical.specs.Canonical.{canonical};

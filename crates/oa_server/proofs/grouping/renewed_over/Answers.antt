@@ -1,6 +1,6 @@
 use Rattle.std.proofs.Common.{rules}
 use Rattle.oa_server.proofs.Renewing.{in_doubt, renewed}
-use Rattle.oa_server.proofs.keeping.renewed_over.Goals as goal
+use Rattle.oa_server.proofs.grouping.renewed_over.Goals as goal
 
 pub returns-in-Ok-clause-renewed : goal.returns-in-Ok-clause-renewed
 returns-in-Ok-clause-renewed g c =

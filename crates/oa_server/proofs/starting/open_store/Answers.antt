@@ -7,7 +7,7 @@ use Rattle.oa_turn.specs.Beginnings.{CanServe}
 use Rattle.oa_server.proofs.Kept.{same_library}
 use Rattle.oa_server.proofs.Opened.{differs_told, differs_unfit, finds_one, is_two, of_library, of_text, refuses_one, refuses_unfit, says_library}
 use Rattle.oa_turn.proofs.Texts.{is_read}
-use Rattle.oa_server.proofs.opening.open_store.Goals as goal
+use Rattle.oa_server.proofs.starting.open_store.Goals as goal
 
 pub returns-then-can_serve-clause-shape : goal.returns-then-can_serve-clause-shape
 returns-then-can_serve-clause-shape g c = is_two c.in-Ok.store.bank.shape c.in-Ok.store.is_new

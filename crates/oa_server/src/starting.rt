@@ -1,20 +1,11 @@
 //! Starting a server over a store: its table has to be one of the library, and small enough for a bank.
-ghost use Rattle.std.specs.Prelude.{◌≡◌, ◌↔◌, ◌⊎◌, ◌≤◌, Some, IsTrue, false, length, true, IfOk, IfErr};
+ghost use Rattle.std.specs.Prelude.{◌≡◌, ◌↔◌, ◌≤◌, IsTrue, length, IfOk, IfErr};
 ghost use Rattle.oa_model.specs.Limits.{max_library_bytes};
 ghost use Rattle.oa_canonical.specs.Canonical.{canonical};
-ghost use Rattle.oa_image.specs.Tables.{FitsBank, is_numbered};
-ghost use Rattle.oa_journal.specs.Shapes.{body_bytes};
-ghost use Rattle.oa_journal.specs.declared.shape.Shape.TheVariants.{Two};
-ghost use Rattle.oa_keeper.specs.Kept.{EachIs};
+ghost use Rattle.oa_image.specs.Tables.{FitsBank};
 ghost use Rattle.oa_turn.specs.Beginnings.{CanServe};
-ghost use Rattle.oa_server.specs.Openings.{FindsOneOf, HoldsOther, IsNotOpened, IsOpened, IsUnfit, RefusesOneOf};
-ghost use Rattle.oa_turn.specs.States.{State};
+ghost use Rattle.oa_server.specs.Openings.{IsNotOpened, IsOpened};
 ghost use Rattle.oa_server.specs.Storages.{OverStore, bank_of};
-ghost use Rattle.oa_store.specs.Faults.{IsCaused, ComesOfForeign, SpeaksOfContents, RefusalSays};
-ghost use Rattle.oa_store.specs.Reads.{WritesNothing};
-ghost use Rattle.oa_store.specs.Stores.{IsForeign, IsStoreIn};
-ghost use Rattle.oa_store.specs.declared.fault.OpenFault.TheVariants.{LibraryDiffers};
-ghost use Rattle.oa_table.specs.Tables.{unlocked_table};
 
 use crate::Server;
 use oa_canonical::laws::marked_is_read;
@@ -58,36 +49,8 @@ pub(crate) fn open_store<D: Disk>(
     disk: D,
     library: &Library,
 ) -> Result<(Store<D>, Table), (D, OpenFault)>
-    // Each image at the end is a store of the answered table, and so are the contents at the start.
-    ensures found { IfOk result (λ r. IsTrue (D.is_honest r.0.disk)
-        → EachIs (D.image r.0.disk) r.0.bank.shape r.0.chosen r.0.bank.gate (canonical library.now) r.1) }
-    ensures contents { IfOk result (λ r. IsTrue (D.is_honest r.0.disk)
-        → IsStoreIn r.0.bank.shape (D.contents disk) (canonical library.now) r.1) }
-    ensures shape { IfOk result (λ r. r.0.bank.shape ≡ Two (body_bytes r.0.bank.shape)) }
-    ensures unlocked { IfOk result (λ r. unlocked_table r.1 ≡ r.1) }
-    ensures serves { IfOk result (λ r. CanServe (body_bytes r.0.bank.shape) library.now r.1) }
-    ensures starts { IfOk result (λ r. (r.0.stopped ≡ false) × (r.0.library.items ≡ canonical library.now) × (is_numbered r.1 ≡ true)) }
-    // Where a stop has left one of two states, that one is answered, and no refusal says that there is none but that of another library.
-    ensures either { IfOk result (λ r. IsTrue (D.is_honest r.0.disk)
-        → FindsOneOf (D.image disk) (body_bytes r.0.bank.shape) library.now r.1) }
-    ensures refused { IfErr result (λ e. SpeaksOfContents e.1 → IsTrue (D.is_honest e.0)
-        → RefusesOneOf (D.image disk) (D.contents disk) library.now e.1) }
-    ensures differs { IfErr result (λ e. IsTrue (D.is_honest e.0) → (state : State) → HoldsOther (D.contents disk) library.now state
-        → SpeaksOfContents e.1 → e.1 ≡ LibraryDiffers) }
-    // A refusal is true of the contents at the start.
-    ensures says { IfErr result (λ e. IsTrue (D.is_honest e.0)
-        → RefusalSays (Some (canonical library.now)) (D.size_of disk) (D.contents disk) e.1 ⊎ IsUnfit library.now (D.contents disk) e.1) }
-    // A disk that is too small or not formatted is found to be that before memory is taken.
-    ensures early { IfErr result (λ e. IsTrue (D.is_honest e.0) → IsForeign (D.size_of disk) (D.contents disk) → ComesOfForeign e.1) }
-    ensures foreign { IfOk result (λ r. IsTrue (D.is_honest r.0.disk) → IsForeign (D.size_of disk) (D.contents disk) → ⊥) }
-    ensures reads { IfOk result (λ r. IsTrue (D.is_honest r.0.disk) → WritesNothing D.image D.moment D.image_since disk r.0.disk) }
-    ensures reads_err { IfErr result (λ e. IsTrue (D.is_honest e.0) → WritesNothing D.image D.moment D.image_since disk e.0) }
-    ensures honest { IfOk result (λ r. IsTrue (D.is_honest r.0.disk) → IsTrue (D.is_honest disk)) }
-    ensures honest_err { IfErr result (λ e. IsTrue (D.is_honest e.0) → IsTrue (D.is_honest disk)) }
-    ensures size { IfOk result (λ r. D.size_of r.0.disk ≡ D.size_of disk) }
-    ensures size_err { IfErr result (λ e. D.size_of e.0 ≡ D.size_of disk) }
-    ensures unfailed { IfOk result (λ r. D.failures_of r.0.disk ≡ D.failures_of disk) }
-    ensures cause { IfErr result (λ e. IsCaused (D.failures_of disk) (D.failures_of e.0) e.1) }
+    ensures opened { IfOk result (λ r. IsOpened D.Disk disk library.now r.0 r.1) }
+    ensures refused { IfErr result (λ e. IsNotOpened D.Disk disk e.0 library.now e.1) }
 {
     one_tree();
     marked_is_read();

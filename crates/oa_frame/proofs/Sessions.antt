@@ -19,11 +19,23 @@ use Rattle.oa_frame.specs.declared.framing.Framing.TheVariants.{HexLines, Record
 use Rattle.std.proofs.lemmas.Bool.{false≢true}
 use Rattle.oa_frame.specs.Framings.{Frames, frames, is_read_fault}
 use Rattle.oa_frame.specs.Paces.{HasCause, Paced}
-use Rattle.oa_frame.specs.Sessions.{TurnOf, EndOf, BodiesTurned, Bodies, ReadTo, spelled_all, joined, last_reply, CallsReader, AllHaveLeft, WriterFails, Session, SessionSoFar}
+use Rattle.oa_frame.specs.Sessions.{TurnOf, EndOf, BodiesTurned, Bodies, ReadTo, spelled_all, joined, last_reply, CallsReader, AllHaveLeft, HasLeft, WriterFails, Session}
 use Rattle.oa_frame.specs.Sessions.{HandsOn, Closes, AnswersBody, Finishes, PartsBefore, but_last, step, step_by}
 use Rattle.oa_frame.specs.Sessions.Halt.{Between, At, Undone}
 use Rattle.oa_frame.proofs.Left.{breaks_more, but_few, gone_is, kept_less, left_more, left_push, torn_is, writes_more}
 use Rattle.oa_frame.proofs.Spelled.{spelled_append, joined_more, latest_more}
+
+-- what stands of a session while it goes on
+pub record SessionSoFar {S : Type 0} (f : Frames) (alone : List ℕ → Bool) (turn : TurnOf S) (input input' : Input)
+    (out out' : Output) (old now : S) (requests : ℕ) : Type 0 where
+  pub bodies : List (List ℕ)
+  pub handed : List (List (List ℕ))
+  pub run : BodiesTurned turn old bodies handed now
+  pub count : requests ≡ length bodies
+  pub read : Known (λ bytes rest. Bodies f bytes bodies rest) input.left input'.left
+  pub calls : CallsReader requests 0 input input'
+  pub lines : Writes out out' (spelled_all f.spelled (joined handed))
+  pub apart : HasLeft f alone (length lines.gone) (length out.kept) bodies handed
 
 run_more : {S : Type 0} (turn : TurnOf S) (old mid new : S) (bodies : List (List ℕ)) (handed : List (List (List ℕ))) (body : List ℕ) (replies : List (List ℕ))
     → BodiesTurned turn old bodies handed mid → turn mid body replies new → BodiesTurned turn old (bodies ++ body ∷ []) (handed ++ replies ∷ []) new

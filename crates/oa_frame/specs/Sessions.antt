@@ -233,18 +233,6 @@ pub record Session {S : Type 0} (f : Frames) (alone : List ℕ → Bool) (turn :
   pub written : AllHaveLeft f last served.why stop handed held out out'
       ⊎ WriterFails f alone last served.why stop bodies handed held out out'
 
--- the same so far
-pub record SessionSoFar {S : Type 0} (f : Frames) (alone : List ℕ → Bool) (turn : TurnOf S) (input input' : Input)
-    (out out' : Output) (old now : S) (requests : ℕ) : Type 0 where
-  pub bodies : List (List ℕ)
-  pub handed : List (List (List ℕ))
-  pub run : BodiesTurned turn old bodies handed now
-  pub count : requests ≡ length bodies
-  pub read : Known (λ bytes rest. Bodies f bytes bodies rest) input.left input'.left
-  pub calls : CallsReader requests 0 input input'
-  pub lines : Writes out out' (spelled_all f.spelled (joined handed))
-  pub apart : HasLeft f alone (length lines.gone) (length out.kept) bodies handed
-
 -- these replies were written and all was handed on, or the writer failed
 abbrev pub HandsOn : (List ℕ → List ℕ) → End → End → List (List ℕ) → Output → Output → Type 0
 HandsOn spelled result why replies old new =

@@ -6,12 +6,12 @@ use Rattle.oa_disk.specs.declared.disk.Disk.{Ghosts}
 use Rattle.oa_store.specs.declared.store.Store.{Store}
 use Rattle.oa_groups.specs.Desks.{Desk, IsAnsweredAlone}
 use Rattle.oa_groups.specs.Faults.{IsWholeBefore}
-use Rattle.oa_groups.specs.Going.{IsCut, IsCutBefore, Going, Faulted}
+use Rattle.oa_groups.specs.Going.{IsCut, Going, Faulted}
 use Rattle.oa_groups.specs.Groups.{events_in, joined}
 use Rattle.oa_groups.specs.Runs.{AllHoldState, CallsFor, HoldsState, InTurn, IsAfter, IsRun, TurnsOver}
 use Rattle.oa_groups.specs.Turns.{Exchange, Turns, body_of, reply_of}
 use Rattle.oa_groups.proofs.Called.{calls_none, turn_push}
-use Rattle.oa_groups.proofs.Entries.{apart_group, cut_apart, cut_before, either, joined_push, no_entry, run_append, run_one}
+use Rattle.oa_groups.proofs.Entries.{IsCutBefore, apart_group, cut_apart, cut_before, either, joined_push, no_entry, run_append, run_one}
 use Rattle.oa_groups.proofs.Running.{after_all, after_fewer, after_more, run_more, run_on}
 use Rattle.oa_groups.proofs.Stores.{state_held}
 

@@ -5,14 +5,14 @@ use Rattle.oa_disk.specs.declared.disk.Disk.{Ghosts}
 use Rattle.oa_store.specs.declared.store.Store.{Store}
 use Rattle.oa_groups.specs.Desks.{Desk, IsEnded}
 use Rattle.oa_groups.specs.Faults.{IsFaultIn, IsWholeBefore}
-use Rattle.oa_groups.specs.Going.{Faulted, Going, IsCut, IsEnd, IsNextGroup, Underway}
+use Rattle.oa_groups.specs.Going.{Faulted, Going, IsCut, IsNextGroup, Underway}
 use Rattle.oa_groups.specs.Groups.{groups_of, joined, rest_of}
 use Rattle.oa_groups.specs.Runs.{AllHoldState, CallsFor, InTurn, IsRun, TurnsOver}
 use Rattle.oa_groups.specs.Served.{IsServed}
 use Rattle.oa_store.specs.Writing.{Goes}
 use Rattle.oa_groups.specs.Turns.{Exchange, Turns, body_of, reply_of}
 use Rattle.oa_groups.proofs.Called.{calls_none}
-use Rattle.oa_groups.proofs.Entries.{cut_last, either, ends_after, group_ends, joined_push, no_entry, run_append, some_entry}
+use Rattle.oa_groups.proofs.Entries.{IsEnd, cut_last, either, ends_after, group_ends, joined_push, no_entry, run_append, some_entry}
 use Rattle.oa_groups.proofs.Faulted.{faulted_as}
 use Rattle.oa_groups.proofs.InHand.{going_as, going_breaks, going_ends}
 use Rattle.oa_groups.proofs.Stores.{goes_on}

@@ -3,7 +3,7 @@ use Rattle.std.specs.Prelude.{◌≡◌, ◌⊎◌, ℕ, Bool, true, false, List
 use Rattle.oa_disk.specs.declared.disk.Disk.{Ghosts}
 use Rattle.oa_groups.specs.Desks.{Desk}
 use Rattle.oa_groups.specs.Faults.{IsWholeBefore}
-use Rattle.oa_groups.specs.Groups.{cut, events_in, groups_of, joined, rest_of}
+use Rattle.oa_groups.specs.Groups.{cut, events_in, groups_of, joined}
 use Rattle.oa_groups.specs.Runs.{AllHoldState, CallsFor, HasMoments, InTurn, TurnsOver}
 use Rattle.oa_store.specs.Writing.{Goes}
 use Rattle.oa_groups.specs.Turns.{Exchange, Turns, body_of, reply_of}
@@ -13,19 +13,9 @@ abbrev pub IsCut : {R : Type 0} → (List ℕ → Bool) → ℕ → List (List (
 IsCut {R} alone size groups held =
     (later : List (Exchange R)) → groups_of alone size (joined groups ++ (held ++ later)) ≡ groups ++ cut alone size held later
 
--- They are where a request comes next that is a group of its own.
-abbrev pub IsCutBefore : {R : Type 0} → (List ℕ → Bool) → ℕ → List (List (Exchange R)) → List (Exchange R) → Type 0
-IsCutBefore {R} alone size groups held =
-    (asked : Exchange R) (later : List (Exchange R)) → alone asked.body ≡ true
-    → groups_of alone size (joined groups ++ (held ++ asked ∷ later)) ≡ groups ++ (rest_of held ++ (asked ∷ []) ∷ cut alone size [] later)
-
 -- The requests in hand are a group.
 abbrev pub IsNextGroup : {R : Type 0} → (List ℕ → Bool) → ℕ → List (List (Exchange R)) → List (Exchange R) → Type 0
 IsNextGroup alone size groups held = groups_of alone size (joined groups ++ held) ≡ groups ++ held ∷ []
-
--- The input ends with the requests in hand.
-abbrev pub IsEnd : {R : Type 0} → (List ℕ → Bool) → ℕ → List (List (Exchange R)) → List (Exchange R) → Type 0
-IsEnd alone size groups held = groups_of alone size (joined groups ++ held) ≡ groups ++ rest_of held
 
 -- Some whole groups were answered, and the requests in hand are held. C says how the requests are cut.
 pub record Going {S R D : Type 0} {g : Ghosts D} (t : Turns S R) (C : List (List (Exchange R)) → List (Exchange R) → Type 0)

@@ -20,10 +20,15 @@ abbrev pub told_size : Shape → ℕ
 told_size One = 0
 told_size (Two size) = size
 
+-- How many bytes of a disk format 1 takes: 8192 before its banks, and two banks of 32 and 16777184 bytes. The bodies of format 2 stand
+-- behind all that.
+abbrev pub format_one_bytes : ℕ
+format_one_bytes = 33562624
+
 -- the least size of a disk that has two banks of this format
 abbrev pub disk_bytes : Shape → ℕ
-disk_bytes One = 33562624
-disk_bytes (Two size) = 33562624 + 2 * size
+disk_bytes One = format_one_bytes
+disk_bytes (Two size) = format_one_bytes + 2 * size
 
 -- a number that lies in the range of the sizes of format 2 exactly where the body's size is one that the format has
 abbrev pub measured : Shape → ℕ

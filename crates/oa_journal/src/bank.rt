@@ -194,13 +194,11 @@ impl Bank {
         // at most two calls
         ensures calls { IsTrue (D.is_honest disk.new) → D.moment disk.new ≤ D.moment disk.old + 4 }
     {
-        match library_at(alloc, disk, self.shape, self.head, self.body) {
-            Ok(library) => Ok(library),
-            Err(fault) => {
-                self.stop_after(fault);
-                Err(fault)
-            }
+        let read = library_at(alloc, disk, self.shape, self.head, self.body);
+        if let Err(fault) = read {
+            self.stop_after(fault);
         }
+        read
     }
 
     /// Reads the bank: its library, and its table after its groups, through this buffer, which is given back with all its bytes. From then on

@@ -111,10 +111,7 @@ pub fn read_head<D: Disk>(disk: &mut D, place: u64) -> Result<Head, BankFault>
     // one call
     ensures calls { IsTrue (D.is_honest disk.new) → D.moment disk.new ≤ D.moment disk.old + 2 }
 {
-    let head = match head_at(disk, place) {
-        Ok(found) => found,
-        Err(fault) => return Err(fault),
-    };
+    let head = head_at(disk, place)?;
     if disk.size() < head.shape.disk_bytes() {
         return Err(BankFault::Damaged(place));
     }

@@ -19,4 +19,4 @@ mod window;
 
 pub use bank::{AppendFault, Bank, BankFault};
 pub use head::{Head, read_head};
-pub use shape::{AMPLE_BYTES, DEFAULT_BANK_BYTES, Shape};
+pub use shape::{AMPLE_BYTES, DEFAULT_BANK_BYTES, FORMAT_ONE_BYTES, Shape};

@@ -81,10 +81,7 @@ fn is_open<D: Disk>(disk: &mut D, window: &mut Window, end: u64, at: u64) -> Res
     ensures kept { length window.new.buffer.items ≡ length window.old.buffer.items }
     ensures calls { IsTrue (D.is_honest disk.new) → D.moment disk.new ≤ D.moment disk.old + 2 }
 {
-    match window.cover(disk, end, at, 1) {
-        Ok(()) => {}
-        Err(fault) => return Err(fault),
-    }
+    window.cover(disk, end, at, 1)?;
     Ok(window.seen(at, 1)[0] == 1)
 }
 
@@ -116,12 +113,8 @@ fn group_bytes<D: Disk>(
     if !window.takes(count) {
         return read_part(alloc, disk, at, count);
     }
-    match window.cover(disk, end, at, count) {
-        Ok(()) => {}
-        Err(fault) => return Err(fault),
-    }
-    let bytes = copied(alloc, window.seen(at, count))?;
-    Ok(bytes)
+    window.cover(disk, end, at, count)?;
+    Ok(copied(alloc, window.seen(at, count))?)
 }
 
 fn is_same(one: Shape, other: Shape) -> bool
@@ -154,10 +147,7 @@ fn head_of<D: Disk>(disk: &mut D, shape: Shape, place: u64) -> Result<Head, Bank
     ensures cause { IfErr result (IsCaused (D.failures_of disk.old) (D.failures_of disk.new)) }
     ensures calls { IsTrue (D.is_honest disk.new) → D.moment disk.new ≤ D.moment disk.old + 2 }
 {
-    let head = match head_at(disk, place) {
-        Ok(found) => found,
-        Err(fault) => return Err(fault),
-    };
+    let head = head_at(disk, place)?;
     if !is_same(head.shape, shape) {
         return Err(BankFault::Damaged(place));
     }
@@ -187,10 +177,7 @@ pub(crate) fn library_at<D: Disk>(
     ensures cause { IfErr result (IsCaused (D.failures_of disk.old) (D.failures_of disk.new)) }
     ensures calls { IsTrue (D.is_honest disk.new) → D.moment disk.new ≤ D.moment disk.old + 4 }
 {
-    let told = match head_of(disk, shape, head) {
-        Ok(found) => found,
-        Err(fault) => return Err(fault),
-    };
+    let told = head_of(disk, shape, head)?;
     read_part(alloc, disk, body, told.library as usize)
 }
 
@@ -220,15 +207,9 @@ fn first_at<D: Disk>(
     ensures cause { IfErr result (IsCaused (D.failures_of disk.old) (D.failures_of disk.new)) }
     ensures calls { IsTrue (D.is_honest disk.new) → D.moment disk.new ≤ D.moment disk.old + 4 }
 {
-    let told = match head_of(disk, shape, head) {
-        Ok(found) => found,
-        Err(fault) => return Err(fault),
-    };
+    let told = head_of(disk, shape, head)?;
     let at = body + u64::from(told.library);
-    let bytes = match read_part(alloc, disk, at, told.snapshot as usize) {
-        Ok(found) => found,
-        Err(fault) => return Err(fault),
-    };
+    let bytes = read_part(alloc, disk, at, told.snapshot as usize)?;
     match read_table(alloc, &bytes) {
         Ok(first) => Ok((told, first)),
         Err(ImageFault::Damaged(_)) => Err(BankFault::Damaged(at)),
@@ -273,10 +254,7 @@ fn group_at<D: Disk>(
         return Err(BankFault::Damaged(gate));
     }
     let end = body + u64::from(size);
-    match window.cover(disk, end, gate, 5) {
-        Ok(()) => {}
-        Err(fault) => return Err(fault),
-    }
+    window.cover(disk, end, gate, 5)?;
     let count = number(window.seen(gate + 1, 4));
     if count == 0 {
         return Err(BankFault::Damaged(gate));
@@ -284,10 +262,7 @@ fn group_at<D: Disk>(
     if room - 5 <= count {
         return Err(BankFault::Damaged(gate));
     }
-    match group_bytes(alloc, disk, window, end, gate + 5, count as usize) {
-        Ok(group) => Ok(group),
-        Err(fault) => Err(fault),
-    }
+    group_bytes(alloc, disk, window, end, gate + 5, count as usize)
 }
 
 /// Applies the group behind the open gate at that place, and answers the place of the next gate.
@@ -325,10 +300,7 @@ fn read_group<D: Disk>(
     ensures kept { length window.new.buffer.items ≡ length window.old.buffer.items }
     ensures calls { IsTrue (D.is_honest disk.new) → D.moment disk.new ≤ D.moment disk.old + 4 }
 {
-    let group = match group_at(alloc, disk, window, body, size, at) {
-        Ok(found) => found,
-        Err(fault) => return Err(fault),
-    };
+    let group = group_at(alloc, disk, window, body, size, at)?;
     match replay(alloc, table, &group) {
         Ok(()) => Ok(at + 5 + group.len() as u32),
         Err(ImageFault::Damaged(_)) => Err(BankFault::Damaged(body + u64::from(at))),
@@ -374,19 +346,10 @@ fn read_groups<D: Disk>(
     let mut window = Window::over(buffer);
     let mut at = from;
     let mut table = first;
-    let mut opened = match is_open(disk, &mut window, end, body + u64::from(at)) {
-        Ok(opened) => opened,
-        Err(fault) => return Err(fault),
-    };
+    let mut opened = is_open(disk, &mut window, end, body + u64::from(at))?;
     'groups: while opened {
-        at = match read_group(alloc, disk, &mut window, body, size, at, &mut table) {
-            Ok(next) => next,
-            Err(fault) => return Err(fault),
-        };
-        opened = match is_open(disk, &mut window, end, body + u64::from(at)) {
-            Ok(opened) => opened,
-            Err(fault) => return Err(fault),
-        };
+        at = read_group(alloc, disk, &mut window, body, size, at, &mut table)?;
+        opened = is_open(disk, &mut window, end, body + u64::from(at))?;
     }
     Ok((table, at, window.into_buffer()))
 }
@@ -421,15 +384,9 @@ pub(crate) fn bank_at<D: Disk>(
     ensures cause { IfErr result (IsCaused (D.failures_of disk.old) (D.failures_of disk.new)) }
     ensures calls { IfOk result (λ r. IsTrue (D.is_honest disk.new) → D.moment disk.new + length r.0.items ≤ D.moment disk.old + (8 + r.2)) }
 {
-    let (told, first) = match first_at(alloc, disk, shape, head, body) {
-        Ok(found) => found,
-        Err(fault) => return Err(fault),
-    };
-    let library = match read_part(alloc, disk, body, told.library as usize) {
-        Ok(found) => found,
-        Err(fault) => return Err(fault),
-    };
-    match read_groups(
+    let (told, first) = first_at(alloc, disk, shape, head, body)?;
+    let library = read_part(alloc, disk, body, told.library as usize)?;
+    let (table, gate, buffer) = read_groups(
         alloc,
         disk,
         body,
@@ -437,8 +394,6 @@ pub(crate) fn bank_at<D: Disk>(
         told.library + told.snapshot,
         first,
         buffer,
-    ) {
-        Ok((table, gate, buffer)) => Ok((library, table, gate, buffer)),
-        Err(fault) => Err(fault),
-    }
+    )?;
+    Ok((library, table, gate, buffer))
 }

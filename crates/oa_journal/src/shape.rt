@@ -6,6 +6,10 @@ pub const DEFAULT_BANK_BYTES: u32 = 20_971_520;
 /// How many bytes a bank's body has from its closed gate on where no checkpoint is due.
 pub const AMPLE_BYTES: u32 = 4_718_597;
 
+/// How many bytes of a disk format 1 takes: those before its banks, and two banks, each of a head and a body. The bodies of format 2 stand
+/// behind all that.
+pub const FORMAT_ONE_BYTES: u64 = 8_192 + 2 * (32 + 16_777_184);
+
 /// The format of a bank. In each of them 32 bytes, the head, say how long the parts of the body are; the body stands elsewhere or right
 /// behind the head.
 #[derive(Clone, Copy, Debug, PartialEq, Eq)]
@@ -45,8 +49,8 @@ impl Shape {
         ensures { result ≡ disk_bytes self }
     {
         match self {
-            Shape::One => 33_562_624,
-            Shape::Two(size) => 33_562_624 + 2 * u64::from(size),
+            Shape::One => FORMAT_ONE_BYTES,
+            Shape::Two(size) => FORMAT_ONE_BYTES + 2 * u64::from(size),
         }
     }
 }

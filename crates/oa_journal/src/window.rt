@@ -112,10 +112,7 @@ impl Window {
             room
         };
         self.len = 0;
-        match read_front(disk, at, &mut self.buffer, wanted) {
-            Ok(()) => {}
-            Err(fault) => return Err(fault),
-        }
+        read_front(disk, at, &mut self.buffer, wanted)?;
         self.from = at;
         self.len = wanted;
         Ok(())

@@ -9,7 +9,7 @@ pub mod Answering
 pub mod Put
 pub mod Retold
 pub mod InMemory
-pub mod Grouping
+pub mod InHand
 pub mod Apart
 pub mod Talking
 pub mod Beginning

@@ -14,6 +14,7 @@ use Rattle.oa_record.specs.declared.request.Request.{Request}
 use Rattle.oa_store.specs.declared.store.Store.{Store}
 use Rattle.oa_turn.specs.Events.{change_bytes, is_done}
 use Rattle.oa_server.specs.Requests.{failed, faulted, requests}
+use Rattle.oa_table.specs.Tables.{unlocked_table}
 use Rattle.oa_turn.specs.States.{State}
 use Rattle.oa_turn.specs.Steps.{outcome}
 use Rattle.oa_turn.specs.Turns.{Turn}
@@ -43,6 +44,14 @@ pub record IsAnswered {D : Type 0} {g : Ghosts D} (old new : Store D g) (before 
   pub refused : old.stopped ≡ false → new.stopped ≡ false → is_replacement body ≡ true → is_done reply ≡ false → new.disk ≡ old.disk
   -- it is a group of one, with its moments
   pub served : old.stopped ≡ false → IsServed requests 1 old new before after (body ∷ []) (reply ∷ [])
+
+-- What a turn of opcode 12 over a store leaves, whether it is told or in doubt.
+pub record Renews {D : Type 0} {g : Ghosts D} (old new : Store D g) (before after : State) : Type 0 where
+  pub same : unlocked_table after.table ≡ unlocked_table before.table
+  -- A stop at any moment leaves the old library or the new, with the table.
+  pub any_moment : AllHoldState requests old before → LeavesState old new (λ c. HoldsState requests before c ⊎ HoldsState requests after c)
+  pub each : new.stopped ≡ false → AllHoldState requests old before → AllHoldState requests new after
+  pub goes : Goes old new
 
 -- A body that asks for another library is answered, with nothing in hand: as a group of its own.
 pub record IsRenewed {D : Type 0} {g : Ghosts D} (old new : Store D g) (before after : State) (body : List ℕ) (reply : ReplyValue) : Type 0 where

@@ -3,8 +3,8 @@ ghost use Rattle.std.specs.Prelude.{◌≡◌, ◌≤◌, map, IfOk, OnErr, fals
 ghost use Rattle.oa_server.specs.Storages.{AnswersOne, InMemory, Serves, bank_of, disk_of};
 ghost use Rattle.oa_turn.specs.Turns.{Run, Turn};
 
+use crate::grouping::{answer_over, run_over};
 use crate::hand::Hand;
-use crate::keeping::{answer_over, run_over};
 use crate::storage::Storage;
 use oa_disk::Disk;
 use oa_record::Reply;

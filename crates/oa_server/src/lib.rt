@@ -8,14 +8,14 @@
 #![tactic(auto)]
 
 mod clerk;
+mod grouping;
 mod hand;
 mod holding;
-mod keeping;
 pub mod laws;
-mod opening;
 mod renewal;
 mod server;
 mod serving;
+mod starting;
 mod storage;
 
 pub use oa_frame::{End, Served};

@@ -1,16 +1,12 @@
 //! REPLACE LIBRARY over a store.
-ghost use Rattle.std.specs.Prelude.{◌≡◌, ◌⊎◌, false, true, IfOk, OnErr, OnOk};
-ghost use Rattle.oa_groups.specs.Desks.{LeavesState};
-ghost use Rattle.oa_groups.specs.Runs.{AllHoldState, HoldsState};
-ghost use Rattle.oa_store.specs.Writing.{Goes};
+ghost use Rattle.std.specs.Prelude.{◌≡◌, false, true, IfOk, OnErr, OnOk};
 ghost use Rattle.oa_record.specs.Replies.{ReplyValue};
+ghost use Rattle.oa_server.specs.Answers.{Renews};
 ghost use Rattle.oa_server.specs.Hands.{HasBanks};
-ghost use Rattle.oa_server.specs.Requests.{requests};
-ghost use Rattle.oa_table.specs.Tables.{unlocked_table};
 ghost use Rattle.oa_turn.specs.Events.{is_done};
 ghost use Rattle.oa_turn.specs.Replacing.{Replacement};
 
-use crate::opening::text_of;
+use crate::starting::text_of;
 use oa_disk::Disk;
 use oa_keeper::Broken;
 use oa_model::HResult;
@@ -32,16 +28,11 @@ pub(crate) fn renew_over<D: Disk>(
     requires banks { HasBanks store.old host.old }
     ensures turn { IfOk result (λ reply. Replacement host.old body.now reply host.new) }
     ensures failed { OnErr result ((reply : ReplyValue) × Replacement host.old body.now reply host.new × (is_done reply ≡ true)) }
-    ensures same { unlocked_table host.new.table ≡ unlocked_table host.old.table }
-    // A stop at any moment leaves the old library or the new, with the table.
-    ensures any_moment { AllHoldState requests store.old host.old
-        → LeavesState store.old store.new (λ c. HoldsState requests host.old c ⊎ HoldsState requests host.new c) }
-    ensures each { store.new.stopped ≡ false → AllHoldState requests store.old host.old → AllHoldState requests store.new host.new }
+    ensures renews { Renews store.old store.new host.old host.new }
     // A body that is refused makes no call of the device.
     ensures quiet { IfOk result (λ reply. is_done reply ≡ false → store.new.disk ≡ store.old.disk) }
     ensures going { OnOk result (store.new.stopped ≡ false) }
     ensures stops { OnErr result (store.new.stopped ≡ true) }
-    ensures goes { Goes store.old store.new }
     ensures banks { HasBanks store.new host.new }
 {
     let library = match host.renewal(body) {

@@ -14,8 +14,8 @@ ghost use Rattle.oa_server.specs.Storages.{InMemory};
 
 use crate::Server;
 use crate::clerk::Clerk;
+use crate::grouping::{finish, take};
 use crate::hand::Hand;
-use crate::keeping::{finish, take};
 use crate::storage::Storage;
 use oa_disk::Disk;
 use oa_frame::{Framing, Responder, Served, put_reply, serve};

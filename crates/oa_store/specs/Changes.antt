@@ -1,11 +1,12 @@
 -- What a commit, a checkpoint, an upgrade and a format may leave, each from an image of before to an image of after. All are quantified
 -- over the library and the table that the image of before has.
-use Rattle.std.specs.Prelude.{◌≡◌, ◌≢◌, ◌⊎◌, ℕ, ◌+◌, ◌*◌, ◌-◌, ◌≤◌, List, length, slice_index}
+use Rattle.std.specs.Prelude.{◌≡◌, ◌≢◌, ◌⊎◌, ℕ, ◌+◌, ◌-◌, ◌≤◌, List, length, slice_index}
 use Rattle.oa_disk.specs.Disk.{Torn}
 use Rattle.oa_table.specs.Tables.{TableValue, first_table}
 use Rattle.oa_journal.specs.declared.shape.Shape.{Shape}
 use Rattle.oa_journal.specs.declared.shape.Shape.TheVariants.{One, Two}
 use Rattle.oa_journal.specs.Replays.{Replays}
+use Rattle.oa_journal.specs.Shapes.{disk_bytes}
 use Rattle.oa_journal.specs.Bank.{from_place, IsBank}
 use Rattle.oa_journal.specs.Banks.{first_gate}
 use Rattle.oa_store.specs.Stores.{body_place, head_place, IsStoreAt, IsStoreIn}
@@ -69,6 +70,6 @@ IsFormatting size before library image = ((d : List ℕ) × before d × Torn 0 1
 
 -- the bank of number 0, without groups, and the selector that names it
 pub record HasBank (size : ℕ) (library : List ℕ) (table : TableValue) (gate : ℕ) (image : List ℕ) : Type 0 where
-  pub size_is : 33562624 + 2 * size ≤ length image
+  pub size_is : disk_bytes (Two size) ≤ length image
   pub bank : IsBank (Two size) (from_place (head_place 0) image) (from_place (body_place (Two size) 0) image) library table gate
   pub selector : slice_index image 4096 ≡ 0

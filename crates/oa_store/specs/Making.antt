@@ -1,13 +1,15 @@
 -- What refusals of a format and of an upgrade say.
-use Rattle.std.specs.Prelude.{◌≡◌, ◌↔◌, ℕ, ◌+◌, ◌*◌, ◌<◌, IsTrue, Result, IsErrOf}
+use Rattle.std.specs.Prelude.{◌≡◌, ◌↔◌, ℕ, ◌<◌, IsTrue, Result, IsErrOf}
 use Rattle.oa_disk.specs.declared.disk.Disk.{Ghosts}
+use Rattle.oa_journal.specs.declared.shape.Shape.TheVariants.{Two}
+use Rattle.oa_journal.specs.Shapes.{disk_bytes}
 use Rattle.oa_store.specs.declared.fault.UpgradeFault.{UpgradeFault}
 use Rattle.oa_store.specs.Faults.{IsCausedUpgrade, IsRefusedUpgrade, SaysOld, TellsOld}
 use Rattle.oa_store.specs.Reads.{WritesNothing}
 
 -- One fault is answered exactly where the disk has no room for two bodies of this size, before its first call.
 pub record RefusesSmall {D T E : Type 0} (g : Ghosts D) (small : E) (size : ℕ) (old new : D) (result : Result T E) : Type 0 where
-  pub exactly : IsErrOf result small ↔ (g.size_of old < 33562624 + 2 * size)
+  pub exactly : IsErrOf result small ↔ (g.size_of old < disk_bytes (Two size))
   pub same : IsErrOf result small → new ≡ old
 
 -- A store was not brought to format 2 with bodies of this size. All but the cause is said of a disk that is honest at the end.

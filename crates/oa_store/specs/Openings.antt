@@ -1,13 +1,41 @@
 -- What an opening and an inspection answer of a disk. All is said of one that is honest at the end, but for what stands in memory.
-use Rattle.std.specs.Prelude.{◌≡◌, ℕ, ◌+◌, ◌≤◌, IsTrue, true, false, List, length, Option, Some, None}
+use Rattle.std.specs.Prelude.{◌≡◌, ℕ, ◌+◌, ◌<◌, ◌≤◌, IsTrue, true, false, List, length, Option, Some, None}
+use Rattle.oa_disk.specs.Disk.{Only}
 use Rattle.oa_disk.specs.declared.disk.Disk.{Ghosts}
 use Rattle.oa_image.specs.Tables.{is_numbered}
+use Rattle.oa_journal.specs.Append.{IsAt}
+use Rattle.oa_journal.specs.Shapes.{disk_bytes}
+use Rattle.oa_journal.specs.declared.shape.Shape.TheVariants.{Two}
+use Rattle.oa_store.specs.Calls.{piece_bytes}
 use Rattle.oa_store.specs.declared.fault.OpenFault.{OpenFault}
 use Rattle.oa_store.specs.declared.fault.OpenFault.TheVariants.{LibraryDiffers, OldFormat}
+use Rattle.oa_store.specs.declared.reading.Found.{Found}
 use Rattle.oa_store.specs.declared.store.Store.{Store}
 use Rattle.oa_store.specs.Faults.{IsCaused, ComesOfForeign, SpeaksOfContents, RefusalSays, DeviceTells}
-use Rattle.oa_store.specs.Stores.{IsForeign, IsNewStore, IsStore, IsStoreAt}
+use Rattle.oa_store.specs.Stores.{body_place, head_place, IsForeign, IsNewStore, IsStore, IsStoreAt}
 use Rattle.oa_table.specs.Tables.{TableValue, unlocked_table}
+
+-- The store of this library that a disk has was found, in format 2. Nothing is pending.
+pub record Finds {D : Type 0} (g : Ghosts D) (library : List ℕ) (old new : D) (f : Found) : Type 0 where
+  -- what the contents are a store of
+  pub store : IsTrue (g.is_honest new) → IsStoreAt f.bank.shape f.chosen f.bank.gate library f.table (g.contents old)
+  pub buffer : length f.buffer.items ≡ piece_bytes
+  pub numbered : is_numbered f.table ≡ true
+  pub unlocked : unlocked_table f.table ≡ f.table
+  pub bank : IsAt f.bank.shape (head_place f.chosen) (body_place f.bank.shape f.chosen) f.bank.gate false f.bank
+  pub shape : (size : ℕ) × (f.bank.shape ≡ Two size)
+  pub two : f.chosen < 2
+  pub room : disk_bytes f.bank.shape ≤ g.size_of old
+  pub synced : IsTrue (g.is_honest new) → Only (g.contents old) (g.image new)
+  pub contents : IsTrue (g.is_honest new) → g.contents new ≡ g.contents old
+  pub calls : IsTrue (g.is_honest new) → g.moment new + length library ≤ g.moment old + (20 + f.bank.gate)
+
+-- What the refusal of a disk says, whose library has to be the one that is wanted.
+pub record Refuses {D : Type 0} (g : Ghosts D) (wanted : Option (List ℕ)) (old new : D) (fault : OpenFault) : Type 0 where
+  pub says : IsTrue (g.is_honest new) → RefusalSays wanted (g.size_of old) (g.contents old) fault
+  pub early : IsTrue (g.is_honest new) → IsForeign (g.size_of old) (g.contents old) → ComesOfForeign fault
+  pub cause : IsCaused (g.failures_of old) (g.failures_of new) fault
+  pub tells : IsTrue (g.is_honest new) → DeviceTells (g.contents old) (g.image old) (g.image new) fault
 
 -- A store of this library was opened on the disk, with its table.
 pub record FindsStore {D : Type 0} (g : Ghosts D) (library : List ℕ) (disk : D) (store : Store D g) (table : TableValue) : Type 0 where

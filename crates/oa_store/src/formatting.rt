@@ -9,6 +9,7 @@ ghost use Rattle.oa_table.specs.Tables.{first_table, unlocked_table};
 ghost use Rattle.oa_image.specs.Tables.{is_numbered};
 ghost use Rattle.oa_store.specs.declared.fault.FormatFault.{FormatFault};
 ghost use Rattle.oa_journal.specs.declared.shape.Shape.TheVariants.{Two};
+ghost use Rattle.oa_journal.specs.Shapes.{disk_bytes};
 ghost use Rattle.oa_store.specs.Stores.{IsStoreAt};
 ghost use Rattle.oa_store.specs.Calls.{format_calls};
 ghost use Rattle.oa_store.specs.Changes.{IsFormatting, HasBank};
@@ -17,7 +18,7 @@ ghost use Rattle.oa_journal.specs.Banks.{first_gate};
 
 use crate::FormatFault;
 use crate::head::{SELECTOR, buffer};
-use crate::opening::bank_of;
+use crate::reading::bank_of;
 use oa_disk::{DeviceFault, Disk, flip};
 use oa_journal::Shape;
 use oa_table::Table;
@@ -46,7 +47,7 @@ fn fill<D: Disk>(
     requires some { 0 < length buffer.old }
     requires least { 20971520 ≤ size }
     requires most { size ≤ 1073741824 }
-    requires big { 33562624 + 2 * size ≤ D.size_of disk.old }
+    requires big { disk_bytes (Two size) ≤ D.size_of disk.old }
     requires fits { first_gate library.now table.now < size }
     requires numbered { is_numbered table.now ≡ true }
     ensures any_moment { IsTrue (D.is_honest disk.old) → ((c : List ℕ) → D.image disk.old c → slice_index c 0 ≡ 0)

@@ -14,12 +14,12 @@ ghost use Rattle.oa_store.specs.Stores.{store_bytes, body_place, head_place, IsF
 
 use crate::OpenFault;
 use oa_disk::{DeviceFault, Disk};
-use oa_journal::{BankFault, Head, Shape, read_head};
+use oa_journal::{BankFault, FORMAT_ONE_BYTES, Head, Shape, read_head};
 use oa_model::MAX_LIBRARY_BYTES;
 use std::alloc::{AllocError, Global};
 
 /// The least size of a disk that has a store.
-pub const STORE_BYTES: u64 = 33_562_624;
+pub const STORE_BYTES: u64 = FORMAT_ONE_BYTES;
 
 /// Where the selector stands.
 pub(crate) const SELECTOR: u64 = 4096;
@@ -59,7 +59,7 @@ pub(crate) fn body_place(shape: Shape, bank: u8) -> u64
 {
     match shape {
         Shape::One => 8224 + u64::from(bank) * 16_777_216,
-        Shape::Two(size) => 33_562_624 + u64::from(bank) * u64::from(size),
+        Shape::Two(size) => FORMAT_ONE_BYTES + u64::from(bank) * u64::from(size),
     }
 }
 
@@ -138,10 +138,7 @@ pub(crate) fn find_head<D: Disk>(disk: &mut D) -> Result<(u8, Head), OpenFault>
         → DeviceTells (D.contents disk.old) (D.image disk.old) (D.image disk.new) e) }
     ensures calls { IsTrue (D.is_honest disk.new) → D.moment disk.new ≤ D.moment disk.old + 8 }
 {
-    let chosen = match find_bank(disk) {
-        Ok(chosen) => chosen,
-        Err(fault) => return Err(fault),
-    };
+    let chosen = find_bank(disk)?;
     match read_head(disk, head_place(chosen)) {
         Ok(head) => Ok((chosen, head)),
         Err(BankFault::Damaged(place)) => Err(OpenFault::Damaged(place)),
@@ -185,16 +182,12 @@ pub(crate) fn find_room<D: Disk>(alloc: Global, disk: &mut D) -> Result<Room, Op
         → DeviceTells (D.contents disk.old) (D.image disk.old) (D.image disk.new) e) }
     ensures calls { IsTrue (D.is_honest disk.new) → D.moment disk.new ≤ D.moment disk.old + 8 }
 {
-    let chosen = match find_bank(disk) {
-        Ok(chosen) => chosen,
-        Err(fault) => return Err(fault),
-    };
+    let chosen = find_bank(disk)?;
     let Ok(buffer) = buffer(alloc) else {
         return Err(OpenFault::Memory);
     };
-    let library = match Vec::with_capacity(alloc, MAX_LIBRARY_BYTES) {
-        Ok(library) => library,
-        Err(_) => return Err(OpenFault::Memory),
+    let Ok(library) = Vec::with_capacity(alloc, MAX_LIBRARY_BYTES) else {
+        return Err(OpenFault::Memory);
     };
     match read_head(disk, head_place(chosen)) {
         Ok(head) => Ok(Room {

@@ -12,7 +12,7 @@ ghost use Rattle.oa_store.specs.Changes.{IsCommit, IsCommitted, IsReplacement, I
 ghost use Rattle.oa_store.specs.Reads.{WritesNothing};
 ghost use Rattle.oa_store.specs.Stores.{body_place, head_place};
 
-use crate::opening::find_store;
+use crate::reading::find_store;
 use crate::switching::switch_to;
 use crate::{CheckpointFault, CommitFault, OpenFault};
 use oa_disk::Disk;

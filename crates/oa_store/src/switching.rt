@@ -8,11 +8,12 @@ ghost use Rattle.oa_table.specs.Tables.{unlocked_table};
 ghost use Rattle.oa_journal.specs.Append.{IsAt};
 ghost use Rattle.oa_journal.specs.Banks.{first_gate};
 ghost use Rattle.oa_journal.specs.declared.shape.Shape.TheVariants.{Two};
+ghost use Rattle.oa_journal.specs.Shapes.{disk_bytes};
 ghost use Rattle.oa_store.specs.Changes.{IsMove, IsMoved};
 ghost use Rattle.oa_store.specs.Stores.{body_place, head_place};
 
 use crate::head::SELECTOR;
-use crate::opening::bank_of;
+use crate::reading::bank_of;
 use oa_disk::{DeviceFault, Disk, flip};
 use oa_journal::{Bank, Shape};
 use oa_table::Table;
@@ -33,7 +34,7 @@ pub(crate) fn switch_to<D: Disk>(
     requires most { size ≤ 1073741824 }
     requires fits { first_gate library.now table.now < size }
     requires numbered { is_numbered table.now ≡ true }
-    requires room { 33562624 + 2 * size ≤ D.size_of disk.old }
+    requires room { disk_bytes (Two size) ≤ D.size_of disk.old }
 
     ensures any_moment { IsTrue (D.is_honest disk.old)
         → LeavesStep D.moment D.image_since D.image disk.old disk.new
@@ -49,12 +50,7 @@ pub(crate) fn switch_to<D: Disk>(
 {
     let other = 1 - chosen;
     let mut bank = bank_of(Shape::Two(size), other);
-    match bank.start(disk, buffer, library, table) {
-        Ok(()) => {}
-        Err(fault) => return Err(fault),
-    }
-    match flip(disk, SELECTOR, other) {
-        Ok(()) => Ok(bank),
-        Err(fault) => Err(fault),
-    }
+    bank.start(disk, buffer, library, table)?;
+    flip(disk, SELECTOR, other)?;
+    Ok(bank)
 }

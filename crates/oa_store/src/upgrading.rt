@@ -15,7 +15,7 @@ ghost use Rattle.oa_store.specs.Reads.{WritesNothing};
 ghost use Rattle.oa_store.specs.Stores.{IsForeign, IsStoreAt, IsStoreIn};
 
 use crate::head::{buffer, find_head};
-use crate::opening::look;
+use crate::reading::look;
 use crate::switching::switch_to;
 use crate::{OpenFault, UpgradeFault};
 use oa_disk::Disk;
@@ -113,10 +113,7 @@ pub fn upgrade<D: Disk>(alloc: Global, disk: &mut D, size: u32) -> Result<(), Up
     if disk.size() < Shape::Two(size).disk_bytes() {
         return Err(UpgradeFault::TooSmall);
     }
-    let old = match find_old(alloc, disk) {
-        Ok(old) => old,
-        Err(fault) => return Err(fault),
-    };
+    let old = find_old(alloc, disk)?;
     images_are_counted();
     if old.library.len() > MAX_LIBRARY_BYTES {
         return Err(UpgradeFault::Damaged(0));

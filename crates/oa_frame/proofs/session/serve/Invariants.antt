@@ -3,7 +3,8 @@ use Rattle.std.specs.Prelude.{vec_capacity}
 use Rattle.oa_model.specs.Limits.{max_request_bytes, max_line_characters}
 use Rattle.oa_stream.specs.Ahead.{ahead}
 use Rattle.oa_frame.specs.Framings.{frames}
-use Rattle.oa_frame.specs.Sessions.{SessionSoFar, step}
+use Rattle.oa_frame.specs.Sessions.{step}
+use Rattle.oa_frame.proofs.Sessions.{SessionSoFar}
 use Rattle.oa_frame.proofs.session.serve.Given as goal
 
 abbrev pub invariant-turns : goal.invariant-turns

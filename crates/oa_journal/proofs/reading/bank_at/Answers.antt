@@ -1,4 +1,5 @@
 use Rattle.std.proofs.Common.{◌≡◌, ◌∙◌, ◌+◌, inr, ap, subst, Err, ℕ, List}
+use Rattle.std.proofs.lemmas.Result.{err_from_is_err_and}
 use Rattle.oa_journal.specs.Bank.{from_place}
 use Rattle.oa_journal.specs.Damages.{StopsAt}
 use Rattle.oa_journal.specs.Shapes.{body_bytes}
@@ -6,19 +7,20 @@ use Rattle.oa_journal.specs.declared.bank.BankFault.{BankFault}
 use Rattle.oa_journal.specs.declared.bank.BankFault.TheVariants as banks
 use Rattle.oa_journal.proofs.reading.bank_at.Goals as goal
 
-pub returns-in-Err-read_groups-clause-damaged : goal.returns-in-Err-read_groups-clause-damaged
-returns-in-Err-read_groups-clause-damaged g c at e h =
-    let is : c.in-Err-read_groups.fault ≡ banks.Damaged at = cc in
+pub returns-in_err-table-clause-damaged : goal.returns-in_err-table-clause-damaged
+returns-in_err-table-clause-damaged g c at e h =
+    let p = err_from_is_err_and c.from_residual-in_err-table.result c.from_residual-in_err-table.ensures.1 in
+    let is : c.in_err-table.field-0.0 ≡ banks.Damaged at = cc (rw (p.1, p.2) at e) in
     let h2 = c.read_groups.ensures.after.honest h in
     let h1 = c.read_part.ensures.after.honest h2 in
     let stay = (c.read_part.ensures.reads h2).contents_stay ∙ (c.first_at.ensures.reads h1).contents_stay in
-    let found = c.in-Ok.ensures.found h1 in
-    let l = c.in-Ok.found.0.library in
-    let s = c.in-Ok.found.0.snapshot in
-    let first = c.in-Ok.found.1 in
+    let found = c.in_ok-told.ensures.found h1 in
+    let l = c.in_ok-told.told.library in
+    let s = c.in_ok-told.told.snapshot in
+    let first = c.in_ok-told.first in
     let disk = g.D.Disk.contents c.args.disk.now in
     let mid = g.D.Disk.contents c.read_part.new.disk in
-    let stops = c.in-Err-read_groups.ensures.damaged at (ap (λ (x : BankFault). Err x) is) h in
+    let stops = c.in_err-table.ensures.damaged at (ap (λ (x : BankFault). Err x) is) h in
     let sized = subst (λ (n : ℕ). StopsAt n (from_place c.args.body mid) (l + s) first stops.0) c.body_bytes.ensures stops.2 in
     inr (
       stops.0,

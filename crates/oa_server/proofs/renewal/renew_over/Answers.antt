@@ -9,27 +9,28 @@ use Rattle.oa_server.proofs.Renewing.{at_last, meanwhile, still}
 use Rattle.oa_turn.proofs.Renewing.{replaces}
 use Rattle.oa_server.proofs.renewal.renew_over.Goals as goal
 
-pub returns-in-Answered-clause-any_moment : goal.returns-in-Answered-clause-any_moment
-returns-in-Answered-clause-any_moment g c = still {g = g.D.Disk} (λ d f honest since. g.met.D.Disk.only_now d f honest since) c.args.store.now c.args.host.now c.args.host.now c.args.store.now.disk refl
+pub returns-in-Answered-clause-renews : goal.returns-in-Answered-clause-renews
+returns-in-Answered-clause-renews g c = record {
+  same = search rules;
+  any_moment = still {g = g.D.Disk} (λ d f honest since. g.met.D.Disk.only_now d f honest since) c.args.store.now c.args.host.now c.args.host.now c.args.store.now.disk refl;
+  each = λ going all. all;
+  goes = search rules;
+}
 
-pub returns-in-Ok-clause-any_moment : goal.returns-in-Ok-clause-any_moment
-returns-in-Ok-clause-any_moment g c =
+pub returns-in-Ok-clause-renews : goal.returns-in-Ok-clause-renews
+returns-in-Ok-clause-renews g c =
     let before = c.args.host.now in
     let after = state_of before.bank c.in-Renewed.library before.table in
     let table = c.table.result.now in
     let text = c.text_of.result.now in
     let held = ap unlocked_table c.table.ensures.table in
-    rw c.replace_library.ensures (meanwhile {g = g.D.Disk} c.args.store.now c.checkpoint_with.new.self before after text (first_gate text table) (unlocked_table table) c.text_of.ensures.text held held refl c.checkpoint_with.ensures.leaves.any_moment)
-
-pub returns-in-Ok-clause-each : goal.returns-in-Ok-clause-each
-returns-in-Ok-clause-each g c going =
-    let before = c.args.host.now in
-    let after = state_of before.bank c.in-Renewed.library before.table in
-    let table = c.table.result.now in
-    let text = c.text_of.result.now in
-    let held = ap unlocked_table c.table.ensures.table in
-    rw c.replace_library.ensures (at_last {g = g.D.Disk} c.args.store.now c.checkpoint_with.new.self before after text (first_gate text table) (unlocked_table table) c.text_of.ensures.text held held refl
-    c.checkpoint_with.ensures.goes.shape c.in-Ok.ensures.switches.chosen c.in-Ok.ensures.switches.gate c.in-Ok.ensures.switches.library c.checkpoint_with.ensures.goes.honest c.in-Ok.ensures.leaves.done)
+    rw c.replace_library.ensures (record {
+      same = refl;
+      any_moment = meanwhile {g = g.D.Disk} c.args.store.now c.checkpoint_with.new.self before after text (first_gate text table) (unlocked_table table) c.text_of.ensures.text held held refl c.checkpoint_with.ensures.leaves.any_moment;
+      each = λ going. at_last {g = g.D.Disk} c.args.store.now c.checkpoint_with.new.self before after text (first_gate text table) (unlocked_table table) c.text_of.ensures.text held held refl
+          c.checkpoint_with.ensures.goes.shape c.in-Ok.ensures.switches.chosen c.in-Ok.ensures.switches.gate c.in-Ok.ensures.switches.library c.checkpoint_with.ensures.goes.honest c.in-Ok.ensures.leaves.done;
+      goes = c.checkpoint_with.ensures.goes;
+    })
 
 pub returns-in-Err-Device : goal.returns-in-Err-Device
 returns-in-Err-Device g c =
@@ -42,12 +43,14 @@ returns-in-Err-Device g c =
     record {
       turn = tt;
       failed = (refusal (tag_at c.args.body.now) s_ok None, rw c.replace_library-in-Err-Device.ensures (replaces before c.args.body.now (refusal (tag_at c.args.body.now) s_ok None) c.in-Renewed.library after c.in-Renewed.ensures refl refl), refl);
-      same = rw c.replace_library-in-Err-Device.ensures refl;
-      any_moment = rw c.replace_library-in-Err-Device.ensures (meanwhile {g = g.D.Disk} c.args.store.now c.checkpoint_with.new.self before after text (first_gate text table) (unlocked_table table) c.text_of.ensures.text held held refl c.checkpoint_with.ensures.leaves.any_moment);
-      each = λ going. absurd (true≢false (sym stopped ∙ going));
+      renews = record {
+        same = rw c.replace_library-in-Err-Device.ensures refl;
+        any_moment = rw c.replace_library-in-Err-Device.ensures (meanwhile {g = g.D.Disk} c.args.store.now c.checkpoint_with.new.self before after text (first_gate text table) (unlocked_table table) c.text_of.ensures.text held held refl c.checkpoint_with.ensures.leaves.any_moment);
+        each = λ going. absurd (true≢false (sym stopped ∙ going));
+        goes = c.checkpoint_with.ensures.goes;
+      };
       quiet = tt;
       going = tt;
       stops = stopped;
-      goes = search rules;
       banks = search rules;
     }

@@ -1,4 +1,5 @@
 use Rattle.std.proofs.Common.{inl, ◌-◌, ◌∙◌, List, ℕ, sym, subst, rules}
+use Rattle.std.proofs.lemmas.Result.{err_from_is_err_and}
 use Rattle.oa_disk.specs.Moments.{chained}
 use Rattle.oa_table.specs.Tables.{unlocked_table}
 use Rattle.oa_journal.specs.Banks.{first_gate}
@@ -6,19 +7,19 @@ use Rattle.oa_store.specs.Changes.{IsMove, IsMoved, IsUpgrade}
 use Rattle.oa_store.proofs.Upgraded.{moved, arrived}
 use Rattle.oa_store.proofs.upgrading.upgrade.Goals as goal
 
-pub returns-in-Ok-switch_to-clause-any_moment : goal.returns-in-Ok-switch_to-clause-any_moment
-returns-in-Ok-switch_to-clause-any_moment g c h =
-    let chosen = c.in-Ok.old.chosen in
+pub returns-in-Ok-clause-any_moment : goal.returns-in-Ok-clause-any_moment
+returns-in-Ok-clause-any_moment g c h =
+    let chosen = c.in_ok-old.old.chosen in
     let size = c.args.size in
     let old = c.args.disk.now in
     let mid = c.find_old.new.disk in
     let new = c.switch_to.new.disk in
     let first = g.D.Disk.contents old in
-    let table = c.in-Ok.old.table in
-    let library = c.in-Ok.old.library.items in
+    let table = c.in_ok-old.old.table in
+    let library = c.in_ok-old.old.library.items in
     let h1 = sym c.switch_to.ensures.after.honest ∙ h in
     let h0 = c.find_old.ensures.after.honest h1 in
-    let found = c.in-Ok.ensures.found h1 in
+    let found = c.in_ok-old.ensures.found h1 in
     let reads = c.find_old.ensures.reads h1 in
     let P : List ℕ → Type 0 = λ f. (d : List ℕ) × g.D.Disk.image old d × IsUpgrade size d f in
     chained g.D.Disk.moment g.D.Disk.image_since old mid new (g.D.Disk.image old) _ P reads.moments (c.switch_to.ensures.any_moment h1)
@@ -26,23 +27,23 @@ returns-in-Ok-switch_to-clause-any_moment g c h =
     (λ f step. (
       first,
       g.met.D.Disk.contents_is_image old h0,
-      moved size chosen found.0 (first_gate library table) library table first step.0 f found.1 (c.in-Ok.ensures.synced h1 step.0 step.1)
+      moved size chosen found.0 (first_gate library table) library table first step.0 f found.1 (c.in_ok-old.ensures.synced h1 step.0 step.1)
           (subst (λ (l : List ℕ). IsMove chosen size (first_gate l table) l (unlocked_table table) step.0 f) c.deref.ensures.value step.2),
     ))
 
 pub returns-clause-any_moment : goal.returns-clause-any_moment
 returns-clause-any_moment g c h =
-    let chosen = c.in-Ok.old.chosen in
+    let chosen = c.in_ok-old.old.chosen in
     let size = c.args.size in
     let old = c.args.disk.now in
     let mid = c.find_old.new.disk in
     let new = c.switch_to.new.disk in
     let first = g.D.Disk.contents old in
-    let table = c.in-Ok.old.table in
-    let library = c.in-Ok.old.library.items in
+    let table = c.in_ok-old.old.table in
+    let library = c.in_ok-old.old.library.items in
     let h1 = sym c.switch_to.ensures.after.honest ∙ h in
     let h0 = c.find_old.ensures.after.honest h1 in
-    let found = c.in-Ok.ensures.found h1 in
+    let found = c.in_ok-old.ensures.found h1 in
     let reads = c.find_old.ensures.reads h1 in
     let P : List ℕ → Type 0 = λ f. (d : List ℕ) × g.D.Disk.image old d × IsUpgrade size d f in
     chained g.D.Disk.moment g.D.Disk.image_since old mid new (g.D.Disk.image old) _ P reads.moments (c.switch_to.ensures.any_moment h1)
@@ -50,39 +51,41 @@ returns-clause-any_moment g c h =
     (λ f step. (
       first,
       g.met.D.Disk.contents_is_image old h0,
-      moved size chosen found.0 (first_gate library table) library table first step.0 f found.1 (c.in-Ok.ensures.synced h1 step.0 step.1)
+      moved size chosen found.0 (first_gate library table) library table first step.0 f found.1 (c.in_ok-old.ensures.synced h1 step.0 step.1)
           (subst (λ (l : List ℕ). IsMove chosen size (first_gate l table) l (unlocked_table table) step.0 f) c.deref.ensures.value step.2),
     ))
 
-pub returns-in-Ok-switch_to-clause-done : goal.returns-in-Ok-switch_to-clause-done
-returns-in-Ok-switch_to-clause-done g c h =
-    let chosen = c.in-Ok.old.chosen in
+pub returns-in-Ok-clause-done : goal.returns-in-Ok-clause-done
+returns-in-Ok-clause-done g c h =
+    let chosen = c.in_ok-old.old.chosen in
     let size = c.args.size in
     let old = c.args.disk.now in
     let mid = c.find_old.new.disk in
     let new = c.switch_to.new.disk in
     let first = g.D.Disk.contents old in
-    let table = c.in-Ok.old.table in
-    let library = c.in-Ok.old.library.items in
+    let table = c.in_ok-old.old.table in
+    let library = c.in_ok-old.old.library.items in
     let h1 = sym c.switch_to.ensures.after.honest ∙ h in
     let h0 = c.find_old.ensures.after.honest h1 in
-    let found = c.in-Ok.ensures.found h1 in (
+    let found = c.in_ok-old.ensures.found h1 in (
       library,
       table,
       (chosen, found.0, found.1),
       λ f now.
-          let step = c.in-Ok-switch_to.ensures.done h1 f now in (
+          let step = c.in-Ok.ensures.done h1 f now in (
             1 - chosen,
             first_gate library table,
-            arrived size chosen found.0 (first_gate library table) library table first step.0 f found.1 (c.in-Ok.ensures.synced h1 step.0 step.1)
+            arrived size chosen found.0 (first_gate library table) library table first step.0 f found.1 (c.in_ok-old.ensures.synced h1 step.0 step.1)
                 (subst (λ (l : List ℕ). IsMoved chosen size (first_gate l table) l (unlocked_table table) step.0 f) c.deref.ensures.value step.2),
           ),
     )
 
-pub returns-in-Err-clause-refused : goal.returns-in-Err-clause-refused
-returns-in-Err-clause-refused g c = record {
-  says = λ h. c.in-Err.ensures.says h c.args.size;
-  refused = search rules;
-  cause = search rules;
-  tells = search rules;
-}
+pub returns-in_err-old-clause-refused : goal.returns-in_err-old-clause-refused
+returns-in_err-old-clause-refused g c =
+    let p = err_from_is_err_and c.from_residual.result c.from_residual.ensures.1 in
+    rw (p.1, p.2) (record {
+      says = λ h. c.in_err-old.ensures.says h c.args.size;
+      refused = search rules;
+      cause = search rules;
+      tells = search rules;
+    })

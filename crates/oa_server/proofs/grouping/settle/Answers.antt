@@ -1,5 +1,5 @@
 use Rattle.oa_server.proofs.Settled.{settled, taken_back}
-use Rattle.oa_server.proofs.keeping.settle.Goals as goal
+use Rattle.oa_server.proofs.grouping.settle.Goals as goal
 
 pub returns-in-Err-clause-settled : goal.returns-in-Err-clause-settled
 returns-in-Err-clause-settled g c =

@@ -1,23 +1,19 @@
 //! Reading a store.
-ghost use Rattle.std.specs.Prelude.{◌≡◌, ◌↔◌, ◌+◌, ◌-◌, ◌^◌, ◌<◌, ◌≤◌, ℕ, List, true, false, Some, None, IsTrue, OnOk, IfOk, IfErr};
-ghost use Rattle.std.specs.Prelude.{IsErrOf, length, vec_capacity};
+ghost use Rattle.std.specs.Prelude.{◌≡◌, ◌↔◌, ◌+◌, ◌-◌, ◌<◌, ◌≤◌, true, false, Some, IsTrue, OnOk, IfOk, IfErr};
+ghost use Rattle.std.specs.Prelude.{length, vec_capacity};
 ghost use Rattle.oa_model.specs.Limits.{max_library_bytes};
 ghost use Rattle.oa_disk.specs.After.{AfterCalls};
-ghost use Rattle.oa_disk.specs.Disk.{Only};
 ghost use Rattle.oa_image.specs.Tables.{is_numbered};
 ghost use Rattle.oa_table.specs.Tables.{unlocked_table};
 ghost use Rattle.oa_journal.specs.Append.{IsAt};
-ghost use Rattle.oa_journal.specs.Bank.{from_place, HasHeader, IsBank, HasLibrary};
+ghost use Rattle.oa_journal.specs.Bank.{from_place, IsBank, HasLibrary};
 ghost use Rattle.oa_journal.specs.Damages.{HasNoHeader, IsDamagedBank};
 ghost use Rattle.oa_journal.specs.Shapes.{body_bytes, disk_bytes, IsShape};
-ghost use Rattle.oa_journal.specs.declared.shape.Shape.{Shape as AShape};
-ghost use Rattle.oa_journal.specs.declared.shape.Shape.TheVariants.{Two};
 ghost use Rattle.oa_store.specs.declared.fault.OpenFault.{OpenFault};
-ghost use Rattle.oa_store.specs.Calls.{piece_bytes};
-ghost use Rattle.oa_store.specs.Faults.{ComesOfForeign, ComesOfBanks, IfDamaged, IsCaused, RefusalSays, DeviceTells};
-ghost use Rattle.oa_store.specs.Openings.{FindsAny, RefusesAny};
+ghost use Rattle.oa_store.specs.Faults.{ComesOfBanks, IfDamaged, IsCaused};
+ghost use Rattle.oa_store.specs.Openings.{Finds, FindsAny, Refuses, RefusesAny};
 ghost use Rattle.oa_store.specs.Reads.{WritesNothing};
-ghost use Rattle.oa_store.specs.Stores.{body_place, head_place, IsForeign, IsFormatted, IsStoreAt, IsStore};
+ghost use Rattle.oa_store.specs.Stores.{body_place, head_place};
 
 use crate::OpenFault;
 use crate::head::{Room, body_place, buffer, find_head, find_room, head_place};
@@ -122,38 +118,16 @@ pub(crate) fn find_store<D: Disk>(
     library: &[u8],
 ) -> Result<Found, OpenFault>
     requires short { length library.now ≤ max_library_bytes }
-    // what the contents are a store of
-    ensures found { IfOk result (λ f. IsTrue (D.is_honest disk.new)
-        → IsStoreAt f.bank.shape f.chosen f.bank.gate library.now f.table (D.contents disk.old)) }
+    ensures found { IfOk result (λ f. Finds D.Disk library.now disk.old disk.new f) }
+    // it has room for any other library
     ensures library { IfOk result (λ f. f.library.items ≡ library.now) }
-    // there is room for any other
     ensures library_room { IfOk result (λ f. max_library_bytes ≤ vec_capacity f.library) }
-    ensures buffer { IfOk result (λ f. length f.buffer.items ≡ piece_bytes) }
-    ensures numbered { IfOk result (λ f. is_numbered f.table ≡ true) }
-    ensures unlocked { IfOk result (λ f. unlocked_table f.table ≡ f.table) }
-    ensures bank { IfOk result (λ f. IsAt f.bank.shape (head_place f.chosen) (body_place f.bank.shape f.chosen) f.bank.gate false f.bank) }
-    ensures shape { IfOk result (λ f. (size : ℕ) × (f.bank.shape ≡ Two size)) }
-    ensures two { IfOk result (λ f. f.chosen < 2) }
-    ensures room { IfOk result (λ f. disk_bytes f.bank.shape ≤ D.size_of disk.old) }
-    // nothing is pending, and nothing was written
-    ensures synced { OnOk result (IsTrue (D.is_honest disk.new) → Only (D.contents disk.old) (D.image disk.new)) }
-    ensures contents { OnOk result (IsTrue (D.is_honest disk.new) → D.contents disk.new ≡ D.contents disk.old) }
+    ensures refused { IfErr result (λ e. Refuses D.Disk (Some library.now) disk.old disk.new e) }
+    // nothing was written
     ensures reads { IsTrue (D.is_honest disk.new) → WritesNothing D.image D.moment D.image_since disk.old disk.new }
-    ensures says { IfErr result (λ e. IsTrue (D.is_honest disk.new)
-        → RefusalSays (Some library.now) (D.size_of disk.old) (D.contents disk.old) e) }
-    ensures early { IfErr result (λ e. IsTrue (D.is_honest disk.new) → IsForeign (D.size_of disk.old) (D.contents disk.old)
-        → ComesOfForeign e) }
     ensures after { AfterCalls D.Disk disk.old disk.new result }
-    ensures cause { IfErr result (IsCaused (D.failures_of disk.old) (D.failures_of disk.new)) }
-    ensures tells { IfErr result (λ e. IsTrue (D.is_honest disk.new)
-        → DeviceTells (D.contents disk.old) (D.image disk.old) (D.image disk.new) e) }
-    ensures calls { IfOk result (λ f. IsTrue (D.is_honest disk.new)
-        → D.moment disk.new + length library.now ≤ D.moment disk.old + (20 + f.bank.gate)) }
 {
-    let found = match find_room(alloc, disk) {
-        Ok(found) => found,
-        Err(fault) => return Err(fault),
-    };
+    let found = find_room(alloc, disk)?;
     if let Shape::One = found.head.shape {
         return Err(OpenFault::OldFormat);
     }
@@ -164,24 +138,19 @@ pub(crate) fn find_store<D: Disk>(
         library: mut kept,
     } = found;
     let mut bank = bank_of(head.shape, chosen);
-    let text = match read_library(alloc, disk, &mut bank) {
-        Ok(text) => text,
-        Err(fault) => return Err(fault),
-    };
+    let text = read_library(alloc, disk, &mut bank)?;
     if !same(&text, library) {
         return Err(OpenFault::LibraryDiffers);
     }
     kept.extend_from_slice(library).unwrap();
-    match read_all(alloc, disk, &mut bank, buffer) {
-        Ok((_, table, buffer)) => Ok(Found {
-            library: kept,
-            table,
-            chosen,
-            bank,
-            buffer,
-        }),
-        Err(fault) => Err(fault),
-    }
+    let (_, table, buffer) = read_all(alloc, disk, &mut bank, buffer)?;
+    Ok(Found {
+        library: kept,
+        table,
+        chosen,
+        bank,
+        buffer,
+    })
 }
 
 /// The library and the table of the bank of that number, whose head was found.
@@ -213,10 +182,8 @@ pub(crate) fn look<D: Disk>(
         → D.moment disk.new + length r.0.items ≤ D.moment disk.old + (8 + r.2.gate)) }
 {
     let mut bank = bank_of(shape, chosen);
-    match read_all(alloc, disk, &mut bank, buffer) {
-        Ok((library, table, buffer)) => Ok((library, table, bank, buffer)),
-        Err(fault) => Err(fault),
-    }
+    let (library, table, buffer) = read_all(alloc, disk, &mut bank, buffer)?;
+    Ok((library, table, bank, buffer))
 }
 
 /// The library and the table of the store that is on the disk, whichever library it is, in either format. It writes nothing, and begins
@@ -227,15 +194,10 @@ pub fn inspect<D: Disk>(alloc: Global, disk: &mut D) -> Result<(Vec<u8>, Table),
     ensures reads { IsTrue (D.is_honest disk.new) → WritesNothing D.image D.moment D.image_since disk.old disk.new }
     ensures after { AfterCalls D.Disk disk.old disk.new result }
 {
-    let (chosen, head) = match find_head(disk) {
-        Ok(found) => found,
-        Err(fault) => return Err(fault),
-    };
+    let (chosen, head) = find_head(disk)?;
     let Ok(buffer) = buffer(alloc) else {
         return Err(OpenFault::Memory);
     };
-    match look(alloc, disk, chosen, head.shape, buffer) {
-        Ok((library, table, _, _)) => Ok((library, table)),
-        Err(fault) => Err(fault),
-    }
+    let (library, table, _, _) = look(alloc, disk, chosen, head.shape, buffer)?;
+    Ok((library, table))
 }

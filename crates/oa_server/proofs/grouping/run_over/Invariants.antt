@@ -4,7 +4,7 @@ use Rattle.oa_groups.specs.Going.{Underway}
 use Rattle.oa_server.specs.Answers.{AnswersAfterFault}
 use Rattle.oa_server.specs.Hands.{HasBanks, IsReady, desk}
 use Rattle.oa_server.specs.Requests.{requests}
-use Rattle.oa_server.proofs.keeping.run_over.Given as goal
+use Rattle.oa_server.proofs.grouping.run_over.Given as goal
 
 abbrev pub invariant-bodies : goal.invariant-bodies
 invariant-bodies g l = record {

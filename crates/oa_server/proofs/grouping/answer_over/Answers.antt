@@ -1,7 +1,7 @@
 use Rattle.std.proofs.Common.{rules}
 use Rattle.oa_server.proofs.Answering.{checkpoint_failed, commit_failed, committed}
 use Rattle.oa_server.proofs.Renewing.{answered_apart}
-use Rattle.oa_server.proofs.keeping.answer_over.Goals as goal
+use Rattle.oa_server.proofs.grouping.answer_over.Goals as goal
 
 pub returns-in_default-clause-answered : goal.returns-in_default-clause-answered
 returns-in_default-clause-answered g c =

@@ -1,7 +1,7 @@
 use Rattle.std.proofs.Common.{rules, inl, inr, refl}
 use Rattle.oa_server.specs.Hands.{desk}
 use Rattle.oa_server.proofs.Settled.{held_one}
-use Rattle.oa_server.proofs.keeping.take.Goals as goal
+use Rattle.oa_server.proofs.grouping.take.Goals as goal
 
 pub returns-then-not-is_full-clause-held : goal.returns-then-not-is_full-clause-held
 returns-then-not-is_full-clause-held g c is =

@@ -6,7 +6,7 @@ use Rattle.oa_server.specs.Hands.{desk}
 use Rattle.oa_server.specs.Requests.{requests}
 use Rattle.oa_server.proofs.Late.{late_ended, late_more, late_none}
 use Rattle.oa_server.proofs.Settled.{ready_none}
-use Rattle.oa_server.proofs.keeping.run_over.Goals as goal
+use Rattle.oa_server.proofs.grouping.run_over.Goals as goal
 
 abbrev bytes : Vec ℕ Global → List ℕ
 bytes v = v.items

@@ -1,5 +1,5 @@
 use Rattle.oa_server.proofs.Renewing.{taken_apart}
-use Rattle.oa_server.proofs.keeping.take_apart.Goals as goal
+use Rattle.oa_server.proofs.grouping.take_apart.Goals as goal
 
 pub returns-clause-told : goal.returns-clause-told
 returns-clause-told g c =

@@ -1,0 +1,86 @@
+//! Starting a server over a store: its table has to be one of the library, and small enough for a bank.
+ghost use Rattle.std.specs.Prelude.{◌≡◌, ◌↔◌, ◌≤◌, IsTrue, length, IfOk, IfErr};
+ghost use Rattle.oa_model.specs.Limits.{max_library_bytes};
+ghost use Rattle.oa_canonical.specs.Canonical.{canonical};
+ghost use Rattle.oa_image.specs.Tables.{FitsBank};
+ghost use Rattle.oa_turn.specs.Beginnings.{CanServe};
+ghost use Rattle.oa_server.specs.Openings.{IsNotOpened, IsOpened};
+ghost use Rattle.oa_server.specs.Storages.{OverStore, bank_of};
+
+use crate::Server;
+use oa_canonical::laws::marked_is_read;
+use oa_disk::Disk;
+use oa_fits::fits;
+use oa_idl::laws::one_tree;
+use oa_image::RESERVED_BYTES;
+use oa_image::laws::images_are_counted;
+use oa_store::{OpenFault, Store};
+use oa_table::Table;
+use oa_typelib::Library;
+use std::alloc::Global;
+
+/// The library's text, which is no longer than a library text may be.
+pub(crate) fn text_of(library: &Library) -> &[u8]
+    ensures text { result.now ≡ canonical library.now }
+    ensures short { length result.now ≤ max_library_bytes }
+{
+    library.text()
+}
+
+/// Whether the table's image leaves what has to be free of a bank of this size.
+fn is_small(bank: u32, table: &Table) -> bool
+    ensures { IsTrue result ↔ FitsBank bank table.now }
+{
+    images_are_counted();
+    table.image_size().saturating_add(u64::from(RESERVED_BYTES)) <= u64::from(bank)
+}
+
+/// Whether a server of this library can begin with this table over banks of this size.
+fn can_serve(bank: u32, library: &Library, table: &Table) -> bool
+    ensures { IsTrue result ↔ CanServe bank library.now table.now }
+{
+    fits(library, table) && is_small(bank, table)
+}
+
+/// Opens the store of this library that is on the disk. It writes nothing, and begins with a sync. A refusal hands the disk back; it is
+/// Damaged(0) also where no server of the library can begin with the table over banks of that size.
+pub(crate) fn open_store<D: Disk>(
+    alloc: Global,
+    disk: D,
+    library: &Library,
+) -> Result<(Store<D>, Table), (D, OpenFault)>
+    ensures opened { IfOk result (λ r. IsOpened D.Disk disk library.now r.0 r.1) }
+    ensures refused { IfErr result (λ e. IsNotOpened D.Disk disk e.0 library.now e.1) }
+{
+    one_tree();
+    marked_is_read();
+    library.is_checked();
+    match Store::open(alloc, disk, text_of(library)) {
+        Ok((store, table)) => {
+            if can_serve(store.bank_size(), library, &table) {
+                Ok((store, table))
+            } else {
+                Err((store.into_disk(), OpenFault::Damaged(0)))
+            }
+        }
+        Err(refused) => Err(refused),
+    }
+}
+
+impl<D: Disk> Server<D> {
+    /// Opens the store of this library that is on the disk, and serves its table. It writes nothing, and begins with a sync. A refusal
+    /// hands the disk back; it is Damaged(0) also where the library cannot have the table, or a bank has no room for its image. Locks end
+    /// with a session: the table has none.
+    pub fn open(alloc: Global, disk: D, library: Library) -> Result<Server<D>, (D, OpenFault)>
+        ensures library { IfOk result (λ server. server.clerk.host.library ≡ library) }
+        ensures bank { IfOk result (λ server. server.clerk.host.bank ≡ bank_of server.clerk.storage) }
+        ensures opened { IfOk result (λ server. OverStore server.clerk.storage
+            (λ store. IsOpened D.Disk disk library store server.clerk.host.table)) }
+        ensures refused { IfErr result (λ e. IsNotOpened D.Disk disk e.0 library e.1) }
+    {
+        match open_store(alloc, disk, &library) {
+            Ok((store, table)) => Ok(Server::over_store(alloc, library, table, store)),
+            Err(refused) => Err(refused),
+        }
+    }
+}

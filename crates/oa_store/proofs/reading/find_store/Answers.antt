@@ -1,0 +1,132 @@
+use Rattle.std.proofs.Common.{rules, ◌∙◌, ◌-◌, ℕ, List, length, Some, false, refl, subst, sym, ap, arith}
+use Rattle.std.proofs.lemmas.Result.{err_from_is_err_and}
+use Rattle.oa_journal.specs.declared.bank.Bank.{Bank}
+use Rattle.oa_journal.specs.declared.shape.Shape.{Shape}
+use Rattle.oa_journal.specs.Append.{IsAt}
+use Rattle.oa_journal.specs.Bank.{from_place, IsBank, HasLibrary}
+use Rattle.oa_journal.specs.Damages.{HasNoHeader, IsDamagedBank}
+use Rattle.oa_journal.proofs.Damages.{bank_library, one_library}
+use Rattle.oa_journal.specs.Shapes.{body_bytes}
+use Rattle.oa_store.specs.Faults.{IsDamaged}
+use Rattle.oa_store.specs.Stores.{body_place, head_place, IsStoreAt}
+use Rattle.oa_store.proofs.Opened.{carried, of_library, if_damaged, says_late, spoilt}
+use Rattle.oa_store.proofs.reading.find_store.Goals as goal
+
+pub returns-in_err-found-clause-refused : goal.returns-in_err-found-clause-refused
+returns-in_err-found-clause-refused g c =
+    let p = err_from_is_err_and c.from_residual.result c.from_residual.ensures.1 in
+    rw (p.1, p.2) (record {
+      says = λ h. c.in_err-found.ensures.says h (Some c.args.library.now);
+      early = search rules;
+      cause = search rules;
+      tells = search rules;
+    })
+
+pub returns-in_err-text-clause-refused : goal.returns-in_err-text-clause-refused
+returns-in_err-text-clause-refused g c =
+    let p = err_from_is_err_and c.from_residual-in_err-text.result c.from_residual-in_err-text.ensures.1 in
+    rw (p.1, p.2) (record {
+      early = search rules;
+      cause = search rules;
+      tells = search rules;
+      says = λ h.
+          let h1 = c.read_library.ensures.after.honest h in
+          let contents = g.D.Disk.contents c.args.disk.now in
+          let found = c.in_ok-found.ensures.found h1 in
+          let chosen = c.in_ok-found.found.chosen in
+          let shape = c.in_ok-found.found.head.shape in
+          says_late (Some c.args.library.now) _ contents c.in_err-text.field-0.0 c.in_err-text.ensures.late (if_damaged c.in_err-text.field-0.0 _ (IsDamaged (Some c.args.library.now) contents) (λ at is.
+          let none = carried (λ s x y. HasNoHeader s x) c.bank_of-bank.result shape (head_place chosen) (body_place shape chosen) (body_bytes shape - 1) false (g.D.Disk.contents c.find_room.new.disk) contents c.bank_of-bank.ensures (c.in_ok-found.ensures.contents h1) is.1 in
+          absurd (none c.in_ok-found.found.head.library c.in_ok-found.found.head.snapshot found.1.has)) (c.in_err-text.ensures.damaged h));
+    })
+
+pub returns-in_err-table-clause-refused : goal.returns-in_err-table-clause-refused
+returns-in_err-table-clause-refused g c =
+    let p = err_from_is_err_and c.from_residual-in_err-table.result c.from_residual-in_err-table.ensures.1 in
+    rw (p.1, p.2) (record {
+      early = search rules;
+      cause = search rules;
+      tells = search rules;
+      says = λ h.
+          let h2 = c.read_all.ensures.after.honest h in
+          let h1 = c.read_library.ensures.after.honest h2 in
+          let contents = g.D.Disk.contents c.args.disk.now in
+          let found = c.in_ok-found.ensures.found h1 in
+          let chosen = c.in_ok-found.found.chosen in
+          let shape = c.in_ok-found.found.head.shape in
+          let head = head_place chosen in
+          let body = body_place shape chosen in
+          let first = c.in_ok-found.ensures.contents h1 in
+          let stay = c.read_library.ensures.contents h2 ∙ first in
+          let at0 = c.bank_of-bank.ensures in
+          let at1 = subst (λ (b : Bank). IsAt shape head body (body_bytes shape - 1) false b) (sym c.in_ok-text.ensures.bank) at0 in
+          let text = sym c.deref.ensures.value ∙ c.if-not-same.ensures.0 refl in
+          let has = carried (λ s x y. HasLibrary s x y c.in_ok-text.text.items) c.bank_of-bank.result shape head body (body_bytes shape - 1) false (g.D.Disk.contents c.find_room.new.disk) contents at0 first (c.in_ok-text.ensures.found h2) in
+          let wanted = subst (λ (l : List ℕ). HasLibrary shape (from_place head contents) (from_place body contents) l) text has in
+          says_late (Some c.args.library.now) _ contents c.in_err-table.field-0.0 c.in_err-table.ensures.late (if_damaged c.in_err-table.field-0.0 _ (IsDamaged (Some c.args.library.now) contents) (λ at is.
+          let sized = subst (λ (s : Shape). IsDamagedBank s c.read_library.new.bank.head c.read_library.new.bank.body (g.D.Disk.contents c.read_library.new.disk) at) at1.shape_is is in
+          let headed = subst (λ (k : ℕ). IsDamagedBank shape k c.read_library.new.bank.body (g.D.Disk.contents c.read_library.new.disk) at) at1.head_is sized in
+          let placed = subst (λ (k : ℕ). IsDamagedBank shape head k (g.D.Disk.contents c.read_library.new.disk) at) at1.body_is headed in
+          spoilt (Some c.args.library.now) contents chosen shape c.in_ok-found.found.head.library c.in_ok-found.found.head.snapshot at found.0 found.1 wanted
+          (subst (λ (d : List ℕ). IsDamagedBank shape head body d at) stay placed)) (c.in_err-table.ensures.damaged h));
+    })
+
+pub returns-clause-found : goal.returns-clause-found
+returns-clause-found g c = record {
+  store = λ h.
+      let h2 = c.read_all.ensures.after.honest h in
+      let h1 = c.read_library.ensures.after.honest h2 in
+      let contents = g.D.Disk.contents c.args.disk.now in
+      let found = c.in_ok-found.ensures.found h1 in
+      let chosen = c.in_ok-found.found.chosen in
+      let shape = c.in_ok-found.found.head.shape in
+      let head = head_place chosen in
+      let body = body_place shape chosen in
+      let first = c.in_ok-found.ensures.contents h1 in
+      let stay = c.read_library.ensures.contents h2 ∙ first in
+      let at0 = c.bank_of-bank.ensures in
+      let at1 = subst (λ (b : Bank). IsAt shape head body (body_bytes shape - 1) false b) (sym c.in_ok-text.ensures.bank) at0 in
+      let text = sym c.deref.ensures.value ∙ c.if-not-same.ensures.0 refl in
+      let has = carried (λ s x y. HasLibrary s x y c.in_ok-text.text.items) c.bank_of-bank.result shape head body (body_bytes shape - 1) false (g.D.Disk.contents c.find_room.new.disk) contents at0 first (c.in_ok-text.ensures.found h2) in
+      let bank = carried (λ s x y. IsBank s x y c.in_ok-table.field-0-0.items c.in_ok-table.table c.read_all.new.bank.gate) c.read_library.new.bank shape head body (body_bytes shape - 1) false (g.D.Disk.contents c.read_library.new.disk) contents at1 stay (c.in_ok-table.ensures.found h) in
+      let store : IsStoreAt shape chosen c.read_all.new.bank.gate c.args.library.now c.in_ok-table.table contents = record {
+        head = found.0;
+        room = found.1.room;
+        bank = of_library shape (from_place head contents) (from_place body contents) c.args.library.now c.in_ok-text.text.items c.in_ok-table.field-0-0.items c.in_ok-table.table c.read_all.new.bank.gate text has bank;
+      } in
+      let is = c.in_ok-table.ensures.bank.shape_is ∙ at1.shape_is in
+      subst (λ (s : Shape). IsStoreAt s chosen c.read_all.new.bank.gate c.args.library.now c.in_ok-table.table contents) (sym is) store;
+  buffer = search rules;
+  numbered = search rules;
+  unlocked = search rules;
+  bank = search rules;
+  shape = search rules;
+  two = search rules;
+  room = search rules;
+  synced = search rules;
+  contents = search rules;
+  calls = λ h.
+      let h2 = c.read_all.ensures.after.honest h in
+      let h1 = c.read_library.ensures.after.honest h2 in
+      let contents = g.D.Disk.contents c.args.disk.now in
+      let chosen = c.in_ok-found.found.chosen in
+      let shape = c.in_ok-found.found.head.shape in
+      let head = head_place chosen in
+      let body = body_place shape chosen in
+      let first = c.in_ok-found.ensures.contents h1 in
+      let stay = c.read_library.ensures.contents h2 ∙ first in
+      let at0 = c.bank_of-bank.ensures in
+      let at1 = subst (λ (b : Bank). IsAt shape head body (body_bytes shape - 1) false b) (sym c.in_ok-text.ensures.bank) at0 in
+      let text = sym c.deref.ensures.value ∙ c.if-not-same.ensures.0 refl in
+      let has = carried (λ s x y. HasLibrary s x y c.in_ok-text.text.items) c.bank_of-bank.result shape head body (body_bytes shape - 1) false (g.D.Disk.contents c.find_room.new.disk) contents at0 first (c.in_ok-text.ensures.found h2) in
+      let bank = carried (λ s x y. IsBank s x y c.in_ok-table.field-0-0.items c.in_ok-table.table c.read_all.new.bank.gate) c.read_library.new.bank shape head body (body_bytes shape - 1) false (g.D.Disk.contents c.read_library.new.disk) contents at1 stay (c.in_ok-table.ensures.found h) in
+      let read = c.in_ok-table.field-0-0.items in
+      let same = one_library shape (from_place head contents) (from_place body contents) read c.in_ok-text.text.items (bank_library shape (from_place head contents) (from_place body contents) read c.in_ok-table.table c.read_all.new.bank.gate bank) has in
+      omega (
+        arith,
+        ap length (same ∙ text),
+        c.in_ok-found.ensures.calls h1,
+        c.in_ok-text.ensures.calls h2,
+        c.in_ok-table.ensures.calls h,
+      );
+}

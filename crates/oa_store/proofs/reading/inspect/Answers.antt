@@ -1,0 +1,59 @@
+use Rattle.std.proofs.Common.{None, List, ℕ, subst, arith, rules}
+use Rattle.std.proofs.lemmas.Result.{err_from_is_err_and}
+use Rattle.oa_journal.specs.Bank.{from_place, IsBank}
+use Rattle.oa_journal.specs.Damages.{IsDamagedBank}
+use Rattle.oa_store.specs.Faults.{IsDamaged}
+use Rattle.oa_store.specs.Stores.{body_place, head_place}
+use Rattle.oa_store.proofs.Opened.{if_damaged, says_late, spoilt}
+use Rattle.oa_store.proofs.reading.inspect.Goals as goal
+
+pub returns-in_err-chosen-clause-refused : goal.returns-in_err-chosen-clause-refused
+returns-in_err-chosen-clause-refused g c =
+    let p = err_from_is_err_and c.from_residual.result c.from_residual.ensures.1 in
+    rw (p.1, p.2) (record {
+      says = λ h. c.in_err-chosen.ensures.says h None;
+      early = search rules;
+      any_library = search rules;
+      any_format = search rules;
+      cause = search rules;
+      tells = search rules;
+    })
+
+pub returns-in_err-library-clause-refused : goal.returns-in_err-library-clause-refused
+returns-in_err-library-clause-refused g c =
+    let p = err_from_is_err_and c.from_residual-in_err-library.result c.from_residual-in_err-library.ensures.1 in
+    rw (p.1, p.2) (record {
+      early = search rules;
+      any_library = search rules;
+      any_format = search rules;
+      cause = search rules;
+      tells = search rules;
+      says = λ h.
+          let size = g.D.Disk.size_of c.args.disk.now in
+          let contents = g.D.Disk.contents c.args.disk.now in
+          let h1 = c.look.ensures.after.honest h in
+          let found = c.in_ok-chosen.ensures.found h1 in
+          let stay = c.in_ok-chosen.ensures.contents h1 in
+          let chosen = c.in_ok-chosen.chosen in
+          let head = c.in_ok-chosen.head in
+          says_late None size contents c.in_err-library.field-0.0 c.in_err-library.ensures.late (if_damaged c.in_err-library.field-0.0 _ (IsDamaged None contents)
+          (λ at is. spoilt None contents chosen head.shape head.library head.snapshot at found.0 found.1 tt
+          (subst (λ (d : List ℕ). IsDamagedBank head.shape (head_place chosen) (body_place head.shape chosen) d at) stay is)) (c.in_err-library.ensures.damaged h));
+    })
+
+pub returns-clause-found : goal.returns-clause-found
+returns-clause-found g c = record {
+  found = search rules;
+  contents = search rules;
+  numbered = search rules;
+  unlocked = search rules;
+  calls = λ h.
+      let h1 = c.look.ensures.after.honest h in
+      let found = c.in_ok-chosen.ensures.found h1 in
+      let stay = c.in_ok-chosen.ensures.contents h1 in
+      let chosen = c.in_ok-chosen.chosen in
+      let shape = c.in_ok-chosen.head.shape in
+      let gate = c.in_ok-library.field-0-2.gate in
+      let bank = subst (λ (d : List ℕ). IsBank shape (from_place (head_place chosen) d) (from_place (body_place shape chosen) d) c.in_ok-library.library.items c.in_ok-library.table gate) stay (c.in_ok-library.ensures.found h) in
+      ((shape, (chosen, gate, record { head = found.0; room = found.1.room; bank = bank })), omega (arith, c.in_ok-chosen.ensures.calls h1, c.in_ok-library.ensures.calls h));
+}

@@ -1,5 +1,5 @@
 -- The disks that the commands on a store answer or read.
-use Rattle.std.specs.Prelude.{◌≡◌, ℕ, IsTrue, List, max, min}
+use Rattle.std.specs.Prelude.{ℕ, IsTrue, List, max, min}
 use Rattle.oa_canonical.specs.Canonical.{canonical}
 use Rattle.oa_checks.specs.IsLibrary.{IsLibrary}
 use Rattle.oa_disk.specs.declared.disk.Disk.{Ghosts}

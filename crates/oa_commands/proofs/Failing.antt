@@ -1,12 +1,12 @@
 -- Each status tells of a failure.
-use Rattle.std.proofs.Common.{◌≤◌, Result, Ok, Err, arith}
+use Rattle.std.proofs.Common.{◌≤◌, arith}
 use Rattle.oa_idl.specs.declared.stop.ParseError.{ParseError}
 use Rattle.oa_idl.specs.declared.stop.ParseError.TheVariants as parsing
 use Rattle.oa_checks.specs.declared.fault.CheckError.{CheckError}
 use Rattle.oa_checks.specs.declared.fault.CheckError.TheVariants as checking
 use Rattle.oa_commands.specs.declared.fault.Fault.{Fault}
 use Rattle.oa_commands.specs.declared.fault.Fault.TheVariants as faults
-use Rattle.oa_commands.specs.Statuses.{TellsFailure, status_of, status_of_text, status_of_tree}
+use Rattle.oa_commands.specs.Statuses.{status_of, status_of_text, status_of_tree}
 
 text_fails : (error : ParseError) → 1 ≤ status_of_text error
 text_fails (parsing.Syntax at) = omega arith
@@ -48,7 +48,3 @@ fails (faults.BadHex line) = omega arith
 fails faults.Read = omega arith
 fails faults.Write = omega arith
 fails faults.Memory = omega arith
-
-pub tells : {T : Type 0} (result : Result T Fault) → TellsFailure result
-tells (Ok x) = tt
-tells (Err fault) = fails fault

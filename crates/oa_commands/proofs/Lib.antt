@@ -1,1 +1,2 @@
+pub mod Dumped
 pub mod Failing

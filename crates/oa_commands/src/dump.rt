@@ -1,56 +1,98 @@
 //! The objects of a store as lines of text.
-ghost use Rattle.std.specs.Prelude.{◌≡◌, false, OnOk};
-ghost use Rattle.oa_commands.specs.Statuses.{TellsFailure};
+ghost use Rattle.std.specs.Prelude.{◌≡◌, ℕ, List, false, IfErr, IfOk, OnOk};
+ghost use Rattle.std.specs.List.{flat_map};
+ghost use Rattle.std.specs.String.{string_bytes};
+ghost use Rattle.oa_commands.specs.Dumps.{cell_line, cell_place, cell_start, dump, key_digits, next_line, object_line, table_lines, value_digits};
+ghost use Rattle.oa_commands.specs.Statuses.{IsOfDump, IsOfWriting, status_of};
+ghost use Rattle.oa_commands.specs.Stores.{WasRead};
+ghost use Rattle.oa_stream.specs.Sink.{IsHandedOn, Writes};
+ghost use Rattle.oa_table.specs.Tables.{TableValue};
 
 use crate::fault::Fault;
 use crate::store::found;
-use crate::streams::{Streams, write};
+use oa_disk::{Disk, FileDisk};
 use oa_frame::put_hex;
 use oa_image::{write_key, write_value};
 use oa_store::inspect;
-use oa_stream::{Behind, Outlet, Sink};
+use oa_stream::Sink;
 use oa_table::{LiveObject, Place, Table};
 use oa_variant::{Scalar, Variant};
-use std::alloc::Global;
-use std::io;
+use std::alloc::{AllocError, Global};
+use uuid::Uuid;
 
-/// Writes the objects of a store and their cells on standard output, a line each, or the bytes of its library in their place. Nothing is
-/// written of a file that is refused.
-#[tactic(auto, using(crate::proofs::Failing::tells))]
-pub fn write_dump(rt: &HostRuntime, path: &str, library: bool) -> Result<(), Fault>
-    ensures { TellsFailure result }
+/// Writes the objects of a store and their cells, a line each, or the bytes of its library in their place, and hands them on. Nothing is
+/// written of a file that is refused, and the file is let go before.
+pub fn write_dump<W: Sink>(
+    rt: &HostRuntime,
+    path: &str,
+    library: bool,
+    writer: &mut W,
+) -> Result<(), Fault>
+    requires unbroken { (W.out writer.old).broken ≡ false }
+    ensures written { OnOk result ((text : List ℕ) × (table : TableValue) × WasRead ⟦<FileDisk as Disk>⟧ text table
+        × Writes (W.out writer.old) (W.out writer.new) (dump library text table)) }
+    ensures handed_on { OnOk result (IsHandedOn (W.out writer.new)) }
+    ensures refused { IfErr result IsOfDump }
+    ensures nothing { IfErr result (λ fault. status_of fault ≡ 3 → W.out writer.new ≡ W.out writer.old) }
 {
-    let _streams = Streams::new(rt);
-    let (text, table) = kept(rt, path)?;
-    if library {
-        return write(rt, &text);
-    }
-    write_table(rt, &table)
+    let alloc = rt.alloc();
+    let (text, table) = kept(rt, alloc, path)?;
+    put_dump(alloc, &text, &table, library, writer)
 }
 
 /// The library and the table that a store keeps.
-fn kept(rt: &HostRuntime, path: &str) -> Result<(Vec<u8>, Table), Fault> {
-    let alloc = rt.alloc();
+fn kept(rt: &HostRuntime, alloc: Global, path: &str) -> Result<(Vec<u8>, Table), Fault>
+    ensures read { IfOk result (λ r. WasRead ⟦<FileDisk as Disk>⟧ r.0.items r.1) }
+    ensures refused { IfErr result IsOfDump }
+{
     let mut disk = found(rt, alloc, path)?;
     Ok(inspect(alloc, &mut disk)?)
 }
 
-/// Writes a table on standard output.
-fn write_table(rt: &HostRuntime, table: &Table) -> Result<(), Fault> {
-    let alloc = rt.alloc();
-    let mut writer = Behind::new(alloc, Outlet::new(io::writer(rt)))?;
-    put_table(alloc, table, &mut writer)?;
+/// Writes the lines of a table, or a library in their place, and hands them on.
+fn put_dump<W: Sink>(
+    alloc: Global,
+    text: &[u8],
+    table: &Table,
+    library: bool,
+    writer: &mut W,
+) -> Result<(), Fault>
+    requires unbroken { (W.out writer.old).broken ≡ false }
+    ensures written { OnOk result (Writes (W.out writer.old) (W.out writer.new) (dump library text.now table.now)) }
+    ensures handed_on { OnOk result (IsHandedOn (W.out writer.new)) }
+    ensures refused { IfErr result IsOfWriting }
+{
+    put_either(alloc, text, table, library, writer)?;
     writer.deliver()?;
     Ok(())
 }
 
-/// The lines of a table. Of its cells one image at a time is kept.
+/// Writes a library or the lines of a table.
+fn put_either<W: Sink>(
+    alloc: Global,
+    text: &[u8],
+    table: &Table,
+    library: bool,
+    writer: &mut W,
+) -> Result<(), Fault>
+    requires unbroken { (W.out writer.old).broken ≡ false }
+    ensures written { OnOk result (Writes (W.out writer.old) (W.out writer.new) (dump library text.now table.now)) }
+    ensures refused { IfErr result IsOfWriting }
+{
+    if library {
+        writer.put(text)?;
+        return Ok(());
+    }
+    put_table(alloc, table, writer)
+}
+
+/// Writes a table: its next number, and its objects, each with its cells. Of these one image at a time is kept.
 fn put_table<W: Sink>(alloc: Global, table: &Table, writer: &mut W) -> Result<(), Fault>
     requires unbroken { (W.out writer.old).broken ≡ false }
-    ensures unbroken { OnOk result ((W.out writer.new).broken ≡ false) }
+    ensures written { OnOk result (Writes (W.out writer.old) (W.out writer.new) (table_lines table.now)) }
+    ensures refused { IfErr result IsOfWriting }
 {
-    let next = format!(in alloc; "next {}\n", table.next())?;
-    writer.put(next.as_bytes())?;
+    writer.put(next_line(alloc, table.next())?.as_bytes())?;
     let mut image = Vec::new(alloc);
     'objects: for (number, object) in table.objects() {
         put_object(alloc, *number, object, writer)?;
@@ -59,7 +101,16 @@ fn put_table<W: Sink>(alloc: Global, table: &Table, writer: &mut W) -> Result<()
     Ok(())
 }
 
+/// The line of the next number.
+#[tactic(auto, unfolding(crate::specs::Dumps::next_line))]
+fn next_line(alloc: Global, next: u32) -> Result<String, AllocError>
+    ensures { IfOk result (λ line. string_bytes line ≡ next_line next) }
+{
+    format!(in alloc; "next {next}\n")
+}
+
 /// The line of an object.
+#[tactic(auto, unfolding(crate::specs::Dumps::object_line))]
 fn put_object<W: Sink>(
     alloc: Global,
     number: u32,
@@ -67,7 +118,8 @@ fn put_object<W: Sink>(
     writer: &mut W,
 ) -> Result<(), Fault>
     requires unbroken { (W.out writer.old).broken ≡ false }
-    ensures unbroken { OnOk result ((W.out writer.new).broken ≡ false) }
+    ensures written { OnOk result (Writes (W.out writer.old) (W.out writer.new) (object_line number object.now)) }
+    ensures refused { IfErr result IsOfWriting }
 {
     let head = format!(in alloc; "object {number} {}\n", object.class())?;
     writer.put(head.as_bytes())?;
@@ -82,7 +134,8 @@ fn put_cells<W: Sink>(
     writer: &mut W,
 ) -> Result<(), Fault>
     requires unbroken { (W.out writer.old).broken ≡ false }
-    ensures unbroken { OnOk result ((W.out writer.new).broken ≡ false) }
+    ensures written { OnOk result (Writes (W.out writer.old) (W.out writer.new) (flat_map cell_line object.now.cells)) }
+    ensures refused { IfErr result IsOfWriting }
 {
     'cells: for (place, value) in object.cells() {
         put_place(alloc, place, image, writer)?;
@@ -99,17 +152,28 @@ fn put_place<W: Sink>(
     writer: &mut W,
 ) -> Result<(), Fault>
     requires unbroken { (W.out writer.old).broken ≡ false }
-    ensures unbroken { OnOk result ((W.out writer.new).broken ≡ false) }
+    ensures written { OnOk result (Writes (W.out writer.old) (W.out writer.new) (cell_place place.now)) }
+    ensures refused { IfErr result IsOfWriting }
 {
-    let head = format!(in alloc; "cell {} {} ", place.interface(), place.dispid())?;
-    writer.put(head.as_bytes())?;
+    let start = cell_start(alloc, place.interface(), place.dispid())?;
+    writer.put(start.as_bytes())?;
     put_key(place.key(), image, writer)
 }
 
+/// What stands before a cell's key.
+#[tactic(auto, unfolding(crate::specs::Dumps::cell_start))]
+fn cell_start(alloc: Global, interface: Uuid, dispid: i32) -> Result<String, AllocError>
+    ensures { IfOk result (λ start. string_bytes start ≡ cell_start interface dispid) }
+{
+    format!(in alloc; "cell {interface} {dispid} ")
+}
+
 /// A key as digits.
+#[tactic(auto, unfolding(crate::specs::Dumps::key_digits))]
 fn put_key<W: Sink>(key: &[Scalar], image: &mut Vec<u8>, writer: &mut W) -> Result<(), Fault>
     requires unbroken { (W.out writer.old).broken ≡ false }
-    ensures unbroken { OnOk result ((W.out writer.new).broken ≡ false) }
+    ensures written { OnOk result (Writes (W.out writer.old) (W.out writer.new) (key_digits key.now)) }
+    ensures refused { IfErr result IsOfWriting }
 {
     if key.is_empty() {
         writer.put(b"-")?;
@@ -122,9 +186,11 @@ fn put_key<W: Sink>(key: &[Scalar], image: &mut Vec<u8>, writer: &mut W) -> Resu
 }
 
 /// The rest of a cell's line.
+#[tactic(auto, unfolding(crate::specs::Dumps::value_digits))]
 fn put_value<W: Sink>(value: &Variant, image: &mut Vec<u8>, writer: &mut W) -> Result<(), Fault>
     requires unbroken { (W.out writer.old).broken ≡ false }
-    ensures unbroken { OnOk result ((W.out writer.new).broken ≡ false) }
+    ensures written { OnOk result (Writes (W.out writer.old) (W.out writer.new) (value_digits value.now)) }
+    ensures refused { IfErr result IsOfWriting }
 {
     image.clear();
     write_value(value, image)?;

@@ -1,6 +1,6 @@
 //! What ends the program early: one line on standard error, and a status.
-ghost use Rattle.std.specs.Prelude.{◌≡◌};
-ghost use Rattle.oa_commands.specs.Statuses.{status_of};
+ghost use Rattle.std.specs.Prelude.{◌≡◌, ◌≤◌};
+ghost use Rattle.oa_commands.specs.Statuses.{of_device, of_format, of_opening, of_upgrade, status_of};
 ghost use Rattle.oa_commands.specs.declared.fault.Fault.TheVariants as faults;
 
 use crate::place::Place;
@@ -88,9 +88,11 @@ pub enum Fault {
 
 impl Fault {
     /// 1 for a file, a device, a reader or a writer, 2 for a command line or a library, 3 for a store, 4 for a record, 5 for want of
-    /// memory.
+    /// memory; never that of success.
+    #[tactic(auto, using(crate::proofs::Failing::fails))]
     pub fn status(&self) -> u8
-        ensures { result ≡ status_of self.now }
+        ensures value { result ≡ status_of self.now }
+        ensures fails { 1 ≤ result }
     {
         match self {
             Fault::CannotRead(_)
@@ -128,6 +130,8 @@ impl From<AllocError> for Fault {
 }
 
 impl<T: Drop> From<AllocFailed<T>> for Fault {
+    ghost from_gives = { λ _ e. e ≡ faults.Memory };
+
     fn from(_e: AllocFailed<T>) -> Fault {
         Fault::Memory
     }
@@ -158,6 +162,8 @@ impl From<Unwritten> for Fault {
 }
 
 impl From<DeviceFault> for Fault {
+    ghost from_gives = { λ f e. e ≡ of_device f };
+
     fn from(e: DeviceFault) -> Fault {
         match e {
             DeviceFault::Write => Fault::DeviceWrite,
@@ -167,6 +173,8 @@ impl From<DeviceFault> for Fault {
 }
 
 impl From<FormatFault> for Fault {
+    ghost from_gives = { λ f e. e ≡ of_format f };
+
     fn from(e: FormatFault) -> Fault {
         match e {
             FormatFault::TooSmall => Fault::TooSmall,
@@ -177,6 +185,8 @@ impl From<FormatFault> for Fault {
 }
 
 impl From<OpenFault> for Fault {
+    ghost from_gives = { λ f e. e ≡ of_opening f };
+
     fn from(e: OpenFault) -> Fault {
         match e {
             OpenFault::NotAStore => Fault::NotAStore,
@@ -190,6 +200,8 @@ impl From<OpenFault> for Fault {
 }
 
 impl From<UpgradeFault> for Fault {
+    ghost from_gives = { λ f e. e ≡ of_upgrade f };
+
     fn from(e: UpgradeFault) -> Fault {
         match e {
             UpgradeFault::TooSmall => Fault::TooSmall,

@@ -1,7 +1,8 @@
 //! The commands on a library's text and on a store's file, what they print, and what ends the program early: one line and a status.
 //!
-//! Its contract: it is safe and total, each fault has the status of one table, and none of them is that of success (`status_of`). What the
-//! commands print and their calls of the system are tested (`cli/`).
+//! Its contract: `format_store` answers a disk of which each image is the new store (`IsNew`), `upgrade_store` one that is renewed
+//! (`IsRenewed`), and `write_dump` writes the lines of what a disk was read as (`dump`). Each fault has the status of one table
+//! (`status_of`), and none of them is that of success. Which file a path names, and the calls of the system, are tested (`cli/`).
 //!
 //! What stands on it: the program.
 #![tactic(auto)]
@@ -21,6 +22,6 @@ pub use fault::Fault;
 pub use library::{STANDARD_INPUT, read_library};
 pub use place::Place;
 pub use store::{LEAST_BANK, MOST_BANK, format_store, found};
-pub use streams::Streams;
+pub use streams::{Streams, tell};
 pub use text::write_text;
 pub use upgrade::upgrade_store;

@@ -1,6 +1,7 @@
 //! Texts of libraries, and the libraries that they stand for.
 ghost use Rattle.std.specs.Prelude.{◌≤◌, length, IfSome};
-ghost use Rattle.std.specs.Prelude.{IfErr};
+ghost use Rattle.std.specs.Prelude.{ℕ, List, IfErr, IfOk};
+ghost use Rattle.oa_checks.specs.IsLibrary.{IsLibrary};
 ghost use Rattle.oa_commands.specs.Statuses.{IsBeforeStores};
 
 use crate::fault::Fault;
@@ -35,14 +36,16 @@ pub(crate) fn read_text(rt: &HostRuntime, alloc: Global, path: &str) -> Result<S
 
 /// The library of a file or of standard input.
 pub fn read_library(rt: &HostRuntime, alloc: Global, path: &str) -> Result<Library, Fault>
-    ensures { IfErr result IsBeforeStores }
+    ensures read { IfOk result (λ library. (text : List ℕ) × IsLibrary text library) }
+    ensures refused { IfErr result IsBeforeStores }
 {
     library_of(alloc, &read_text(rt, alloc, path)?)
 }
 
 /// The library that a text stands for.
 pub(crate) fn library_of(alloc: Global, text: &str) -> Result<Library, Fault>
-    ensures { IfErr result IsBeforeStores }
+    ensures read { IfOk result (λ library. IsLibrary text.now library) }
+    ensures refused { IfErr result IsBeforeStores }
 {
     Ok(check(alloc, parse(alloc, text)?)?)
 }

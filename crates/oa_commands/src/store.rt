@@ -1,12 +1,13 @@
 //! Files that hold a store.
-ghost use Rattle.std.specs.Prelude.{◌≤◌, IfErr};
-ghost use Rattle.oa_commands.specs.Statuses.{IsBeforeStores, TellsFailure};
+ghost use Rattle.std.specs.Prelude.{◌≤◌, IfErr, IfOk};
+ghost use Rattle.oa_commands.specs.Statuses.{IsBeforeStores, IsOfFormat};
+ghost use Rattle.oa_commands.specs.Stores.{IsNew, bank_near};
+ghost use Rattle.oa_disk.specs.After.{BeginsHonest};
 
 use crate::fault::Fault;
 use crate::library::{read_library, unread};
 use crate::shown::shown_name;
-use crate::streams::{Streams, write};
-use oa_disk::FileDisk;
+use oa_disk::{Disk, FileDisk};
 use oa_store::STORE_BYTES;
 use std::alloc::Global;
 use std::fs::OpenOptions;
@@ -24,48 +25,54 @@ pub(crate) fn store_bytes(bank: u32) -> u64 {
     STORE_BYTES + 2 * u64::from(bank)
 }
 
-/// Makes a file the store of a library, without objects, with banks of so many bytes, and says so. A file that is not there is made; one
+/// Makes a file the store of a library, without objects, with banks of so many bytes, and answers it. A file that is not there is made; one
 /// that is there is used in its own length, and what it held is gone.
-#[tactic(auto, using(crate::proofs::Failing::tells))]
-pub fn format_store(rt: &HostRuntime, path: &str, library: &str, bank: u32) -> Result<(), Fault>
-    ensures { TellsFailure result }
+pub fn format_store(
+    rt: &HostRuntime,
+    path: &str,
+    library: &str,
+    bank: u32,
+) -> Result<FileDisk, Fault>
+    ensures new { IfOk result (IsNew ⟦<FileDisk as Disk>⟧ (bank_near bank)) }
+    ensures refused { IfErr result IsOfFormat }
 {
-    let _streams = Streams::new(rt);
-    make_store(rt, path, library, bank.clamp(LEAST_BANK, MOST_BANK))?;
-    write(rt, b"formatted\n")
+    made_store(rt, path, library, bank.clamp(LEAST_BANK, MOST_BANK))
 }
 
-/// Makes a file the store of a library, without objects.
-fn make_store(rt: &HostRuntime, path: &str, library: &str, bank: u32) -> Result<(), Fault>
+/// The same with banks of a size that they can have.
+fn made_store(rt: &HostRuntime, path: &str, library: &str, bank: u32) -> Result<FileDisk, Fault>
     requires least { 20971520 ≤ bank }
     requires most { bank ≤ 1073741824 }
+    ensures new { IfOk result (IsNew ⟦<FileDisk as Disk>⟧ bank) }
+    ensures refused { IfErr result IsOfFormat }
 {
     let alloc = rt.alloc();
     let library = read_library(rt, alloc, library)?;
     let mut disk = found_or_made(rt, alloc, path, store_bytes(bank))?;
     oa_store::format(alloc, &mut disk, library.text(), bank)?;
-    Ok(())
+    Ok(disk)
 }
 
 /// The file of a store that is there. No other process has it from then on, until the disk goes.
 pub fn found(rt: &HostRuntime, alloc: Global, path: &str) -> Result<FileDisk, Fault>
-    ensures { IfErr result IsBeforeStores }
+    ensures begins { IfOk result (BeginsHonest ⟦<FileDisk as Disk>⟧) }
+    ensures refused { IfErr result IsBeforeStores }
 {
     opened(rt, path).map_err(|error| unopened(alloc, &error, path))
 }
 
 /// A file as a disk, from whatever beginning it has.
-fn opened(rt: &HostRuntime, path: &str) -> io::Result<FileDisk> {
+fn opened(rt: &HostRuntime, path: &str) -> io::Result<FileDisk>
+    ensures { IfOk result (BeginsHonest ⟦<FileDisk as Disk>⟧) }
+{
     FileDisk::over(OpenOptions::new().read(true).write(true).open(rt, path)?)
 }
 
 /// The file of a store, made with so many bytes where it is not there.
-fn found_or_made(
-    rt: &HostRuntime,
-    alloc: Global,
-    path: &str,
-    size: u64,
-) -> Result<FileDisk, Fault> {
+fn found_or_made(rt: &HostRuntime, alloc: Global, path: &str, size: u64) -> Result<FileDisk, Fault>
+    ensures begins { IfOk result (BeginsHonest ⟦<FileDisk as Disk>⟧) }
+    ensures refused { IfErr result IsBeforeStores }
+{
     match opened(rt, path) {
         Err(error) if error.kind() == ErrorKind::NotFound => made(rt, alloc, path, size),
         found => found.map_err(|error| unopened(alloc, &error, path)),
@@ -73,7 +80,10 @@ fn found_or_made(
 }
 
 /// A new file for a store, of so many zeros.
-fn made(rt: &HostRuntime, alloc: Global, path: &str, size: u64) -> Result<FileDisk, Fault> {
+fn made(rt: &HostRuntime, alloc: Global, path: &str, size: u64) -> Result<FileDisk, Fault>
+    ensures begins { IfOk result (BeginsHonest ⟦<FileDisk as Disk>⟧) }
+    ensures refused { IfErr result IsBeforeStores }
+{
     FileDisk::create(rt, path, size).map_err(|error| unwritten(alloc, &error, path))
 }
 
@@ -98,7 +108,9 @@ pub(crate) fn in_use(alloc: Global, path: &str) -> Fault
 }
 
 /// Why the file of a store was not made, or not lengthened.
-pub(crate) fn unwritten(alloc: Global, error: &io::Error, path: &str) -> Fault {
+pub(crate) fn unwritten(alloc: Global, error: &io::Error, path: &str) -> Fault
+    ensures { IsBeforeStores result }
+{
     if error.kind() == ErrorKind::OutOfMemory {
         return Fault::Memory;
     }

@@ -1,11 +1,11 @@
 //! Bringing the file of a store to format 2.
-ghost use Rattle.std.specs.Prelude.{◌≤◌};
-ghost use Rattle.oa_commands.specs.Statuses.{TellsFailure};
+ghost use Rattle.std.specs.Prelude.{◌≤◌, IfErr, IfOk};
+ghost use Rattle.oa_commands.specs.Statuses.{IsBeforeStores, IsOfUpgrade};
+ghost use Rattle.oa_commands.specs.Stores.{IsRenewed, bank_near};
 
 use crate::fault::Fault;
 use crate::store::{LEAST_BANK, MOST_BANK, found, store_bytes, unopened, unwritten};
-use crate::streams::{Streams, write};
-use oa_disk::FileDisk;
+use oa_disk::{Disk, FileDisk};
 use oa_store::{OpenFault, Store, inspect};
 use std::alloc::Global;
 use std::fs::{File, OpenFile, OpenOptions};
@@ -15,33 +15,35 @@ use std::os::unix::fs::FileExt;
 /// How many zeros are written in one call.
 const PIECE: usize = 65_536;
 
-/// Brings a store of format 1 to format 2, with banks of so many bytes, and says so. A file that is too short for it is lengthened.
-#[tactic(auto, using(crate::proofs::Failing::tells))]
-pub fn upgrade_store(rt: &HostRuntime, path: &str, bank: u32) -> Result<(), Fault>
-    ensures { TellsFailure result }
+/// Brings a store of format 1 to format 2, with banks of so many bytes, and answers its file. One that is too short for it is lengthened.
+pub fn upgrade_store(rt: &HostRuntime, path: &str, bank: u32) -> Result<FileDisk, Fault>
+    ensures renewed { IfOk result (IsRenewed ⟦<FileDisk as Disk>⟧ (bank_near bank)) }
+    ensures refused { IfErr result IsOfUpgrade }
 {
-    let _streams = Streams::new(rt);
-    renew(rt, path, bank.clamp(LEAST_BANK, MOST_BANK))?;
-    write(rt, b"upgraded\n")
+    renewed(rt, path, bank.clamp(LEAST_BANK, MOST_BANK))
 }
 
-/// Brings a store of format 1 to format 2. The file is opened anew behind each step, and locked in each: what it is then is looked at
-/// again, since between them another process may have had it.
-fn renew(rt: &HostRuntime, path: &str, bank: u32) -> Result<(), Fault>
+/// The same with banks of a size that they can have. The file is opened anew behind each step, and locked in each: what it is then is
+/// looked at again, since between them another process may have had it.
+fn renewed(rt: &HostRuntime, path: &str, bank: u32) -> Result<FileDisk, Fault>
     requires least { 20971520 ≤ bank }
     requires most { bank ≤ 1073741824 }
+    ensures renewed { IfOk result (IsRenewed ⟦<FileDisk as Disk>⟧ bank) }
+    ensures refused { IfErr result IsOfUpgrade }
 {
     let alloc = rt.alloc();
     refuse_others(alloc, found(rt, alloc, path)?)?;
     lengthen(rt, alloc, path, store_bytes(bank))?;
     let mut disk = found(rt, alloc, path)?;
     oa_store::upgrade(alloc, &mut disk, bank)?;
-    Ok(())
+    Ok(disk)
 }
 
 /// Refuses what is no whole store of format 1, before its file is made longer. An opening tells the format before it compares the
 /// library, and none is the library of no bytes.
-fn refuse_others(alloc: Global, disk: FileDisk) -> Result<(), Fault> {
+fn refuse_others(alloc: Global, disk: FileDisk) -> Result<(), Fault>
+    ensures { IfErr result IsOfUpgrade }
+{
     match Store::open(alloc, disk, &[]) {
         Err((mut disk, OpenFault::OldFormat)) => {
             inspect(alloc, &mut disk)?;
@@ -53,7 +55,9 @@ fn refuse_others(alloc: Global, disk: FileDisk) -> Result<(), Fault> {
 }
 
 /// Lengthens a shorter file to so many bytes.
-fn lengthen(rt: &HostRuntime, alloc: Global, path: &str, size: u64) -> Result<(), Fault> {
+fn lengthen(rt: &HostRuntime, alloc: Global, path: &str, size: u64) -> Result<(), Fault>
+    ensures { IfErr result IsBeforeStores }
+{
     let file = OpenOptions::new()
         .read(true)
         .write(true)

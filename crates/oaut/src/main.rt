@@ -12,7 +12,10 @@ mod session;
 
 use clap::ArgMatches;
 use clap::error::ErrorKind;
-use oa_commands::{Fault, LEAST_BANK, format_store, upgrade_store, write_dump, write_text};
+use oa_commands::{
+    Fault, LEAST_BANK, Streams, format_store, tell, upgrade_store, write_dump, write_text,
+};
+use oa_stream::{Behind, Outlet};
 use std::alloc::Global;
 use std::process::ExitCode;
 use std::{env, io};
@@ -103,27 +106,34 @@ fn serves(rt: &HostRuntime, arguments: &ArgMatches) -> Result<(), Fault> {
 }
 
 fn formats(rt: &HostRuntime, arguments: &ArgMatches) -> Result<(), Fault> {
-    format_store(
+    let _streams = Streams::new(rt);
+    let disk = format_store(
         rt,
         arguments.get_str("STORE").unwrap_or(""),
         arguments.get_str("LIB").unwrap_or(""),
         arguments.get_one::<u32>("bank").unwrap_or(LEAST_BANK),
-    )
+    )?;
+    tell(rt, disk, b"formatted\n")
 }
 
 fn upgrades(rt: &HostRuntime, arguments: &ArgMatches) -> Result<(), Fault> {
-    upgrade_store(
+    let _streams = Streams::new(rt);
+    let disk = upgrade_store(
         rt,
         arguments.get_str("STORE").unwrap_or(""),
         arguments.get_one::<u32>("bank").unwrap_or(LEAST_BANK),
-    )
+    )?;
+    tell(rt, disk, b"upgraded\n")
 }
 
 fn dumps(rt: &HostRuntime, arguments: &ArgMatches) -> Result<(), Fault> {
+    let _streams = Streams::new(rt);
+    let mut writer = Behind::new(rt.alloc(), Outlet::new(io::writer(rt)))?;
     write_dump(
         rt,
         arguments.get_str("STORE").unwrap_or(""),
         arguments.get_flag("library"),
+        &mut writer,
     )
 }
 

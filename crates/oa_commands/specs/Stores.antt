@@ -1,0 +1,38 @@
+-- The disks that the commands on a store answer or read.
+use Rattle.std.specs.Prelude.{ℕ, IsTrue, List, max, min}
+use Rattle.oa_canonical.specs.Canonical.{canonical}
+use Rattle.oa_checks.specs.IsLibrary.{IsLibrary}
+use Rattle.oa_disk.specs.declared.disk.Disk.{Ghosts}
+use Rattle.oa_disk.specs.After.{BeginsHonest}
+use Rattle.oa_idl.specs.Trees.{TreeValue}
+use Rattle.oa_journal.specs.declared.shape.Shape.TheVariants.{One, Two}
+use Rattle.oa_journal.specs.Banks.{first_gate}
+use Rattle.oa_store.specs.Openings.{FindsAny}
+use Rattle.oa_store.specs.Stores.{IsStoreAt, IsStoreIn}
+use Rattle.oa_table.specs.Tables.{TableValue, first_table}
+
+-- the nearest size that a bank can have
+abbrev pub bank_near : ℕ → ℕ
+bank_near size = max 20971520 (min size 1073741824)
+
+-- Each image of a disk is the store of a library that some text stands for, without objects, with banks of this size.
+pub record IsNew {D : Type 0} (g : Ghosts D) (size : ℕ) (disk : D) : Type 0 where
+  pub text : List ℕ
+  pub library : TreeValue
+  pub stands : IsLibrary text library
+  pub stored : (c : List ℕ) → g.image disk c
+      → IsStoreAt (Two size) 0 (first_gate (canonical library) first_table) (canonical library) first_table c
+
+-- A disk held a store of format 1, and is now in each image one of format 2 with what it held, as long as each read gave what was there.
+pub record IsRenewed {D : Type 0} (g : Ghosts D) (size : ℕ) (disk : D) : Type 0 where
+  pub before : D
+  pub begins : BeginsHonest g before
+  pub renewed : IsTrue (g.is_honest disk) → (library : List ℕ) × (table : TableValue) × IsStoreIn One (g.contents before) library table
+      × ((c : List ℕ) → g.image disk c → IsStoreIn (Two size) c library table)
+
+-- A disk was read, and this library and this table were found.
+pub record WasRead {D : Type 0} (g : Ghosts D) (library : List ℕ) (table : TableValue) : Type 0 where
+  pub before : D
+  pub after : D
+  pub begins : BeginsHonest g before
+  pub found : FindsAny g before after library table

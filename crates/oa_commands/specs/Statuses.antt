@@ -63,13 +63,13 @@ of_format formats.TooSmall = faults.TooSmall
 of_format (formats.Device fault) = of_device fault
 of_format formats.Memory = faults.Memory
 
-abbrev pub of_opening : OpenFault → Fault
-of_opening openings.NotAStore = faults.NotAStore
-of_opening openings.OldFormat = faults.OldFormat
-of_opening openings.LibraryDiffers = faults.LibraryDiffers
-of_opening (openings.Damaged place) = faults.Damaged place
-of_opening (openings.Device fault) = of_device fault
-of_opening openings.Memory = faults.Memory
+abbrev pub of_open : OpenFault → Fault
+of_open openings.NotAStore = faults.NotAStore
+of_open openings.OldFormat = faults.OldFormat
+of_open openings.LibraryDiffers = faults.LibraryDiffers
+of_open (openings.Damaged place) = faults.Damaged place
+of_open (openings.Device fault) = of_device fault
+of_open openings.Memory = faults.Memory
 
 abbrev pub of_upgrade : UpgradeFault → Fault
 of_upgrade upgrades.TooSmall = faults.TooSmall

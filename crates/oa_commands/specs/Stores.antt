@@ -16,7 +16,7 @@ abbrev pub bank_near : ℕ → ℕ
 bank_near size = max 20971520 (min size 1073741824)
 
 -- Each image of a disk is the store of a library that some text stands for, without objects, with banks of this size.
-pub record IsNew {D : Type 0} (g : Ghosts D) (size : ℕ) (disk : D) : Type 0 where
+pub record IsNewlyFormatted {D : Type 0} (g : Ghosts D) (size : ℕ) (disk : D) : Type 0 where
   pub text : List ℕ
   pub library : TreeValue
   pub stands : IsLibrary text library
@@ -24,7 +24,7 @@ pub record IsNew {D : Type 0} (g : Ghosts D) (size : ℕ) (disk : D) : Type 0 wh
       → IsStoreAt (Two size) 0 (first_gate (canonical library) first_table) (canonical library) first_table c
 
 -- A disk held a store of format 1, and is now in each image one of format 2 with what it held, as long as each read gave what was there.
-pub record IsRenewed {D : Type 0} (g : Ghosts D) (size : ℕ) (disk : D) : Type 0 where
+pub record IsUpgraded {D : Type 0} (g : Ghosts D) (size : ℕ) (disk : D) : Type 0 where
   pub before : D
   pub begins : BeginsHonest g before
   pub renewed : IsTrue (g.is_honest disk) → (library : List ℕ) × (table : TableValue) × IsStoreIn One (g.contents before) library table

@@ -1,6 +1,6 @@
 //! What ends the program early: one line on standard error, and a status.
 ghost use Rattle.std.specs.Prelude.{◌≡◌, ◌≤◌};
-ghost use Rattle.oa_commands.specs.Statuses.{of_device, of_format, of_opening, of_upgrade, status_of};
+ghost use Rattle.oa_commands.specs.Statuses.{of_device, of_format, of_open, of_upgrade, status_of};
 ghost use Rattle.oa_commands.specs.declared.fault.Fault.TheVariants as faults;
 
 use crate::place::Place;
@@ -185,7 +185,7 @@ impl From<FormatFault> for Fault {
 }
 
 impl From<OpenFault> for Fault {
-    ghost from_gives = { λ f e. e ≡ of_opening f };
+    ghost from_gives = { λ f e. e ≡ of_open f };
 
     fn from(e: OpenFault) -> Fault {
         match e {

@@ -1,7 +1,7 @@
 //! Files that hold a store.
 ghost use Rattle.std.specs.Prelude.{◌≤◌, IfErr, IfOk};
 ghost use Rattle.oa_commands.specs.Statuses.{IsBeforeStores, IsOfFormat};
-ghost use Rattle.oa_commands.specs.Stores.{IsNew, bank_near};
+ghost use Rattle.oa_commands.specs.Stores.{IsNewlyFormatted, bank_near};
 ghost use Rattle.oa_disk.specs.After.{BeginsHonest};
 
 use crate::fault::Fault;
@@ -33,7 +33,7 @@ pub fn format_store(
     library: &str,
     bank: u32,
 ) -> Result<FileDisk, Fault>
-    ensures new { IfOk result (IsNew ⟦<FileDisk as Disk>⟧ (bank_near bank)) }
+    ensures new { IfOk result (IsNewlyFormatted ⟦<FileDisk as Disk>⟧ (bank_near bank)) }
     ensures refused { IfErr result IsOfFormat }
 {
     made_store(rt, path, library, bank.clamp(LEAST_BANK, MOST_BANK))
@@ -43,7 +43,7 @@ pub fn format_store(
 fn made_store(rt: &HostRuntime, path: &str, library: &str, bank: u32) -> Result<FileDisk, Fault>
     requires least { 20971520 ≤ bank }
     requires most { bank ≤ 1073741824 }
-    ensures new { IfOk result (IsNew ⟦<FileDisk as Disk>⟧ bank) }
+    ensures new { IfOk result (IsNewlyFormatted ⟦<FileDisk as Disk>⟧ bank) }
     ensures refused { IfErr result IsOfFormat }
 {
     let alloc = rt.alloc();

@@ -1,7 +1,7 @@
 //! Bringing the file of a store to format 2.
 ghost use Rattle.std.specs.Prelude.{◌≤◌, IfErr, IfOk};
 ghost use Rattle.oa_commands.specs.Statuses.{IsBeforeStores, IsOfUpgrade};
-ghost use Rattle.oa_commands.specs.Stores.{IsRenewed, bank_near};
+ghost use Rattle.oa_commands.specs.Stores.{IsUpgraded, bank_near};
 
 use crate::fault::Fault;
 use crate::store::{LEAST_BANK, MOST_BANK, found, store_bytes, unopened, unwritten};
@@ -17,7 +17,7 @@ const PIECE: usize = 65_536;
 
 /// Brings a store of format 1 to format 2, with banks of so many bytes, and answers its file. One that is too short for it is lengthened.
 pub fn upgrade_store(rt: &HostRuntime, path: &str, bank: u32) -> Result<FileDisk, Fault>
-    ensures renewed { IfOk result (IsRenewed ⟦<FileDisk as Disk>⟧ (bank_near bank)) }
+    ensures renewed { IfOk result (IsUpgraded ⟦<FileDisk as Disk>⟧ (bank_near bank)) }
     ensures refused { IfErr result IsOfUpgrade }
 {
     renewed(rt, path, bank.clamp(LEAST_BANK, MOST_BANK))
@@ -28,7 +28,7 @@ pub fn upgrade_store(rt: &HostRuntime, path: &str, bank: u32) -> Result<FileDisk
 fn renewed(rt: &HostRuntime, path: &str, bank: u32) -> Result<FileDisk, Fault>
     requires least { 20971520 ≤ bank }
     requires most { bank ≤ 1073741824 }
-    ensures renewed { IfOk result (IsRenewed ⟦<FileDisk as Disk>⟧ bank) }
+    ensures renewed { IfOk result (IsUpgraded ⟦<FileDisk as Disk>⟧ bank) }
     ensures refused { IfErr result IsOfUpgrade }
 {
     let alloc = rt.alloc();

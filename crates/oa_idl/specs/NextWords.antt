@@ -7,9 +7,9 @@ use Rattle.oa_idl.specs.Forms.{Word}
 use Rattle.oa_idl.specs.Words.{same_kind}
 
 -- its bytes, where it is of a kind
-abbrev pub text_of : TokenKind → List Word → Option (List ℕ)
-text_of kind [] = None
-text_of kind (w ∷ words) = if same_kind w.kind kind then Some w.text else None
+abbrev pub token_text : TokenKind → List Word → Option (List ℕ)
+token_text kind [] = None
+token_text kind (w ∷ words) = if same_kind w.kind kind then Some w.text else None
 
 abbrev pub seen_text : Result (Bor (List ℕ)) Stop → Option (List ℕ)
 seen_text (Ok text) = Some text.now

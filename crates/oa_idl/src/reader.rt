@@ -5,7 +5,7 @@ ghost use Rattle.oa_idl.specs.Words.{is_hexadecimal, below, part_from, part_of, 
 ghost use Rattle.oa_idl.specs.Words.{never_over, amount_from, amount_of, is_printable, is_escaped, characters_from, characters_of};
 ghost use Rattle.oa_idl.specs.Grammar.{entry_word};
 ghost use Rattle.oa_idl.specs.Reading.{ReadsWords, heads, later_words, this_at, one_at, if_meant, perhaps_at, done, seen_first, first_of};
-ghost use Rattle.oa_idl.specs.NextWords.{text_of, seen_text};
+ghost use Rattle.oa_idl.specs.NextWords.{token_text, seen_text};
 ghost use Rattle.oa_idl.specs.declared.stop.Stop.TheVariants.{Syntax};
 ghost use Rattle.uuid.specs.Text.{parsed_hyphenated};
 
@@ -243,8 +243,8 @@ impl<'a> Reader<'a> {
     }
 
     /// The bytes of the next word, where it is of this kind.
-    fn text_of(&self, kind: TokenKind) -> Result<&'a [u8], Stop>
-        ensures text { seen_text result ≡ text_of kind self.now }
+    fn token_text(&self, kind: TokenKind) -> Result<&'a [u8], Stop>
+        ensures text { seen_text result ≡ token_text kind self.now }
         ensures syntax { IfErr result (λ e. e ≡ Syntax) }
     {
         match self.first() {
@@ -302,7 +302,7 @@ impl<'a> Reader<'a> {
     pub(crate) fn entry_word(&mut self) -> Result<(), Stop>
         ensures { ReadsWords (λ _. done) result self.new (this_at entry_word self.old) }
     {
-        let text = self.text_of(TokenKind::Name)?;
+        let text = self.token_text(TokenKind::Name)?;
         if !same_bytes(text, b"dispinterface") && !same_bytes(text, b"interface") {
             return Err(Stop::Syntax);
         }
@@ -315,7 +315,7 @@ impl<'a> Reader<'a> {
     pub(crate) fn text(&mut self) -> Result<(), Stop>
         ensures { ReadsWords (λ _. done) result self.new (this_at is_text self.old) }
     {
-        self.text_of(TokenKind::Text)?;
+        self.token_text(TokenKind::Text)?;
         self.skip();
         Ok(())
     }
@@ -342,7 +342,7 @@ impl<'a> Reader<'a> {
         ensures value { ReadsWords (λ n. n) result self.new (one_at name_of (over limit bound count) self.old) }
         ensures few { IfOk result (λ _. count < bound) }
     {
-        let text = self.text_of(TokenKind::Name)?;
+        let text = self.token_text(TokenKind::Name)?;
         if is_reserved(text) {
             return Err(Stop::Syntax);
         }
@@ -362,7 +362,7 @@ impl<'a> Reader<'a> {
     pub(crate) fn guid(&mut self) -> Result<Uuid, Stop>
         ensures { ReadsWords (λ g. g) result self.new (one_at guid_of never_over self.old) }
     {
-        let text = self.text_of(TokenKind::Guid)?;
+        let text = self.token_text(TokenKind::Guid)?;
         self.taken(guid_of(text))
     }
 
@@ -371,7 +371,7 @@ impl<'a> Reader<'a> {
     pub(crate) fn part(&mut self, counts: bool) -> Result<u16, Stop>
         ensures { ReadsWords (λ n. n) result self.new (one_at (part_of counts) never_over self.old) }
     {
-        let text = self.text_of(TokenKind::Number)?;
+        let text = self.token_text(TokenKind::Number)?;
         self.taken(part_from(counts, number_of(text)))
     }
 
@@ -380,7 +380,7 @@ impl<'a> Reader<'a> {
     pub(crate) fn id(&mut self, negative: bool) -> Result<i32, Stop>
         ensures { ReadsWords (λ n. n) result self.new (one_at (id_of negative) never_over self.old) }
     {
-        let text = self.text_of(TokenKind::Number)?;
+        let text = self.token_text(TokenKind::Number)?;
         self.taken(id_from(negative, is_hexadecimal(text), number_of(text)))
     }
 
@@ -389,7 +389,7 @@ impl<'a> Reader<'a> {
     pub(crate) fn type_word(&mut self, in_array: bool, unsigned: bool) -> Result<VarType, Stop>
         ensures { ReadsWords (λ t. t) result self.new (one_at (word_type in_array unsigned) never_over self.old) }
     {
-        let text = self.text_of(TokenKind::Name)?;
+        let text = self.token_text(TokenKind::Name)?;
         self.taken(type_named(in_array, unsigned, text))
     }
 
@@ -398,7 +398,7 @@ impl<'a> Reader<'a> {
     pub(crate) fn is_string(&self) -> bool
         ensures { result ≡ heads is_text self.now }
     {
-        self.text_of(TokenKind::Text).is_ok()
+        self.token_text(TokenKind::Text).is_ok()
     }
 
     /// Takes a number of a default, after a minus or not.
@@ -406,7 +406,7 @@ impl<'a> Reader<'a> {
     pub(crate) fn amount(&mut self, negative: bool) -> Result<i128, Stop>
         ensures { ReadsWords (λ n. n) result self.new (one_at (amount_of negative) never_over self.old) }
     {
-        let text = self.text_of(TokenKind::Number)?;
+        let text = self.token_text(TokenKind::Number)?;
         self.taken(amount_from(negative, number_of(text)))
     }
 
@@ -415,7 +415,7 @@ impl<'a> Reader<'a> {
     pub(crate) fn characters(&mut self, alloc: Global) -> Result<Characters, Stop>
         ensures { ReadsWords (λ n. n) result self.new (one_at characters_of never_over self.old) }
     {
-        let text = self.text_of(TokenKind::Text)?;
+        let text = self.token_text(TokenKind::Text)?;
         self.taken(characters(alloc, behind_quote(text))?)
     }
 }

@@ -46,7 +46,7 @@ pub record IsAnswered {D : Type 0} {g : Ghosts D} (old new : Store D g) (before 
   pub served : old.stopped ≡ false → IsServed requests 1 old new before after (body ∷ []) (reply ∷ [])
 
 -- What a turn of opcode 12 over a store leaves, whether it is told or in doubt.
-pub record Renews {D : Type 0} {g : Ghosts D} (old new : Store D g) (before after : State) : Type 0 where
+pub record RenewsStore {D : Type 0} {g : Ghosts D} (old new : Store D g) (before after : State) : Type 0 where
   pub same : unlocked_table after.table ≡ unlocked_table before.table
   -- A stop at any moment leaves the old library or the new, with the table.
   pub any_moment : AllHoldState requests old before → LeavesState old new (λ c. HoldsState requests before c ⊎ HoldsState requests after c)

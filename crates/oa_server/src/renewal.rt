@@ -1,7 +1,7 @@
 //! REPLACE LIBRARY over a store.
 ghost use Rattle.std.specs.Prelude.{◌≡◌, false, true, IfOk, OnErr, OnOk};
 ghost use Rattle.oa_record.specs.Replies.{ReplyValue};
-ghost use Rattle.oa_server.specs.Answers.{Renews};
+ghost use Rattle.oa_server.specs.Answers.{RenewsStore};
 ghost use Rattle.oa_server.specs.Hands.{HasBanks};
 ghost use Rattle.oa_turn.specs.Events.{is_done};
 ghost use Rattle.oa_turn.specs.Replacing.{Replacement};
@@ -28,7 +28,7 @@ pub(crate) fn renew_over<D: Disk>(
     requires banks { HasBanks store.old host.old }
     ensures turn { IfOk result (λ reply. Replacement host.old body.now reply host.new) }
     ensures failed { OnErr result ((reply : ReplyValue) × Replacement host.old body.now reply host.new × (is_done reply ≡ true)) }
-    ensures renews { Renews store.old store.new host.old host.new }
+    ensures renews { RenewsStore store.old store.new host.old host.new }
     // A body that is refused makes no call of the device.
     ensures quiet { IfOk result (λ reply. is_done reply ≡ false → store.new.disk ≡ store.old.disk) }
     ensures going { OnOk result (store.new.stopped ≡ false) }

@@ -1,6 +1,6 @@
 """Which wrong bodies the gate tries: all of each crate whose sources, specs, proofs or wrong bodies have changed since all of them were tried, and of the others one part in six.
 
-The part is chosen by the commit: its hash says which of six runs of the list of all edits are tried, so each comes again and again, and none is left out for good. The list is
+The part is chosen by the commit: its hash says which of six stretches of the list of all edits is tried, so each comes again and again, and none is left out for good. The list is
 by crates, so that a part has few of them: most of what a check costs is read before its first edit. The file wrong-bodies/TRIED names, crate by crate, the commit over which
 all of the crate's edits were tried and refused."""
 import datetime
@@ -27,7 +27,7 @@ def git(root, *words):
 
 
 def parts_of(labels):
-    """Returns the part of each edit: their list is cut into runs of one length."""
+    """Returns the part of each edit: their list is cut into stretches of one length."""
     return {label: PARTS * at // len(labels) for at, label in enumerate(labels)}
 
 

@@ -12,7 +12,6 @@ use Rattle.indexmap.proofs.MapLemmas.{Found-position, Missing-position}
 use Rattle.indexmap.proofs.SetLemmas.{keys_insert_entry}
 use Rattle.oa_typelib.specs.Groups.{with_place, places_in}
 use Rattle.oa_typelib.proofs.Grouping.{later}
-use Rattle.oa_checks.proofs.Lists.{place-map, position-map, insert_key-map}
 
 -- ---- the group of a key
 mapped_places : {V : Type 0} (f : V → List ℕ) (o : Option ℕ) (vs : List V) → places_in o (map f vs) ≡ unwrap_or (option_map f (option_and_then (slice_get vs) o)) []
@@ -52,44 +51,27 @@ group_starts f eq k n (e ∷ es) w h is = by (eq k e.0) h (λ r. group_starts f 
     by true h rest = absurd (cc)
     by false h rest = ap (λ pss. f e.1 ∷ pss) (rest h) ∙ sym (later (position_or_len (eq k) (keys_of es)) n (f e.1) (map f (values_of es)))
 
--- ---- the same where the keys are seen through `key`
-module _ {A K V : Type 0} (key : A → K) (same : K → K → Bool) (f : V → List ℕ) (es : List (A × V)) where
-  pub found_places : (k : K) (o : Option V) → o ≡ lookup (λ a. same k (key a)) es → unwrap_or (option_map f o) [] ≡ places_in (position (same k) (map key (keys_of es))) (map f (values_of es))
-  found_places k o is =
-      ap (λ r. unwrap_or (option_map f r) []) (is ∙ sym (by_place (λ a. same k (key a)) es))
-      ∙ sym (mapped_places f (position (λ a. same k (key a)) (keys_of es)) (values_of es))
-      ∙ ap (λ r. places_in r (map f (values_of es))) (sym (position-map key (same k) (keys_of es)))
+-- ---- what a look-up finds, and what an addition leaves
+module _ {K V : Type 0} (f : V → List ℕ) (es : List (K × V)) where
+  pub found_places : (t : K → Bool) (o : Option V) → o ≡ lookup t es → unwrap_or (option_map f o) [] ≡ places_in (position t (keys_of es)) (map f (values_of es))
+  found_places t o is = ap (λ r. unwrap_or (option_map f r) []) (is ∙ sym (by_place t es)) ∙ sym (mapped_places f (position t (keys_of es)) (values_of es))
 
-  module _ (k : A) (new : List (A × V)) where
+  module _ (eq : K → K → Bool) (k : K) (new : List (K × V)) where
     -- a key that is there
-    module _ (v w : V) (at : Some v ≡ lookup (λ a. same (key k) (key a)) es) (is : new ≡ set_value (λ a. same (key k) (key a)) es w) where
-      pub keys_stay : map key (keys_of new) ≡ insert_key same (map key (keys_of es)) (key k)
+    module _ (v w : V) (at : Some v ≡ lookup (eq k) es) (is : new ≡ set_value (eq k) es w) where
+      pub keys_stay : keys_of new ≡ insert_key eq (keys_of es) k
       keys_stay =
-          ap (λ xs. map key (keys_of xs)) is
-          ∙ ap (map key) (keys-set_value (λ a. same (key k) (key a)) es w ∙ sym (ap (λ b. if b then keys_of es else keys_of es ++ k ∷ []) (there (λ a. same (key k) (key a)) es v (sym at))))
-          ∙ insert_key-map key same k (keys_of es)
+          ap keys_of is
+          ∙ keys-set_value (eq k) es w
+          ∙ sym (ap (λ b. if b then keys_of es else keys_of es ++ k ∷ []) (there (eq k) es v (sym at)))
 
-      pub place_added : (n : ℕ) → f w ≡ f v ++ n ∷ [] → map f (values_of new) ≡ with_place (position_or_len (same (key k)) (map key (keys_of es))) n (map f (values_of es))
-      place_added n more =
-          ap (λ xs. map f (values_of xs)) is
-          ∙ group_grows f (λ a. same (key k) (key a)) n es v w (sym at) more
-          ∙ ap (λ g. with_place g n (map f (values_of es))) (sym (place-map key (λ b. not (same (key k) b)) (keys_of es)))
+      pub place_added : (n : ℕ) → f w ≡ f v ++ n ∷ [] → map f (values_of new) ≡ with_place (position_or_len (eq k) (keys_of es)) n (map f (values_of es))
+      place_added n more = ap (λ xs. map f (values_of xs)) is ∙ group_grows f (eq k) n es v w (sym at) more
 
     -- a new key
-    module _ (w : V) (is : new ≡ insert_entry (λ a b. same (key a) (key b)) es k w) where
-      pub key_new : map key (keys_of new) ≡ insert_key same (map key (keys_of es)) (key k)
-      key_new =
-          ap (λ xs. map key (keys_of xs)) is
-          ∙ ap (map key) (keys_insert_entry (λ a b. same (key a) (key b)) es k w)
-          ∙ insert_key-map key same k (keys_of es)
+    module _ (w : V) (is : new ≡ insert_entry eq es k w) where
+      pub key_new : keys_of new ≡ insert_key eq (keys_of es) k
+      key_new = ap keys_of is ∙ keys_insert_entry eq es k w
 
-      pub place_new : (n : ℕ) → None ≡ lookup (λ a. same (key k) (key a)) es → f w ≡ n ∷ [] → map f (values_of new) ≡ with_place (position_or_len (same (key k)) (map key (keys_of es))) n (map f (values_of es))
-      place_new n none one =
-          ap (λ xs. map f (values_of xs)) is
-          ∙ group_starts f (λ a b. same (key a) (key b)) k n es w (sym none) one
-          ∙ ap (λ g. with_place g n (map f (values_of es))) (sym (place-map key (λ b. not (same (key k) b)) (keys_of es)))
-
--- ---- and where they are seen as they are
-pub as_they_are : {A : Type 0} (xs : List A) → map (λ x. x) xs ≡ xs
-as_they_are [] = refl
-as_they_are (x ∷ xs) = ap (λ ys. x ∷ ys) (as_they_are xs)
+      pub place_new : (n : ℕ) → None ≡ lookup (eq k) es → f w ≡ n ∷ [] → map f (values_of new) ≡ with_place (position_or_len (eq k) (keys_of es)) n (map f (values_of es))
+      place_new n none one = ap (λ xs. map f (values_of xs)) is ∙ group_starts f eq k n es w (sym none) one

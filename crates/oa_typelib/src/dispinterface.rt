@@ -109,7 +109,7 @@ impl<'a> Dispinterface<'a> {
         ensures { result ≡ forms_with id self.now }
     {
         let members: &'a Members = self.members;
-        Forms::at(self.again(), members.by_id.places(id))
+        Forms::at(self.again(), members.by_id.places(&id))
     }
 
     /// The places of the declarations with a DISPID.
@@ -117,7 +117,7 @@ impl<'a> Dispinterface<'a> {
         ensures { filter_map (slice_get (declarations self.now)) result.now ≡ forms_with id self.now }
     {
         let members: &'a Members = self.members;
-        members.by_id.places(id)
+        members.by_id.places(&id)
     }
 
     /// The declarations with a name, which is folded.

@@ -1,89 +1,141 @@
-//! The places at which a list has each of its names or DISPIDs.
-ghost use Rattle.std.specs.Prelude.{◌≡◌, IfOk, OnOk, map, position};
+//! The places at which a list has each of its keys: names, folded, or DISPIDs.
+ghost use Rattle.std.specs.Prelude.{◌≡◌, [], IfOk, OnOk, map, position, slice_get};
+ghost use Rattle.std.specs.Cmp.{partial_equiv_from_equiv};
+ghost use Rattle.std.proofs.Common.{rules};
+ghost use Rattle.std.specs.Cmp.Rules.{hashing};
+ghost use Rattle.std.specs.Cmp.Lexicographic.{nat_list_eq_equiv};
+ghost use Rattle.std.specs.Hash as fed;
 ghost use Rattle.std.specs.List.{position_or_len};
 ghost use Rattle.std.specs.Ordering.{int_eq};
 ghost use Rattle.indexmap.specs.IndexSet.{insert_key};
 ghost use Rattle.oa_model.specs.Folding.{folded_name};
 ghost use Rattle.oa_checks.specs.Libraries.{same};
 ghost use Rattle.oa_typelib.specs.Groups.{keys_with_places, places_in, with_place};
-ghost use Rattle.oa_typelib.specs.Indexes.{first_in};
 
-use indexmap::IndexMap;
+use indexmap::{Equivalent, IndexMap};
 use oa_checks::{Declaration, folded};
 use oa_idl::Name;
 use std::alloc::{AllocError, Global};
+use std::hash::{Hash, Hasher};
 use std::marker::Model;
 
-/// Names, folded, in the order in which they first stand in a list, each with the places at which it stands there.
-pub(crate) struct NameGroups {
-    groups: IndexMap<Vec<u16>, Vec<usize>>,
+/// A folded name as a key.
+#[derive(Drop)]
+pub(crate) struct FoldedName {
+    units: Vec<u16>,
 }
 
-// Its own, so that a function that holds some lets go of them in one step.
-impl Drop for NameGroups {
-    fn drop(self) {
-        let NameGroups { groups: _groups } = self;
+impl Model for FoldedName {
+    ghost use Rattle.std.specs.Prelude.{List, ℕ};
+
+    ghost Value = { List ℕ };
+
+    ghost view = { λ n. n.units.items };
+}
+
+impl PartialEq for FoldedName {
+    ghost eq = { same };
+
+    ghost laws = { partial_equiv_from_equiv nat_list_eq_equiv };
+
+    fn eq(&self, other: &FoldedName) -> bool {
+        self.units == other.units
     }
 }
 
-impl Model for NameGroups {
-    ghost use Rattle.std.specs.Prelude.{List, ℕ, map};
+impl Eq for FoldedName {
+    ghost laws = { nat_list_eq_equiv };
+}
+
+impl Hash for FoldedName {
+    ghost hash_input = { fed.slice fed.u16 };
+
+    ghost respects_eq = { Prim.search (hashing, rules) };
+
+    fn hash<H: Hasher>(&self, state: &mut H) {
+        self.units.hash(state);
+    }
+}
+
+impl Equivalent<FoldedName> for &[u16] {
+    ghost equivalent = { λ q. same q.now };
+
+    ghost respects_hash = { Prim.search (hashing, rules) };
+
+    ghost respects_eq = { λ q. nat_list_eq_equiv.congr q.now };
+
+    fn equivalent(&self, key: &FoldedName) -> bool {
+        *self == key.units.as_slice()
+    }
+}
+
+/// Keys, in the order in which they first stand in a list, each with the places at which it stands there.
+pub(crate) struct Groups<K: Eq + Hash> {
+    groups: IndexMap<K, Vec<usize>>,
+}
+
+// Its own, so that a function that holds some lets go of them in one step.
+impl<K: Eq + Hash + Drop> Drop for Groups<K> {
+    fn drop(self) {
+        let Groups { groups: _groups } = self;
+    }
+}
+
+impl<K: Eq + Hash> Model for Groups<K> {
+    ghost use Rattle.std.specs.Prelude.{map};
     ghost use Rattle.indexmap.specs.IndexMap.{keys, values};
     ghost use Rattle.oa_typelib.specs.Groups.{GroupsValue};
 
-    ghost Value = { GroupsValue (List ℕ) };
+    ghost Value = { GroupsValue K };
 
-    ghost view = { λ g. record { keys = map (λ k. k.items) (keys g.groups); places = map (λ ps. ps.items) (values g.groups) } };
+    ghost view = { λ g. record { keys = keys g.groups; places = map (λ ps. ps.items) (values g.groups) } };
 }
 
-impl NameGroups {
-    /// Adds a place to the group of a name, or to a new one behind all.
-    fn add(&mut self, alloc: Global, name: Vec<u16>, place: usize) -> Result<(), AllocError>
-        ensures keys { OnOk result (self.new.keys ≡ insert_key same self.old.keys name.items) }
-        ensures places { OnOk result
-            (self.new.places ≡ with_place (position_or_len (same name.items) self.old.keys) place self.old.places) }
+impl<K: Eq + Hash> Groups<K> {
+    fn new(alloc: Global) -> Groups<K>
+        ensures { result ≡ keys_with_places K.eq [] }
     {
-        match self.groups.get_mut(&name) {
+        Groups {
+            groups: IndexMap::new(alloc),
+        }
+    }
+
+    /// Adds a place to the group of a key, or to a new one behind all.
+    fn add(&mut self, alloc: Global, key: K, place: usize) -> Result<(), AllocError>
+    where
+        K: Drop,
+        ensures keys { OnOk result (self.new.keys ≡ insert_key K.eq self.old.keys key) }
+        ensures places { OnOk result (self.new.places ≡ with_place (position_or_len (K.eq key) self.old.keys) place self.old.places) }
+    {
+        match self.groups.get_mut(&key) {
             Some(places) => places.push(place)?,
             None => {
                 let mut first = Vec::new(alloc);
                 first.push(place)?;
-                self.groups.insert(name, first)?;
+                self.groups.insert(key, first)?;
             }
         }
         Ok(())
     }
 
-    pub(crate) fn of(alloc: Global, names: &[&Name]) -> Result<NameGroups, AllocError>
-        ensures { IfOk result (λ g. g ≡ keys_with_places same (map (λ n. folded_name n.now) names.now)) }
+    /// The places of a key.
+    pub(crate) fn places<Q: Equivalent<K>>(&self, key: Q) -> &[usize]
+        ensures { result.now ≡ places_in (position (Q.equivalent key) self.now.keys) self.now.places }
     {
-        let mut groups = NameGroups {
-            groups: IndexMap::new(alloc),
-        };
-        'names: for place in 0..names.len() {
-            groups.add(alloc, folded(alloc, names[place])?, place)?;
-        }
-        Ok(groups)
-    }
-
-    /// The places of a folded name.
-    pub(crate) fn places(&self, name: &[u16]) -> &[usize]
-        ensures { result.now ≡ places_in (position (same name.now) self.now.keys) self.now.places }
-    {
-        match self.groups.get(name) {
+        match self.groups.get(key) {
             Some(places) => places.as_slice(),
             None => &[],
         }
     }
 
-    /// The first place of a folded name.
-    pub(crate) fn first(&self, name: &[u16]) -> Option<usize>
-        ensures { result ≡ first_in self.now name.now }
+    /// The first place of a key.
+    pub(crate) fn first<Q: Equivalent<K>>(&self, key: Q) -> Option<usize>
+        ensures { result ≡ slice_get (places_in (position (Q.equivalent key) self.now.keys) self.now.places) 0 }
     {
-        self.places(name).first().copied()
+        self.places(key).first().copied()
     }
 
-    /// The places of each name, in the order in which the names first stand.
+    /// The places of each key, in the order in which the keys first stand.
     pub(crate) fn groups(&self) -> &[Vec<usize>]
         ensures { map (λ ps. ps.items) result.now ≡ self.now.places }
     {
@@ -91,64 +143,32 @@ impl NameGroups {
     }
 }
 
-/// DISPIDs, in the order in which they first stand in a list, each with the places at which it stands there.
-pub(crate) struct IdGroups {
-    groups: IndexMap<i32, Vec<usize>>,
+/// Names, folded, with their places.
+pub(crate) fn places_by_name(
+    alloc: Global,
+    names: &[&Name],
+) -> Result<Groups<FoldedName>, AllocError>
+    ensures { IfOk result (λ g. g ≡ keys_with_places same (map (λ n. folded_name n.now) names.now)) }
+{
+    let mut groups = Groups::new(alloc);
+    'names: for place in 0..names.len() {
+        let units = folded(alloc, names[place])?;
+        groups.add(alloc, FoldedName { units }, place)?;
+    }
+    Ok(groups)
 }
 
-// Its own, so that a function that holds some lets go of them in one step.
-impl Drop for IdGroups {
-    fn drop(self) {
-        let IdGroups { groups: _groups } = self;
+/// The DISPIDs of declarations with their places.
+pub(crate) fn places_by_id(
+    alloc: Global,
+    declarations: &[Declaration],
+) -> Result<Groups<i32>, AllocError>
+    ensures { IfOk result (λ g. g ≡ keys_with_places int_eq (map (λ d. d.id) declarations.now)) }
+{
+    let mut groups = Groups::new(alloc);
+    'ids: for place in 0..declarations.len() {
+        let declaration = &declarations[place];
+        groups.add(alloc, declaration.id, place)?;
     }
-}
-
-impl Model for IdGroups {
-    ghost use Rattle.std.specs.Prelude.{ℤ, map};
-    ghost use Rattle.indexmap.specs.IndexMap.{keys, values};
-    ghost use Rattle.oa_typelib.specs.Groups.{GroupsValue};
-
-    ghost Value = { GroupsValue ℤ };
-
-    ghost view = { λ g. record { keys = keys g.groups; places = map (λ ps. ps.items) (values g.groups) } };
-}
-
-impl IdGroups {
-    /// Adds a place to the group of a DISPID, or to a new one behind all.
-    fn add(&mut self, alloc: Global, id: i32, place: usize) -> Result<(), AllocError>
-        ensures keys { OnOk result (self.new.keys ≡ insert_key int_eq self.old.keys id) }
-        ensures places { OnOk result (self.new.places ≡ with_place (position_or_len (int_eq id) self.old.keys) place self.old.places) }
-    {
-        match self.groups.get_mut(&id) {
-            Some(places) => places.push(place)?,
-            None => {
-                let mut first = Vec::new(alloc);
-                first.push(place)?;
-                self.groups.insert(id, first)?;
-            }
-        }
-        Ok(())
-    }
-
-    pub(crate) fn of(alloc: Global, declarations: &[Declaration]) -> Result<IdGroups, AllocError>
-        ensures { IfOk result (λ g. g ≡ keys_with_places int_eq (map (λ d. d.id) declarations.now)) }
-    {
-        let mut groups = IdGroups {
-            groups: IndexMap::new(alloc),
-        };
-        'ids: for place in 0..declarations.len() {
-            let declaration = &declarations[place];
-            groups.add(alloc, declaration.id, place)?;
-        }
-        Ok(groups)
-    }
-
-    pub(crate) fn places(&self, id: i32) -> &[usize]
-        ensures { result.now ≡ places_in (position (int_eq id) self.now.keys) self.now.places }
-    {
-        match self.groups.get(&id) {
-            Some(places) => places.as_slice(),
-            None => &[],
-        }
-    }
+    Ok(groups)
 }

@@ -6,7 +6,7 @@ ghost use Rattle.oa_typelib.specs.Descriptions.{interfaces_of};
 ghost use Rattle.oa_typelib.specs.Groups.{keys_with_places};
 ghost use Rattle.oa_typelib.specs.Indexes.{entered_in, enters, first_in, flag_at, index_of, members_in};
 
-use crate::groups::NameGroups;
+use crate::groups::{FoldedName, Groups, places_by_name};
 use crate::members::Members;
 use oa_checks::{at, entry_names, folded, item_name, items_of};
 use oa_idl::{Coclass, Item, Name, Tree};
@@ -48,15 +48,19 @@ fn item_keys(alloc: Global, items: &[Item]) -> Result<Vec<Vec<u16>>, AllocError>
 }
 
 /// The places of interfaces among the interfaces by their names, folded.
-fn by_interface(alloc: Global, items: &[Item]) -> Result<NameGroups, AllocError>
+fn by_interface(alloc: Global, items: &[Item]) -> Result<Groups<FoldedName>, AllocError>
     ensures { IfOk result (λ g. g ≡ keys_with_places same (map (λ i. folded_name i.name) (interfaces_of items.now))) }
 {
     let names = interface_names(alloc, items)?;
-    NameGroups::of(alloc, names.as_slice())
+    places_by_name(alloc, names.as_slice())
 }
 
 /// For each folded name whether it has a group.
-fn flags_of(alloc: Global, groups: &NameGroups, keys: &[Vec<u16>]) -> Result<Vec<bool>, AllocError>
+fn flags_of(
+    alloc: Global,
+    groups: &Groups<FoldedName>,
+    keys: &[Vec<u16>],
+) -> Result<Vec<bool>, AllocError>
     ensures { IfOk result (λ v. v.items ≡ map (λ k. is_some (first_in groups.now k.items)) keys.now) }
 {
     let mut flags = Vec::new(alloc);
@@ -71,7 +75,7 @@ fn entered_by(alloc: Global, class: &Coclass, keys: &[Vec<u16>]) -> Result<Vec<b
     ensures { IfOk result (λ v. v.items ≡ map (enters class.now) (map (λ k. k.items) keys.now)) }
 {
     let names = entry_names(alloc, class.entries.as_slice())?;
-    let entries = NameGroups::of(alloc, names.as_slice())?;
+    let entries = places_by_name(alloc, names.as_slice())?;
     flags_of(alloc, &entries, keys)
 }
 
@@ -102,7 +106,7 @@ pub(crate) struct Index {
     /// The members of each item.
     members: Vec<Members>,
     /// The interfaces by their names, folded.
-    interfaces: NameGroups,
+    interfaces: Groups<FoldedName>,
     /// For each coclass whether its entries name an item, by the item's place.
     entered: Vec<Vec<bool>>,
 }

@@ -6,7 +6,7 @@ ghost use Rattle.oa_checks.specs.Libraries.{same};
 ghost use Rattle.oa_typelib.specs.Groups.{keys_with_places};
 ghost use Rattle.oa_typelib.specs.Indexes.{grouped, members_in};
 
-use crate::groups::{IdGroups, NameGroups};
+use crate::groups::{FoldedName, Groups, places_by_id, places_by_name};
 use oa_checks::{Declaration, declarations, value_of_default};
 use oa_idl::{Item, Name, Parameter};
 use oa_variant::Scalar;
@@ -39,8 +39,8 @@ fn all_values(
 /// The declarations of an interface by their names, folded, and by their DISPIDs.
 #[derive(Drop)]
 pub(crate) struct Members {
-    pub(crate) by_name: NameGroups,
-    pub(crate) by_id: IdGroups,
+    pub(crate) by_name: Groups<FoldedName>,
+    pub(crate) by_id: Groups<i32>,
     /// For each declaration the values of its parameters' defaults.
     pub(crate) defaults: Vec<Vec<Option<Scalar>>>,
 }
@@ -68,11 +68,11 @@ fn names_of<'a>(
 }
 
 /// The places of declarations by their names, folded.
-fn by_name(alloc: Global, declarations: &[Declaration]) -> Result<NameGroups, AllocError>
+fn by_name(alloc: Global, declarations: &[Declaration]) -> Result<Groups<FoldedName>, AllocError>
     ensures { IfOk result (λ g. g ≡ keys_with_places same (map (λ d. folded_name d.name) declarations.now)) }
 {
     let names = names_of(alloc, declarations)?;
-    NameGroups::of(alloc, names.as_slice())
+    places_by_name(alloc, names.as_slice())
 }
 
 impl Members {
@@ -81,7 +81,7 @@ impl Members {
     {
         Ok(Members {
             by_name: by_name(alloc, declarations)?,
-            by_id: IdGroups::of(alloc, declarations)?,
+            by_id: places_by_id(alloc, declarations)?,
             defaults: all_values(alloc, declarations)?,
         })
     }

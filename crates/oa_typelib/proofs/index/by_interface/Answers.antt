@@ -11,4 +11,4 @@ pub returns : goal.returns
 returns c =
     let names = ap (map (λ (n : Bor (List ℕ)). folded_name n.now)) c.as_slice.ensures.value
     ∙ names_folded (λ (i : InterfaceValue). i.name) c.in_ok-names.names.items (interfaces_of c.args.items.now) c.in_ok-names.ensures in
-    subst (λ (ks : List (List ℕ)). IfOk c.of.result (λ g. g ≡ keys_with_places same ks)) names c.of.ensures
+    subst (λ (ks : List (List ℕ)). IfOk c.places_by_name.result (λ g. g ≡ keys_with_places same ks)) names c.places_by_name.ensures

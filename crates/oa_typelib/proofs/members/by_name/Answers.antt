@@ -10,4 +10,4 @@ pub returns : goal.returns
 returns c =
     let names = ap (map (λ (n : Bor (List ℕ)). folded_name n.now)) c.as_slice.ensures.value
     ∙ names_folded (λ (d : DeclarationValue). d.name) c.in_ok-names.names.items c.args.declarations.now c.in_ok-names.ensures in
-    subst (λ (ks : List (List ℕ)). IfOk c.of.result (λ g. g ≡ keys_with_places same ks)) names c.of.ensures
+    subst (λ (ks : List (List ℕ)). IfOk c.places_by_name.result (λ g. g ≡ keys_with_places same ks)) names c.places_by_name.ensures

@@ -4,7 +4,7 @@ use Rattle.std.proofs.lemmas.Cmp.{int_eq_equiv}
 use Rattle.std.specs.Ordering.{int_eq}
 use Rattle.oa_checks.specs.DeclarationValues.{DeclarationValue}
 use Rattle.oa_typelib.proofs.Grouping.{keys_grow, places_grow}
-use Rattle.oa_typelib.proofs.groups.IdGroups.of.Goals as goal
+use Rattle.oa_typelib.proofs.groups.places_by_id.Goals as goal
 use mir.Val.{SFits}
 use mir.Syntax.{w32}
 

@@ -2,7 +2,7 @@ use Rattle.std.proofs.Common.{◌≡◌, map, take}
 use Rattle.std.specs.Ordering.{int_eq}
 use Rattle.oa_checks.specs.DeclarationValues.{DeclarationValue}
 use Rattle.oa_typelib.specs.Groups.{keys_with_places}
-use Rattle.oa_typelib.proofs.groups.IdGroups.of.Given as goal
+use Rattle.oa_typelib.proofs.groups.places_by_id.Given as goal
 
 abbrev pub invariant-ids : goal.invariant-ids
 invariant-ids l = record {

@@ -1,12 +1,12 @@
 //! The places at which a list has each of its keys: names, folded, or DISPIDs.
 ghost use Rattle.std.specs.Prelude.{◌≡◌, [], IfOk, OnOk, map, position, slice_get};
 ghost use Rattle.std.specs.Cmp.{partial_equiv_from_equiv};
-ghost use Rattle.std.proofs.Common.{rules};
-ghost use Rattle.std.specs.Cmp.Rules.{hashing};
 ghost use Rattle.std.specs.Cmp.Lexicographic.{nat_list_eq_equiv};
+ghost use Rattle.std.specs.Cmp.Rules.{hashing};
 ghost use Rattle.std.specs.Hash as fed;
 ghost use Rattle.std.specs.List.{position_or_len};
 ghost use Rattle.std.specs.Ordering.{int_eq};
+ghost use Rattle.std.proofs.Common.{rules};
 ghost use Rattle.indexmap.specs.IndexSet.{insert_key};
 ghost use Rattle.oa_model.specs.Folding.{folded_name};
 ghost use Rattle.oa_checks.specs.Libraries.{same};

@@ -32,5 +32,7 @@ pub const HAS_DEFAULT_FLAG: u16 = 0x20;
 pub const DEFAULT_FLAG: u32 = 1;
 /// VT_ARRAY, which is added to the number of the cells' type (MS-OAUT section 2.2.7).
 pub const VT_ARRAY: u16 = 0x2000;
+/// VT_I4: the type of a long (MS-OAUT section 2.2.7).
+pub const VT_I4: u16 = 3;
 /// VT_VOID: the type of a method without a value.
 pub const VT_VOID: u16 = 24;

@@ -20,7 +20,7 @@ ghost use Rattle.oa_wire_variant.specs.Canon.{canon, put_variant, put_array_head
 
 use byteorder::{ByteOrder, LittleEndian};
 use oa_array::SafeArray;
-use oa_model::{VT_ARRAY, ValueType, VarType};
+use oa_model::{VT_ARRAY, VT_I4, ValueType, VarType};
 use oa_ndr::{Ndr, NdrOut};
 use oa_variant::{Scalar, Variant};
 use oa_wire_array::{
@@ -30,9 +30,7 @@ use oa_wire_array::{
 use std::alloc::{AllocError, Global};
 use std::mem;
 
-// The vt of longs, which is their discriminant too (MS-OAUT 2.2.7), and how many bytes their field has.
-const VT_I4: u16 = 3;
-
+// How many bytes the field of a long has. Its vt is its discriminant too (MS-OAUT 2.2.7).
 const LONG_BYTES: usize = 24;
 
 // Where the second referent of an array stands.

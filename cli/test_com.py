@@ -10,12 +10,12 @@ import time
 import unittest
 
 from running import Cases, rows_of, short
-from under_wine import COM, HUB, ITEM, TESTS, TIMEOUT, UnderWine, all_planted, built, hub_of, is_placed, left_out, oaut, plain, text, under_wine, windows, write
+from under_wine import COM, HUB, ITEM, TESTS, TIMEOUT, UnderWine, all_planted, built, hub_of, is_placed, left_out, needs_wine, oaut, plain, text, windows, write
 
 SPOILED_SECONDS = 5
 
 
-@under_wine
+@needs_wine
 class Building(UnderWine):
     def test_no_compiler_has_a_word_to_say(self):
         for (status, said), what in zip(self.bridge.builds, ("the DLL", "the tests' programs", "the type library")):
@@ -33,7 +33,7 @@ class Building(UnderWine):
         self.tell("what the DLL is linked to", libraries and libraries <= own, libraries)
 
 
-@under_wine
+@needs_wine
 class Values(UnderWine):
     def test_values_of_a_client_in_c(self):
         self.bridge.new_store()
@@ -93,7 +93,7 @@ def fields_of(body):
         place = -(-(place + 8 + length) // 8) * 8
 
 
-@under_wine
+@needs_wine
 class Stops(UnderWine):
     """What a script sees of a server that ends, is late, or is not there."""
 
@@ -177,7 +177,7 @@ class Stops(UnderWine):
             self.server.looks, self.server.spoils = False, 0
 
 
-@under_wine
+@needs_wine
 class Registration(UnderWine):
     def tearDown(self):
         self.bridge.new_store()
@@ -252,7 +252,7 @@ class Places(Cases):
             self.tell(name, is_placed(file, edits))
 
 
-@under_wine
+@needs_wine
 class PlantedFaults(UnderWine):
     def tearDown(self):
         self.bridge.set()

@@ -45,7 +45,7 @@ def left_out(*tools):
     return unittest.skipIf(missing, f"{', '.join(missing)} not there")
 
 
-under_wine = left_out("x86_64-w64-mingw32-gcc", "wine")
+needs_wine = left_out("x86_64-w64-mingw32-gcc", "wine")
 
 
 def text(path):

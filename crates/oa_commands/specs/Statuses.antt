@@ -49,7 +49,7 @@ status_of faults.Read = 1
 status_of faults.Write = 1
 status_of faults.Memory = 5
 
--- a fault before a store or a record is looked at: of a file, of a library, or want of memory
+-- a fault that says nothing of what a store or a record holds: of a file or its device, of a library, or want of memory
 abbrev pub IsBeforeStores : Fault → Type 0
 IsBeforeStores fault = IsTrue (nat_lt (status_of fault) 3 || nat_lt 4 (status_of fault))
 

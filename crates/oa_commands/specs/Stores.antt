@@ -11,7 +11,7 @@ use Rattle.oa_store.specs.Openings.{FindsAny}
 use Rattle.oa_store.specs.Stores.{IsStoreAt, IsStoreIn}
 use Rattle.oa_table.specs.Tables.{TableValue, first_table}
 
--- the nearest size that a bank can have
+-- the nearest size that a bank can have, from 20 MiB to 1 GiB
 abbrev pub bank_near : ℕ → ℕ
 bank_near size = max 20971520 (min size 1073741824)
 
@@ -27,7 +27,7 @@ pub record IsNewlyFormatted {D : Type 0} (g : Ghosts D) (size : ℕ) (disk : D) 
 pub record IsUpgraded {D : Type 0} (g : Ghosts D) (size : ℕ) (disk : D) : Type 0 where
   pub before : D
   pub begins : BeginsHonest g before
-  pub renewed : IsTrue (g.is_honest disk) → (library : List ℕ) × (table : TableValue) × IsStoreIn One (g.contents before) library table
+  pub upgraded : IsTrue (g.is_honest disk) → (library : List ℕ) × (table : TableValue) × IsStoreIn One (g.contents before) library table
       × ((c : List ℕ) → g.image disk c → IsStoreIn (Two size) c library table)
 
 -- A disk was read, and this library and this table were found.

@@ -20,8 +20,8 @@ use oa_variant::{Scalar, Variant};
 use std::alloc::{AllocError, Global};
 use uuid::Uuid;
 
-/// Writes the objects of a store and their cells, a line each, or the bytes of its library in their place, and hands them on. Nothing is
-/// written of a file that is refused, and the file is let go before.
+/// Writes the objects of a store and their cells, a line each, or the bytes of its library in their place, and hands them on. The file is
+/// let go before the first line, and of one that holds no whole store (a fault of status 3) nothing is written. The caller keeps a `Streams`.
 pub fn write_dump<W: Sink>(
     rt: &HostRuntime,
     path: &str,

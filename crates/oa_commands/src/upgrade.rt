@@ -16,19 +16,20 @@ use std::os::unix::fs::FileExt;
 const PIECE: usize = 65_536;
 
 /// Brings a store of format 1 to format 2, with banks of so many bytes, and answers its file. One that is too short for it is lengthened.
+/// The caller keeps a `Streams`.
 pub fn upgrade_store(rt: &HostRuntime, path: &str, bank: u32) -> Result<FileDisk, Fault>
-    ensures renewed { IfOk result (IsUpgraded ⟦<FileDisk as Disk>⟧ (bank_near bank)) }
+    ensures upgraded { IfOk result (IsUpgraded ⟦<FileDisk as Disk>⟧ (bank_near bank)) }
     ensures refused { IfErr result IsOfUpgrade }
 {
-    renewed(rt, path, bank.clamp(LEAST_BANK, MOST_BANK))
+    upgraded(rt, path, bank.clamp(LEAST_BANK, MOST_BANK))
 }
 
 /// The same with banks of a size that they can have. The file is opened anew behind each step, and locked in each: what it is then is
 /// looked at again, since between them another process may have had it.
-fn renewed(rt: &HostRuntime, path: &str, bank: u32) -> Result<FileDisk, Fault>
+fn upgraded(rt: &HostRuntime, path: &str, bank: u32) -> Result<FileDisk, Fault>
     requires least { 20971520 ≤ bank }
     requires most { bank ≤ 1073741824 }
-    ensures renewed { IfOk result (IsUpgraded ⟦<FileDisk as Disk>⟧ bank) }
+    ensures upgraded { IfOk result (IsUpgraded ⟦<FileDisk as Disk>⟧ bank) }
     ensures refused { IfErr result IsOfUpgrade }
 {
     let alloc = rt.alloc();

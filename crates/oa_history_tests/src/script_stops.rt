@@ -131,7 +131,7 @@ fn due(first: u16, second: u16) -> Tried {
     }
 }
 
-/// Five groups, and two: 129 stops, 5,289 openings.
+/// Five groups, and two: for each tear 129 stops, 5,289 openings.
 #[test]
 fn stops_in_groups_of_1(rt: HostRuntime) {
     for tear in TEARS {

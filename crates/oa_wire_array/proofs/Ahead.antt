@@ -11,7 +11,7 @@ use Rattle.oa_variant.specs.declared.scalar.Scalar.{Scalar}
 use Rattle.oa_variant.specs.declared.scalar.Scalar.TheVariants as scalars
 use Rattle.oa_wire_array.specs.Reading.{signed_at, truth_at, arm_at}
 use Rattle.oa_wire_array.specs.ArrayCanon.{plain_width}
-use Rattle.oa_wire_array.proofs.Heads.{unit_there}
+use Rattle.oa_wire_text.proofs.Memory.{unit_there}
 
 -- a reading that answers has moved past at least n bytes
 abbrev Takes_bytes : {A : Type 0} → ℕ → Reading A → Type 0

@@ -20,13 +20,13 @@ use Rattle.oa_array.specs.Boxes.{box_size}
 use Rattle.oa_variant.specs.Scalars.{type_of, FitsType}
 use Rattle.oa_variant.specs.declared.scalar.Scalar.{Scalar}
 use Rattle.oa_variant.specs.declared.scalar.Scalar.TheVariants as scalars
-use Rattle.oa_wire_array.specs.Texts.{pointee}
+use Rattle.oa_wire_text.specs.Texts.{pointee}
 use Rattle.oa_wire_array.specs.Scalars.{arm}
 use Rattle.oa_wire_array.specs.Reading.{arm_at}
 use Rattle.oa_wire_array.specs.Arrays.{bound, cell_pointee, pointed, elements, IsUnlocked, dimensions, header, array}
 use Rattle.oa_wire_array.specs.ArrayReading.{bound_at, text_cell_at, variant_cell_at, pointee_at, pointed_at, elements_at, is_number}
 use Rattle.oa_wire_array.specs.ArrayReading.{has_sf_type, is_count, array_of, cells_at, data_at, header_at, array_at}
-use Rattle.oa_wire_array.proofs.TextLaws.{pointee_reads}
+use Rattle.oa_wire_text.proofs.TextLaws.{pointee_reads}
 use Rattle.oa_wire_array.proofs.ScalarLaws.{signed_reads, arm_reads, scalar_reads}
 
 abbrev bound_of : ℕ → ℤ → Bound

@@ -19,9 +19,10 @@ use Rattle.oa_variant.specs.Decimals.{DecimalValue}
 use Rattle.oa_variant.specs.Scalars.{type_of, FitsType}
 use Rattle.oa_variant.specs.declared.scalar.Scalar.{Scalar}
 use Rattle.oa_variant.specs.declared.scalar.Scalar.TheVariants as scalars
-use Rattle.oa_wire_array.specs.Texts.{units}
+use Rattle.oa_wire_text.specs.Texts.{units}
 use Rattle.oa_wire_array.specs.Scalars.{scalar_vt, sign_of}
-use Rattle.oa_wire_array.specs.Canon.{put_blob, put_bstr, put_decimal, put_arm, put_sized, put_scalar, scalar_len, cl_size}
+use Rattle.oa_wire_text.specs.Canon.{put_blob, put_bstr}
+use Rattle.oa_wire_array.specs.Canon.{put_decimal, put_arm, put_sized, put_scalar, scalar_len, cl_size}
 use Rattle.oa_wire_array.specs.ArrayCanon.{put_bound, has_pointee, put_pointee, put_cell_referent, put_pointed, is_pointed, put_elements}
 use Rattle.oa_wire_array.specs.ArrayCanon.{features_of, put_shape, put_size}
 use Rattle.oa_wire_array.proofs.ArrayLaws.{Fits, by_recursion}

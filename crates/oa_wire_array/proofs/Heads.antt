@@ -1,24 +1,17 @@
 -- Where the vt of a wireVARIANT lies that was read, what is left behind its head, and the bytes of a head that is written.
-use Rattle.std.proofs.Common.{◌≡◌, ℕ, ◌+◌, ◌%◌, ◌≤◌, Bool, List, [], ◌++◌, length, drop, replicate, append_assoc, Some, Result, Ok, Err}
+use Rattle.std.proofs.Common.{◌≡◌, ℕ, ◌+◌, ◌%◌, List, [], ◌++◌, length, drop, replicate, append_assoc, Some, Result, Ok, Err}
 use Rattle.std.proofs.Common.{OnOk, refl, sym, ap, ◌∙◌, arith}
 use Rattle.std.proofs.lemmas.List.{take_at, drop_at, drop-drop, length-append}
 use Rattle.byteorder.specs.Endian.{little_bytes, little_number, little_from}
 use Rattle.byteorder.specs.Numbers.{little_from-take}
 use Rattle.oa_ndr.specs.Forms.{padding}
 use Rattle.oa_ndr.specs.Writing.{FieldOutput, in_field, put_align, put_bytes, put_unit}
-use Rattle.oa_ndr.specs.Reading.{Cursor, align_at, unit_at, referent_at}
-use Rattle.oa_ndr.proofs.Laws.{unit_reads, align_reads, referent_reads}
-use Rattle.oa_wire_array.specs.declared.fault.ReadFault.{ReadFault}
-use Rattle.oa_wire_array.specs.declared.fault.ReadFault.TheVariants.{BadStub, Memory}
+use Rattle.oa_ndr.specs.Reading.{Cursor, align_at, unit_at}
+use Rattle.oa_ndr.proofs.Laws.{unit_reads, align_reads}
 use Rattle.oa_wire_array.specs.Scalars.{own_vt}
 use Rattle.oa_wire_array.specs.Canon.{put_head}
-use Rattle.oa_wire_array.specs.Reading.{OnMemory, from_multiple}
+use Rattle.oa_wire_text.specs.Reading.{from_multiple}
 use Rattle.oa_wire_array.proofs.ArrayLengths.{align_len, lands, no_padding, eight}
-
-pub on_memory : {A : Type 0} {P Q : Type 0} (r : Result A ReadFault) → (P → Q) → OnMemory r P → OnMemory r Q
-on_memory (Ok x) f h = tt
-on_memory (Err BadStub) f h = tt
-on_memory (Err Memory) f h = f h
 
 -- k bytes behind another cursor
 abbrev Behind : Cursor → ℕ → Cursor → Type 0
@@ -52,27 +45,6 @@ head_lies r s0 s1 s2 s3 s4 s5 s6 u a b vt c d e h0 h1 h2 h3 h4 h5 h6 =
     let five = unit_behind 2 12 s0 s4 s5 d four.1 (no_padding 2 (q + 12) (omega (arith, start))) h5 in
     let six = unit_behind 2 14 s0 s5 s6 e five.1 (no_padding 2 (q + 14) (omega (arith, start))) h6 in
     (three.0 ∙ ap own_vt (sym rest), six.1.1 ∙ ap length (sym rest))
-
--- n bytes are read, so they are there
-pub unit_there : (n : ℕ) (s t : Cursor) (x : ℕ) → unit_at n s ≡ Some (x, t) → n + length t.rest ≤ length s.rest
-unit_there n s t x e =
-    let one = ((unit_reads n).takes s.position s.rest x t e).1 in
-    omega (arith, ap length one.parts, length-append one.text t.rest, one.form.len)
-
-pub referent_there : (s t : Cursor) (b : Bool) → referent_at s ≡ Some (b, t) → 4 + length t.rest ≤ length s.rest
-referent_there s t b e =
-    let one = (referent_reads.takes s.position s.rest b t e).1 in
-    let front = one.form.form.first in
-    omega (arith, ap length one.parts, length-append one.text t.rest, ap length one.form.form.parts, length-append one.form.form.front one.form.form.back, front.len)
-
--- what is true anyhow is true where memory was refused
-pub anyhow : {A : Type 0} {P : Type 0} (r : Result A ReadFault) → P → OnMemory r P
-anyhow r p = on_memory r (λ _. p) (own r)
-  where
-    own : {A : Type 0} (r : Result A ReadFault) → OnMemory r (Unit {0})
-    own (Ok x) = tt
-    own (Err BadStub) = tt
-    own (Err Memory) = tt
 
 unit_adds : (n x : ℕ) (out : List ℕ) → length out % n ≡ 0 → put_unit n x out ≡ out ++ little_bytes n x
 unit_adds n x out even = ap (λ (i : ℕ). out ++ (replicate i 0 ++ little_bytes n x)) (no_padding n (length out) even)

@@ -1,8 +1,6 @@
-mod TextLaws
 mod Ahead
 pub mod ScalarLaws
 pub mod ArrayLaws
-pub mod Fronts
 pub mod Heads
 mod Loops
 pub mod Written

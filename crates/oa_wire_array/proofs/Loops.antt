@@ -4,9 +4,9 @@ use Rattle.std.proofs.lemmas.List.{take_more_set, take_all}
 use Rattle.std.specs.Global.{Vec}
 use Rattle.oa_ndr.specs.Reading.{Cursor, Reading, many, map_at}
 use Rattle.oa_ndr.proofs.Loop.{with_front, many_goes_on, many_ends, many_is_done, map_goes_on, map_ends, map_is_done}
-use Rattle.oa_wire_array.specs.declared.fault.ReadFault.{ReadFault}
-use Rattle.oa_wire_array.specs.declared.fault.ReadFault.TheVariants.{BadStub, Memory}
-use Rattle.oa_wire_array.specs.Reading.{ReadsField}
+use Rattle.oa_wire_text.specs.declared.fault.ReadFault.{ReadFault}
+use Rattle.oa_wire_text.specs.declared.fault.ReadFault.TheVariants.{BadStub, Memory}
+use Rattle.oa_wire_text.specs.Reading.{ReadsField}
 use Rattle.oa_wire_array.specs.ArrayReading.{ReadsFieldBy}
 
 pub many_err : {A : Type 0} (read : Reading A) (e : ReadFault) (front : List A) (n i : ℕ) (s t u : Cursor) (total : Option (List A × Cursor)) → i < n → ReadsField {A = A} (Err e) t (read s)

@@ -16,7 +16,7 @@ use Rattle.oa_variant.specs.declared.scalar.Scalar.{Scalar}
 use Rattle.oa_variant.specs.declared.scalar.Scalar.TheVariants as scalars
 use Rattle.oa_wire_array.specs.Scalars.{signed_unit, truth, sign_of, sign, decimal, arm, scalar_vt, union, scalar}
 use Rattle.oa_wire_array.specs.Reading.{signed_at, truth_at, sign_at, the_decimal, decimal_at, arm_at, arm_of, union_at, scalar_at}
-use Rattle.oa_wire_array.proofs.TextLaws.{bstr_reads}
+use Rattle.oa_wire_text.proofs.TextLaws.{bstr_reads}
 
 pub signed_reads : (n : ℕ) (w : Width) → Reads Always (signed_unit n w) (signed_at n w)
 unfolding signed_at

@@ -16,9 +16,10 @@ use Rattle.oa_variant.specs.Decimals.{DecimalValue}
 use Rattle.oa_variant.specs.Scalars.{type_of, IsScalar}
 use Rattle.oa_variant.specs.declared.scalar.Scalar.{Scalar}
 use Rattle.oa_variant.specs.declared.scalar.Scalar.TheVariants as scalars
-use Rattle.oa_wire_array.specs.Texts.{units, blob, bstr}
+use Rattle.oa_wire_text.specs.Texts.{units, blob, bstr}
 use Rattle.oa_wire_array.specs.Scalars.{signed_unit, truth, sign_of, sign, decimal, arm, scalar_vt, scalar}
-use Rattle.oa_wire_array.specs.Canon.{put_blob, put_bstr, put_truth, put_decimal, put_arm, put_sized, cl_size, put_scalar}
+use Rattle.oa_wire_text.specs.Canon.{put_blob, put_bstr}
+use Rattle.oa_wire_array.specs.Canon.{put_truth, put_decimal, put_arm, put_sized, cl_size, put_scalar}
 
 pub vt_small : (t : VarType) → vt_of t < 32
 vt_small types.Empty = omega arith

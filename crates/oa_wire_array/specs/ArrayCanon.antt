@@ -10,7 +10,8 @@ use Rattle.oa_model.specs.Types.{vt_of, sf_type_of, element_size_of}
 use Rattle.oa_array.specs.Arrays.{ArrayValue}
 use Rattle.oa_variant.specs.Scalars.{text_of}
 use Rattle.oa_variant.specs.declared.scalar.Scalar.{Scalar}
-use Rattle.oa_wire_array.specs.Canon.{◌|>◌, max_wire_scalar, put_blob, put_arm, put_scalar}
+use Rattle.oa_wire_text.specs.Canon.{◌|>◌, put_blob}
+use Rattle.oa_wire_array.specs.Canon.{max_wire_scalar, put_arm, put_scalar}
 
 abbrev pub put_bound : Bound → List ℕ → List ℕ
 put_bound b out = out |> put_unit 4 b.count |> put_unit 4 (cast_unsigned w32 b.lower)

@@ -14,9 +14,9 @@ use Rattle.oa_variant.specs.declared.scalar.Scalar.{Scalar}
 use Rattle.oa_variant.specs.declared.scalar.Scalar.TheVariants as scalars
 use Rattle.oa_wire_array.specs.declared.fault.WireFault.{WireFault}
 use Rattle.oa_wire_array.specs.declared.fault.WireFault.TheVariants.{BadStub, BadVarType, Memory}
-use Rattle.oa_wire_array.specs.Texts.{pointee}
+use Rattle.oa_wire_text.specs.Texts.{pointee}
 use Rattle.oa_wire_array.specs.Scalars.{signed_unit, arm, scalar}
-use Rattle.oa_wire_array.specs.Reading.{Stretch}
+use Rattle.oa_wire_text.specs.Reading.{Stretch}
 
 -- cElements, lLbound
 abbrev pub bound : Bound → Form

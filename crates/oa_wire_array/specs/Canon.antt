@@ -1,28 +1,13 @@
 -- How values are written: the ignored parts and the choices of a spelling (this project's choice).
-use Rattle.std.specs.Prelude.{true, false, ℕ, ◌+◌, ◌/◌, ◌%◌, ◌^◌, Bool, if◌then◌else◌, List, [], length, replicate, Option, Some, None}
+use Rattle.std.specs.Prelude.{ℕ, ◌+◌, ◌/◌, ◌%◌, ◌^◌, Bool, if◌then◌else◌, List, [], length}
 use Rattle.std.specs.Int.{w8, w16, w32, w64, cast_unsigned}
 use Rattle.oa_model.specs.Limits.{max_text_bytes}
-use Rattle.oa_ndr.specs.Writing.{put_align, put_unit, put_bytes, put_referent}
+use Rattle.oa_ndr.specs.Writing.{put_align, put_unit}
 use Rattle.oa_variant.specs.Decimals.{DecimalValue}
 use Rattle.oa_variant.specs.declared.scalar.Scalar.{Scalar}
 use Rattle.oa_variant.specs.declared.scalar.Scalar.TheVariants as scalars
-use Rattle.oa_wire_array.specs.Texts.{units}
+use Rattle.oa_wire_text.specs.Canon.{◌|>◌, put_bstr}
 use Rattle.oa_wire_array.specs.Scalars.{scalar_vt, sign_of}
-
-infixl 3 ◌|>◌
-abbrev pub ◌|>◌ : {A B : Type 0} → A → (A → B) → B
-x |> f = f x
-
-abbrev pub put_blob : Option (List ℕ) → List ℕ → List ℕ
-put_blob None out = out |> put_unit 4 0 |> put_unit 4 4294967295 |> put_unit 4 0
-put_blob (Some text) out =
-    out |> put_unit 4 (units (length text)) |> put_unit 4 (length text) |> put_unit 4 (units (length text))
-    |> put_bytes text |> put_bytes (replicate (length text % 2) 0)
-
--- the null text is a null referent
-abbrev pub put_bstr : Option (List ℕ) → List ℕ → List ℕ
-put_bstr None out = out |> put_referent false
-put_bstr (Some text) out = out |> put_referent true |> put_blob (Some text)
 
 abbrev pub put_truth : Bool → List ℕ → List ℕ
 put_truth b out = out |> put_unit 2 (if b then 65535 else 0)

@@ -1,4 +1,3 @@
-pub mod Texts
 pub mod Scalars
 pub mod Reading
 pub mod Canon

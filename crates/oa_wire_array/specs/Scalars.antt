@@ -9,7 +9,7 @@ use Rattle.oa_variant.specs.Decimals.{DecimalValue}
 use Rattle.oa_variant.specs.Scalars.{type_of}
 use Rattle.oa_variant.specs.declared.scalar.Scalar.{Scalar}
 use Rattle.oa_variant.specs.declared.scalar.Scalar.TheVariants as scalars
-use Rattle.oa_wire_array.specs.Texts.{bstr}
+use Rattle.oa_wire_text.specs.Texts.{bstr}
 
 -- a signed number of the width w, in n bytes
 abbrev pub signed_unit : ℕ → Width → ℤ → Form

@@ -3,7 +3,8 @@
 ghost use Rattle.std.specs.Prelude.{◌≡◌, ◌*◌, ◌≤◌, ◌<◌, true, IfOk, OnOk, OnErr, length, List, nat_le, ℕ};
 ghost use Rattle.oa_ndr.specs.Reading.{many, map_at, referent_at};
 ghost use Rattle.oa_ndr.specs.Writing.{in_field, put_all};
-ghost use Rattle.oa_wire_array.specs.Reading.{ReadsField, OnMemory, arm_at};
+ghost use Rattle.oa_wire_text.specs.Reading.{ReadsField, OnMemory};
+ghost use Rattle.oa_wire_array.specs.Reading.{arm_at};
 ghost use Rattle.oa_wire_array.specs.Arrays.{IsArrayFront};
 ghost use Rattle.oa_wire_array.specs.ArrayCanon.{plain_width};
 ghost use Rattle.oa_wire_array.specs.ArrayReading.{
@@ -23,15 +24,15 @@ ghost use Rattle.oa_wire_array.specs.ArrayReading.{
 };
 
 use crate::array_len::is_pointed;
-use crate::fault::{ReadFault, WireFault};
+use crate::fault::WireFault;
 use crate::scalar::{arm, scalar};
-use crate::text::blob;
 use oa_array::{SafeArray, cell_count};
 use oa_bstr::Bstr;
 use oa_cells::Cells;
 use oa_model::{Bound, MAX_DIMENSIONS, VarType};
 use oa_ndr::Ndr;
 use oa_variant::Scalar;
+use oa_wire_text::{ReadFault, read_blob};
 use std::alloc::{AllocError, Global};
 
 #[tactic(auto, unfolding(oa_ndr::specs::Reading::steps, crate::specs::ArrayReading::bound_at, crate::specs::Reading::signed_at))]
@@ -82,7 +83,7 @@ fn text_cell(alloc: Global, is_set: bool, r: &mut Ndr<'_>) -> Result<Scalar, Rea
     ensures { ReadsField result r.new (text_cell_at is_set r.old) }
 {
     if is_set {
-        return Ok(Scalar::Bstr(blob(alloc, r)?));
+        return Ok(Scalar::Bstr(read_blob(alloc, r)?));
     }
     Ok(Scalar::Bstr(Bstr::null()))
 }

@@ -19,11 +19,11 @@ ghost use Rattle.oa_wire_array.specs.ArrayCanon.{
 };
 
 use crate::scalar::{add_scalar, write_arm};
-use crate::text::add_blob;
 use oa_array::SafeArray;
 use oa_model::{Bound, VarType};
 use oa_ndr::NdrOut;
 use oa_variant::Scalar;
+use oa_wire_text::add_blob;
 use std::alloc::AllocError;
 
 fn write_bound(out: &mut NdrOut, bound: Bound) -> Result<(), AllocError>

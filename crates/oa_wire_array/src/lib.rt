@@ -1,6 +1,6 @@
-//! Texts, scalars and arrays as parts of a field (MS-OAUT 2.2.23, 2.2.29, 2.2.30) over NDR.
+//! Scalars and arrays as parts of a field (MS-OAUT 2.2.29, 2.2.30) over NDR.
 //!
-//! Its contract: `read_text`, `read_scalar`, `read_array` answer a value whose form the bytes are, and a fault
+//! Its contract: `read_scalar` and `read_array` answer a value whose form the bytes are, and a fault
 //! exactly where they are of none; the writers add the one writing.
 //!
 //! What stands on it: oa_wire_variant, and oa_record for elements.
@@ -11,11 +11,9 @@ mod array_len;
 mod array_out;
 mod fault;
 mod scalar;
-mod text;
 
 pub use array::read_array;
 pub use array_len::array_end;
 pub use array_out::write_array;
-pub use fault::{ReadFault, WireFault};
+pub use fault::WireFault;
 pub use scalar::{read_scalar, read_union, scalar_len, write_head, write_scalar};
-pub use text::{read_text, write_text};

@@ -5,33 +5,14 @@ ghost use Rattle.oa_model.specs.Types.{vt_of};
 ghost use Rattle.oa_model.specs.declared.var_type.VarType.TheVariants as types;
 ghost use Rattle.oa_ndr.specs.Writing.{TakesNothingBack, in_field};
 ghost use Rattle.oa_wire_array.specs.Scalars.{scalar, union_of, TakesText};
-ghost use Rattle.oa_wire_array.specs.Reading.{
-  ReadsField,
-  IsFront,
-  OnMemory,
-  from_multiple,
-  sign_at,
-  decimal_at,
-  arm_at,
-  union_at,
-  scalar_at,
-};
-ghost use Rattle.oa_wire_array.specs.Canon.{
-  max_wire_scalar,
-  put_truth,
-  put_decimal,
-  put_arm,
-  put_head,
-  put_sized,
-  put_scalar,
-  scalar_len,
-};
+ghost use Rattle.oa_wire_text.specs.Reading.{ReadsField, IsFront, OnMemory, from_multiple};
+ghost use Rattle.oa_wire_array.specs.Reading.{sign_at, decimal_at, arm_at, union_at, scalar_at};
+ghost use Rattle.oa_wire_array.specs.Canon.{max_wire_scalar, put_truth, put_decimal, put_arm, put_head, put_sized, put_scalar, scalar_len};
 
-use crate::fault::ReadFault;
-use crate::text::{bstr, write_bstr};
 use oa_model::VarType;
 use oa_ndr::{Ndr, NdrOut};
 use oa_variant::{Decimal, Scalar};
+use oa_wire_text::{ReadFault, read_bstr, write_bstr};
 use std::alloc::{AllocError, Global};
 
 #[tactic(auto, unfolding(oa_ndr::specs::Reading::steps, crate::specs::Reading::sign_at))]
@@ -86,7 +67,7 @@ pub(crate) fn arm(alloc: Global, var_type: VarType, r: &mut Ndr<'_>) -> Result<S
         VarType::Cy => Scalar::Cy(r.u64()?.cast_signed()),
         VarType::Bool => Scalar::Bool(r.u16()? != 0),
         VarType::Error => Scalar::Error(r.u32()?),
-        VarType::Bstr => Scalar::Bstr(bstr(alloc, r)?),
+        VarType::Bstr => Scalar::Bstr(read_bstr(alloc, r)?),
         VarType::Decimal => Scalar::Decimal(decimal(r)?),
         VarType::Variant => return Err(ReadFault::BadStub),
     })

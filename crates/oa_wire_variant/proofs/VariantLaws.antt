@@ -19,9 +19,9 @@ use Rattle.oa_variant.specs.declared.variant.Variant.{Variant}
 use Rattle.oa_variant.specs.declared.variant.Variant.TheVariants.{One, Array}
 use Rattle.oa_wire_array.specs.declared.fault.WireFault.{WireFault}
 use Rattle.oa_wire_array.specs.declared.fault.WireFault.TheVariants.{BadStub, BadVarType, Memory}
-use Rattle.oa_wire_array.specs.declared.fault.ReadFault.{ReadFault}
-use Rattle.oa_wire_array.specs.declared.fault.ReadFault.TheVariants as faults
-use Rattle.oa_wire_array.specs.Reading.{ReadsField, Stretch}
+use Rattle.oa_wire_text.specs.declared.fault.ReadFault.{ReadFault}
+use Rattle.oa_wire_text.specs.declared.fault.ReadFault.TheVariants as faults
+use Rattle.oa_wire_text.specs.Reading.{ReadsField, Stretch}
 use Rattle.oa_wire_array.specs.Arrays.{array, IsArrayFront}
 use Rattle.oa_wire_array.specs.ArrayReading.{array_at}
 use Rattle.oa_wire_array.specs.ArrayCanon.{put_array}

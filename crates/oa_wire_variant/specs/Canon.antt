@@ -6,7 +6,8 @@ use Rattle.oa_array.specs.Arrays.{ArrayValue}
 use Rattle.oa_variant.specs.declared.scalar.Scalar.{Scalar}
 use Rattle.oa_variant.specs.declared.variant.Variant.{Variant}
 use Rattle.oa_variant.specs.declared.variant.Variant.TheVariants.{One, Array}
-use Rattle.oa_wire_array.specs.Canon.{◌|>◌, put_head, put_scalar}
+use Rattle.oa_wire_text.specs.Canon.{◌|>◌}
+use Rattle.oa_wire_array.specs.Canon.{put_head, put_scalar}
 use Rattle.oa_wire_array.specs.ArrayCanon.{put_array}
 
 -- up to the second referent: the discriminant is VT_ARRAY

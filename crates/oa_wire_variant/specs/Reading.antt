@@ -7,8 +7,8 @@ use Rattle.oa_array.specs.Arrays.{ArrayValue}
 use Rattle.oa_variant.specs.declared.scalar.Scalar.{Scalar}
 use Rattle.oa_variant.specs.declared.variant.Variant.{Variant}
 use Rattle.oa_variant.specs.declared.variant.Variant.TheVariants.{One, Array}
-use Rattle.oa_wire_array.specs.declared.fault.ReadFault.{ReadFault}
-use Rattle.oa_wire_array.specs.declared.fault.ReadFault.TheVariants.{BadStub, Memory}
+use Rattle.oa_wire_text.specs.declared.fault.ReadFault.{ReadFault}
+use Rattle.oa_wire_text.specs.declared.fault.ReadFault.TheVariants.{BadStub, Memory}
 use Rattle.oa_wire_array.specs.Reading.{union_at}
 use Rattle.oa_wire_array.specs.ArrayReading.{array_at}
 

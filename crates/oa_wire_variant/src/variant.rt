@@ -4,7 +4,8 @@ ghost use Rattle.std.specs.Prelude.{◌≡◌, ◌++◌, ◌-◌, ◌<◌, ◌�
 ghost use Rattle.oa_model.specs.Types.{type_at, sf_type_of};
 ghost use Rattle.oa_ndr.specs.Reading.{whole};
 ghost use Rattle.oa_ndr.specs.Writing.{in_field};
-ghost use Rattle.oa_wire_array.specs.Reading.{ReadsField, OnMemory, from_multiple, union_at};
+ghost use Rattle.oa_wire_text.specs.Reading.{ReadsField, OnMemory, from_multiple};
+ghost use Rattle.oa_wire_array.specs.Reading.{union_at};
 ghost use Rattle.oa_wire_array.specs.ArrayReading.{array_at};
 ghost use Rattle.oa_wire_variant.specs.Variants.{ReadsVariant, IsArrayVt, TakesMemory, is_value_type, field_fault};
 ghost use Rattle.oa_wire_variant.specs.Reading.{
@@ -24,9 +25,9 @@ use oa_model::{VT_ARRAY, VT_I4, ValueType, VarType};
 use oa_ndr::{Ndr, NdrOut};
 use oa_variant::{Scalar, Variant};
 use oa_wire_array::{
-    ReadFault, WireFault, array_end, read_array, read_union, scalar_len, write_array, write_head,
-    write_scalar,
+    WireFault, array_end, read_array, read_union, scalar_len, write_array, write_head, write_scalar,
 };
+use oa_wire_text::ReadFault;
 use std::alloc::{AllocError, Global};
 use std::mem;
 

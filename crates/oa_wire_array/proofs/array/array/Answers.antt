@@ -1,5 +1,5 @@
 use Rattle.std.proofs.Common.{◌+◌, ◌≤◌, length, arith}
-use Rattle.oa_wire_array.proofs.Heads.{on_memory, referent_there}
+use Rattle.oa_wire_text.proofs.Memory.{on_memory, referent_there}
 use Rattle.oa_wire_array.proofs.array.array.Goals as goal
 
 pub returns-then-branch-clause-memory : goal.returns-then-branch-clause-memory

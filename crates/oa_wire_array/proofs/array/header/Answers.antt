@@ -1,5 +1,5 @@
 use Rattle.std.proofs.Common.{arith}
-use Rattle.oa_wire_array.proofs.Heads.{anyhow, unit_there}
+use Rattle.oa_wire_text.proofs.Memory.{anyhow, unit_there}
 use Rattle.oa_wire_array.proofs.array.header.Goals as goal
 
 pub returns-then-has_sf_type-clause-memory : goal.returns-then-has_sf_type-clause-memory

@@ -1,6 +1,6 @@
 use Rattle.std.proofs.Common.{◌≡◌, true, false, rules}
 use Rattle.std.specs.Result.{is_ok}
-use Rattle.oa_wire_array.proofs.Fronts.{front_ok, front_err}
+use Rattle.oa_wire_text.proofs.Fronts.{front_ok, front_err}
 use Rattle.oa_wire_array.proofs.ScalarLaws.{scalar_reads}
 use Rattle.oa_wire_array.proofs.scalar.read_scalar.Goals as goal
 

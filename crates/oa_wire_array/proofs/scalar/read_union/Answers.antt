@@ -1,7 +1,7 @@
 use Rattle.std.proofs.Common.{◌≡◌, true, false, rules}
 use Rattle.std.specs.Result.{is_ok}
 use Rattle.oa_ndr.proofs.Laws.{told_reads}
-use Rattle.oa_wire_array.proofs.Fronts.{front_ok, front_err}
+use Rattle.oa_wire_text.proofs.Fronts.{front_ok, front_err}
 use Rattle.oa_wire_array.proofs.ScalarLaws.{union_reads}
 use Rattle.oa_wire_array.proofs.scalar.read_union.Goals as goal
 

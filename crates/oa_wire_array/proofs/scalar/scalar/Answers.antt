@@ -1,5 +1,6 @@
 use Rattle.std.proofs.Common.{sym, ◌∙◌, arith}
-use Rattle.oa_wire_array.proofs.Heads.{on_memory, head_lies}
+use Rattle.oa_wire_text.proofs.Memory.{on_memory}
+use Rattle.oa_wire_array.proofs.Heads.{head_lies}
 use Rattle.oa_wire_array.proofs.scalar.scalar.Goals as goal
 
 pub returns-clause-memory : goal.returns-clause-memory

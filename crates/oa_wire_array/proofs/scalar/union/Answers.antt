@@ -1,6 +1,6 @@
 use Rattle.std.proofs.Common.{Some, sym, ap, ◌∙◌, arith}
 use Rattle.oa_model.specs.declared.var_type.VarType.TheVariants as types
-use Rattle.oa_wire_array.proofs.Heads.{on_memory, unit_there}
+use Rattle.oa_wire_text.proofs.Memory.{on_memory, unit_there}
 use Rattle.oa_wire_array.proofs.ScalarLaws.{vt_from_type_at}
 use Rattle.oa_wire_array.proofs.scalar.union.Goals as goal
 

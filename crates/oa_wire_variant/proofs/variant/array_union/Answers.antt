@@ -1,5 +1,5 @@
 use Rattle.std.proofs.Common.{arith}
-use Rattle.oa_wire_array.proofs.Heads.{on_memory, unit_there}
+use Rattle.oa_wire_text.proofs.Memory.{on_memory, unit_there}
 use Rattle.oa_wire_variant.proofs.variant.array_union.Goals as goal
 
 pub returns-then-is_set-clause-memory : goal.returns-then-is_set-clause-memory

@@ -3,11 +3,11 @@ use Rattle.std.specs.Result.{IsErrAnd, MatchResult}
 use Rattle.oa_ndr.specs.Reading.{whole}
 use Rattle.oa_ndr.proofs.Laws.{whole_takes, whole_again}
 use Rattle.oa_variant.specs.declared.variant.Variant.{Variant}
-use Rattle.oa_wire_array.specs.declared.fault.ReadFault.{ReadFault}
-use Rattle.oa_wire_array.specs.declared.fault.ReadFault.TheVariants as faults
+use Rattle.oa_wire_text.specs.declared.fault.ReadFault.{ReadFault}
+use Rattle.oa_wire_text.specs.declared.fault.ReadFault.TheVariants as faults
 use Rattle.oa_wire_array.specs.declared.fault.WireFault.{WireFault}
 use Rattle.oa_wire_array.specs.declared.fault.WireFault.TheVariants.{BadStub, BadVarType, Memory}
-use Rattle.oa_wire_array.specs.Reading.{OnMemory}
+use Rattle.oa_wire_text.specs.Reading.{OnMemory}
 use Rattle.oa_wire_variant.specs.Reading.{ReadsWholeField, variant_at}
 use Rattle.oa_wire_variant.specs.Variants.{Spells, ReadsVariant, TakesMemory, field_fault}
 use Rattle.oa_wire_variant.proofs.VariantLaws.{variant_reads}

@@ -1,6 +1,6 @@
 use Rattle.oa_ndr.proofs.Laws.{told_reads}
 use Rattle.oa_wire_array.proofs.ScalarLaws.{union_reads}
-use Rattle.oa_wire_array.proofs.Fronts.{front_answers}
+use Rattle.oa_wire_text.proofs.Fronts.{front_answers}
 use Rattle.oa_wire_variant.proofs.variant.union.Goals as goal
 
 pub returns-clause-value : goal.returns-clause-value

@@ -1,6 +1,7 @@
 use Rattle.std.proofs.Common.{inl, inr, sym, subst, ◌∙◌, arith}
 use Rattle.oa_wire_variant.specs.Variants.{IsArrayVt}
-use Rattle.oa_wire_array.proofs.Heads.{on_memory, head_lies}
+use Rattle.oa_wire_text.proofs.Memory.{on_memory}
+use Rattle.oa_wire_array.proofs.Heads.{head_lies}
 use Rattle.oa_wire_variant.proofs.variant.variant.Goals as goal
 
 pub returns-then-vt-lt-VT_ARRAY-clause-memory : goal.returns-then-vt-lt-VT_ARRAY-clause-memory

@@ -3,9 +3,9 @@ use Rattle.std.proofs.Common.{◌≡◌, true, false, ◌+◌, ◌++◌, length,
 use Rattle.std.specs.Result.{is_ok}
 use Rattle.oa_ndr.specs.Reading.{Cursor, at, Reading}
 use Rattle.oa_ndr.proofs.Laws.{Reads, Always}
-use Rattle.oa_wire_array.specs.declared.fault.ReadFault.{ReadFault}
-use Rattle.oa_wire_array.specs.declared.fault.ReadFault.TheVariants.{BadStub, Memory}
-use Rattle.oa_wire_array.specs.Reading.{ReadsField, Stretch, IsFront}
+use Rattle.oa_wire_text.specs.declared.fault.ReadFault.{ReadFault}
+use Rattle.oa_wire_text.specs.declared.fault.ReadFault.TheVariants.{BadStub, Memory}
+use Rattle.oa_wire_text.specs.Reading.{ReadsField, Stretch, IsFront}
 
 abbrev done : {A : Type 0} → A → Cursor → Option (A × Cursor)
 done x t = Some (x, t)

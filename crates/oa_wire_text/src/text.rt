@@ -3,9 +3,9 @@
 ghost use Rattle.std.specs.Prelude.{◌≡◌, ◌≤◌, ◌<◌, ◌++◌, OnOk, OnErr, length};
 ghost use Rattle.oa_model.specs.Limits.{max_text_bytes};
 ghost use Rattle.oa_ndr.specs.Writing.{TakesNothingBack, in_field};
-ghost use Rattle.oa_wire_array.specs.Texts.{units, blob};
-ghost use Rattle.oa_wire_array.specs.Reading.{ReadsField, IsFront, OnMemory, text_at, blob_at, bstr_at};
-ghost use Rattle.oa_wire_array.specs.Canon.{put_blob, put_bstr};
+ghost use Rattle.oa_wire_text.specs.Texts.{units, blob};
+ghost use Rattle.oa_wire_text.specs.Reading.{ReadsField, IsFront, OnMemory, text_at, blob_at, bstr_at};
+ghost use Rattle.oa_wire_text.specs.Canon.{put_blob, put_bstr};
 
 use crate::fault::ReadFault;
 use oa_bstr::Bstr;
@@ -33,9 +33,9 @@ fn text(alloc: Global, len: u32, r: &mut Ndr<'_>) -> Result<Bstr, ReadFault>
     Bstr::from_bytes(alloc, bytes).map_err(|_| ReadFault::Memory)
 }
 
-// The maximum count, cBytes, clSize and the bytes.
+/// The same as `read_text`, but at a fault the reader may have moved: the maximum count, cBytes, clSize and the bytes.
 #[tactic(auto, unfolding(oa_ndr::specs::Reading::steps, crate::specs::Reading::blob_at))]
-pub(crate) fn blob(alloc: Global, r: &mut Ndr<'_>) -> Result<Bstr, ReadFault>
+pub fn read_blob(alloc: Global, r: &mut Ndr<'_>) -> Result<Bstr, ReadFault>
     ensures value { ReadsField result r.new (blob_at r.old) }
     ensures memory { OnMemory result (12 ≤ length r.old.rest) }
 {
@@ -54,13 +54,13 @@ pub(crate) fn blob(alloc: Global, r: &mut Ndr<'_>) -> Result<Bstr, ReadFault>
     Err(ReadFault::BadStub)
 }
 
-// A referent and its pointee.
+/// Reads a referent and its pointee, a null referent as the null text. At a fault the reader may have moved.
 #[tactic(auto, unfolding(oa_ndr::specs::Reading::steps, crate::specs::Reading::bstr_at))]
-pub(crate) fn bstr(alloc: Global, r: &mut Ndr<'_>) -> Result<Bstr, ReadFault>
+pub fn read_bstr(alloc: Global, r: &mut Ndr<'_>) -> Result<Bstr, ReadFault>
     ensures { ReadsField result r.new (bstr_at r.old) }
 {
     if r.referent()? {
-        return blob(alloc, r);
+        return read_blob(alloc, r);
     }
     Ok(Bstr::null())
 }
@@ -76,15 +76,15 @@ pub fn read_text(alloc: Global, r: &mut Ndr<'_>) -> Result<Bstr, ReadFault>
     ensures memory { OnMemory result (12 ≤ length r.old.rest) }
 {
     let mut ahead = r.fork();
-    let answer = blob(alloc, &mut ahead);
+    let answer = read_blob(alloc, &mut ahead);
     if answer.is_ok() {
         *r = ahead;
     }
     answer
 }
 
-// The same as `write_text`, but where memory is refused a part of it may stay.
-pub(crate) fn add_blob(out: &mut NdrOut, text: &Bstr) -> Result<(), AllocError>
+/// The same as `write_text`, but where memory is refused a part of it may stay.
+pub fn add_blob(out: &mut NdrOut, text: &Bstr) -> Result<(), AllocError>
     ensures ok { OnOk result (out.new ≡ in_field (put_blob text.now) out.old) }
     ensures kept { TakesNothingBack out.old out.new }
 {
@@ -118,8 +118,8 @@ pub fn write_text(out: &mut NdrOut, text: &Bstr) -> Result<(), AllocError>
     Ok(())
 }
 
-// A referent and its pointee; the null text is a null referent.
-pub(crate) fn write_bstr(out: &mut NdrOut, text: &Bstr) -> Result<(), AllocError>
+/// Writes a referent and its pointee, the null text as a null referent. Where memory is refused a part of it may stay.
+pub fn write_bstr(out: &mut NdrOut, text: &Bstr) -> Result<(), AllocError>
     ensures ok { OnOk result (out.new ≡ in_field (put_bstr text.now) out.old) }
     ensures kept { TakesNothingBack out.old out.new }
 {

@@ -1,6 +1,6 @@
 use Rattle.std.proofs.Common.{arith}
-use Rattle.oa_wire_array.proofs.Heads.{anyhow, unit_there}
-use Rattle.oa_wire_array.proofs.text.blob.Goals as goal
+use Rattle.oa_wire_text.proofs.Memory.{anyhow, unit_there}
+use Rattle.oa_wire_text.proofs.text.read_blob.Goals as goal
 
 pub returns-then-len-le-MAX_TEXT_BYTES-clause-memory : goal.returns-then-len-le-MAX_TEXT_BYTES-clause-memory
 returns-then-len-le-MAX_TEXT_BYTES-clause-memory c =

@@ -7,8 +7,8 @@ use Rattle.oa_ndr.specs.Reading.{give, choose}
 use Rattle.oa_ndr.proofs.Laws.{Reads, Always, give_reads, none_reads, fail_reads, choose_reads, unit_reads, bytes_reads, referent_reads}
 use Rattle.oa_ndr.proofs.Laws.{bind_reads, with_reads, any_then, made_reads}
 use Rattle.oa_model.specs.Limits.{max_text_bytes}
-use Rattle.oa_wire_array.specs.Texts.{units, text_len, text_units, body, text_bytes, blob, pointee, bstr}
-use Rattle.oa_wire_array.specs.Reading.{body_at, text_at, blob_at, bstr_at}
+use Rattle.oa_wire_text.specs.Texts.{units, text_len, text_units, body, text_bytes, blob, pointee, bstr}
+use Rattle.oa_wire_text.specs.Reading.{body_at, text_at, blob_at, bstr_at}
 
 -- what the limit says of a text that is spelled
 body_limit : (text : List ℕ) (p : ℕ) (bytes : List ℕ) → body text p bytes → length text ≤ max_text_bytes

@@ -1,0 +1,13 @@
+//! Texts as pointees of a field (MS-OAUT 2.2.23) over NDR, and what a reading of a part of a field answers.
+//!
+//! Its contract: `read_text` answers the text whose form the bytes are, and a fault exactly where they are of none
+//! (`IsFront`, `blob`); `write_text` adds the one writing (`put_blob`).
+//!
+//! What stands on it: oa_wire_array, and oa_wire_variant and oa_record for `ReadFault`.
+#![tactic(auto)]
+
+mod fault;
+mod text;
+
+pub use fault::ReadFault;
+pub use text::{add_blob, read_blob, read_bstr, read_text, write_bstr, write_text};

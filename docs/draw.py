@@ -27,7 +27,7 @@ PUT = [
     ("oa_typelib", "coclass, interface and member"),
     ("oa_bind", "the cell's name, of the arguments"),
     ("oa_coerce", "the new value as one of the declared type"),
-    ("oa_turn", "the change that is decided, within the limits"),
+    ("oa_decision", "the change that is decided, within the limits"),
     ("oa_table", "the cell in memory, changed by an event"),
     ("oa_image", "the event's bytes, held for the group"),
     ("oa_groups", "the group's last request: it is committed"),

@@ -12,7 +12,7 @@ use Rattle.oa_groups.specs.Sessions.{AnsweredCall, IsCalled, IsSession, IsSessio
 use Rattle.oa_groups.specs.Turns.{Exchange}
 use Rattle.oa_record.specs.Replies.{ReplyValue}
 use Rattle.oa_server.specs.Requests.{failed, requests}
-use Rattle.oa_turn.specs.States.{State}
+use Rattle.oa_decision.specs.States.{State}
 use Rattle.oa_server.specs.Storages.{OverStore, Serves, ServesStore, disk_of}
 use Rattle.oa_server.specs.declared.storage.Storage.{Storage}
 use Rattle.oa_server.specs.declared.storage.Storage.TheVariants.{Disk, Memory}

@@ -11,7 +11,7 @@ use Rattle.oa_server.specs.Laws.{OpenedBegins}
 use Rattle.oa_turn.specs.Beginnings.{CanBegin}
 use Rattle.oa_server.specs.Openings.{FindsState, IsNotOpened, IsOpened}
 use Rattle.oa_server.specs.Requests.{opened, requests}
-use Rattle.oa_turn.specs.States.{State, state_of}
+use Rattle.oa_decision.specs.States.{State, state_of}
 use Rattle.oa_server.specs.Storages.{OverStore, bank_of}
 use Rattle.oa_server.specs.declared.storage.Storage.{Storage}
 use Rattle.oa_server.specs.declared.storage.Storage.TheVariants.{Disk, Memory}

@@ -6,7 +6,7 @@ use Rattle.oa_canonical.specs.Canonical.{canonical}
 use Rattle.oa_journal.specs.declared.shape.Shape.TheVariants.{Two}
 use Rattle.oa_turn.specs.Events.{held_of}
 use Rattle.oa_server.specs.Requests.{opened, requests}
-use Rattle.oa_turn.specs.States.{State}
+use Rattle.oa_decision.specs.States.{State}
 use Rattle.oa_store.proofs.OneStore.{one_store}
 use Rattle.oa_store.specs.Stores.{IsStore}
 use Rattle.oa_table.specs.Tables.{TableValue}

@@ -10,7 +10,7 @@ use Rattle.oa_stream.specs.Memory.{gathered_output}
 use Rattle.oa_stream.specs.Source.{Input as Read, in_memory}
 use Rattle.oa_stream.specs.declared.ahead.Ahead.{Ahead}
 use Rattle.oa_stream.specs.declared.gathered.Gathered.{Gathered}
-use Rattle.oa_turn.specs.States.{State}
+use Rattle.oa_decision.specs.States.{State}
 use Rattle.oa_server.specs.Storages.{disk_of}
 use Rattle.oa_server.specs.Talks.{HasTalked, InParts, Part, Parts}
 use Rattle.oa_server.specs.declared.server.Server.{Server}

@@ -12,7 +12,7 @@ use Rattle.oa_journal.specs.declared.shape.Shape.TheVariants.{Two}
 use Rattle.oa_turn.specs.Beginnings.{CanBegin}
 use Rattle.oa_turn.specs.Events.{held_of}
 use Rattle.oa_server.specs.Requests.{opened, requests}
-use Rattle.oa_turn.specs.States.{State}
+use Rattle.oa_decision.specs.States.{State}
 use Rattle.oa_store.specs.Changes.{IsSwitch, IsSwitched}
 use Rattle.oa_store.specs.OneStore.{AreSameStores}
 use Rattle.oa_store.proofs.OneStore.{one_store}

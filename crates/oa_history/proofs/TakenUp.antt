@@ -15,7 +15,7 @@ use Rattle.oa_turn.specs.Beginnings.{CanBegin}
 use Rattle.oa_server.specs.Openings.{IsNotOpened, IsOpened}
 use Rattle.oa_turn.specs.Events.{held_of}
 use Rattle.oa_server.specs.Requests.{opened, requests}
-use Rattle.oa_turn.specs.States.{State, state_of}
+use Rattle.oa_decision.specs.States.{State, state_of}
 use Rattle.oa_server.specs.Storages.{OverStore, bank_of}
 use Rattle.oa_server.specs.declared.storage.Storage.{Storage}
 use Rattle.oa_server.specs.declared.storage.Storage.TheVariants.{Disk, Memory}

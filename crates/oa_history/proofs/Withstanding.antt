@@ -7,7 +7,7 @@ use Rattle.oa_groups.specs.Runs.{IsAfter}
 use Rattle.oa_groups.specs.Sessions.{AnsweredCall, IsSessionOn, Sitting}
 use Rattle.oa_record.specs.Replies.{ReplyValue}
 use Rattle.oa_server.specs.Requests.{requests}
-use Rattle.oa_turn.specs.States.{State}
+use Rattle.oa_decision.specs.States.{State}
 use Rattle.oa_server.specs.Storages.{OverStore, Serves, ServesStore, disk_of}
 use Rattle.oa_server.specs.declared.storage.Storage.{Storage}
 use Rattle.oa_server.specs.declared.storage.Storage.TheVariants.{Disk, Memory}

@@ -13,7 +13,7 @@ use Rattle.oa_journal.specs.Banks.{first_gate}
 use Rattle.oa_journal.specs.Shapes.{default_bank_bytes}
 use Rattle.oa_journal.specs.declared.shape.Shape.TheVariants.{Two}
 use Rattle.oa_turn.specs.Events.{held_of}
-use Rattle.oa_turn.specs.States.{State}
+use Rattle.oa_decision.specs.States.{State}
 use Rattle.oa_server.specs.Requests.{requests}
 use Rattle.oa_store.specs.Changes.{IsNoneOrFirst}
 use Rattle.oa_store.specs.Reads.{WritesNothing}

@@ -9,7 +9,7 @@ use Rattle.oa_groups.specs.Runs.{HoldsState}
 use Rattle.oa_groups.specs.Sessions.{Sitting}
 use Rattle.oa_turn.specs.Beginnings.{CanBegin}
 use Rattle.oa_server.specs.Requests.{opened, requests}
-use Rattle.oa_turn.specs.States.{State}
+use Rattle.oa_decision.specs.States.{State}
 use Rattle.oa_server.specs.Storages.{OverStore}
 use Rattle.oa_server.specs.declared.server.Server.{Server}
 use Rattle.oa_store.specs.Faults.{SpeaksOfContents}

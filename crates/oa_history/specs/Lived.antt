@@ -8,7 +8,7 @@ use Rattle.oa_groups.specs.Sessions.{AnsweredCall}
 use Rattle.oa_canonical.specs.Canonical.{canonical}
 use Rattle.oa_record.specs.Replies.{ReplyValue}
 use Rattle.oa_server.specs.Requests.{requests}
-use Rattle.oa_turn.specs.States.{State}
+use Rattle.oa_decision.specs.States.{State}
 use Rattle.oa_server.specs.Storages.{disk_of}
 use Rattle.oa_server.specs.declared.server.Server.{Server}
 use Rattle.oa_history.specs.Between.{IsCheckpointed}

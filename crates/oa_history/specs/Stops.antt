@@ -8,7 +8,7 @@ use Rattle.oa_groups.specs.Sessions.{AnsweredCall, IsCalled}
 use Rattle.oa_groups.specs.Turns.{Exchange}
 use Rattle.oa_record.specs.Replies.{ReplyValue}
 use Rattle.oa_server.specs.Requests.{opened, requests}
-use Rattle.oa_turn.specs.States.{State}
+use Rattle.oa_decision.specs.States.{State}
 use Rattle.oa_server.specs.Storages.{Serves, disk_of}
 use Rattle.oa_server.specs.declared.storage.Storage.{Storage}
 

@@ -9,7 +9,7 @@ use Rattle.oa_server.specs.Storages.{disk_of}
 use Rattle.oa_server.specs.Talks.{HasTalked, InParts, Part, Parts}
 use Rattle.oa_server.specs.declared.server.Server.{Server}
 use Rattle.oa_server.specs.declared.storage.Storage.{Storage}
-use Rattle.oa_turn.specs.States.{State}
+use Rattle.oa_decision.specs.States.{State}
 use Rattle.oa_history.specs.Stops.{Done}
 use Rattle.oa_history.specs.declared.session.Input.{Input}
 use Rattle.oa_history.specs.declared.session.Written.{Written}

@@ -3,7 +3,7 @@ ghost use Rattle.std.specs.Prelude.{◌≡◌, ◌↔◌, false, IsTrue, IfOk, I
 ghost use Rattle.oa_disk.specs.Memory.{contents_of};
 ghost use Rattle.oa_journal.specs.Shapes.{body_bytes};
 ghost use Rattle.oa_image.specs.Tables.{FitsBank};
-ghost use Rattle.oa_turn.specs.States.{State};
+ghost use Rattle.oa_decision.specs.States.{State};
 ghost use Rattle.oa_history.specs.Kept.{IsKept, IsFreshDisk, IsWanting};
 ghost use Rattle.oa_history.specs.Between.{IsCheckpointed, IsFoundStore};
 

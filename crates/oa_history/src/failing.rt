@@ -1,6 +1,6 @@
 //! Calls of a server over a disk that fails from some call on.
 ghost use Rattle.std.specs.Prelude.{◌≡◌, IfOk, IfErr};
-ghost use Rattle.oa_turn.specs.States.{State};
+ghost use Rattle.oa_decision.specs.States.{State};
 ghost use Rattle.oa_history.specs.Kept.{IsKept, IsFreshDisk, IsWanting};
 ghost use Rattle.oa_history.specs.Survived.{AnsweredBy, BeginsOver, HoldsAlone, IsWithstood};
 ghost use Rattle.oa_history.specs.declared.fault.HistoryFault.TheVariants.{Memory};

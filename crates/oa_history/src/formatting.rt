@@ -2,7 +2,7 @@
 ghost use Rattle.std.specs.Prelude.{◌≡◌, ◌≤◌, IfOk, IfErr};
 ghost use Rattle.oa_disk.specs.Memory.{contents_of, moments_of};
 ghost use Rattle.oa_journal.specs.Shapes.{default_bank_bytes};
-ghost use Rattle.oa_turn.specs.States.{state_of};
+ghost use Rattle.oa_decision.specs.States.{state_of};
 ghost use Rattle.oa_table.specs.Tables.{first_table};
 ghost use Rattle.oa_history.specs.Between.{IsStoppedFormatting};
 ghost use Rattle.oa_history.specs.Kept.{IsKept, IsFreshDisk, IsUnmade};

@@ -4,7 +4,7 @@ ghost use Rattle.oa_disk.specs.Memory.{contents_of};
 ghost use Rattle.oa_groups.specs.Runs.{HoldsState};
 ghost use Rattle.oa_journal.specs.Shapes.{default_bank_bytes};
 ghost use Rattle.oa_server.specs.Requests.{requests};
-ghost use Rattle.oa_turn.specs.States.{State, state_of};
+ghost use Rattle.oa_decision.specs.States.{State, state_of};
 ghost use Rattle.oa_store.specs.Stores.{IsStore};
 ghost use Rattle.oa_table.specs.Tables.{first_table};
 ghost use Rattle.oa_typelib.specs.Checked.{IsChecked};

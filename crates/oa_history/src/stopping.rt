@@ -1,7 +1,7 @@
 //! One session, and its stop.
 ghost use Rattle.std.specs.Prelude.{◌≡◌, List, IfOk, IfErr, length};
 ghost use Rattle.oa_disk.specs.Memory.{contents_of};
-ghost use Rattle.oa_turn.specs.States.{State};
+ghost use Rattle.oa_decision.specs.States.{State};
 ghost use Rattle.oa_history.specs.Kept.{IsKept, IsFreshDisk, IsWanting};
 ghost use Rattle.oa_history.specs.Lived.{HasAsked, IsHeardUntilStop, calls_of};
 ghost use Rattle.oa_history.specs.Stops.{Done, Made};

@@ -5,7 +5,7 @@ ghost use Rattle.oa_groups.specs.Runs.{HoldsState};
 ghost use Rattle.oa_journal.specs.Shapes.{default_bank_bytes};
 ghost use Rattle.oa_turn.specs.Beginnings.{CanBegin};
 ghost use Rattle.oa_server.specs.Requests.{opened, requests};
-ghost use Rattle.oa_turn.specs.States.{State, state_of};
+ghost use Rattle.oa_decision.specs.States.{State, state_of};
 ghost use Rattle.oa_table.specs.Tables.{first_table};
 ghost use Rattle.oa_history.specs.Kept.{IsUnmade, IsWanting};
 ghost use Rattle.oa_history.specs.Survived.{IsSurvived, IsTakenUp};

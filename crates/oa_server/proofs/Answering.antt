@@ -29,7 +29,7 @@ use Rattle.oa_server.specs.Answers.{IsAnswered, MakesNoEvent}
 use Rattle.oa_server.specs.Hands.{CallsWhereDue, IsDueFor, desk}
 use Rattle.oa_server.specs.Requests.{HasTurn, IsHeldBack, faulted, requests, text_of_library}
 use Rattle.oa_turn.specs.Events.{held_of}
-use Rattle.oa_turn.specs.States.{State}
+use Rattle.oa_decision.specs.States.{State}
 use Rattle.oa_turn.specs.Turns.{Turn}
 use Rattle.oa_server.proofs.Making.{no_event_of}
 use Rattle.oa_server.proofs.Renewing.{as_held}

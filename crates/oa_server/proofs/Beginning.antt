@@ -9,7 +9,7 @@ use Rattle.oa_record.specs.Replies.{ReplyValue}
 use Rattle.oa_turn.proofs.Beginning.{turn_begins}
 use Rattle.oa_turn.proofs.Fitting.{EventKept}
 use Rattle.oa_turn.specs.Beginnings.{CanBegin}
-use Rattle.oa_turn.specs.States.{State}
+use Rattle.oa_decision.specs.States.{State}
 use Rattle.oa_server.specs.Requests.{opened, requests}
 
 module _ (event_kept : EventKept) where

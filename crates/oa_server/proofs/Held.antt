@@ -13,7 +13,7 @@ use Rattle.oa_keeper.specs.Holding.{Carries}
 use Rattle.oa_store.specs.declared.store.Store.{Store}
 use Rattle.oa_table.specs.declared.fault.TableFault.{TableFault}
 use Rattle.oa_server.specs.Hands.{CallsWhereDue}
-use Rattle.oa_turn.specs.Limits.{limited}
+use Rattle.oa_decision.specs.Limits.{limited}
 use Rattle.std.proofs.lemmas.List.{append-nil}
 use Rattle.oa_model.specs.Limits.{max_event_bytes}
 use Rattle.oa_image.specs.Events.{event as an_event, event_image}
@@ -24,12 +24,12 @@ use Rattle.oa_record.specs.Replies.{ReplyValue}
 use Rattle.oa_record.specs.declared.request.Request.{Request}
 use Rattle.oa_table.specs.Events.{applied}
 use Rattle.oa_table.specs.Tables.{TableValue}
-use Rattle.oa_turn.specs.declared.plan.Planned.{Planned}
+use Rattle.oa_decision.specs.declared.plan.Planned.{Planned}
 use Rattle.oa_turn.specs.Plans.{HoldsSame, IsPlanned}
 use Rattle.oa_turn.specs.Events.{HasEvent, held_of}
 use Rattle.oa_server.specs.Requests.{HasTurn, IsHeldBack, requests}
-use Rattle.oa_turn.specs.States.{State}
-use Rattle.oa_turn.specs.Steps.{refusal}
+use Rattle.oa_decision.specs.States.{State}
+use Rattle.oa_decision.specs.Steps.{refusal}
 use Rattle.oa_record.specs.Replacement.{is_replacement}
 use Rattle.oa_turn.specs.Turns.{Ordinary}
 use Rattle.oa_turn.proofs.Allowed.{is_allowed}

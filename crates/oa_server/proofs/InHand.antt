@@ -12,7 +12,7 @@ use Rattle.oa_record.specs.Replies.{ReplyValue}
 use Rattle.oa_store.specs.declared.store.Store.{Store}
 use Rattle.oa_server.specs.Hands.{IsDueFor, desk}
 use Rattle.oa_server.specs.Requests.{requests}
-use Rattle.oa_turn.specs.States.{State}
+use Rattle.oa_decision.specs.States.{State}
 use Rattle.oa_server.specs.Talks.{IsWholeGroup, IsNoGroupYet}
 
 -- these requests are in hand, and are no group yet

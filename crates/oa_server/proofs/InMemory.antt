@@ -12,7 +12,7 @@ use Rattle.oa_server.specs.declared.hand.Hand.{Hand}
 use Rattle.oa_server.specs.declared.storage.Storage.{Storage}
 use Rattle.oa_server.specs.declared.storage.Storage.TheVariants.{Disk, Memory}
 use Rattle.oa_server.specs.Serving.{none_held, turn_written}
-use Rattle.oa_turn.specs.States.{State}
+use Rattle.oa_decision.specs.States.{State}
 use Rattle.oa_server.specs.Storages.{InMemory}
 use Rattle.oa_server.specs.Talks.{InputEnds, Taken, ended_written, taken_written}
 use Rattle.oa_server.proofs.Retold.{session_as}

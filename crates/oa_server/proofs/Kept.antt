@@ -23,7 +23,7 @@ use Rattle.oa_server.specs.Laws.{FoundIsKept, OpenedBegins, OpenedJoins}
 use Rattle.oa_server.specs.Openings.{IsFound}
 use Rattle.oa_turn.specs.Events.{held_of}
 use Rattle.oa_server.specs.Requests.{requests, text_of_library}
-use Rattle.oa_turn.specs.States.{State, state_of}
+use Rattle.oa_decision.specs.States.{State, state_of}
 use Rattle.oa_typelib.specs.Checked.{IsChecked}
 use Rattle.oa_turn.specs.Turns.{Turn}
 

@@ -8,7 +8,7 @@ use Rattle.oa_store.specs.declared.store.Store.{Store}
 use Rattle.oa_server.specs.Answers.{AnswersAfterFault}
 use Rattle.oa_server.specs.Hands.{desk}
 use Rattle.oa_server.specs.Requests.{failed, requests}
-use Rattle.oa_turn.specs.States.{State}
+use Rattle.oa_decision.specs.States.{State}
 
 module _ {D : Type 0} {g : Ghosts D} where
   -- at the start

@@ -8,7 +8,7 @@ use Rattle.oa_record.specs.Asks.{Asks}
 use Rattle.oa_record.specs.Replies.{ReplyValue}
 use Rattle.oa_record.specs.declared.request.Request.{Request}
 use Rattle.oa_turn.proofs.OneState.{one_turn}
-use Rattle.oa_turn.specs.States.{State}
+use Rattle.oa_decision.specs.States.{State}
 use Rattle.oa_server.specs.Requests.{requests}
 
 module _ (one : (body : List ℕ) (p q : Request) → Asks body p → Asks body q → p ≡ q) (one_tree : (text : List ℕ) (s t : TreeValue) → IsTree text s → IsTree text t → s ≡ t) where

@@ -24,7 +24,7 @@ use Rattle.oa_turn.specs.Beginnings.{CanBegin, CanServe}
 use Rattle.oa_server.specs.Openings.{FindsState, FindsOneOf, HoldsOther, RefusesOneOf}
 use Rattle.oa_turn.specs.Events.{held_of}
 use Rattle.oa_server.specs.Requests.{requests, text_of_library}
-use Rattle.oa_turn.specs.States.{State}
+use Rattle.oa_decision.specs.States.{State}
 use Rattle.oa_server.proofs.Kept.{one_size}
 
 -- an open store is one in format 2

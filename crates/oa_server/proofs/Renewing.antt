@@ -27,7 +27,7 @@ use Rattle.oa_turn.specs.Replacing.{Replacement}
 use Rattle.oa_server.specs.Answers.{IsAnswered, IsRenewed, IsRenewedOrLate}
 use Rattle.oa_server.specs.Requests.{IsAsked, faulted, requests, text_of_library}
 use Rattle.oa_turn.specs.Events.{held_of, is_done}
-use Rattle.oa_turn.specs.States.{State}
+use Rattle.oa_decision.specs.States.{State}
 use Rattle.oa_turn.specs.Turns.{Turn}
 
 -- ---- what images hold

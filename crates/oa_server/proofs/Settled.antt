@@ -15,7 +15,7 @@ use Rattle.oa_table.specs.Tables.{TableValue}
 use Rattle.oa_server.specs.Hands.{CallsWhereDue, IsReady, desk}
 use Rattle.oa_server.specs.Requests.{IsHeldBack, requests, withdrawn}
 use Rattle.oa_turn.specs.Events.{held_of}
-use Rattle.oa_turn.specs.States.{State}
+use Rattle.oa_decision.specs.States.{State}
 
 -- a group that goes on has a place
 pub few_held : (size count bytes : ℕ) → fills size count bytes ≡ false → count < size

@@ -26,7 +26,7 @@ use Rattle.oa_server.specs.declared.storage.Storage.TheVariants.{Disk, Memory}
 use Rattle.oa_server.specs.Answers.{AnswersAfterFault}
 use Rattle.oa_server.specs.Hands.{desk}
 use Rattle.oa_server.specs.Requests.{requests}
-use Rattle.oa_turn.specs.States.{State}
+use Rattle.oa_decision.specs.States.{State}
 use Rattle.oa_server.specs.Storages.{Serves, disk_of}
 use Rattle.oa_server.specs.Talks.{InputEnds, EndsApart, EndsBefore, EndsGroup, HandIsReady, InParts, IsWholeGroup, Part, Parts, ServesSession, Taken, any_end}
 use Rattle.oa_server.specs.Talks.{any_turn, at_last, bodies_of_parts, ended_written, handed_of, silent, taken_written}

@@ -11,7 +11,7 @@ use Rattle.oa_record.specs.Replies.{ReplyValue}
 use Rattle.oa_store.specs.declared.store.Store.{Store}
 use Rattle.oa_server.specs.Laws.{AnsweredAreRun}
 use Rattle.oa_server.specs.Requests.{faulted, failed, requests}
-use Rattle.oa_turn.specs.States.{State}
+use Rattle.oa_decision.specs.States.{State}
 use Rattle.oa_turn.specs.Turns.{Run}
 
 entries_run : (old new : State) (entries : List (Exchange ReplyValue)) → TurnsOver requests old entries new → Run old (map body_of entries) (map reply_of entries) new

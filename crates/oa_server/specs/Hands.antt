@@ -18,8 +18,8 @@ use Rattle.oa_table.specs.declared.event.Event.{Event}
 use Rattle.oa_server.specs.declared.hand.Hand.{Hand}
 use Rattle.oa_server.specs.Requests.{HasTurn, requests}
 use Rattle.oa_turn.specs.Events.{held_of}
-use Rattle.oa_turn.specs.Limits.{allowed}
-use Rattle.oa_turn.specs.States.{State}
+use Rattle.oa_decision.specs.Limits.{allowed}
+use Rattle.oa_decision.specs.States.{State}
 
 -- the store, the state, the replies that are held back, the events that are not committed yet
 abbrev pub desk : {D : Type 0} {g : Ghosts D} → Store D g → State → List ReplyValue → List ℕ → Desk State ReplyValue D g

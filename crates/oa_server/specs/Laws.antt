@@ -19,7 +19,7 @@ use Rattle.oa_table.specs.Tables.{TableValue, unlocked_table}
 use Rattle.oa_typelib.specs.Checked.{IsChecked}
 use Rattle.oa_server.specs.Openings.{IsOpened}
 use Rattle.oa_server.specs.Requests.{opened, requests}
-use Rattle.oa_turn.specs.States.{State, state_of}
+use Rattle.oa_decision.specs.States.{State, state_of}
 use Rattle.oa_server.specs.Talks.{Part, Parts, calls_of}
 use Rattle.oa_turn.specs.Turns.{Run}
 use Rattle.oa_server.specs.declared.storage.Storage.TheVariants.{Disk}

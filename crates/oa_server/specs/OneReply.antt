@@ -11,7 +11,7 @@ use Rattle.oa_server.specs.declared.storage.Storage.{Storage}
 use Rattle.oa_server.specs.declared.storage.Storage.TheVariants.{Disk, Memory}
 use Rattle.oa_server.specs.Hands.{desk_of}
 use Rattle.oa_server.specs.Requests.{requests}
-use Rattle.oa_turn.specs.States.{State}
+use Rattle.oa_decision.specs.States.{State}
 use Rattle.oa_server.specs.Talks.{InputEnds, Taken, ended_written, taken_written}
 
 abbrev is_disk : {D : Type 0} {g : Ghosts D} → Storage D g → Bool

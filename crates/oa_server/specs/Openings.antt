@@ -18,7 +18,7 @@ use Rattle.oa_table.specs.Tables.{TableValue, unlocked_table}
 use Rattle.oa_turn.specs.Beginnings.{CanBegin, CanServe}
 use Rattle.oa_turn.specs.Events.{held_of}
 use Rattle.oa_server.specs.Requests.{requests}
-use Rattle.oa_turn.specs.States.{State}
+use Rattle.oa_decision.specs.States.{State}
 
 -- ---- one of two states, as a stop leaves them
 

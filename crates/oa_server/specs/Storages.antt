@@ -9,7 +9,7 @@ use Rattle.oa_server.specs.declared.storage.Storage.{Storage}
 use Rattle.oa_server.specs.declared.storage.Storage.TheVariants.{Disk, Memory}
 use Rattle.oa_server.specs.Answers.{IsAnswered, AnswersAfterFault}
 use Rattle.oa_server.specs.Requests.{requests}
-use Rattle.oa_turn.specs.States.{State}
+use Rattle.oa_decision.specs.States.{State}
 use Rattle.oa_turn.specs.Turns.{Run, Turn}
 
 -- the table is in memory alone

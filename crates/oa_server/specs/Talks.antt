@@ -22,7 +22,7 @@ use Rattle.oa_server.specs.declared.storage.Storage.TheVariants.{Disk, Memory}
 use Rattle.oa_server.specs.Hands.{CanTake, desk_of}
 use Rattle.oa_server.specs.Requests.{requests}
 use Rattle.oa_server.specs.Serving.{last_written, none_held, turn_written}
-use Rattle.oa_turn.specs.States.{State}
+use Rattle.oa_decision.specs.States.{State}
 use Rattle.oa_server.specs.Storages.{Serves}
 
 -- the hand can take one request more

@@ -21,10 +21,10 @@ use Rattle.oa_table.specs.Events.{applied}
 use Rattle.oa_table.specs.Faults.{table_code}
 use Rattle.oa_table.specs.Outcomes.{Because}
 use Rattle.oa_table.specs.Tables.{TableValue, first_table, unlocked_table}
-use Rattle.oa_turn.specs.declared.decision.LockChange.{LockChange}
-use Rattle.oa_turn.specs.declared.decision.LockChange.TheVariants.{Lock, Unlock}
-use Rattle.oa_turn.specs.Decisions.{relocked}
-use Rattle.oa_turn.specs.Limits.{IsSoundTable, allowed, least_bank, limited, within_limits}
+use Rattle.oa_decision.specs.declared.decision.LockChange.{LockChange}
+use Rattle.oa_decision.specs.declared.decision.LockChange.TheVariants.{Lock, Unlock}
+use Rattle.oa_decision.specs.Decisions.{relocked}
+use Rattle.oa_decision.specs.Limits.{IsSoundTable, allowed, least_bank, limited, within_limits}
 
 -- a table that is allowed
 pub record IsWithin (bank : ℕ) (event : Event) (made new : TableValue) : Type 0 where

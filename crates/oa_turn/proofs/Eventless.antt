@@ -8,19 +8,19 @@ use Rattle.oa_record.specs.declared.request.Request.{Request}
 use Rattle.oa_table.specs.declared.event.Event.{Event}
 use Rattle.oa_table.specs.declared.fault.TableFault.{TableFault}
 use Rattle.oa_table.specs.Tables.{TableValue}
-use Rattle.oa_turn.specs.declared.decision.Decision.{Decision}
-use Rattle.oa_turn.specs.declared.decision.Decision.TheVariants as decisions
-use Rattle.oa_turn.specs.declared.decision.LockChange.{LockChange}
-use Rattle.oa_turn.specs.declared.plan.Plan.{Plan}
-use Rattle.oa_turn.specs.declared.plan.Plan.TheVariants.{Answered, Change}
-use Rattle.oa_turn.specs.declared.plan.Planned.{Planned}
-use Rattle.oa_turn.specs.declared.refusal.Refusal.{Refusal}
-use Rattle.oa_turn.specs.Decisions.{changed, outcome_of, relocked, relocking}
-use Rattle.oa_turn.specs.Limits.{allowed}
+use Rattle.oa_decision.specs.declared.decision.Decision.{Decision}
+use Rattle.oa_decision.specs.declared.decision.Decision.TheVariants as decisions
+use Rattle.oa_decision.specs.declared.decision.LockChange.{LockChange}
+use Rattle.oa_decision.specs.declared.plan.Plan.{Plan}
+use Rattle.oa_decision.specs.declared.plan.Plan.TheVariants.{Answered, Change}
+use Rattle.oa_decision.specs.declared.plan.Planned.{Planned}
+use Rattle.oa_decision.specs.declared.refusals.Refusal.{Refusal}
+use Rattle.oa_decision.specs.Decisions.{changed, outcome_of, relocked, relocking}
+use Rattle.oa_decision.specs.Limits.{allowed}
 use Rattle.oa_turn.specs.Plans.{HasNoEvent, PlansChange}
 use Rattle.oa_turn.specs.Events.{HasEvent, change_bytes, is_done}
-use Rattle.oa_turn.specs.States.{State}
-use Rattle.oa_turn.specs.Steps.{decided, outcome}
+use Rattle.oa_decision.specs.States.{State}
+use Rattle.oa_decision.specs.Steps.{decided, outcome}
 
 module _ (old : State) (body : List ℕ) where
   -- a reply other than S_OK

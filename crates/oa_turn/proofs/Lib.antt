@@ -13,17 +13,9 @@ pub mod Tags
 pub mod Beginning
 pub mod OneState
 -- what this crate alone does
-mod Named
-mod Zeros
 mod Wants
-mod Added
 mod Refused
-mod Keys
-mod Reached
 mod Bound
-mod Keyless
 mod Bringing
-mod Disconnected
-mod Found
 mod Planning
 mod Own

@@ -64,25 +64,25 @@ use Rattle.oa_checks.specs.Libraries.{class_of, selected_in}
 use Rattle.oa_typelib.specs.Members.{member_in}
 use Rattle.oa_variant.specs.Variants.{zero_value}
 use Rattle.uuid.specs.Parts.{is_nil_bytes}
-use Rattle.oa_turn.specs.Cells.{bound_as, call_found, cell_called, member_found}
-use Rattle.oa_turn.specs.Create.{class_found, fitting, is_used_up}
-use Rattle.oa_turn.specs.Invoke.{acting}
-use Rattle.oa_turn.specs.TypeInfo.{description_of}
-use Rattle.oa_turn.specs.declared.decision.Decision.{Decision}
-use Rattle.oa_turn.specs.declared.decision.Decision.TheVariants.{Answer, Change, Relock}
-use Rattle.oa_turn.specs.declared.host.cell.BoundCell.{BoundCell}
-use Rattle.oa_turn.specs.declared.refusal.Refusal.{Refusal}
-use Rattle.oa_turn.specs.ArrayCells as array_cells
-use Rattle.oa_turn.specs.Decisions.{changed, outcome_of, relocked, relocking}
-use Rattle.oa_turn.specs.Interfaces.{interface_found}
-use Rattle.oa_turn.specs.Limits.{allowed, limited, within_limits}
-use Rattle.oa_turn.specs.LookUps.{ids_found}
+use Rattle.oa_decision.specs.Cells.{bound_as, call_found, cell_called, member_found}
+use Rattle.oa_decision.specs.Create.{class_found, fitting, is_used_up}
+use Rattle.oa_decision.specs.Invoke.{acting}
+use Rattle.oa_decision.specs.TypeInfo.{description_of}
+use Rattle.oa_decision.specs.declared.decision.Decision.{Decision}
+use Rattle.oa_decision.specs.declared.decision.Decision.TheVariants.{Answer, Change, Relock}
+use Rattle.oa_decision.specs.declared.decider.cell.BoundCell.{BoundCell}
+use Rattle.oa_decision.specs.declared.refusals.Refusal.{Refusal}
+use Rattle.oa_decision.specs.ArrayCells as array_cells
+use Rattle.oa_decision.specs.Decisions.{changed, outcome_of, relocked, relocking}
+use Rattle.oa_decision.specs.Interfaces.{interface_found}
+use Rattle.oa_decision.specs.Limits.{allowed, limited, within_limits}
+use Rattle.oa_decision.specs.LookUps.{ids_found}
 use Rattle.oa_turn.specs.OwnCodes.{is_own}
-use Rattle.oa_turn.specs.PutElement.{element_for}
-use Rattle.oa_turn.specs.Redimension.{resizing, zero_with}
-use Rattle.oa_turn.specs.Refusals.{◌>>=◌, known, unless}
-use Rattle.oa_turn.specs.States.{State}
-use Rattle.oa_turn.specs.Steps.{decided, reply_to}
+use Rattle.oa_decision.specs.PutElement.{element_for}
+use Rattle.oa_decision.specs.Redimension.{resizing, zero_with}
+use Rattle.oa_decision.specs.Refusals.{◌>>=◌, known, unless}
+use Rattle.oa_decision.specs.States.{State}
+use Rattle.oa_decision.specs.Steps.{decided, reply_to}
 use Rattle.oa_keeps.specs.Keeps.{first_lost}
 use Rattle.oa_keeps.specs.declared.lost.Lost.{Lost}
 use Rattle.oa_turn.specs.Replacing.{Replacement, replacement_reply}

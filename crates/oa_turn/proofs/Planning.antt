@@ -5,15 +5,15 @@ use Rattle.oa_record.specs.Asks.{Asks, tag_at}
 use Rattle.oa_record.specs.Replies.{ReplyValue}
 use Rattle.oa_table.specs.declared.event.Event.{Event}
 use Rattle.oa_table.specs.Events.{BringsNoLocks}
-use Rattle.oa_turn.specs.declared.decision.Decision.{Decision}
-use Rattle.oa_turn.specs.declared.decision.Decision.TheVariants.{Change}
-use Rattle.oa_turn.specs.declared.plan.Plan.{Plan}
-use Rattle.oa_turn.specs.declared.plan.Plan.TheVariants.{Answered, Change as AChange}
-use Rattle.oa_turn.specs.declared.refusal.Refusal.{Refusal}
-use Rattle.oa_turn.specs.Decisions.{after_outcome, outcome_of}
+use Rattle.oa_decision.specs.declared.decision.Decision.{Decision}
+use Rattle.oa_decision.specs.declared.decision.Decision.TheVariants.{Change}
+use Rattle.oa_decision.specs.declared.plan.Plan.{Plan}
+use Rattle.oa_decision.specs.declared.plan.Plan.TheVariants.{Answered, Change as AChange}
+use Rattle.oa_decision.specs.declared.refusals.Refusal.{Refusal}
+use Rattle.oa_decision.specs.Decisions.{after_outcome, outcome_of}
 use Rattle.oa_turn.specs.Plans.{Plans, PlansChange}
-use Rattle.oa_turn.specs.States.{State}
-use Rattle.oa_turn.specs.Steps.{decided, reply_with}
+use Rattle.oa_decision.specs.States.{State}
+use Rattle.oa_decision.specs.Steps.{decided, reply_with}
 use Rattle.oa_turn.specs.Turns.{Ordinary}
 
 module _ (old : State) (body : List ℕ) (request : Request) (asked : Asks body request) where

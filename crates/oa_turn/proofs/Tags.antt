@@ -5,7 +5,7 @@ use Rattle.oa_keeps.specs.declared.lost.Lost.{Lost}
 use Rattle.oa_record.specs.Asks.{tag_at}
 use Rattle.oa_record.specs.Replies.{ReplyValue}
 use Rattle.oa_turn.specs.Replacing.{Replacement, replacement_reply}
-use Rattle.oa_turn.specs.States.{State}
+use Rattle.oa_decision.specs.States.{State}
 use Rattle.oa_turn.specs.Turns.{Ordinary, Turn}
 
 ordinary_tag : (old new : State) (body : List ℕ) (reply : ReplyValue) → Ordinary old body reply new → reply.tag ≡ tag_at body

@@ -5,7 +5,7 @@ use Rattle.oa_idl.specs.Trees.{TreeValue}
 use Rattle.oa_image.specs.Tables.{FitsBank, is_numbered}
 use Rattle.oa_table.specs.Tables.{TableValue}
 use Rattle.oa_typelib.specs.Checked.{IsChecked}
-use Rattle.oa_turn.specs.States.{State}
+use Rattle.oa_decision.specs.States.{State}
 
 -- the library can have the table, and its image leaves what has to be free of a bank of this size
 pub record CanServe (bank : ℕ) (library : TreeValue) (table : TableValue) : Type 0 where

@@ -1,33 +1,20 @@
 -- What is left of a turn once its body was looked at.
-use Rattle.std.specs.Prelude.{◌≡◌, ◌⊎◌, List, [], ℕ, true, None, Result, Ok, Err, IsOk, ⊤}
-use Rattle.oa_coerce.specs.declared.fault.CoerceFault.{CoerceFault}
-use Rattle.oa_model.specs.Codes.{e_outofmemory, s_ok}
+use Rattle.std.specs.Prelude.{◌≡◌, List, [], ℕ, None, Ok, Err, IsOk, ⊤}
 use Rattle.oa_model.specs.declared.hresult.HResult.{HResult}
-use Rattle.oa_model.specs.declared.var_type.ValueType.{ValueType}
 use Rattle.oa_record.specs.declared.request.Request.{Request}
 use Rattle.oa_record.specs.Asks.{Asks, tag_at}
-use Rattle.oa_record.specs.Replies.{ReplyValue}
 use Rattle.oa_table.specs.declared.event.Event.{Event}
-use Rattle.oa_table.specs.declared.event.Event.TheVariants.{Put}
-use Rattle.oa_table.specs.declared.name.CellName.{CellName}
 use Rattle.oa_table.specs.Events.{BringsNoLocks}
 use Rattle.oa_table.specs.Tables.{unlocked_table}
-use Rattle.oa_turn.specs.declared.decision.Decision.TheVariants as decisions
-use Rattle.oa_turn.specs.declared.plan.Plan.{Plan}
-use Rattle.oa_turn.specs.declared.plan.Plan.TheVariants.{Answered, Change}
-use Rattle.oa_turn.specs.declared.plan.Planned.{Planned}
-use Rattle.oa_turn.specs.Limits.{allowed}
+use Rattle.oa_decision.specs.declared.decision.Decision.TheVariants as decisions
+use Rattle.oa_decision.specs.declared.plan.Plan.{Plan}
+use Rattle.oa_decision.specs.declared.plan.Plan.TheVariants.{Answered, Change}
+use Rattle.oa_decision.specs.declared.plan.Planned.{Planned}
+use Rattle.oa_decision.specs.Limits.{allowed}
 use Rattle.oa_turn.specs.Events.{HasEvent}
-use Rattle.oa_turn.specs.Invoke.{reply_value}
-use Rattle.oa_turn.specs.States.{State}
-use Rattle.oa_turn.specs.Steps.{decided, refusal, may_want_memory}
+use Rattle.oa_decision.specs.States.{State}
+use Rattle.oa_decision.specs.Steps.{decided, refusal}
 use Rattle.oa_turn.specs.Turns.{Ordinary}
-use Rattle.oa_variant.specs.declared.variant.Variant.{Variant}
-use Rattle.oa_variant.specs.Variants.{unlocked}
-
--- a reply of S_OK with these fields
-abbrev pub reply_told : ℕ → List ℕ → ReplyValue
-reply_told tag fields = record { tag = tag; code = s_ok; index = None; body = fields }
 
 -- the body asks a request of which this change is decided
 pub record IsDrafted (state : State) (body : List ℕ) (planned : Planned) : Type 0 where
@@ -48,27 +35,6 @@ pub record IsPlanned (state : State) (body : List ℕ) (planned : Planned) : Typ
 pub record HoldsSame (old new : State) : Type 0 where
   pub table : unlocked_table new.table ≡ unlocked_table old.table
   pub library : new.library ≡ old.library
-
--- a request is answered with the fields that are decided, or memory was wanted; or this change is decided
-abbrev pub PlansValue : State → ℕ → Request → Plan → Type 0
-PlansValue state tag request (Answered reply) =
-    ((fields : List ℕ) × (decided state request ≡ Ok (decisions.Answer s_ok fields)) × (reply ≡ reply_told tag fields))
-    ⊎ ((may_want_memory state request ≡ true) × (reply ≡ refusal tag e_outofmemory None))
-PlansValue state tag request (Change planned) =
-    (decided state request ≡ Ok (decisions.Change planned.event planned.fields)) × (planned.tag ≡ tag) × BringsNoLocks planned.event
-
--- the value of a cell is told, or memory was wanted
-abbrev pub PlansGet : State → ℕ → CellName → ValueType → Plan → Type 0
-PlansGet state tag name declared (Answered reply) =
-    (reply ≡ reply_told tag (reply_value state name declared)) ⊎ (reply ≡ refusal tag e_outofmemory None)
-PlansGet state tag name declared (Change planned) = ⊥
-
--- a cell is set to a value that was coerced
-abbrev pub PlansPut : ℕ → CellName → Result Variant CoerceFault → Plan → Type 0
-PlansPut tag name coerced (Answered reply) = ⊥
-PlansPut tag name coerced (Change planned) =
-    (value : Variant) × (coerced ≡ Ok value) × (planned ≡ record { tag = tag; event = Put name (unlocked value); fields = [] })
-    × BringsNoLocks planned.event
 
 -- the turn was taken, and changed nothing that images hold; or a change was decided
 abbrev pub Drafts : State → List ℕ → State → Plan → Type 0

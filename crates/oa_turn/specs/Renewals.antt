@@ -13,8 +13,8 @@ use Rattle.oa_turn.specs.declared.host.renewal.Renewal.{Renewal}
 use Rattle.oa_turn.specs.declared.host.renewal.Renewal.TheVariants.{Answered, Renewed}
 use Rattle.oa_turn.specs.Replacing.{AsksLibrary, Replacement, replacement_reply}
 use Rattle.oa_turn.specs.Events.{is_done}
-use Rattle.oa_turn.specs.States.{State}
-use Rattle.oa_turn.specs.Steps.{refusal}
+use Rattle.oa_decision.specs.States.{State}
+use Rattle.oa_decision.specs.Steps.{refusal}
 
 -- what is answered where a text gives no library
 abbrev pub text_code : TextError → HResult

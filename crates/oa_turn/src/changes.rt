@@ -1,13 +1,12 @@
 //! The ways in which a table changes.
 ghost use Rattle.std.specs.Prelude.{◌≡◌, ◌-◌, ◌<◌, ℕ, IsOk, Ok};
-ghost use Rattle.oa_turn.specs.Decisions.{MakesTable, RelocksTable};
-ghost use Rattle.oa_turn.specs.Limits.{ChangesTable, IsSoundTable, StaysWithin, allowed};
-ghost use Rattle.oa_turn.specs.declared.decision.LockChange.TheVariants.{Lock as ALock, Unlock as AnUnlock};
+ghost use Rattle.oa_decision.specs.Decisions.{MakesTable, RelocksTable};
+ghost use Rattle.oa_decision.specs.Limits.{ChangesTable, IsSoundTable, StaysWithin, allowed};
+ghost use Rattle.oa_decision.specs.declared.decision.LockChange.TheVariants.{Lock as ALock, Unlock as AnUnlock};
 ghost use Rattle.oa_table.specs.Events.{BringsNoLocks};
 ghost use Rattle.oa_table.specs.Tables.{unlocked_table};
 
-use crate::decision::LockChange;
-use crate::limits::{is_surely_within, refusal};
+use oa_decision::{LockChange, is_surely_within, refusal};
 use oa_model::HResult;
 use oa_table::{CellName, Event, Table, TableFault};
 use std::alloc::AllocError;

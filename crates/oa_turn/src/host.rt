@@ -1,20 +1,18 @@
 //! A library and a table in memory, and one turn after another.
 ghost use Rattle.std.specs.Prelude.{◌≡◌, ◌-◌, ◌≤◌, List, ℕ, [], map, IsOk, IfOk, OnErr};
-ghost use Rattle.oa_turn.specs.Decisions.{ChangesNoLocks, Decides, MakesChange, after_outcome, relocked, relocking};
-ghost use Rattle.oa_turn.specs.Limits.{IsSoundTable, allowed, least_bank};
+ghost use Rattle.oa_decision.specs.Decisions.{ChangesNoLocks, Decides, MakesChange, after_outcome, relocked, relocking};
+ghost use Rattle.oa_decision.specs.Limits.{IsSoundTable, allowed, least_bank};
 ghost use Rattle.oa_turn.specs.Plans.{Drafts, HasNoEvent, HoldsSame, IsDrafted, Plans, PlansChange};
-ghost use Rattle.oa_turn.specs.Steps.{decided, reply_with, may_want_memory};
+ghost use Rattle.oa_decision.specs.Steps.{decided, reply_with, may_want_memory};
 ghost use Rattle.oa_turn.specs.Turns.{Ordinary, Run, Turn};
 ghost use Rattle.oa_record.specs.Replacement.{is_replacement};
 ghost use Rattle.oa_table.specs.Events.{BringsNoLocks};
 ghost use Rattle.oa_table.specs.Tables.{first_table};
 
 use crate::changes::{apply, change, change_locks};
-use crate::decision::{Decision, LockChange, Undecided};
-use crate::fields::Fields;
-use crate::limits::refusal;
-use crate::plan::{Plan, Planned};
-use crate::refusal::Refusal;
+use oa_decision::{
+    Decider, Decision, Fields, LockChange, Plan, Planned, Refusal, Undecided, refusal,
+};
 use oa_model::HResult;
 use oa_record::laws::one_request;
 use oa_record::{Reply, Request, ValueCall, is_replacement, read_request, read_value_call, tag_of};
@@ -23,21 +21,7 @@ use oa_typelib::Library;
 use std::alloc::{AllocError, Global};
 use std::marker::Model;
 
-mod array_cell;
-mod cell;
-mod create;
-mod get_element;
-mod invoke;
-mod listing;
-mod lock;
-mod look_ups;
-mod put_element;
-mod redimension;
-mod release;
 pub(crate) mod renewal;
-mod type_info;
-mod unlock;
-mod value_call;
 
 /// A library and a table of its objects, in memory, and how large the table may grow: what a server's answers depend on.
 pub struct Host {
@@ -61,8 +45,8 @@ impl Drop for Host {
 }
 
 impl Model for Host {
-    ghost use Rattle.oa_turn.specs.States.{State};
-    ghost use Rattle.oa_turn.specs.Limits.{IsSoundTable};
+    ghost use Rattle.oa_decision.specs.States.{State};
+    ghost use Rattle.oa_decision.specs.Limits.{IsSoundTable};
 
     ghost Value = { State };
 
@@ -140,7 +124,7 @@ impl Host {
     {
         one_request();
         if let Some(ValueCall { head, value }) = read_value_call(self.alloc, body)
-            && let Some(plan) = self.plan_value(tag_of(body), head, value)
+            && let Some(plan) = self.decider().plan_value(tag_of(body), head, value)
         {
             return plan;
         }
@@ -241,23 +225,14 @@ impl Host {
         ensures decided { Decides (decided self.now request) (may_want_memory self.now request) result }
         ensures unlocked { IfOk result ChangesNoLocks }
     {
-        match request {
-            Request::Create { class } => self.creation(class),
-            Request::Release { object } => Ok(self.ending(object)),
-            Request::GetIds(call) => self.look_up(call),
-            Request::Invoke(call) => self.invocation(call),
-            Request::TypeInfo { index } => self.information(index),
-            Request::Objects => self.listing(),
-            Request::GetElement { call, indices } => self.element_got(call, indices),
-            Request::PutElement {
-                call,
-                indices,
-                value,
-            } => self.element_put(call, indices, value),
-            Request::Redimension { call, bound } => self.redimension(call, bound),
-            Request::Lock(call) => self.locking(call),
-            Request::Unlock(call) => self.unlocking(call),
-        }
+        self.decider().decide(request)
+    }
+
+    /// What decides requests over the library and the table.
+    fn decider(&self) -> Decider<'_>
+        ensures { result ≡ self.now }
+    {
+        Decider::new(self.alloc, self.bank, &self.library, &self.table)
     }
 
     /// Changes the locks of an array and tells it with these fields, or why the table refuses it. Takes no memory.

@@ -6,17 +6,10 @@
 //! What stands on it: oa_server, which keeps the table in a store, and oa_history.
 #![tactic(auto)]
 
-mod applies;
 mod changes;
-mod decision;
-mod fields;
 mod host;
 pub mod laws;
-mod limits;
-mod plan;
-mod refusal;
 
-pub use fields::Fields;
 pub use host::Host;
 pub use host::renewal::Renewal;
-pub use plan::{Plan, Planned};
+pub use oa_decision::{Fields, Plan, Planned};

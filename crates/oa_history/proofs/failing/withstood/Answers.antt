@@ -4,7 +4,7 @@ use Rattle.oa_disk.specs.Memory.{history_of, image_of, moments_of}
 use Rattle.oa_disk.specs.Replaying.{counts_now}
 use Rattle.oa_disk.specs.declared.disk.DeviceFault.{DeviceFault}
 use Rattle.oa_disk.specs.declared.memory.MemoryDisk.{MemoryDisk}
-use Rattle.oa_turn.specs.States.{State}
+use Rattle.oa_decision.specs.States.{State}
 use Rattle.oa_server.specs.Storages.{disk_of}
 use Rattle.oa_history.specs.Kept.{IsKept}
 use Rattle.oa_history.specs.Survived.{Answered, BeginsOver, HoldsAlone, told_calls}

@@ -3,7 +3,7 @@ use Rattle.std.proofs.lemmas.List.{take_all}
 use Rattle.std.proofs.lemmas.Result.{err_from_is_err_and}
 use Rattle.oa_disk.specs.Memory.{contents_of}
 use Rattle.oa_journal.specs.Shapes.{default_bank_bytes}
-use Rattle.oa_turn.specs.States.{state_of}
+use Rattle.oa_decision.specs.States.{state_of}
 use Rattle.oa_table.specs.Tables.{first_table}
 use Rattle.oa_history.specs.Lived.{Lives}
 use Rattle.oa_history.specs.declared.session.Step.{Step}

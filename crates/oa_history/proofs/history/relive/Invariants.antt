@@ -3,7 +3,7 @@ use Rattle.oa_disk.specs.Memory.{contents_of}
 use Rattle.oa_groups.specs.Runs.{HoldsState}
 use Rattle.oa_journal.specs.Shapes.{default_bank_bytes}
 use Rattle.oa_server.specs.Requests.{requests}
-use Rattle.oa_turn.specs.States.{State, state_of}
+use Rattle.oa_decision.specs.States.{State, state_of}
 use Rattle.oa_table.specs.Tables.{first_table}
 use Rattle.oa_history.specs.Kept.{IsKept, IsFreshDisk}
 use Rattle.oa_history.specs.Lived.{Lives}

@@ -2,7 +2,7 @@ use Rattle.std.proofs.Common.{ℕ, refl, subst, arith, min}
 use Rattle.std.proofs.lemmas.Result.{err_from_is_err_and}
 use Rattle.oa_disk.specs.Memory.{IsTornAt, contents_of, history_of, moments_of}
 use Rattle.oa_disk.specs.Replaying.{since_falls}
-use Rattle.oa_turn.specs.States.{State}
+use Rattle.oa_decision.specs.States.{State}
 use Rattle.oa_history.specs.Stops.{Made}
 use Rattle.oa_history.proofs.Leaving.{leaves, min_at}
 use Rattle.oa_history.proofs.stopping.stopped.Goals as goal

@@ -6,7 +6,7 @@ use Rattle.oa_groups.specs.Groups.{joined}
 use Rattle.oa_groups.specs.Runs.{HoldsState}
 use Rattle.oa_journal.specs.Shapes.{default_bank_bytes}
 use Rattle.oa_server.specs.Requests.{requests}
-use Rattle.oa_turn.specs.States.{state_of}
+use Rattle.oa_decision.specs.States.{state_of}
 use Rattle.oa_table.specs.Tables.{first_table}
 use Rattle.oa_history.proofs.Unmade.{unmade}
 use Rattle.oa_history.proofs.Living.{shown_held, shown_library}

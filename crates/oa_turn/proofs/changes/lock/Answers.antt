@@ -1,4 +1,4 @@
-use Rattle.oa_turn.specs.declared.decision.LockChange.TheVariants.{Lock}
+use Rattle.oa_decision.specs.declared.decision.LockChange.TheVariants.{Lock}
 use Rattle.oa_turn.proofs.Allowed.{relock_sound, relock_unseen}
 use Rattle.oa_turn.proofs.changes.lock.Goals as goal
 

@@ -1,5 +1,5 @@
 use Rattle.std.proofs.Common.{Ok, Err, refl}
-use Rattle.oa_turn.specs.declared.decision.Decision.TheVariants as decisions
+use Rattle.oa_decision.specs.declared.decision.Decision.TheVariants as decisions
 use Rattle.oa_turn.proofs.Eventless.{eventless, relocked_eventless}
 use Rattle.oa_turn.proofs.Refused.{lacks, refused_turn, relocks, told, told_why}
 use Rattle.oa_turn.proofs.host.Host.draft_request.Goals as goal

@@ -1,0 +1,79 @@
+-- The cell of a property that a call names, or the first refusal (MS-OAUT section 3.1.4.4; the order of the refusals is this project's
+-- choice). What an INVOKE reads or puts is such a cell, and so is what a request on an array's elements or locks is about.
+use Rattle.std.specs.Prelude.{◌≡◌, ℕ, ℤ, ◌==◌, if◌then◌else◌, List, [], Result, Ok, Err}
+use Rattle.oa_model.specs.Codes.{e_outofmemory}
+use Rattle.oa_bind.specs.declared.fault.BindFault.{BindFault}
+use Rattle.oa_bind.specs.Bindings.{bound_to}
+use Rattle.oa_bind.specs.Calls.{BoundCallValue}
+use Rattle.oa_idl.specs.Values.{InterfaceValue}
+use Rattle.oa_model.specs.declared.var_type.ValueType.{ValueType}
+use Rattle.oa_record.specs.declared.request.Call.{Call}
+use Rattle.oa_record.specs.declared.request.CallHead.{CallHead}
+use Rattle.oa_table.specs.declared.name.CellName.{CellName}
+use Rattle.oa_table.specs.Places.{PlaceValue}
+use Rattle.oa_typelib.specs.declared.access.Access.{Access}
+use Rattle.oa_typelib.specs.declared.access.Access.TheVariants as accesses
+use Rattle.oa_typelib.specs.declared.access.Kind.{Kind}
+use Rattle.oa_typelib.specs.declared.access.Kind.TheVariants as forms
+use Rattle.oa_typelib.specs.declared.access.MemberFault.{MemberFault}
+use Rattle.oa_typelib.specs.MemberCodes.{member_code}
+use Rattle.oa_typelib.specs.MemberValues.{MemberValue}
+use Rattle.oa_typelib.specs.Members.{member_in}
+use Rattle.oa_decision.specs.declared.decision.Undecided.{Undecided}
+use Rattle.oa_decision.specs.declared.decision.Undecided.TheVariants.{Refused, OutOfMemory}
+use Rattle.oa_decision.specs.declared.refusals.Refusal.{Refusal}
+use Rattle.oa_decision.specs.declared.decider.cell.BoundCell.{BoundCell}
+use Rattle.oa_decision.specs.Interfaces.{interface_found}
+use Rattle.oa_decision.specs.Refusals.{◌>>=◌, refused}
+use Rattle.oa_decision.specs.States.{State}
+
+-- a member, or why a call reaches none
+abbrev pub member_found : Result (MemberValue × Kind) MemberFault → Result (MemberValue × Kind) Refusal
+member_found (Ok found) = Ok found
+member_found (Err fault) = refused (member_code fault)
+
+-- the member is a property without parameters, with values of this type, and has the form that is asked for
+pub record IsKeyless (interface : InterfaceValue) (dispid : ℤ) (access : Access) (declared : ValueType) (form : Kind) : Type 0 where
+  pub member : MemberValue
+  pub found : member_found (member_in interface dispid access) ≡ Ok (member, form)
+  pub typed : member.value_type ≡ declared
+  pub keyless : member.parameters ≡ []
+
+-- the form that arguments are bound in: that of the member which an INVOKE's flags ask for, and else, whatever form the member must
+-- have, a get
+abbrev pub bound_as : Access → Kind → Kind
+bound_as (accesses.Flags flags) form = form
+bound_as accesses.Get form = forms.Get
+bound_as accesses.Put form = forms.Get
+
+-- the call that arguments make, or why they make none
+abbrev pub as_refusal : BindFault → Refusal
+as_refusal fault = record { code = fault.code; index = fault.index }
+
+abbrev pub call_found : Result BoundCallValue BindFault → Result BoundCallValue Refusal
+call_found (Ok bound) = Ok bound
+call_found (Err fault) = Err (as_refusal fault)
+
+-- binding tells want of memory by a code, of which nothing is decided
+abbrev pub undecided : BindFault → Undecided
+undecided fault = if fault.code.0 == e_outofmemory.0 then OutOfMemory else Refused (as_refusal fault)
+
+abbrev pub place_of : List ℕ → CallHead → BoundCallValue → PlaceValue
+place_of interface head bound = record { interface = interface; dispid = head.dispid; key = bound.key }
+
+abbrev pub called_cell : List ℕ → CallHead → BoundCallValue → CellName
+called_cell interface head bound = record { object = head.object; place = place_of interface head bound }
+
+-- the object, its interface, riid; the member, in the form that is asked for; the arguments
+unfoldable pub cell_called : State → Call → Access → Result BoundCell Refusal
+cell_called state call access = do
+  interface ← interface_found state call.head.object call.head.interface call.head.riid
+  found ← member_found (member_in interface call.head.dispid access)
+  bound ← call_found (bound_to found.0 (bound_as access found.1) (record { named = call.named; arguments = call.arguments }))
+  Ok (record { name = called_cell interface.guid call.head bound; declared = found.0.value_type; value = bound.value })
+
+-- What is found is what is due, or memory was wanted.
+abbrev pub FindsDue : {A : Type 0} → Result A Refusal → Result A Undecided → Type 0
+FindsDue due (Ok found) = due ≡ Ok found
+FindsDue due (Err (Refused refusal)) = due ≡ Err refusal
+FindsDue due (Err OutOfMemory) = Unit {0}

@@ -1,0 +1,18 @@
+-- The interface of an object that a call names, or the first refusal. The order of the refusals is this project's choice.
+use Rattle.std.specs.Prelude.{ℕ, not, List, Result, Ok}
+use Rattle.uuid.specs.Parts.{is_nil_bytes}
+use Rattle.oa_model.specs.Codes.{disp_e_unknowninterface, e_nointerface, rpc_e_disconnected}
+use Rattle.oa_idl.specs.Values.{InterfaceValue}
+use Rattle.oa_checks.specs.Libraries.{selected_in}
+use Rattle.oa_table.specs.Tables.{class_in, object_at}
+use Rattle.oa_decision.specs.declared.refusals.Refusal.{Refusal}
+use Rattle.oa_decision.specs.Refusals.{◌>>=◌, known, unless}
+use Rattle.oa_decision.specs.States.{State}
+
+-- the object, its interface, riid
+unfoldable pub interface_found : State → ℕ → List ℕ → List ℕ → Result InterfaceValue Refusal
+interface_found state object interface riid = do
+  class ← known rpc_e_disconnected (class_in (object_at object state.table))
+  found ← known e_nointerface (selected_in state.library class interface)
+  zero ← unless disp_e_unknowninterface (not (is_nil_bytes riid))
+  Ok found

@@ -1,0 +1,22 @@
+-- LOCK: the array in a cell gets a lock more, which lasts for the session. (This project's choice.)
+use Rattle.std.specs.Prelude.{◌+◌, Result, Ok}
+use Rattle.oa_record.specs.declared.request.Call.{Call}
+use Rattle.oa_record.specs.Replies.{number_field}
+use Rattle.oa_typelib.specs.declared.access.Access.TheVariants.{Get}
+use Rattle.oa_decision.specs.declared.decision.Decision.{Decision}
+use Rattle.oa_decision.specs.declared.decision.Decision.TheVariants.{Relock}
+use Rattle.oa_decision.specs.declared.decision.LockChange.TheVariants.{Lock}
+use Rattle.oa_decision.specs.declared.refusals.Refusal.{Refusal}
+use Rattle.oa_decision.specs.declared.decider.cell.BoundCell.{BoundCell}
+use Rattle.oa_decision.specs.ArrayCells.{locks_in}
+use Rattle.oa_decision.specs.Cells.{cell_called}
+use Rattle.oa_decision.specs.Refusals.{◌>>=◌}
+use Rattle.oa_decision.specs.States.{State}
+
+-- the reply tells how many locks there are then
+abbrev pub adding : State → BoundCell → Result Decision Refusal
+adding state cell = locks_in state cell >>= λ locks. Ok (Relock (Lock cell.name) (number_field (locks + 1)))
+
+-- the property's get form, then the array
+abbrev pub locking : State → Call → Result Decision Refusal
+locking state call = cell_called state call Get >>= adding state

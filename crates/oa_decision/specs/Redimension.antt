@@ -1,0 +1,31 @@
+-- REDIM: the array in a cell gets another first listed bound. (This project's choice.)
+use Rattle.std.specs.Prelude.{[], Option, Some, None, Result, Ok}
+use Rattle.oa_model.specs.declared.bound.Bound.{Bound}
+use Rattle.oa_model.specs.declared.var_type.ValueType.{ValueType}
+use Rattle.oa_variant.specs.declared.variant.Variant.{Variant}
+use Rattle.oa_variant.specs.Variants.{zero_value}
+use Rattle.oa_record.specs.declared.request.Call.{Call}
+use Rattle.oa_table.specs.declared.event.Event.TheVariants as events
+use Rattle.oa_table.specs.declared.name.CellName.{CellName}
+use Rattle.oa_table.specs.Elements.{redimensioned_value}
+use Rattle.oa_typelib.specs.declared.access.Access.TheVariants.{Put}
+use Rattle.oa_decision.specs.declared.decision.Decision.{Decision}
+use Rattle.oa_decision.specs.declared.decision.Decision.TheVariants.{Change}
+use Rattle.oa_decision.specs.declared.refusals.Refusal.{Refusal}
+use Rattle.oa_decision.specs.ArrayCells.{as_refused, put_in}
+use Rattle.oa_decision.specs.Cells.{cell_called}
+use Rattle.oa_decision.specs.Refusals.{◌>>=◌}
+use Rattle.oa_decision.specs.States.{State}
+
+-- the zero of a declared type with another first bound
+abbrev pub zero_with : Bound → ValueType → Result Variant Refusal
+zero_with bound declared = as_refused (redimensioned_value bound (zero_value declared))
+
+-- the value of a cell is changed; a cell that was never put is put, with what its zero becomes
+abbrev pub resizing : CellName → ValueType → Bound → Option Variant → Result Decision Refusal
+resizing name declared bound None = zero_with bound declared >>= λ value. Ok (Change (events.Put name value) [])
+resizing name declared bound (Some value) = Ok (Change (events.Redim name bound) [])
+
+-- the property's put form, with arguments as a get has them; then the array
+abbrev pub redimension : State → Call → Bound → Result Decision Refusal
+redimension state call bound = cell_called state call Put >>= λ cell. resizing cell.name cell.declared bound (put_in state cell.name)

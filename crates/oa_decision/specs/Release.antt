@@ -1,0 +1,9 @@
+-- RELEASE: an object goes, unless one of its arrays is locked. The table refuses it. (This project's choice.)
+use Rattle.std.specs.Prelude.{ℕ, [], Result, Ok}
+use Rattle.oa_table.specs.declared.event.Event.TheVariants.{Release}
+use Rattle.oa_decision.specs.declared.decision.Decision.{Decision}
+use Rattle.oa_decision.specs.declared.decision.Decision.TheVariants.{Change}
+use Rattle.oa_decision.specs.declared.refusals.Refusal.{Refusal}
+
+abbrev pub ending : ℕ → Result Decision Refusal
+ending number = Ok (Change (Release number) [])

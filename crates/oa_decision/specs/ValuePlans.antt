@@ -1,0 +1,43 @@
+-- What is planned of a call that brings no more than a new value.
+use Rattle.std.specs.Prelude.{◌≡◌, ◌⊎◌, List, [], ℕ, true, None, Result, Ok}
+use Rattle.oa_coerce.specs.declared.fault.CoerceFault.{CoerceFault}
+use Rattle.oa_model.specs.Codes.{e_outofmemory, s_ok}
+use Rattle.oa_model.specs.declared.var_type.ValueType.{ValueType}
+use Rattle.oa_record.specs.declared.request.Request.{Request}
+use Rattle.oa_record.specs.Replies.{ReplyValue}
+use Rattle.oa_table.specs.declared.event.Event.TheVariants.{Put}
+use Rattle.oa_table.specs.declared.name.CellName.{CellName}
+use Rattle.oa_table.specs.Events.{BringsNoLocks}
+use Rattle.oa_variant.specs.declared.variant.Variant.{Variant}
+use Rattle.oa_variant.specs.Variants.{unlocked}
+use Rattle.oa_decision.specs.declared.decision.Decision.TheVariants as decisions
+use Rattle.oa_decision.specs.declared.plan.Plan.{Plan}
+use Rattle.oa_decision.specs.declared.plan.Plan.TheVariants.{Answered, Change}
+use Rattle.oa_decision.specs.Invoke.{reply_value}
+use Rattle.oa_decision.specs.States.{State}
+use Rattle.oa_decision.specs.Steps.{decided, refusal, may_want_memory}
+
+-- a reply of S_OK with these fields
+abbrev pub reply_told : ℕ → List ℕ → ReplyValue
+reply_told tag fields = record { tag = tag; code = s_ok; index = None; body = fields }
+
+-- a request is answered with the fields that are decided, or memory was wanted; or this change is decided
+abbrev pub PlansValue : State → ℕ → Request → Plan → Type 0
+PlansValue state tag request (Answered reply) =
+    ((fields : List ℕ) × (decided state request ≡ Ok (decisions.Answer s_ok fields)) × (reply ≡ reply_told tag fields))
+    ⊎ ((may_want_memory state request ≡ true) × (reply ≡ refusal tag e_outofmemory None))
+PlansValue state tag request (Change planned) =
+    (decided state request ≡ Ok (decisions.Change planned.event planned.fields)) × (planned.tag ≡ tag) × BringsNoLocks planned.event
+
+-- the value of a cell is told, or memory was wanted
+abbrev pub PlansGet : State → ℕ → CellName → ValueType → Plan → Type 0
+PlansGet state tag name declared (Answered reply) =
+    (reply ≡ reply_told tag (reply_value state name declared)) ⊎ (reply ≡ refusal tag e_outofmemory None)
+PlansGet state tag name declared (Change planned) = ⊥
+
+-- a cell is set to a value that was coerced
+abbrev pub PlansPut : ℕ → CellName → Result Variant CoerceFault → Plan → Type 0
+PlansPut tag name coerced (Answered reply) = ⊥
+PlansPut tag name coerced (Change planned) =
+    (value : Variant) × (coerced ≡ Ok value) × (planned ≡ record { tag = tag; event = Put name (unlocked value); fields = [] })
+    × BringsNoLocks planned.event

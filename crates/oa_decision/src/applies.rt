@@ -1,0 +1,131 @@
+//! Whether an event applies to a table.
+ghost use Rattle.std.specs.Prelude.{◌≡◌, ℕ, List};
+ghost use Rattle.oa_decision.specs.Limits.{GivesReason};
+ghost use Rattle.oa_table.specs.Elements.{with_element_put, locks_of, redimensioned_value};
+ghost use Rattle.oa_table.specs.Events.{applied};
+ghost use Rattle.oa_table.specs.declared.event.Event.TheVariants as events;
+ghost use Rattle.oa_variant.specs.declared.variant.Variant.TheVariants as variants;
+ghost use Rattle.oa_variant.specs.declared.variant.Variant.{Variant as AVariant};
+
+use oa_array::{ArrayFault, Cell, Indices, SafeArray};
+use oa_model::Bound;
+use oa_table::{CellName, Event, Table, TableFault};
+use oa_variant::{Scalar, Variant};
+
+/// Why a table refuses an event; None where the event applies. Takes no memory.
+pub(crate) fn refusal_of(table: &Table, event: &Event) -> Option<TableFault>
+    ensures { GivesReason (applied event.now table.now) result }
+{
+    match event {
+        Event::Create { number, .. } => of_create(table, *number),
+        Event::Release { number } => of_release(table, *number),
+        Event::Put { name, .. } => of_put(table, name),
+        Event::PutElement { name, index, value } => of_element(table, name, index, value),
+        Event::Redim { name, bound } => of_redim(table, name, *bound),
+    }
+}
+
+fn of_create(table: &Table, number: u32) -> Option<TableFault>
+    ensures { (class : List ℕ) → GivesReason (applied (events.Create number class) table.now) result }
+{
+    if number != table.next() || number == u32::MAX {
+        return Some(TableFault::WrongNumber);
+    }
+    None
+}
+
+fn of_release(table: &Table, number: u32) -> Option<TableFault>
+    ensures { GivesReason (applied (events.Release number) table.now) result }
+{
+    if table.class_of(number).is_none() {
+        return Some(TableFault::NoObject);
+    }
+    if table.locked(number) {
+        return Some(TableFault::Array(ArrayFault::IsLocked));
+    }
+    None
+}
+
+fn of_put(table: &Table, name: &CellName) -> Option<TableFault>
+    ensures { (value : AVariant) → GivesReason (applied (events.Put name.now value) table.now) result }
+{
+    let Some(object) = table.object(name.object) else {
+        return Some(TableFault::NoObject);
+    };
+    if let Some(value) = object.get(&name.place)
+        && locks_of(value) != 0
+    {
+        return Some(TableFault::Array(ArrayFault::IsLocked));
+    }
+    None
+}
+
+fn of_element(
+    table: &Table,
+    name: &CellName,
+    index: &Indices,
+    element: &Scalar,
+) -> Option<TableFault>
+    ensures { GivesReason (applied (events.PutElement name.now index.now element.now) table.now) result }
+{
+    let Some(object) = table.object(name.object) else {
+        return Some(TableFault::NoObject);
+    };
+    match object.get(&name.place) {
+        Some(Variant::Array(array)) => of_array_element(array, index.as_slice(), element),
+        _ => Some(TableFault::NotArray),
+    }
+}
+
+fn of_array_element(
+    array: &SafeArray<Scalar>,
+    index: &[i32],
+    element: &Scalar,
+) -> Option<TableFault>
+    ensures { GivesReason (with_element_put index.now element.now (variants.Array array.now)) result }
+{
+    let fits = element.fits(array.elem());
+    match array.element(index) {
+        Err(_) => Some(TableFault::Array(ArrayFault::BadIndex)),
+        Ok(_) => {
+            if fits {
+                return None;
+            }
+            Some(TableFault::Array(ArrayFault::TypeMismatch))
+        }
+    }
+}
+
+fn of_redim(table: &Table, name: &CellName, bound: Bound) -> Option<TableFault>
+    ensures { GivesReason (applied (events.Redim name.now bound) table.now) result }
+{
+    let Some(object) = table.object(name.object) else {
+        return Some(TableFault::NoObject);
+    };
+    match object.get(&name.place) {
+        Some(Variant::Array(array)) => of_array_redim(array, bound),
+        _ => Some(TableFault::NotArray),
+    }
+}
+
+fn of_array_redim(array: &SafeArray<Scalar>, bound: Bound) -> Option<TableFault>
+    ensures { GivesReason (redimensioned_value bound (variants.Array array.now)) result }
+{
+    if array.locks() > 0 {
+        return Some(TableFault::Array(ArrayFault::IsLocked));
+    }
+    if array.redim_count(bound).is_none() {
+        return Some(TableFault::Array(ArrayFault::InvalidArgument));
+    }
+    None
+}
+
+/// How many locks the array of a value has; 0 for another value.
+fn locks_of(value: &Variant) -> u16
+    ensures { result ≡ locks_of value.now }
+{
+    match value {
+        Variant::One(_) => 0,
+        Variant::Array(array) => array.locks(),
+    }
+}

@@ -1,0 +1,82 @@
+//! What is decided of a request over a library and a table of objects, which are only read.
+ghost use Rattle.std.specs.Prelude.{◌≡◌, IfOk};
+ghost use Rattle.oa_decision.specs.Decisions.{ChangesNoLocks, Decides};
+ghost use Rattle.oa_decision.specs.Steps.{decided, may_want_memory};
+
+use crate::decision::{Decision, Undecided};
+use oa_record::Request;
+use oa_table::Table;
+use oa_typelib::Library;
+use std::alloc::Global;
+use std::marker::Model;
+
+mod array_cell;
+pub(crate) mod cell;
+mod create;
+mod get_element;
+mod invoke;
+mod listing;
+mod lock;
+mod look_ups;
+mod put_element;
+mod redimension;
+mod release;
+mod type_info;
+mod unlock;
+mod value_call;
+
+/// A library and a table of its objects, which are looked at, and how large the table may grow: what an answer depends on.
+#[derive(Drop)]
+pub struct Decider<'a> {
+    alloc: Global,
+    /// How many bytes the body of a bank has that the table has to fit.
+    bank: u32,
+    library: &'a Library,
+    table: &'a Table,
+}
+
+impl<'a> Model for Decider<'a> {
+    ghost use Rattle.oa_decision.specs.States.{State};
+
+    ghost Value = { State };
+
+    ghost view = { λ s. record { bank = s.bank; library = s.library.now; table = s.table.now } };
+}
+
+impl<'a> Decider<'a> {
+    /// Over this library and this table, of banks of this size.
+    pub fn new(alloc: Global, bank: u32, library: &'a Library, table: &'a Table) -> Decider<'a>
+        ensures { result ≡ record { bank = bank; library = library.now; table = table.now } }
+    {
+        Decider {
+            alloc,
+            bank,
+            library,
+            table,
+        }
+    }
+
+    /// What becomes of a request. Only reads.
+    pub fn decide(&self, request: Request) -> Result<Decision, Undecided>
+        ensures decided { Decides (decided self.now request) (may_want_memory self.now request) result }
+        ensures unlocked { IfOk result ChangesNoLocks }
+    {
+        match request {
+            Request::Create { class } => self.creation(class),
+            Request::Release { object } => Ok(self.ending(object)),
+            Request::GetIds(call) => self.look_up(call),
+            Request::Invoke(call) => self.invocation(call),
+            Request::TypeInfo { index } => self.information(index),
+            Request::Objects => self.listing(),
+            Request::GetElement { call, indices } => self.element_got(call, indices),
+            Request::PutElement {
+                call,
+                indices,
+                value,
+            } => self.element_put(call, indices, value),
+            Request::Redimension { call, bound } => self.redimension(call, bound),
+            Request::Lock(call) => self.locking(call),
+            Request::Unlock(call) => self.unlocking(call),
+        }
+    }
+}

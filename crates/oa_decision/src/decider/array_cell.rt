@@ -1,0 +1,83 @@
+//! The array in a cell.
+ghost use Rattle.std.specs.Prelude.{◌≡◌, None, Err, ℤ, List};
+ghost use Rattle.std.specs.Result.{result_map_both};
+ghost use Rattle.oa_decision.specs.ArrayCells.{array_of, element_at, element_of, element_type_of, locks_in, locks_of, element_type_at};
+ghost use Rattle.oa_variant.specs.Variants.{zero_value};
+
+use super::Decider;
+use super::cell::BoundCell;
+use crate::refusals::Refusal;
+use oa_array::{ArrayFault, SafeArray};
+use oa_model::{ValueType, VarType};
+use oa_table::TableFault;
+use oa_variant::{Scalar, Variant};
+
+impl Decider<'_> {
+    /// How many locks the array in a cell has. Refused where the cell holds no array, and where it was never put.
+    pub(super) fn locks_in(&self, cell: &BoundCell) -> Result<u16, Refusal>
+        ensures { result ≡ locks_in self.now cell.now }
+    {
+        match self.table.get(&cell.name) {
+            Some(value) => Ok(array_of(value)?.locks()),
+            None => Err(no_lock(cell.declared)),
+        }
+    }
+}
+
+/// The array that a value is.
+fn array_of(value: &Variant) -> Result<&SafeArray<Scalar>, Refusal>
+    ensures { result_map_both (λ a. a.now) (λ e. e) result ≡ array_of value.now }
+{
+    match value {
+        Variant::One(_) => Err(Refusal::of(TableFault::NotArray.code())),
+        Variant::Array(array) => Ok(array),
+    }
+}
+
+/// The element of a value at an index list, from where it stands.
+pub(super) fn element_of<'a>(index: &[i32], value: &'a Variant) -> Result<&'a Scalar, Refusal>
+    ensures { result_map_both (λ s. s.now) (λ e. e) result ≡ element_of index.now value.now }
+{
+    element_at(index, array_of(value)?)
+}
+
+/// The type of that element.
+pub(super) fn element_type_of(index: &[i32], value: &Variant) -> Result<VarType, Refusal>
+    ensures { result ≡ element_type_of index.now value.now }
+{
+    type_at(index, array_of(value)?)
+}
+
+fn element_at<'a>(index: &[i32], array: &'a SafeArray<Scalar>) -> Result<&'a Scalar, Refusal>
+    ensures { result_map_both (λ s. s.now) (λ e. e) result ≡ element_at index.now array.now }
+{
+    Ok(array.element(index)?)
+}
+
+fn type_at(index: &[i32], array: &SafeArray<Scalar>) -> Result<VarType, Refusal>
+    ensures { result ≡ element_type_at index.now array.now }
+{
+    array.element(index)?;
+    Ok(array.elem())
+}
+
+/// Why no index list reaches an element of a cell that was never put: the zero of its type is no array, or an array without indices.
+pub(super) fn no_element(declared: ValueType) -> Refusal
+    ensures read { (index : List ℤ) → element_of index (zero_value declared) ≡ Err result }
+    ensures typed { (index : List ℤ) → element_type_of index (zero_value declared) ≡ Err result }
+{
+    match declared {
+        ValueType::One(_) => Refusal::of(TableFault::NotArray.code()),
+        ValueType::Array(_) => Refusal::of(ArrayFault::BadIndex.code()),
+    }
+}
+
+/// Why the array of a cell that was never put has no lock to give or to take.
+fn no_lock(declared: ValueType) -> Refusal
+    ensures { locks_of declared None ≡ Err result }
+{
+    match declared {
+        ValueType::One(_) => Refusal::of(TableFault::NotArray.code()),
+        ValueType::Array(_) => Refusal::of(ArrayFault::Unexpected.code()),
+    }
+}

@@ -1,0 +1,50 @@
+//! GETELEM.
+ghost use Rattle.std.specs.Prelude.{◌≡◌, true, IfOk};
+ghost use Rattle.std.specs.Result.{result_map_both};
+ghost use Rattle.oa_decision.specs.ArrayCells.{element_in};
+ghost use Rattle.oa_decision.specs.Decisions.{ChangesNoLocks, Decides};
+ghost use Rattle.oa_decision.specs.GetElement.{element_got, reading};
+
+use super::Decider;
+use super::array_cell::{element_of, no_element};
+use super::cell::BoundCell;
+use crate::decision::{Decision, Undecided};
+use crate::fields::Fields;
+use crate::refusals::Refusal;
+use oa_array::Indices;
+use oa_model::HResult;
+use oa_record::{Call, scalar_field};
+use oa_typelib::Access;
+use oa_variant::Scalar;
+
+impl Decider<'_> {
+    /// Decides a GETELEM: an element of an array is written from where it stands.
+    pub(super) fn element_got(&self, call: Call, indices: Indices) -> Result<Decision, Undecided>
+        ensures decided { Decides (element_got self.now call indices) true result }
+        ensures unlocked { IfOk result ChangesNoLocks }
+    {
+        let cell = self.find_cell(call, Access::Get)?;
+        self.element_told(&cell, indices.as_slice())
+    }
+
+    /// Tells the element of a cell at an index list.
+    fn element_told(&self, cell: &BoundCell, index: &[i32]) -> Result<Decision, Undecided>
+        ensures decided { Decides (reading self.now index.now cell.now) true result }
+        ensures unlocked { IfOk result ChangesNoLocks }
+    {
+        let element = self.element_in(cell, index)?;
+        let fields = Fields::new(scalar_field(self.alloc, element)?);
+        let code = HResult::S_OK;
+        Ok(Decision::Answer { code, fields })
+    }
+
+    /// The element of a cell at an index list.
+    fn element_in(&self, cell: &BoundCell, index: &[i32]) -> Result<&Scalar, Refusal>
+        ensures { result_map_both (λ s. s.now) (λ e. e) result ≡ element_in self.now index.now cell.now }
+    {
+        match self.table.get(&cell.name) {
+            Some(value) => element_of(index, value),
+            None => Err(no_element(cell.declared)),
+        }
+    }
+}

@@ -1,0 +1,24 @@
+//! LOCK.
+ghost use Rattle.std.specs.Prelude.{true, IfOk};
+ghost use Rattle.oa_decision.specs.Decisions.{ChangesNoLocks, Decides};
+ghost use Rattle.oa_decision.specs.Lock.{locking};
+
+use super::Decider;
+use crate::decision::{Decision, LockChange, Undecided};
+use crate::fields::Fields;
+use oa_record::{Call, number_field};
+use oa_typelib::Access;
+
+impl Decider<'_> {
+    /// Decides a LOCK, which adds a lock of the array in a cell. The reply tells how many there are then.
+    pub(super) fn locking(&self, call: Call) -> Result<Decision, Undecided>
+        ensures decided { Decides (locking self.now call) true result }
+        ensures unlocked { IfOk result ChangesNoLocks }
+    {
+        let cell = self.find_cell(call, Access::Get)?;
+        let locks = self.locks_in(&cell)?;
+        let fields = Fields::new(number_field(self.alloc, u32::from(locks) + 1)?);
+        let change = LockChange::Lock(cell.name);
+        Ok(Decision::Relock { change, fields })
+    }
+}

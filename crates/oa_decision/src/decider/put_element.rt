@@ -1,0 +1,77 @@
+//! PUTELEM.
+ghost use Rattle.std.specs.Prelude.{◌≡◌, true, IfOk};
+ghost use Rattle.oa_decision.specs.ArrayCells.{as_element, element_type_in};
+ghost use Rattle.oa_decision.specs.Decisions.{ChangesNoLocks, Decides};
+ghost use Rattle.oa_decision.specs.PutElement.{element_for, element_put};
+
+use super::Decider;
+use super::array_cell::{element_type_of, no_element};
+use super::cell::BoundCell;
+use crate::decision::{Decision, Undecided};
+use crate::fields::Fields;
+use crate::refusals::Refusal;
+use oa_array::Indices;
+use oa_coerce::{CoerceFault, coerce_scalar};
+use oa_model::VarType;
+use oa_record::Call;
+use oa_table::Event;
+use oa_typelib::Access;
+use oa_variant::{Scalar, Variant};
+
+impl Decider<'_> {
+    /// Decides a PUTELEM: an element of an array is set, where it stands.
+    pub(super) fn element_put(
+        &self,
+        call: Call,
+        indices: Indices,
+        value: Variant,
+    ) -> Result<Decision, Undecided>
+        ensures decided { Decides (element_put self.now call indices value) true result }
+        ensures unlocked { IfOk result ChangesNoLocks }
+    {
+        let cell = self.find_cell(call, Access::Put)?;
+        let value = self.element_for(&cell, indices.as_slice(), value)?;
+        let event = Event::PutElement {
+            name: cell.name,
+            index: indices,
+            value,
+        };
+        let fields = Fields::none(self.alloc);
+        Ok(Decision::Change { event, fields })
+    }
+
+    /// What a value becomes as the element of a cell at an index list.
+    fn element_for(
+        &self,
+        cell: &BoundCell,
+        index: &[i32],
+        value: Variant,
+    ) -> Result<Scalar, Refusal>
+        ensures { result ≡ element_for self.now index.now value cell.now }
+    {
+        let elem = self.element_type_in(cell, index)?;
+        as_element(elem, value)
+    }
+
+    /// The type of the element of a cell at an index list.
+    fn element_type_in(&self, cell: &BoundCell, index: &[i32]) -> Result<VarType, Refusal>
+        ensures { result ≡ element_type_in self.now index.now cell.now }
+    {
+        match self.table.get(&cell.name) {
+            Some(value) => element_type_of(index, value),
+            None => Err(no_element(cell.declared)),
+        }
+    }
+}
+
+/// What a value becomes as an element of a type. An array is no element.
+fn as_element(elem: VarType, value: Variant) -> Result<Scalar, Refusal>
+    ensures { result ≡ as_element elem value }
+{
+    match value {
+        Variant::One(scalar) => {
+            coerce_scalar(scalar, elem).map_err(|(_, fault)| Refusal::of(fault.code()))
+        }
+        Variant::Array(_) => Err(Refusal::of(CoerceFault::TypeMismatch.code())),
+    }
+}

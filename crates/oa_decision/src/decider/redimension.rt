@@ -1,0 +1,57 @@
+//! REDIM.
+ghost use Rattle.std.specs.Prelude.{◌≡◌, true, IfOk};
+ghost use Rattle.oa_decision.specs.Cells.{FindsDue};
+ghost use Rattle.oa_decision.specs.Decisions.{ChangesNoLocks, Decides};
+ghost use Rattle.oa_decision.specs.Redimension.{redimension, zero_with};
+ghost use Rattle.oa_table.specs.Elements.{locks_of};
+ghost use Rattle.oa_variant.specs.Variants.{HasZero};
+
+use super::Decider;
+use crate::decision::{Decision, Undecided};
+use crate::fields::Fields;
+use crate::refusals::Refusal;
+use oa_array::ArrayFault;
+use oa_model::{Bound, ValueType};
+use oa_record::Call;
+use oa_table::{Event, TableFault};
+use oa_typelib::Access;
+use oa_variant::Variant;
+
+impl Decider<'_> {
+    /// Decides a REDIM: the array in a cell gets another first bound. A cell that was never put is put.
+    pub(super) fn redimension(&self, call: Call, bound: Bound) -> Result<Decision, Undecided>
+        ensures decided { Decides (redimension self.now call bound) true result }
+        ensures unlocked { IfOk result ChangesNoLocks }
+    {
+        let cell = self.find_cell(call, Access::Put)?;
+        let name = cell.name;
+        let event = match self.table.get(&name) {
+            Some(_) => Event::Redim { name, bound },
+            None => {
+                let value = self.zero_with(bound, cell.declared)?;
+                Event::Put { name, value }
+            }
+        };
+        let fields = Fields::none(self.alloc);
+        Ok(Decision::Change { event, fields })
+    }
+
+    /// The zero of a declared type with another first bound.
+    fn zero_with(&self, bound: Bound, declared: ValueType) -> Result<Variant, Undecided>
+        requires { HasZero declared }
+        ensures value { FindsDue (zero_with bound declared) result }
+        ensures unlocked { IfOk result (λ value. locks_of value ≡ 0) }
+    {
+        let mut array = match Variant::zero(self.alloc, declared)? {
+            Variant::One(_) => return Err(Undecided::Refused(Refusal::of(
+                TableFault::NotArray.code(),
+            ))),
+            Variant::Array(array) => array,
+        };
+        match array.redim(self.alloc, bound) {
+            Ok(()) => Ok(Variant::Array(array)),
+            Err(ArrayFault::Memory) => Err(Undecided::OutOfMemory),
+            Err(fault) => Err(Undecided::Refused(Refusal::of(fault.code()))),
+        }
+    }
+}

@@ -1,0 +1,33 @@
+//! TYPEINFO.
+ghost use Rattle.std.specs.Prelude.{◌≡◌, true, IfOk};
+ghost use Rattle.oa_decision.specs.Decisions.{ChangesNoLocks, Decides};
+ghost use Rattle.oa_decision.specs.TypeInfo.{information};
+
+use super::Decider;
+use crate::decision::{Decision, Undecided};
+use crate::fields::Fields;
+use crate::refusals::Refusal;
+use oa_description::description_field;
+use oa_model::HResult;
+use oa_typelib::DescribeError;
+
+impl Decider<'_> {
+    /// Decides a TYPEINFO: the description of an interface or a coclass of the library.
+    #[tactic(auto, unfolding(crate::specs::TypeInfo::description_of))]
+    pub(super) fn information(&self, index: u32) -> Result<Decision, Undecided>
+        ensures decided { Decides (information self.now index) true result }
+        ensures unlocked { IfOk result ChangesNoLocks }
+    {
+        match self.library.describe(index) {
+            Ok(description) => {
+                let fields = Fields::new(description_field(self.alloc, &description)?);
+                let code = HResult::S_OK;
+                Ok(Decision::Answer { code, fields })
+            }
+            Err(DescribeError::BadIndex) => Err(Undecided::Refused(Refusal::of(
+                HResult::DISP_E_BADINDEX,
+            ))),
+            Err(DescribeError::Memory) => Err(Undecided::OutOfMemory),
+        }
+    }
+}

@@ -1,0 +1,24 @@
+//! UNLOCK.
+ghost use Rattle.std.specs.Prelude.{true, IfOk};
+ghost use Rattle.oa_decision.specs.Decisions.{ChangesNoLocks, Decides};
+ghost use Rattle.oa_decision.specs.Unlock.{unlocking};
+
+use super::Decider;
+use crate::decision::{Decision, LockChange, Undecided};
+use crate::fields::Fields;
+use oa_record::{Call, number_field};
+use oa_typelib::Access;
+
+impl Decider<'_> {
+    /// Decides an UNLOCK, which takes a lock of the array in a cell away. The reply tells how many there are then.
+    pub(super) fn unlocking(&self, call: Call) -> Result<Decision, Undecided>
+        ensures decided { Decides (unlocking self.now call) true result }
+        ensures unlocked { IfOk result ChangesNoLocks }
+    {
+        let cell = self.find_cell(call, Access::Get)?;
+        let locks = self.locks_in(&cell)?;
+        let fields = Fields::new(number_field(self.alloc, u32::from(locks.saturating_sub(1)))?);
+        let change = LockChange::Unlock(cell.name);
+        Ok(Decision::Relock { change, fields })
+    }
+}

@@ -1,0 +1,127 @@
+//! An INVOKE that brings no more than a put's new value, of a property without parameters.
+ghost use Rattle.std.specs.Prelude.{◌≡◌, [], true, IfSome, Ok, Some};
+ghost use Rattle.oa_checks.specs.Declarations.{kind_of_property};
+ghost use Rattle.oa_coerce.specs.Answers.{coerced};
+ghost use Rattle.oa_record.specs.ValueCalls.{bringing};
+ghost use Rattle.oa_record.specs.declared.request.Request.TheVariants.{Invoke};
+ghost use Rattle.oa_table.specs.Tables.{object_at};
+ghost use Rattle.oa_decision.specs.Cells.{IsKeyless};
+ghost use Rattle.oa_decision.specs.ValuePlans.{PlansGet, PlansPut, PlansValue};
+ghost use Rattle.oa_typelib.specs.Members.{lets};
+ghost use Rattle.oa_variant.specs.Variants.{HasZero};
+
+use super::Decider;
+use crate::fields::Fields;
+use crate::plan::{Plan, Planned};
+use oa_coerce::coerce;
+use oa_model::{HResult, ValueType};
+use oa_record::{CallHead, Reply};
+use oa_table::{CellName, Event, LiveObject, Place};
+use oa_typelib::{Access, Dispinterface, Kind};
+use oa_variant::Variant;
+
+impl Decider<'_> {
+    /// What is left of the turn of such a call: its cell is that without arguments, so no lists are bound. None of a property that
+    /// `find_keyless` does not find and where the call is refused: then nothing is said.
+    pub fn plan_value(&self, tag: u32, head: CallHead, value: Option<Variant>) -> Option<Plan>
+        ensures { IfSome result (PlansValue self.now tag (Invoke (bringing head value))) }
+    {
+        let Ok(object) = self.find_object(head.object) else {
+            return None;
+        };
+        let Ok(interface) = self.find_interface_of(object, &head.interface, &head.riid) else {
+            return None;
+        };
+        let Some((declared, form)) = find_keyless(
+            &interface,
+            head.dispid,
+            Access::Flags(head.flags),
+        ) else {
+            return None;
+        };
+        let guid = interface.interface().guid;
+        let name = CellName {
+            object: head.object,
+            place: Place::new(guid, head.dispid, Vec::new(self.alloc)),
+        };
+        match form {
+            Kind::Get => match value {
+                None => Some(self.plan_get(tag, object, &name, declared)),
+                Some(_) => None,
+            },
+            Kind::Put => self.plan_put(tag, name, value?, declared),
+        }
+    }
+
+    /// A get tells the value of its cell, or that memory was wanted.
+    fn plan_get(&self, tag: u32, object: &LiveObject, name: &CellName, declared: ValueType) -> Plan
+        requires object { object_at name.now.object self.now.table ≡ Some object.now }
+        requires zero { HasZero declared }
+        ensures { PlansGet self.now tag name.now declared result }
+    {
+        match self.value_field(object, name, declared) {
+            Ok(fields) => {
+                Plan::Answered(Reply::new(tag, HResult::S_OK, None, fields.into_vec()))
+            }
+            Err(_) => { Plan::Answered(Reply::bare(self.alloc, tag, HResult::E_OUTOFMEMORY, None)) }
+        }
+    }
+
+    /// A put sets its cell to what the argument becomes as a value of the declared type. None where it becomes none.
+    #[inline(always)]
+    #[tactic(auto, using(crate::proofs::Zeros::no_locks))]
+    fn plan_put(
+        &self,
+        tag: u32,
+        name: CellName,
+        argument: Variant,
+        declared: ValueType,
+    ) -> Option<Plan>
+        requires { HasZero declared }
+        ensures { IfSome result (PlansPut tag name (coerced argument declared)) }
+    {
+        let Ok(value) = coerce(self.alloc, argument, declared) else {
+            return None;
+        };
+        let value = value.into_unlocked();
+        let event = Event::Put { name, value };
+        let fields = Fields::none(self.alloc);
+        Some(Plan::Change(Planned { tag, event, fields }))
+    }
+}
+
+/// A property of `properties:` that alone has a DISPID, where it holds scalars: their type, and the form of it that a call asks for. It
+/// has no parameters, and one declaration, which is not made to be asked. None of any other member, and where it has not the form.
+fn find_keyless(
+    interface: &Dispinterface<'_>,
+    dispid: i32,
+    access: Access,
+) -> Option<(ValueType, Kind)>
+    ensures found { IfSome result (λ found. IsKeyless interface.now dispid access found.0 found.1) }
+    ensures zero { IfSome result (λ found. HasZero found.0) }
+{
+    let places = interface.places_with(dispid);
+    if places.len() != 1 {
+        return None;
+    }
+    let property = interface.interface().properties.get(places[0])?;
+    let ValueType::One(_) = property.value_type else {
+        return None;
+    };
+    let form = access.kind()?;
+    if lets(form, property.readonly) {
+        Some((property.value_type, form))
+    } else {
+        None
+    }
+}
+
+/// Whether a property has a form: one that is only read has no put.
+fn lets(form: Kind, readonly: bool) -> bool
+    ensures { result ≡ lets form (kind_of_property readonly) }
+{
+    match form {
+        Kind::Get => true,
+        Kind::Put => !readonly,
+    }
+}

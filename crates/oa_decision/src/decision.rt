@@ -1,0 +1,76 @@
+//! What becomes of a request, before anything is changed.
+ghost use Rattle.std.specs.Prelude.{◌≡◌};
+ghost use Rattle.oa_decision.specs.Cells.{undecided};
+ghost use Rattle.oa_decision.specs.declared.decision.Undecided.TheVariants.{OutOfMemory, Refused};
+
+use crate::fields::Fields;
+use crate::refusals::Refusal;
+use oa_bind::BindFault;
+use oa_model::HResult;
+use oa_table::{CellName, Event};
+use std::alloc::{AllocError, AllocFailed};
+
+/// What becomes of a request that is not refused.
+#[derive(Drop)]
+pub enum Decision {
+    /// Its reply has this code and these fields. Nothing changes.
+    Answer { code: HResult, fields: Fields },
+    /// The table changes, and the reply then has these fields; it is a refusal where the change is.
+    Change { event: Event, fields: Fields },
+    /// The same of a lock.
+    Relock { change: LockChange, fields: Fields },
+}
+
+/// A change of the locks of the array in a cell. Locks are a session's own.
+#[derive(Drop)]
+pub enum LockChange {
+    /// One more.
+    Lock(CellName),
+    /// One fewer.
+    Unlock(CellName),
+}
+
+/// Why nothing is decided.
+pub enum Undecided {
+    /// The request is refused.
+    Refused(Refusal),
+    /// Memory was refused.
+    OutOfMemory,
+}
+
+impl From<Refusal> for Undecided {
+    ghost from_gives = { λ refusal e. e ≡ Refused refusal };
+
+    fn from(refusal: Refusal) -> Undecided {
+        Undecided::Refused(refusal)
+    }
+}
+
+impl From<BindFault> for Undecided {
+    ghost from_gives = { λ fault e. e ≡ undecided fault };
+
+    fn from(fault: BindFault) -> Undecided {
+        let BindFault { code, index } = fault;
+        if code == HResult::E_OUTOFMEMORY {
+            Undecided::OutOfMemory
+        } else {
+            Undecided::Refused(Refusal { code, index })
+        }
+    }
+}
+
+impl From<AllocError> for Undecided {
+    ghost from_gives = { λ _ e. e ≡ OutOfMemory };
+
+    fn from(_: AllocError) -> Undecided {
+        Undecided::OutOfMemory
+    }
+}
+
+impl<T: Drop> From<AllocFailed<T>> for Undecided {
+    ghost from_gives = { λ _ e. e ≡ OutOfMemory };
+
+    fn from(_: AllocFailed<T>) -> Undecided {
+        Undecided::OutOfMemory
+    }
+}

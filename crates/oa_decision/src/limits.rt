@@ -1,0 +1,60 @@
+//! The limits on what a change makes.
+ghost use Rattle.std.specs.Prelude.{◌≡◌, ◌-◌, true, Ok, length, nat_lt};
+ghost use Rattle.oa_image.specs.Tables.{reserved_bytes, table_image};
+ghost use Rattle.oa_table.specs.Events.{applied};
+ghost use Rattle.oa_table.specs.Tables.{TableValue};
+ghost use Rattle.oa_decision.specs.Limits.{GivesReason, allowed, within_limits};
+
+use crate::applies::refusal_of;
+use oa_image::{RESERVED_BYTES, event_len};
+use oa_model::{HResult, MAX_EVENT_BYTES};
+use oa_table::{Event, Table};
+
+/// How many bytes a table's image has at most where the body of a bank has so many.
+fn most_of(bank: u32) -> u64
+    ensures { result ≡ bank - reserved_bytes }
+{
+    u64::from(bank.saturating_sub(RESERVED_BYTES))
+}
+
+/// Why an event is not allowed where the body of a bank has so many bytes; None where it is. Takes no memory.
+pub fn refusal(bank: u32, table: &Table, event: &Event) -> Option<HResult>
+    ensures { GivesReason (allowed bank event.now table.now) result }
+{
+    if let Some(fault) = refusal_of(table, event) {
+        return Some(fault.code());
+    }
+    if event_len(event) > MAX_EVENT_BYTES {
+        return Some(HResult::E_INVALIDARG);
+    }
+    if is_too_large(bank, table, event) {
+        return Some(HResult::STG_E_MEDIUMFULL);
+    }
+    None
+}
+
+/// Whether an event that applies is within the limits for certain: where even the most bytes that the table can have then are few enough.
+pub fn is_surely_within(bank: u32, table: &Table, event: &Event) -> bool
+    ensures { result ≡ true → (new : TableValue) → applied event.now table.now ≡ Ok new → within_limits bank event.now new ≡ Ok new }
+{
+    event_len(event) <= MAX_EVENT_BYTES && table.most_after(event) <= most_of(bank)
+}
+
+/// Whether the image of the table has too many bytes after an event that applies. Where even the most that it can have are few, they are
+/// not counted.
+fn is_too_large(bank: u32, table: &Table, event: &Event) -> bool
+    ensures { (new : TableValue) → applied event.now table.now ≡ Ok new → result ≡ nat_lt (bank - reserved_bytes) (length (table_image new)) }
+{
+    let most = most_of(bank);
+    if table.most_after(event) <= most {
+        return false;
+    }
+    size_after(table, event) > most
+}
+
+/// How many bytes the image of the table has after an event that applies.
+fn size_after(table: &Table, event: &Event) -> u64
+    ensures { (new : TableValue) → applied event.now table.now ≡ Ok new → result ≡ length (table_image new) }
+{
+    table.size_after(event)
+}

@@ -1,5 +1,0 @@
-use Rattle.oa_turn.proofs.Keys.{few_bound}
-use Rattle.oa_turn.proofs.host.Host.bind_call.Goals as goal
-
-pub returns-clause-few : goal.returns-clause-few
-returns-clause-few c = few_bound c.args.member.now c.args.kind _ c.in_ok-bind.field-0 c.requires c.in_ok-bind.ensures

@@ -1,9 +1,0 @@
-use Rattle.std.proofs.lemmas.Result.{err_from_is_err_and}
-use Rattle.oa_turn.proofs.Disconnected.{no_invocation}
-use Rattle.oa_turn.proofs.host.Host.invocation.Goals as goal
-
-pub returns-in_err-object-clause-decided : goal.returns-in_err-object-clause-decided
-returns-in_err-object-clause-decided c =
-    let p = err_from_is_err_and c.from_residual.result c.from_residual.ensures.1 in
-    let why = c.in_err-object.ensures.refused in
-    rw (p.1, p.2) (no_invocation c.args.self.now c.args.call _ why.0 why.1)

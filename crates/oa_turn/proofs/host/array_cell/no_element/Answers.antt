@@ -1,5 +1,0 @@
-use Rattle.oa_turn.proofs.Reached.{none_typed}
-use Rattle.oa_turn.proofs.host.array_cell.no_element.Goals as goal
-
-pub returns-in-Array-clause-typed : goal.returns-in-Array-clause-typed
-returns-in-Array-clause-typed c = rw (c.in-Array.is, c.of-in-Array.ensures, c.code-in-Array.ensures) (none_typed c.in-Array.field-0)

@@ -6,7 +6,7 @@ use Rattle.std.proofs.lemmas.Bool.{cases_lt}
 use Rattle.std.specs.Bool.{then_some}
 use Rattle.oa_model.specs.Limits.{max_cells}
 use Rattle.oa_model.specs.declared.bound.Bound.{Bound}
-use Rattle.oa_array.specs.Boxes.{InBounds, box_size, position_of}
+use Rattle.oa_array.specs.Boxes.{InBounds, IsWithin, box_size, position_of}
 use Rattle.oa_array.proofs.Places.{box_size-nil, box_size-cons, position_of-nil, position_of-cons, IsWithin-at}
 
 -- ---- the size, up to 65,537
@@ -99,6 +99,19 @@ place_steps bounds index left given place bound more first rest above m k at_lef
     let Q : List ℤ → Type 0 = λ l. IsPlaceSoFar bounds index (bound ∷ more) l place in
     let R : ℕ → Type 0 = λ n. IsPlaceSoFar bounds index more rest n in
     subst R (omega (arith, ap (λ n. place * n) em, ek)) (place_goes_on bounds index more rest bound above place h (subst Q to (subst P at_left s)))
+
+-- an index that is lacking, or outside its bound: the index list does not lie in the bounds
+pub no_index : (bounds : List Bound) (index : List ℤ) (left : List Bound) (given : List ℤ) (place : ℕ) (bound : Bound)
+    (more : List Bound) → left ≡ bound ∷ more → length given ≡ 0 → IsPlaceSoFar bounds index left given place
+    → InBounds bounds index → ⊥
+no_index bounds index left (i ∷ given) place bound more at_left e s h = absurd (omega (arith, e))
+no_index bounds index left [] place bound more at_left e s h = subst (λ l. InBounds l []) at_left (s.inside h)
+
+pub outside_bound : (bounds : List Bound) (index : List ℤ) (left : List Bound) (given : List ℤ) (place : ℕ) (bound : Bound)
+    (more : List Bound) (first : ℤ) (rest : List ℤ) → left ≡ bound ∷ more → given ≡ first ∷ rest → (IsWithin bound first → ⊥)
+    → IsPlaceSoFar bounds index left given place → InBounds bounds index → ⊥
+outside_bound bounds index left given place bound more first rest at_left at_given out s h =
+    out (subst (λ l. InBounds l (first ∷ rest)) at_left (subst (λ l. InBounds left l) at_given (s.inside h))).0
 
 pub size_steps : (bounds left : List Bound) (size : ℕ) (bound : Bound) (more : List Bound) (m n : ℕ) → left ≡ bound ∷ more
     → m ≡ bound.count → n ≡ min (size * m) 65537 → IsSizeSoFar bounds left size → IsSizeSoFar bounds more n

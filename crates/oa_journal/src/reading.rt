@@ -64,6 +64,13 @@ fn copied(alloc: Global, bytes: &[u8]) -> Result<Vec<u8>, AllocError>
     Ok(copy)
 }
 
+/// Whether this byte of a gate says that it is open.
+fn opens(gate: u8) -> bool
+    ensures { IsTrue result ↔ (gate ≡ 1) }
+{
+    gate == 1
+}
+
 /// Whether the gate at that place of a disk is open.
 fn is_open<D: Disk>(disk: &mut D, window: &mut Window, end: u64, at: u64) -> Result<bool, BankFault>
     requires inside { at < end }
@@ -82,7 +89,7 @@ fn is_open<D: Disk>(disk: &mut D, window: &mut Window, end: u64, at: u64) -> Res
     ensures calls { IsTrue (D.is_honest disk.new) → D.moment disk.new ≤ D.moment disk.old + 2 }
 {
     window.cover(disk, end, at, 1)?;
-    Ok(window.seen(at, 1)[0] == 1)
+    Ok(opens(window.seen(at, 1)[0]))
 }
 
 /// So many bytes of a disk from that place on, by the window where its buffer takes them.

@@ -25,3 +25,6 @@ returns-clause-long g c =
 
 pub returns-clause-kept : goal.returns-clause-kept
 returns-clause-kept g c = ap group_of c.seal.ensures ∙ group-sealed (group_of c.args.batch.now)
+
+pub returns-clause-after : goal.returns-clause-after
+returns-clause-after g c = c.write_then_flip.ensures.after

@@ -9,7 +9,7 @@ import tempfile
 from typing import NamedTuple
 
 import store
-from running import CLI, PROGRAM
+from running import CLI, PIECE, PROGRAM, zeros_at
 
 COMPILER = shutil.which("cc")
 SECONDS = 60  # at most for one run
@@ -45,7 +45,9 @@ def read(path):
 
 def pages_of(data):
     """The pages of a row of bytes that are not zeros, by their places."""
-    pages = ((at, bytes(data[at : at + PAGE])) for at in range(0, len(data), PAGE))
+    pieces = ((start, min(start + PIECE, len(data))) for start in range(0, len(data), PIECE))
+    places = (at for start, end in pieces if not zeros_at(data, start, end) for at in range(start, end, PAGE))
+    pages = ((at, bytes(data[at : at + PAGE])) for at in places)
     return {at: page for at, page in pages if page != ZEROS[: len(page)]}
 
 

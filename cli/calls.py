@@ -1,4 +1,6 @@
 """The calls that the program makes on its store's file, as strace sees them, and what comes of it where one fails or the program is killed there."""
+import mmap
+import os
 import re
 import shutil
 import tempfile
@@ -56,8 +58,10 @@ def each_fails(words, files, judge, how="error=EIO", **given):
 
 
 def held(room):
-    with open(f"{room}/it.store", "rb") as file:
-        return file.read()
+    """The store's file in a folder, which is read where it is looked at."""
+    path = f"{room}/it.store"
+    with open(path, "rb") as file:
+        return mmap.mmap(file.fileno(), 0, access=mmap.ACCESS_READ) if os.path.getsize(path) else b""
 
 
 def text_held(room):

@@ -29,9 +29,13 @@ CALL = re.compile(r'^\d+ +(\w+)\((\d+)<([^>]*)>(?:, "([^"]*)"(\.{3})?)?(?:, (\d+
 TRACED = "trace=pwrite64,ftruncate,fsync,fdatasync,write"
 
 
+PIECE = bytes(65_536)  # of zeros, of which a format writes many
+PIECE_TEXT = "\\x00" * len(PIECE)
+
+
 def bytes_of(text):
     """Bytes as strace writes them, each as \\x and two digits."""
-    return bytes.fromhex(text.replace("\\x", ""))
+    return PIECE if text == PIECE_TEXT else bytes.fromhex(text.replace("\\x", ""))
 
 
 class Traced:
@@ -79,10 +83,10 @@ def call_of(line):
 def joined(calls):
     """The same with many pieces of zeros, side by side, as three writes: the first, the last, and all between."""
     found = []
-    for is_zeros, some in itertools.groupby(calls, lambda it: it[0] == "write" and len(it[2]) == 65_536 and not any(it[2])):
+    for is_zeros, some in itertools.groupby(calls, lambda it: it[0] == "write" and it[2] == PIECE):
         some = list(some)
         if is_zeros and len(some) > 8:
-            some[1:-1] = [("write", some[1][1], bytes(65_536 * (len(some) - 2)))]
+            some[1:-1] = [("write", some[1][1], PIECE * (len(some) - 2))]
         found += some
     return found
 
@@ -218,9 +222,10 @@ class Images:
             else:
                 pending.append(call)
             self.moments += 1
-            states = allowed(told)
+            states, ranges = allowed(told), ranges_of(pending)
+            before = self.held(ranges)
             for name, left in tears(pending, self.dice):
-                self.one(f"{name}, {len(pending)} writes pending behind call {place}, {len(told)} bytes told", pending, left, states, seen, always)
+                self.one(f"{name}, {len(pending)} writes pending behind call {place}, {len(told)} bytes told", ranges, before, left, states, seen, always)
                 if len(self.wrong) >= self.most:
                     return self
         self.patch(pending)
@@ -235,10 +240,9 @@ class Images:
             pending = [] if call[0] == "sync" else pending + [it for it in (call,) if it[0] != "told"]
         self.patch(next(left for name, left in tears(pending, self.dice) if name == tear))
 
-    def one(self, name, pending, left, states, seen, always):
-        """Opens one image, unless it is one that was seen."""
-        ranges, length = ranges_of(pending), os.fstat(self.file).st_size
-        before = self.held(ranges)
+    def one(self, name, ranges, before, left, states, seen, always):
+        """Opens one image, unless it is one that was seen. It may differ in some ranges, of which `before` is what the file holds."""
+        length = os.fstat(self.file).st_size
         self.patch(left)
         after = self.held(ranges)
         key = tuple((start, hash(data)) for (start, data), was in zip(after, before) if (start, data) != was), os.fstat(self.file).st_size, states

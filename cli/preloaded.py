@@ -1,4 +1,5 @@
 """Runs of the program behind a library that makes the system as bad as it may be (cli/hostile.c): one that refuses memory, brings a byte at a time, or interrupts each read or write."""
+import functools
 import mmap
 import os
 import shutil
@@ -8,7 +9,7 @@ import tempfile
 from typing import NamedTuple
 
 import store
-from running import CLI, PROGRAM
+from running import CLI, PIECE, PROGRAM, zeros_at
 
 COMPILER = shutil.which("cc")
 SECONDS = 60  # at most for one run
@@ -44,7 +45,9 @@ def read(path):
 
 def pages_of(data):
     """The pages of a row of bytes that are not zeros, by their places."""
-    pages = ((at, bytes(data[at : at + PAGE])) for at in range(0, len(data), PAGE))
+    pieces = ((start, min(start + PIECE, len(data))) for start in range(0, len(data), PIECE))
+    places = (at for start, end in pieces if not zeros_at(data, start, end) for at in range(start, end, PAGE))
+    pages = ((at, bytes(data[at : at + PAGE])) for at in places)
     return {at: page for at, page in pages if page != ZEROS[: len(page)]}
 
 
@@ -111,13 +114,20 @@ class Told(NamedTuple):
     larges: int
 
 
+@functools.lru_cache(None)
+def compiled():
+    """The library, which is compiled once, with the folder that holds it as long as this process lives."""
+    folder = tempfile.TemporaryDirectory(dir=fast_folder())
+    subprocess.run([COMPILER, "-O1", "-Wall", "-Werror", "-shared", "-fPIC", "-o", f"{folder.name}/hostile.so", f"{CLI}/hostile.c"], check=True)
+    return f"{folder.name}/hostile.so", folder
+
+
 class Preloaded:
-    """A folder with the library, and runs of the program there."""
+    """A folder, and runs of the program there behind the library."""
 
     def __enter__(self):
         self.folder = tempfile.TemporaryDirectory(dir=fast_folder())
         self.room = self.folder.name
-        subprocess.run([COMPILER, "-O1", "-Wall", "-Werror", "-shared", "-fPIC", "-o", self.path("hostile.so"), f"{CLI}/hostile.c"], check=True)
         self.fill("nothing", b"")
         return self
 
@@ -133,7 +143,7 @@ class Preloaded:
 
     def run(self, words, given="nothing", program=PROGRAM, **how):
         """Runs the program, or another one, with the file `given` on standard input. `how` are the variables that the library reads, in lower case."""
-        variables = {"LD_PRELOAD": self.path("hostile.so"), "TOLD": self.path("told"), **{name.upper(): str(it) for name, it in how.items()}}
+        variables = {"LD_PRELOAD": compiled()[0], "TOLD": self.path("told"), **{name.upper(): str(it) for name, it in how.items()}}
         self.fill("told", b"-1 -1 -1 -1 -1")
         status, _ = spawned([program, *words], self.path(given), self.path("out"), self.path("err"), variables)
         return Told(status, read(self.path("out")), read(self.path("err")), *map(int, read(self.path("told")).split()))

@@ -10,6 +10,7 @@ seconds; the last line counts all cases, and the status is 1 where one failed.
 Without this file, in the folder cli/: OAUT_PROGRAM=PATH python3 -m unittest [-k NAME] [test_PART ..]
 """
 import argparse
+import ctypes
 import glob
 import os
 import sys
@@ -87,6 +88,15 @@ def tests_of(suite):
             yield it
 
 
+def keep_freed_memory():
+    """Has the C library keep what is freed. A store has 75 MB, and else the system would hand out the pages of each that is made, one by one."""
+    mallopt = getattr(ctypes.CDLL(None), "mallopt", None)
+    if mallopt:
+        M_TRIM_THRESHOLD, M_MMAP_MAX = -1, -4
+        mallopt(M_TRIM_THRESHOLD, 2**31 - 1)
+        mallopt(M_MMAP_MAX, 0)
+
+
 def main():
     parser = argparse.ArgumentParser(description=__doc__, formatter_class=argparse.RawDescriptionHelpFormatter)
     parser.add_argument("--program", metavar="PATH", help="the program")
@@ -100,6 +110,7 @@ def main():
     told = {"OAUT_PROGRAM": given.program and os.path.abspath(given.program), "OAUT_SESSIONS": given.sessions and " ".join(given.sessions), "OAUT_KILLS": given.kills, "OAUT_SEED": given.seed}
     os.environ.update({name: it for name, it in told.items() if it})
     sys.path.insert(0, CLI)
+    keep_freed_memory()
     loader = unittest.TestLoader()
     loader.testNamePatterns = [it if "*" in it else f"*{it}*" for it in given.names or []] or None
     passed = failed = left = 0

@@ -43,16 +43,40 @@ PIECE = 1 << 18
 ZEROS = bytes(PIECE)
 
 
+def zeros_at(content, at, end):
+    """Whether these bytes have zeros alone from one place to another."""
+    return all(content.startswith(ZEROS[: end - place], place) for place in range(at, end, PIECE))
+
+
 def fill(room, files):
     """Writes files into a folder. Where a piece of a file has zeros alone it is left out, so that a store takes no more room than what it holds."""
     for name, content in files.items():
         with open(f"{room}/{name}", "wb") as file:
             for at in range(0, len(content), PIECE):
-                piece = content[at : at + PIECE]
-                if piece != ZEROS:
+                end = min(at + PIECE, len(content))
+                if not zeros_at(content, at, end):
                     file.seek(at)
-                    file.write(piece)
+                    file.write(content[at:end])
             file.truncate(len(content))
+
+
+def has_bytes(path, content):
+    """Whether a file holds these bytes. What takes no room on its device is zeros, and is not read."""
+    with open(path, "rb") as file:
+        number, at = file.fileno(), 0
+        end = os.fstat(number).st_size
+        if end != len(content):
+            return False
+        while at < end:
+            try:
+                start = os.lseek(number, at, os.SEEK_DATA)
+            except OSError:  # there is no more data
+                start = end
+            hole = os.lseek(number, start, os.SEEK_HOLE) if start < end else end
+            if not zeros_at(content, at, start) or not content.startswith(os.pread(number, hole - start, start), start):
+                return False
+            at = hole
+    return True
 
 
 def run_in(room, words, given=b"", stdin=None, stdout=None, before=None, under=()):
@@ -170,11 +194,9 @@ class Cases(unittest.TestCase):
             got = run_in(room, words, **how)
             self.tell(name, got == (status, out, err), told((status, out, err), got))
             for file, wanted in left.items():
-                held = None
-                if os.path.exists(f"{room}/{file}"):
-                    with open(f"{room}/{file}", "rb") as opened:
-                        held = opened.read()
-                self.tell(f"{name}: what {file} holds", held == wanted, f"{None if held is None else len(held)} bytes")
+                path = f"{room}/{file}"
+                well = has_bytes(path, wanted) if wanted is not None and os.path.exists(path) else wanted is None and not os.path.exists(path)
+                self.tell(f"{name}: what {file} holds", well, f"{os.path.getsize(path)} bytes" if os.path.exists(path) else "it is not there")
 
     def checked(self, name, library, status, out, err, **how):
         """What `oaut check` makes of a library."""

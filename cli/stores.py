@@ -87,4 +87,4 @@ def words(*more):
 class Served(Cases):
     def serves(self, name, given, status, out, err, disk, left, *more, library=SMALL, **how):
         """A session over a store, and what it leaves."""
-        self.leaves(f"serve: {name}", words(*more), status, out, err, {"lib.idl": library, "it.store": disk}, {"it.store": bytes(left)}, given=given, **how)
+        self.leaves(f"serve: {name}", words(*more), status, out, err, {"lib.idl": library, "it.store": disk}, {"it.store": left}, given=given, **how)

@@ -8,7 +8,7 @@ import wire
 from calls import OUT, STRACE, Calls, each_fails, held, text_held
 from codes import E_FAIL, WRITE_FAULT
 from commits import COMMIT
-from running import FULL, FULL_TEXT, fill, run_in
+from running import FULL, FULL_TEXT, fill, has_bytes, run_in
 from stores import BODY_1, CLASS, CREATED_1, FACE, Served, get, got, text_put, words
 
 LONGEST = bytes(1_048_576)
@@ -26,10 +26,9 @@ class Checkpoints(Served):
             with tempfile.TemporaryDirectory() as room:
                 fill(room, {"lib.idl": FULL, "it.store": bytes(disk)})
                 answer = run_in(room, words("--hex"), given=text_put(b"ab")[1])
-                left = held(room)
-                found = store.read(left)
+                found = store.read(held(room))
                 self.tell(f"serve: a checkpoint {name}", (answer, found.chosen, len(found.groups) > 1) == ((0, wire.reply(1), b""), chosen, chosen == 0), (answer, found.chosen))
-                self.tell(f"serve: a checkpoint {name}: each byte", left == store.add(store.settled(disk) if chosen else bytearray(disk), later))
+                self.tell(f"serve: a checkpoint {name}: each byte", has_bytes(f"{room}/it.store", store.add(store.settled(disk) if chosen else bytearray(disk), later)))
 
     def test_banks_of_another_size(self):
         # where it is due depends on the room alone, and where the other bank stands on the size
@@ -38,7 +37,7 @@ class Checkpoints(Served):
         with tempfile.TemporaryDirectory() as room:
             fill(room, {"lib.idl": FULL, "it.store": bytes(disk)})
             answer = run_in(room, words("--hex"), given=text_put(b"ab")[1])
-            self.tell("serve: a checkpoint in banks of another size: each byte", (answer, held(room) == store.add(store.settled(disk), later)) == ((0, wire.reply(1), b""), True), answer)
+            self.tell("serve: a checkpoint in banks of another size: each byte", (answer, has_bytes(f"{room}/it.store", store.add(store.settled(disk), later))) == ((0, wire.reply(1), b""), True), answer)
 
 
 @unittest.skipIf(STRACE is None, "strace is not there: the calls of the system are not looked at, and no call is made to fail")

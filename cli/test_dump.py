@@ -6,9 +6,9 @@ import tempfile
 import unittest
 
 import store
-from calls import OUT, STRACE, Calls, each_fails, held
+from calls import OUT, STRACE, Calls, each_fails
 from commits import OPENED, OPENING
-from running import FULL_TEXT, ROOT, SMALL, SMALL_TEXT, Cases, fault, fill, rows_of, run, run_in, short, within
+from running import FULL_TEXT, ROOT, SMALL, SMALL_TEXT, Cases, fault, fill, has_bytes, rows_of, run, run_in, short, within
 from stores import BODIES, BODY_1, CLASS, CREATED_1, FACE, NEW, OLD, ONE, PUT_7, TWO, changed
 
 DUMP = ["dump", "it.store"]
@@ -114,7 +114,7 @@ class Dump(Dumped):
             ("bytes that are no library", store.formatted(b"\xff\0\n"), b"\xff\0\n"),
         ):
             for words in (["dump", "it.store", "--library"], ["dump", "--library", "it.store"]):
-                self.leaves(f"dump: the library alone, {name}", words, 0, text, b"", {"it.store": disk}, {"it.store": bytes(disk)})
+                self.leaves(f"dump: the library alone, {name}", words, 0, text, b"", {"it.store": disk}, {"it.store": disk})
         self.leaves("dump: the library of a store that is damaged", ["dump", "--library", "it.store"], 3, b"", fault(f"damaged at {BODIES[2] + GATE}"), {"it.store": changed(TWO, BODIES[2] + GATE + 5, 9)}, {})
         with open("/dev/full", "wb") as full:
             self.case("dump: standard output takes no library", ["dump", "--library", "it.store"], 1, None, fault("write fault"), files={"it.store": TWO}, stdout=full)
@@ -254,6 +254,6 @@ class DumpCalls(Cases):
     def test_each_call_fails(self):
         def dump_fails(place, what, got, room):
             wanted = fault("cannot read it.store" if place < len(OPENED) else f"device fault 0x8003001{'d' if what[0] == 'sync' else 'e'}")
-            self.tell(f"dump: {what} fails, call {place}", (got, held(room) == TWO) == ((1, b"", wanted), True), got)
+            self.tell(f"dump: {what} fails, call {place}", (got, has_bytes(f"{room}/it.store", TWO)) == ((1, b"", wanted), True), got)
 
         each_fails(DUMP, {"it.store": TWO}, dump_fails)

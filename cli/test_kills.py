@@ -17,6 +17,7 @@ import time
 import unittest
 import uuid
 
+import calls
 import store
 import wire
 from oaut import PROPERTYGET, PROPERTYPUT, ask_create, ask_invoke
@@ -43,8 +44,8 @@ class Put:
 
     def __init__(self, number, long):
         self.object = number % OBJECTS + 1
-        draw = random.Random(number)
-        if long and draw.random() < 0.5:
+        draw = random.Random(number) if long else None
+        if draw and draw.random() < 0.5:
             text = b"%d:" % number + b"x" * draw.randrange(200_000)
             self.dispid, self.value, field = NAME, (wire.BSTR, struct.pack("<I", len(text)) + text), wire.scalar(wire.BSTR, text)
         else:
@@ -62,11 +63,12 @@ def get(number, object, dispid):
 
 
 class Session:
-    """A server that is started on the store, fed without an end and killed. `first` is the number of its first put, `values` what the store holds."""
+    """A server that is started on the store, fed without an end and killed. `first` is the number of its first put, `values` what the store holds, and `puts` become those that were
+    asked."""
 
     def __init__(self, program, room, group, first, values, long):
         self.process = subprocess.Popen([program, "serve", "it.store", "lib.idl", "--group", str(group)], cwd=room, stdin=subprocess.PIPE, stdout=subprocess.PIPE, stderr=subprocess.PIPE, bufsize=0)
-        self.first, self.long, self.asked, self.over = first, long, 0, False
+        self.first, self.long, self.puts, self.over = first, long, [], False
         self.heard = bytearray()
         self.reads = [(object, dispid) for object in range(1, OBJECTS + 1) for dispid in (COUNT, NAME)]
         self.wanted = b"".join(record(bytes.fromhex(wire.reply(0, fields=wire.field(spelled(values[it]))).decode())) for it in self.reads)
@@ -78,9 +80,9 @@ class Session:
         try:
             self.process.stdin.write(b"".join(get(0, *it) for it in self.reads))
             while not self.over:
-                some = [record(Put(self.first + self.asked + it, self.long).body) for it in range(4 if self.long else 64)]
-                self.asked += len(some)
-                self.process.stdin.write(b"".join(some))
+                some = [Put(self.first + len(self.puts) + it, self.long) for it in range(4 if self.long else 64)]
+                self.puts += some
+                self.process.stdin.write(b"".join(record(it.body) for it in some))
         except (BrokenPipeError, ValueError):
             pass
 
@@ -137,9 +139,7 @@ def ends_of_groups(group, reads, puts):
 
 def held(room):
     """The values of a store's cells, by the reader that shares no code with the program, and its dump, by both."""
-    with open(f"{room}/it.store", "rb") as file:
-        data = file.read()
-    found = store.read(data)
+    found = store.read(calls.held(room))
     if found.next != OBJECTS + 1 or sorted(found.objects) != list(range(1, OBJECTS + 1)):
         raise Wrong("the objects are others")
     values = {(object, dispid): zero for object in found.objects for dispid, zero in ((COUNT, LONG_ZERO), (NAME, NO_TEXT))}
@@ -192,8 +192,8 @@ class Kills(unittest.TestCase):
         count = session.kill()
         before = self.found.chosen
         self.found, now, dump = held(self.room)
-        puts = [Put(self.number + it, long) for it in range(session.asked)]
-        there = next((it for it in range(session.asked, 0, -1) if now[puts[it - 1].object, puts[it - 1].dispid] == puts[it - 1].value), 0)
+        puts = session.puts
+        there = next((it for it in range(len(puts), 0, -1) if now[puts[it - 1].object, puts[it - 1].dispid] == puts[it - 1].value), 0)
         for put in puts[:there]:
             self.values[put.object, put.dispid] = put.value
         if self.values != now:
@@ -205,4 +205,4 @@ class Kills(unittest.TestCase):
         if self.call(["dump", "it.store"]).decode() != dump:
             raise Wrong("`oaut dump` prints something else")
         self.acknowledged, self.behind, self.switched = self.acknowledged + count, self.behind + there - count, self.switched + (self.found.chosen != before)
-        self.number += session.asked
+        self.number += len(puts)

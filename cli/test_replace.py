@@ -11,7 +11,7 @@ from codes import BAD_STUB, E_FAIL, WRITE_FAULT
 from commits import COMMIT, opens
 from oaut import LOCK, UNLOCK, ask_call
 from playing import Played
-from running import CREATE, FULL, FULL_TEXT, SMALL, SMALL_TEXT, Cases, Talk, fault, fill, run, run_in, told
+from running import CREATE, FULL, FULL_TEXT, SMALL, SMALL_TEXT, Cases, Talk, fault, fill, has_bytes, run, run_in, told
 from stores import BODY_1, CLASS, CREATED_1, FACE, PUT_7, TWO, Served, get, got, put, put_of, table, words
 
 ARRAYS = wire.array(wire.I2, [(2, -1), (3, 5)], range(1, 7))
@@ -110,7 +110,7 @@ class OverAStore(Served):
     def holds(self, name, room, disk):
         """What stands in the store's file, byte by byte."""
         left = held(room)
-        self.tell(f"replace: {name}: each byte", left == disk, (len(left), left[4096:4097], left[8192:8224].hex(), left[16_785_408:16_785_440].hex()))
+        self.tell(f"replace: {name}: each byte", has_bytes(f"{room}/it.store", disk), (len(left), left[4096:4097], left[8192:8224].hex(), left[16_785_408:16_785_440].hex()))
 
     def test_small_to_full_and_back(self):
         with tempfile.TemporaryDirectory() as room:
@@ -183,8 +183,8 @@ class OverAStore(Served):
             with Talk(SMALL, ("--hex", "--group", "1024"), room=room, command=("serve", "it.store")) as session:
                 session.send(put(1, 8) + get(2) + wire.replacement(3, FULL))
                 replies = b"".join(session.line() for _ in range(3))
-                left = held(room)
-                self.tell("replace: its reply comes without a wait for more", (replies, left == store.settled(store.add(bytearray(TWO), put_of(8)), FULL_TEXT)) == (wire.reply(1) + got(2, 8) + wire.reply(3), True), replies)
+                well = has_bytes(f"{room}/it.store", store.settled(store.add(bytearray(TWO), put_of(8)), FULL_TEXT))
+                self.tell("replace: its reply comes without a wait for more", (replies, well) == (wire.reply(1) + got(2, 8) + wire.reply(3), True), replies)
         with open("/dev/full", "wb") as full:
             left = store.add(bytearray(TWO), put_of(8))
             self.serves("replace: it is left undone where the replies before it cannot be handed out", put(1, 8) + wire.replacement(2, FULL), 1, None, fault("write fault"), TWO, left, "--hex", "--group", "3", stdout=full)

@@ -30,11 +30,11 @@ def arrays(count):
 
 class Upgrade(Cases):
     def upgrades(self, name, disk, left, *more):
-        self.leaves(f"upgrade: {name}", [*UPGRADE, *more], 0, UPGRADED, b"", {"it.store": disk}, {"it.store": bytes(left)})
+        self.leaves(f"upgrade: {name}", [*UPGRADE, *more], 0, UPGRADED, b"", {"it.store": disk}, {"it.store": left})
 
     def refuses(self, name, disk, status, text, *more):
         """A file that is refused stays as it is."""
-        self.leaves(f"upgrade: {name}", [*UPGRADE, *more], status, b"", fault(text), {"it.store": disk}, {"it.store": bytes(disk)})
+        self.leaves(f"upgrade: {name}", [*UPGRADE, *more], status, b"", fault(text), {"it.store": disk}, {"it.store": disk})
 
     def test_the_bytes(self):
         new = bytes(store.upgraded(OLD))

@@ -1,5 +1,5 @@
 #!/usr/bin/env python3
-"""The test of bin/wrong-bodies: on a crate of five functions it must tell edits that turn a meaning from one that turns none, and in the gate it must try what it should.
+"""The test of bin/wrong-bodies: on a crate of eight functions it must tell edits that turn a meaning from one that turns none, and in the gate it must try what it should.
 
     python3 tests/wrong_bodies.py
 
@@ -7,6 +7,7 @@ The crates are made in a temporary folder, with a history of their own. The edit
 changed since all were tried, and of the second one part in six is tried.
 """
 import collections
+import json
 import os
 import subprocess
 import sys
@@ -18,12 +19,24 @@ sys.dont_write_bytecode = True
 sys.path.insert(0, os.path.join(ROOT, "tools"))
 from wrong_bodies.choice import PARTS, TRIED, Choice, parts_of, read_tried, write_tried
 
+# (core alone: a check that reads std takes twice as long)
+BUILD = """load("@rattle//bazel/rattle:crate.bzl", "rattle_crate")
+
+rattle_crate(
+    name = "%s",
+    no_std = True,
+    deps = %s,
+)
+"""
+
 SOURCE = """//! Steps and the lesser of two numbers.
 #![tactic(auto)]
 
-ghost use Rattle.std.specs.Prelude.{◌≡◌, ◌≤◌, ◌<◌, ◌+◌, IsTrue, ◌↔◌};
+ghost use Rattle.core.specs.Prelude.{◌≡◌, ◌≤◌, ◌<◌, ◌+◌, IsTrue, ◌↔◌};
 
 const STEP: u8 = 2;
+
+const LEAP: u8 = 3;
 
 /// One step above.
 pub fn above(n: u8) -> u8
@@ -39,6 +52,30 @@ pub fn twice_above(n: u8) -> u8
     ensures { result ≡ n + 4 }
 {
     above(above(n))
+}
+
+/// One step above, and another name for the number.
+pub fn further(m: u8) -> u8
+    requires { m ≤ 100 }
+    ensures { result ≡ m + 2 }
+{
+    m + STEP
+}
+
+/// Two steps above.
+pub fn twice_further(m: u8) -> u8
+    requires { m ≤ 90 }
+    ensures { result ≡ m + 4 }
+{
+    further(further(m))
+}
+
+/// One leap above.
+pub fn leap(n: u8) -> u8
+    requires { n ≤ 100 }
+    ensures { result ≡ n + 3 }
+{
+    n + LEAP
 }
 
 /// The lesser of two numbers.
@@ -60,23 +97,23 @@ pub fn three_above(n: u8) -> u8
     requires { n ≤ 90 }
     ensures { result ≡ n + 3 }
 {
-    above(n) + 1
+    further(n) + 1
 }
 """
 
 # the proof of the last function names the call in its body
-ANSWERS = """use Rattle.std.proofs.Common.{rules}
+ANSWERS = """use borrow.Author.Rules.{rules}
 use Rattle.steps.proofs.three_above.Goals as goal
 
 pub returns : goal.returns
-returns c = search (c.above.ensures, rules)
+returns c = search (c.further.ensures, rules)
 """
 
 # a crate above the first one
 ABOVE = """//! A function over the steps.
 #![tactic(auto)]
 
-ghost use Rattle.std.specs.Prelude.{◌≡◌, ◌≤◌, ◌+◌};
+ghost use Rattle.core.specs.Prelude.{◌≡◌, ◌≤◌, ◌+◌};
 
 /// Four steps above.
 pub fn four_above(n: u8) -> u8
@@ -87,24 +124,24 @@ pub fn four_above(n: u8) -> u8
 }
 """
 
-# Of each edit: its text after the line 'file: src/lib.rt', and how its line must begin after the name.
+# Of each edit: its text after the line 'file: src/lib.rt', and how its line must begin after the name. No function has more than two, so that as anybody tries them two checks
+# serve for all, and a third for the one whose function calls another that falls.
 EDITS = {
     "a_step_too_long": ("old:     n + STEP\nnew:     n + STEP + 1\n", "refused by a clause: above: what the function ensures"),
     "no_step": ("old:     n + STEP\nnew:     n\n", "refused by a clause: above: what the function ensures"),
-    "a_step_by_its_number": ("old:     n + STEP\nnew:     n + 2\n", "NOT REFUSED: above: proved with this edit"),
+    "a_step_by_its_number": ("old:     m + STEP\nnew:     m + 2\n", "NOT REFUSED: further: proved with this edit"),
     # (brings the text that the edits of a step look for)
     "one_step_spelled_out": ("old:     above(above(n))\nnew:     n + STEP\n", "refused by a clause: twice_above: what the function ensures"),
-    "one_step_alone": ("old:     above(above(n))\nnew:     above(n)\n", "refused by a clause: twice_above: what the function ensures"),
+    "one_step_alone": ("old:     further(further(m))\nnew:     further(m)\n", "refused by a clause: twice_further: what the function ensures"),
     "the_greater": ("old: { a } else { b }\nnew: { b } else { a }\n", "refused by a clause: lesser: what the function ensures"),
     "two_steps_by_name": ("old:     above(above(n))\nnew:     let next = above(n); above(next)\n", "NOT REFUSED: twice_above: proved with this edit"),
     "equal_numbers_the_other_way": ("old: is_less(a, b) { a } else { b }\nnew: is_less(b, a) { b } else { a }\n", "NOT REFUSED: lesser: proved with this edit"),
-    "a_longer_step": ("falls: above\nold: const STEP: u8 = 2;\nnew: const STEP: u8 = 3;\n", "refused by a clause: above: what the function ensures"),
-    "a_constant_that_names_none": ("old: const STEP: u8 = 2;\nnew: const STEP: u8 = 3;\n", "not tried: its text"),
-    "a_step_and_one": ("old:     above(n) + 1\nnew:     n + 3\n", "refused by a proof file alone: three_above: proofs/three_above/Answers.antt"),
-    "a_step_for_three": ("old:     above(n) + 1\nnew:     above(n)\n", "refused by a"),
+    "a_longer_step": ("falls: leap\nold: const LEAP: u8 = 3;\nnew: const LEAP: u8 = 4;\n", "refused by a clause: leap: what the function ensures"),
+    "a_constant_that_names_none": ("old: const LEAP: u8 = 3;\nnew: const LEAP: u8 = 4;\n", "not tried: its text"),
+    "a_step_and_one": ("old:     further(n) + 1\nnew:     n + 3\n", "refused by a proof file alone: three_above: proofs/three_above/Answers.antt"),
+    "a_step_for_three": ("old:     further(n) + 1\nnew:     further(n)\n", "refused by a"),
     "a_text_that_is_gone": ("old: if b < a\nnew: if a < b\n", "not tried: an 'old:' text is in src/lib.rt 0 times"),
 }
-
 
 
 # Edits of the second crate, in the order of their names: whether each is in the last part of all edits, its text, and how its line begins, None where it has none.
@@ -225,7 +262,9 @@ def main():
     with tempfile.TemporaryDirectory(prefix="wrong-bodies-test-") as root:
         git(root, "init", "-q")
         write(f"{root}/.gitignore", "out/\n")
-        write(f"{root}/crates.txt", "steps:\nabove: steps\n")
+        write(f"{root}/crates.txt", "# (each crate has a file of its own, since no line of this one asks for core alone)\n")
+        for name, below in (("steps", []), ("above", ["//crates/steps"])):
+            write(f"{root}/crates/{name}/BUILD.bazel", BUILD % (name, json.dumps(below)))
         write(f"{root}/crates/steps/src/lib.rt", SOURCE)
         write(f"{root}/crates/steps/proofs/three_above/Answers.antt", ANSWERS)
         write(f"{root}/crates/above/src/lib.rt", ABOVE)

@@ -400,16 +400,21 @@ def laid(disk: bytearray, form: int, chosen: int, library: bytes, snapshot: byte
     return disk
 
 
+def filled(before: bytes, size: int) -> bytearray:
+    """So many times a byte."""
+    return bytearray(size) if before == b"\0" else bytearray(before * size)
+
+
 def formatted(library: bytes, bank: int = BANK, size: typing.Optional[int] = None, before: bytes = b"\0") -> bytearray:
     """A disk that was filled with a byte and then formatted for the canonical text of a library."""
-    disk = bytearray(before * (size or length_of(bank)))
+    disk = filled(before, size or length_of(bank))
     disk[0] = 1
     return laid(disk, 2, 0, library, NO_OBJECTS, bank)
 
 
 def formatted_before(library: bytes, size: int = LEAST, before: bytes = b"\0") -> bytearray:
     """The same in format 1, as programs of before have made it."""
-    disk = bytearray(before * size)
+    disk = filled(before, size)
     disk[0] = 1
     return laid(disk, 1, 0, library, NO_OBJECTS, OLD_BANK)
 

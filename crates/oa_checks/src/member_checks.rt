@@ -18,7 +18,7 @@ use oa_model::ValueType;
 use std::alloc::{AllocError, Global};
 
 /// A check of each interface's declarations by themselves.
-#[derive(Clone, Copy, Debug, PartialEq, Eq)]
+#[derive(Clone, Copy)]
 pub(crate) enum MemberCheck {
     /// No two members have one DISPID.
     Ids,
@@ -31,7 +31,7 @@ pub(crate) enum MemberCheck {
 }
 
 /// A rule for two declarations of an interface.
-#[derive(Clone, Copy, Debug, PartialEq, Eq)]
+#[derive(Clone, Copy)]
 pub(crate) enum Rule {
     /// Where they have one DISPID, they have one name.
     OneMember,

@@ -6,7 +6,7 @@ ghost use Rattle.oa_coerce.specs.Coercions.{rule_for};
 use oa_model::VarType;
 
 /// What a value becomes.
-#[derive(Clone, Copy, PartialEq, Eq)]
+#[derive(Clone, Copy)]
 pub(crate) enum Rule {
     /// Itself.
     Unchanged,

@@ -18,7 +18,7 @@ pub(crate) const LINE_LIMIT: usize = oa_model::MAX_LINE_CHARACTERS as usize;
 pub(crate) const MAX_READ_CALLS: u32 = oa_model::MAX_READ_CALLS;
 
 /// What was found at the reader's place.
-#[derive(Clone, Copy, Debug, PartialEq, Eq)]
+#[derive(Clone, Copy)]
 pub(crate) enum Found {
     /// A line, with its line feed or at the end of the input.
     Line,
@@ -31,7 +31,7 @@ pub(crate) enum Found {
 }
 
 /// What was taken of a line.
-#[derive(Clone, Copy, Debug, PartialEq, Eq)]
+#[derive(Clone, Copy)]
 pub(crate) enum Piece {
     /// All up to its line feed.
     Whole,

@@ -19,7 +19,7 @@ use oa_stream::{Ahead, More, Sink, Source};
 const BODY_LIMIT: usize = oa_model::MAX_REQUEST_BYTES as usize;
 
 /// How filling a buffer ended.
-#[derive(Clone, Copy, Debug, PartialEq, Eq)]
+#[derive(Clone, Copy)]
 pub(crate) enum Got {
     /// It is full.
     All,

@@ -18,11 +18,11 @@ use Rattle.oa_idl.specs.MethodValues.{MethodValue}
 use Rattle.oa_idl.specs.Forms.{Word, ◌▸◌, where_is, listed, nowhere}
 use Rattle.oa_idl.specs.Words.{passes, plain_type, name_of, over}
 use Rattle.oa_idl.specs.Reading.{heads, done, list_at}
-use Rattle.oa_idl.specs.Grammar.{sign, one_more, closing, MethodAttribute, numbered, method_attribute, no_method, is_form, method_may}
+use Rattle.oa_idl.specs.Grammar.{sign, one_more, closing, MethodAttribute, method_attribute, no_method, is_form, method_may}
 use Rattle.oa_idl.specs.Grammar.{method_grow, method_finish, method_head, may_be_void, may_have_type, result_type, method_body, method}
 use Rattle.oa_idl.specs.Grammar.{methods}
 use Rattle.oa_idl.specs.Grammar.MethodAttribute.{MethodId, Propget, Propput, MethodHelp}
-use Rattle.oa_idl.specs.GrammarReading.{closing_at, numbered_at, method_attribute_at, method_full, method_head_at, result_type_at}
+use Rattle.oa_idl.specs.GrammarReading.{closing_at, method_attribute_at, method_full, method_head_at, result_type_at}
 use Rattle.oa_idl.specs.GrammarReading.{method_body_at, method_at, methods_at, ends_properties}
 use Rattle.oa_idl.proofs.NameLimits.{over_named}
 use Rattle.oa_idl.proofs.Parses.{Parses, Always, NoLimit}
@@ -37,14 +37,10 @@ use Rattle.oa_idl.proofs.Choices.{tagged_parses, free_branch_parses, first_heads
 use Rattle.oa_idl.proofs.Lists.{KeepsFrom, both, list_parses}
 use Rattle.oa_idl.proofs.Heads.{other_sign, sign_heads, one_sign_heads, same_heads, this_some}
 use Rattle.oa_idl.proofs.AttributeLists.{attributes_parses}
-use Rattle.oa_idl.proofs.Texts.{help_parses, full_left, full_middle, full_right, signed_parses, value_type_parses, value_type_heads}
+use Rattle.oa_idl.proofs.Texts.{help_parses, full_left, full_middle, full_right, numbered_parses, value_type_parses, value_type_heads}
 use Rattle.oa_idl.proofs.ParameterTexts.{ParameterKeeps, ParameterKept, NoEndLimit, parameters_parses}
 
 -- ---- attributes
-
-numbered_parses : {n : ℕ} → Parses n Always numbered NoLimit Always numbered_at
-unfolding numbered_at
-numbered_parses = skip_parses (passes (codes "id")) (skip_parses (passes (codes "(")) (part_parses (λ i. i) signed_parses (λ l i h k. tt) (λ i. end_parses (passes (codes ")")) i (tt, refl) (λ _. tt) (λ c h. h.1))))
 
 abbrev is_id : MethodAttribute → Bool
 is_id (MethodId i) = true

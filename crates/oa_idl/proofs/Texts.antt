@@ -17,12 +17,12 @@ use Rattle.oa_idl.specs.Forms.{Word, ◌▸◌, one, either_of, where_is}
 use Rattle.oa_idl.specs.Words.{passes, plain_type, is_text, name_of, over, guid_of, part_of, id_of, word_type}
 use Rattle.oa_idl.specs.Reading.{bind, give, heads, done}
 use Rattle.oa_idl.specs.Grammar.{sign, help, HeadAttribute, head_attribute, no_head, head_may, head_grow, head_finish, head, type_word}
-use Rattle.oa_idl.specs.Grammar.{value_type, PropertyAttribute, id_form, property_attribute, no_property, property_may, property_grow}
+use Rattle.oa_idl.specs.Grammar.{value_type, PropertyAttribute, id_form, numbered, property_attribute, no_property, property_may, property_grow}
 use Rattle.oa_idl.specs.Grammar.{property_finish, property_head, property}
 use Rattle.oa_idl.specs.Grammar.HeadAttribute.{Guid, Numbered, HeadHelp}
 use Rattle.oa_idl.specs.Grammar.PropertyAttribute.{Id, Readonly, PropertyHelp}
 use Rattle.oa_idl.specs.GrammarReading.{sign_at, help_at, minor_at, uuid_at, version_at, head_attribute_at, head_full, head_at}
-use Rattle.oa_idl.specs.GrammarReading.{type_word_at, value_type_at, signed_at, id_at, property_attribute_at, property_full}
+use Rattle.oa_idl.specs.GrammarReading.{type_word_at, value_type_at, signed_at, numbered_at, id_at, property_attribute_at, property_full}
 use Rattle.oa_idl.specs.GrammarReading.{property_head_at, property_at}
 use Rattle.oa_idl.proofs.NameLimits.{over_named}
 use Rattle.oa_idl.proofs.Parses.{Parses, Always, NoLimit}
@@ -332,12 +332,13 @@ only_property_help (Id j) is = absurd (clash is refl)
 only_property_help Readonly is = absurd (clash is refl)
 only_property_help PropertyHelp is = refl
 
-numbered_form : PropertyAttribute → List Word → Type 0
-numbered_form x = sign (codes "id") ▸ sign (codes "(") ▸ id_form (id_in x) ▸ sign (codes ")")
+pub numbered_parses : {n : ℕ} → Parses n Always numbered NoLimit Always numbered_at
+unfolding numbered_at
+numbered_parses = skip_parses (passes (codes "id")) (skip_parses (passes (codes "(")) (part_parses (λ i. i) signed_parses (λ l i h k. tt) (λ i. end_parses (passes (codes ")")) i (tt, refl) (λ _. tt) (λ c h. h.1))))
 
-id_parses : {n : ℕ} → Parses n Always (λ x ws. (is_id x ≡ true) × numbered_form x ws) NoLimit Always id_at
-unfolding id_at numbered_form
-id_parses = fact_parses (skip_parses (passes (codes "id")) (skip_parses (passes (codes "(")) (part_parses id_in signed_parses (λ l x h k. tt) (λ i. end_parses (passes (codes ")")) (Id i) ((tt, refl), refl) (λ _. tt) (λ x h. only_id i x h.0.1 h.1)))))
+id_parses : {n : ℕ} → Parses n Always (λ x ws. (is_id x ≡ true) × numbered (id_in x) ws) NoLimit Always id_at
+unfolding id_at
+id_parses = fact_parses (end_part_parses id_in Id numbered_parses (λ l x h k. tt) (λ i. ((tt, refl), refl)) (λ i _. tt) (λ i x h. only_id i x h.0.1 h.1))
 
 readonly_parses : {n : ℕ} → Parses n Always (λ x ws. (is_readonly x ≡ true)
     × sign (codes "readonly") ws) NoLimit Always (bind (sign_at (codes "readonly")) (λ _. give Readonly))
@@ -349,8 +350,8 @@ property_help_parses = fact_parses (end_part_parses (λ _. done) (λ _. Property
 
 property_attribute_parses : {n : ℕ} (s : PropertySeen)
     → Parses n Always (λ x ws. (property_may s x ≡ true) × property_attribute x ws) NoLimit Always (property_attribute_at s)
-unfolding property_attribute_at numbered_form
-property_attribute_parses s = choose_parses {A = λ x ws. (not (is_some s.id) ≡ true) × ((is_id x ≡ true) × numbered_form x ws)} {B = λ x ws. (is_id x ≡ false) × ((property_may s x ≡ true) × property_attribute x ws)} (passes (codes "id"))
+unfolding property_attribute_at
+property_attribute_parses s = choose_parses {A = λ x ws. (not (is_some s.id) ≡ true) × ((is_id x ≡ true) × numbered (id_in x) ws)} {B = λ x ws. (is_id x ≡ false) × ((property_may s x ≡ true) × property_attribute x ws)} (passes (codes "id"))
     (λ x text more _ f is. yes x text more f is) (λ x text more _ f is. other x text more f is) (λ x text _ f. from_yes x text f) (λ x text _ f. f.1)
     (require_parses (not (is_some s.id)) id_parses)
     (choose_parses {A = λ x ws. (not s.readonly ≡ true) × ((is_readonly x ≡ true) × sign (codes "readonly") ws)} {B = λ x ws. (not s.help ≡ true) × ((is_property_help x ≡ true) × help ws)} (passes (codes "readonly"))
@@ -359,7 +360,7 @@ property_attribute_parses s = choose_parses {A = λ x ws. (not (is_some s.id) �
     (require_parses (not s.help) property_help_parses))
   where
     yes : (x : PropertyAttribute) (text more : List Word) → (property_may s x ≡ true) × property_attribute x text
-        → heads (passes (codes "id")) (text ++ more) ≡ true → (not (is_some s.id) ≡ true) × ((is_id x ≡ true) × numbered_form x text)
+        → heads (passes (codes "id")) (text ++ more) ≡ true → (not (is_some s.id) ≡ true) × ((is_id x ≡ true) × numbered (id_in x) text)
     yes (Id i) text more f is = (f.0, (refl, f.1))
     yes Readonly text more f is = absurd (clash is (one_sign_heads (codes "id") (codes "readonly") refl text more f.1))
     yes PropertyHelp text more f is = absurd (clash is (sign_heads (codes "id") (codes "helpstring") refl text more f.1))
@@ -370,7 +371,7 @@ property_attribute_parses s = choose_parses {A = λ x ws. (not (is_some s.id) �
     other Readonly text more f is = (refl, f)
     other PropertyHelp text more f is = (refl, f)
 
-    from_yes : (x : PropertyAttribute) (text : List Word) → (not (is_some s.id) ≡ true) × ((is_id x ≡ true) × numbered_form x text)
+    from_yes : (x : PropertyAttribute) (text : List Word) → (not (is_some s.id) ≡ true) × ((is_id x ≡ true) × numbered (id_in x) text)
         → (property_may s x ≡ true) × property_attribute x text
     from_yes (Id i) text f = (f.0, f.1.1)
     from_yes Readonly text f = absurd (clash f.1.0 refl)

@@ -113,8 +113,11 @@ signed_at = choose (passes (codes "-"))
     (sign_at (codes "-") >>= λ _. one_at (id_of true) never_over)
     (one_at (id_of false) never_over)
 
+unfoldable pub numbered_at : Reading ℤ
+numbered_at = sign_at (codes "id") >>= λ _. sign_at (codes "(") >>= λ _. signed_at >>= λ i. sign_at (codes ")") >>= λ _. give i
+
 unfoldable pub id_at : Reading PropertyAttribute
-id_at = sign_at (codes "id") >>= λ _. sign_at (codes "(") >>= λ _. signed_at >>= λ i. sign_at (codes ")") >>= λ _. give (Id i)
+id_at = numbered_at >>= λ i. give (Id i)
 
 unfoldable pub property_attribute_at : PropertySeen → Reading PropertyAttribute
 property_attribute_at s = choose (passes (codes "id"))
@@ -188,9 +191,6 @@ unfoldable pub parameters_at : MethodKind → Reading (List Parameter × Unit {0
 parameters_at k = list_at (passes (codes ")")) nowhere next_parameter_at one_more (last_parameter_at k) 0
 
 -- ---- methods
-
-unfoldable pub numbered_at : Reading ℤ
-numbered_at = sign_at (codes "id") >>= λ _. sign_at (codes "(") >>= λ _. signed_at >>= λ i. sign_at (codes ")") >>= λ _. give i
 
 unfoldable pub method_attribute_at : MethodSeen → Reading MethodAttribute
 method_attribute_at s = choose (passes (codes "id")) (require (not (is_some s.id)) numbered_at >>= λ i. give (MethodId i))

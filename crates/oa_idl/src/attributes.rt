@@ -5,8 +5,9 @@ ghost use Rattle.oa_idl.specs.declared.seen.PropertySeen.{PropertySeen};
 ghost use Rattle.oa_idl.specs.Words.{passes};
 ghost use Rattle.oa_idl.specs.Reading.{ReadsWords, done, gather};
 ghost use Rattle.oa_idl.specs.Grammar.{head_grow, head_finish, property_grow, property_finish};
+ghost use Rattle.oa_idl.specs.Grammar.HeadAttribute.{Guid, Numbered};
 ghost use Rattle.oa_idl.specs.GrammarReading.{grown_at, next_grown_at, last_at, help_at, minor_at, head_attribute_at, head_full, head_at};
-ghost use Rattle.oa_idl.specs.GrammarReading.{signed_at, property_attribute_at, property_full, property_head_at};
+ghost use Rattle.oa_idl.specs.GrammarReading.{uuid_at, version_at, signed_at, numbered_at, property_attribute_at, property_full, property_head_at};
 
 use crate::parts::Version;
 use crate::reader::Reader;
@@ -41,7 +42,29 @@ fn minor(r: &mut Reader<'_>, counts: bool) -> Result<u16, Stop>
     Ok(0)
 }
 
-#[tactic(auto, unfolding(crate::proofs::OnReadings::combinators, crate::specs::GrammarReading::uuid_at, crate::specs::GrammarReading::version_at, crate::specs::GrammarReading::head_attribute_at))]
+#[tactic(auto, unfolding(crate::proofs::OnReadings::combinators, crate::specs::GrammarReading::uuid_at))]
+fn uuid(r: &mut Reader<'_>) -> Result<Uuid, Stop>
+    ensures { ReadsWords (λ g. Guid g) result r.new (uuid_at r.old) }
+{
+    r.take(b"uuid")?;
+    r.take(b"(")?;
+    let guid = r.guid()?;
+    r.take(b")")?;
+    Ok(guid)
+}
+
+#[tactic(auto, unfolding(crate::proofs::OnReadings::combinators, crate::specs::GrammarReading::version_at))]
+fn version(r: &mut Reader<'_>, counts: bool) -> Result<Version, Stop>
+    ensures { ReadsWords (λ v. Numbered v) result r.new (version_at counts r.old) }
+{
+    r.take(b"version")?;
+    r.take(b"(")?;
+    let major = r.part(counts)?;
+    let minor = minor(r, counts)?;
+    Ok(Version { major, minor })
+}
+
+#[tactic(auto, unfolding(crate::proofs::OnReadings::combinators, crate::specs::GrammarReading::head_attribute_at))]
 fn head_attribute(r: &mut Reader<'_>, counts: bool, seen: HeadSeen) -> Result<HeadSeen, Stop>
     ensures { ReadsWords (λ s. s) result r.new (grown_at (head_attribute_at counts) head_grow seen r.old) }
 {
@@ -49,10 +72,7 @@ fn head_attribute(r: &mut Reader<'_>, counts: bool, seen: HeadSeen) -> Result<He
         if seen.uuid {
             return Err(Stop::Syntax);
         }
-        r.take(b"uuid")?;
-        r.take(b"(")?;
-        let guid = r.guid()?;
-        r.take(b")")?;
+        let guid = uuid(r)?;
         return Ok(HeadSeen {
             uuid: true,
             head: Head { guid, ..seen.head },
@@ -63,14 +83,11 @@ fn head_attribute(r: &mut Reader<'_>, counts: bool, seen: HeadSeen) -> Result<He
         if seen.version {
             return Err(Stop::Syntax);
         }
-        r.take(b"version")?;
-        r.take(b"(")?;
-        let major = r.part(counts)?;
-        let minor = minor(r, counts)?;
+        let version = version(r, counts)?;
         return Ok(HeadSeen {
             version: true,
             head: Head {
-                version: Version { major, minor },
+                version,
                 ..seen.head
             },
             ..seen
@@ -152,7 +169,7 @@ pub(crate) fn head(r: &mut Reader<'_>, counts: bool) -> Result<Head, Stop>
 
 /// A number of an id with its sign.
 #[tactic(auto, unfolding(crate::proofs::OnReadings::combinators, crate::specs::GrammarReading::signed_at))]
-pub(crate) fn signed(r: &mut Reader<'_>) -> Result<i32, Stop>
+fn signed(r: &mut Reader<'_>) -> Result<i32, Stop>
     ensures { ReadsWords (λ i. i) result r.new (signed_at r.old) }
 {
     if r.is(b"-") {
@@ -160,6 +177,18 @@ pub(crate) fn signed(r: &mut Reader<'_>) -> Result<i32, Stop>
         return r.id(true);
     }
     r.id(false)
+}
+
+/// An id.
+#[tactic(auto, unfolding(crate::proofs::OnReadings::combinators, crate::specs::GrammarReading::numbered_at))]
+pub(crate) fn numbered(r: &mut Reader<'_>) -> Result<i32, Stop>
+    ensures { ReadsWords (λ i. i) result r.new (numbered_at r.old) }
+{
+    r.take(b"id")?;
+    r.take(b"(")?;
+    let id = signed(r)?;
+    r.take(b")")?;
+    Ok(id)
 }
 
 #[tactic(auto, unfolding(crate::proofs::OnReadings::combinators, crate::specs::GrammarReading::id_at, crate::specs::GrammarReading::property_attribute_at))]
@@ -170,10 +199,7 @@ fn property_attribute(r: &mut Reader<'_>, seen: PropertySeen) -> Result<Property
         if seen.id.is_some() {
             return Err(Stop::Syntax);
         }
-        r.take(b"id")?;
-        r.take(b"(")?;
-        let id = signed(r)?;
-        r.take(b")")?;
+        let id = numbered(r)?;
         return Ok(PropertySeen {
             id: Some(id),
             ..seen

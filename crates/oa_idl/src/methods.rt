@@ -5,10 +5,10 @@ ghost use Rattle.oa_idl.specs.Forms.{nowhere};
 ghost use Rattle.oa_idl.specs.Words.{passes};
 ghost use Rattle.oa_idl.specs.Reading.{ReadsWords, done, gather, until};
 ghost use Rattle.oa_idl.specs.Grammar.{one_more, is_form, method_grow, method_finish, may_be_void, may_have_type};
-ghost use Rattle.oa_idl.specs.GrammarReading.{grown_at, next_grown_at, last_at, numbered_at, method_attribute_at, method_full};
+ghost use Rattle.oa_idl.specs.GrammarReading.{grown_at, next_grown_at, last_at, method_attribute_at, method_full};
 ghost use Rattle.oa_idl.specs.GrammarReading.{method_head_at, result_type_at, method_body_at, method_at, closing_at, methods_at};
 
-use crate::attributes::{help, signed};
+use crate::attributes::{help, numbered};
 use crate::method::Method;
 use crate::parameters::parameters;
 use crate::parser::value_type;
@@ -18,17 +18,6 @@ use crate::seen::{MethodHead, MethodSeen};
 use crate::stop::{Stop, TreeLimit};
 use oa_model::{MAX_MEMBERS, ValueType};
 use std::alloc::Global;
-
-#[tactic(auto, unfolding(crate::proofs::OnReadings::combinators, crate::specs::GrammarReading::numbered_at))]
-fn numbered(r: &mut Reader<'_>) -> Result<i32, Stop>
-    ensures { ReadsWords (λ i. i) result r.new (numbered_at r.old) }
-{
-    r.take(b"id")?;
-    r.take(b"(")?;
-    let id = signed(r)?;
-    r.take(b")")?;
-    Ok(id)
-}
 
 /// Whether it is a form of a property.
 fn is_form(kind: MethodKind) -> bool

@@ -24,7 +24,7 @@ pub struct Head {
 }
 
 /// There is no such part.
-#[derive(Clone, Copy, Debug, PartialEq, Eq)]
+#[derive(Clone, Copy)]
 pub(crate) struct NotThere;
 
 fn same(one: &[u8], other: &[u8]) -> bool

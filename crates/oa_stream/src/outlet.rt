@@ -11,7 +11,7 @@ use std::io::{ErrorKind, Write};
 pub(crate) const MOST_TRIES: usize = 4_194_304;
 
 /// What became of one call of a writer.
-#[derive(Clone, Copy, Debug, PartialEq, Eq)]
+#[derive(Clone, Copy)]
 pub(crate) enum Taken {
     /// So many bytes were taken.
     Bytes(usize),

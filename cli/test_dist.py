@@ -1,4 +1,5 @@
 """What `dist/pack` makes: a tarball in which README's start runs as it stands there, and a Debian package that works in a clean root."""
+import functools
 import os
 import re
 import shutil
@@ -10,6 +11,7 @@ import unittest
 from running import PROGRAM, ROOT, Cases
 
 BUILT = os.path.exists(PROGRAM)
+HAS_ROOT = shutil.which("dpkg-deb") is not None and os.getuid() == 0
 
 
 def start_of(readme):
@@ -26,6 +28,14 @@ def start_of(readme):
     return commands, re.search(r"```python\n(.*?)```", section, re.DOTALL)[1]
 
 
+@functools.lru_cache(None)
+def packed():
+    """What came of `dist/pack`, which is run once for all tests, in a clean root too where there may be one."""
+    room = tempfile.mkdtemp(prefix="oaut-packed-")
+    unittest.addModuleCleanup(shutil.rmtree, room, True)
+    return subprocess.run([f"{ROOT}/dist/pack", "--program", PROGRAM, *(["--try"] if HAS_ROOT else []), room], capture_output=True, text=True, timeout=600)
+
+
 @unittest.skipUnless(BUILT, "the program is not there")
 class Packed(Cases):
     def test_a_newcomer_follows_the_start(self):
@@ -36,9 +46,8 @@ class Packed(Cases):
             self.tell("the script that README shows is the one that runs", file.read() == script)
         self.tell("README has commands to follow", len(commands) >= 3, commands)
         with tempfile.TemporaryDirectory() as room:
-            packed = subprocess.run([f"{ROOT}/dist/pack", "--program", PROGRAM, room], capture_output=True, text=True)
-            self.tell("it is packed", packed.returncode == 0, packed.stderr)
-            (archive,) = [it for it in packed.stdout.split() if it.endswith(".tar.gz")]
+            self.tell("it is packed", packed().returncode == 0, packed().stderr)
+            (archive,) = [it for it in packed().stdout.split() if it.endswith(".tar.gz")]
             subprocess.run(["tar", "-C", room, "-xzf", archive], check=True)
             (top,) = [it.path for it in os.scandir(room) if it.is_dir()]
             for bits, compiler in (("64", "x86_64-w64-mingw32-gcc"), ("32", "i686-w64-mingw32-gcc")):
@@ -55,18 +64,17 @@ class Packed(Cases):
             for (command, wanted), got in zip(commands, said):
                 self.tell(f"README's output of: {command}", got.splitlines() == wanted, got)
 
-    @unittest.skipIf(shutil.which("dpkg-deb") is None or os.getuid() != 0, "no dpkg-deb, or not the superuser who makes a clean root")
+    @unittest.skipUnless(HAS_ROOT, "no dpkg-deb, or not the superuser who makes a clean root")
     def test_the_package_in_a_clean_root(self):
-        with tempfile.TemporaryDirectory() as room:
-            done = subprocess.run([f"{ROOT}/dist/pack", "--program", PROGRAM, "--try", room], capture_output=True, text=True, timeout=600)
-            said = done.stdout.splitlines()
-            guid = "11223344-5566-7788-99aa-bbccddeeff0"
-            wanted = ["formatted", "next 2", f"object 1 {guid}3", f"cell {guid}2 1 - 030007000000", "<Item 1> 7"]
-            self.tell("the first requests in a clean root", (done.returncode, said[2:]) == (0, wanted), (done.returncode, said, done.stderr))
-            if done.returncode == 0:
-                told = subprocess.run(["dpkg-deb", "--contents", said[1]], capture_output=True, text=True).stdout
-                for path in ("usr/bin/oaut", "usr/share/man/man1/oaut.1.gz", "usr/lib/python3/dist-packages/oaut/py.typed", "usr/lib/systemd/system/oaut.socket"):
-                    self.tell(f"the package has {path}", f" ./{path}\n" in told, told)
+        done = packed()
+        said = done.stdout.splitlines()
+        guid = "11223344-5566-7788-99aa-bbccddeeff0"
+        wanted = ["formatted", "next 2", f"object 1 {guid}3", f"cell {guid}2 1 - 030007000000", "<Item 1> 7"]
+        self.tell("the first requests in a clean root", (done.returncode, said[2:]) == (0, wanted), (done.returncode, said, done.stderr))
+        if done.returncode == 0:
+            told = subprocess.run(["dpkg-deb", "--contents", said[1]], capture_output=True, text=True).stdout
+            for path in ("usr/bin/oaut", "usr/share/man/man1/oaut.1.gz", "usr/lib/python3/dist-packages/oaut/py.typed", "usr/lib/systemd/system/oaut.socket"):
+                self.tell(f"the package has {path}", f" ./{path}\n" in told, told)
 
 
 class Beside(Cases):

@@ -3,6 +3,7 @@ sources with a planted fault. What is not installed leaves its tests out, each b
 import concurrent.futures
 import contextlib
 import functools
+import glob
 import os
 import random
 import re
@@ -384,14 +385,21 @@ def planted(room, file, edits):
 
 
 def all_planted(faults, build, *words):
-    """Of each fault a folder with what is built of it, and what the build said; they are built at once."""
+    """Of each fault a folder with what is built of it, and what the build said; they are built at once. Of the DLL only the edited source is compiled for each."""
     rooms = {name: tempfile.TemporaryDirectory() for name in faults}
 
     def one(name):
-        room = rooms[name]
-        return room, built([f"{planted(room.name, *faults[name][:2])}/{build}", *words, room.name], env={**os.environ, "CFLAGS": "-O0"})
+        room, (file, edits) = rooms[name], faults[name][:2]
+        objects = f"{room.name}/objects"
+        os.mkdir(objects)
+        for it in glob.glob(f"{shared}/*.o"):
+            if not it.endswith(f"-{file.removesuffix('.c')}.o"):
+                shutil.copy(it, objects)
+        return room, built([f"{planted(room.name, file, edits)}/{build}", *words, room.name], env={**os.environ, "CFLAGS": "-O0", "OBJECTS": objects})
 
-    with concurrent.futures.ThreadPoolExecutor(os.cpu_count()) as pool:
+    with tempfile.TemporaryDirectory() as shared, concurrent.futures.ThreadPoolExecutor(os.cpu_count()) as pool:
+        if build == "build.sh":
+            built([f"{COM}/build.sh", shared], env={**os.environ, "CFLAGS": "-O0 -w -save-temps=obj"})
         return dict(zip(rooms, pool.map(one, rooms)))
 
 

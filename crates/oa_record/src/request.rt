@@ -6,7 +6,7 @@ use oa_variant::Variant;
 use uuid::Uuid;
 
 /// What a body asks for (this project's choice).
-#[derive(Drop)]
+#[derive(Debug, Drop)]
 pub enum Request {
     /// A new object of a coclass.
     Create {

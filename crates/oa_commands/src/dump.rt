@@ -21,7 +21,8 @@ use std::alloc::{AllocError, Global};
 use uuid::Uuid;
 
 /// Writes the objects of a store and their cells, a line each, or the bytes of its library in their place, and hands them on. The file is
-/// let go before the first line, and of one that holds no whole store (a fault of status 3) nothing is written. The caller keeps a `Streams`.
+/// let go before the first line, and of one that holds no whole store (a fault of status 3) nothing is written. The caller keeps a
+/// `Streams`, or the file may take the number of a closed standard stream.
 pub fn write_dump<W: Sink>(
     rt: &HostRuntime,
     path: &str,

@@ -1,7 +1,7 @@
 //! The commands on a library's text and on a store's file, what they print, and what ends the program early: one line and a status.
 //!
-//! Its contract: `format_store` answers a disk of which each image is the new store (`IsNewlyFormatted`), `upgrade_store` one that is brought to
-//! format 2 (`IsUpgraded`), and `write_dump` writes the lines of what a disk was read as (`dump`). Each fault has the status of one table
+//! Its contract: `format_store` answers a disk of which each image is the new store (`IsNewlyFormatted`), `upgrade_store` one that is
+//! brought to format 2 (`IsUpgraded`), and `write_dump` writes the lines of what a disk was read as (`dump`). Each fault has the status of one table
 //! (`status_of`), and none of them is that of success. Which file a path names, and the calls of the system, are tested (`cli/`).
 //!
 //! What stands on it: the program.

@@ -26,7 +26,8 @@ pub(crate) fn store_bytes(bank: u32) -> u64 {
 }
 
 /// Makes a file the store of a library, without objects, with banks of so many bytes, and answers it. A file that is not there is made; one
-/// that is there is used in its own length, and what it held is gone. The caller keeps a `Streams`.
+/// that is there is used in its own length, and what it held is gone. The caller keeps a
+/// `Streams`, or the file may take the number of a closed standard stream.
 pub fn format_store(
     rt: &HostRuntime,
     path: &str,

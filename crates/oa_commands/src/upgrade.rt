@@ -16,7 +16,7 @@ use std::os::unix::fs::FileExt;
 const PIECE: usize = 65_536;
 
 /// Brings a store of format 1 to format 2, with banks of so many bytes, and answers its file. One that is too short for it is lengthened.
-/// The caller keeps a `Streams`.
+/// The caller keeps a `Streams`, or the file may take the number of a closed standard stream.
 pub fn upgrade_store(rt: &HostRuntime, path: &str, bank: u32) -> Result<FileDisk, Fault>
     ensures upgraded { IfOk result (IsUpgraded ⟦<FileDisk as Disk>⟧ (bank_near bank)) }
     ensures refused { IfErr result IsOfUpgrade }

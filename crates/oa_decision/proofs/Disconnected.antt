@@ -5,7 +5,7 @@ use Rattle.oa_record.specs.declared.request.Call.{Call}
 use Rattle.oa_table.specs.Tables.{object_at}
 use Rattle.oa_typelib.specs.declared.access.Access.{Access}
 use Rattle.oa_typelib.specs.declared.access.Access.TheVariants.{Flags}
-use Rattle.oa_decision.specs.declared.refusals.Refusal.{Refusal}
+use Rattle.oa_decision.specs.declared.refusal.Refusal.{Refusal}
 use Rattle.oa_decision.specs.Cells.{cell_called}
 use Rattle.oa_decision.specs.Interfaces.{interface_found}
 use Rattle.oa_decision.specs.Invoke.{invocation}

@@ -27,7 +27,7 @@ use Rattle.oa_table.specs.declared.fault.TableFault.TheVariants.{NotArray, Array
 use Rattle.oa_table.specs.declared.name.CellName.{CellName}
 use Rattle.oa_table.specs.Faults.{table_code}
 use Rattle.oa_table.specs.Tables.{cell_in, object_at}
-use Rattle.oa_decision.specs.declared.refusals.Refusal.{Refusal}
+use Rattle.oa_decision.specs.declared.refusal.Refusal.{Refusal}
 use Rattle.oa_decision.specs.declared.decider.cell.BoundCell.{BoundCell}
 use Rattle.oa_decision.specs.Invoke.{or_zero}
 use Rattle.oa_decision.specs.Refusals.{◌>>=◌, known, refused, unless}

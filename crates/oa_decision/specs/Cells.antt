@@ -21,7 +21,7 @@ use Rattle.oa_typelib.specs.MemberValues.{MemberValue}
 use Rattle.oa_typelib.specs.Members.{member_in}
 use Rattle.oa_decision.specs.declared.decision.Undecided.{Undecided}
 use Rattle.oa_decision.specs.declared.decision.Undecided.TheVariants.{Refused, OutOfMemory}
-use Rattle.oa_decision.specs.declared.refusals.Refusal.{Refusal}
+use Rattle.oa_decision.specs.declared.refusal.Refusal.{Refusal}
 use Rattle.oa_decision.specs.declared.decider.cell.BoundCell.{BoundCell}
 use Rattle.oa_decision.specs.Interfaces.{interface_found}
 use Rattle.oa_decision.specs.Refusals.{◌>>=◌, refused}

@@ -9,7 +9,7 @@ use Rattle.oa_table.specs.declared.event.Event.TheVariants.{Create}
 use Rattle.oa_table.specs.Tables.{TableValue}
 use Rattle.oa_decision.specs.declared.decision.Decision.{Decision}
 use Rattle.oa_decision.specs.declared.decision.Decision.TheVariants.{Change}
-use Rattle.oa_decision.specs.declared.refusals.Refusal.{Refusal}
+use Rattle.oa_decision.specs.declared.refusal.Refusal.{Refusal}
 use Rattle.oa_decision.specs.Limits.{allowed}
 use Rattle.oa_decision.specs.Refusals.{◌>>=◌, known, refused, unless}
 use Rattle.oa_decision.specs.States.{State}

@@ -7,7 +7,7 @@ use Rattle.oa_record.specs.Replies.{variant_field}
 use Rattle.oa_typelib.specs.declared.access.Access.TheVariants.{Get}
 use Rattle.oa_decision.specs.declared.decision.Decision.{Decision}
 use Rattle.oa_decision.specs.declared.decision.Decision.TheVariants.{Answer}
-use Rattle.oa_decision.specs.declared.refusals.Refusal.{Refusal}
+use Rattle.oa_decision.specs.declared.refusal.Refusal.{Refusal}
 use Rattle.oa_decision.specs.declared.decider.cell.BoundCell.{BoundCell}
 use Rattle.oa_decision.specs.ArrayCells.{element_in}
 use Rattle.oa_decision.specs.Cells.{cell_called}

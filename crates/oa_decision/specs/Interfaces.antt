@@ -5,7 +5,7 @@ use Rattle.oa_model.specs.Codes.{disp_e_unknowninterface, e_nointerface, rpc_e_d
 use Rattle.oa_idl.specs.Values.{InterfaceValue}
 use Rattle.oa_checks.specs.Libraries.{selected_in}
 use Rattle.oa_table.specs.Tables.{class_in, object_at}
-use Rattle.oa_decision.specs.declared.refusals.Refusal.{Refusal}
+use Rattle.oa_decision.specs.declared.refusal.Refusal.{Refusal}
 use Rattle.oa_decision.specs.Refusals.{◌>>=◌, known, unless}
 use Rattle.oa_decision.specs.States.{State}
 

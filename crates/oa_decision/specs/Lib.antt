@@ -16,5 +16,5 @@ pub mod Redimension
 pub mod Lock
 pub mod Unlock
 pub mod Listing
-pub mod Steps
+pub mod Decided
 pub mod ValuePlans

@@ -1,21 +1,16 @@
 -- The limits on what a change makes. (This project's choice: a table has to leave so much of a bank's body that a group of one event fits
 -- behind it, and a server in memory refuses what one over a store refuses.)
-use Rattle.std.specs.Prelude.{◌≡◌, ◌⊎◌, ◌+◌, ◌-◌, ℕ, nat_lt, if◌then◌else◌, length, true, Option, Some, None, Result, Ok, Err, IsOk}
-use Rattle.oa_image.specs.Tables.{FitsBank, reserved_bytes}
+use Rattle.std.specs.Prelude.{◌≡◌, ◌-◌, ℕ, nat_lt, if◌then◌else◌, length, Option, Some, None, Result, Ok, Err, IsOk}
+use Rattle.oa_image.specs.Tables.{reserved_bytes, table_image}
 use Rattle.oa_model.specs.Limits.{max_event_bytes}
 use Rattle.oa_image.specs.Events.{event_image}
-use Rattle.oa_image.specs.Tables.{is_numbered, table_image}
 use Rattle.oa_model.specs.declared.hresult.HResult.{HResult}
-use Rattle.oa_model.specs.Codes.{e_invalidarg, e_outofmemory, stg_e_mediumfull}
+use Rattle.oa_model.specs.Codes.{e_invalidarg, stg_e_mediumfull}
 use Rattle.oa_table.specs.declared.event.Event.{Event}
 use Rattle.oa_table.specs.declared.fault.TableFault.{TableFault}
 use Rattle.oa_table.specs.Events.{applied}
 use Rattle.oa_table.specs.Faults.{table_code}
 use Rattle.oa_table.specs.Tables.{TableValue}
-
--- how many bytes the body of a bank has at least: what is left free, and the image of a table without objects
-abbrev pub least_bank : ℕ
-least_bank = reserved_bytes + 8
 
 -- the image of the event, and then that of the table after it, in a bank of this size
 abbrev pub within_limits : ℕ → Event → TableValue → Result TableValue HResult
@@ -40,13 +35,3 @@ allowed bank event table = limited bank event (applied event table)
 abbrev pub GivesReason : {T E : Type 0} → Result T E → Option E → Type 0
 GivesReason due None = IsOk due
 GivesReason due (Some fault) = due ≡ Err fault
-
--- A change is made where it is allowed; else the reason is told, or that memory was wanted, and nothing changes.
-abbrev pub ChangesTable : ℕ → Event → TableValue → TableValue → Result (Unit {0}) HResult → Type 0
-ChangesTable bank event old new (Ok u) = allowed bank event old ≡ Ok new
-ChangesTable bank event old new (Err code) = (new ≡ old) × ((allowed bank event old ≡ Err code) ⊎ ((code ≡ e_outofmemory) × IsOk (allowed bank event old)))
-
--- What a server's table always is: its objects have numbers from 1 to below the next one, and its image leaves what has to be free of a bank of this size.
-pub record IsSoundTable (bank : ℕ) (table : TableValue) : Type 0 where
-  pub numbered : is_numbered table ≡ true
-  pub small : FitsBank bank table

@@ -6,7 +6,7 @@ use Rattle.oa_record.specs.Replies.{number_field, object_field}
 use Rattle.oa_table.specs.Tables.{ObjectValue, TableValue}
 use Rattle.oa_decision.specs.declared.decision.Decision.{Decision}
 use Rattle.oa_decision.specs.declared.decision.Decision.TheVariants.{Answer}
-use Rattle.oa_decision.specs.declared.refusals.Refusal.{Refusal}
+use Rattle.oa_decision.specs.declared.refusal.Refusal.{Refusal}
 use Rattle.oa_decision.specs.States.{State}
 
 -- a number and the object that has it

@@ -6,7 +6,7 @@ use Rattle.oa_typelib.specs.declared.access.Access.TheVariants.{Get}
 use Rattle.oa_decision.specs.declared.decision.Decision.{Decision}
 use Rattle.oa_decision.specs.declared.decision.Decision.TheVariants.{Relock}
 use Rattle.oa_decision.specs.declared.decision.LockChange.TheVariants.{Lock}
-use Rattle.oa_decision.specs.declared.refusals.Refusal.{Refusal}
+use Rattle.oa_decision.specs.declared.refusal.Refusal.{Refusal}
 use Rattle.oa_decision.specs.declared.decider.cell.BoundCell.{BoundCell}
 use Rattle.oa_decision.specs.ArrayCells.{locks_in}
 use Rattle.oa_decision.specs.Cells.{cell_called}

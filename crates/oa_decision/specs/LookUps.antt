@@ -7,7 +7,7 @@ use Rattle.oa_typelib.specs.NamedValues.{DispIdsValue}
 use Rattle.oa_typelib.specs.Names.{names_told}
 use Rattle.oa_decision.specs.declared.decision.Decision.{Decision}
 use Rattle.oa_decision.specs.declared.decision.Decision.TheVariants.{Answer}
-use Rattle.oa_decision.specs.declared.refusals.Refusal.{Refusal}
+use Rattle.oa_decision.specs.declared.refusal.Refusal.{Refusal}
 use Rattle.oa_decision.specs.Interfaces.{interface_found}
 use Rattle.oa_decision.specs.Refusals.{◌>>=◌}
 use Rattle.oa_decision.specs.States.{State}

@@ -7,7 +7,7 @@ use Rattle.oa_table.specs.declared.event.Event.TheVariants as events
 use Rattle.oa_typelib.specs.declared.access.Access.TheVariants.{Put}
 use Rattle.oa_decision.specs.declared.decision.Decision.{Decision}
 use Rattle.oa_decision.specs.declared.decision.Decision.TheVariants.{Change}
-use Rattle.oa_decision.specs.declared.refusals.Refusal.{Refusal}
+use Rattle.oa_decision.specs.declared.refusal.Refusal.{Refusal}
 use Rattle.oa_decision.specs.declared.decider.cell.BoundCell.{BoundCell}
 use Rattle.oa_decision.specs.ArrayCells.{as_element, element_type_in}
 use Rattle.oa_decision.specs.Cells.{cell_called}

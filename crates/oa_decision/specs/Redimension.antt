@@ -11,7 +11,7 @@ use Rattle.oa_table.specs.Elements.{redimensioned_value}
 use Rattle.oa_typelib.specs.declared.access.Access.TheVariants.{Put}
 use Rattle.oa_decision.specs.declared.decision.Decision.{Decision}
 use Rattle.oa_decision.specs.declared.decision.Decision.TheVariants.{Change}
-use Rattle.oa_decision.specs.declared.refusals.Refusal.{Refusal}
+use Rattle.oa_decision.specs.declared.refusal.Refusal.{Refusal}
 use Rattle.oa_decision.specs.ArrayCells.{as_refused, put_in}
 use Rattle.oa_decision.specs.Cells.{cell_called}
 use Rattle.oa_decision.specs.Refusals.{◌>>=◌}

@@ -1,7 +1,7 @@
 -- Answers that may be refusals, one after another: the first refusal counts.
 use Rattle.std.specs.Prelude.{Bool, if◌then◌else◌, Option, Some, None, Result, Ok, Err}
 use Rattle.oa_model.specs.declared.hresult.HResult.{HResult}
-use Rattle.oa_decision.specs.declared.refusals.Refusal.{Refusal}
+use Rattle.oa_decision.specs.declared.refusal.Refusal.{Refusal}
 
 infixl 10 ◌>>=◌
 abbrev pub ◌>>=◌ : {A B : Type 0} → Result A Refusal → (A → Result B Refusal) → Result B Refusal

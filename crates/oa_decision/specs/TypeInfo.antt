@@ -6,7 +6,7 @@ use Rattle.oa_typelib.specs.DescriptionValues.{DescriptionValue}
 use Rattle.oa_typelib.specs.Descriptions.{description_at}
 use Rattle.oa_decision.specs.declared.decision.Decision.{Decision}
 use Rattle.oa_decision.specs.declared.decision.Decision.TheVariants.{Answer}
-use Rattle.oa_decision.specs.declared.refusals.Refusal.{Refusal}
+use Rattle.oa_decision.specs.declared.refusal.Refusal.{Refusal}
 use Rattle.oa_decision.specs.Refusals.{◌>>=◌, known}
 use Rattle.oa_decision.specs.States.{State}
 

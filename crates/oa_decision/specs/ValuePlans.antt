@@ -15,7 +15,7 @@ use Rattle.oa_decision.specs.declared.plan.Plan.{Plan}
 use Rattle.oa_decision.specs.declared.plan.Plan.TheVariants.{Answered, Change}
 use Rattle.oa_decision.specs.Invoke.{reply_value}
 use Rattle.oa_decision.specs.States.{State}
-use Rattle.oa_decision.specs.Steps.{decided, refusal, may_want_memory}
+use Rattle.oa_decision.specs.Decided.{decided, refusal, may_want_memory}
 
 -- a reply of S_OK with these fields
 abbrev pub reply_told : ℕ → List ℕ → ReplyValue

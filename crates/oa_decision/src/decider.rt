@@ -1,7 +1,7 @@
 //! What is decided of a request over a library and a table of objects, which are only read.
 ghost use Rattle.std.specs.Prelude.{◌≡◌, IfOk};
 ghost use Rattle.oa_decision.specs.Decisions.{ChangesNoLocks, Decides};
-ghost use Rattle.oa_decision.specs.Steps.{decided, may_want_memory};
+ghost use Rattle.oa_decision.specs.Decided.{decided, may_want_memory};
 
 use crate::decision::{Decision, Undecided};
 use oa_record::Request;
@@ -44,7 +44,7 @@ impl<'a> Model for Decider<'a> {
 }
 
 impl<'a> Decider<'a> {
-    /// Over this library and this table, of banks of this size.
+    /// A decider over this library and this table, where the body of a bank has so many bytes. Takes no memory.
     pub fn new(alloc: Global, bank: u32, library: &'a Library, table: &'a Table) -> Decider<'a>
         ensures { result ≡ record { bank = bank; library = library.now; table = table.now } }
     {
@@ -56,7 +56,8 @@ impl<'a> Decider<'a> {
         }
     }
 
-    /// What becomes of a request. Only reads.
+    /// What becomes of a request: the answer and its fields, or the change that it calls for, which may still be refused. `Refused` with the
+    /// first refusal in the stated order; `OutOfMemory` where memory was wanted, never in place of a refused CREATE or RELEASE. Only reads.
     pub fn decide(&self, request: Request) -> Result<Decision, Undecided>
         ensures decided { Decides (decided self.now request) (may_want_memory self.now request) result }
         ensures unlocked { IfOk result ChangesNoLocks }

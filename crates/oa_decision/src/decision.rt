@@ -4,7 +4,7 @@ ghost use Rattle.oa_decision.specs.Cells.{undecided};
 ghost use Rattle.oa_decision.specs.declared.decision.Undecided.TheVariants.{OutOfMemory, Refused};
 
 use crate::fields::Fields;
-use crate::refusals::Refusal;
+use crate::refusal::Refusal;
 use oa_bind::BindFault;
 use oa_model::HResult;
 use oa_table::{CellName, Event};

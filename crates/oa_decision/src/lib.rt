@@ -2,7 +2,8 @@
 //! its locks, which are only read.
 //!
 //! Its contract: `Decider::decide` decides what is defined (`decided`), or tells that memory was wanted where it may be (`Decides`);
-//! `refusal` tells why an event is not allowed (`allowed`).
+//! `Decider::plan_value` plans a call without a list (`PlansValue`); `disallowed` tells why an event is not allowed (`allowed`), and
+//! `is_surely_within` is true only within the limits.
 //!
 //! What stands on it: oa_turn, which makes the changes.
 #![tactic(auto)]
@@ -13,12 +14,12 @@ mod decision;
 mod fields;
 mod limits;
 mod plan;
-mod refusals;
+mod refusal;
 
 pub use decider::Decider;
 pub use decider::cell::BoundCell;
 pub use decision::{Decision, LockChange, Undecided};
 pub use fields::Fields;
-pub use limits::{is_surely_within, refusal};
+pub use limits::{disallowed, is_surely_within};
 pub use plan::{Plan, Planned};
-pub use refusals::Refusal;
+pub use refusal::Refusal;

@@ -3,7 +3,7 @@ ghost use Rattle.std.specs.Prelude.{◌≡◌, ◌-◌, true, Ok, length, nat_lt
 ghost use Rattle.oa_image.specs.Tables.{reserved_bytes, table_image};
 ghost use Rattle.oa_table.specs.Events.{applied};
 ghost use Rattle.oa_table.specs.Tables.{TableValue};
-ghost use Rattle.oa_decision.specs.Limits.{GivesReason, allowed, within_limits};
+ghost use Rattle.oa_decision.specs.Limits.{GivesReason, StaysWithin, allowed};
 
 use crate::applies::refusal_of;
 use oa_image::{RESERVED_BYTES, event_len};
@@ -17,8 +17,9 @@ fn most_of(bank: u32) -> u64
     u64::from(bank.saturating_sub(RESERVED_BYTES))
 }
 
-/// Why an event is not allowed where the body of a bank has so many bytes; None where it is. Takes no memory.
-pub fn refusal(bank: u32, table: &Table, event: &Event) -> Option<HResult>
+/// Why an event is not allowed where the body of a bank has so many bytes: the table's own reason, then E_INVALIDARG for the event's image,
+/// then STG_E_MEDIUMFULL for the table's; None where it is allowed. Takes no memory.
+pub fn disallowed(bank: u32, table: &Table, event: &Event) -> Option<HResult>
     ensures { GivesReason (allowed bank event.now table.now) result }
 {
     if let Some(fault) = refusal_of(table, event) {
@@ -35,7 +36,7 @@ pub fn refusal(bank: u32, table: &Table, event: &Event) -> Option<HResult>
 
 /// Whether an event that applies is within the limits for certain: where even the most bytes that the table can have then are few enough.
 pub fn is_surely_within(bank: u32, table: &Table, event: &Event) -> bool
-    ensures { result ≡ true → (new : TableValue) → applied event.now table.now ≡ Ok new → within_limits bank event.now new ≡ Ok new }
+    ensures { result ≡ true → StaysWithin bank event.now table.now }
 {
     event_len(event) <= MAX_EVENT_BYTES && table.most_after(event) <= most_of(bank)
 }

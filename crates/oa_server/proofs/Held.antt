@@ -29,7 +29,7 @@ use Rattle.oa_turn.specs.Plans.{HoldsSame, IsPlanned}
 use Rattle.oa_turn.specs.Events.{HasEvent, held_of}
 use Rattle.oa_server.specs.Requests.{HasTurn, IsHeldBack, requests}
 use Rattle.oa_decision.specs.States.{State}
-use Rattle.oa_decision.specs.Steps.{refusal}
+use Rattle.oa_decision.specs.Decided.{refusal}
 use Rattle.oa_record.specs.Replacement.{is_replacement}
 use Rattle.oa_turn.specs.Turns.{Ordinary}
 use Rattle.oa_turn.proofs.Allowed.{is_allowed}

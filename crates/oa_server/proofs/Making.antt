@@ -6,7 +6,7 @@ use Rattle.oa_record.specs.Replacement.{is_replacement}
 use Rattle.oa_record.specs.declared.request.Request.{Request}
 use Rattle.oa_turn.specs.Events.{change_bytes, is_done}
 use Rattle.oa_decision.specs.States.{State}
-use Rattle.oa_decision.specs.Steps.{outcome}
+use Rattle.oa_turn.specs.Steps.{outcome}
 use Rattle.oa_turn.specs.Turns.{Ordinary, Turn}
 use Rattle.oa_server.specs.Answers.{MakesNoEvent}
 use Rattle.oa_server.specs.Requests.{requests}

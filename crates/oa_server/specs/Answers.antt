@@ -16,7 +16,7 @@ use Rattle.oa_turn.specs.Events.{change_bytes, is_done}
 use Rattle.oa_server.specs.Requests.{failed, faulted, requests}
 use Rattle.oa_table.specs.Tables.{unlocked_table}
 use Rattle.oa_decision.specs.States.{State}
-use Rattle.oa_decision.specs.Steps.{outcome}
+use Rattle.oa_turn.specs.Steps.{outcome}
 use Rattle.oa_turn.specs.Turns.{Turn}
 
 -- whatever the body asks, no event comes of it

@@ -15,7 +15,7 @@ use Rattle.oa_turn.proofs.NoTrace.{not_done, quiet_turn}
 use Rattle.oa_turn.proofs.Tags.{turn_tag}
 use Rattle.oa_turn.specs.Events.{HasEvent, held_of, is_done}
 use Rattle.oa_decision.specs.States.{State}
-use Rattle.oa_decision.specs.Steps.{refusal}
+use Rattle.oa_decision.specs.Decided.{refusal}
 use Rattle.oa_turn.proofs.SameLibrary.{plain_library, turn_bank}
 use Rattle.oa_turn.specs.Turns.{Turn}
 

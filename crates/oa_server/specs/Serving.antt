@@ -3,7 +3,7 @@ use Rattle.std.specs.Prelude.{◌≡◌, ℕ, List, [], ◌∷◌, None}
 use Rattle.oa_model.specs.Codes.{bad_stub_data}
 use Rattle.oa_record.specs.Replies.{ReplyValue, reply_head, reply_record}
 use Rattle.oa_decision.specs.States.{State}
-use Rattle.oa_decision.specs.Steps.{refusal}
+use Rattle.oa_decision.specs.Decided.{refusal}
 use Rattle.oa_turn.specs.Turns.{Turn}
 
 -- a turn, with the bytes of its reply, which have no length before them: every body has one reply, handed out at that body

@@ -6,7 +6,7 @@ ghost use Rattle.oa_keeper.specs.declared.fault.KeepFault.{KeepFault};
 ghost use Rattle.oa_record.specs.Replacement.{is_replacement};
 ghost use Rattle.oa_server.specs.Hands.{CallsWhereDue, CanBeMade, HasBanks, HoldsOn, IsAdded, IsCutOff, MakesWay};
 ghost use Rattle.oa_server.specs.Requests.{IsHeldBack};
-ghost use Rattle.oa_decision.specs.Decisions.{MakesChange};
+ghost use Rattle.oa_turn.specs.Changes.{MakesChange};
 ghost use Rattle.oa_turn.specs.Events.{held_of};
 ghost use Rattle.oa_turn.specs.Plans.{IsPlanned};
 

@@ -3,7 +3,7 @@ ghost use Rattle.std.specs.Prelude.{◌≡◌, ◌≤◌, map, IfOk, OnErr, fals
 ghost use Rattle.oa_model.specs.Limits.{max_group};
 ghost use Rattle.oa_canonical.specs.Canonical.{canonical};
 ghost use Rattle.oa_journal.specs.Shapes.{body_bytes, default_bank_bytes};
-ghost use Rattle.oa_decision.specs.Limits.{IsSoundTable};
+ghost use Rattle.oa_turn.specs.Limits.{IsSoundTable};
 ghost use Rattle.oa_server.specs.Storages.{AnswersOne, InMemory, Serves, disk_of};
 ghost use Rattle.oa_turn.specs.Turns.{Run, Turn};
 ghost use Rattle.oa_server.specs.declared.storage.Storage.TheVariants.{Disk as ADisk};

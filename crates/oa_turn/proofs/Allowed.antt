@@ -23,8 +23,9 @@ use Rattle.oa_table.specs.Outcomes.{Because}
 use Rattle.oa_table.specs.Tables.{TableValue, first_table, unlocked_table}
 use Rattle.oa_decision.specs.declared.decision.LockChange.{LockChange}
 use Rattle.oa_decision.specs.declared.decision.LockChange.TheVariants.{Lock, Unlock}
-use Rattle.oa_decision.specs.Decisions.{relocked}
-use Rattle.oa_decision.specs.Limits.{IsSoundTable, allowed, least_bank, limited, within_limits}
+use Rattle.oa_turn.specs.Steps.{relocked}
+use Rattle.oa_turn.specs.Limits.{IsSoundTable, least_bank}
+use Rattle.oa_decision.specs.Limits.{allowed, limited, within_limits}
 
 -- a table that is allowed
 pub record IsWithin (bank : ℕ) (event : Event) (made new : TableValue) : Type 0 where

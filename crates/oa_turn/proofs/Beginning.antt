@@ -11,13 +11,14 @@ use Rattle.oa_typelib.specs.Checked.{IsChecked}
 use Rattle.oa_decision.specs.declared.decision.Decision.{Decision}
 use Rattle.oa_decision.specs.declared.decision.Decision.TheVariants.{Answer, Change, Relock}
 use Rattle.oa_decision.specs.declared.decision.LockChange.{LockChange}
-use Rattle.oa_decision.specs.declared.refusals.Refusal.{Refusal}
-use Rattle.oa_decision.specs.Decisions.{after_outcome, changed, outcome_of, relocked, relocking, with_table}
-use Rattle.oa_decision.specs.Limits.{IsSoundTable, allowed, least_bank}
+use Rattle.oa_decision.specs.declared.refusal.Refusal.{Refusal}
+use Rattle.oa_turn.specs.Steps.{after_outcome, changed, outcome_of, relocked, relocking, with_table}
+use Rattle.oa_turn.specs.Limits.{IsSoundTable, least_bank}
+use Rattle.oa_decision.specs.Limits.{allowed}
 use Rattle.oa_turn.specs.Beginnings.{CanBegin}
 use Rattle.oa_turn.proofs.SameLibrary.{turn_bank}
 use Rattle.oa_decision.specs.States.{State}
-use Rattle.oa_decision.specs.Steps.{decided}
+use Rattle.oa_decision.specs.Decided.{decided}
 use Rattle.oa_keeps.specs.Keeps.{first_lost}
 use Rattle.oa_keeps.specs.declared.lost.Lost.{Lost}
 use Rattle.oa_turn.specs.Replacing.{Replacement, after_replacement}

@@ -2,7 +2,7 @@
 use Rattle.std.proofs.Common.{◌≡◌, inl, inr, ◌⊎◌, ℕ, List, None, Result, Ok, Err, IsOk, ap, refl, ◌∙◌}
 use Rattle.oa_table.specs.declared.event.Event.{Event}
 use Rattle.oa_table.specs.Tables.{TableValue}
-use Rattle.oa_decision.specs.Decisions.{MakesChange, MakesTable}
+use Rattle.oa_turn.specs.Changes.{MakesChange, MakesTable}
 use Rattle.oa_model.specs.declared.hresult.HResult.{HResult}
 use Rattle.oa_model.specs.Codes.{e_outofmemory, s_ok}
 use Rattle.oa_record.specs.Replies.{ReplyValue}
@@ -10,7 +10,7 @@ use Rattle.oa_decision.specs.declared.plan.Planned.{Planned}
 use Rattle.oa_decision.specs.Limits.{allowed}
 use Rattle.oa_turn.specs.Plans.{IsDrafted, IsPlanned}
 use Rattle.oa_decision.specs.States.{State, state_of}
-use Rattle.oa_decision.specs.Steps.{refusal}
+use Rattle.oa_decision.specs.Decided.{refusal}
 use Rattle.oa_turn.specs.Turns.{Ordinary}
 use Rattle.oa_turn.proofs.Allowed.{is_made}
 use Rattle.oa_turn.proofs.Wants.{wants}

@@ -14,13 +14,14 @@ use Rattle.oa_decision.specs.declared.decision.LockChange.{LockChange}
 use Rattle.oa_decision.specs.declared.plan.Plan.{Plan}
 use Rattle.oa_decision.specs.declared.plan.Plan.TheVariants.{Answered, Change}
 use Rattle.oa_decision.specs.declared.plan.Planned.{Planned}
-use Rattle.oa_decision.specs.declared.refusals.Refusal.{Refusal}
-use Rattle.oa_decision.specs.Decisions.{changed, outcome_of, relocked, relocking}
+use Rattle.oa_decision.specs.declared.refusal.Refusal.{Refusal}
+use Rattle.oa_turn.specs.Steps.{changed, outcome_of, relocked, relocking}
 use Rattle.oa_decision.specs.Limits.{allowed}
 use Rattle.oa_turn.specs.Plans.{HasNoEvent, PlansChange}
 use Rattle.oa_turn.specs.Events.{HasEvent, change_bytes, is_done}
 use Rattle.oa_decision.specs.States.{State}
-use Rattle.oa_decision.specs.Steps.{decided, outcome}
+use Rattle.oa_decision.specs.Decided.{decided}
+use Rattle.oa_turn.specs.Steps.{outcome}
 
 module _ (old : State) (body : List ℕ) where
   -- a reply other than S_OK

@@ -54,12 +54,12 @@ use Rattle.oa_decision.specs.declared.decision.Decision.{Decision}
 use Rattle.oa_decision.specs.declared.decision.Decision.TheVariants.{Answer, Change, Relock}
 use Rattle.oa_decision.specs.declared.decision.LockChange.{LockChange}
 use Rattle.oa_decision.specs.declared.decision.LockChange.TheVariants.{Lock, Unlock}
-use Rattle.oa_decision.specs.declared.refusals.Refusal.{Refusal}
+use Rattle.oa_decision.specs.declared.refusal.Refusal.{Refusal}
 use Rattle.oa_decision.specs.declared.decider.cell.BoundCell.{BoundCell}
 use Rattle.oa_decision.specs.ArrayCells.{as_refused, element_in, locks_in, put_in}
 use Rattle.oa_decision.specs.Cells.{bound_as, call_found, cell_called, member_found, place_of}
 use Rattle.oa_decision.specs.Create.{class_found, is_used_up, fitting}
-use Rattle.oa_decision.specs.Decisions.{after_outcome, changed, outcome_of, relocked, relocking, with_table}
+use Rattle.oa_turn.specs.Steps.{after_outcome, changed, outcome_of, relocked, relocking, with_table}
 use Rattle.oa_decision.specs.Interfaces.{interface_found}
 use Rattle.oa_decision.specs.Invoke.{acting}
 use Rattle.oa_decision.specs.LookUps.{ids_found}
@@ -67,7 +67,7 @@ use Rattle.oa_decision.specs.PutElement.{element_for}
 use Rattle.oa_decision.specs.Redimension.{resizing, zero_with}
 use Rattle.oa_decision.specs.Refusals.{◌>>=◌, known, unless}
 use Rattle.oa_decision.specs.States.{State}
-use Rattle.oa_decision.specs.Steps.{decided}
+use Rattle.oa_decision.specs.Decided.{decided}
 use Rattle.oa_keeps.specs.Keeps.{first_lost}
 use Rattle.oa_keeps.specs.declared.lost.Lost.{Lost}
 use Rattle.oa_fits.proofs.KeptFits.{kept_fits}

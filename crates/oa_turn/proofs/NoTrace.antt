@@ -11,12 +11,13 @@ use Rattle.oa_table.specs.declared.fault.TableFault.{TableFault}
 use Rattle.oa_table.specs.Tables.{TableValue}
 use Rattle.oa_decision.specs.declared.decision.Decision.{Decision}
 use Rattle.oa_decision.specs.declared.decision.Decision.TheVariants.{Answer, Change, Relock}
-use Rattle.oa_decision.specs.declared.refusals.Refusal.{Refusal}
+use Rattle.oa_decision.specs.declared.refusal.Refusal.{Refusal}
 use Rattle.oa_turn.specs.Events.{is_done}
-use Rattle.oa_decision.specs.Decisions.{IsQuiet, Outcome, after_outcome, changed, outcome_of, relocked, relocking}
+use Rattle.oa_turn.specs.Steps.{IsQuiet, Outcome, after_outcome, changed, outcome_of, relocked, relocking}
 use Rattle.oa_decision.specs.Limits.{allowed}
 use Rattle.oa_decision.specs.States.{State}
-use Rattle.oa_decision.specs.Steps.{decided, outcome, reply_to}
+use Rattle.oa_decision.specs.Decided.{decided}
+use Rattle.oa_turn.specs.Steps.{outcome, reply_to}
 use Rattle.oa_keeps.specs.Keeps.{first_lost}
 use Rattle.oa_keeps.specs.declared.lost.Lost.{Lost}
 use Rattle.oa_turn.specs.Replacing.{Replacement, after_replacement, replacement_reply}

@@ -10,7 +10,7 @@ use Rattle.oa_keeps.specs.Keeps.{first_lost}
 use Rattle.oa_turn.proofs.NoTrace.{quiet_turn}
 use Rattle.oa_turn.specs.Replacing.{Replaces, Replacement, after_replacement}
 use Rattle.oa_decision.specs.States.{State}
-use Rattle.oa_decision.specs.Steps.{after}
+use Rattle.oa_turn.specs.Steps.{after}
 use Rattle.oa_turn.proofs.Texts.{one_asked}
 use Rattle.oa_turn.specs.Turns.{Ordinary, Run, Steps, Turn}
 

@@ -71,9 +71,9 @@ use Rattle.oa_decision.specs.TypeInfo.{description_of}
 use Rattle.oa_decision.specs.declared.decision.Decision.{Decision}
 use Rattle.oa_decision.specs.declared.decision.Decision.TheVariants.{Answer, Change, Relock}
 use Rattle.oa_decision.specs.declared.decider.cell.BoundCell.{BoundCell}
-use Rattle.oa_decision.specs.declared.refusals.Refusal.{Refusal}
+use Rattle.oa_decision.specs.declared.refusal.Refusal.{Refusal}
 use Rattle.oa_decision.specs.ArrayCells as array_cells
-use Rattle.oa_decision.specs.Decisions.{changed, outcome_of, relocked, relocking}
+use Rattle.oa_turn.specs.Steps.{changed, outcome_of, relocked, relocking}
 use Rattle.oa_decision.specs.Interfaces.{interface_found}
 use Rattle.oa_decision.specs.Limits.{allowed, limited, within_limits}
 use Rattle.oa_decision.specs.LookUps.{ids_found}
@@ -82,7 +82,8 @@ use Rattle.oa_decision.specs.PutElement.{element_for}
 use Rattle.oa_decision.specs.Redimension.{resizing, zero_with}
 use Rattle.oa_decision.specs.Refusals.{◌>>=◌, known, unless}
 use Rattle.oa_decision.specs.States.{State}
-use Rattle.oa_decision.specs.Steps.{decided, reply_to}
+use Rattle.oa_decision.specs.Decided.{decided}
+use Rattle.oa_turn.specs.Steps.{reply_to}
 use Rattle.oa_keeps.specs.Keeps.{first_lost}
 use Rattle.oa_keeps.specs.declared.lost.Lost.{Lost}
 use Rattle.oa_turn.specs.Replacing.{Replacement, replacement_reply}

@@ -9,11 +9,12 @@ use Rattle.oa_decision.specs.declared.decision.Decision.{Decision}
 use Rattle.oa_decision.specs.declared.decision.Decision.TheVariants.{Change}
 use Rattle.oa_decision.specs.declared.plan.Plan.{Plan}
 use Rattle.oa_decision.specs.declared.plan.Plan.TheVariants.{Answered, Change as AChange}
-use Rattle.oa_decision.specs.declared.refusals.Refusal.{Refusal}
-use Rattle.oa_decision.specs.Decisions.{after_outcome, outcome_of}
+use Rattle.oa_decision.specs.declared.refusal.Refusal.{Refusal}
+use Rattle.oa_turn.specs.Steps.{after_outcome, outcome_of}
 use Rattle.oa_turn.specs.Plans.{Plans, PlansChange}
 use Rattle.oa_decision.specs.States.{State}
-use Rattle.oa_decision.specs.Steps.{decided, reply_with}
+use Rattle.oa_decision.specs.Decided.{decided}
+use Rattle.oa_turn.specs.Steps.{reply_with}
 use Rattle.oa_turn.specs.Turns.{Ordinary}
 
 module _ (old : State) (body : List ℕ) (request : Request) (asked : Asks body request) where

@@ -10,10 +10,11 @@ use Rattle.oa_record.specs.declared.fault.RecordFault.TheVariants.{Stub, BadVarT
 use Rattle.oa_record.specs.declared.request.Request.{Request}
 use Rattle.oa_decision.specs.declared.decision.Decision.TheVariants.{Answer, Relock}
 use Rattle.oa_decision.specs.declared.decision.LockChange.{LockChange}
-use Rattle.oa_decision.specs.declared.refusals.Refusal.{Refusal}
-use Rattle.oa_decision.specs.Decisions.{after_outcome, relocked, relocking}
+use Rattle.oa_decision.specs.declared.refusal.Refusal.{Refusal}
+use Rattle.oa_turn.specs.Steps.{after_outcome, relocked, relocking}
 use Rattle.oa_decision.specs.States.{State}
-use Rattle.oa_decision.specs.Steps.{decided, refusal, reply_with, may_want_memory}
+use Rattle.oa_decision.specs.Decided.{decided, refusal, may_want_memory}
+use Rattle.oa_turn.specs.Steps.{reply_with}
 use Rattle.oa_turn.specs.Turns.{Ordinary}
 
 pub refused_turn : (old new : State) (body : List ℕ) (reply : ReplyValue) (fault : RecordFault) → IsRequest body (Err fault)

@@ -17,7 +17,7 @@ use Rattle.oa_turn.specs.Events.{is_done}
 use Rattle.oa_turn.specs.Renewals.{IsLibraryOf, IsNext, RefusesLoss, text_code}
 use Rattle.oa_turn.specs.Replacing.{AsksLibrary, Replacement, after_replacement, replacement_reply}
 use Rattle.oa_decision.specs.States.{State}
-use Rattle.oa_decision.specs.Steps.{refusal}
+use Rattle.oa_decision.specs.Decided.{refusal}
 
 -- ---- which library a body asks for
 one_text : (a b : List ℕ) → Some a ≡ Some b → b ≡ a

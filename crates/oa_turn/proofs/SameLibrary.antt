@@ -9,10 +9,10 @@ use Rattle.oa_table.specs.Tables.{TableValue}
 use Rattle.oa_decision.specs.declared.decision.LockChange.{LockChange}
 use Rattle.oa_keeps.specs.Keeps.{first_lost}
 use Rattle.oa_keeps.specs.declared.lost.Lost.{Lost}
-use Rattle.oa_decision.specs.Decisions.{Outcome, after_event, after_locks, after_outcome, with_table}
+use Rattle.oa_turn.specs.Steps.{Outcome, after_event, after_locks, after_outcome, with_table}
 use Rattle.oa_turn.specs.Replacing.{Replacement, after_replacement}
 use Rattle.oa_decision.specs.States.{State}
-use Rattle.oa_decision.specs.Steps.{outcome}
+use Rattle.oa_turn.specs.Steps.{outcome}
 use Rattle.oa_turn.specs.Turns.{Ordinary, Turn}
 
 -- all but the table

@@ -6,10 +6,10 @@ use Rattle.oa_table.specs.declared.event.Event.{Event}
 use Rattle.oa_table.specs.Tables.{TableValue}
 use Rattle.oa_decision.specs.declared.decision.Decision.{Decision}
 use Rattle.oa_decision.specs.declared.decision.Decision.TheVariants.{Answer, Change, Relock}
-use Rattle.oa_decision.specs.declared.refusals.Refusal.{Refusal}
+use Rattle.oa_decision.specs.declared.refusal.Refusal.{Refusal}
 use Rattle.oa_decision.specs.Limits.{allowed}
 use Rattle.oa_decision.specs.States.{State}
-use Rattle.oa_decision.specs.Steps.{decided, may_want_memory}
+use Rattle.oa_decision.specs.Decided.{decided, may_want_memory}
 
 -- whether what is decided applies; true where nothing changes
 abbrev applies : ℕ → TableValue → Result Decision Refusal → Bool

@@ -8,7 +8,7 @@ use Rattle.oa_record.specs.declared.request.Request.{Request}
 use Rattle.oa_table.specs.declared.event.Event.{Event}
 use Rattle.oa_table.specs.Tables.{TableValue, unlocked_table}
 use Rattle.oa_decision.specs.States.{State}
-use Rattle.oa_decision.specs.Steps.{outcome}
+use Rattle.oa_turn.specs.Steps.{outcome}
 
 -- what images hold of a state: its table without locks
 abbrev pub held_of : State → TableValue

@@ -1,3 +1,6 @@
+pub mod Limits
+pub mod Steps
+pub mod Changes
 pub mod Events
 pub mod Replacing
 pub mod Turns

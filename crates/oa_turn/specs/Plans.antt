@@ -13,7 +13,7 @@ use Rattle.oa_decision.specs.declared.plan.Planned.{Planned}
 use Rattle.oa_decision.specs.Limits.{allowed}
 use Rattle.oa_turn.specs.Events.{HasEvent}
 use Rattle.oa_decision.specs.States.{State}
-use Rattle.oa_decision.specs.Steps.{decided, refusal}
+use Rattle.oa_decision.specs.Decided.{decided, refusal}
 use Rattle.oa_turn.specs.Turns.{Ordinary}
 
 -- the body asks a request of which this change is decided

@@ -14,7 +14,7 @@ use Rattle.oa_turn.specs.declared.host.renewal.Renewal.TheVariants.{Answered, Re
 use Rattle.oa_turn.specs.Replacing.{AsksLibrary, Replacement, replacement_reply}
 use Rattle.oa_turn.specs.Events.{is_done}
 use Rattle.oa_decision.specs.States.{State}
-use Rattle.oa_decision.specs.Steps.{refusal}
+use Rattle.oa_decision.specs.Decided.{refusal}
 
 -- what is answered where a text gives no library
 abbrev pub text_code : TextError → HResult

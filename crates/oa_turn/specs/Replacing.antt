@@ -9,7 +9,7 @@ use Rattle.oa_keeps.specs.Keeps.{dispid_lost, first_lost, guid_lost}
 use Rattle.oa_keeps.specs.LibraryTexts.{StandsFor}
 use Rattle.oa_keeps.specs.declared.lost.Lost.{Lost}
 use Rattle.oa_decision.specs.States.{State}
-use Rattle.oa_decision.specs.Steps.{refusal}
+use Rattle.oa_decision.specs.Decided.{refusal}
 
 -- ---- what a body asks
 

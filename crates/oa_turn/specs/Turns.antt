@@ -7,7 +7,8 @@ use Rattle.oa_record.specs.Replies.{ReplyValue}
 use Rattle.oa_record.specs.Replacement.{is_replacement}
 use Rattle.oa_turn.specs.Replacing.{Replacement}
 use Rattle.oa_decision.specs.States.{State}
-use Rattle.oa_decision.specs.Steps.{after, refusal, reply_to, may_want_memory}
+use Rattle.oa_turn.specs.Steps.{after, reply_to}
+use Rattle.oa_decision.specs.Decided.{refusal, may_want_memory}
 
 -- the body asks a request, and this is its step
 pub record Steps (old : State) (body : List ℕ) (reply : ReplyValue) (new : State) : Type 0 where

@@ -1,12 +1,14 @@
 //! The ways in which a table changes.
 ghost use Rattle.std.specs.Prelude.{◌≡◌, ◌-◌, ◌<◌, ℕ, IsOk, Ok};
-ghost use Rattle.oa_decision.specs.Decisions.{MakesTable, RelocksTable};
-ghost use Rattle.oa_decision.specs.Limits.{ChangesTable, IsSoundTable, StaysWithin, allowed};
+ghost use Rattle.oa_turn.specs.Changes.{MakesTable, RelocksTable};
+ghost use Rattle.oa_turn.specs.Changes.{ChangesTable};
+ghost use Rattle.oa_turn.specs.Limits.{IsSoundTable};
+ghost use Rattle.oa_decision.specs.Limits.{StaysWithin, allowed};
 ghost use Rattle.oa_decision.specs.declared.decision.LockChange.TheVariants.{Lock as ALock, Unlock as AnUnlock};
 ghost use Rattle.oa_table.specs.Events.{BringsNoLocks};
 ghost use Rattle.oa_table.specs.Tables.{unlocked_table};
 
-use oa_decision::{LockChange, is_surely_within, refusal};
+use oa_decision::{LockChange, disallowed, is_surely_within};
 use oa_model::HResult;
 use oa_table::{CellName, Event, Table, TableFault};
 use std::alloc::AllocError;
@@ -34,7 +36,7 @@ pub(crate) fn change(bank: u32, table: &mut Table, event: Event) -> Result<(), H
     if is_surely_within(bank, table, &event) {
         return change_within(table, event);
     }
-    if let Some(code) = refusal(bank, table, &event) {
+    if let Some(code) = disallowed(bank, table, &event) {
         return Err(code);
     }
     match apply(table, event) {

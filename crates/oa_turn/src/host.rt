@@ -1,9 +1,13 @@
 //! A library and a table in memory, and one turn after another.
 ghost use Rattle.std.specs.Prelude.{◌≡◌, ◌-◌, ◌≤◌, List, ℕ, [], map, IsOk, IfOk, OnErr};
-ghost use Rattle.oa_decision.specs.Decisions.{ChangesNoLocks, Decides, MakesChange, after_outcome, relocked, relocking};
-ghost use Rattle.oa_decision.specs.Limits.{IsSoundTable, allowed, least_bank};
+ghost use Rattle.oa_decision.specs.Decisions.{ChangesNoLocks, Decides};
+ghost use Rattle.oa_turn.specs.Changes.{MakesChange};
+ghost use Rattle.oa_turn.specs.Steps.{after_outcome, relocked, relocking};
+ghost use Rattle.oa_turn.specs.Limits.{IsSoundTable, least_bank};
+ghost use Rattle.oa_decision.specs.Limits.{allowed};
 ghost use Rattle.oa_turn.specs.Plans.{Drafts, HasNoEvent, HoldsSame, IsDrafted, Plans, PlansChange};
-ghost use Rattle.oa_decision.specs.Steps.{decided, reply_with, may_want_memory};
+ghost use Rattle.oa_decision.specs.Decided.{decided, may_want_memory};
+ghost use Rattle.oa_turn.specs.Steps.{reply_with};
 ghost use Rattle.oa_turn.specs.Turns.{Ordinary, Run, Turn};
 ghost use Rattle.oa_record.specs.Replacement.{is_replacement};
 ghost use Rattle.oa_table.specs.Events.{BringsNoLocks};
@@ -11,7 +15,7 @@ ghost use Rattle.oa_table.specs.Tables.{first_table};
 
 use crate::changes::{apply, change, change_locks};
 use oa_decision::{
-    Decider, Decision, Fields, LockChange, Plan, Planned, Refusal, Undecided, refusal,
+    Decider, Decision, Fields, LockChange, Plan, Planned, Refusal, Undecided, disallowed,
 };
 use oa_model::HResult;
 use oa_record::laws::one_request;
@@ -46,7 +50,7 @@ impl Drop for Host {
 
 impl Model for Host {
     ghost use Rattle.oa_decision.specs.States.{State};
-    ghost use Rattle.oa_decision.specs.Limits.{IsSoundTable};
+    ghost use Rattle.oa_turn.specs.Limits.{IsSoundTable};
 
     ghost Value = { State };
 
@@ -164,7 +168,7 @@ impl Host {
     fn plan_change(&self, tag: u32, event: Event, fields: Fields) -> Plan
         ensures { PlansChange self.now tag event fields result }
     {
-        match refusal(self.bank, &self.table, &event) {
+        match disallowed(self.bank, &self.table, &event) {
             Some(code) => Plan::Answered(Reply::bare(self.alloc, tag, code, None)),
             None => Plan::Change(Planned { tag, event, fields }),
         }

@@ -3,10 +3,10 @@ ghost use Rattle.std.specs.Prelude.{◌≡◌, ◌↔◌, ℕ, true, Bool, List,
 ghost use Rattle.oa_record.specs.declared.request.Request.{Request as ARequest};
 ghost use Rattle.oa_record.specs.Replies.{ReplyValue};
 ghost use Rattle.oa_fits.specs.Fits.{fits};
-ghost use Rattle.oa_decision.specs.Decisions.{IsQuiet};
+ghost use Rattle.oa_turn.specs.Steps.{IsQuiet};
 ghost use Rattle.oa_turn.specs.OwnCodes.{is_own};
 ghost use Rattle.oa_decision.specs.States.{State};
-ghost use Rattle.oa_decision.specs.Steps.{outcome, reply_to};
+ghost use Rattle.oa_turn.specs.Steps.{outcome, reply_to};
 ghost use Rattle.oa_turn.specs.Traces.{done_bodies, done_replies, kept_bodies, kept_replies};
 ghost use Rattle.oa_turn.specs.Turns.{Run, Turn};
 ghost use Rattle.oa_idl.specs.Trees.{TreeValue};

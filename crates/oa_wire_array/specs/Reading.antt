@@ -1,4 +1,4 @@
--- Reading as functions on lists, which say the same as the forms (proofs/Reads* has the laws).
+-- Reading as functions on lists, which say the same as the forms (proofs/ScalarLaws has the laws).
 use Rattle.std.specs.Prelude.{ℕ, ℤ, ◌+◌, ◌*◌, ◌^◌, ◌==◌, nat_le, Bool, true, false, not, Option, Some, None}
 use Rattle.std.specs.Int.{Width, w8, w16, w32, w64, cast_signed}
 use Rattle.oa_ndr.specs.Reading.{Reading, ◌>>=◌, give, fail, choose, align_at, unit_at}

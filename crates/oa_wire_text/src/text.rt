@@ -54,10 +54,12 @@ pub fn read_blob(alloc: Global, r: &mut Ndr<'_>) -> Result<Bstr, ReadFault>
     Err(ReadFault::BadStub)
 }
 
-/// Reads a referent and its pointee, a null referent as the null text. At a fault the reader may have moved.
+/// Reads a referent and its pointee (MS-OAUT 2.2.23), a null referent as the null text. `BadStub` where the bytes end too early or where
+/// `read_text` refuses the pointee, `Memory` where the text gets no block. At a fault the reader may have moved.
 #[tactic(auto, unfolding(oa_ndr::specs::Reading::steps, crate::specs::Reading::bstr_at))]
 pub fn read_bstr(alloc: Global, r: &mut Ndr<'_>) -> Result<Bstr, ReadFault>
-    ensures { ReadsField result r.new (bstr_at r.old) }
+    ensures value { ReadsField result r.new (bstr_at r.old) }
+    ensures memory { OnMemory result (16 ≤ length r.old.rest) }
 {
     if r.referent()? {
         return read_blob(alloc, r);

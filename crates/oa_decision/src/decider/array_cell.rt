@@ -6,7 +6,7 @@ ghost use Rattle.oa_variant.specs.Variants.{zero_value};
 
 use super::Decider;
 use super::cell::BoundCell;
-use crate::refusals::Refusal;
+use crate::refusal::Refusal;
 use oa_array::{ArrayFault, SafeArray};
 use oa_model::{ValueType, VarType};
 use oa_table::TableFault;

@@ -11,7 +11,7 @@ ghost use Rattle.oa_variant.specs.Variants.{HasZero};
 
 use super::Decider;
 use crate::decision::Undecided;
-use crate::refusals::Refusal;
+use crate::refusal::Refusal;
 use oa_bind::bind;
 use oa_model::ValueType;
 use oa_record::{Arguments, Call, Dispids};
@@ -19,7 +19,7 @@ use oa_table::{CellName, LiveObject, Place};
 use oa_typelib::{Access, Dispinterface, Kind, Member};
 use oa_variant::Variant;
 
-/// The cell of a property that a call names, and what the call brings for it.
+/// The cell of a property that a call names, and what the call brings for it. Public for the definitions that name it.
 #[derive(Drop)]
 pub struct BoundCell {
     /// The cell.

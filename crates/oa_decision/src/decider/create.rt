@@ -8,8 +8,8 @@ ghost use Rattle.oa_table.specs.declared.event.Event.TheVariants.{Create as ACre
 use super::Decider;
 use crate::decision::{Decision, Undecided};
 use crate::fields::Fields;
-use crate::limits::refusal;
-use crate::refusals::Refusal;
+use crate::limits::disallowed;
+use crate::refusal::Refusal;
 use oa_model::{HResult, MAX_LIVE_OBJECTS};
 use oa_record::number_field;
 use oa_table::Event;
@@ -34,7 +34,7 @@ impl Decider<'_> {
         ensures { result ≡ fitting (allowed self.now.bank (ACreate number class) self.now.table) }
     {
         let event = Event::Create { number, class };
-        match refusal(self.bank, self.table, &event) {
+        match disallowed(self.bank, self.table, &event) {
             Some(code) => Err(Refusal::of(code)),
             None => Ok(()),
         }

@@ -10,7 +10,7 @@ use super::array_cell::{element_of, no_element};
 use super::cell::BoundCell;
 use crate::decision::{Decision, Undecided};
 use crate::fields::Fields;
-use crate::refusals::Refusal;
+use crate::refusal::Refusal;
 use oa_array::Indices;
 use oa_model::HResult;
 use oa_record::{Call, scalar_field};

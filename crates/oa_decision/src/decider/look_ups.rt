@@ -9,7 +9,7 @@ ghost use Rattle.oa_table.specs.Tables.{object_at};
 use super::Decider;
 use crate::decision::{Decision, Undecided};
 use crate::fields::Fields;
-use crate::refusals::Refusal;
+use crate::refusal::Refusal;
 use oa_checks::is_zero_guid;
 use oa_model::HResult;
 use oa_record::{GetIds, ids_field};

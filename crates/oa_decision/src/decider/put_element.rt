@@ -9,7 +9,7 @@ use super::array_cell::{element_type_of, no_element};
 use super::cell::BoundCell;
 use crate::decision::{Decision, Undecided};
 use crate::fields::Fields;
-use crate::refusals::Refusal;
+use crate::refusal::Refusal;
 use oa_array::Indices;
 use oa_coerce::{CoerceFault, coerce_scalar};
 use oa_model::VarType;

@@ -9,7 +9,7 @@ ghost use Rattle.oa_variant.specs.Variants.{HasZero};
 use super::Decider;
 use crate::decision::{Decision, Undecided};
 use crate::fields::Fields;
-use crate::refusals::Refusal;
+use crate::refusal::Refusal;
 use oa_array::ArrayFault;
 use oa_model::{Bound, ValueType};
 use oa_record::Call;

@@ -21,8 +21,9 @@ use oa_typelib::{Access, Dispinterface, Kind};
 use oa_variant::Variant;
 
 impl Decider<'_> {
-    /// What is left of the turn of such a call: its cell is that without arguments, so no lists are bound. None of a property that
-    /// `find_keyless` does not find and where the call is refused: then nothing is said.
+    /// What is left of the turn of an INVOKE that brings this value or nothing, under this tag: the reply (E_OUTOFMEMORY where memory was
+    /// wanted), or the change, which may still be refused. None, of which nothing is said, where the call is refused and where its member is
+    /// no property of scalars that alone has its DISPID. Only reads.
     pub fn plan_value(&self, tag: u32, head: CallHead, value: Option<Variant>) -> Option<Plan>
         ensures { IfSome result (PlansValue self.now tag (Invoke (bringing head value))) }
     {

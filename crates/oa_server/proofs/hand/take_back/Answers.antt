@@ -1,7 +1,7 @@
 use Rattle.std.proofs.Common.{◌≡◌, ◌∙◌, None, ap, arith, length, ℕ}
 use Rattle.oa_model.specs.Codes.{stg_e_writefault}
 use Rattle.oa_server.specs.Requests.{withdrawn}
-use Rattle.oa_decision.specs.Steps.{refusal}
+use Rattle.oa_decision.specs.Decided.{refusal}
 use Rattle.oa_server.proofs.Mapping.{mapped, mapped_all, mapped_step}
 use Rattle.oa_server.proofs.hand.take_back.Goals as goal
 

@@ -4,7 +4,7 @@ use Rattle.oa_model.specs.Codes.{s_ok}
 use Rattle.oa_record.specs.Asks.{tag_at}
 use Rattle.oa_table.specs.Tables.{unlocked_table}
 use Rattle.oa_decision.specs.States.{state_of}
-use Rattle.oa_decision.specs.Steps.{refusal}
+use Rattle.oa_decision.specs.Decided.{refusal}
 use Rattle.oa_server.proofs.Renewing.{at_last, meanwhile, still}
 use Rattle.oa_turn.proofs.Renewing.{replaces}
 use Rattle.oa_server.proofs.renewal.renew_over.Goals as goal

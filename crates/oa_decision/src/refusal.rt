@@ -10,7 +10,9 @@ use oa_typelib::MemberFault;
 /// The code of a refusal, and the place in rgvarg of the argument that it speaks of.
 #[derive(Clone, Copy, Debug, PartialEq, Eq)]
 pub struct Refusal {
+    /// The code of the reply.
     pub code: HResult,
+    /// The place of the argument, where one is at fault.
     pub index: Option<u32>,
 }
 

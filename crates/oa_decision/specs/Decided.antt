@@ -1,13 +1,12 @@
--- The step of a request: its outcome, and so its reply and the state after it. A request that is refused changes nothing.
+-- What is decided of a request: the answer, the change that it calls for, or why it is refused.
 use Rattle.std.specs.Prelude.{ℕ, Bool, true, is_ok, [], Option, Result}
 use Rattle.oa_model.specs.declared.hresult.HResult.{HResult}
 use Rattle.oa_record.specs.declared.request.Request.{Request}
 use Rattle.oa_record.specs.declared.request.Request.TheVariants as requests
 use Rattle.oa_record.specs.Replies.{ReplyValue}
 use Rattle.oa_decision.specs.declared.decision.Decision.{Decision}
-use Rattle.oa_decision.specs.declared.refusals.Refusal.{Refusal}
+use Rattle.oa_decision.specs.declared.refusal.Refusal.{Refusal}
 use Rattle.oa_decision.specs.Create.{creation}
-use Rattle.oa_decision.specs.Decisions.{Outcome, after_outcome, outcome_of}
 use Rattle.oa_decision.specs.GetElement.{element_got}
 use Rattle.oa_decision.specs.Invoke.{invocation}
 use Rattle.oa_decision.specs.Limits.{allowed}
@@ -36,24 +35,9 @@ decided state (requests.Unlock call) = unlocking state call
 decided state (requests.TypeInfo index) = information state index
 decided state requests.Objects = listing state
 
--- what becomes of it
-abbrev pub outcome : State → Request → Outcome
-outcome state request = outcome_of state (decided state request)
-
 -- a reply without fields
 abbrev pub refusal : ℕ → HResult → Option ℕ → ReplyValue
 refusal tag code index = record { tag = tag; code = code; index = index; body = [] }
-
-abbrev pub reply_with : ℕ → Outcome → ReplyValue
-reply_with tag o = record { tag = tag; code = o.code; index = o.index; body = o.fields }
-
--- the reply to a request with this tag
-abbrev pub reply_to : State → ℕ → Request → ReplyValue
-reply_to state tag request = reply_with tag (outcome state request)
-
--- the state after a request
-abbrev pub after : State → Request → State
-after state request = after_outcome state (outcome state request)
 
 -- whether want of memory may be answered: not in place of a refused CREATE or RELEASE
 abbrev pub may_want_memory : State → Request → Bool

@@ -5,7 +5,6 @@ import os
 import signal
 import struct
 import sys
-import threading
 import time
 import unittest
 
@@ -123,8 +122,10 @@ class Stops(UnderWine):
         held = self.held("late.vbs")
         child = self.server.child
         child.send_signal(signal.SIGSTOP)
-        threading.Timer(3, child.send_signal, (signal.SIGCONT,)).start()
-        self.each("late.vbs", self.finish(held))
+        try:
+            self.each("late.vbs", self.finish(held))
+        finally:
+            child.send_signal(signal.SIGCONT)
         child.wait(20)
 
     def test_no_server(self):

@@ -1,5 +1,5 @@
 //! The safe array.
-ghost use Rattle.std.specs.Prelude.{◌≡◌, ◌↔◌, ◌+◌, ◌-◌, ◌<◌, ◌≤◌, ◌⊎◌, Some, length, slice_get, All, MatchOption, MatchResult, IfOk};
+ghost use Rattle.std.specs.Prelude.{◌≡◌, ◌+◌, ◌-◌, ◌<◌, ◌≤◌, Some, length, All, MatchOption, MatchResult, IfOk};
 ghost use Rattle.std.specs.Prelude.{replicate};
 ghost use Rattle.oa_array.specs.Boxes.{InBounds, box_size};
 ghost use Rattle.oa_array.specs.Arrays.{ArrayValue, IsArrayShape, IsArray, array_element, with_cell, with_locks, with_first, all_cells};

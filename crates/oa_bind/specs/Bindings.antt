@@ -1,7 +1,7 @@
 -- The call that the arguments make of a property (MS-OAUT section 3.1.4.4), or its first refusal (the order is this project's choice).
 use Rattle.std.specs.Prelude.{ℕ, if◌then◌else◌, List, length, Option, Some, None, Result, Ok, Err}
 use Rattle.std.specs.Option.{unwrap_or}
-use Rattle.oa_model.specs.Codes.{e_invalidarg, disp_e_typemismatch}
+use Rattle.oa_model.specs.Codes.{e_invalidarg, disp_e_paramnotfound, disp_e_typemismatch}
 use Rattle.oa_model.specs.declared.var_type.VarType.{VarType}
 use Rattle.oa_model.specs.declared.var_type.VarType.TheVariants as types
 use Rattle.oa_model.specs.declared.var_type.ValueType.{ValueType}
@@ -32,7 +32,7 @@ scalar_type (kinds.Array t) = t
 
 -- the value of a missing argument: the parameter's default, else ERROR DISP_E_PARAMNOTFOUND for VARIANT, else the zero of the type
 abbrev pub without_default : VarType → Scalar
-without_default t = if same_type t types.Variant then scalars.Error 2147614724 else zero_of t
+without_default t = if same_type t types.Variant then scalars.Error disp_e_paramnotfound.0 else zero_of t
 
 abbrev pub missing_value : Parameter → Scalar
 missing_value p = unwrap_or (default_value p) (without_default (scalar_type p.value_type))

@@ -1,4 +1,4 @@
--- What contracts see of a bound call.
+-- What contracts see of a bound call. (This project's choice.)
 use Rattle.std.specs.Prelude.{List, Option}
 use Rattle.oa_variant.specs.declared.scalar.Scalar.{Scalar}
 use Rattle.oa_variant.specs.declared.variant.Variant.{Variant}

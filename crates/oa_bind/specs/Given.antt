@@ -3,6 +3,7 @@ use Rattle.std.specs.Prelude.{◌≡◌, ◌≢◌, ◌<◌, ℕ, ◌-◌, ◌==
 use Rattle.std.specs.Prelude.{false, if◌then◌else◌, List, length, Option, Some, None, slice_get, get_or}
 use Rattle.std.specs.List.{position_from}
 use Rattle.std.specs.Ordering.{int_eq}
+use Rattle.oa_model.specs.Codes.{disp_e_paramnotfound}
 use Rattle.oa_variant.specs.declared.scalar.Scalar.TheVariants as scalars
 use Rattle.oa_variant.specs.declared.variant.Variant.{Variant}
 use Rattle.oa_variant.specs.declared.variant.Variant.TheVariants.{One}
@@ -55,7 +56,7 @@ at (Some i) arguments = slice_get arguments i
 
 -- an argument says that it is missing: the ERROR DISP_E_PARAMNOTFOUND
 abbrev pub says_missing : Variant → Bool
-says_missing (One (scalars.Error code)) = code == 2147614724
+says_missing (One (scalars.Error code)) = code == disp_e_paramnotfound.0
 says_missing value = false
 
 abbrev pub if_not_missing : ℕ → Option Variant → Option (ℕ × Variant)

@@ -1,6 +1,6 @@
 //! Binding a call.
 ghost use Rattle.std.specs.Prelude.{◌≡◌, ◌≤◌, length, map};
-ghost use Rattle.oa_model.specs.Limits.{max_arguments};
+ghost use Rattle.oa_model.specs.Limits.{max_arguments, max_parameters};
 ghost use Rattle.oa_typelib.specs.Bindable.{IsBindable};
 ghost use Rattle.oa_checks.specs.Defaults.{default_value};
 ghost use Rattle.oa_variant.specs.Variants.{HasZero};
@@ -61,7 +61,7 @@ fn bind_parts(
     named: &[i32],
 ) -> Result<BoundCall, BindFault>
     requires defaults { defaults.now ≡ map default_value parameters.now }
-    requires few { length parameters.now ≤ 16 }
+    requires few { length parameters.now ≤ max_parameters }
     requires zero { HasZero declared }
     requires named { length named.now ≤ max_arguments }
     ensures { BindsAs (λ c. c) (bound_call parameters.now declared kind (given_call named.now arguments.items)) result }

@@ -4,13 +4,11 @@ ghost use Rattle.std.specs.List.{position_from};
 ghost use Rattle.std.specs.Ordering.{int_eq};
 ghost use Rattle.oa_bind.specs.Given.{argument_index, is_parameter, says_missing};
 
+use oa_model::HResult;
 use oa_variant::{Scalar, Variant};
 
-/// The DISPID of a put's new value (DISPID_PROPERTYPUT).
-pub(crate) const NEW_VALUE: i32 = -3;
-
 /// What stands for a missing argument: the ERROR DISP_E_PARAMNOTFOUND.
-pub(crate) const MISSING: u32 = 0x8002_0004;
+pub(crate) const MISSING: u32 = HResult::DISP_E_PARAMNOTFOUND.0;
 
 /// Whether a DISPID is that of one of the first n parameters.
 pub(crate) fn is_parameter(n: usize, id: i32) -> bool

@@ -3,7 +3,7 @@
 //! Its contract: `bind` answers the call that the arguments make of a property, or the first refusal in the
 //! stated order with its index.
 //!
-//! What stands on it: oa_turn, for INVOKE and for requests on elements and locks.
+//! What stands on it: oa_decision, for INVOKE and for requests on elements and locks.
 #![tactic(auto)]
 
 mod binding;

@@ -1,16 +1,16 @@
 //! What is refused before any value is looked at. None of it takes memory.
-ghost use Rattle.std.specs.Prelude.{◌≡◌, ◌≤◌, ◌<◌, length, true, IfSome, OnOk};
+ghost use Rattle.std.specs.Prelude.{◌≡◌, ◌≤◌, ◌<◌, ◌+◌, length, true, IfSome, OnOk};
 ghost use Rattle.std.specs.List.{position_from};
-ghost use Rattle.oa_model.specs.Limits.{max_arguments};
+ghost use Rattle.oa_model.specs.Limits.{max_arguments, max_parameters};
 ghost use Rattle.oa_bind.specs.Given.{given_call};
 ghost use Rattle.oa_bind.specs.Names.{complete, is_consistent, lacks, most, names_none, repeats, well_named};
 ghost use Rattle.oa_bind.specs.Refusals.{any_at};
 
 use crate::BindFault;
-use crate::given::{NEW_VALUE, index_of, is_parameter, says_missing};
+use crate::given::{index_of, is_parameter, says_missing};
 use oa_checks::is_optional;
 use oa_idl::Parameter;
-use oa_model::HResult;
+use oa_model::{HResult, PROPERTY_PUT_DISPID};
 use oa_typelib::Kind;
 use oa_variant::Variant;
 
@@ -36,7 +36,7 @@ fn is_consistent(kind: Kind, named: &[i32], count: usize) -> bool
     if named.len() > count || has_repeat(named) {
         return false;
     }
-    let names_value = named.contains(&NEW_VALUE);
+    let names_value = named.contains(&PROPERTY_PUT_DISPID);
     match kind {
         Kind::Get => !names_value,
         Kind::Put => names_value,
@@ -45,7 +45,7 @@ fn is_consistent(kind: Kind, named: &[i32], count: usize) -> bool
 
 /// How many arguments there are at most.
 fn most(kind: Kind, parameters: &[Parameter]) -> usize
-    requires { length parameters.now ≤ 16 }
+    requires { length parameters.now ≤ max_parameters }
     ensures { result ≡ most kind parameters.now }
 {
     match kind {
@@ -58,7 +58,7 @@ fn most(kind: Kind, parameters: &[Parameter]) -> usize
 fn names_none(positions: usize, parameters: usize, id: i32) -> bool
     ensures { result ≡ names_none positions parameters id }
 {
-    id != NEW_VALUE && (!is_parameter(parameters, id) || is_parameter(positions, id))
+    id != PROPERTY_PUT_DISPID && (!is_parameter(parameters, id) || is_parameter(positions, id))
 }
 
 /// The lowest index with such a DISPID.
@@ -76,7 +76,7 @@ fn first_unknown(named: &[i32], positions: usize, parameters: usize) -> Option<u
 
 /// Whether the parameter at a place may not be left out and is.
 fn lacks(named: &[i32], arguments: &[Variant], place: usize, parameter: &Parameter) -> bool
-    requires place { place < 16 }
+    requires place { place < max_parameters }
     requires named { length named.now ≤ length arguments.now }
     ensures { result ≡ lacks (given_call named.now arguments.now) place parameter.now }
 {
@@ -92,7 +92,7 @@ fn lacks(named: &[i32], arguments: &[Variant], place: usize, parameter: &Paramet
 /// Whether one of the parameters may not be left out and is.
 #[tactic(auto, unfolding(crate::specs::Refusals::any_at))]
 fn any_lacks(parameters: &[Parameter], named: &[i32], arguments: &[Variant]) -> bool
-    requires few { length parameters.now ≤ 16 }
+    requires few { length parameters.now ≤ max_parameters }
     requires named { length named.now ≤ length arguments.now }
     ensures { result ≡ any_at (lacks (given_call named.now arguments.now)) 0 parameters.now }
 {
@@ -112,11 +112,11 @@ pub(crate) fn check_names(
     named: &[i32],
     count: usize,
 ) -> Result<(), BindFault>
-    requires parameters { length parameters.now ≤ 16 }
+    requires parameters { length parameters.now ≤ max_parameters }
     requires named { length named.now ≤ max_arguments }
     ensures value { result ≡ well_named parameters.now kind named.now count }
     ensures named { OnOk result (length named.now ≤ count) }
-    ensures few { OnOk result (count ≤ 17) }
+    ensures few { OnOk result (count ≤ max_parameters + 1) }
 {
     if !is_consistent(kind, named, count) {
         return Err(BindFault::of(HResult::E_INVALIDARG));
@@ -137,7 +137,7 @@ pub(crate) fn check_complete(
     named: &[i32],
     arguments: &[Variant],
 ) -> Result<(), BindFault>
-    requires few { length parameters.now ≤ 16 }
+    requires few { length parameters.now ≤ max_parameters }
     requires named { length named.now ≤ length arguments.now }
     ensures { result ≡ complete parameters.now (given_call named.now arguments.now) }
 {

@@ -1,5 +1,6 @@
 //! The values of the parameters, and the new value of a put.
-ghost use Rattle.std.specs.Prelude.{◌≡◌, ◌≢◌, ◌≤◌, ◌<◌, ℕ, length, map, pos, slice_get, Some, IfOk, OnOk};
+ghost use Rattle.std.specs.Prelude.{◌≡◌, ◌≢◌, ◌≤◌, ◌<◌, ◌+◌, ℕ, length, map, pos, slice_get, Some, IfOk, OnOk};
+ghost use Rattle.oa_model.specs.Limits.{max_arguments, max_parameters};
 ghost use Rattle.oa_coerce.specs.Answers.{coerced};
 ghost use Rattle.oa_checks.specs.Defaults.{default_value};
 ghost use Rattle.oa_variant.specs.Variants.{HasZero};
@@ -9,11 +10,11 @@ ghost use Rattle.oa_bind.specs.Given.{Stay, given_call, argument_index};
 ghost use Rattle.oa_bind.specs.Refusals.{BindsAs, each_at};
 
 use crate::BindFault;
-use crate::given::{MISSING, NEW_VALUE, index_of, says_missing, take};
+use crate::given::{MISSING, index_of, says_missing, take};
 use oa_array::Cell;
 use oa_coerce::{CoerceFault, coerce, coerce_scalar};
 use oa_idl::Parameter;
-use oa_model::{HResult, ValueType, VarType};
+use oa_model::{HResult, PROPERTY_PUT_DISPID, ValueType, VarType};
 use oa_typelib::Kind;
 use oa_variant::{Scalar, Variant};
 use std::alloc::{AllocError, Global};
@@ -55,7 +56,7 @@ fn missing_value(
 
 /// The value of a parameter of a type, by the argument at an index. Takes no memory.
 fn value_by(to: VarType, i: usize, argument: Variant) -> Result<Scalar, BindFault>
-    requires { i < 32 }
+    requires { i < max_arguments }
     ensures { result ≡ value_by_argument to i argument }
 {
     match argument {
@@ -77,9 +78,9 @@ fn value(
     arguments: &mut Vec<Variant>,
 ) -> Result<Scalar, BindFault>
     requires default { default.now ≡ default_value parameter.now }
-    requires place { place < 16 }
+    requires place { place < max_parameters }
     requires named { length named.now ≤ length arguments.old.items }
-    requires few { length arguments.old.items ≤ 17 }
+    requires few { length arguments.old.items ≤ max_parameters + 1 }
     ensures value { BindsAs (λ s. s) (parameter_value (given_call named.now arguments.old.items) place parameter.now) result }
     ensures others { (j : ℕ) → argument_index named.now (length arguments.old.items) (pos place) ≢ Some j
         → slice_get arguments.new.items j ≡ slice_get arguments.old.items j }
@@ -104,9 +105,9 @@ pub(crate) fn key(
     arguments: &mut Vec<Variant>,
 ) -> Result<Vec<Scalar>, BindFault>
     requires defaults { defaults.now ≡ map default_value parameters.now }
-    requires short { length parameters.now ≤ 16 }
+    requires short { length parameters.now ≤ max_parameters }
     requires named { length named.now ≤ length arguments.old.items }
-    requires few { length arguments.old.items ≤ 17 }
+    requires few { length arguments.old.items ≤ max_parameters + 1 }
     ensures key { BindsAs (λ v. v.items) (each_at (parameter_value (given_call named.now arguments.old.items)) 0 parameters.now) result }
     ensures others { OnOk result (Stay named.now arguments.old.items arguments.new.items (length parameters.now)) }
     ensures len { length arguments.new.items ≡ length arguments.old.items }
@@ -134,7 +135,7 @@ fn new_value_by(
     declared: ValueType,
 ) -> Result<Variant, BindFault>
     requires zero { HasZero declared }
-    requires few { i < 32 }
+    requires few { i < max_arguments }
     ensures { BindsAs (λ v. v) (told_of_argument i (coerced argument declared)) result }
 {
     let at = i as u32;
@@ -155,13 +156,13 @@ pub(crate) fn new_value(
 ) -> Result<Option<Variant>, BindFault>
     requires zero { HasZero declared }
     requires named { length named.now ≤ length arguments.old.items }
-    requires few { length arguments.old.items ≤ 17 }
+    requires few { length arguments.old.items ≤ max_parameters + 1 }
     ensures { BindsAs (λ v. v) (given_new_value (given_call named.now arguments.old.items) declared kind) result }
 {
     match kind {
         Kind::Get => Ok(None),
         Kind::Put => {
-            let Some(i) = index_of(named, arguments.len(), NEW_VALUE) else {
+            let Some(i) = index_of(named, arguments.len(), PROPERTY_PUT_DISPID) else {
                 return Err(BindFault::of(HResult::E_INVALIDARG));
             };
             let argument = take(arguments, i);

@@ -1,5 +1,5 @@
 //! A block that is being filled or emptied.
-ghost use Rattle.std.specs.Prelude.{◌≡◌, ℕ, ◌+◌, ◌-◌, ◌<◌, ◌≤◌, List, [], ◌∷◌, ◌++◌, Some, map, length, take, IfOk};
+ghost use Rattle.std.specs.Prelude.{◌≡◌, ◌+◌, ◌-◌, ◌<◌, ◌≤◌, [], ◌∷◌, ◌++◌, Some, map, length, take, IfOk};
 ghost use Rattle.oa_cells.specs.Windows.{FilledWindow, values, laid, IsWindow};
 
 use crate::row::Row;

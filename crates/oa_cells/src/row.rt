@@ -1,5 +1,5 @@
 //! A block of memory as a list of places, with no pointer in sight.
-ghost use Rattle.std.specs.Prelude.{◌≡◌, ℕ, ◌<◌, List, Option, Some, None, map, length, take, replicate, get_or, slice_set, IfOk};
+ghost use Rattle.std.specs.Prelude.{◌≡◌, ◌<◌, List, Option, Some, None, map, length, take, replicate, get_or, slice_set, IfOk};
 ghost use Rattle.oa_cells.specs.Places.{HasValue, BeginsFilled};
 
 use crate::raw::{FreeRight, Places, Start, allocate, release};

@@ -21,6 +21,7 @@ fn same_type(a: ValueType, b: ValueType) -> bool
     a.vt() == b.vt()
 }
 
+/// Whether two results are the same: none, or of one type.
 pub fn same_result(a: Option<ValueType>, b: Option<ValueType>) -> bool
     ensures { result ≡ same_result a b }
 {
@@ -70,6 +71,8 @@ fn same_parameter(a: &Parameter, b: &Parameter) -> bool
         && same_default(&a.default, &b.default)
 }
 
+/// Whether two lists of parameters are of one length and each two agree: in name with A to Z folded, type, direction, default, and
+/// whether it may be left out.
 pub fn same_parameters(a: &[Parameter], b: &[Parameter]) -> bool
     ensures { result ≡ pointwise same_parameter a.now b.now }
 {

@@ -20,12 +20,13 @@ use crate::folding::folded;
 use crate::member_checks::{MemberCheck, check_members};
 use crate::places::{interface_at, items_of};
 use crate::repeats::{Distinct, told_apart};
-use crate::sets::{Guids, Names};
+use crate::sets::{FoldedNames, Guids};
 use crate::taken::Taken;
 use oa_idl::{Coclass, Entry, Interface, Item, Name, Parameter, Tree};
 use std::alloc::{AllocError, Global};
 use uuid::Uuid;
 
+/// An item's name.
 pub fn item_name(item: &Item) -> &Name
     ensures { result.now ≡ item_name item.now }
 {
@@ -44,6 +45,7 @@ pub(crate) fn item_guid(item: &Item) -> Uuid
     }
 }
 
+/// The names of interfaces that a coclass's entries give, in their order.
 pub fn entry_names(alloc: Global, entries: &[Entry]) -> Result<Vec<&Name>, AllocError>
     ensures { IfOk result (λ v. map (λ n. n.now) v.items ≡ map (λ e. e.interface) entries.now) }
 {
@@ -146,7 +148,7 @@ fn check_inner_names(alloc: Global, item: &Item) -> Result<(), CheckError>
 }
 
 /// Adds an item's name to those of the items before it.
-fn admit(alloc: Global, seen: &mut Names, item: &Item) -> Result<(), CheckError>
+fn admit(alloc: Global, seen: &mut FoldedNames, item: &Item) -> Result<(), CheckError>
     ensures refuses { RefusesBreach (option_map DuplicateName (repeated_in seen.old item.now))
         (λ _. seen.new ≡ seen.old ++ folded_name (item_name item.now) ∷ []) result }
 {
@@ -158,10 +160,10 @@ fn admit(alloc: Global, seen: &mut Names, item: &Item) -> Result<(), CheckError>
 }
 
 /// The items' names, which differ, as do the names inside each.
-pub(crate) fn check_names(alloc: Global, items: &[Item]) -> Result<Names, CheckError>
+pub(crate) fn check_names(alloc: Global, items: &[Item]) -> Result<FoldedNames, CheckError>
     ensures { RefusesBreach (option_map DuplicateName (name_breach items.now)) (λ names. names ≡ folded_names items.now) result }
 {
-    let mut seen = Names::new(alloc);
+    let mut seen = FoldedNames::new(alloc);
     for item in items {
         admit(alloc, &mut seen, item)?;
     }
@@ -206,7 +208,7 @@ pub(crate) fn check_guids(alloc: Global, library: Uuid, items: &[Item]) -> Resul
 /// Whether an item of that name is an interface.
 fn is_interface(
     alloc: Global,
-    names: &Names,
+    names: &FoldedNames,
     items: &[Item],
     name: &Name,
 ) -> Result<bool, AllocError>
@@ -221,7 +223,7 @@ fn is_interface(
 
 fn check_entries(
     alloc: Global,
-    names: &Names,
+    names: &FoldedNames,
     items: &[Item],
     entries: &[Entry],
 ) -> Result<(), CheckError>
@@ -236,7 +238,12 @@ fn check_entries(
     Ok(())
 }
 
-fn check_item(alloc: Global, names: &Names, items: &[Item], item: &Item) -> Result<(), CheckError>
+fn check_item(
+    alloc: Global,
+    names: &FoldedNames,
+    items: &[Item],
+    item: &Item,
+) -> Result<(), CheckError>
     requires { names.now ≡ folded_names items.now }
     ensures { RefusesBreach (option_map UnknownInterface (entry_breach items.now item.now)) (λ _. Unit {0}) result }
 {
@@ -249,7 +256,7 @@ fn check_item(alloc: Global, names: &Names, items: &[Item], item: &Item) -> Resu
 /// Each entry of a coclass names an interface.
 pub(crate) fn check_interfaces(
     alloc: Global,
-    names: &Names,
+    names: &FoldedNames,
     items: &[Item],
 ) -> Result<(), CheckError>
     requires { names.now ≡ folded_names items.now }
@@ -304,7 +311,9 @@ fn check_form_kinds(alloc: Global, items: &[Item]) -> Result<(), CheckError>
 /// What the checks of a tree leave: its items' names and GUIDs, by their places.
 #[derive(Drop)]
 pub struct Checked {
-    pub names: Names,
+    /// The names, folded.
+    pub names: FoldedNames,
+    /// The GUIDs, without the library's.
     pub guids: Guids,
 }
 
@@ -321,7 +330,7 @@ fn check_keys(alloc: Global, tree: &Tree) -> Result<Checked, CheckError>
 }
 
 /// The entries of coclasses, the forms of properties and the parameters, after the names of all items.
-fn check_contents(alloc: Global, tree: &Tree, names: &Names) -> Result<(), CheckError>
+fn check_contents(alloc: Global, tree: &Tree, names: &FoldedNames) -> Result<(), CheckError>
     requires { names.now ≡ folded_names tree.now.items }
     ensures { RefusesBreach (option_or (option_map UnknownInterface (interface_breach tree.now.items)) (form_breaches tree.now.items))
         (λ _. Unit {0}) result }

@@ -47,6 +47,7 @@ impl DeclarationKind {
         }
     }
 
+    /// Whether it is a put.
     pub fn is_put(self) -> bool
         ensures { result ≡ is_put self }
     {
@@ -64,8 +65,11 @@ impl DeclarationKind {
 /// One thing that an interface declares: a property of `properties:`, or a method, a get or a put of `methods:`.
 #[derive(Drop)]
 pub struct Declaration<'a> {
+    /// Its DISPID.
     pub id: i32,
+    /// Its name, as written.
     pub name: &'a Name,
+    /// What it declares.
     pub kind: DeclarationKind,
     /// As written; None is void.
     pub value_type: Option<ValueType>,
@@ -82,6 +86,7 @@ impl<'a> Model for Declaration<'a> {
 }
 
 impl<'a> Declaration<'a> {
+    /// What a property of `properties:` declares: itself, with no parameter.
     pub fn of_property(property: &'a Property) -> Declaration<'a>
         ensures { result ≡ of_property property.now }
     {
@@ -94,6 +99,7 @@ impl<'a> Declaration<'a> {
         }
     }
 
+    /// What a method, a get or a put of `methods:` declares: itself.
     pub fn of_method(method: &'a Method) -> Declaration<'a>
         ensures { result ≡ of_method method.now }
     {

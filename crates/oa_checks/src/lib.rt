@@ -3,7 +3,8 @@
 //! Its contract: `check_tree` answers the first breach of a tree in the order of the checks (`Breaches`), and
 //! else the names and GUIDs of its items; `mark` marks one default interface in each coclass.
 //!
-//! What stands on it: oa_typelib, and oa_keeps, oa_bind, oa_fits, oa_description and oa_turn above that.
+//! What stands on it: oa_typelib, and above that oa_keeps, oa_bind, oa_fits, oa_description, oa_decision and oa_turn; and the
+//! commands.
 #![tactic(auto)]
 
 mod agreement;
@@ -29,4 +30,4 @@ pub use folding::folded;
 pub use guids::{is_zero_guid, place_in_front};
 pub use marking::mark;
 pub use places::{at, class_at, interface_at, items_of};
-pub use sets::{Guids, Names};
+pub use sets::{FoldedNames, Guids};

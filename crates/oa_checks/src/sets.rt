@@ -9,19 +9,19 @@ use std::alloc::{AllocError, Global};
 use std::marker::Model;
 use uuid::Uuid;
 
-/// Names, each once.
-pub struct Names {
+/// Names with A to Z folded, each once.
+pub struct FoldedNames {
     keys: IndexSet<Vec<u16>>,
 }
 
 // Its own, so that a function that holds some lets go of them in one step.
-impl Drop for Names {
+impl Drop for FoldedNames {
     fn drop(self) {
-        let Names { keys: _keys } = self;
+        let FoldedNames { keys: _keys } = self;
     }
 }
 
-impl Model for Names {
+impl Model for FoldedNames {
     ghost use Rattle.std.specs.Prelude.{List, ℕ, map};
 
     ghost Value = { List (List ℕ) };
@@ -29,11 +29,11 @@ impl Model for Names {
     ghost view = { λ n. map (λ k. k.items) n.keys.keys };
 }
 
-impl Names {
-    pub(crate) fn new(alloc: Global) -> Names
+impl FoldedNames {
+    pub(crate) fn new(alloc: Global) -> FoldedNames
         ensures { result ≡ [] }
     {
-        Names {
+        FoldedNames {
             keys: IndexSet::new(alloc),
         }
     }
@@ -45,6 +45,7 @@ impl Names {
         Ok(self.keys.insert(name)?)
     }
 
+    /// The place of a folded name; None where it is not among them.
     pub fn place(&self, name: &[u16]) -> Option<usize>
         ensures { result ≡ position (same name.now) self.now }
     {
@@ -79,6 +80,7 @@ impl Guids {
         Guids { keys }
     }
 
+    /// The place of a GUID; None where no item has it.
     pub fn place(&self, guid: &Uuid) -> Option<usize>
         ensures { result ≡ position (same guid.now) self.now }
     {

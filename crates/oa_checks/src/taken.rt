@@ -4,14 +4,14 @@ ghost use Rattle.oa_checks.specs.Taken.{is_taken, takes_reading, takes_setting, 
 
 use crate::declaration::{Declaration, DeclarationKind};
 use crate::folding::folded;
-use crate::sets::Names;
+use crate::sets::FoldedNames;
 use std::alloc::{AllocError, Global};
 
 /// The folded names of declarations: those that a get would take, and those that a put would take.
 #[derive(Drop)]
 pub(crate) struct Taken {
-    reading: Names,
-    setting: Names,
+    reading: FoldedNames,
+    setting: FoldedNames,
 }
 
 fn takes_reading(kind: DeclarationKind) -> bool
@@ -32,8 +32,8 @@ impl Taken {
         ensures setting { result.setting ≡ [] }
     {
         Taken {
-            reading: Names::new(alloc),
-            setting: Names::new(alloc),
+            reading: FoldedNames::new(alloc),
+            setting: FoldedNames::new(alloc),
         }
     }
 

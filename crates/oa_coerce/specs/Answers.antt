@@ -1,5 +1,6 @@
 -- What a value becomes, or its refusal, as a function: for definitions above that must compute, as the first refusal of a call does. That
--- it says the same as the relations of Coercions and Refusals are the laws `scalar_answer_is_coercion` and `answer_is_coercion`.
+-- it says the same as the relations of Coercions and Refusals are the laws `scalar_answer_is_coercion` and `answer_is_coercion`. (This
+-- project's choice.)
 use Rattle.std.specs.Prelude.{◌≡◌, ℕ, ℤ, ◌+◌, ◌*◌, ◌/◌, ◌%◌, ◌^◌, ◌==◌, ◌&&◌, ◌||◌, nat_lt, Bool, true, false, not, if◌then◌else◌, Result}
 use Rattle.std.specs.Prelude.{Ok, Err, pos, unsigned_abs}
 use Rattle.std.specs.Int.{is_negative}

@@ -4,7 +4,7 @@
 //! Its contract: `coerce` answers what a value becomes as one of a declared type, exactly: the rule of the two
 //! types, the nearest count, a half to the even neighbour.
 //!
-//! What stands on it: oa_bind, for arguments and new values; oa_turn, for elements.
+//! What stands on it: oa_bind, for arguments and new values; oa_decision, for elements.
 #![tactic(auto)]
 
 mod fault;

@@ -1,2 +1,3 @@
 pub mod Dumped
 pub mod Failing
+pub mod Printed

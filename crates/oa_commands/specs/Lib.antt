@@ -1,3 +1,4 @@
 pub mod Statuses
 pub mod Dumps
 pub mod Stores
+pub mod Texts

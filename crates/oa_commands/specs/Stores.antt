@@ -1,19 +1,21 @@
--- The disks that the commands on a store answer or read.
+-- The disks that the commands on a store answer or read. (This project's choice.)
 use Rattle.std.specs.Prelude.{ℕ, IsTrue, List, max, min}
 use Rattle.oa_canonical.specs.Canonical.{canonical}
 use Rattle.oa_checks.specs.IsLibrary.{IsLibrary}
 use Rattle.oa_disk.specs.declared.disk.Disk.{Ghosts}
 use Rattle.oa_disk.specs.After.{BeginsHonest}
 use Rattle.oa_idl.specs.Trees.{TreeValue}
-use Rattle.oa_journal.specs.declared.shape.Shape.TheVariants.{One, Two}
+use Rattle.oa_journal.specs.declared.shape.Shape.TheVariants.{Two}
 use Rattle.oa_journal.specs.Banks.{first_gate}
+use Rattle.oa_journal.specs.Shapes.{least_bank_bytes, most_bank_bytes}
+use Rattle.oa_store.specs.Faults.{IsBrought}
 use Rattle.oa_store.specs.Openings.{FindsAny}
-use Rattle.oa_store.specs.Stores.{IsStoreAt, IsStoreIn}
+use Rattle.oa_store.specs.Stores.{IsStoreAt}
 use Rattle.oa_table.specs.Tables.{TableValue, first_table}
 
 -- the nearest size that a bank can have, from 20 MiB to 1 GiB
 abbrev pub bank_near : ℕ → ℕ
-bank_near size = max 20971520 (min size 1073741824)
+bank_near size = max least_bank_bytes (min size most_bank_bytes)
 
 -- Each image of a disk is the store of a library that some text stands for, without objects, with banks of this size.
 pub record IsNewlyFormatted {D : Type 0} (g : Ghosts D) (size : ℕ) (disk : D) : Type 0 where
@@ -23,12 +25,12 @@ pub record IsNewlyFormatted {D : Type 0} (g : Ghosts D) (size : ℕ) (disk : D) 
   pub stored : (c : List ℕ) → g.image disk c
       → IsStoreAt (Two size) 0 (first_gate (canonical library) first_table) (canonical library) first_table c
 
--- A disk held a store of format 1, and is now in each image one of format 2 with what it held, as long as each read gave what was there.
+-- A disk held a store of format 1, and is now in each image one of format 2 with what it held, none of it too large for a server, as
+-- long as each read gave what was there.
 pub record IsUpgraded {D : Type 0} (g : Ghosts D) (size : ℕ) (disk : D) : Type 0 where
   pub before : D
   pub begins : BeginsHonest g before
-  pub upgraded : IsTrue (g.is_honest disk) → (library : List ℕ) × (table : TableValue) × IsStoreIn One (g.contents before) library table
-      × ((c : List ℕ) → g.image disk c → IsStoreIn (Two size) c library table)
+  pub upgraded : IsTrue (g.is_honest disk) → IsBrought size (g.contents before) (g.image disk)
 
 -- A disk was read, and this library and this table were found.
 pub record WasRead {D : Type 0} (g : Ghosts D) (library : List ℕ) (table : TableValue) : Type 0 where

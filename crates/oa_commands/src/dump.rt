@@ -9,7 +9,7 @@ ghost use Rattle.oa_stream.specs.Sink.{IsHandedOn, Writes};
 ghost use Rattle.oa_table.specs.Tables.{TableValue};
 
 use crate::fault::Fault;
-use crate::store::found;
+use crate::store::open_store_file;
 use oa_disk::{Disk, FileDisk};
 use oa_frame::put_hex;
 use oa_image::{write_key, write_value};
@@ -46,7 +46,7 @@ fn kept(rt: &HostRuntime, alloc: Global, path: &str) -> Result<(Vec<u8>, Table),
     ensures read { IfOk result (λ r. WasRead ⟦<FileDisk as Disk>⟧ r.0.items r.1) }
     ensures refused { IfErr result IsOfDump }
 {
-    let mut disk = found(rt, alloc, path)?;
+    let mut disk = open_store_file(rt, alloc, path)?;
     Ok(inspect(alloc, &mut disk)?)
 }
 

@@ -1,8 +1,9 @@
 //! The commands on a library's text and on a store's file, what they print, and what ends the program early: one line and a status.
 //!
 //! Its contract: `format_store` answers a disk of which each image is the new store (`IsNewlyFormatted`), `upgrade_store` one that is
-//! brought to format 2 (`IsUpgraded`), and `write_dump` writes the lines of what a disk was read as (`dump`). Each fault has the status of one table
-//! (`status_of`), and none of them is that of success. Which file a path names, and the calls of the system, are tested (`cli/`).
+//! brought to format 2 (`IsUpgraded`), `write_dump` writes the lines of what a disk was read as (`dump`), and `write_text` the canonical
+//! text of a library. Each fault has the status of one table (`status_of`), and none of them is that of success. Which file a path names,
+//! its lock, and what makes it longer are tested (`cli/`).
 //!
 //! What stands on it: the program.
 #![tactic(auto)]
@@ -21,7 +22,7 @@ pub use dump::write_dump;
 pub use fault::Fault;
 pub use library::{STANDARD_INPUT, read_library};
 pub use place::Place;
-pub use store::{LEAST_BANK, MOST_BANK, format_store, found};
+pub use store::{format_store, open_store_file};
 pub use streams::{Streams, tell};
 pub use text::write_text;
 pub use upgrade::upgrade_store;

@@ -3,22 +3,18 @@ ghost use Rattle.std.specs.Prelude.{◌≤◌, IfErr, IfOk};
 ghost use Rattle.oa_commands.specs.Statuses.{IsBeforeStores, IsOfFormat};
 ghost use Rattle.oa_commands.specs.Stores.{IsNewlyFormatted, bank_near};
 ghost use Rattle.oa_disk.specs.After.{BeginsHonest};
+ghost use Rattle.oa_journal.specs.Shapes.{least_bank_bytes, most_bank_bytes};
 
 use crate::fault::Fault;
 use crate::library::{read_library, unread};
 use crate::shown::shown_name;
 use oa_disk::{Disk, FileDisk};
+use oa_journal::{LEAST_BANK_BYTES, MOST_BANK_BYTES};
 use oa_store::STORE_BYTES;
 use std::alloc::Global;
 use std::fs::OpenOptions;
 use std::io;
 use std::io::ErrorKind;
-
-/// The least number of bytes that a bank of a store can have.
-pub const LEAST_BANK: u32 = 20_971_520;
-
-/// The greatest number of bytes that a bank of a store can have.
-pub const MOST_BANK: u32 = 1_073_741_824;
 
 /// How many bytes a store takes whose banks have so many.
 pub(crate) fn store_bytes(bank: u32) -> u64 {
@@ -37,13 +33,18 @@ pub fn format_store(
     ensures new { IfOk result (IsNewlyFormatted ⟦<FileDisk as Disk>⟧ (bank_near bank)) }
     ensures refused { IfErr result IsOfFormat }
 {
-    made_store(rt, path, library, bank.clamp(LEAST_BANK, MOST_BANK))
+    made_store(
+        rt,
+        path,
+        library,
+        bank.clamp(LEAST_BANK_BYTES, MOST_BANK_BYTES),
+    )
 }
 
 /// The same with banks of a size that they can have.
 fn made_store(rt: &HostRuntime, path: &str, library: &str, bank: u32) -> Result<FileDisk, Fault>
-    requires least { 20971520 ≤ bank }
-    requires most { bank ≤ 1073741824 }
+    requires least { least_bank_bytes ≤ bank }
+    requires most { bank ≤ most_bank_bytes }
     ensures new { IfOk result (IsNewlyFormatted ⟦<FileDisk as Disk>⟧ bank) }
     ensures refused { IfErr result IsOfFormat }
 {
@@ -55,7 +56,7 @@ fn made_store(rt: &HostRuntime, path: &str, library: &str, bank: u32) -> Result<
 }
 
 /// The file of a store that is there. No other process has it from then on, until the disk goes.
-pub fn found(rt: &HostRuntime, alloc: Global, path: &str) -> Result<FileDisk, Fault>
+pub fn open_store_file(rt: &HostRuntime, alloc: Global, path: &str) -> Result<FileDisk, Fault>
     ensures begins { IfOk result (BeginsHonest ⟦<FileDisk as Disk>⟧) }
     ensures refused { IfErr result IsBeforeStores }
 {

@@ -9,7 +9,7 @@ use std::fs::File;
 use std::io;
 
 /// Writes bytes on standard output, and all of them before it answers.
-pub(crate) fn write(rt: &HostRuntime, bytes: &[u8]) -> Result<(), Fault>
+fn write(rt: &HostRuntime, bytes: &[u8]) -> Result<(), Fault>
     ensures { IfErr result (λ fault. fault ≡ faults.Write) }
 {
     let mut writer = Outlet::new(io::writer(rt));

@@ -1,25 +1,65 @@
 //! The canonical text of a library.
-ghost use Rattle.std.specs.Prelude.{IfErr};
+ghost use Rattle.std.specs.Prelude.{◌≡◌, ◌⊎◌, ℕ, List, false, IfErr, IfOk, OnOk};
+ghost use Rattle.oa_checks.specs.IsLibrary.{IsLibrary};
 ghost use Rattle.oa_commands.specs.Statuses.{IsBeforeStores};
+ghost use Rattle.oa_commands.specs.Texts.{IsPrinted};
+ghost use Rattle.oa_commands.specs.declared.fault.Fault.TheVariants as faults;
+ghost use Rattle.oa_stream.specs.Sink.{Breaks, IsHandedOn, Writes};
 
 use crate::fault::Fault;
 use crate::library::{library_of, read_text};
 use crate::place::Place;
-use crate::streams::write;
 use oa_idl::ParseError;
+use oa_stream::Sink;
+use oa_typelib::Library;
 use std::alloc::Global;
 
-/// Writes the canonical text of a library's file on standard output. Nothing is written of a library that is refused.
-pub fn write_text(rt: &HostRuntime, path: &str, shows_place: bool) -> Result<(), Fault>
-    ensures { IfErr result IsBeforeStores }
+/// Writes the canonical text of a library's file, and hands it on. Nothing is written of a library that is refused.
+pub fn write_text<W: Sink>(
+    rt: &HostRuntime,
+    path: &str,
+    shows_place: bool,
+    writer: &mut W,
+) -> Result<(), Fault>
+    requires unbroken { (W.out writer.old).broken ≡ false }
+    ensures written { OnOk result (IsPrinted (Writes (W.out writer.old) (W.out writer.new))) }
+    ensures handed_on { OnOk result (IsHandedOn (W.out writer.new)) }
+    ensures refused { IfErr result IsBeforeStores }
+    // Where it fails the writer is as it was, or it took a first part of the text, and failed.
+    ensures broken { IfErr result (λ fault. (W.out writer.new ≡ W.out writer.old)
+        ⊎ ((fault ≡ faults.Write) × IsPrinted (Breaks (W.out writer.old) (W.out writer.new)))) }
 {
-    let alloc = rt.alloc();
+    let library = library_at(rt, rt.alloc(), path, shows_place)?;
+    put_text(library.text(), writer)
+}
+
+/// The library of a file. A fault has its place in the text with it where that is asked for.
+fn library_at(
+    rt: &HostRuntime,
+    alloc: Global,
+    path: &str,
+    shows_place: bool,
+) -> Result<Library, Fault>
+    ensures read { IfOk result (λ library. (text : List ℕ) × IsLibrary text library) }
+    ensures refused { IfErr result IsBeforeStores }
+{
     let text = read_text(rt, alloc, path)?;
     match library_of(alloc, &text) {
-        Ok(library) => write(rt, library.text()),
         Err(fault) if shows_place => Err(placed(alloc, path, &text, fault)),
-        Err(fault) => Err(fault),
+        found => found,
     }
+}
+
+/// Writes a text, and hands it on.
+fn put_text<W: Sink>(text: &[u8], writer: &mut W) -> Result<(), Fault>
+    requires unbroken { (W.out writer.old).broken ≡ false }
+    ensures written { OnOk result (Writes (W.out writer.old) (W.out writer.new) text.now) }
+    ensures handed_on { OnOk result (IsHandedOn (W.out writer.new)) }
+    ensures broken { IfErr result (λ fault. (fault ≡ faults.Write) × Breaks (W.out writer.old) (W.out writer.new) text.now) }
+{
+    writer.put(text)?;
+    writer.deliver()?;
+    Ok(())
 }
 
 /// A fault with its place in the text, where it has one and memory is found for it.

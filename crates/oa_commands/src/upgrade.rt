@@ -2,10 +2,12 @@
 ghost use Rattle.std.specs.Prelude.{◌≤◌, IfErr, IfOk};
 ghost use Rattle.oa_commands.specs.Statuses.{IsBeforeStores, IsOfUpgrade};
 ghost use Rattle.oa_commands.specs.Stores.{IsUpgraded, bank_near};
+ghost use Rattle.oa_journal.specs.Shapes.{least_bank_bytes, most_bank_bytes};
 
 use crate::fault::Fault;
-use crate::store::{LEAST_BANK, MOST_BANK, found, store_bytes, unopened, unwritten};
+use crate::store::{open_store_file, store_bytes, unopened, unwritten};
 use oa_disk::{Disk, FileDisk};
+use oa_journal::{LEAST_BANK_BYTES, MOST_BANK_BYTES};
 use oa_store::{OpenFault, Store, inspect};
 use std::alloc::Global;
 use std::fs::{File, OpenFile, OpenOptions};
@@ -21,21 +23,21 @@ pub fn upgrade_store(rt: &HostRuntime, path: &str, bank: u32) -> Result<FileDisk
     ensures upgraded { IfOk result (IsUpgraded ⟦<FileDisk as Disk>⟧ (bank_near bank)) }
     ensures refused { IfErr result IsOfUpgrade }
 {
-    upgraded(rt, path, bank.clamp(LEAST_BANK, MOST_BANK))
+    upgraded(rt, path, bank.clamp(LEAST_BANK_BYTES, MOST_BANK_BYTES))
 }
 
 /// The same with banks of a size that they can have. The file is opened anew behind each step, and locked in each: what it is then is
 /// looked at again, since between them another process may have had it.
 fn upgraded(rt: &HostRuntime, path: &str, bank: u32) -> Result<FileDisk, Fault>
-    requires least { 20971520 ≤ bank }
-    requires most { bank ≤ 1073741824 }
+    requires least { least_bank_bytes ≤ bank }
+    requires most { bank ≤ most_bank_bytes }
     ensures upgraded { IfOk result (IsUpgraded ⟦<FileDisk as Disk>⟧ bank) }
     ensures refused { IfErr result IsOfUpgrade }
 {
     let alloc = rt.alloc();
-    refuse_others(alloc, found(rt, alloc, path)?)?;
+    refuse_others(alloc, open_store_file(rt, alloc, path)?)?;
     lengthen(rt, alloc, path, store_bytes(bank))?;
-    let mut disk = found(rt, alloc, path)?;
+    let mut disk = open_store_file(rt, alloc, path)?;
     oa_store::upgrade(alloc, &mut disk, bank)?;
     Ok(disk)
 }

@@ -1,5 +1,6 @@
 -- An INVOKE that brings no more than a put's new value, of a property without parameters.
-use Rattle.std.proofs.Common.{◌≡◌, inl, inr, ℕ, [], ◌∷◌, negsuc, Option, Some, None, IfSome, Ok, refl, sym, ◌∙◌}
+use Rattle.std.proofs.Common.{◌≡◌, inl, inr, ℕ, [], ◌∷◌, negsuc, Option, Some, None, IfSome, Result, Ok, Err, refl, sym, ◌∙◌}
+use Rattle.std.specs.Result.{result_ok}
 use Rattle.oa_bind.specs.Bindings.{bound_call}
 use Rattle.oa_bind.specs.Given.{given_call, argument_index}
 use Rattle.oa_bind.specs.Names.{complete, well_named}
@@ -22,6 +23,11 @@ use Rattle.oa_decision.specs.ValuePlans.{PlansGet, PlansPut, PlansValue}
 use Rattle.oa_decision.specs.declared.plan.Plan.{Plan}
 use Rattle.oa_decision.specs.declared.plan.Plan.TheVariants.{Answered, Change}
 use Rattle.oa_decision.proofs.Found.{cell_found}
+
+-- what was answered, where it is told without a fault
+pub answered : {A E : Type 0} (r : Result A E) (x : A) → result_ok r ≡ Some x → r ≡ Ok x
+answered (Ok y) x is = cc
+answered (Err e) x is = absurd cc
 
 -- without parameters there is no key
 bound_get : (declared : ValueType) → bound_call [] declared forms.Get (given_call [] []) ≡ Ok (record { key = []; value = None })

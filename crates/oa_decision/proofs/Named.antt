@@ -2,6 +2,7 @@
 use Rattle.std.proofs.Common.{arith, Vec, Global, ◌≡◌, ℕ, ◌≤◌, List, [], ◌∷◌, suc, Option, Some, None, length, map, refl, ap}
 use Rattle.std.proofs.lemmas.List.{length-map}
 use Rattle.oa_idl.specs.Values.{InterfaceValue}
+use Rattle.oa_model.specs.Limits.{max_names}
 use Rattle.oa_checks.specs.DeclarationValues.{DeclarationValue}
 use Rattle.oa_checks.specs.Declarations.{own_parameters}
 use Rattle.oa_typelib.specs.Members.{forms_named, main_form}
@@ -16,7 +17,7 @@ named_count : (i : InterfaceValue) (names : List (List ℕ)) → length (named_i
 named_count i [] = refl
 named_count i (name ∷ names) = ids_count (main_form (forms_named name i)) (name ∷ names)
 
-pub few_ids : (i : InterfaceValue) (names : List (Vec ℕ Global)) → length names ≤ 17 → length (names_told i (map (λ n. n.items) names)).ids ≤ 17
+pub few_ids : (i : InterfaceValue) (names : List (Vec ℕ Global)) → length names ≤ max_names → length (names_told i (map (λ n. n.items) names)).ids ≤ max_names
 few_ids i names few =
     let asked = map (λ (n : Vec ℕ Global). n.items) names in
     omega (arith, length-map (named_in i asked) or_unknown, named_count i asked, length-map names (λ (n : Vec ℕ Global). n.items), few)

@@ -1,4 +1,4 @@
--- What is decided of a request: the answer, the change that it calls for, or why it is refused.
+-- What is decided of a request: the answer, the change that it calls for, or why it is refused. (This project's choice.)
 use Rattle.std.specs.Prelude.{ℕ, Bool, true, is_ok, [], Option, Result}
 use Rattle.oa_model.specs.declared.hresult.HResult.{HResult}
 use Rattle.oa_record.specs.declared.request.Request.{Request}

@@ -1,4 +1,4 @@
--- What becomes of a request that is looked at: a decision, which only reads.
+-- What becomes of a request that is looked at: a decision, which only reads. (This project's choice.)
 use Rattle.std.specs.Prelude.{◌≡◌, Bool, true, Result, Ok, Err}
 use Rattle.oa_table.specs.Events.{BringsNoLocks}
 use Rattle.oa_decision.specs.declared.decision.Decision.{Decision}

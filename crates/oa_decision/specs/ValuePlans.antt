@@ -1,4 +1,4 @@
--- What is planned of a call that brings no more than a new value.
+-- What is planned of a call that brings no more than a new value. (This project's choice.)
 use Rattle.std.specs.Prelude.{◌≡◌, ◌⊎◌, List, [], ℕ, true, None, Result, Ok}
 use Rattle.oa_coerce.specs.declared.fault.CoerceFault.{CoerceFault}
 use Rattle.oa_model.specs.Codes.{e_outofmemory, s_ok}

@@ -8,7 +8,7 @@ ghost use Rattle.oa_variant.specs.declared.variant.Variant.TheVariants as varian
 ghost use Rattle.oa_variant.specs.declared.variant.Variant.{Variant as AVariant};
 
 use oa_array::{ArrayFault, Cell, Indices, SafeArray};
-use oa_model::Bound;
+use oa_model::{Bound, GREATEST_OBJECT_NUMBER};
 use oa_table::{CellName, Event, Table, TableFault};
 use oa_variant::{Scalar, Variant};
 
@@ -28,7 +28,7 @@ pub(crate) fn refusal_of(table: &Table, event: &Event) -> Option<TableFault>
 fn of_create(table: &Table, number: u32) -> Option<TableFault>
     ensures { (class : List ℕ) → GivesReason (applied (events.Create number class) table.now) result }
 {
-    if number != table.next() || number == u32::MAX {
+    if number != table.next() || number > GREATEST_OBJECT_NUMBER {
         return Some(TableFault::WrongNumber);
     }
     None

@@ -8,7 +8,8 @@ use crate::refusal::Refusal;
 use oa_bind::BindFault;
 use oa_model::HResult;
 use oa_table::{CellName, Event};
-use std::alloc::{AllocError, AllocFailed};
+use std::alloc::AllocError;
+use thiserror::Error;
 
 /// What becomes of a request that is not refused.
 #[derive(Drop)]
@@ -31,10 +32,13 @@ pub enum LockChange {
 }
 
 /// Why nothing is decided.
+#[derive(Debug, Drop, Error)]
 pub enum Undecided {
     /// The request is refused.
+    #[error("{0}")]
     Refused(Refusal),
     /// Memory was refused.
+    #[error("out of memory")]
     OutOfMemory,
 }
 
@@ -63,14 +67,6 @@ impl From<AllocError> for Undecided {
     ghost from_gives = { λ _ e. e ≡ OutOfMemory };
 
     fn from(_: AllocError) -> Undecided {
-        Undecided::OutOfMemory
-    }
-}
-
-impl<T: Drop> From<AllocFailed<T>> for Undecided {
-    ghost from_gives = { λ _ e. e ≡ OutOfMemory };
-
-    fn from(_: AllocFailed<T>) -> Undecided {
         Undecided::OutOfMemory
     }
 }

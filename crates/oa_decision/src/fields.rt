@@ -1,5 +1,6 @@
 //! The fields of a reply.
 ghost use Rattle.std.specs.Prelude.{◌≡◌, ◌≤◌, [], length};
+ghost use Rattle.oa_record.specs.Replies.{max_fields_bytes};
 
 use std::alloc::Global;
 use std::marker::Model;
@@ -12,18 +13,19 @@ pub struct Fields {
 
 impl Model for Fields {
     ghost use Rattle.std.specs.Prelude.{List, ℕ, ◌≤◌, length};
+    ghost use Rattle.oa_record.specs.Replies.{max_fields_bytes};
 
     ghost Value = { List ℕ };
 
     ghost view = { λ f. f.bytes.items };
 
-    ghost invariant = { λ f. length f.bytes.items ≤ 4294967279 };
+    ghost invariant = { λ f. length f.bytes.items ≤ max_fields_bytes };
 }
 
 impl Fields {
     /// These fields.
     pub(crate) fn new(bytes: Vec<u8>) -> Fields
-        requires { length bytes.items ≤ 4294967279 }
+        requires { length bytes.items ≤ max_fields_bytes }
         ensures { result ≡ bytes.items }
     {
         Fields { bytes }
@@ -41,7 +43,7 @@ impl Fields {
     /// Their bytes.
     pub fn into_vec(self) -> Vec<u8>
         ensures value { result.items ≡ self }
-        ensures small { length result.items ≤ 4294967279 }
+        ensures small { length result.items ≤ max_fields_bytes }
     {
         let Fields { bytes } = self;
         bytes

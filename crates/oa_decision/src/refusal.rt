@@ -6,9 +6,11 @@ ghost use Rattle.oa_typelib.specs.MemberCodes.{member_code};
 use oa_array::ArrayFault;
 use oa_model::HResult;
 use oa_typelib::MemberFault;
+use thiserror::Error;
 
 /// The code of a refusal, and the place in rgvarg of the argument that it speaks of.
-#[derive(Clone, Copy, Debug, PartialEq, Eq)]
+#[derive(Clone, Copy, Debug, PartialEq, Eq, Error)]
+#[error("request refused")]
 pub struct Refusal {
     /// The code of the reply.
     pub code: HResult,

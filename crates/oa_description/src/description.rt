@@ -1,7 +1,7 @@
 //! A description as the fields of a reply.
 ghost use Rattle.std.specs.Prelude.{◌≡◌, ◌<◌, ◌≤◌, ◌++◌, length, IfOk, OnErr, OnOk, option_copied};
 ghost use Rattle.std.specs.List.{flat_map};
-ghost use Rattle.oa_record.specs.Replies.{string_field};
+ghost use Rattle.oa_record.specs.Replies.{max_fields_bytes, string_field};
 ghost use Rattle.oa_typelib.specs.Contents.{content_of};
 ghost use Rattle.oa_description.specs.DescriptionFields.{content_head, default_field, description_field, description_head, entry_field};
 ghost use Rattle.oa_description.specs.DescriptionFields.{entry_fields, flag, invoke_kind, member_field, member_flags, member_head};
@@ -249,7 +249,7 @@ pub fn description_field(
     description: &Description<'_>,
 ) -> Result<Vec<u8>, AllocError>
     ensures value { IfOk result (λ v. v.items ≡ description_field description.now) }
-    ensures small { IfOk result (λ v. length v.items ≤ 4294967279) }
+    ensures small { IfOk result (λ v. length v.items ≤ max_fields_bytes) }
 {
     let mut out = Vec::new(alloc);
     put_description(&mut out, description)?;

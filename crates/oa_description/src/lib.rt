@@ -3,7 +3,7 @@
 //! Its contract: a description's fields are its bytes, and none of a coclass's entries is left out
 //! (`laws::no_entry_is_left_out`).
 //!
-//! What stands on it: oa_turn, for TYPEINFO.
+//! What stands on it: oa_decision, for TYPEINFO.
 #![tactic(auto)]
 
 mod description;

@@ -3,8 +3,10 @@
 /// A call that a disk has met.
 #[derive(Clone, Copy, Debug, PartialEq, Eq)]
 pub enum DeviceCall {
+    /// A read.
     Read,
-    /// The first byte and the number of bytes.
+    /// A write: its first byte and how many bytes it has.
     Write(usize, usize),
+    /// A sync.
     Sync,
 }

@@ -1,7 +1,7 @@
 //! What a crash leaves, made from the calls and the bytes that were written.
-ghost use Rattle.std.specs.Prelude.{◌≡◌, ℕ, ◌+◌, ◌*◌, ◌<◌, ◌≤◌, ◌∷◌, length, drop, Some, slice_get, replicate, OnOk, IfOk};
+ghost use Rattle.std.specs.Prelude.{◌≡◌, ◌+◌, ◌*◌, ◌<◌, ◌≤◌, length, OnOk, IfOk};
 ghost use Rattle.oa_disk.specs.Ledger.{laid};
-ghost use Rattle.oa_disk.specs.Replay.{AllInside, contents_after, count_all, overwritten};
+ghost use Rattle.oa_disk.specs.Replay.{AllInside, contents_after, count_all};
 ghost use Rattle.oa_disk.specs.Tear.{torn, tear_behind, torn_all, IsLastSync, IsTorn};
 
 use crate::DeviceCall;

@@ -1,5 +1,5 @@
 //! A disk as a store sees it: what a read gives, and what a crash may leave.
-ghost use Rattle.std.specs.Prelude.{◌≡◌, ◌+◌, ◌-◌, ◌^◌, ◌≤◌, List, ℕ, Bool, IsTrue, length, OnOk, OnErr, IfErr};
+ghost use Rattle.std.specs.Prelude.{◌≡◌, ◌+◌, ◌-◌, ◌^◌, ◌≤◌, List, ℕ, Bool, IsTrue, length, OnOk, OnErr};
 ghost use Rattle.oa_disk.specs.Disk.{FailsAs, HasBytesAt, ReadsHonestly, Torn, Reaches, Stays, WritesUnsynced, Syncs, TakesTime};
 
 use thiserror::Error;

@@ -1,5 +1,5 @@
 //! A file of the operating system as a disk.
-ghost use Rattle.std.specs.Prelude.{◌≡◌, ◌+◌, ◌-◌, ◌^◌, ◌<◌, ◌≤◌, [], ℕ, List, length, OnOk, IfOk, IfErr, IsTrue};
+ghost use Rattle.std.specs.Prelude.{◌≡◌, ◌+◌, ◌-◌, ◌^◌, ◌<◌, ◌≤◌, [], ℕ, length, IfOk, IfErr};
 ghost use Rattle.oa_disk.specs.Disk.{CountsFailures};
 ghost use Rattle.oa_disk.specs.History.{IsHistory};
 ghost use Rattle.oa_disk.specs.Record.{history_of};

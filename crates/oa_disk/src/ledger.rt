@@ -1,5 +1,5 @@
 //! A record of the calls that a disk in memory has served.
-ghost use Rattle.std.specs.Prelude.{◌≡◌, ◌≤◌, length, vec_capacity, IfOk, ◌^◌, ◌<◌};
+ghost use Rattle.std.specs.Prelude.{◌≤◌, length, vec_capacity, IfOk, ◌^◌, ◌<◌};
 
 use crate::{DeviceCall, DeviceFault};
 use std::alloc::{AllocError, Global};

@@ -1,10 +1,10 @@
 //! A disk of a fixed size: what a read gives, and what a crash at each moment may leave.
 //!
 //! Its contract: the clauses of the trait `Disk`: a write may tear until a sync at `Ok`; `write_then_flip`
-//! leaves at each moment the bytes of before or of after at its switch.
+//! leaves at each moment the bytes torn and the switch of before, or the bytes whole and any byte at the switch.
 //!
 //! What stands on it: the storage crates (oa_journal, oa_store, oa_keeper, oa_groups), oa_server and oa_history; and
-//! the program, over a file.
+//! oa_commands and the program, over a file.
 #![tactic(auto)]
 
 mod call;

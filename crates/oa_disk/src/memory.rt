@@ -1,8 +1,8 @@
 //! A disk in memory that can be made to crash at any moment.
-ghost use Rattle.std.specs.Prelude.{◌≡◌, ◌+◌, ◌*◌, ◌-◌, ◌<◌, ◌≤◌, [], length, true, List, ℕ, IsTrue, OnOk, OnErr, IfOk, IfErr, Some};
+ghost use Rattle.std.specs.Prelude.{◌≡◌, ◌+◌, ◌*◌, ◌-◌, ◌<◌, ◌≤◌, [], length, true, List, ℕ, OnOk, OnErr, IfOk, Some};
 ghost use Rattle.oa_disk.specs.Disk.{HasBytesAt, Torn, Reaches, NothingPending, FailsAs, Stays, WritesUnsynced, Syncs, TakesTime};
 ghost use Rattle.oa_disk.specs.History.{IsHistory};
-ghost use Rattle.oa_disk.specs.Ledger.{laid, history, IsEmpty};
+ghost use Rattle.oa_disk.specs.Ledger.{laid, history};
 ghost use Rattle.oa_disk.specs.Replay.{DiskState, IsImage, zeros};
 
 use crate::crash::leave_at;

@@ -1,5 +1,5 @@
 //! The disk of a server that keeps nothing.
-ghost use Rattle.std.specs.Prelude.{◌≡◌, [], true, refl, IsTrue};
+ghost use Rattle.std.specs.Prelude.{◌≡◌, [], true, refl};
 ghost use Rattle.oa_disk.specs.Counting.{none_below};
 ghost use Rattle.oa_disk.specs.Replaying.{no_bytes};
 

@@ -1,5 +1,5 @@
 //! One byte decides: what was written before is on the device first.
-ghost use Rattle.std.specs.Prelude.{◌≡◌, ◌⊎◌, ◌+◌, ◌<◌, ◌≤◌, List, ℕ, IsTrue, OnOk, IfErr, length, slice_index};
+ghost use Rattle.std.specs.Prelude.{◌≡◌, ◌⊎◌, ◌+◌, ◌<◌, ◌≤◌, List, ℕ, IsTrue, OnOk, length, slice_index};
 ghost use Rattle.oa_disk.specs.After.{AfterWrites};
 ghost use Rattle.oa_disk.specs.Disk.{LeavesOnly, LeavesStep, Follows, Torn};
 ghost use Rattle.oa_disk.specs.Switch.{MaySwitch, HasSwitched};

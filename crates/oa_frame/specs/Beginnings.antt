@@ -1,4 +1,4 @@
--- What a session begins with.
+-- What a session begins with. (This project's choice.)
 use Rattle.std.specs.Prelude.{◌≡◌, ◌+◌, ◌≤◌, ℕ, false}
 use Rattle.oa_model.specs.Limits.{max_line_characters, max_request_bytes}
 use Rattle.oa_stream.specs.Sink.{Output}

@@ -1,4 +1,4 @@
--- What a character's value is, as a digit.
+-- What a character's value is, as a digit. (This project's choice.)
 use Rattle.std.specs.Prelude.{◌≡◌, ℕ, ◌≤◌, IfSome, IsNone}
 use Rattle.hex.specs.Hex.{hex_digit_value}
 

@@ -1,4 +1,4 @@
--- What a session over a reader and a writer read, answered and wrote, in any framing.
+-- What a session over a reader and a writer read, answered and wrote, in any framing. (This project's choice.)
 use Rattle.std.specs.Prelude.{◌≡◌, ◌⊎◌, ℕ, ◌+◌, ◌≤◌, Bool, true, false, if◌then◌else◌, List, [], ◌∷◌, ◌++◌, length}
 use Rattle.std.specs.Prelude.{Result, Ok, Err, IsOk, ⊤}
 use Rattle.std.specs.List.{All, sum}

@@ -11,7 +11,7 @@ pub enum End {
     TooLong,
     /// The line of this number, counted from 1, is the digits of no bytes.
     BadHex(u64),
-    /// The reader failed, or was called `MAX_READ_CALLS` times for one body; or 18,446,744,073,709,551,615 bodies were answered.
+    /// The reader failed, or was called `MAX_READ_CALLS` times for one body; or `MAX_RECORDS` bodies were answered.
     ReadFault,
     /// The writer failed.
     WriteFault,

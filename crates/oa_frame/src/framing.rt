@@ -54,6 +54,6 @@ pub fn read_body<R: Source + Drop, W: Sink>(
 {
     match framing {
         Framing::HexLines => read_hex(reader, writer, line, body, number),
-        Framing::Records => read_record(reader, writer, body, number),
+        Framing::Records => read_record(reader, writer, body),
     }
 }

@@ -1,5 +1,5 @@
 //! Bodies as lines of hexadecimal digits.
-ghost use Rattle.std.specs.Prelude.{◌≡◌, ◌<◌, ◌≤◌, ◌+◌, ◌*◌, ℕ, [], true, false, length, slice_index, take, vec_capacity};
+ghost use Rattle.std.specs.Prelude.{◌≡◌, ◌<◌, ◌≤◌, ◌+◌, ◌*◌, ℕ, true, false, length, slice_index, take, vec_capacity};
 ghost use Rattle.std.specs.Prelude.{Ok, IfSome, IsErr, IsNone};
 ghost use Rattle.hex.specs.Hex.{decode_of, pair_value};
 ghost use Rattle.oa_model.specs.Limits.{max_request_bytes};

@@ -1,5 +1,5 @@
 //! Lines of a reader.
-ghost use Rattle.std.specs.Prelude.{◌≡◌, ◌≤◌, ◌+◌, ◌++◌, [], false, length, vec_capacity};
+ghost use Rattle.std.specs.Prelude.{◌≡◌, ◌≤◌, ◌+◌, ◌++◌, false, length, vec_capacity};
 ghost use Rattle.oa_model.specs.Limits.{max_line_characters};
 ghost use Rattle.oa_stream.specs.Ahead.{ahead, read_ahead};
 ghost use Rattle.oa_stream.specs.Sink.{IsHandedOn};

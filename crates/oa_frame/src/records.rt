@@ -1,5 +1,5 @@
 //! Bodies as records of a length and that many bytes.
-ghost use Rattle.std.specs.Prelude.{◌≡◌, ◌≤◌, ◌<◌, ◌+◌, [], ℕ, List, Option, false, length, take, vec_capacity, IfSome};
+ghost use Rattle.std.specs.Prelude.{◌≡◌, ◌≤◌, ◌<◌, ◌+◌, ℕ, List, Option, false, length, take, vec_capacity, IfSome};
 ghost use Rattle.std.specs.Io.KnownBytes.{Consumes};
 ghost use Rattle.oa_model.specs.Limits.{max_read_calls, max_request_bytes};
 ghost use Rattle.oa_stream.specs.Ahead.{ahead, read_ahead};
@@ -34,13 +34,13 @@ pub(crate) fn read_record<R: Source + Drop, W: Sink>(
     reader: &mut Ahead<R>,
     writer: &mut W,
     body: &mut Vec<u8>,
-    number: u64,
 ) -> Read
     requires buffer { max_request_bytes ≤ vec_capacity body.now }
     requires unbroken { AreUnbroken (ahead R.input reader.old) (W.out writer.old) }
     ensures buffer { vec_capacity body.old ≤ vec_capacity body.new }
     ensures within { FitsBuffer result body.new.items }
-    ensures input { Inputs records result number body.new.items (ahead R.input reader.old).left (ahead R.input reader.new).left }
+    ensures input { (number : ℕ)
+        → Inputs records result number body.new.items (ahead R.input reader.old).left (ahead R.input reader.new).left }
     ensures paced { Paced (ends_in_read_fault result) (ahead R.input reader.old) (ahead R.input reader.new) }
     ensures output { Hands result (W.out writer.old) (W.out writer.new) }
 {
@@ -51,7 +51,7 @@ pub(crate) fn read_record<R: Source + Drop, W: Sink>(
     }
     match writer.deliver() {
         Err(_) => Read::Unwritten,
-        Ok(()) => read_waiting(reader, writer, body, number),
+        Ok(()) => read_waiting(reader, writer, body),
     }
 }
 
@@ -82,16 +82,12 @@ fn whole_record(front: &[u8]) -> Option<usize>
     ensures within { IfSome result (λ n. (0 < n) × (n ≤ max_request_bytes) × (4 + n ≤ length front.now)) }
     ensures says { IfSome result (λ n. SaysLength (take 4 front.now) n) }
 {
-    match front.split_first_chunk::<4>() {
-        None => None,
-        Some((head, rest)) => {
-            let n = u32::from_le_bytes(*head) as usize;
-            if 0 < n && n <= BODY_LIMIT && n <= rest.len() {
-                Some(n)
-            } else {
-                None
-            }
-        }
+    let (head, rest) = front.split_first_chunk::<4>()?;
+    let n = u32::from_le_bytes(*head) as usize;
+    if 0 < n && n <= BODY_LIMIT && n <= rest.len() {
+        Some(n)
+    } else {
+        None
     }
 }
 
@@ -100,18 +96,17 @@ fn read_waiting<R: Source + Drop, W: Sink>(
     reader: &mut Ahead<R>,
     writer: &W,
     body: &mut Vec<u8>,
-    number: u64,
 ) -> Read
     requires buffer { max_request_bytes ≤ vec_capacity body.now }
     requires unbroken { (ahead R.input reader.old).faulted ≡ false }
     requires quiet { IsHandedOn (W.out writer.now) }
     ensures buffer { vec_capacity body.old ≤ vec_capacity body.new }
     ensures within { FitsBuffer result body.new.items }
-    ensures input { Inputs records result number body.new.items (ahead R.input reader.old).left (ahead R.input reader.new).left }
+    ensures input { (number : ℕ)
+        → Inputs records result number body.new.items (ahead R.input reader.old).left (ahead R.input reader.new).left }
     ensures paced { Paced (ends_in_read_fault result) (ahead R.input reader.old) (ahead R.input reader.new) }
     ensures read { WriterStands result }
 {
-    let _ = number; // only the contract speaks of it
     let mut head = [0u8; 4];
     let mut calls = 0u32;
     match fill_up(reader, writer, &mut head, &mut calls) {

@@ -9,6 +9,7 @@ ghost use Rattle.oa_frame.specs.Sessions.{PartsBefore, Session, is_answered, las
 
 use crate::writing::put_reply;
 use crate::{End, Framing, Read, read_body};
+use oa_model::MAX_RECORDS;
 use oa_stream::{Ahead, Sink, Source, Unwritten};
 
 /// What answers bodies. It may hold replies back, and hand out those to many bodies at one.
@@ -93,7 +94,7 @@ pub fn serve<S: Responder, R: Source + Drop, W: Sink>(
         (W.out writer.old) (W.out writer.new) server.old server.new result }
 {
     let mut requests = 0u64;
-    'turns: for _ in 0..u64::MAX {
+    'turns: for _ in 0..MAX_RECORDS {
         match read_body(framing, reader, writer, line, body, requests + 1) {
             Read::Body(count) => {
                 let bytes = front(body, count);
@@ -135,7 +136,7 @@ pub fn serve<S: Responder, R: Source + Drop, W: Sink>(
     Served { requests, why }
 }
 
-// So many bytes at the start of a buffer.
+/// So many bytes at the start of a buffer.
 fn front(buffer: &[u8], count: usize) -> &[u8]
     requires { count ≤ length buffer.now }
     ensures { result.now ≡ take count buffer.now }
@@ -143,7 +144,7 @@ fn front(buffer: &[u8], count: usize) -> &[u8]
     &buffer[..count]
 }
 
-// Writes what is held and hands all on, where this body comes alone.
+/// Writes what is held and hands all on, where this body comes alone.
 fn part_before<S: Responder, W: Sink>(
     server: &mut S,
     framing: Framing,
@@ -158,13 +159,11 @@ fn part_before<S: Responder, W: Sink>(
     if !server.comes_alone(body) {
         return Ok(());
     }
-    if let Err(fault) = server.finish(framing, writer) {
-        return Err(fault);
-    }
+    server.finish(framing, writer)?;
     writer.deliver()
 }
 
-// Writes the reply to what is no body.
+/// Writes the reply to what is no body.
 fn put_last<W: Sink>(
     framing: Framing,
     last: &[u8],
@@ -181,7 +180,7 @@ fn put_last<W: Sink>(
     Ok(())
 }
 
-// Whether what is no body is answered.
+/// Whether what is no body is answered.
 fn has_reply(why: End) -> bool
     ensures { result ≡ is_answered why }
 {
@@ -191,7 +190,7 @@ fn has_reply(why: End) -> bool
     }
 }
 
-// Writes the reply to what is no body, hands all on, and says why the session ended.
+/// Writes the reply to what is no body, hands all on, and says why the session ended.
 fn hand_on<W: Sink>(framing: Framing, last: &[u8], writer: &mut W, why: End) -> End
     requires short { length last.now ≤ 4294967295 }
     requires unbroken { (W.out writer.old).broken ≡ false }
@@ -206,7 +205,7 @@ fn hand_on<W: Sink>(framing: Framing, last: &[u8], writer: &mut W, why: End) -> 
     }
 }
 
-// Writes all that is left to write, hands it on, and says why the session ended.
+/// Writes all that is left to write, hands it on, and says why the session ended.
 fn close<S: Responder, W: Sink>(
     server: &mut S,
     framing: Framing,

@@ -31,7 +31,7 @@ pub fn put_reply<W: Sink>(
     }
 }
 
-// Writes two stretches as one line of digits.
+/// Writes two stretches as one line of digits.
 fn put_line<W: Sink>(writer: &mut W, head: &[u8], fields: &[u8]) -> Result<(), Unwritten>
     requires unbroken { (W.out writer.old).broken ≡ false }
     ensures { Puts result (W.out writer.old) (W.out writer.new) (encode_lower (head.now ++ fields.now) ++ 10 ∷ []) }
@@ -44,7 +44,7 @@ fn put_line<W: Sink>(writer: &mut W, head: &[u8], fields: &[u8]) -> Result<(), U
     writer.put(b"\n")
 }
 
-// Writes two stretches of at most 63 bytes as one line of digits, at once.
+/// Writes two stretches of at most 63 bytes as one line of digits, at once.
 fn put_short_line<W: Sink>(writer: &mut W, head: &[u8], fields: &[u8]) -> Result<(), Unwritten>
     requires short { length head.now + length fields.now ≤ 63 }
     requires unbroken { (W.out writer.old).broken ≡ false }
@@ -55,7 +55,7 @@ fn put_short_line<W: Sink>(writer: &mut W, head: &[u8], fields: &[u8]) -> Result
     writer.put(&line[..end])
 }
 
-// The digits of two stretches and a line feed, at the start of a buffer; answers how many characters they are.
+/// The digits of two stretches and a line feed, at the start of a buffer; answers how many characters they are.
 fn spell(head: &[u8], fields: &[u8], line: &mut [u8; 128]) -> usize
     requires { length head.now + length fields.now ≤ 63 }
     ensures within { result ≤ 128 }
@@ -69,7 +69,7 @@ fn spell(head: &[u8], fields: &[u8], line: &mut [u8; 128]) -> usize
     end + 1
 }
 
-// Writes the length of two stretches, and them.
+/// Writes the length of two stretches, and them.
 fn put_record<W: Sink>(writer: &mut W, head: &[u8], fields: &[u8]) -> Result<(), Unwritten>
     requires short { length head.now + length fields.now ≤ 4294967295 }
     requires unbroken { (W.out writer.old).broken ≡ false }
@@ -84,7 +84,7 @@ fn put_record<W: Sink>(writer: &mut W, head: &[u8], fields: &[u8]) -> Result<(),
     writer.put(fields)
 }
 
-// Writes the length of two stretches of at most 63 bytes, and them, at once.
+/// Writes the length of two stretches of at most 63 bytes, and them, at once.
 fn put_short_record<W: Sink>(writer: &mut W, head: &[u8], fields: &[u8]) -> Result<(), Unwritten>
     requires short { length head.now + length fields.now ≤ 63 }
     requires unbroken { (W.out writer.old).broken ≡ false }
@@ -96,7 +96,7 @@ fn put_short_record<W: Sink>(writer: &mut W, head: &[u8], fields: &[u8]) -> Resu
     writer.put(&bytes[..end])
 }
 
-// The length of two stretches, and them, at the start of a buffer; answers how many bytes they are.
+/// The length of two stretches, and them, at the start of a buffer; answers how many bytes they are.
 fn lay_out(head: &[u8], fields: &[u8], bytes: &mut [u8; 67]) -> usize
     requires { length head.now + length fields.now ≤ 63 }
     ensures within { result ≤ 67 }
@@ -110,7 +110,7 @@ fn lay_out(head: &[u8], fields: &[u8], bytes: &mut [u8; 67]) -> usize
     end
 }
 
-// How many bytes two stretches have.
+/// How many bytes two stretches have.
 fn length_bytes(head: &[u8], fields: &[u8]) -> [u8; 4]
     requires { length head.now + length fields.now ≤ 4294967295 }
     ensures { result ≡ to_le_bytes w32 (length (head.now ++ fields.now)) }
@@ -132,7 +132,7 @@ pub fn put_hex<W: Sink>(writer: &mut W, bytes: &[u8]) -> Result<(), Unwritten>
     Ok(())
 }
 
-// Writes at most 128 bytes as digits.
+/// Writes at most 128 bytes as digits.
 fn put_piece<W: Sink>(writer: &mut W, piece: &[u8]) -> Result<(), Unwritten>
     requires short { length piece.now ≤ 128 }
     requires unbroken { (W.out writer.old).broken ≡ false }
@@ -143,7 +143,7 @@ fn put_piece<W: Sink>(writer: &mut W, piece: &[u8]) -> Result<(), Unwritten>
     writer.put(&digits[..2 * piece.len()])
 }
 
-// The digits of bytes, at the start of a buffer.
+/// The digits of bytes, at the start of a buffer.
 fn encode(piece: &[u8], digits: &mut [u8])
     requires { 2 * length piece.now ≤ length digits.old }
     ensures len { length digits.new ≡ length digits.old }
@@ -157,7 +157,7 @@ fn encode(piece: &[u8], digits: &mut [u8])
     }
 }
 
-// The digit of a value. Two sums and no table: so many are made at a time.
+/// The digit of a value. Two sums and no table: so many are made at a time.
 fn digit(value: u8) -> u8
     requires { value < 16 }
     ensures { result ≡ slice_index lower_digits value }

@@ -1,10 +1,9 @@
--- A server at work: its store and its state, and the group in hand.
+-- A server at work: its store and its state, and the group in hand. (This project's choice.)
 use Rattle.std.specs.Prelude.{◌≡◌, ◌≢◌, ◌⊎◌, ◌+◌, ◌-◌, ◌<◌, ◌≤◌, ℕ, IsTrue, true, false, List, [], ◌∷◌, ◌++◌, length, map}
 use Rattle.oa_disk.specs.Disk.{LeavesOnly}
 use Rattle.oa_disk.specs.declared.disk.Disk.{Ghosts}
 use Rattle.oa_journal.specs.Shapes.{ample_bytes, body_bytes}
 use Rattle.oa_store.specs.declared.store.Store.{Store}
-use Rattle.oa_table.specs.Tables.{TableValue}
 use Rattle.oa_keeper.specs.Holding.{Carries, Commits, LeavesCommitted}
 use Rattle.oa_groups.specs.Groups.{fills}
 use Rattle.oa_groups.specs.Runs.{AllHoldState, HoldsState, MakesEvent}

@@ -1,4 +1,4 @@
--- Where a group ends in which a call of the device fails.
+-- Where a group ends in which a call of the device fails. (This project's choice.)
 use Rattle.std.specs.Prelude.{◌≡◌, ◌⊎◌, ℕ, Bool, true, List, [], ◌∷◌, ◌++◌}
 use Rattle.oa_groups.specs.Groups.{BeginsAlone, events_in, is_full, joined}
 use Rattle.oa_groups.specs.Runs.{CallsFor, MakesEvent, TurnsOver}

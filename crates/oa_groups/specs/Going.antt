@@ -1,4 +1,4 @@
--- What stands while requests are taken.
+-- What stands while requests are taken. (This project's choice.)
 use Rattle.std.specs.Prelude.{◌≡◌, ◌⊎◌, ℕ, Bool, true, false, List, [], ◌∷◌, ◌++◌, length, map}
 use Rattle.oa_disk.specs.declared.disk.Disk.{Ghosts}
 use Rattle.oa_groups.specs.Desks.{Desk}

@@ -1,4 +1,4 @@
--- Runs of a server, and what the images of its disk hold at each moment of one.
+-- Runs of a server, and what the images of its disk hold at each moment of one. (This project's choice.)
 use Rattle.std.specs.Prelude.{◌≡◌, ◌⊎◌, ℕ, true, ◌+◌, ◌<◌, ◌≤◌, List, [], ◌∷◌, ◌++◌, length, Some, slice_get}
 use Rattle.oa_disk.specs.declared.disk.Disk.{Ghosts}
 use Rattle.oa_keeper.specs.Kept.{AllHold}

@@ -1,4 +1,4 @@
--- What a call answers that takes a list of requests, and what a stop at any moment of it leaves.
+-- What a call answers that takes a list of requests, and what a stop at any moment of it leaves. (This project's choice.)
 use Rattle.std.specs.Prelude.{◌≡◌, ℕ, true, false, List, [], ◌∷◌, ◌++◌, length, map}
 use Rattle.oa_disk.specs.declared.disk.Disk.{Ghosts}
 use Rattle.oa_store.specs.Writing.{Goes}

@@ -1,4 +1,4 @@
--- The simplest requests: groups of events, each of which is done or refused, and other libraries.
+-- The simplest requests: groups of events, each of which is done or refused, and other libraries. (This project's choice.)
 use Rattle.std.proofs.Common.{◌≡◌, ◌⊎◌, inl, inr, ◌==◌, Bool, true, false, true≢false, List, [], ◌∷◌, ℕ, drop, refl, sym, ap, ◌∙◌, subst}
 use Rattle.oa_journal.specs.Replays.{Replays}
 use Rattle.oa_table.specs.Tables.{TableValue}

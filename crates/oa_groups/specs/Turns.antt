@@ -1,4 +1,4 @@
--- What a server does with requests, whatever its requests, its replies and its state are.
+-- What a server does with requests, whatever its requests, its replies and its state are. (This project's choice.)
 use Rattle.std.specs.Prelude.{◌≡◌, Bool, false, List, ℕ}
 use Rattle.oa_journal.specs.Replays.{Replays}
 use Rattle.oa_table.specs.Tables.{TableValue}

@@ -78,10 +78,11 @@ module _ (size : ℕ) (contents : List ℕ) (shape : Shape) (text : List ℕ) (t
       never_both bank (sym new ∙ old)
   opened_by_its_own bank new LibraryDiffers r says =
       let store = its_bank says.chosen says.head in
-      let here = subst (λ (s : Shape). IsStoreAt s says.chosen is.1 text table contents) (its_shape says.chosen says.shape (length says.other) says.has.snapshot store says.has.has) store in
+      let other = Two says.size in
+      let here = subst (λ (s : Shape). IsStoreAt s says.chosen is.1 text table contents) (its_shape says.chosen other (length says.other) says.has.snapshot store says.has.has) store in
       let head = from_place (head_place says.chosen) contents in
-      let body = from_place (body_place says.shape says.chosen) contents in
-      says.differs (one_library says.shape head body says.other text says.has (bank_library says.shape head body text table is.1 here.bank))
+      let body = from_place (body_place other says.chosen) contents in
+      says.differs (one_library other head body says.other text says.has (bank_library other head body text table is.1 here.bank))
   opened_by_its_own bank new (Damaged place) r says = never_damaged (Some text) place says
   opened_by_its_own bank new (Device fault) r says = absurd r
   opened_by_its_own bank new Memory r says = absurd r

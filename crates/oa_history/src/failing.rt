@@ -19,13 +19,16 @@ use std::alloc::Global;
 /// What a call was answered, and how often a call of the disk had failed when it had returned.
 #[derive(Drop)]
 pub struct Told {
+    /// The replies to its requests, in turn.
     pub replies: Vec<Reply>,
+    /// How many calls of the disk had failed when it had returned.
     pub failures: u64,
 }
 
 /// A server that was opened on a disk in memory by way of one that fails from some call on.
 #[derive(Drop)]
 pub struct Fused {
+    /// The server.
     pub server: Server<FuseDisk<MemoryDisk>>,
 }
 

@@ -1,5 +1,5 @@
 //! A new store whose making is stopped.
-ghost use Rattle.std.specs.Prelude.{◌≡◌, ◌≤◌, IfOk, IfErr};
+ghost use Rattle.std.specs.Prelude.{◌≤◌, IfOk, IfErr};
 ghost use Rattle.oa_disk.specs.Memory.{contents_of, moments_of};
 ghost use Rattle.oa_journal.specs.Shapes.{default_bank_bytes};
 ghost use Rattle.oa_decision.specs.States.{state_of};

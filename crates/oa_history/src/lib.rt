@@ -4,7 +4,7 @@
 //! Its contract: what each call answers is lived or survived as a reader of the proofs would have it (`IsLived`,
 //! `IsSurvived`); docs/reading-the-proofs.md begins with them.
 //!
-//! What stands on it: no crate.
+//! What stands on it: its tests alone, oa_history_tests.
 #![tactic(auto)]
 
 mod checkpointing;

@@ -1,6 +1,6 @@
 //! What is found behind calls over a disk that fails.
-ghost use Rattle.std.specs.Prelude.{◌≡◌, IfOk, IfErr};
-ghost use Rattle.oa_disk.specs.Memory.{contents_of, image_of};
+ghost use Rattle.std.specs.Prelude.{IfOk, IfErr};
+ghost use Rattle.oa_disk.specs.Memory.{contents_of};
 ghost use Rattle.oa_groups.specs.Runs.{HoldsState};
 ghost use Rattle.oa_journal.specs.Shapes.{default_bank_bytes};
 ghost use Rattle.oa_turn.specs.Beginnings.{CanBegin};

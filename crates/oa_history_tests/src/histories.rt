@@ -77,7 +77,7 @@ pub(crate) fn expect(rt: &impl Abort, what: &str, holds: bool) {
     assert!(rt; holds, "{what}");
 }
 
-// A body that always answers want of memory meets the contract: here memory is ample.
+/// A body that always answers want of memory meets the contract: here memory is ample.
 #[test]
 fn what_was_answered_is_kept(rt: HostRuntime) {
     let alloc = rt.alloc();

@@ -89,7 +89,7 @@ fn runs(alloc: Global, group: usize) -> Option<bool>
     Some(holds)
 }
 
-// A body that always answers want of memory meets every contract: here memory is ample, and each call gives its answer.
+/// A body that always answers want of memory meets every contract: here memory is ample, and each call gives its answer.
 #[test]
 fn bodies_are_answered(rt: HostRuntime) {
     let alloc = rt.alloc();

@@ -4,7 +4,7 @@ ghost use Rattle.oa_idl.specs.Words.{word_of, passes, is_text, name_of, over, gu
 ghost use Rattle.oa_idl.specs.Words.{is_hexadecimal, below, part_from, part_of, id_number, id_from, id_of, word_type, same_kind};
 ghost use Rattle.oa_idl.specs.Words.{never_over, amount_from, amount_of, is_printable, is_escaped, characters_from, characters_of};
 ghost use Rattle.oa_idl.specs.Grammar.{entry_word};
-ghost use Rattle.oa_idl.specs.Reading.{ReadsWords, heads, later_words, this_at, one_at, if_meant, perhaps_at, done, seen_first, first_of};
+ghost use Rattle.oa_idl.specs.Reading.{ReadsWords, heads, later_words, this_at, one_at, if_meant, done, seen_first, first_of};
 ghost use Rattle.oa_idl.specs.NextWords.{token_text, seen_text};
 ghost use Rattle.oa_idl.specs.declared.stop.Stop.TheVariants.{Syntax};
 ghost use Rattle.uuid.specs.Text.{parsed_hyphenated};
@@ -13,7 +13,7 @@ use crate::characters::Characters;
 use crate::name::Name;
 use crate::sign::{is_reserved, kind_of, same_bytes, type_named};
 use crate::stop::{Stop, TreeLimit};
-use oa_model::{MAX_NAME_CHARACTERS, UNKNOWN_DISPID, VarType};
+use oa_model::{MAX_NAME_CHARACTERS, PROPERTY_PUT_DISPID, UNKNOWN_DISPID, VarType};
 use oa_tokens::{Token, TokenKind};
 use std::alloc::{AllocError, Global};
 use std::marker::Model;
@@ -21,8 +21,6 @@ use uuid::Uuid;
 
 /// A number is below this, 2^96.
 const NUMBER_BOUND: u128 = 1 << 96;
-/// The DISPID of a put's new value (DISPID_PROPERTYPUT).
-const NEW_VALUE: i32 = -3;
 /// The characters of a GUID of the form 8-4-4-4-12.
 const GUID_CHARACTERS: usize = 36;
 
@@ -134,7 +132,7 @@ fn id_from(negative: bool, hexadecimal: bool, number: Option<u128>) -> Option<i3
     ensures { result ≡ id_from negative hexadecimal number }
 {
     let id = id_number(negative, hexadecimal, number?)?;
-    if id == UNKNOWN_DISPID || id == NEW_VALUE {
+    if id == UNKNOWN_DISPID || id == PROPERTY_PUT_DISPID {
         None
     } else {
         Some(id)

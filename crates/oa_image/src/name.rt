@@ -1,7 +1,7 @@
 //! The images of names of cells.
 ghost use Rattle.std.specs.Prelude.{◌≡◌, ◌≤◌, ◌+◌, ◌*◌, IfOk, length};
 ghost use Rattle.std.specs.List.{flat_map};
-ghost use Rattle.oa_layout.specs.Answers.{ReadsImage, ReadsImageBy};
+ghost use Rattle.oa_layout.specs.Answers.{ReadsImageBy};
 ghost use Rattle.oa_layout.specs.Lengths.{max_scalar_bytes};
 ghost use Rattle.oa_layout.specs.Windows.{Adds};
 ghost use Rattle.oa_layout.specs.Values.{scalar as a_scalar};
@@ -86,7 +86,7 @@ impl PutImage for NameFormat {
     }
 }
 
-// How many bytes the images of scalars have, one behind the other.
+/// How many bytes the images of scalars have, one behind the other.
 fn scalars_len(scalars: &[Scalar]) -> usize
     requires few { length scalars.now ≤ max_key_scalars }
     ensures value { result ≡ length (flat_map a_scalar.image scalars.now) }
@@ -99,7 +99,7 @@ fn scalars_len(scalars: &[Scalar]) -> usize
     len
 }
 
-// How many bytes the image of a name has.
+/// How many bytes the image of a name has.
 #[tactic(auto, unfolding(oa_layout::specs::Formats::combinators, oa_layout::specs::Numbers::numbers, crate::specs::Names::names))]
 pub(crate) fn name_len(name: &CellName) -> usize
     ensures value { result ≡ length (names.name.image name.now) }

@@ -1,40 +1,40 @@
 -- A bank is not damaged.
-use Rattle.std.proofs.Common.{◌≡◌, ◌≢◌, ◌⊎◌, ⊎_elim, ℕ, ◌+◌, ◌^◌, ◌<◌, ◌≤◌, List, [], ◌∷◌, ◌++◌, length, sym, ◌∙◌, ap, subst, arith}
+use Rattle.std.proofs.Common.{◌≡◌, ◌≢◌, ⊎_elim, ℕ, ◌+◌, ◌^◌, ◌<◌, ◌≤◌, List, [], ◌∷◌, ◌++◌, length, sym, ◌∙◌, ap, subst, arith}
 use Rattle.oa_table.specs.Tables.{TableValue}
 use Rattle.oa_layout.proofs.Exact.{one_value}
 use Rattle.oa_image.specs.Tables.{table, table_image}
 use Rattle.oa_journal.specs.declared.shape.Shape.{Shape}
-use Rattle.oa_journal.specs.Bank.{from_place, Shows, IsGroupAt, Groups, IsBank, HasHeader, HasLibrary}
+use Rattle.oa_journal.specs.Bank.{from_place, Shows, IsGroupAt, AreGroups, IsBank, HasHeader, HasLibrary}
 use Rattle.oa_journal.proofs.Banks.{bank_header, one_replay}
 use Rattle.oa_journal.proofs.LaidOut.{gate_behind}
 use Rattle.oa_journal.specs.Replays.{Replays, ReplaysAll}
 use Rattle.oa_journal.specs.Shapes.{body_bytes}
 use Rattle.oa_journal.proofs.Shapes.{body_small}
 use Rattle.oa_journal.proofs.Unique.{at_open, one_head, same_bytes}
-use Rattle.oa_journal.specs.Damages.{GroupsTo, HasSnapshot, IsDamagedBank, IsDamagedBody, IsNoGroup}
+use Rattle.oa_journal.specs.Damages.{AreGroupsTo, HasSnapshot, IsDamagedBank, IsDamagedBody, IsNoGroup}
 
 -- ---- groups up to a place
 
-pub to_behind : (byte : ℕ → ℕ) (at : ℕ) (groups : List (List ℕ)) (end : ℕ) → GroupsTo byte at groups end → at ≤ end
+pub to_behind : (byte : ℕ → ℕ) (at : ℕ) (groups : List (List ℕ)) (end : ℕ) → AreGroupsTo byte at groups end → at ≤ end
 to_behind byte at [] end all = omega (arith, all)
 to_behind byte at (group ∷ groups) end all = let rest = to_behind byte (at + (5 + length group)) groups end all.1 in omega (arith, rest)
 
-pub to_more : (byte : ℕ → ℕ) (at : ℕ) (groups : List (List ℕ)) (end : ℕ) (group : List ℕ) → GroupsTo byte at groups end
-    → IsGroupAt byte end group → GroupsTo byte at (groups ++ group ∷ []) (end + (5 + length group))
+pub to_more : (byte : ℕ → ℕ) (at : ℕ) (groups : List (List ℕ)) (end : ℕ) (group : List ℕ) → AreGroupsTo byte at groups end
+    → IsGroupAt byte end group → AreGroupsTo byte at (groups ++ group ∷ []) (end + (5 + length group))
 to_more byte at [] end group all is = (subst (λ (k : ℕ). IsGroupAt byte k group) (sym all) is, ap (λ (k : ℕ). k + (5 + length group)) all)
 to_more byte at (first ∷ groups) end group all is = (all.0, to_more byte (at + (5 + length first)) groups end group all.1 is)
 
 -- at a gate that is not open they end
-pub to_closed : (byte : ℕ → ℕ) (at : ℕ) (groups : List (List ℕ)) (end : ℕ) → GroupsTo byte at groups end → byte end ≢ 1
-    → Groups byte at groups end
+pub to_closed : (byte : ℕ → ℕ) (at : ℕ) (groups : List (List ℕ)) (end : ℕ) → AreGroupsTo byte at groups end → byte end ≢ 1
+    → AreGroups byte at groups end
 to_closed byte at [] end all shut = (all, λ is. shut (ap byte (sym all) ∙ is))
 to_closed byte at (group ∷ groups) end all shut = (all.0, to_closed byte (at + (5 + length group)) groups end all.1 shut)
 
 -- where groups stop, no groups make a table
 pub none_beyond : (size : ℕ) (byte : ℕ → ℕ) (from : ℕ) (before : List (List ℕ)) (place : ℕ) (first mid : TableValue) → size < 2 ^ 32
-    → GroupsTo byte from before place
+    → AreGroupsTo byte from before place
     → ReplaysAll before first mid → place < size → IsNoGroup size byte place mid
-    → (groups : List (List ℕ)) (now : TableValue) (gate : ℕ) → Groups byte from groups gate → ReplaysAll groups first now
+    → (groups : List (List ℕ)) (now : TableValue) (gate : ℕ) → AreGroups byte from groups gate → ReplaysAll groups first now
     → gate < size → ⊥
 none_beyond size byte from [] place first mid small there makes here stops [] now gate all made inside = all.1 (ap byte there ∙ stops.opened)
 none_beyond size byte from [] place first mid small there makes here stops (group ∷ groups) now gate all made inside =
@@ -104,7 +104,7 @@ not_damaged shape head body place library now gate damaged bank = ⊎_elim
     let first = bank_first shape head body library now gate rest.0 rest.1 rest.2 rest.3 bank in
     let at : length library + length (table_image bank.first) ≡ rest.0 + rest.1 = omega (arith, long.0, long.1) in
     none_beyond (body_bytes shape) body (rest.0 + rest.1) rest.4.groups place rest.2 rest.4.now (omega (arith, body_small shape bank.known)) rest.4.there rest.4.makes rest.4.inside rest.4.stops
-    bank.groups now gate (subst (λ (k : ℕ). Groups body k bank.groups gate) at bank.parts.behind)
+    bank.groups now gate (subst (λ (k : ℕ). AreGroups body k bank.groups gate) at bank.parts.behind)
     (subst (λ (t : TableValue). ReplaysAll bank.groups t now) first bank.makes) bank.parts.inside)
     damaged
 

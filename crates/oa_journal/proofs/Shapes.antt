@@ -3,13 +3,13 @@ use Rattle.std.proofs.Common.{◌≡◌, ◌==◌, ◌≤◌, refl, ap, arith}
 use Rattle.std.proofs.lemmas.Bool.{cond_both, eqb-true}
 use Rattle.oa_journal.specs.declared.shape.Shape.{Shape}
 use Rattle.oa_journal.specs.declared.shape.Shape.TheVariants.{One, Two}
-use Rattle.oa_journal.specs.Shapes.{IsShape, body_bytes, format_of, shape_of, told_size}
+use Rattle.oa_journal.specs.Shapes.{IsShape, body_bytes, format_of, most_bank_bytes, shape_of, told_size}
 
-pub body_small : (shape : Shape) → IsShape shape → body_bytes shape ≤ 1073741824
+pub body_small : (shape : Shape) → IsShape shape → body_bytes shape ≤ most_bank_bytes
 body_small One is = omega arith
 body_small (Two size) is = is.1
 
-pub told_small : (shape : Shape) → IsShape shape → told_size shape ≤ 1073741824
+pub told_small : (shape : Shape) → IsShape shape → told_size shape ≤ most_bank_bytes
 told_small One is = omega arith
 told_small (Two size) is = is.1
 

@@ -1,4 +1,4 @@
--- What the calls of a bank that stands on a disk answer.
+-- What the calls of a bank that stands on a disk answer. (This project's choice.)
 use Rattle.std.specs.Prelude.{◌≡◌, ◌↔◌, ℕ, ◌+◌, ◌≤◌, ◌<◌, IsTrue, true, false, List, length, Result, OnOk, OnErr, IfErr, IsErrOf}
 use Rattle.oa_disk.specs.Disk.{LeavesStep}
 use Rattle.oa_disk.specs.declared.disk.DeviceFault.{DeviceFault}

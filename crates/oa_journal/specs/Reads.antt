@@ -1,4 +1,4 @@
--- A run of calls that writes nothing.
+-- A run of calls that writes nothing. (This project's choice.)
 use Rattle.std.proofs.Common.{◌≡◌, ℕ, List, refl, ◌∙◌}
 use Rattle.oa_disk.specs.Disk.{Elapses, LeavesOnly, Stays}
 use Rattle.oa_disk.specs.Moments.{started, goes_on, chained}

@@ -1,4 +1,4 @@
--- What the bytes of groups make of a table.
+-- What the bytes of groups make of a table. (This project's choice.)
 use Rattle.std.specs.Prelude.{◌≡◌, ℕ, List, [], ◌∷◌, Result, Ok, Err}
 use Rattle.oa_table.specs.declared.event.Event.{Event}
 use Rattle.oa_table.specs.declared.fault.TableFault.{TableFault}

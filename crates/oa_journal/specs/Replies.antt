@@ -1,5 +1,5 @@
--- What is answered of groups of events.
-use Rattle.std.specs.Prelude.{◌≡◌, ℕ, ◌+◌, List, Result, Ok, Err, ⊤}
+-- What is answered of groups of events. (This project's choice.)
+use Rattle.std.specs.Prelude.{◌≡◌, ℕ, List, Result, Ok, Err, ⊤}
 use Rattle.oa_disk.specs.Disk.{HasCounted}
 use Rattle.oa_layout.specs.declared.fault.ImageFault.{ImageFault}
 use Rattle.oa_layout.specs.declared.fault.ImageFault.TheVariants as images

@@ -12,12 +12,12 @@ ghost use Rattle.oa_journal.specs.Shapes.{body_bytes, shape_of, IsShape};
 
 use crate::Shape;
 use crate::batch::{append_group, lay_out};
-use crate::layout::{Front, header_bytes};
+use crate::layout::{BodyBytes, header_bytes};
 use crate::reading::{bank_at, library_at};
 use oa_disk::{DeviceFault, Disk};
 use oa_image::laws::is_table;
 use oa_table::Table;
-use std::alloc::{AllocError, AllocFailed, Global};
+use std::alloc::{AllocError, Global};
 use thiserror::Error;
 
 /// Why a group was not added.
@@ -58,16 +58,6 @@ impl From<AllocError> for BankFault {
     }
 }
 
-impl<T: Drop> From<AllocFailed<T>> for BankFault {
-    ghost use Rattle.oa_journal.specs.declared.bank.BankFault.TheVariants.{Memory};
-
-    ghost from_gives = { λ _ e. e ≡ Memory };
-
-    fn from(_: AllocFailed<T>) -> BankFault {
-        BankFault::Memory
-    }
-}
-
 impl From<DeviceFault> for BankFault {
     ghost use Rattle.oa_journal.specs.declared.bank.BankFault.TheVariants.{Device};
 
@@ -100,8 +90,8 @@ impl Bank {
     ghost use Rattle.oa_journal.specs.Append.{group_of, IsAt, IsWithOrWithout, IsWith};
     ghost use Rattle.oa_journal.specs.BankCalls.{LiesWithin, MovesGate, ReadsBank, RefusesBank, RefusesGroup, WritesBank};
 
-    /// The bank whose head and whose body, of so many bytes, stand at these places of a disk; in format 1, which is read alone, the body
-    /// has 16,777,184. Until it is written or read, its room is 1: no group fits.
+    /// The bank whose head and whose body, of so many bytes, stand at these places of a disk; in format 1, which is only read
+    /// (inspected or upgraded, never opened), the body has 16,777,184. Until it is written or read, its room is 1: no group fits.
     pub fn at(head: u64, body: u64, size: u32) -> Bank
         requires known { IsShape (shape_of size) }
         requires on_a_disk { head + 32 < 2 ^ 63 }
@@ -157,10 +147,10 @@ impl Bank {
     {
         is_table(table);
         let header = header_bytes(self.shape, library.len() as u32, table.image_size() as u32);
-        let mut front = Front::new(library, table);
+        let mut bytes = BodyBytes::new(library, table);
         let size = self.shape.body_bytes();
         match lay_out(
-            disk, self.head, &header, self.body, buffer, &mut front, size,
+            disk, self.head, &header, self.body, buffer, &mut bytes, size,
         ) {
             Ok(count) => {
                 self.gate = (count - 1) as u32;

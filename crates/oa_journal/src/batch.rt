@@ -1,5 +1,5 @@
 //! A group behind a closed gate, which is opened once the group is on the device.
-ghost use Rattle.std.specs.Prelude.{◌≡◌, ◌+◌, ◌*◌, ◌^◌, ◌<◌, ◌≤◌, List, ℕ, IsTrue, length, OnOk, IfOk, IfErr};
+ghost use Rattle.std.specs.Prelude.{◌≡◌, ◌+◌, ◌*◌, ◌^◌, ◌<◌, ◌≤◌, IsTrue, length, OnOk, IfOk, IfErr};
 ghost use Rattle.std.specs.Int.{div_ceil};
 ghost use Rattle.oa_disk.specs.After.{AfterWrites};
 ghost use Rattle.oa_disk.specs.Disk.{HasBytesAt, LeavesStep, Follows, CountsFailures};
@@ -8,7 +8,7 @@ ghost use Rattle.oa_disk.specs.declared.disk.DeviceFault.{DeviceFault};
 ghost use Rattle.oa_journal.specs.Append.{group_of, sealed, TornBank};
 ghost use Rattle.oa_journal.specs.Bank.{Apart};
 
-use crate::layout::Front;
+use crate::layout::BodyBytes;
 use oa_disk::{DeviceFault, Disk, write_then_flip};
 
 /// Fills the free bytes of a batch: four before the group, for its length, and one behind it, for the next gate.
@@ -55,7 +55,7 @@ pub(crate) fn lay_out<D: Disk>(
     header: &[u8],
     body: u64,
     buffer: &mut [u8],
-    bytes: &mut Front<'_>,
+    bytes: &mut BodyBytes<'_>,
     size: u32,
 ) -> Result<u64, DeviceFault>
     requires short { length header.now ≡ 32 }

@@ -39,8 +39,5 @@ pub(crate) fn replay(alloc: Global, table: &mut Table, group: &[u8]) -> Result<(
     ensures { IsReplay group.now table.old table.new result }
 {
     let events = read_events(alloc, group)?;
-    match apply_all(table, events) {
-        Ok(()) => Ok(()),
-        Err(fault) => Err(of_change(fault, group.len())),
-    }
+    apply_all(table, events).map_err(|fault| of_change(fault, group.len()))
 }

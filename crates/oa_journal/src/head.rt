@@ -1,5 +1,5 @@
 //! The head of a bank.
-ghost use Rattle.std.specs.Prelude.{◌≡◌, ◌↔◌, ◌+◌, ◌^◌, ◌<◌, ◌≤◌, ℕ, List, IsTrue, length, take, drop, slice_index, OnOk, IfOk, IfErr, IsErr, IsErrOf};
+ghost use Rattle.std.specs.Prelude.{◌≡◌, ◌↔◌, ◌+◌, ◌<◌, ◌≤◌, ℕ, IsTrue, length, slice_index, IfOk, IfErr, IsErr, IsErrOf};
 ghost use Rattle.oa_disk.specs.After.{AfterCalls};
 ghost use Rattle.oa_disk.specs.declared.disk.DeviceFault.{DeviceFault};
 ghost use Rattle.oa_journal.specs.BankCalls.{FindsHead, RefusesHead};
@@ -12,14 +12,17 @@ ghost use Rattle.oa_journal.specs.Replies.{IsCaused};
 ghost use Rattle.oa_journal.specs.Shapes.{body_bytes, format_of, told_size, IsShape};
 
 use crate::layout::head_bytes;
-use crate::{BankFault, Shape};
+use crate::{BankFault, LEAST_BANK_BYTES, MOST_BANK_BYTES, Shape};
 use oa_disk::Disk;
 
 /// What the head of a bank tells: its format with the body's size, and how long the library and the snapshot in the body are.
 #[derive(Clone, Copy, Debug, PartialEq, Eq)]
 pub struct Head {
+    /// The format, with the body's size in bytes.
     pub shape: Shape,
+    /// How many bytes the library has.
     pub library: u32,
+    /// How many bytes the snapshot has.
     pub snapshot: u32,
 }
 
@@ -41,7 +44,7 @@ fn told_shape(format: u8, size: u32) -> Result<Shape, NotThere>
     if format == 1 && size == 0 {
         return Ok(Shape::One);
     }
-    if format == 2 && size >= 20_971_520 && size <= 1_073_741_824 {
+    if format == 2 && size >= LEAST_BANK_BYTES && size <= MOST_BANK_BYTES {
         return Ok(Shape::Two(size));
     }
     Err(NotThere)

@@ -7,6 +7,7 @@
 //! What stands on it: oa_store; the crates above it, for the size of a bank and what one holds.
 #![tactic(auto)]
 
+mod ahead;
 mod bank;
 mod batch;
 mod groups;
@@ -15,8 +16,10 @@ pub mod laws;
 mod layout;
 mod reading;
 mod shape;
-mod window;
 
 pub use bank::{AppendFault, Bank, BankFault};
 pub use head::{Head, read_head};
-pub use shape::{AMPLE_BYTES, DEFAULT_BANK_BYTES, FORMAT_ONE_BYTES, Shape};
+pub use shape::{
+    AMPLE_BYTES, DEFAULT_BANK_BYTES, FORMAT_ONE_BODY_BYTES, FORMAT_ONE_BYTES, LEAST_BANK_BYTES,
+    MOST_BANK_BYTES, Shape,
+};

@@ -5,18 +5,18 @@ ghost use Rattle.oa_disk.specs.After.{AfterCalls};
 ghost use Rattle.oa_disk.specs.Disk.{HasBytesAt};
 ghost use Rattle.oa_disk.specs.declared.disk.DeviceFault.{DeviceFault};
 ghost use Rattle.oa_image.specs.Tables.{is_numbered};
-ghost use Rattle.oa_table.specs.Tables.{TableValue, unlocked_table};
+ghost use Rattle.oa_table.specs.Tables.{unlocked_table};
 ghost use Rattle.oa_journal.specs.declared.bank.BankFault.{BankFault};
-ghost use Rattle.oa_journal.specs.Bank.{from_place, Groups, IsGroupAt, IsBank, HasHeader, HasLibrary};
-ghost use Rattle.oa_journal.specs.Damages.{HasNoHeader, HasSnapshot, IsDamagedSnapshot, IsDamagedBank, IsNoGroup, StopsAt};
+ghost use Rattle.oa_journal.specs.Bank.{from_place, AreGroups, IsGroupAt, IsBank, HasHeader, HasLibrary};
+ghost use Rattle.oa_journal.specs.Damages.{HasNoHeader, HasSnapshot, IsDamagedBank, IsNoGroup, StopsAt};
 ghost use Rattle.oa_journal.specs.Reads.{OnlyReads};
 ghost use Rattle.oa_journal.specs.Replays.{Replays, ReplaysAll};
 ghost use Rattle.oa_journal.specs.Replies.{IsCaused};
 ghost use Rattle.oa_journal.specs.Shapes.{body_bytes, IsShape};
 
+use crate::ahead::DiskAhead;
 use crate::groups::replay;
 use crate::head::{Head, head_at};
-use crate::window::Window;
 use crate::{BankFault, Shape};
 use oa_disk::Disk;
 use oa_image::{ImageFault, read_table};
@@ -72,56 +72,61 @@ fn opens(gate: u8) -> bool
 }
 
 /// Whether the gate at that place of a disk is open.
-fn is_open<D: Disk>(disk: &mut D, window: &mut Window, end: u64, at: u64) -> Result<bool, BankFault>
+fn is_open<D: Disk>(
+    disk: &mut D,
+    ahead: &mut DiskAhead,
+    end: u64,
+    at: u64,
+) -> Result<bool, BankFault>
     requires inside { at < end }
     requires on_the_disk { end ≤ D.size_of disk.old }
-    requires shown { IsTrue (D.is_honest disk.old) → HasBytesAt (D.contents disk.old) window.old.from (take window.old.len window.old.buffer.items) }
+    requires shown { IsTrue (D.is_honest disk.old) → HasBytesAt (D.contents disk.old) ahead.old.from (take ahead.old.len ahead.old.buffer.items) }
 
     ensures opened { IfOk result (λ opened. IsTrue (D.is_honest disk.new) → IsTrue opened ↔ (slice_index (D.contents disk.old) at ≡ 1)) }
-    ensures shown { IsTrue (D.is_honest disk.new) → HasBytesAt (D.contents disk.old) window.new.from (take window.new.len window.new.buffer.items) }
+    ensures shown { IsTrue (D.is_honest disk.new) → HasBytesAt (D.contents disk.old) ahead.new.from (take ahead.new.len ahead.new.buffer.items) }
     ensures damaged { (place : ℕ) → IsErrOf result (BankFault.Damaged place) → ⊥ }
     ensures device { (fault : DeviceFault) → IsErrOf result (BankFault.Device fault) → fault ≡ DeviceFault.Read }
 
     ensures reads { IsTrue (D.is_honest disk.new) → OnlyReads D.contents D.image D.moment D.image_since disk.old disk.new }
     ensures after { AfterCalls D.Disk disk.old disk.new result }
     ensures cause { IfErr result (IsCaused (D.failures_of disk.old) (D.failures_of disk.new)) }
-    ensures kept { length window.new.buffer.items ≡ length window.old.buffer.items }
+    ensures kept { length ahead.new.buffer.items ≡ length ahead.old.buffer.items }
     ensures calls { IsTrue (D.is_honest disk.new) → D.moment disk.new ≤ D.moment disk.old + 2 }
 {
-    window.cover(disk, end, at, 1)?;
-    Ok(opens(window.seen(at, 1)[0]))
+    ahead.cover(disk, end, at, 1)?;
+    Ok(opens(ahead.seen(at, 1)[0]))
 }
 
-/// So many bytes of a disk from that place on, by the window where its buffer takes them.
+/// So many bytes of a disk from that place on, read ahead where the buffer takes them.
 fn group_bytes<D: Disk>(
     alloc: Global,
     disk: &mut D,
-    window: &mut Window,
+    ahead: &mut DiskAhead,
     end: u64,
     at: u64,
     count: usize,
 ) -> Result<Vec<u8>, BankFault>
     requires inside { at + count ≤ end }
     requires on_the_disk { end ≤ D.size_of disk.old }
-    requires shown { IsTrue (D.is_honest disk.old) → HasBytesAt (D.contents disk.old) window.old.from (take window.old.len window.old.buffer.items) }
+    requires shown { IsTrue (D.is_honest disk.old) → HasBytesAt (D.contents disk.old) ahead.old.from (take ahead.old.len ahead.old.buffer.items) }
 
     ensures bytes { IfOk result (λ bytes. IsTrue (D.is_honest disk.new) → HasBytesAt (D.contents disk.old) at bytes.items) }
     ensures len { IfOk result (λ bytes. length bytes.items ≡ count) }
-    ensures shown { IsTrue (D.is_honest disk.new) → HasBytesAt (D.contents disk.old) window.new.from (take window.new.len window.new.buffer.items) }
+    ensures shown { IsTrue (D.is_honest disk.new) → HasBytesAt (D.contents disk.old) ahead.new.from (take ahead.new.len ahead.new.buffer.items) }
     ensures damaged { (place : ℕ) → IsErrOf result (BankFault.Damaged place) → ⊥ }
     ensures device { (fault : DeviceFault) → IsErrOf result (BankFault.Device fault) → fault ≡ DeviceFault.Read }
 
     ensures reads { IsTrue (D.is_honest disk.new) → OnlyReads D.contents D.image D.moment D.image_since disk.old disk.new }
     ensures after { AfterCalls D.Disk disk.old disk.new result }
     ensures cause { IfErr result (IsCaused (D.failures_of disk.old) (D.failures_of disk.new)) }
-    ensures kept { length window.new.buffer.items ≡ length window.old.buffer.items }
+    ensures kept { length ahead.new.buffer.items ≡ length ahead.old.buffer.items }
     ensures calls { IsTrue (D.is_honest disk.new) → D.moment disk.new ≤ D.moment disk.old + 2 }
 {
-    if !window.takes(count) {
+    if !ahead.takes(count) {
         return read_part(alloc, disk, at, count);
     }
-    window.cover(disk, end, at, count)?;
-    Ok(copied(alloc, window.seen(at, count))?)
+    ahead.cover(disk, end, at, count)?;
+    Ok(copied(alloc, ahead.seen(at, count))?)
 }
 
 fn is_same(one: Shape, other: Shape) -> bool
@@ -228,7 +233,7 @@ fn first_at<D: Disk>(
 fn group_at<D: Disk>(
     alloc: Global,
     disk: &mut D,
-    window: &mut Window,
+    ahead: &mut DiskAhead,
     body: u64,
     size: u32,
     at: u32,
@@ -236,13 +241,13 @@ fn group_at<D: Disk>(
     requires inside { at < size }
     requires body_inside { body + size ≤ D.size_of disk.old }
     requires on_a_disk { body + size < 2 ^ 63 }
-    requires shown { IsTrue (D.is_honest disk.old) → HasBytesAt (D.contents disk.old) window.old.from (take window.old.len window.old.buffer.items) }
+    requires shown { IsTrue (D.is_honest disk.old) → HasBytesAt (D.contents disk.old) ahead.old.from (take ahead.old.len ahead.old.buffer.items) }
 
     ensures found { IfOk result (λ group. IsTrue (D.is_honest disk.new) → slice_index (D.contents disk.old) (body + at) ≡ 1
         → IsGroupAt (from_place body (D.contents disk.old)) at group.items) }
     ensures inside { IfOk result (λ group. at + (5 + length group.items) < size) }
     ensures some { IfOk result (λ group. 0 < length group.items) }
-    ensures shown { IsTrue (D.is_honest disk.new) → HasBytesAt (D.contents disk.old) window.new.from (take window.new.len window.new.buffer.items) }
+    ensures shown { IsTrue (D.is_honest disk.new) → HasBytesAt (D.contents disk.old) ahead.new.from (take ahead.new.len ahead.new.buffer.items) }
     ensures damaged { (place : ℕ) → IsErrOf result (BankFault.Damaged place)
         → (place ≡ body + at) × (IsTrue (D.is_honest disk.new) → (group : List ℕ)
         → IsGroupAt (from_place body (D.contents disk.old)) at group
@@ -252,7 +257,7 @@ fn group_at<D: Disk>(
     ensures reads { IsTrue (D.is_honest disk.new) → OnlyReads D.contents D.image D.moment D.image_since disk.old disk.new }
     ensures after { AfterCalls D.Disk disk.old disk.new result }
     ensures cause { IfErr result (IsCaused (D.failures_of disk.old) (D.failures_of disk.new)) }
-    ensures kept { length window.new.buffer.items ≡ length window.old.buffer.items }
+    ensures kept { length ahead.new.buffer.items ≡ length ahead.old.buffer.items }
     ensures calls { IsTrue (D.is_honest disk.new) → D.moment disk.new ≤ D.moment disk.old + 4 }
 {
     let room = size - at;
@@ -261,22 +266,22 @@ fn group_at<D: Disk>(
         return Err(BankFault::Damaged(gate));
     }
     let end = body + u64::from(size);
-    window.cover(disk, end, gate, 5)?;
-    let count = number(window.seen(gate + 1, 4));
+    ahead.cover(disk, end, gate, 5)?;
+    let count = number(ahead.seen(gate + 1, 4));
     if count == 0 {
         return Err(BankFault::Damaged(gate));
     }
     if room - 5 <= count {
         return Err(BankFault::Damaged(gate));
     }
-    group_bytes(alloc, disk, window, end, gate + 5, count as usize)
+    group_bytes(alloc, disk, ahead, end, gate + 5, count as usize)
 }
 
 /// Applies the group behind the open gate at that place, and answers the place of the next gate.
 fn read_group<D: Disk>(
     alloc: Global,
     disk: &mut D,
-    window: &mut Window,
+    ahead: &mut DiskAhead,
     body: u64,
     size: u32,
     at: u32,
@@ -286,7 +291,7 @@ fn read_group<D: Disk>(
     requires body_inside { body + size ≤ D.size_of disk.old }
     requires on_a_disk { body + size < 2 ^ 63 }
     requires small { size < 2 ^ 32 }
-    requires shown { IsTrue (D.is_honest disk.old) → HasBytesAt (D.contents disk.old) window.old.from (take window.old.len window.old.buffer.items) }
+    requires shown { IsTrue (D.is_honest disk.old) → HasBytesAt (D.contents disk.old) ahead.old.from (take ahead.old.len ahead.old.buffer.items) }
 
     ensures found { IfOk result (λ next. IsTrue (D.is_honest disk.new) → slice_index (D.contents disk.old) (body + at) ≡ 1
         → (group : List ℕ) × IsGroupAt (from_place body (D.contents disk.old)) at group × Replays group table.old table.new
@@ -295,7 +300,7 @@ fn read_group<D: Disk>(
     ensures unlocked { OnOk result (unlocked_table table.old ≡ table.old → unlocked_table table.new ≡ table.new) }
     ensures inside { IfOk result (λ next. next < size) }
     ensures nearer { IfOk result (λ next. at + 6 ≤ next) }
-    ensures shown { IsTrue (D.is_honest disk.new) → HasBytesAt (D.contents disk.old) window.new.from (take window.new.len window.new.buffer.items) }
+    ensures shown { IsTrue (D.is_honest disk.new) → HasBytesAt (D.contents disk.old) ahead.new.from (take ahead.new.len ahead.new.buffer.items) }
     ensures damaged { (place : ℕ) → IsErrOf result (BankFault.Damaged place)
         → (place ≡ body + at) × (IsTrue (D.is_honest disk.new) → slice_index (D.contents disk.old) (body + at) ≡ 1
         → IsNoGroup size (from_place body (D.contents disk.old)) at table.old) }
@@ -304,10 +309,10 @@ fn read_group<D: Disk>(
     ensures reads { IsTrue (D.is_honest disk.new) → OnlyReads D.contents D.image D.moment D.image_since disk.old disk.new }
     ensures after { AfterCalls D.Disk disk.old disk.new result }
     ensures cause { IfErr result (IsCaused (D.failures_of disk.old) (D.failures_of disk.new)) }
-    ensures kept { length window.new.buffer.items ≡ length window.old.buffer.items }
+    ensures kept { length ahead.new.buffer.items ≡ length ahead.old.buffer.items }
     ensures calls { IsTrue (D.is_honest disk.new) → D.moment disk.new ≤ D.moment disk.old + 4 }
 {
-    let group = group_at(alloc, disk, window, body, size, at)?;
+    let group = group_at(alloc, disk, ahead, body, size, at)?;
     match replay(alloc, table, &group) {
         Ok(()) => Ok(at + 5 + group.len() as u32),
         Err(ImageFault::Damaged(_)) => Err(BankFault::Damaged(body + u64::from(at))),
@@ -334,7 +339,7 @@ fn read_groups<D: Disk>(
     requires some { 5 ≤ length buffer.items }
 
     ensures found { IfOk result (λ r. IsTrue (D.is_honest disk.new)
-        → (groups : List (List ℕ)) × Groups (from_place body (D.contents disk.old)) from groups r.1 × ReplaysAll groups first r.0) }
+        → (groups : List (List ℕ)) × AreGroups (from_place body (D.contents disk.old)) from groups r.1 × ReplaysAll groups first r.0) }
     ensures numbered { IfOk result (λ r. is_numbered r.0 ≡ true) }
     ensures unlocked { IfOk result (λ r. unlocked_table r.0 ≡ r.0) }
     ensures inside { IfOk result (λ r. r.1 < size) }
@@ -350,15 +355,15 @@ fn read_groups<D: Disk>(
     ensures calls { IfOk result (λ r. IsTrue (D.is_honest disk.new) → D.moment disk.new + from ≤ D.moment disk.old + (2 + r.1)) }
 {
     let end = body + u64::from(size);
-    let mut window = Window::over(buffer);
+    let mut ahead = DiskAhead::over(buffer);
     let mut at = from;
     let mut table = first;
-    let mut opened = is_open(disk, &mut window, end, body + u64::from(at))?;
+    let mut opened = is_open(disk, &mut ahead, end, body + u64::from(at))?;
     'groups: while opened {
-        at = read_group(alloc, disk, &mut window, body, size, at, &mut table)?;
-        opened = is_open(disk, &mut window, end, body + u64::from(at))?;
+        at = read_group(alloc, disk, &mut ahead, body, size, at, &mut table)?;
+        opened = is_open(disk, &mut ahead, end, body + u64::from(at))?;
     }
-    Ok((table, at, window.into_buffer()))
+    Ok((table, at, ahead.into_buffer()))
 }
 
 /// The library and the table of the bank whose head and body stand at these places of a disk, and where in the body its closed gate

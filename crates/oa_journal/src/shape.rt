@@ -1,14 +1,24 @@
 //! The two formats of a bank.
 ghost use Rattle.oa_journal.specs.Shapes.{body_bytes, disk_bytes, shape_of};
 
+use oa_model::{GROUP_BYTES, MAX_EVENT_BYTES};
+
+/// The fewest bytes that a bank's body of format 2 has.
+pub const LEAST_BANK_BYTES: u32 = 20_971_520;
+/// The most bytes that a bank's body of format 2 has.
+pub const MOST_BANK_BYTES: u32 = 1_073_741_824;
 /// The bytes of a bank's body that a new store has where nobody says another number.
-pub const DEFAULT_BANK_BYTES: u32 = 20_971_520;
-/// How many bytes a bank's body has from its closed gate on where no checkpoint is due.
-pub const AMPLE_BYTES: u32 = 4_718_597;
+pub const DEFAULT_BANK_BYTES: u32 = LEAST_BANK_BYTES;
+/// How many bytes a bank's body has from its closed gate on where no checkpoint is due: a gate and a length stand before the events of the
+/// greatest group, which have fewer bytes than `GROUP_BYTES` and one event more.
+pub const AMPLE_BYTES: u32 = MAX_EVENT_BYTES as u32 + GROUP_BYTES as u32 + 5;
+
+/// How many bytes the body of format 1 has.
+pub const FORMAT_ONE_BODY_BYTES: u32 = 16_777_184;
 
 /// How many bytes of a disk format 1 takes: those before its banks, and two banks, each of a head and a body. The bodies of format 2 stand
 /// behind all that.
-pub const FORMAT_ONE_BYTES: u64 = 8_192 + 2 * (32 + 16_777_184);
+pub const FORMAT_ONE_BYTES: u64 = 8_192 + 2 * (32 + FORMAT_ONE_BODY_BYTES as u64);
 
 /// The format of a bank. In each of them 32 bytes, the head, say how long the parts of the body are; the body stands elsewhere or right
 /// behind the head.
@@ -27,7 +37,7 @@ impl Shape {
     pub fn of(size: u32) -> Shape
         ensures { result ≡ shape_of size }
     {
-        if size == 16_777_184 {
+        if size == FORMAT_ONE_BODY_BYTES {
             Shape::One
         } else {
             Shape::Two(size)
@@ -39,7 +49,7 @@ impl Shape {
         ensures { result ≡ body_bytes self }
     {
         match self {
-            Shape::One => 16_777_184,
+            Shape::One => FORMAT_ONE_BODY_BYTES,
             Shape::Two(size) => size,
         }
     }

@@ -1,4 +1,4 @@
--- What stands while events are held, and when they are committed.
+-- What stands while events are held, and when they are committed. (This project's choice.)
 use Rattle.std.specs.Prelude.{◌≡◌, ℕ, ◌+◌, ◌-◌, ◌<◌, ◌≤◌, true, false, IsTrue, List, length, Result, IsOk, IsErrOf, OnOk, OnErr}
 use Rattle.oa_disk.specs.Disk.{HasCounted}
 use Rattle.oa_disk.specs.declared.disk.Disk.{Ghosts}

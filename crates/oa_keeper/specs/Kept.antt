@@ -1,4 +1,4 @@
--- What a disk holds of a table that a store keeps: a store of its library, and of all of the table but its locks.
+-- What a disk holds of a table that a store keeps: a store of its library, and of all of the table but its locks. (This project's choice.)
 use Rattle.std.specs.Prelude.{◌⊎◌, ℕ, ◌-◌, ◌<◌, ◌≤◌, IsTrue, List, length}
 use Rattle.oa_disk.specs.declared.disk.Disk.{Ghosts}
 use Rattle.oa_disk.specs.Disk.{LeavesOnly}

@@ -6,9 +6,9 @@ ghost use Rattle.oa_keeper.specs.Holding.{CallsForGroup, CanBeKept, Carries, Com
 ghost use Rattle.oa_store.specs.Writing.{Goes};
 ghost use Rattle.oa_table.specs.Tables.{unlocked_table};
 
-use crate::{Batch, Broken, KeepFault};
+use crate::{Batch, DeviceFailed, KeepFault};
 use oa_disk::Disk;
-use oa_store::{CheckpointFault, Store};
+use oa_store::Store;
 use oa_table::Table;
 
 /// Makes room for the events of a group before the first of them: a checkpoint of the table, where one is due. Where events are in hand
@@ -38,7 +38,7 @@ pub fn make_room<D: Disk>(
 
 /// Ends a group: its events go out under one gate, with two writes and two syncs. A group without events makes no call of the device.
 /// Afterwards the batch has none, and keeps its memory. Takes none.
-pub fn commit<D: Disk>(store: &mut Store<D>, batch: &mut Batch) -> Result<(), Broken>
+pub fn commit<D: Disk>(store: &mut Store<D>, batch: &mut Batch) -> Result<(), DeviceFailed>
     requires open { IsOpenFor batch.old store.old }
     requires few { length batch.old + 6 ≤ ample_bytes }
 
@@ -52,7 +52,7 @@ pub fn commit<D: Disk>(store: &mut Store<D>, batch: &mut Batch) -> Result<(), Br
 }
 
 /// The same of a batch's bytes.
-fn commit_bytes<D: Disk>(store: &mut Store<D>, bytes: &mut Vec<u8>) -> Result<(), Broken>
+fn commit_bytes<D: Disk>(store: &mut Store<D>, bytes: &mut Vec<u8>) -> Result<(), DeviceFailed>
     requires open { IsOpenFor (group_of bytes.old.items) store.old }
     requires len { (length bytes.old.items ≡ 0) ⊎ (5 ≤ length bytes.old.items) }
     requires few { length bytes.old.items + 1 ≤ ample_bytes }
@@ -72,7 +72,7 @@ fn commit_bytes<D: Disk>(store: &mut Store<D>, bytes: &mut Vec<u8>) -> Result<()
         Ok(()) => bytes.clear(),
         Err(_) => {
             bytes.clear();
-            return Err(Broken);
+            return Err(DeviceFailed);
         }
     }
     Ok(())

@@ -1,7 +1,7 @@
 //! Why a change was not made, or a group not committed.
 ghost use Rattle.std.specs.Prelude.{◌≡◌};
 
-use std::alloc::{AllocError, AllocFailed};
+use std::alloc::AllocError;
 use thiserror::Error;
 
 /// Why a change was not made. The table and the events in hand are as they were.
@@ -18,7 +18,7 @@ pub enum KeepFault {
 /// A call of the device failed, and the store has stopped.
 #[derive(Clone, Copy, Debug, PartialEq, Eq, Error)]
 #[error("the device has failed")]
-pub struct Broken;
+pub struct DeviceFailed;
 
 impl From<AllocError> for KeepFault {
     ghost use Rattle.oa_keeper.specs.declared.fault.KeepFault.TheVariants.{Memory};
@@ -26,16 +26,6 @@ impl From<AllocError> for KeepFault {
     ghost from_gives = { λ _ e. e ≡ Memory };
 
     fn from(_: AllocError) -> KeepFault {
-        KeepFault::Memory
-    }
-}
-
-impl<T: Drop> From<AllocFailed<T>> for KeepFault {
-    ghost use Rattle.oa_keeper.specs.declared.fault.KeepFault.TheVariants.{Memory};
-
-    ghost from_gives = { λ _ e. e ≡ Memory };
-
-    fn from(_: AllocFailed<T>) -> KeepFault {
         KeepFault::Memory
     }
 }

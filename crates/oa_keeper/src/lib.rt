@@ -13,4 +13,4 @@ mod fault;
 
 pub use batch::Batch;
 pub use committing::{commit, make_room};
-pub use fault::{Broken, KeepFault};
+pub use fault::{DeviceFailed, KeepFault};

@@ -59,7 +59,7 @@ fn read_cell(alloc: Global, elem: VarType, r: &mut Ndr<'_>) -> Result<Scalar, Re
     }
 }
 
-// Cells to be filled.
+/// Cells to be filled.
 fn blank(alloc: Global, count: usize) -> Result<Cells<Scalar>, AllocError>
     ensures { IfOk result (λ cells. length cells ≡ count) }
 {
@@ -89,7 +89,7 @@ fn read_cells(
     Ok(cells)
 }
 
-// The bounds, and how many cells they make.
+/// The bounds, and how many cells they make.
 #[tactic(auto, unfolding(crate::specs::Formats::combinators, crate::specs::Arrays::bounds_of), using(crate::specs::Arrays::shape_here, crate::proofs::Loops::shape_not))]
 fn read_bounds(
     alloc: Global,
@@ -107,7 +107,7 @@ fn read_bounds(
     }
 }
 
-// What stands behind the number of the type.
+/// What stands behind the number of the type.
 #[tactic(auto, unfolding(crate::specs::Formats::combinators, crate::specs::Arrays::array_of), using(crate::proofs::Loops::all_fit))]
 pub(crate) fn read_array(
     alloc: Global,
@@ -141,7 +141,7 @@ fn put_cells(elem: VarType, cells: &[Scalar], w: &mut Window, out: &mut [u8])
     }
 }
 
-// What stands behind the number of the type.
+/// What stands behind the number of the type.
 #[tactic(auto, unfolding(crate::specs::Formats::combinators, crate::specs::Arrays::bounds_of, crate::specs::Arrays::array_of), using(crate::specs::Windows::added_added))]
 pub(crate) fn put_array(a: &SafeArray<Scalar>, w: &mut Window, out: &mut [u8])
     ensures { Adds ((arrays.array_of a.now.elem).image a.now) w.old w.new out.old out.new }
@@ -201,7 +201,7 @@ fn cells_len(elem: VarType, cells: &[Scalar]) -> usize
     len
 }
 
-// The bytes behind the number of the type.
+/// The bytes behind the number of the type.
 #[tactic(auto, unfolding(crate::specs::Formats::combinators, crate::specs::Numbers::u16, crate::specs::Arrays::bounds_of, crate::specs::Arrays::array_of))]
 pub(crate) fn array_len(a: &SafeArray<Scalar>) -> usize
     ensures value { result ≡ length ((arrays.array_of a.now.elem).image a.now) }

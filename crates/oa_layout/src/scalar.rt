@@ -30,7 +30,7 @@ const MAX_SCALE: u8 = 28;
 /// How far the high bits of a magnitude stand above the low ones: 2^64.
 const ABOVE_LOW: u128 = 0x1_0000_0000_0000_0000;
 
-// How many bytes a text has; None for null.
+/// How many bytes a text has; None for null.
 #[tactic(auto, unfolding(oa_ndr::specs::Reading::bind, crate::specs::Formats::coded, crate::specs::Values::text_header))]
 fn read_text_header(r: &mut Ndr<'_>) -> Result<Option<u32>, ReadFault>
     ensures { ReadsImage result r.new (values.text_header.read r.old) }
@@ -83,7 +83,7 @@ fn read_vt(r: &mut Ndr<'_>) -> Result<VarType, ReadFault>
     }
 }
 
-// What stands behind the number of the type.
+/// What stands behind the number of the type.
 #[tactic(auto, unfolding(crate::specs::Formats::combinators, crate::specs::Values::of_type))]
 pub(crate) fn read_content(
     alloc: Global,
@@ -137,7 +137,7 @@ fn put_decimal(d: &Decimal, w: &mut Window, out: &mut [u8])
     put_u64((magnitude % ABOVE_LOW) as u64, w, out)
 }
 
-// What stands behind the number of the type.
+/// What stands behind the number of the type.
 #[tactic(auto, unfolding(crate::specs::Formats::combinators, crate::specs::Values::of_type), using(crate::proofs::Adding::added_none))]
 pub(crate) fn put_content(s: &Scalar, w: &mut Window, out: &mut [u8])
     ensures { Adds ((values.of_type (type_of s.now)).image s.now) w.old w.new out.old out.new }
@@ -197,7 +197,7 @@ fn text_len(text: &Bstr) -> usize
     4 + text.as_bytes().len()
 }
 
-// The bytes behind the number of the type.
+/// The bytes behind the number of the type.
 #[tactic(auto, unfolding(crate::specs::Formats::combinators, crate::specs::Values::of_type, crate::specs::Values::decimal, crate::specs::Numbers::numbers))]
 pub(crate) fn content_len(s: &Scalar) -> usize
     ensures value { result ≡ length ((values.of_type (type_of s.now)).image s.now) }

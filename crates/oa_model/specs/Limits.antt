@@ -1,5 +1,5 @@
 -- The limits of this server as clauses and proofs name them, all of them this project's choice.
-use Rattle.std.specs.Prelude.{ℕ}
+use Rattle.std.specs.Prelude.{ℕ, ◌*◌}
 
 -- bytes of a request's body
 abbrev pub max_request_bytes : ℕ
@@ -7,7 +7,7 @@ max_request_bytes = 4194304
 
 -- characters of a line of hexadecimal digits: two for each byte of a body
 abbrev pub max_line_characters : ℕ
-max_line_characters = 8388608
+max_line_characters = 2 * max_request_bytes
 
 -- bytes of a BSTR
 abbrev pub max_text_bytes : ℕ

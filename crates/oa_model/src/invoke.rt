@@ -10,6 +10,8 @@ pub const PUT_FLAG: u16 = 4;
 pub const PUT_REF_FLAG: u16 = 8;
 /// DISPID_UNKNOWN: of a name that is not known (MS-OAUT section 2.2.32.1).
 pub const UNKNOWN_DISPID: i32 = -1;
+/// DISPID_PROPERTYPUT: of the argument that is a property's new value (MS-OAUT section 2.2.32.1).
+pub const PROPERTY_PUT_DISPID: i32 = -3;
 /// INVOKE_FUNC (INVOKEKIND, MS-OAUT section 2.2.14).
 pub const INVOKE_METHOD: u16 = 1;
 /// INVOKE_PROPERTYGET.

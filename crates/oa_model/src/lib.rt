@@ -1,9 +1,10 @@
-//! Codes, limits, types and GUIDs of the automation server: the data that every other crate shares.
+//! Codes, limits, types and GUIDs of the automation server: the data that the crates share.
 //!
 //! Its contract: each type has its number and each number its type (`VarType::vt`, `from_vt`); a GUID's wire
 //! bytes are its fields turned round (`guid_to_wire`, `guid_from_wire`); `fold` changes A to Z alone.
 //!
-//! What stands on it: every crate but oa_cells, oa_ndr, oa_stream, oa_disk and oa_keeper.
+//! What stands on it: every crate but oa_cells, oa_ndr, oa_ordered, oa_tokens, oa_stream and oa_disk; oa_keeper by
+//! others alone.
 #![tactic(auto)]
 
 mod bound;
@@ -22,8 +23,8 @@ pub use guid::{guid_from_wire, guid_to_wire};
 pub use hresult::HResult;
 pub use invoke::{
     COCLASS_KIND, DEFAULT_FLAG, GET_FLAG, HAS_DEFAULT_FLAG, IN_FLAG, INTERFACE_KIND, INVOKE_GET,
-    INVOKE_METHOD, INVOKE_PUT, METHOD_FLAG, OPTIONAL_FLAG, PUT_FLAG, PUT_REF_FLAG, READONLY_FLAG,
-    UNKNOWN_DISPID, VT_ARRAY, VT_I4, VT_VOID,
+    INVOKE_METHOD, INVOKE_PUT, METHOD_FLAG, OPTIONAL_FLAG, PROPERTY_PUT_DISPID, PUT_FLAG,
+    PUT_REF_FLAG, READONLY_FLAG, UNKNOWN_DISPID, VT_ARRAY, VT_I4, VT_VOID,
 };
 pub use limits::{
     GREATEST_OBJECT_NUMBER, GROUP_BYTES, MAX_ARGUMENTS, MAX_CELL_LOCKS, MAX_CELLS, MAX_COCLASSES,

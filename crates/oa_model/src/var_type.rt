@@ -144,7 +144,9 @@ impl VarType {
 /// The type of a value, or the declared type of a property or parameter: a scalar, or an array with cells of a type.
 #[derive(Clone, Copy, Debug, PartialEq, Eq)]
 pub enum ValueType {
+    /// A scalar of the type.
     One(VarType),
+    /// An array with cells of the type.
     Array(VarType),
 }
 

@@ -4,7 +4,7 @@
 //! Its contract: each reader answers the value at its place, or `Short` exactly where the bytes end before it;
 //! each writer appends its bytes, or leaves the output as before.
 //!
-//! What stands on it: oa_wire_array, oa_wire_variant, oa_layout, oa_record and oa_image.
+//! What stands on it: oa_wire_text, oa_wire_array, oa_wire_variant, oa_layout, oa_record and oa_image.
 #![tactic(auto)]
 
 mod ndr;

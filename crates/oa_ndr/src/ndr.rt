@@ -43,7 +43,7 @@ impl<'a> Model for Ndr<'a> {
     ghost invariant = { λ r. r.position + length r.rest.now < 2 ^ 64 };
 }
 
-// How many bytes lie between a place and the next multiple of n.
+/// How many bytes lie between a place and the next multiple of n.
 pub(crate) fn padding(n: usize, place: usize) -> usize
     requires { 0 < n }
     ensures value { result ≡ padding n place }
@@ -129,7 +129,7 @@ impl<'a> Ndr<'a> {
         Ok(front)
     }
 
-    // The n bytes at the next multiple of n.
+    /// The n bytes at the next multiple of n.
     #[tactic(auto, unfolding(crate::specs::Reading::slot_at))]
     fn slot(&mut self, n: usize) -> Result<&'a [u8], Short>
         requires above { 0 < n }

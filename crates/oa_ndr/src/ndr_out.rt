@@ -51,7 +51,7 @@ fn append_zeros(out: &mut Vec<u8>, n: usize) -> Result<(), AllocError>
     out.extend_from_slice(&ZEROS[..n])
 }
 
-// Adds zeros and then these bytes, or nothing. The length is a part of the type, so that a number is stored and not copied.
+/// Adds zeros and then these bytes, or nothing. The length is a part of the type, so that a number is stored and not copied.
 fn append_behind_zeros<const N: usize>(
     out: &mut Vec<u8>,
     zeros: usize,
@@ -143,7 +143,7 @@ impl NdrOut {
         self.bytes(&ZEROS[..n])
     }
 
-    // These bytes at the next multiple of n.
+    /// These bytes at the next multiple of n.
     fn slot<const N: usize>(&mut self, n: usize, number: &[u8; N]) -> Result<(), AllocError>
         requires above { 0 < n }
         requires small { n ≤ 8 }

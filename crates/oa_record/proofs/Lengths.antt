@@ -5,9 +5,10 @@ use Rattle.std.proofs.lemmas.Bool.{eqb-false}
 use Rattle.std.proofs.lemmas.List.{append-nil, length-append, length-replicate}
 use Rattle.std.proofs.lemmas.List.Concat.{flat_map-cons}
 use Rattle.std.specs.List.{flat_map}
+use Rattle.oa_model.specs.Limits.{max_names}
 use Rattle.oa_ndr.specs.Forms.{padding}
 use Rattle.oa_ndr.specs.Writing.{FieldOutput, field_after, in_field}
-use Rattle.oa_record.specs.Replies.{word, half_word, signed_word, number_field, padded}
+use Rattle.oa_record.specs.Replies.{word, half_word, max_fields_bytes, signed_word, number_field, padded}
 
 pub signed_length : (ids : List ℤ) → length (flat_map signed_word ids) ≡ 4 * length ids
 unfolding word
@@ -32,7 +33,7 @@ few_zeros : (b : Bool) (x : ℕ) → (if b then 0 else 8 - x) ≤ 8
 few_zeros true x = omega arith
 few_zeros false x = omega arith
 
-pub small_field : (n : ℕ) (ids : List ℤ) → length ids ≤ 17 → length (number_field n ++ padded (flat_map signed_word ids)) ≤ 4294967279
+pub small_field : (n : ℕ) (ids : List ℤ) → length ids ≤ max_names → length (number_field n ++ padded (flat_map signed_word ids)) ≤ max_fields_bytes
 small_field n ids few =
     let bytes = flat_map signed_word ids in
     let zeros = few_zeros (eqb (length bytes % 8) 0) (length bytes % 8) in
@@ -50,7 +51,7 @@ zeros_below x = by_test (eqb x 0) refl
     by_test false h = let some = positive x (eqb-false _ _ h) in omega (arith, some)
 
 -- the longest field of a value
-pub value_small : (n : ℕ) (bytes : List ℕ) → length bytes ≤ 4294967264 → length (number_field n ++ padded bytes) ≤ 4294967279
+pub value_small : (n : ℕ) (bytes : List ℕ) → length bytes ≤ 4294967264 → length (number_field n ++ padded bytes) ≤ max_fields_bytes
 value_small n bytes few =
     omega (arith, few, number_length n, zeros_below (length bytes % 8), length-append (number_field n) (padded bytes), length-append bytes (replicate (padding 8 (length bytes)) 0), length-replicate {A = ℕ} (padding 8 (length bytes)) 0)
 

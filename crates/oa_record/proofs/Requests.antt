@@ -145,7 +145,7 @@ refuses_call parts c Stub fields place memory h = subst HasBroken (sym fields) h
 refuses_call parts c (BadVarType index) fields place memory h = record { place = h.0; bad = subst (λ (fs : List (List ℕ)). HasBadType fs h.0) (sym fields) h.2; named = h.1 ∙ sym (place h.0) }
 refuses_call parts c Memory fields place memory h = memory
 
--- the new value of a cell behind the arguments
+-- the new value of an element behind the arguments
 last_is : (values : List Variant) (v : Variant) (f : List Variant → Variant → Option Request) → with_last (values ++ v ∷ []) f ≡ f values v
 last_is [] v f = refl
 last_is (x ∷ []) v f = refl

@@ -124,7 +124,7 @@ pub record IsBroken (body : List ℕ) : Type 0 where
 abbrev pub IsStub : List ℕ → Type 0
 IsStub body = HasNoLayout body ⊎ IsBroken body
 
--- what a refusal calls the field of this place: its index in rgvarg; the new value of a cell, which is no argument, has none
+-- what a refusal calls the field of this place: its index in rgvarg; the new value of an element, which is no argument, has none
 abbrev pub field_index : Layout → ℕ → Option ℕ
 field_index (Layout.CreateBody class) place = Some place
 field_index (Layout.ReleaseBody object) place = Some place

@@ -1,4 +1,4 @@
--- What the values of some fields are, or the first fault.
+-- What the values of some fields are, or the first fault. (This project's choice.)
 use Rattle.std.specs.Prelude.{◌≡◌, ℕ, ◌==◌, if◌then◌else◌, true, List, Option, Some, None, Result, Ok, Err}
 use Rattle.std.specs.List.{AllByRecursion}
 use Rattle.oa_variant.specs.declared.variant.Variant.{Variant}

@@ -43,7 +43,7 @@ opcode_of (Layout.UnlockBody call) = opcodes.Unlock
 opcode_of (Layout.TypeInfoBody index) = opcodes.TypeInfo
 opcode_of Layout.ObjectsBody = opcodes.Objects
 
--- the fields that hold a value each: arguments in the order of rgvarg, and behind them the new value of a cell
+-- the fields that hold a value each: arguments in the order of rgvarg, and behind them the new value of an element
 abbrev pub variant_fields : Layout → List (List ℕ)
 variant_fields (Layout.CreateBody class) = []
 variant_fields (Layout.ReleaseBody object) = []
@@ -85,11 +85,11 @@ call_parts c =
 abbrev pub indices : List ℤ → Form
 indices xs = unit 4 (length xs) ▸ ignored 4 ▸ given (length xs ≤ max_dimensions) ▸ each dispid xs ▸ align 8
 
--- a call that names an array, and the index list of a cell
+-- a call that names an array, and the index list of an element
 abbrev pub element_parts : ElementParts → Form
 element_parts e = call_parts e.call ▸ indices e.indices
 
--- these, and the cell's new value
+-- these, and the element's new value
 abbrev pub put_parts : PutParts → Form
 put_parts p = element_parts p.element ▸ field p.value
 

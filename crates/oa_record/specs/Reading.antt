@@ -1,4 +1,4 @@
--- Reading a layout as a function on lists, which says the same as the forms (proofs/LayoutLaws has the laws).
+-- Reading a layout as a function on lists, which says the same as the forms (proofs/LayoutLaws has the laws). (This project's choice.)
 use Rattle.std.specs.Prelude.{◌≡◌, ℕ, ℤ, ◌≤◌, ◌&&◌, nat_le, true, List, length, Option, Some, None, Result, Ok, Err}
 use Rattle.std.specs.Int.{w32, cast_signed}
 use Rattle.oa_model.specs.Limits.{max_arguments, max_dimensions, max_names}

@@ -14,6 +14,10 @@ pub record ReplyValue : Type 0 where
   pub index : Option ℕ
   pub body : List ℕ
 
+-- the most bytes that the fields of a reply have: with the 16 before them, as many as 4 bytes count
+abbrev pub max_fields_bytes : ℕ
+max_fields_bytes = 4294967279
+
 -- a number of 4 bytes
 unfoldable pub word : ℕ → List ℕ
 word n = to_le_bytes w32 n

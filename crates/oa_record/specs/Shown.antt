@@ -1,4 +1,4 @@
--- The parts of a body as the code has them.
+-- The parts of a body as the code has them. (This project's choice.)
 use Rattle.oa_record.specs.Layouts.{Layout}
 use Rattle.oa_record.specs.Reading.{parts_of_element, put_of, redim_of}
 use Rattle.oa_record.specs.declared.body_parts.Parts.{Parts}

@@ -1,5 +1,6 @@
 //! The lists of a call.
 ghost use Rattle.std.specs.Prelude.{◌≡◌, ◌≤◌, length};
+ghost use Rattle.oa_model.specs.Limits.{max_arguments};
 
 use oa_variant::Variant;
 use std::marker::Model;
@@ -12,18 +13,19 @@ pub struct Dispids {
 
 impl Model for Dispids {
     ghost use Rattle.std.specs.Prelude.{List, ℤ, ◌≤◌, length};
+    ghost use Rattle.oa_model.specs.Limits.{max_arguments};
 
     ghost Value = { List ℤ };
 
     ghost view = { λ d. d.dispids.items };
 
-    ghost invariant = { λ d. length d.dispids.items ≤ 32 };
+    ghost invariant = { λ d. length d.dispids.items ≤ max_arguments };
 }
 
 impl Dispids {
     /// A list of at most 32 DISPIDs.
     pub fn new(dispids: Vec<i32>) -> Dispids
-        requires { length dispids.items ≤ 32 }
+        requires { length dispids.items ≤ max_arguments }
         ensures { result ≡ dispids.items }
     {
         Dispids { dispids }
@@ -32,7 +34,7 @@ impl Dispids {
     /// The DISPIDs in order, at most 32.
     pub fn as_slice(&self) -> &[i32]
         ensures value { result.now ≡ self.now }
-        ensures few { length result.now ≤ 32 }
+        ensures few { length result.now ≤ max_arguments }
     {
         self.dispids.as_slice()
     }
@@ -47,19 +49,20 @@ pub struct Arguments {
 
 impl Model for Arguments {
     ghost use Rattle.std.specs.Prelude.{List, ◌≤◌, length};
+    ghost use Rattle.oa_model.specs.Limits.{max_arguments};
     ghost use Rattle.oa_variant.specs.declared.variant.Variant.{Variant as AVariant};
 
     ghost Value = { List AVariant };
 
     ghost view = { λ a. a.values.items };
 
-    ghost invariant = { λ a. length a.values.items ≤ 32 };
+    ghost invariant = { λ a. length a.values.items ≤ max_arguments };
 }
 
 impl Arguments {
     /// A list of at most 32 values.
     pub fn new(values: Vec<Variant>) -> Arguments
-        requires { length values.items ≤ 32 }
+        requires { length values.items ≤ max_arguments }
         ensures { result ≡ values.items }
     {
         Arguments { values }
@@ -68,7 +71,7 @@ impl Arguments {
     /// The values in the order of rgvarg, at most 32.
     pub fn as_slice(&self) -> &[Variant]
         ensures value { result.now ≡ self.now }
-        ensures few { length result.now ≤ 32 }
+        ensures few { length result.now ≤ max_arguments }
     {
         self.values.as_slice()
     }
@@ -76,7 +79,7 @@ impl Arguments {
     /// The values in the order of rgvarg, at most 32, for the caller to keep.
     pub fn into_vec(self) -> Vec<Variant>
         ensures value { result.items ≡ self }
-        ensures few { length result.items ≤ 32 }
+        ensures few { length result.items ≤ max_arguments }
     {
         let Arguments { values } = self;
         values

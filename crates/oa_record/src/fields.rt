@@ -1,12 +1,14 @@
 //! The fields of replies. Each is made as a body of its own, or added to one that is being made.
-ghost use Rattle.std.specs.Prelude.{[], ◌≡◌, ◌↔◌, ◌<◌, ◌≤◌, ◌+◌, ◌*◌, ◌++◌, length, replicate, take, IfOk, IsErrOf, OnErr, OnOk};
+ghost use Rattle.std.specs.Prelude.{[], ◌≡◌, ◌↔◌, ◌<◌, ◌≤◌, ◌+◌, ◌++◌, length, replicate, take, IfOk, IsErrOf, OnErr, OnOk};
 ghost use Rattle.std.specs.List.{flat_map};
+ghost use Rattle.oa_model.specs.Limits.{max_names};
 ghost use Rattle.oa_ndr.specs.Forms.{padding};
 ghost use Rattle.oa_variant.specs.declared.variant.Variant.TheVariants.{One};
 ghost use Rattle.oa_ndr.specs.Writing.{put_unit};
 ghost use Rattle.oa_wire_array.specs.Canon.{max_wire_scalar, put_head};
 ghost use Rattle.oa_wire_variant.specs.Canon.{canon};
-ghost use Rattle.oa_record.specs.Replies.{word, half_word, lost_field, signed_word, number_field, object_field, variant_field, ids_field, string_field};
+ghost use Rattle.oa_record.specs.Replies.{word, half_word, lost_field, max_fields_bytes, signed_word, number_field, object_field};
+ghost use Rattle.oa_record.specs.Replies.{variant_field, ids_field, string_field};
 ghost use Rattle.oa_record.specs.declared.fault.FieldFault.TheVariants.{TooLong};
 
 use crate::FieldFault;
@@ -25,7 +27,7 @@ pub const MAX_FIELDS_BYTES: usize = 4_294_967_279;
 /// The longest value that a reply has room for, in bytes.
 const MAX_VALUE_BYTES: usize = 4_294_967_264;
 
-// A number and a reserved number.
+/// A number and a reserved number.
 #[tactic(auto, unfolding(crate::specs::Replies::word))]
 fn two_words(number: u32) -> [u8; 8]
     ensures { result ≡ number_field number }
@@ -34,7 +36,7 @@ fn two_words(number: u32) -> [u8; 8]
     [a, b, c, d, 0, 0, 0, 0]
 }
 
-// Adds the zeros that follow so many bytes.
+/// Adds the zeros that follow so many bytes.
 fn pad(out: &mut Vec<u8>, len: usize) -> Result<(), AllocError>
     requires { len ≤ 8589934592 }
     ensures ok { OnOk result (out.new.items ≡ out.old.items ++ replicate (padding 8 len) 0) }
@@ -43,7 +45,7 @@ fn pad(out: &mut Vec<u8>, len: usize) -> Result<(), AllocError>
     out.resize(out.len() + (len.next_multiple_of(8) - len), 0)
 }
 
-// Takes back what was added behind so many bytes, where a growth was refused.
+/// Takes back what was added behind so many bytes, where a growth was refused.
 fn undone(out: &mut Vec<u8>, len: usize, added: Result<(), AllocError>) -> Result<(), AllocError>
     ensures same { result ≡ added }
     ensures ok { OnOk result (out.new.items ≡ out.old.items) }
@@ -72,7 +74,7 @@ pub fn put_number_field(out: &mut Vec<u8>, number: u32) -> Result<(), AllocError
     out.extend_from_slice(&two_words(number))
 }
 
-// Adds an object.
+/// Adds an object.
 fn add_object(out: &mut Vec<u8>, number: u32, class: &Uuid) -> Result<(), AllocError>
     ensures value { OnOk result (out.new.items ≡ out.old.items ++ object_field number class.now) }
     ensures len { OnOk result (length out.new.items ≡ length out.old.items + 24) }
@@ -105,7 +107,7 @@ pub fn lost_field(alloc: Global, guid: &Uuid, dispid: i32) -> Result<Vec<u8>, Al
     Ok(field)
 }
 
-// The field of a long, all of its bytes laid out at once.
+/// The field of a long, all of its bytes laid out at once.
 #[tactic(auto, unfolding(crate::specs::Replies::word))]
 fn long_field(bits: u32) -> [u8; 32]
     ensures { result ≡ number_field 24 ++ put_unit 4 bits (put_unit 4 3 (put_head 3 3 [])) }
@@ -117,7 +119,7 @@ fn long_field(bits: u32) -> [u8; 32]
     ]
 }
 
-// Adds a value of `len` bytes as a field.
+/// Adds a value of `len` bytes as a field.
 fn add_value(out: &mut Vec<u8>, value: &Variant, len: usize) -> Result<(), AllocError>
     requires counted { len ≡ length (canon value.now) }
     requires few { len ≤ 4294967264 }
@@ -153,7 +155,7 @@ pub fn put_variant_field(out: &mut Vec<u8>, value: &Variant) -> Result<(), Field
 #[tactic(auto, using(crate::proofs::Longs::long_is))]
 pub fn variant_field(alloc: Global, value: &Variant) -> Result<Vec<u8>, FieldFault>
     ensures value { IfOk result (λ v. v.items ≡ variant_field value.now) }
-    ensures len { IfOk result (λ v. length v.items ≤ 4294967279) }
+    ensures len { IfOk result (λ v. length v.items ≤ max_fields_bytes) }
     ensures long { IsErrOf result TooLong ↔ (4294967264 < length (canon value.now)) }
 {
     if let Variant::One(Scalar::I4(number)) = value {
@@ -168,7 +170,7 @@ pub fn variant_field(alloc: Global, value: &Variant) -> Result<Vec<u8>, FieldFau
     Ok(field)
 }
 
-// How many bytes a scalar takes as a value.
+/// How many bytes a scalar takes as a value.
 #[tactic(auto, unfolding(oa_wire_array::specs::Canon::scalar_len))]
 fn one_len(value: &Scalar) -> usize
     ensures value { result ≡ length (canon (One value.now)) }
@@ -177,7 +179,7 @@ fn one_len(value: &Scalar) -> usize
     scalar_len(value)
 }
 
-// Adds the bytes of a scalar, a field of their own.
+/// Adds the bytes of a scalar, a field of their own.
 fn add_scalar(out: &mut Vec<u8>, value: &Scalar) -> Result<(), AllocError>
     ensures ok { OnOk result (out.new.items ≡ out.old.items ++ canon (One value.now)) }
     ensures err { OnErr result (out.new.items ≡ out.old.items) }
@@ -188,7 +190,7 @@ fn add_scalar(out: &mut Vec<u8>, value: &Scalar) -> Result<(), AllocError>
     answer
 }
 
-// Adds a scalar as the field of a value.
+/// Adds a scalar as the field of a value.
 fn add_scalar_field(out: &mut Vec<u8>, value: &Scalar) -> Result<(), AllocError>
     ensures ok { OnOk result (out.new.items ≡ out.old.items ++ variant_field (One value.now)) }
     ensures front { OnErr result (take (length out.old.items) out.new.items ≡ out.old.items) }
@@ -201,7 +203,7 @@ fn add_scalar_field(out: &mut Vec<u8>, value: &Scalar) -> Result<(), AllocError>
 }
 
 /// Adds a scalar as the field of a value, from where it stands. At Err `out` is as before.
-pub fn put_scalar_field(out: &mut Vec<u8>, value: &Scalar) -> Result<(), AllocError>
+fn put_scalar_field(out: &mut Vec<u8>, value: &Scalar) -> Result<(), AllocError>
     ensures value { OnOk result (out.new.items ≡ out.old.items ++ variant_field (One value.now)) }
     ensures err { OnErr result (out.new.items ≡ out.old.items) }
 {
@@ -213,14 +215,14 @@ pub fn put_scalar_field(out: &mut Vec<u8>, value: &Scalar) -> Result<(), AllocEr
 /// The fields of a reply that are a scalar's value.
 pub fn scalar_field(alloc: Global, value: &Scalar) -> Result<Vec<u8>, AllocError>
     ensures value { IfOk result (λ v. v.items ≡ variant_field (One value.now)) }
-    ensures len { IfOk result (λ v. length v.items ≤ 4294967279) }
+    ensures len { IfOk result (λ v. length v.items ≤ max_fields_bytes) }
 {
     let mut field = Vec::with_capacity(alloc, 16 + one_len(value))?;
     put_scalar_field(&mut field, value)?;
     Ok(field)
 }
 
-// The bytes of a DISPID.
+/// The bytes of a DISPID.
 #[tactic(auto, unfolding(crate::specs::Replies::word))]
 fn signed_bytes(id: i32) -> [u8; 4]
     ensures { result ≡ signed_word id }
@@ -228,7 +230,7 @@ fn signed_bytes(id: i32) -> [u8; 4]
     id.to_le_bytes()
 }
 
-// Adds the bytes of DISPIDs.
+/// Adds the bytes of DISPIDs.
 fn put_ids(out: &mut Vec<u8>, ids: &[i32]) -> Result<(), AllocError>
     ensures { OnOk result (out.new.items ≡ out.old.items ++ flat_map signed_word ids.now) }
 {
@@ -240,9 +242,9 @@ fn put_ids(out: &mut Vec<u8>, ids: &[i32]) -> Result<(), AllocError>
 
 /// The fields of a reply that are DISPIDs, at most 17: u32 count, u32 reserved, i32 each, zeros up to a multiple of 8.
 pub fn ids_field(alloc: Global, ids: &[i32]) -> Result<Vec<u8>, AllocError>
-    requires { length ids.now ≤ 17 }
+    requires { length ids.now ≤ max_names }
     ensures value { IfOk result (λ v. v.items ≡ ids_field ids.now) }
-    ensures len { IfOk result (λ v. length v.items ≤ 4294967279) }
+    ensures len { IfOk result (λ v. length v.items ≤ max_fields_bytes) }
 {
     let len = 4 * ids.len();
     let mut field = Vec::with_capacity(alloc, 12 + len)?;
@@ -252,7 +254,7 @@ pub fn ids_field(alloc: Global, ids: &[i32]) -> Result<Vec<u8>, AllocError>
     Ok(field)
 }
 
-// The bytes of a character's unit.
+/// The bytes of a character's unit.
 #[tactic(auto, unfolding(crate::specs::Replies::half_word))]
 fn unit_bytes(character: u8) -> [u8; 2]
     ensures { result ≡ half_word character }
@@ -260,7 +262,7 @@ fn unit_bytes(character: u8) -> [u8; 2]
     (character as u16).to_le_bytes()
 }
 
-// Adds the units of a text.
+/// Adds the units of a text.
 fn put_units(out: &mut Vec<u8>, text: &[u8]) -> Result<(), AllocError>
     ensures ok { OnOk result (out.new.items ≡ out.old.items ++ flat_map half_word text.now) }
     ensures front { OnErr result (take (length out.old.items) out.new.items ≡ out.old.items) }
@@ -271,7 +273,7 @@ fn put_units(out: &mut Vec<u8>, text: &[u8]) -> Result<(), AllocError>
     Ok(())
 }
 
-// Adds a text as a string.
+/// Adds a text as a string.
 fn add_string(out: &mut Vec<u8>, text: &[u8]) -> Result<(), AllocError>
     requires { length text.now ≤ 4294967295 }
     ensures ok { OnOk result (out.new.items ≡ out.old.items ++ string_field text.now) }
@@ -287,7 +289,7 @@ fn add_string(out: &mut Vec<u8>, text: &[u8]) -> Result<(), AllocError>
 /// as before.
 ///
 /// `TooLong` for a text of more than 4,294,967,295 characters, and for nothing else.
-pub fn put_string_field(out: &mut Vec<u8>, text: &[u8]) -> Result<(), FieldFault>
+fn put_string_field(out: &mut Vec<u8>, text: &[u8]) -> Result<(), FieldFault>
     ensures value { OnOk result (out.new.items ≡ out.old.items ++ string_field text.now) }
     ensures err { OnErr result (out.new.items ≡ out.old.items) }
     ensures long { IsErrOf result TooLong ↔ (4294967295 < length text.now) }

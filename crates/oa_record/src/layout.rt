@@ -1,5 +1,5 @@
 //! The layout of a body, with the bytes of its variant fields.
-ghost use Rattle.std.specs.Prelude.{◌≡◌, ℕ, ◌<◌, ◌≤◌, map, length, None, Some, IfOk};
+ghost use Rattle.std.specs.Prelude.{◌≡◌, map, length, None, Some, IfOk};
 ghost use Rattle.std.specs.Option.{option_map};
 ghost use Rattle.oa_ndr.specs.Reading.{many, unit_at, whole};
 ghost use Rattle.oa_wire_array.specs.ArrayReading.{bound_at};
@@ -35,15 +35,14 @@ use crate::body_parts::Parts;
 use crate::raw_call::{RawCall, ValueParts};
 use crate::{CallHead, GetIds, Names, Opcode, RecordFault};
 use oa_array::Indices;
-use oa_model::{Bound, MAX_ARGUMENTS, MAX_DIMENSIONS, MAX_NAMES, guid_from_wire};
+use oa_model::{
+    Bound, MAX_ARGUMENTS, MAX_DIMENSIONS, MAX_NAMES, PROPERTY_PUT_DISPID, guid_from_wire,
+};
 use oa_ndr::{Ndr, Short};
 use std::alloc::Global;
 use uuid::Uuid;
 
-/// The name of a put's new value (DISPID_PROPERTYPUT, MS-OAUT section 2.2.32.1).
-const NEW_VALUE: i32 = -3;
-
-// A GUID in wire order.
+/// A GUID in wire order.
 #[tactic(auto, unfolding(oa_ndr::specs::Reading::bind, oa_ndr::specs::Reading::give, crate::specs::Reading::guid_at))]
 fn guid(r: &mut Ndr<'_>) -> Result<Uuid, Short>
     ensures { ReadsFixed (λ x. x) result r.new (guid_at r.old) }
@@ -62,7 +61,7 @@ fn dispid(r: &mut Ndr<'_>) -> Result<i32, Short>
     Ok(number.cast_signed())
 }
 
-// The bytes of a variant field.
+/// The bytes of a variant field.
 #[inline(always)]
 #[tactic(auto, unfolding(oa_ndr::specs::Reading::bind, oa_ndr::specs::Reading::give, crate::specs::Reading::field_at))]
 fn field<'a>(r: &mut Ndr<'a>) -> Result<&'a [u8], Short>
@@ -99,7 +98,7 @@ fn fields<'a>(alloc: Global, count: u32, r: &mut Ndr<'a>) -> Result<Vec<&'a [u8]
     Ok(all)
 }
 
-// Object, DISPID, GUIDs, lcid and flags, and a reserved number.
+/// Object, DISPID, GUIDs, lcid and flags, and a reserved number.
 #[inline(always)]
 #[tactic(auto, unfolding(oa_ndr::specs::Reading::steps, crate::specs::Reading::call_head_at))]
 fn call_head(r: &mut Ndr<'_>) -> Result<CallHead, Short>
@@ -122,7 +121,7 @@ fn call_head(r: &mut Ndr<'_>) -> Result<CallHead, Short>
     })
 }
 
-// These, the counts, and the lists behind them.
+/// These, the counts, and the lists behind them.
 #[tactic(auto, unfolding(oa_ndr::specs::Reading::steps, crate::specs::Reading::call_at, crate::specs::Reading::lists_at))]
 fn call<'a>(alloc: Global, r: &mut Ndr<'a>) -> Result<RawCall<'a>, RecordFault>
     ensures { ReadsBody (λ x. x) result r.new (call_at r.old) }
@@ -139,7 +138,7 @@ fn call<'a>(alloc: Global, r: &mut Ndr<'a>) -> Result<RawCall<'a>, RecordFault>
     Ok(RawCall::new(head, named, fields))
 }
 
-// No lists behind counts of 0.
+/// No lists behind counts of 0.
 #[tactic(auto, unfolding(oa_ndr::specs::Reading::steps, crate::specs::Reading::lists_at), using(crate::proofs::Bringing::many_none))]
 fn no_lists(head: CallHead, r: &mut Ndr<'_>) -> Result<(), Short>
     ensures { IfOk result (λ u. lists_at head 0 0 r.old ≡ Some (parts_bringing head None, r.new)) }
@@ -147,20 +146,20 @@ fn no_lists(head: CallHead, r: &mut Ndr<'_>) -> Result<(), Short>
     r.align(8)
 }
 
-// The lists behind counts of 1: the name of a new value, and the bytes of its field.
+/// The lists behind counts of 1: the name of a new value, and the bytes of its field.
 #[inline(always)]
 #[tactic(auto, unfolding(oa_ndr::specs::Reading::steps, crate::specs::Reading::lists_at), using(crate::proofs::Bringing::many_one))]
 fn new_value<'a>(head: CallHead, r: &mut Ndr<'a>) -> Result<&'a [u8], Short>
     ensures { IfOk result (λ f. lists_at head 1 1 r.old ≡ Some (parts_bringing head (Some f.now), r.new)) }
 {
-    if dispid(r)? != NEW_VALUE {
+    if dispid(r)? != PROPERTY_PUT_DISPID {
         return Err(Short);
     }
     r.align(8)?;
     field(r)
 }
 
-// A call that brings no more than a new value, whose field has these bytes. Err of any other.
+/// A call that brings no more than a new value, whose field has these bytes. Err of any other.
 #[tactic(auto, unfolding(oa_ndr::specs::Reading::bind, oa_ndr::specs::Reading::choose, crate::specs::Reading::call_at))]
 fn value_call<'a>(r: &mut Ndr<'a>) -> Result<ValueParts<'a>, Short>
     ensures { IfOk result (λ c. call_at r.old ≡ Some (parts_bringing c.head (option_map (λ f. f.now) c.field), r.new)) }
@@ -201,7 +200,7 @@ pub(crate) fn read_value_parts(body: &[u8]) -> Result<ValueParts<'_>, Short>
     }
 }
 
-// An index list.
+/// An index list.
 #[tactic(auto, unfolding(oa_ndr::specs::Reading::steps, crate::specs::Reading::indices_at, crate::specs::Reading::index_list_at))]
 fn indices(alloc: Global, r: &mut Ndr<'_>) -> Result<Indices, RecordFault>
     ensures { ReadsBody (λ x. x) result r.new (indices_at r.old) }
@@ -216,7 +215,7 @@ fn indices(alloc: Global, r: &mut Ndr<'_>) -> Result<Indices, RecordFault>
     Ok(Indices::new(indices))
 }
 
-// A call that names an array, and the index list of a cell.
+/// A call that names an array, and the index list of an element.
 #[tactic(auto, unfolding(oa_ndr::specs::Reading::steps, crate::specs::Reading::element_at))]
 fn element<'a>(alloc: Global, r: &mut Ndr<'a>) -> Result<(RawCall<'a>, Indices), RecordFault>
     ensures { ReadsBody (λ x. parts_of_element x.0 x.1) result r.new (element_at r.old) }
@@ -226,7 +225,7 @@ fn element<'a>(alloc: Global, r: &mut Ndr<'a>) -> Result<(RawCall<'a>, Indices),
     Ok((call, indices))
 }
 
-// A new first listed bound.
+/// A new first listed bound.
 #[tactic(auto, unfolding(oa_ndr::specs::Reading::steps, oa_wire_array::specs::ArrayReading::bound_at, oa_wire_array::specs::Reading::signed_at))]
 fn bound(r: &mut Ndr<'_>) -> Result<Bound, Short>
     ensures { ReadsFixed (λ x. x) result r.new (bound_at r.old) }
@@ -250,7 +249,7 @@ fn units(alloc: Global, count: u32, r: &mut Ndr<'_>) -> Result<Vec<u16>, RecordF
     Ok(all)
 }
 
-// The units of a string.
+/// The units of a string.
 #[tactic(auto, unfolding(oa_ndr::specs::Reading::bind, oa_ndr::specs::Reading::give, crate::specs::Reading::string_at))]
 fn string(alloc: Global, r: &mut Ndr<'_>) -> Result<Vec<u16>, RecordFault>
     ensures { ReadsBody (λ v. v.items) result r.new (string_at r.old) }
@@ -275,7 +274,7 @@ fn strings(alloc: Global, count: u32, r: &mut Ndr<'_>) -> Result<Vec<Vec<u16>>, 
     Ok(all)
 }
 
-// Object, GUIDs and lcid, the count, and the names behind it.
+/// Object, GUIDs and lcid, the count, and the names behind it.
 #[tactic(auto, unfolding(oa_ndr::specs::Reading::steps, crate::specs::Reading::get_ids_at, crate::specs::Reading::names_at))]
 fn get_ids(alloc: Global, r: &mut Ndr<'_>) -> Result<GetIds, RecordFault>
     ensures { ReadsBody (λ x. x) result r.new (get_ids_at r.old) }
@@ -299,7 +298,7 @@ fn get_ids(alloc: Global, r: &mut Ndr<'_>) -> Result<GetIds, RecordFault>
     })
 }
 
-// A number and a reserved one.
+/// A number and a reserved one.
 #[tactic(auto, unfolding(oa_ndr::specs::Reading::bind, oa_ndr::specs::Reading::give, crate::specs::Reading::number_at))]
 fn number(r: &mut Ndr<'_>) -> Result<u32, Short>
     ensures { ReadsFixed (λ x. x) result r.new (number_at r.old) }
@@ -309,7 +308,7 @@ fn number(r: &mut Ndr<'_>) -> Result<u32, Short>
     Ok(number)
 }
 
-// A call that names an array, and a cell of it.
+/// A call that names an array, and an element of it.
 #[tactic(auto, unfolding(oa_ndr::specs::Reading::bind, oa_ndr::specs::Reading::give, crate::specs::Reading::fields_at))]
 fn get_element<'a>(alloc: Global, r: &mut Ndr<'a>) -> Result<Parts<'a>, RecordFault>
     ensures { ReadsBody shown result r.new (fields_at opcodes.GetElement r.old) }
@@ -318,7 +317,7 @@ fn get_element<'a>(alloc: Global, r: &mut Ndr<'a>) -> Result<Parts<'a>, RecordFa
     Ok(Parts::GetElement(call, indices))
 }
 
-// The same, and a new value.
+/// The same, and a new value.
 #[tactic(auto, unfolding(oa_ndr::specs::Reading::steps, crate::specs::Reading::fields_at, crate::specs::Reading::put_at))]
 fn put_element<'a>(alloc: Global, r: &mut Ndr<'a>) -> Result<Parts<'a>, RecordFault>
     ensures { ReadsBody shown result r.new (fields_at opcodes.PutElement r.old) }
@@ -327,7 +326,7 @@ fn put_element<'a>(alloc: Global, r: &mut Ndr<'a>) -> Result<Parts<'a>, RecordFa
     Ok(Parts::PutElement(call, indices, field(r)?))
 }
 
-// A call that names an array, and its new first listed bound.
+/// A call that names an array, and its new first listed bound.
 #[tactic(auto, unfolding(oa_ndr::specs::Reading::steps, crate::specs::Reading::fields_at, crate::specs::Reading::redim_at))]
 fn redimension<'a>(alloc: Global, r: &mut Ndr<'a>) -> Result<Parts<'a>, RecordFault>
     ensures { ReadsBody shown result r.new (fields_at opcodes.Redimension r.old) }
@@ -337,7 +336,7 @@ fn redimension<'a>(alloc: Global, r: &mut Ndr<'a>) -> Result<Parts<'a>, RecordFa
     Ok(Parts::Redimension(call, bound))
 }
 
-// The fields of an opcode.
+/// The fields of an opcode.
 #[tactic(auto, unfolding(oa_ndr::specs::Reading::bind, oa_ndr::specs::Reading::give, crate::specs::Reading::fields_at))]
 fn fields_of<'a>(alloc: Global, opcode: Opcode, r: &mut Ndr<'a>) -> Result<Parts<'a>, RecordFault>
     ensures answers { ReadsBody shown result r.new (fields_at opcode r.old) }

@@ -3,8 +3,8 @@
 //! Its contract: `read_request` answers a request exactly where the body asks it (`Asks`), and else its one
 //! refusal; a reply is its head and the bytes of its fields.
 //!
-//! What stands on it: oa_turn, which answers what a body asks; oa_server, for its replies; oa_description, for the
-//! fields of a description.
+//! What stands on it: oa_decision and oa_turn, which answer what a body asks; oa_server, for its
+//! replies; oa_description, for the fields of a description.
 #![tactic(auto)]
 
 mod arguments;
@@ -25,8 +25,7 @@ pub use arguments::{Arguments, Dispids};
 pub use fault::{FieldFault, RecordFault};
 pub use fields::{
     MAX_FIELDS_BYTES, ids_field, lost_field, number_field, put_number_field, put_object_field,
-    put_scalar_field, put_string_field, put_variant_field, scalar_field, string_field,
-    variant_field,
+    put_variant_field, scalar_field, string_field, variant_field,
 };
 pub use names::Names;
 pub use opcode::{Opcode, opcode_of};

@@ -1,5 +1,6 @@
 //! The names of a look-up.
 ghost use Rattle.std.specs.Prelude.{◌≡◌, ◌≤◌, length, map};
+ghost use Rattle.oa_model.specs.Limits.{max_names};
 
 use std::marker::Model;
 
@@ -11,19 +12,20 @@ pub struct Names {
 
 impl Model for Names {
     ghost use Rattle.std.specs.Prelude.{List, ℕ, ◌≤◌, length, map};
+    ghost use Rattle.oa_model.specs.Limits.{max_names};
 
     ghost Value = { List (List ℕ) };
 
     ghost view = { λ n. map (λ name. name.items) n.names.items };
 
-    ghost invariant = { λ n. (1 ≤ length n.names.items) × (length n.names.items ≤ 17) };
+    ghost invariant = { λ n. (1 ≤ length n.names.items) × (length n.names.items ≤ max_names) };
 }
 
 impl Names {
     /// A list of 1 to 17 names.
     pub fn new(names: Vec<Vec<u16>>) -> Names
         requires some { 1 ≤ length names.items }
-        requires few { length names.items ≤ 17 }
+        requires few { length names.items ≤ max_names }
         ensures { result ≡ map (λ name. name.items) names.items }
     {
         Names { names }
@@ -33,7 +35,7 @@ impl Names {
     pub fn as_slice(&self) -> &[Vec<u16>]
         ensures value { map (λ name. name.items) result.now ≡ self.now }
         ensures some { 1 ≤ length result.now }
-        ensures few { length result.now ≤ 17 }
+        ensures few { length result.now ≤ max_names }
     {
         self.names.as_slice()
     }

@@ -18,9 +18,9 @@ pub enum Opcode {
     GetIds,
     /// 4: a call of a member.
     Invoke,
-    /// 5: a cell of an array that a property holds.
+    /// 5: an element of an array that a property holds.
     GetElement,
-    /// 6: sets a cell of such an array.
+    /// 6: sets an element of such an array.
     PutElement,
     /// 7: changes the first listed bound of such an array.
     Redimension,

@@ -1,5 +1,6 @@
 //! A call as its body has it, with the bytes of the arguments.
 ghost use Rattle.std.specs.Prelude.{◌≡◌, ◌≤◌, map, length};
+ghost use Rattle.oa_model.specs.Limits.{max_arguments};
 
 use crate::{Arguments, Call, CallHead, Dispids};
 use oa_variant::Variant;
@@ -22,20 +23,21 @@ pub(crate) struct ValueParts<'a> {
 
 impl<'a> Model for RawCall<'a> {
     ghost use Rattle.std.specs.Prelude.{◌≤◌, length, map};
+    ghost use Rattle.oa_model.specs.Limits.{max_arguments};
     ghost use Rattle.oa_record.specs.CallParts.{CallParts};
 
     ghost Value = { CallParts };
 
     ghost view = { λ c. record { head = c.head; named = c.named.items; fields = map (λ f. f.now) c.fields.items } };
 
-    ghost invariant = { λ c. (length c.named.items ≤ 32) × (length c.fields.items ≤ 32) };
+    ghost invariant = { λ c. (length c.named.items ≤ max_arguments) × (length c.fields.items ≤ max_arguments) };
 }
 
 impl<'a> RawCall<'a> {
     /// A call of at most 32 arguments and as many named ones.
     pub(crate) fn new(head: CallHead, named: Vec<i32>, fields: Vec<&'a [u8]>) -> RawCall<'a>
-        requires few_named { length named.items ≤ 32 }
-        requires few { length fields.items ≤ 32 }
+        requires few_named { length named.items ≤ max_arguments }
+        requires few { length fields.items ≤ max_arguments }
         ensures { result ≡ record { head = head; named = named.items; fields = map (λ f. f.now) fields.entry.items } }
     {
         RawCall {
@@ -48,14 +50,14 @@ impl<'a> RawCall<'a> {
     /// The bytes of the arguments' fields.
     pub(crate) fn fields(&self) -> &[&'a [u8]]
         ensures value { map (λ f. f.now) result.now ≡ self.now.fields }
-        ensures few { length result.now ≤ 32 }
+        ensures few { length result.now ≤ max_arguments }
     {
         self.fields.as_slice()
     }
 
     /// The call with the values of the arguments.
     pub(crate) fn with(self, values: Vec<Variant>) -> Call
-        requires { length values.items ≤ 32 }
+        requires { length values.items ≤ max_arguments }
         ensures { result ≡ record { head = self.entry.head; named = self.entry.named; arguments = values.items } }
     {
         Call {

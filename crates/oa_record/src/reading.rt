@@ -1,5 +1,6 @@
 //! Bodies as requests.
-ghost use Rattle.std.specs.Prelude.{◌≡◌, ◌<◌, ◌≤◌, ◌++◌, ◌∷◌, [], map, length, IfOk, IfErr, IfSome};
+ghost use Rattle.std.specs.Prelude.{◌≡◌, ◌≤◌, ◌+◌, ◌++◌, ◌∷◌, [], map, length, IfOk, IfErr, IfSome};
+ghost use Rattle.oa_model.specs.Limits.{max_arguments};
 ghost use Rattle.oa_record.specs.Asks.{Asks, IsRequest, call_of, tag_at};
 ghost use Rattle.oa_record.specs.Judging.{AnswersFields, Requests, TestsFields, TestsField, put_fault};
 ghost use Rattle.oa_record.specs.Layouts.{Layout};
@@ -32,7 +33,7 @@ pub fn tag_of(body: &[u8]) -> u32
     }
 }
 
-// Looks at one field.
+/// Looks at one field.
 fn unbroken(alloc: Global, field: &[u8]) -> Result<(), RecordFault>
     ensures { TestsField field.now result }
 {
@@ -43,7 +44,7 @@ fn unbroken(alloc: Global, field: &[u8]) -> Result<(), RecordFault>
     }
 }
 
-// Looks for a broken field.
+/// Looks for a broken field.
 fn sound(alloc: Global, fields: &[&[u8]]) -> Result<(), RecordFault>
     ensures { TestsFields (map (λ f. f.now) fields.now) result }
 {
@@ -53,9 +54,9 @@ fn sound(alloc: Global, fields: &[&[u8]]) -> Result<(), RecordFault>
     Ok(())
 }
 
-// The values of all fields; a bad type is told by its place among them.
+/// The values of all fields; a bad type is told by its place among them.
 fn values(alloc: Global, fields: &[&[u8]]) -> Result<Vec<Variant>, RecordFault>
-    requires { length fields.now ≤ 33 }
+    requires { length fields.now ≤ max_arguments + 1 }
     ensures judged { AnswersFields (λ v. v.items) (map (λ f. f.now) fields.now) result }
     ensures count { IfOk result (λ v. length v.items ≡ length fields.now) }
 {
@@ -75,7 +76,7 @@ fn values(alloc: Global, fields: &[&[u8]]) -> Result<Vec<Variant>, RecordFault>
     Ok(values)
 }
 
-// A call with the values of its arguments.
+/// A call with the values of its arguments.
 fn called(alloc: Global, call: RawCall<'_>) -> Result<Call, RecordFault>
     ensures judged { AnswersFields (λ q. q.arguments) call.entry.fields result }
     ensures is { IfOk result (λ q. q ≡ call_of call.entry q.arguments) }
@@ -84,14 +85,14 @@ fn called(alloc: Global, call: RawCall<'_>) -> Result<Call, RecordFault>
     Ok(call.with(values))
 }
 
-// The bytes of the arguments' fields, and behind them those of a cell's new value.
+/// The bytes of the arguments' fields, and behind them those of an element's new value.
 fn with_value<'a>(
     alloc: Global,
     call: &RawCall<'a>,
     value: &'a [u8],
 ) -> Result<Vec<&'a [u8]>, RecordFault>
     ensures all { IfOk result (λ v. map (λ f. f.now) v.items ≡ call.now.fields ++ value.now ∷ []) }
-    ensures few { IfOk result (λ v. length v.items ≤ 33) }
+    ensures few { IfOk result (λ v. length v.items ≤ max_arguments + 1) }
     ensures err { IfErr result (λ e. e ≡ Memory) }
 {
     let mut fields = Vec::from_slice(alloc, call.fields())?;
@@ -99,7 +100,7 @@ fn with_value<'a>(
     Ok(fields)
 }
 
-// The refusal of a PUTELEM of so many arguments: the new value, which stands behind these, has no index.
+/// The refusal of a PUTELEM of so many arguments: the new value, which stands behind these, has no index.
 fn without_index(count: usize, fault: RecordFault) -> RecordFault
     ensures { result ≡ put_fault count fault }
 {
@@ -111,7 +112,7 @@ fn without_index(count: usize, fault: RecordFault) -> RecordFault
     }
 }
 
-// A PUTELEM with its values.
+/// A PUTELEM with its values.
 fn put_element(
     alloc: Global,
     call: RawCall<'_>,
@@ -136,7 +137,7 @@ fn put_element(
     })
 }
 
-// The request of a body, with its values.
+/// The request of a body, with its values.
 fn request(alloc: Global, parts: Parts<'_>) -> Result<Request, RecordFault>
     ensures { Requests (shown parts.entry) result }
 {
@@ -166,8 +167,8 @@ fn request(alloc: Global, parts: Parts<'_>) -> Result<Request, RecordFault>
 ///
 /// `Stub` where the body is laid out as no request of a listed opcode, has more than `MAX_REQUEST_BYTES`, more than 32 arguments or named ones,
 /// no name or more than 17, or more than 16 indices, and where the field of a value is broken; else `BadVarType` for the first value with a
-/// type outside the profile: with its index in rgvarg, or None for the new value of a cell. `Memory` only for an opcode whose bodies take
-/// memory to be read, in a body of 8 to `MAX_REQUEST_BYTES`.
+/// type outside the profile: with its index in rgvarg, or None for the new value of an element. `Memory` only for an opcode whose bodies
+/// take memory to be read, in a body of 8 to `MAX_REQUEST_BYTES`.
 pub fn read_request(alloc: Global, body: &[u8]) -> Result<Request, RecordFault>
     ensures { IsRequest body.now result }
 {
@@ -178,7 +179,7 @@ pub fn read_request(alloc: Global, body: &[u8]) -> Result<Request, RecordFault>
     request(alloc, parts)
 }
 
-// The call of these parts, with the value of the field where it has one.
+/// The call of these parts, with the value of the field where it has one.
 fn value_call(alloc: Global, parts: ValueParts<'_>) -> Option<ValueCall>
     ensures { IfSome result (λ call. (call.head ≡ parts.entry.head) × SpellsNew (option_map (λ f. f.now) parts.entry.field) call.value) }
 {

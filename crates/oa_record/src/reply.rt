@@ -1,6 +1,6 @@
 //! Replies.
 ghost use Rattle.std.specs.Prelude.{◌≡◌, ◌≤◌, [], length};
-ghost use Rattle.oa_record.specs.Replies.{reply_head};
+ghost use Rattle.oa_record.specs.Replies.{max_fields_bytes, reply_head};
 
 use oa_model::HResult;
 use std::alloc::Global;
@@ -18,20 +18,19 @@ pub struct Reply {
 
 impl Model for Reply {
     ghost use Rattle.std.specs.Prelude.{◌≤◌, length};
-    ghost use Rattle.oa_ndr.specs.Forms.{padding};
-    ghost use Rattle.oa_record.specs.Replies.{ReplyValue};
+    ghost use Rattle.oa_record.specs.Replies.{ReplyValue, max_fields_bytes};
 
     ghost Value = { ReplyValue };
 
     ghost view = { λ r. record { tag = r.tag; code = r.code; index = r.index; body = r.body.items } };
 
-    ghost invariant = { λ r. length r.body.items ≤ 4294967279 };
+    ghost invariant = { λ r. length r.body.items ≤ max_fields_bytes };
 }
 
 impl Reply {
     /// A reply with these fields.
     pub fn new(tag: u32, code: HResult, index: Option<u32>, body: Vec<u8>) -> Reply
-        requires { length body.items ≤ 4294967279 }
+        requires { length body.items ≤ max_fields_bytes }
         ensures { result ≡ record { tag = tag; code = code; index = index; body = body.items } }
     {
         Reply {
@@ -73,7 +72,7 @@ impl Reply {
     /// Its fields, at most 4,294,967,279 bytes.
     pub fn body(&self) -> &[u8]
         ensures value { result.now ≡ self.now.body }
-        ensures small { length result.now ≤ 4294967279 }
+        ensures small { length result.now ≤ max_fields_bytes }
     {
         self.body.as_slice()
     }

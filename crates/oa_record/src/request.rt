@@ -20,12 +20,12 @@ pub enum Request {
     GetIds(GetIds),
     /// A call of a member of an object.
     Invoke(Call),
-    /// A cell of an array that a property holds.
+    /// An element of an array that a property holds.
     GetElement {
         call: Call,
         indices: Indices,
     },
-    /// A new value of a cell of an array that a property holds.
+    /// A new value of an element of an array that a property holds.
     PutElement {
         call: Call,
         indices: Indices,

@@ -15,6 +15,7 @@ use Rattle.oa_journal.specs.declared.shape.Shape.{Shape}
 use Rattle.oa_journal.specs.declared.shape.Shape.TheVariants.{One, Two}
 use Rattle.oa_store.specs.Faults.{SpeaksOfContents, RefusalSays}
 use Rattle.oa_store.proofs.OneStore.{one_store}
+use Rattle.oa_store.proofs.Opened.{of_wanted}
 use Rattle.oa_store.specs.Stores.{IsFormatted, IsNewStore, IsStoreAt, IsStoreIn, body_place, head_place}
 use Rattle.oa_store.specs.declared.fault.OpenFault.{OpenFault}
 use Rattle.oa_store.specs.declared.fault.OpenFault.TheVariants.{NotAStore, OldFormat, LibraryDiffers, Damaged, Device, Memory}
@@ -80,7 +81,9 @@ module _ (contents : List ℕ) (size : ℕ) (long : length contents ≡ size) (t
       (λ none.
       let store = its_bank (Two bank) contents none.chosen is.0 is.1 other table none.head is.2 in
       absurd (none.none (Two bank) (length other) _ (record { room = store.room; has = bank_header (Two bank) (from_place (head_place none.chosen) contents) (from_place (body_place (Two bank) none.chosen) contents) other table is.1 store.bank })))
-      (λ rest. inr (begins_with rest.chosen rest.shape rest.head rest.begins))
+      (λ rest.
+      let begins = of_wanted rest.shape (from_place (head_place rest.chosen) contents) (from_place (body_place rest.shape rest.chosen) contents) text rest.begins in
+      inr (begins_with rest.chosen rest.shape rest.head begins))
       says
   told_of (Device fault) r says = absurd r
   told_of Memory r says = absurd r

@@ -1,17 +1,15 @@
 -- A group in hand, and its end.
-use Rattle.std.proofs.Common.{rules, ◌≡◌, ℕ, ◌+◌, ◌-◌, ◌^◌, ◌<◌, ◌≤◌, ◌++◌, IsTrue, true, false, true≢false, List, [], ◌∷◌, length, map, refl}
+use Rattle.std.proofs.Common.{rules, ◌≡◌, ℕ, ◌+◌, ◌<◌, ◌≤◌, ◌++◌, IsTrue, true, false, true≢false, List, [], ◌∷◌, length, map, refl}
 use Rattle.std.proofs.Common.{sym, ◌∙◌, arith}
 use Rattle.oa_disk.specs.declared.disk.Disk.{Ghosts}
 use Rattle.oa_groups.specs.Desks.{IsHeld, IsSettled}
 use Rattle.oa_groups.specs.Groups.{fills}
 use Rattle.oa_store.specs.Writing.{Goes}
 use Rattle.oa_groups.specs.Turns.{exchange}
-use Rattle.oa_journal.specs.Replays.{Replays}
 use Rattle.oa_keeper.specs.Holding.{Carries, Commits}
 use Rattle.oa_record.specs.Replacement.{is_replacement}
 use Rattle.oa_record.specs.Replies.{ReplyValue}
 use Rattle.oa_store.specs.declared.store.Store.{Store}
-use Rattle.oa_table.specs.Tables.{TableValue}
 use Rattle.oa_server.specs.Hands.{CallsWhereDue, IsReady, desk}
 use Rattle.oa_server.specs.Requests.{IsHeldBack, requests, withdrawn}
 use Rattle.oa_turn.specs.Events.{held_of}

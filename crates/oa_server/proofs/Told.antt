@@ -1,14 +1,12 @@
 -- The groups of a call are one run of turns.
-use Rattle.std.proofs.Common.{◌≡◌, ℕ, false, List, [], ◌∷◌, ◌++◌, map, refl, sym, ap, ◌∙◌, subst, append_assoc}
-use Rattle.std.proofs.lemmas.List.{append-nil, map-append}
+use Rattle.std.proofs.Common.{◌≡◌, ℕ, List, [], ◌∷◌, ◌++◌, map, refl, sym, ap, ◌∙◌, subst, append_assoc}
+use Rattle.std.proofs.lemmas.List.{map-append}
 use Rattle.oa_disk.specs.declared.disk.Disk.{Ghosts}
 use Rattle.oa_groups.specs.Groups.{joined}
 use Rattle.oa_groups.specs.Runs.{TurnsOver}
-use Rattle.oa_groups.specs.Served.{IsServed}
 use Rattle.oa_groups.specs.Turns.{Exchange, body_of, reply_of}
 use Rattle.oa_groups.proofs.Entries.{joined_two}
 use Rattle.oa_record.specs.Replies.{ReplyValue}
-use Rattle.oa_store.specs.declared.store.Store.{Store}
 use Rattle.oa_server.specs.Laws.{AnsweredAreRun}
 use Rattle.oa_server.specs.Requests.{faulted, failed, requests}
 use Rattle.oa_decision.specs.States.{State}

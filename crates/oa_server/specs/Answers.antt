@@ -1,4 +1,4 @@
--- What one body is answered over a store, and what a stop at any moment of that leaves.
+-- What one body is answered over a store, and what a stop at any moment of that leaves. (This project's choice.)
 use Rattle.std.specs.Prelude.{◌≡◌, ◌⊎◌, ℕ, true, false, List, [], ◌∷◌, map}
 use Rattle.oa_disk.specs.declared.disk.Disk.{Ghosts}
 use Rattle.oa_groups.specs.Served.{IsServed}

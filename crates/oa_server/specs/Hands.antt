@@ -1,4 +1,4 @@
--- A server at work over a store, and the group in hand.
+-- A server at work over a store, and the group in hand. (This project's choice.)
 use Rattle.std.specs.Prelude.{◌≡◌, ◌⊎◌, ◌-◌, ◌<◌, ◌≤◌, ◌++◌, ℕ, true, false, List, [], length, vec_capacity, Result, IsOk, OnOk, OnErr}
 use Rattle.oa_disk.specs.declared.disk.Disk.{Ghosts}
 use Rattle.oa_groups.specs.Desks.{Desk, IsDue}

@@ -1,4 +1,4 @@
--- Laws of sessions of a server over a store, beside those of any groups.
+-- Laws of sessions of a server over a store, beside those of any groups. (This project's choice.)
 use Rattle.std.specs.Prelude.{◌≡◌, ◌≤◌, ℕ, IsTrue, false, List, [], ◌++◌, map}
 use Rattle.oa_disk.specs.Disk.{NothingPending}
 use Rattle.oa_disk.specs.declared.disk.Disk.{Ghosts}

@@ -1,4 +1,4 @@
--- A body that is a group of its own is answered with its own reply, where nothing is in hand.
+-- A body that is a group of its own is answered with its own reply, where nothing is in hand. (This project's choice.)
 use Rattle.std.proofs.Common.{◌≡◌, ◌≤◌, inl, inr, ℕ, Bool, true, false, true≢false, List, [], ◌∷◌, ◌++◌, length, map, refl, sym, ap, ◌∙◌, subst, arith}
 use Rattle.oa_disk.specs.declared.disk.Disk.{Ghosts}
 use Rattle.oa_groups.specs.Desks.{Desk, IsApart, IsFlushed, IsAnsweredAlone, IsTaken}

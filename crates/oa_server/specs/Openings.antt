@@ -1,4 +1,4 @@
--- What opening a disk answers.
+-- What opening a disk answers. (This project's choice.)
 use Rattle.std.specs.Prelude.{◌≡◌, ◌≢◌, ◌⊎◌, ℕ, List, Some, IsTrue, false, true}
 use Rattle.oa_disk.specs.declared.disk.Disk.{Ghosts}
 use Rattle.oa_groups.specs.Runs.{HoldsState}

@@ -1,4 +1,4 @@
--- The requests of a server, as the theory of groups sees them.
+-- The requests of a server, as the theory of groups sees them. (This project's choice.)
 use Rattle.std.specs.Prelude.{◌≡◌, ℕ, ◌≤◌, ◌++◌, List, [], length, None}
 use Rattle.std.proofs.Common.{ap, refl}
 use Rattle.oa_model.specs.Limits.{max_event_bytes}

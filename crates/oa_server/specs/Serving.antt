@@ -1,4 +1,4 @@
--- Sessions of a server over streams.
+-- Sessions of a server over streams. (This project's choice.)
 use Rattle.std.specs.Prelude.{◌≡◌, ℕ, List, [], ◌∷◌, None}
 use Rattle.oa_model.specs.Codes.{bad_stub_data}
 use Rattle.oa_record.specs.Replies.{ReplyValue, reply_head, reply_record}

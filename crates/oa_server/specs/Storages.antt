@@ -1,4 +1,4 @@
--- Where a server keeps its table beside its memory, and what it answers there.
+-- Where a server keeps its table beside its memory, and what it answers there. (This project's choice.)
 use Rattle.std.specs.Prelude.{◌≡◌, ℕ, false, true, List, ⊤}
 use Rattle.oa_disk.specs.declared.disk.Disk.{Ghosts}
 use Rattle.oa_groups.specs.Served.{IsServed}

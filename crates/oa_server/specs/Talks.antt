@@ -1,4 +1,4 @@
--- Sessions of a server over streams, in memory and over a store.
+-- Sessions of a server over streams, in memory and over a store. (This project's choice.)
 use Rattle.std.specs.Prelude.{◌≡◌, ◌⊎◌, ◌<◌, ◌≤◌, ℕ, false, true, List, [], ◌∷◌, ◌++◌, length, map, ⊤}
 use Rattle.oa_disk.specs.declared.disk.Disk.{Ghosts}
 use Rattle.oa_frame.specs.Framings.{Frames}

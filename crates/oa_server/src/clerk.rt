@@ -1,5 +1,5 @@
 //! A server at work.
-ghost use Rattle.std.specs.Prelude.{◌≡◌, ◌≤◌, map, IfOk, OnErr, false, true};
+ghost use Rattle.std.specs.Prelude.{◌≡◌, ◌≤◌, map, IfOk, OnErr};
 ghost use Rattle.oa_server.specs.Storages.{AnswersOne, InMemory, Serves, bank_of, disk_of};
 ghost use Rattle.oa_turn.specs.Turns.{Run, Turn};
 

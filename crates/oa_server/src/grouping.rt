@@ -9,13 +9,13 @@ ghost use Rattle.oa_server.specs.Answers.{IsAnswered, AnswersAfterFault, IsRenew
 ghost use Rattle.oa_server.specs.Hands.{CanTake, CanTakeCleared, HandsOut, HasBanks, cleared_desk, desk_of};
 ghost use Rattle.oa_server.specs.Requests.{requests};
 
-use crate::hand::{Hand, withdraw};
+use crate::hand::{Hand, bare_reply, withdraw};
 use crate::holding::turn_held;
 use crate::renewal::renew_over;
 use oa_disk::Disk;
-use oa_keeper::{Batch, Broken, commit};
+use oa_keeper::{Batch, commit};
 use oa_model::HResult;
-use oa_record::{Reply, is_replacement, tag_of};
+use oa_record::{Reply, is_replacement};
 use oa_store::Store;
 use oa_turn::Host;
 use std::alloc::{AllocError, Global};
@@ -33,17 +33,17 @@ pub(crate) fn answer_over<D: Disk>(
     ensures banks { HasBanks store.new host.new }
 {
     if store.has_stopped() {
-        return Reply::bare(alloc, tag_of(body), HResult::E_FAIL, None);
+        return bare_reply(alloc, body, HResult::E_FAIL);
     }
     if is_replacement(body) {
         return renewed_over(alloc, host, store, body);
     }
     let mut batch = Batch::new(alloc);
     let Ok(reply) = turn_held(alloc, host, store, &mut batch, body) else {
-        return Reply::bare(alloc, tag_of(body), HResult::STG_E_WRITEFAULT, None);
+        return bare_reply(alloc, body, HResult::STG_E_WRITEFAULT);
     };
     let Ok(()) = commit(store, &mut batch) else {
-        return Reply::bare(alloc, tag_of(body), HResult::STG_E_WRITEFAULT, None);
+        return bare_reply(alloc, body, HResult::STG_E_WRITEFAULT);
     };
     reply
 }
@@ -58,7 +58,7 @@ fn renewed_over<D: Disk>(alloc: Global, host: &mut Host, store: &mut Store<D>, b
 {
     match renew_over(alloc, host, store, body) {
         Ok(reply) => reply,
-        Err(_) => Reply::bare(alloc, tag_of(body), HResult::STG_E_WRITEFAULT, None),
+        Err(_) => bare_reply(alloc, body, HResult::STG_E_WRITEFAULT),
     }
 }
 
@@ -101,7 +101,7 @@ pub(crate) fn take<D: Disk>(
     ensures size { hand.new.size ≡ hand.old.size }
 {
     if store.has_stopped() {
-        let reply = Reply::bare(alloc, tag_of(body), HResult::E_FAIL, None);
+        let reply = bare_reply(alloc, body, HResult::E_FAIL);
         hand.replies.push_reserved(reply);
         return true;
     }
@@ -119,7 +119,7 @@ pub(crate) fn take<D: Disk>(
             true
         }
         Err(_) => {
-            let reply = Reply::bare(alloc, tag_of(body), HResult::STG_E_WRITEFAULT, None);
+            let reply = bare_reply(alloc, body, HResult::STG_E_WRITEFAULT);
             withdraw(alloc, &mut hand.replies);
             hand.replies.push_reserved(reply);
             true
@@ -142,7 +142,7 @@ fn renewed_or_late<D: Disk>(
     if !store.has_stopped() {
         return renewed_over(alloc, host, store, body);
     }
-    Reply::bare(alloc, tag_of(body), HResult::E_FAIL, None)
+    bare_reply(alloc, body, HResult::E_FAIL)
 }
 
 /// Takes a request that is a group of its own: first the group in hand ends. All replies in hand are to be handed out then.

@@ -1,13 +1,15 @@
 //! The group in hand of a server over a store.
-ghost use Rattle.std.specs.Prelude.{◌≡◌, ◌<◌, ◌≤◌, [], IfOk, false, length, map, vec_capacity};
+ghost use Rattle.std.specs.Prelude.{◌≡◌, ◌<◌, ◌≤◌, [], None, IfOk, false, length, map, vec_capacity};
+ghost use Rattle.oa_decision.specs.Decided.{refusal};
 ghost use Rattle.oa_groups.specs.Groups.{fills};
 ghost use Rattle.oa_model.specs.Limits.{group_bytes};
+ghost use Rattle.oa_record.specs.Asks.{tag_at};
 ghost use Rattle.oa_server.specs.Requests.{withdrawn};
 
 use oa_groups::is_full;
 use oa_keeper::Batch;
 use oa_model::HResult;
-use oa_record::Reply;
+use oa_record::{Reply, tag_of};
 use std::alloc::{AllocError, Global};
 
 /// The group in hand: its events, which are not committed yet, and its replies, which are held back.
@@ -60,6 +62,13 @@ impl Hand {
     }
 }
 
+/// The reply to a body that tells a code alone. Takes no memory.
+pub(crate) fn bare_reply(alloc: Global, body: &[u8], code: HResult) -> Reply
+    ensures { result ≡ refusal (tag_at body.now) code None }
+{
+    Reply::bare(alloc, tag_of(body), code, None)
+}
+
 /// Takes back the replies of a group that could not be committed. Takes no memory.
 pub(crate) fn withdraw(alloc: Global, replies: &mut Vec<Reply>)
     ensures items { replies.new.items ≡ map withdrawn replies.old.items }
@@ -69,6 +78,7 @@ pub(crate) fn withdraw(alloc: Global, replies: &mut Vec<Reply>)
     take_back(alloc, replies);
 }
 
+/// Puts in the place of each reply the one that takes it back.
 fn take_back(alloc: Global, replies: &mut [Reply])
     ensures { replies.new ≡ map withdrawn replies.old }
 {

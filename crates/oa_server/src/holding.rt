@@ -12,7 +12,7 @@ ghost use Rattle.oa_turn.specs.Plans.{IsPlanned};
 
 use oa_disk::Disk;
 use oa_image::laws::is_event;
-use oa_keeper::{Batch, Broken, KeepFault, make_room};
+use oa_keeper::{Batch, DeviceFailed, KeepFault, make_room};
 use oa_model::HResult;
 use oa_record::Reply;
 use oa_record::laws::one_request;
@@ -29,7 +29,7 @@ pub(crate) fn turn_held<D: Disk>(
     store: &mut Store<D>,
     batch: &mut Batch,
     body: &[u8],
-) -> Result<Reply, Broken>
+) -> Result<Reply, DeviceFailed>
     requires plain { is_replacement body.now ≡ false }
     requires open { IsOpenFor batch.old store.old }
     requires banks { HasBanks store.old host.old }
@@ -53,7 +53,7 @@ fn hold<D: Disk>(
     store: &mut Store<D>,
     batch: &mut Batch,
     planned: Planned,
-) -> Result<Reply, Broken>
+) -> Result<Reply, DeviceFailed>
     requires change { CanBeMade host.old planned.event }
     requires open { IsOpenFor batch.old store.old }
     requires banks { HasBanks store.old host.old }
@@ -73,7 +73,7 @@ fn hold<D: Disk>(
     match hold_change(host, store, batch, event) {
         Ok(()) => Ok(Reply::new(tag, HResult::S_OK, None, fields.into_vec())),
         Err(KeepFault::Memory) => Ok(Reply::bare(alloc, tag, HResult::E_OUTOFMEMORY, None)),
-        Err(KeepFault::Write) => Err(Broken),
+        Err(KeepFault::Write) => Err(DeviceFailed),
     }
 }
 

@@ -1,8 +1,8 @@
 //! An automation object server: turns over a library and a table, in memory or over a store, and sessions over a
 //! reader and a writer.
 //!
-//! Its contract: `answer` is one turn of a table of objects (`Turn` of oa_turn), `serve` a session of such turns
-//! (`Session`), over a store in groups that a stop leaves whole (`IsServed`).
+//! Its contract: `answer` is one turn of a table of objects (`Turn` of oa_turn) while no device fails, `serve` a
+//! session of such turns (`Session`), over a store in groups that a stop leaves whole (`IsServed`).
 //!
 //! What stands on it: the program; oa_history, and the tests of sessions.
 #![tactic(auto)]

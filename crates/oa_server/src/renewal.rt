@@ -6,11 +6,12 @@ ghost use Rattle.oa_server.specs.Hands.{HasBanks};
 ghost use Rattle.oa_turn.specs.Events.{is_done};
 ghost use Rattle.oa_turn.specs.Replacing.{Replacement};
 
+use crate::hand::bare_reply;
 use crate::starting::text_of;
 use oa_disk::Disk;
-use oa_keeper::Broken;
+use oa_keeper::DeviceFailed;
 use oa_model::HResult;
-use oa_record::{Reply, tag_of};
+use oa_record::Reply;
 use oa_store::{CheckpointFault, Store};
 use oa_turn::{Host, Renewal};
 use std::alloc::Global;
@@ -23,7 +24,7 @@ pub(crate) fn renew_over<D: Disk>(
     host: &mut Host,
     store: &mut Store<D>,
     body: &[u8],
-) -> Result<Reply, Broken>
+) -> Result<Reply, DeviceFailed>
     requires goes_on { store.old.stopped ≡ false }
     requires banks { HasBanks store.old host.old }
     ensures turn { IfOk result (λ reply. Replacement host.old body.now reply host.new) }
@@ -42,12 +43,12 @@ pub(crate) fn renew_over<D: Disk>(
     match store.checkpoint_with(text_of(&library), host.table()) {
         Ok(()) => {
             host.replace_library(library);
-            Ok(Reply::bare(alloc, tag_of(body), HResult::S_OK, None))
+            Ok(bare_reply(alloc, body, HResult::S_OK))
         }
         Err(CheckpointFault::Device(_)) => {
             host.replace_library(library);
-            Err(Broken)
+            Err(DeviceFailed)
         }
-        Err(CheckpointFault::Stopped) => Err(Broken),
+        Err(CheckpointFault::Stopped) => Err(DeviceFailed),
     }
 }

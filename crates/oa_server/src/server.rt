@@ -1,5 +1,5 @@
 //! The server: a library and a table in memory, and where the table is kept.
-ghost use Rattle.std.specs.Prelude.{◌≡◌, ◌≤◌, map, IfOk, OnErr, false};
+ghost use Rattle.std.specs.Prelude.{◌≡◌, ◌≤◌, map, IfOk, OnErr};
 ghost use Rattle.oa_model.specs.Limits.{max_group};
 ghost use Rattle.oa_canonical.specs.Canonical.{canonical};
 ghost use Rattle.oa_journal.specs.Shapes.{body_bytes, default_bank_bytes};

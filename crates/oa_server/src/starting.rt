@@ -55,15 +55,11 @@ pub(crate) fn open_store<D: Disk>(
     one_tree();
     marked_is_read();
     library.is_checked();
-    match Store::open(alloc, disk, text_of(library)) {
-        Ok((store, table)) => {
-            if can_serve(store.bank_size(), library, &table) {
-                Ok((store, table))
-            } else {
-                Err((store.into_disk(), OpenFault::Damaged(0)))
-            }
-        }
-        Err(refused) => Err(refused),
+    let (store, table) = Store::open(alloc, disk, text_of(library))?;
+    if can_serve(store.bank_size(), library, &table) {
+        Ok((store, table))
+    } else {
+        Err((store.into_disk(), OpenFault::Damaged(0)))
     }
 }
 
@@ -78,9 +74,7 @@ impl<D: Disk> Server<D> {
             (λ store. IsOpened D.Disk disk library store server.clerk.host.table)) }
         ensures refused { IfErr result (λ e. IsNotOpened D.Disk disk e.0 library e.1) }
     {
-        match open_store(alloc, disk, &library) {
-            Ok((store, table)) => Ok(Server::over_store(alloc, library, table, store)),
-            Err(refused) => Err(refused),
-        }
+        let (store, table) = open_store(alloc, disk, &library)?;
+        Ok(Server::over_store(alloc, library, table, store))
     }
 }

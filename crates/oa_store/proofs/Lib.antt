@@ -2,5 +2,5 @@ mod Changed
 mod Counted
 mod LaidDown
 pub mod OneStore
-mod Opened
+pub mod Opened
 mod Upgraded

@@ -1,5 +1,5 @@
 -- What an opening finds.
-use Rattle.std.proofs.Common.{◌≡◌, inl, inr, ⊎_elim, ◌∙◌, ℕ, List, Bool, Option, Some, length, sym, subst, arith}
+use Rattle.std.proofs.Common.{◌≡◌, ◌⊎◌, inl, inr, ⊎_elim, ◌∙◌, ℕ, List, Bool, Option, Some, length, sym, subst, arith}
 use Rattle.oa_disk.specs.Disk.{Only}
 use Rattle.oa_disk.specs.declared.disk.DeviceFault.{DeviceFault}
 use Rattle.oa_disk.specs.declared.disk.DeviceFault.TheVariants as devices
@@ -15,7 +15,7 @@ use Rattle.oa_journal.specs.Damages.{IsDamagedBank}
 use Rattle.oa_journal.proofs.Damages.{bank_library, not_damaged, one_library}
 use Rattle.oa_store.specs.declared.fault.OpenFault.{OpenFault}
 use Rattle.oa_store.specs.declared.fault.OpenFault.TheVariants.{NotAStore, OldFormat, LibraryDiffers, Damaged, Device, Memory}
-use Rattle.oa_store.specs.Faults.{SpeaksOfContents, ComesOfBanks, IfDamaged, IsDamaged, IsFailed, HasWanted, RefusalSays, DeviceTells}
+use Rattle.oa_store.specs.Faults.{SpeaksOfContents, ComesOfBanks, HeadSays, IfDamaged, IsBeheaded, IsDamaged, IsFailed, IsSpoilt, HasWanted, RefusalSays, DeviceTells}
 use Rattle.oa_store.specs.Stores.{body_place, head_place, IsFormatted, IsStoreAt, IsNewStore}
 
 -- what holds of the bytes where a bank stands holds of them under other names
@@ -54,6 +54,15 @@ says_late wanted size contents (Damaged place) late p = p
 says_late wanted size contents (Device fault) late p = tt
 says_late wanted size contents Memory late p = tt
 
+-- and one that is given before
+pub says_first : (wanted : Option (List ℕ)) (size : ℕ) (contents : List ℕ) (e : OpenFault) → HeadSays size contents e → RefusalSays wanted size contents e
+says_first wanted size contents NotAStore says = says
+says_first wanted size contents OldFormat says = absurd says
+says_first wanted size contents LibraryDiffers says = absurd says
+says_first wanted size contents (Damaged place) says = inl says
+says_first wanted size contents (Device fault) says = tt
+says_first wanted size contents Memory says = tt
+
 -- which call has failed
 pub read_failed : (contents : List ℕ) (before after : List ℕ → Type 0) (fault : DeviceFault) → fault ≡ devices.Read → Only contents after
     → IsFailed contents before after fault
@@ -73,13 +82,22 @@ tells_late contents before after (Damaged place) late only = tt
 tells_late contents before after (Device fault) late only = read_failed contents before after fault late only
 tells_late contents before after Memory late only = tt
 
+-- the library that is wanted is that of a bank of format 2 that begins with it
+pub wanted_in : (shape : Shape) (size : ℕ) → shape ≡ Two size → (head body : ℕ → ℕ) (library : List ℕ) → HasLibrary shape head body library → HasWanted (Some library) shape head body
+wanted_in shape size is head body library has =
+    subst (λ (s : Shape). HasWanted (Some library) s head body) (sym is) (subst (λ (s : Shape). HasLibrary s head body library) is has)
+
+pub of_wanted : (shape : Shape) (head body : ℕ → ℕ) (library : List ℕ) → HasWanted (Some library) shape head body → HasLibrary shape head body library
+of_wanted One head body library is = absurd is
+of_wanted (Two size) head body library is = is
+
 -- a bank whose head was found, and which is damaged, is damaged in its body
-pub spoilt : (wanted : Option (List ℕ)) (contents : List ℕ) (chosen : ℕ) (shape : Shape) (l s at : ℕ) → IsFormatted chosen contents
+pub spoilt : (Begins : Shape → (ℕ → ℕ) → (ℕ → ℕ) → Type 0) (contents : List ℕ) (chosen : ℕ) (shape : Shape) (l s at : ℕ) → IsFormatted chosen contents
     → HasHead shape (head_place chosen) contents l s
-    → HasWanted wanted shape (from_place (head_place chosen) contents) (from_place (body_place shape chosen) contents)
-    → IsDamagedBank shape (head_place chosen) (body_place shape chosen) contents at → IsDamaged wanted contents at
-spoilt wanted contents chosen shape l s at head has begins (inl none) = absurd (none.1 l s has.has)
-spoilt wanted contents chosen shape l s at head has begins (inr body) = inr (record {
+    → Begins shape (from_place (head_place chosen) contents) (from_place (body_place shape chosen) contents)
+    → IsDamagedBank shape (head_place chosen) (body_place shape chosen) contents at → IsBeheaded contents at ⊎ IsSpoilt Begins contents at
+spoilt Begins contents chosen shape l s at head has begins (inl none) = absurd (none.1 l s has.has)
+spoilt Begins contents chosen shape l s at head has begins (inr body) = inr (record {
   chosen = chosen;
   head = head;
   shape = shape;
@@ -115,11 +133,12 @@ refused library size contents OldFormat long r says table is =
     absurd (cc shape)
 refused library size contents LibraryDiffers long r says table is =
     let store = its_bank (Two is.0) contents says.chosen is.1.0 is.1.1 library table says.head is.1.2 in
-    let shape = its_shape (Two is.0) says.shape contents says.chosen is.1.1 (length says.other) says.has.snapshot library table says.has.has store in
+    let other = Two says.size in
+    let shape = its_shape (Two is.0) other contents says.chosen is.1.1 (length says.other) says.has.snapshot library table says.has.has store in
     let here = subst (λ (s : Shape). IsStoreAt s says.chosen is.1.1 library table contents) shape store in
     let head = from_place (head_place says.chosen) contents in
-    let body = from_place (body_place says.shape says.chosen) contents in
-    says.differs (one_library says.shape head body says.other library says.has (bank_library says.shape head body library table is.1.1 here.bank))
+    let body = from_place (body_place other says.chosen) contents in
+    says.differs (one_library other head body says.other library says.has (bank_library other head body library table is.1.1 here.bank))
 refused library size contents (Damaged place) long r says table is = ⊎_elim
     (λ none.
     let store = its_bank (Two is.0) contents none.chosen is.1.0 is.1.1 library table none.head is.1.2 in
@@ -127,7 +146,8 @@ refused library size contents (Damaged place) long r says table is = ⊎_elim
     (λ rest.
     let store = its_bank (Two is.0) contents rest.chosen is.1.0 is.1.1 library table rest.head is.1.2 in
     let head = from_place (head_place rest.chosen) contents in
-    let shape = its_shape (Two is.0) rest.shape contents rest.chosen is.1.1 (length library) rest.begins.snapshot library table rest.begins.has store in
+    let begins = of_wanted rest.shape head (from_place (body_place rest.shape rest.chosen) contents) library rest.begins in
+    let shape = its_shape (Two is.0) rest.shape contents rest.chosen is.1.1 (length library) begins.snapshot library table begins.has store in
     let here = subst (λ (s : Shape). IsStoreAt s rest.chosen is.1.1 library table contents) shape store in
     not_damaged rest.shape head (from_place (body_place rest.shape rest.chosen) contents) rest.offset library table is.1.1 rest.damaged here.bank)
     says

@@ -1,5 +1,5 @@
 -- What an upgrade finds and leaves.
-use Rattle.std.proofs.Common.{◌≡◌, ◌⊎◌, inl, inr, ⊎_elim, ℕ, ◌-◌, List, Option, None, false, refl, sym, subst}
+use Rattle.std.proofs.Common.{◌≡◌, ◌⊎◌, inl, inr, ⊎_elim, ℕ, ◌-◌, List, Result, Ok, Err, OnOk, is_ok, false, true, true≢false, refl, sym, subst}
 use Rattle.oa_disk.specs.declared.disk.DeviceFault.{DeviceFault}
 use Rattle.oa_disk.specs.declared.disk.DeviceFault.TheVariants as devices
 use Rattle.oa_table.specs.Tables.{TableValue, unlocked_table}
@@ -13,22 +13,23 @@ use Rattle.oa_journal.proofs.Lockless.{no_locks}
 use Rattle.oa_store.specs.declared.fault.OpenFault.{OpenFault}
 use Rattle.oa_store.specs.declared.fault.OpenFault.TheVariants.{NotAStore, OldFormat, LibraryDiffers, Damaged, Device, Memory}
 use Rattle.oa_store.specs.Changes.{IsMove, IsMoved, IsUpgrade}
-use Rattle.oa_store.specs.Faults.{IsHead, ComesOfBanks, IsOld, IfDamaged, IsDamaged, IsCaused, IsCausedUpgrade, IsFailed, IsFailedUpgrade, RefusalSays, SaysOld, DeviceTells, TellsOld, of_opening}
+use Rattle.oa_store.specs.Faults.{ComesOfHead, HeadSays, HasOldShape, ComesOfBanks, IsBeheaded, IsSpoilt, IsOld, IfDamaged, IsCaused, IsCausedUpgrade, IsFailed, IsFailedUpgrade, UpgradeSays, DeviceTells, UpgradeDeviceTells, of_opening}
 use Rattle.oa_store.proofs.OneStore.{one_store_at}
 use Rattle.oa_store.specs.Stores.{body_place, head_place, IsStoreAt, IsStoreIn}
 
 -- a refusal of an opening, as one of an upgrade
-pub says_early : (bank size : ℕ) (contents : List ℕ) (e : OpenFault) → IsHead e → ((wanted : Option (List ℕ)) → RefusalSays wanted size contents e)
-    → SaysOld bank size contents (of_opening e)
-says_early bank size contents NotAStore is says = says None
+pub says_early : (bank size : ℕ) (contents : List ℕ) (e : OpenFault) → ComesOfHead e → HeadSays size contents e
+    → UpgradeSays bank size contents (of_opening e)
+says_early bank size contents NotAStore is says = says
 says_early bank size contents OldFormat is says = absurd is
 says_early bank size contents LibraryDiffers is says = absurd is
-says_early bank size contents (Damaged place) is says = inr (says None)
+says_early bank size contents (Damaged place) is says = inr (inl says)
 says_early bank size contents (Device fault) is says = tt
 says_early bank size contents Memory is says = absurd is
 
-pub says_spoilt : (bank size : ℕ) (contents : List ℕ) (e : OpenFault) → ComesOfBanks e → IsOld contents → IfDamaged e (IsDamaged None contents)
-    → SaysOld bank size contents (of_opening e)
+pub says_spoilt : (bank size : ℕ) (contents : List ℕ) (e : OpenFault) → ComesOfBanks e → IsOld contents
+    → IfDamaged e (λ place. IsBeheaded contents place ⊎ IsSpoilt HasOldShape contents place)
+    → UpgradeSays bank size contents (of_opening e)
 says_spoilt bank size contents NotAStore is old p = absurd is
 says_spoilt bank size contents OldFormat is old p = absurd is
 says_spoilt bank size contents LibraryDiffers is old p = absurd is
@@ -49,19 +50,24 @@ failed_upgrade : (contents : List ℕ) (before after : List ℕ → Type 0) (fau
 failed_upgrade contents before after devices.Read is = is
 failed_upgrade contents before after devices.Write is = inl is
 
-pub tells_old : (contents : List ℕ) (before after : List ℕ → Type 0) (e : OpenFault) → DeviceTells contents before after e
-    → TellsOld contents before after (of_opening e)
-tells_old contents before after NotAStore is = tt
-tells_old contents before after OldFormat is = tt
-tells_old contents before after LibraryDiffers is = tt
-tells_old contents before after (Damaged place) is = tt
-tells_old contents before after (Device fault) is = failed_upgrade contents before after fault is
-tells_old contents before after Memory is = tt
+pub upgrade_tells : (contents : List ℕ) (before after : List ℕ → Type 0) (e : OpenFault) → DeviceTells contents before after e
+    → UpgradeDeviceTells contents before after (of_opening e)
+upgrade_tells contents before after NotAStore is = tt
+upgrade_tells contents before after OldFormat is = tt
+upgrade_tells contents before after LibraryDiffers is = tt
+upgrade_tells contents before after (Damaged place) is = tt
+upgrade_tells contents before after (Device fault) is = failed_upgrade contents before after fault is
+upgrade_tells contents before after Memory is = tt
 
 -- a write fails once a store is found
 pub write_failed : (contents : List ℕ) (before after : List ℕ → Type 0) (fault : DeviceFault) → fault ≡ devices.Write
     → (library : List ℕ) × (table : TableValue) × IsStoreIn One contents library table → IsFailedUpgrade contents before after fault
 write_failed contents before after fault is store = subst (λ (f : DeviceFault). IsFailedUpgrade contents before after f) (sym is) (inr store)
+
+-- what a call does that succeeds was done where it has succeeded
+pub was_done : (T E P : Type 0) (result : Result T E) → is_ok result ≡ true → OnOk result P → P
+was_done T E P (Ok x) is done = done
+was_done T E P (Err e) is done = absurd (true≢false (sym is))
 
 -- what a bank does where it stands
 module _ (bank : Bank) (shape : Shape) (head body gate : ℕ) (at : IsAt shape head body gate false bank) where

@@ -1,4 +1,4 @@
--- How many calls of the disk a store makes.
+-- How many calls of the disk a store makes. (This project's choice.)
 use Rattle.std.specs.Prelude.{ℕ, ◌+◌, List}
 use Rattle.std.specs.Int.{div_ceil}
 use Rattle.oa_table.specs.Tables.{TableValue, first_table}

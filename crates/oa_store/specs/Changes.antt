@@ -1,5 +1,5 @@
 -- What a commit, a checkpoint, an upgrade and a format may leave, each from an image of before to an image of after. All are quantified
--- over the library and the table that the image of before has.
+-- over the library and the table that the image of before has. (This project's choice.)
 use Rattle.std.specs.Prelude.{◌≡◌, ◌≢◌, ◌⊎◌, ℕ, ◌+◌, ◌-◌, ◌≤◌, List, length, slice_index}
 use Rattle.oa_disk.specs.Disk.{Torn}
 use Rattle.oa_table.specs.Tables.{TableValue, first_table}

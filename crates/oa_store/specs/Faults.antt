@@ -1,9 +1,9 @@
--- What the answers of an opening say.
-use Rattle.std.specs.Prelude.{◌≡◌, ◌≢◌, ◌⊎◌, ℕ, ◌+◌, ◌<◌, List, length, Option, Some, None, ⊤}
+-- What the answers of an opening say. (This project's choice.)
+use Rattle.std.specs.Prelude.{◌≡◌, ◌≢◌, ◌⊎◌, ℕ, ◌+◌, ◌<◌, ◌≤◌, List, length, Option, Some, None, ⊤}
 use Rattle.oa_disk.specs.Disk.{HasCounted, Only}
 use Rattle.oa_disk.specs.declared.disk.DeviceFault.{DeviceFault}
 use Rattle.oa_disk.specs.declared.disk.DeviceFault.TheVariants as devices
-use Rattle.oa_image.specs.Tables.{reserved_bytes, table_image}
+use Rattle.oa_image.specs.Tables.{FitsBank, reserved_bytes, table_image}
 use Rattle.oa_model.specs.Limits.{max_library_bytes}
 use Rattle.oa_table.specs.Tables.{TableValue}
 use Rattle.oa_journal.specs.declared.shape.Shape.{Shape}
@@ -44,13 +44,13 @@ ComesOfBanks (Device fault) = fault ≡ devices.Read
 ComesOfBanks Memory = ⊤
 
 -- it is given before a library is looked at
-abbrev pub IsHead : OpenFault → Type 0
-IsHead NotAStore = ⊤
-IsHead OldFormat = ⊥
-IsHead LibraryDiffers = ⊥
-IsHead (Damaged place) = ⊤
-IsHead (Device fault) = ⊤
-IsHead Memory = ⊥
+abbrev pub ComesOfHead : OpenFault → Type 0
+ComesOfHead NotAStore = ⊤
+ComesOfHead OldFormat = ⊥
+ComesOfHead LibraryDiffers = ⊥
+ComesOfHead (Damaged place) = ⊤
+ComesOfHead (Device fault) = ⊤
+ComesOfHead Memory = ⊥
 
 -- what a place has where damage is answered
 abbrev pub IfDamaged : OpenFault → (ℕ → Type 0) → Type 0
@@ -85,19 +85,24 @@ DeviceTells contents before after (Damaged place) = ⊤
 DeviceTells contents before after (Device fault) = IsFailed contents before after fault
 DeviceTells contents before after Memory = ⊤
 
--- Its bank begins as one of another library.
+-- its bank begins as one of another library, in format 2: a bank of format 1 is told before its library is read
 pub record IsOther (contents library : List ℕ) : Type 0 where
   pub chosen : ℕ
   pub head : IsFormatted chosen contents
-  pub shape : Shape
+  pub size : ℕ
   pub other : List ℕ
-  pub has : HasLibrary shape (from_place (head_place chosen) contents) (from_place (body_place shape chosen) contents) other
+  pub has : HasLibrary (Two size) (from_place (head_place chosen) contents) (from_place (body_place (Two size) chosen) contents) other
   pub differs : other ≢ library
 
--- it has the library that is wanted, where one is
+-- it has the library that is wanted, where one is, and then in format 2
 abbrev pub HasWanted : Option (List ℕ) → Shape → (ℕ → ℕ) → (ℕ → ℕ) → Type 0
 HasWanted None shape head body = ⊤
-HasWanted (Some library) shape head body = HasLibrary shape head body library
+HasWanted (Some library) One head body = ⊥
+HasWanted (Some library) (Two size) head body = HasLibrary (Two size) head body library
+
+-- it is in format 1
+abbrev pub HasOldShape : Shape → (ℕ → ℕ) → (ℕ → ℕ) → Type 0
+HasOldShape shape head body = shape ≡ One
 
 -- its bank has a head of format 1
 pub record IsOld (contents : List ℕ) : Type 0 where
@@ -114,18 +119,27 @@ pub record IsBeheaded (contents : List ℕ) (place : ℕ) : Type 0 where
   pub there : place ≡ head_place chosen
   pub none : IsDamagedHead (head_place chosen) contents
 
--- Its bank has a head, and its body is damaged at this place of the disk. The bank begins as one of the library that is wanted.
-pub record IsSpoilt (wanted : Option (List ℕ)) (contents : List ℕ) (place : ℕ) : Type 0 where
+-- its bank has a head, begins as is said, and its body is damaged at this place of the disk
+pub record IsSpoilt (Begins : Shape → (ℕ → ℕ) → (ℕ → ℕ) → Type 0) (contents : List ℕ) (place : ℕ) : Type 0 where
   pub chosen : ℕ
   pub head : IsFormatted chosen contents
   pub shape : Shape
   pub offset : ℕ
   pub there : place ≡ body_place shape chosen + offset
   pub damaged : IsDamagedBody shape (from_place (head_place chosen) contents) (from_place (body_place shape chosen) contents) offset
-  pub begins : HasWanted wanted shape (from_place (head_place chosen) contents) (from_place (body_place shape chosen) contents)
+  pub begins : Begins shape (from_place (head_place chosen) contents) (from_place (body_place shape chosen) contents)
 
 abbrev pub IsDamaged : Option (List ℕ) → List ℕ → ℕ → Type 0
-IsDamaged wanted contents place = IsBeheaded contents place ⊎ IsSpoilt wanted contents place
+IsDamaged wanted contents place = IsBeheaded contents place ⊎ IsSpoilt (HasWanted wanted) contents place
+
+-- What a refusal says of a disk of this size and these contents where no body was looked at.
+abbrev pub HeadSays : ℕ → List ℕ → OpenFault → Type 0
+HeadSays size contents NotAStore = IsForeign size contents
+HeadSays size contents OldFormat = ⊥
+HeadSays size contents LibraryDiffers = ⊥
+HeadSays size contents (Damaged place) = IsBeheaded contents place
+HeadSays size contents (Device fault) = ⊤
+HeadSays size contents Memory = ⊤
 
 -- it has another library than the one that is wanted
 abbrev pub IsUnwanted : Option (List ℕ) → List ℕ → Type 0
@@ -171,15 +185,25 @@ pub record IsTooLarge (bank : ℕ) (contents : List ℕ) : Type 0 where
   pub store : IsStoreIn One contents library table
   pub large : (max_library_bytes < length library) ⊎ (bank < length (table_image table) + reserved_bytes)
 
+-- The contents were a store of format 1, and each image is one of format 2 with what it held, none of it too large for a server.
+pub record IsBrought (bank : ℕ) (contents : List ℕ) (image : List ℕ → Type 0) : Type 0 where
+  pub library : List ℕ
+  pub table : TableValue
+  pub store : IsStoreIn One contents library table
+  pub each : (c : List ℕ) → image c → IsStoreIn (Two bank) c library table
+  pub short : length library ≤ max_library_bytes
+  pub fits : FitsBank bank table
+
 -- What a refusal of an upgrade to bodies of a size says of a disk of this size and these contents. Memory is asked for once a head of
 -- format 1 is found.
-abbrev pub SaysOld : ℕ → ℕ → List ℕ → UpgradeFault → Type 0
-SaysOld bank size contents upgrades.TooSmall = ⊤
-SaysOld bank size contents upgrades.NotAStore = IsForeign size contents
-SaysOld bank size contents upgrades.AlreadyNew = IsNew contents
-SaysOld bank size contents (upgrades.Damaged place) = ((place ≡ 0) × IsTooLarge bank contents) ⊎ IsDamaged None contents place
-SaysOld bank size contents (upgrades.Device fault) = ⊤
-SaysOld bank size contents upgrades.Memory = IsOld contents
+abbrev pub UpgradeSays : ℕ → ℕ → List ℕ → UpgradeFault → Type 0
+UpgradeSays bank size contents upgrades.TooSmall = ⊤
+UpgradeSays bank size contents upgrades.NotAStore = IsForeign size contents
+UpgradeSays bank size contents upgrades.AlreadyNew = IsNew contents
+UpgradeSays bank size contents (upgrades.Damaged place) =
+    ((place ≡ 0) × IsTooLarge bank contents) ⊎ IsBeheaded contents place ⊎ IsSpoilt HasOldShape contents place
+UpgradeSays bank size contents (upgrades.Device fault) = ⊤
+UpgradeSays bank size contents upgrades.Memory = IsOld contents
 
 -- an upgrade that is refused has written nothing, unless it tells that a write or a sync failed
 abbrev pub IsRefusedUpgrade : UpgradeFault → Type 0
@@ -205,10 +229,10 @@ IsFailedUpgrade contents before after devices.Read = Only contents after
 IsFailedUpgrade contents before after devices.Write = ((c : List ℕ) → before c → after c)
     ⊎ ((library : List ℕ) × (table : TableValue) × IsStoreIn One contents library table)
 
-abbrev pub TellsOld : List ℕ → (List ℕ → Type 0) → (List ℕ → Type 0) → UpgradeFault → Type 0
-TellsOld contents before after upgrades.TooSmall = ⊤
-TellsOld contents before after upgrades.NotAStore = ⊤
-TellsOld contents before after upgrades.AlreadyNew = ⊤
-TellsOld contents before after (upgrades.Damaged place) = ⊤
-TellsOld contents before after (upgrades.Device fault) = IsFailedUpgrade contents before after fault
-TellsOld contents before after upgrades.Memory = ⊤
+abbrev pub UpgradeDeviceTells : List ℕ → (List ℕ → Type 0) → (List ℕ → Type 0) → UpgradeFault → Type 0
+UpgradeDeviceTells contents before after upgrades.TooSmall = ⊤
+UpgradeDeviceTells contents before after upgrades.NotAStore = ⊤
+UpgradeDeviceTells contents before after upgrades.AlreadyNew = ⊤
+UpgradeDeviceTells contents before after (upgrades.Damaged place) = ⊤
+UpgradeDeviceTells contents before after (upgrades.Device fault) = IsFailedUpgrade contents before after fault
+UpgradeDeviceTells contents before after upgrades.Memory = ⊤

@@ -1,13 +1,13 @@
--- What refusals of a format and of an upgrade say.
+-- What refusals of a format and of an upgrade say. (This project's choice.)
 use Rattle.std.specs.Prelude.{◌≡◌, ◌↔◌, ℕ, ◌<◌, IsTrue, Result, IsErrOf}
 use Rattle.oa_disk.specs.declared.disk.Disk.{Ghosts}
 use Rattle.oa_journal.specs.declared.shape.Shape.TheVariants.{Two}
 use Rattle.oa_journal.specs.Shapes.{disk_bytes}
 use Rattle.oa_store.specs.declared.fault.UpgradeFault.{UpgradeFault}
-use Rattle.oa_store.specs.Faults.{IsCausedUpgrade, IsRefusedUpgrade, SaysOld, TellsOld}
+use Rattle.oa_store.specs.Faults.{IsCausedUpgrade, IsRefusedUpgrade, UpgradeSays, UpgradeDeviceTells}
 use Rattle.oa_store.specs.Reads.{WritesNothing}
 
--- One fault is answered exactly where the disk has no room for two bodies of this size, before its first call.
+-- One fault is answered exactly where the disk has fewer bytes than those of format 1 and two bodies of this size, before its first call.
 pub record RefusesSmall {D T E : Type 0} (g : Ghosts D) (small : E) (size : ℕ) (old new : D) (result : Result T E) : Type 0 where
   pub exactly : IsErrOf result small ↔ (g.size_of old < disk_bytes (Two size))
   pub same : IsErrOf result small → new ≡ old
@@ -15,8 +15,8 @@ pub record RefusesSmall {D T E : Type 0} (g : Ghosts D) (small : E) (size : ℕ)
 -- A store was not brought to format 2 with bodies of this size. All but the cause is said of a disk that is honest at the end.
 pub record RefusesUpgrade {D : Type 0} (g : Ghosts D) (size : ℕ) (old new : D) (fault : UpgradeFault) : Type 0 where
   -- It is true of the contents at the start.
-  pub says : IsTrue (g.is_honest new) → SaysOld size (g.size_of old) (g.contents old) fault
+  pub says : IsTrue (g.is_honest new) → UpgradeSays size (g.size_of old) (g.contents old) fault
   -- But for a write or a sync that failed, it comes before the first write.
   pub refused : IsRefusedUpgrade fault → IsTrue (g.is_honest new) → WritesNothing g.image g.moment g.image_since old new
   pub cause : IsCausedUpgrade (g.failures_of old) (g.failures_of new) fault
-  pub tells : IsTrue (g.is_honest new) → TellsOld (g.contents old) (g.image old) (g.image new) fault
+  pub tells : IsTrue (g.is_honest new) → UpgradeDeviceTells (g.contents old) (g.image old) (g.image new) fault

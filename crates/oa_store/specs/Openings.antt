@@ -1,4 +1,5 @@
 -- What an opening and an inspection answer of a disk. All is said of one that is honest at the end, but for what stands in memory.
+-- (This project's choice.)
 use Rattle.std.specs.Prelude.{◌≡◌, ℕ, ◌+◌, ◌<◌, ◌≤◌, IsTrue, true, false, List, length, Option, Some, None}
 use Rattle.oa_disk.specs.Disk.{Only}
 use Rattle.oa_disk.specs.declared.disk.Disk.{Ghosts}

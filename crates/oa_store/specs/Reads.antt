@@ -1,4 +1,4 @@
--- Calls that write nothing.
+-- Calls that write nothing. (This project's choice.)
 use Rattle.std.proofs.Common.{ℕ, List}
 use Rattle.oa_disk.specs.Disk.{LeavesOnly, Elapses}
 use Rattle.oa_disk.specs.Moments.{started, goes_on, chained}

@@ -1,4 +1,4 @@
--- What the calls of an open store that write leave of it.
+-- What the calls of an open store that write leave of it. (This project's choice.)
 use Rattle.std.specs.Prelude.{◌≡◌, ◌↔◌, ℕ, ◌+◌, ◌-◌, ◌≤◌, true, false, List, length, Result, OnOk, OnErr, IsErrOf}
 use Rattle.oa_disk.specs.Disk.{HasCounted}
 use Rattle.oa_disk.specs.declared.disk.DeviceFault.{DeviceFault}

@@ -5,7 +5,7 @@ use thiserror::Error;
 /// Why a disk was not made a store.
 #[derive(Clone, Copy, Debug, PartialEq, Eq, Error)]
 pub enum FormatFault {
-    /// It has fewer bytes than two banks of that size take.
+    /// It has fewer bytes than those of format 1 and two bodies of that size.
     #[error("disk too small")]
     TooSmall,
     /// A call of the device failed. The disk holds no store now, or one that is whole.
@@ -23,7 +23,7 @@ pub enum OpenFault {
     /// It has fewer bytes than a store, or its first byte is not 1.
     #[error("not a store")]
     NotAStore,
-    /// It is a store of format 1, which is read alone.
+    /// It is a store of format 1, which is only read: inspected or upgraded, never opened.
     #[error("old format")]
     OldFormat,
     /// Its head is whole, and its library is another one.
@@ -43,7 +43,7 @@ pub enum OpenFault {
 /// Why a store was not brought to format 2.
 #[derive(Clone, Copy, Debug, PartialEq, Eq, Error)]
 pub enum UpgradeFault {
-    /// It has fewer bytes than two bodies of that size take.
+    /// It has fewer bytes than those of format 1 and two bodies of that size.
     #[error("disk too small")]
     TooSmall,
     /// It has fewer bytes than a store, or its first byte is not 1.

@@ -1,5 +1,5 @@
 //! Making a store.
-ghost use Rattle.std.specs.Prelude.{◌≡◌, ◌≢◌, ◌⊎◌, ◌↔◌, ◌+◌, ◌*◌, ◌-◌, ◌^◌, ◌<◌, ◌≤◌, List, ℕ, true, IsTrue, length, slice_index, OnOk, IfErr};
+ghost use Rattle.std.specs.Prelude.{◌≡◌, ◌≢◌, ◌⊎◌, ◌+◌, ◌-◌, ◌<◌, ◌≤◌, List, ℕ, true, IsTrue, length, slice_index, OnOk};
 ghost use Rattle.std.specs.Prelude.{IsErrOf};
 ghost use Rattle.std.specs.Int.{div_ceil};
 ghost use Rattle.oa_disk.specs.After.{AfterAttempt, AfterWrites};
@@ -9,7 +9,7 @@ ghost use Rattle.oa_table.specs.Tables.{first_table, unlocked_table};
 ghost use Rattle.oa_image.specs.Tables.{is_numbered};
 ghost use Rattle.oa_store.specs.declared.fault.FormatFault.{FormatFault};
 ghost use Rattle.oa_journal.specs.declared.shape.Shape.TheVariants.{Two};
-ghost use Rattle.oa_journal.specs.Shapes.{disk_bytes};
+ghost use Rattle.oa_journal.specs.Shapes.{disk_bytes, least_bank_bytes, most_bank_bytes};
 ghost use Rattle.oa_store.specs.Stores.{IsStoreAt};
 ghost use Rattle.oa_store.specs.Calls.{format_calls};
 ghost use Rattle.oa_store.specs.Changes.{IsFormatting, HasBank};
@@ -45,8 +45,8 @@ fn fill<D: Disk>(
     size: u32,
 ) -> Result<(), DeviceFault>
     requires some { 0 < length buffer.old }
-    requires least { 20971520 ≤ size }
-    requires most { size ≤ 1073741824 }
+    requires least { least_bank_bytes ≤ size }
+    requires most { size ≤ most_bank_bytes }
     requires big { disk_bytes (Two size) ≤ D.size_of disk.old }
     requires fits { first_gate library.now table.now < size }
     requires numbered { is_numbered table.now ≡ true }
@@ -73,8 +73,8 @@ pub fn format<D: Disk>(
     size: u32,
 ) -> Result<(), FormatFault>
     requires short { length library.now ≤ max_library_bytes }
-    requires least { 20971520 ≤ size }
-    requires most { size ≤ 1073741824 }
+    requires least { least_bank_bytes ≤ size }
+    requires most { size ≤ most_bank_bytes }
 
     ensures any_moment { IsTrue (D.is_honest disk.old)
         → LeavesOnly D.moment D.image_since disk.old disk.new (IsFormatting size (D.image disk.old) library.now) }
@@ -91,11 +91,6 @@ pub fn format<D: Disk>(
         return Err(FormatFault::Memory);
     };
     let table = Table::new(alloc);
-    if let Err(fault) = close(disk) {
-        return Err(FormatFault::Device(fault));
-    }
-    if let Err(fault) = fill(disk, &mut buffer, library, &table, size) {
-        return Err(FormatFault::Device(fault));
-    }
-    Ok(())
+    close(disk).map_err(FormatFault::Device)?;
+    fill(disk, &mut buffer, library, &table, size).map_err(FormatFault::Device)
 }

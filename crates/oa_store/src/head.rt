@@ -1,12 +1,12 @@
 //! The bytes before the banks: the first one, and the selector.
-ghost use Rattle.std.specs.Prelude.{◌≡◌, ◌⊎◌, ◌+◌, ◌-◌, ◌^◌, ◌<◌, ◌≤◌, ℕ, List, Option, IsTrue, length, vec_capacity, slice_index, OnOk, IfOk, IfErr, IsErrOf};
+ghost use Rattle.std.specs.Prelude.{◌≡◌, ◌+◌, ◌-◌, ◌<◌, ◌≤◌, IsTrue, length, vec_capacity, slice_index, OnOk, IfOk, IfErr, IsErrOf};
 ghost use Rattle.oa_disk.specs.After.{AfterCalls};
 ghost use Rattle.oa_disk.specs.Disk.{CountsFailures, Only};
 ghost use Rattle.oa_disk.specs.declared.disk.DeviceFault.{DeviceFault};
 ghost use Rattle.oa_model.specs.Limits.{max_library_bytes};
 ghost use Rattle.oa_store.specs.declared.fault.OpenFault.{OpenFault};
 ghost use Rattle.oa_store.specs.Calls.{piece_bytes};
-ghost use Rattle.oa_store.specs.Faults.{ComesOfForeign, IsHead, IsCaused, RefusalSays, DeviceTells};
+ghost use Rattle.oa_store.specs.Faults.{ComesOfForeign, ComesOfHead, DeviceTells, HeadSays, IsCaused};
 ghost use Rattle.oa_store.specs.Reads.{WritesNothing};
 ghost use Rattle.oa_journal.specs.Bank.{HasHead};
 ghost use Rattle.oa_journal.specs.Shapes.{body_bytes, disk_bytes, IsShape};
@@ -14,7 +14,7 @@ ghost use Rattle.oa_store.specs.Stores.{store_bytes, body_place, head_place, IsF
 
 use crate::OpenFault;
 use oa_disk::{DeviceFault, Disk};
-use oa_journal::{BankFault, FORMAT_ONE_BYTES, Head, Shape, read_head};
+use oa_journal::{BankFault, FORMAT_ONE_BODY_BYTES, FORMAT_ONE_BYTES, Head, Shape, read_head};
 use oa_model::MAX_LIBRARY_BYTES;
 use std::alloc::{AllocError, Global};
 
@@ -24,7 +24,13 @@ pub const STORE_BYTES: u64 = FORMAT_ONE_BYTES;
 /// Where the selector stands.
 pub(crate) const SELECTOR: u64 = 4096;
 
-/// How many bytes of a bank are written at once.
+/// Where the head of the first bank stands.
+const FIRST_HEAD: u64 = 8_192;
+
+/// How far the head of the second bank stands behind that of the first: a head and a body of format 1.
+const NEXT_HEAD: u64 = 32 + FORMAT_ONE_BODY_BYTES as u64;
+
+/// How many bytes the buffer has that banks are written from and read through.
 const PIECE_BYTES: usize = 65_536;
 
 fn zeros(alloc: Global, count: usize) -> Result<Vec<u8>, AllocError>
@@ -33,7 +39,7 @@ fn zeros(alloc: Global, count: usize) -> Result<Vec<u8>, AllocError>
     vec![in alloc; 0; count]
 }
 
-/// The buffer that banks are written from.
+/// The buffer that banks are written from and read through.
 pub(crate) fn buffer(alloc: Global) -> Result<Vec<u8>, AllocError>
     ensures { IfOk result (λ bytes. length bytes.items ≡ piece_bytes) }
 {
@@ -46,7 +52,7 @@ pub(crate) fn head_place(bank: u8) -> u64
     ensures value { result ≡ head_place bank }
     ensures inside { result + 32 ≤ store_bytes }
 {
-    8192 + u64::from(bank) * 16_777_216
+    FIRST_HEAD + u64::from(bank) * NEXT_HEAD
 }
 
 /// Where its body stands.
@@ -58,7 +64,7 @@ pub(crate) fn body_place(shape: Shape, bank: u8) -> u64
     ensures behind { head_place bank + 32 ≤ result }
 {
     match shape {
-        Shape::One => 8224 + u64::from(bank) * 16_777_216,
+        Shape::One => FIRST_HEAD + 32 + u64::from(bank) * NEXT_HEAD,
         Shape::Two(size) => FORMAT_ONE_BYTES + u64::from(bank) * u64::from(size),
     }
 }
@@ -125,11 +131,10 @@ pub(crate) fn find_head<D: Disk>(disk: &mut D) -> Result<(u8, Head), OpenFault>
     ensures room { IfOk result (λ r. disk_bytes r.1.shape ≤ D.size_of disk.old) }
     ensures big { OnOk result (store_bytes ≤ D.size_of disk.old) }
     ensures synced { OnOk result (IsTrue (D.is_honest disk.new) → Only (D.contents disk.old) (D.image disk.new)) }
-    ensures says { IfErr result (λ e. IsTrue (D.is_honest disk.new) → (wanted : Option (List ℕ))
-        → RefusalSays wanted (D.size_of disk.old) (D.contents disk.old) e) }
+    ensures says { IfErr result (λ e. IsTrue (D.is_honest disk.new) → HeadSays (D.size_of disk.old) (D.contents disk.old) e) }
     ensures early { IfErr result (λ e. IsTrue (D.is_honest disk.new) → IsForeign (D.size_of disk.old) (D.contents disk.old)
         → ComesOfForeign e) }
-    ensures any { IfErr result IsHead }
+    ensures any { IfErr result ComesOfHead }
     ensures contents { OnOk result (IsTrue (D.is_honest disk.new) → D.contents disk.new ≡ D.contents disk.old) }
     ensures reads { IsTrue (D.is_honest disk.new) → WritesNothing D.image D.moment D.image_since disk.old disk.new }
     ensures after { AfterCalls D.Disk disk.old disk.new result }
@@ -152,7 +157,7 @@ pub(crate) fn find_head<D: Disk>(disk: &mut D) -> Result<(u8, Head), OpenFault>
 pub(crate) struct Room {
     pub chosen: u8,
     pub head: Head,
-    /// What the other bank is written from.
+    /// What banks are written from and read through.
     pub buffer: Vec<u8>,
     /// Nothing, with room for any library.
     pub library: Vec<u8>,
@@ -170,8 +175,7 @@ pub(crate) fn find_room<D: Disk>(alloc: Global, disk: &mut D) -> Result<Room, Op
     ensures none { IfOk result (λ r. length r.library.items ≡ 0) }
     ensures big { OnOk result (store_bytes ≤ D.size_of disk.old) }
     ensures synced { OnOk result (IsTrue (D.is_honest disk.new) → Only (D.contents disk.old) (D.image disk.new)) }
-    ensures says { IfErr result (λ e. IsTrue (D.is_honest disk.new) → (wanted : Option (List ℕ))
-        → RefusalSays wanted (D.size_of disk.old) (D.contents disk.old) e) }
+    ensures says { IfErr result (λ e. IsTrue (D.is_honest disk.new) → HeadSays (D.size_of disk.old) (D.contents disk.old) e) }
     ensures early { IfErr result (λ e. IsTrue (D.is_honest disk.new) → IsForeign (D.size_of disk.old) (D.contents disk.old)
         → ComesOfForeign e) }
     ensures contents { OnOk result (IsTrue (D.is_honest disk.new) → D.contents disk.new ≡ D.contents disk.old) }

@@ -1,5 +1,5 @@
 //! Going on in the other bank.
-ghost use Rattle.std.specs.Prelude.{◌≡◌, ◌+◌, ◌*◌, ◌-◌, ◌^◌, ◌<◌, ◌≤◌, List, ℕ, IsTrue, length, OnOk, IfOk, IfErr, true, false};
+ghost use Rattle.std.specs.Prelude.{◌≡◌, ◌+◌, ◌-◌, ◌<◌, ◌≤◌, IsTrue, length, OnOk, IfOk, true, false};
 ghost use Rattle.std.specs.Int.{div_ceil};
 ghost use Rattle.oa_disk.specs.After.{AfterWrites};
 ghost use Rattle.oa_disk.specs.Disk.{LeavesStep, Follows};
@@ -8,7 +8,7 @@ ghost use Rattle.oa_table.specs.Tables.{unlocked_table};
 ghost use Rattle.oa_journal.specs.Append.{IsAt};
 ghost use Rattle.oa_journal.specs.Banks.{first_gate};
 ghost use Rattle.oa_journal.specs.declared.shape.Shape.TheVariants.{Two};
-ghost use Rattle.oa_journal.specs.Shapes.{disk_bytes};
+ghost use Rattle.oa_journal.specs.Shapes.{disk_bytes, least_bank_bytes, most_bank_bytes};
 ghost use Rattle.oa_store.specs.Changes.{IsMove, IsMoved};
 ghost use Rattle.oa_store.specs.Stores.{body_place, head_place};
 
@@ -30,8 +30,8 @@ pub(crate) fn switch_to<D: Disk>(
 ) -> Result<Bank, DeviceFault>
     requires some { 0 < length buffer.old }
     requires two { chosen < 2 }
-    requires least { 20971520 ≤ size }
-    requires most { size ≤ 1073741824 }
+    requires least { least_bank_bytes ≤ size }
+    requires most { size ≤ most_bank_bytes }
     requires fits { first_gate library.now table.now < size }
     requires numbered { is_numbered table.now ≡ true }
     requires room { disk_bytes (Two size) ≤ D.size_of disk.old }

@@ -1,18 +1,19 @@
 //! Bringing a store of format 1 to format 2.
-ghost use Rattle.std.specs.Prelude.{◌≡◌, ◌⊎◌, ◌↔◌, ◌+◌, ◌*◌, ◌-◌, ◌^◌, ◌<◌, ◌≤◌, List, ℕ, None, IsTrue, length, OnOk, OnErr, IfOk, IfErr};
-ghost use Rattle.std.specs.Prelude.{IsErr, IsErrOf, true};
+ghost use Rattle.std.specs.Prelude.{◌≡◌, ◌+◌, ◌*◌, ◌-◌, ◌<◌, ◌≤◌, List, ℕ, IsTrue, length, OnOk, IfOk, IfErr};
+ghost use Rattle.std.specs.Prelude.{IsErrOf, true};
 ghost use Rattle.oa_disk.specs.After.{AfterCalls};
 ghost use Rattle.oa_disk.specs.Disk.{LeavesStep, Only};
-ghost use Rattle.oa_image.specs.Tables.{is_numbered, table_image};
+ghost use Rattle.oa_image.specs.Tables.{is_numbered};
 ghost use Rattle.oa_table.specs.Tables.{TableValue};
+ghost use Rattle.oa_journal.specs.Shapes.{least_bank_bytes, most_bank_bytes};
 ghost use Rattle.oa_journal.specs.declared.shape.Shape.TheVariants.{One, Two};
 ghost use Rattle.oa_store.specs.declared.fault.UpgradeFault.{UpgradeFault};
 ghost use Rattle.oa_store.specs.Calls.{piece_bytes, checkpoint_calls};
 ghost use Rattle.oa_store.specs.Changes.{IsUpgrade};
-ghost use Rattle.oa_store.specs.Faults.{of_opening, IsCausedUpgrade, SaysOld, TellsOld};
+ghost use Rattle.oa_store.specs.Faults.{of_opening, IsBrought, IsCausedUpgrade, UpgradeSays, UpgradeDeviceTells};
 ghost use Rattle.oa_store.specs.Making.{RefusesSmall, RefusesUpgrade};
 ghost use Rattle.oa_store.specs.Reads.{WritesNothing};
-ghost use Rattle.oa_store.specs.Stores.{IsForeign, IsStoreAt, IsStoreIn};
+ghost use Rattle.oa_store.specs.Stores.{IsStoreAt};
 
 use crate::head::{buffer, find_head};
 use crate::reading::look;
@@ -58,10 +59,10 @@ fn find_old<D: Disk>(alloc: Global, disk: &mut D) -> Result<Old, UpgradeFault>
     ensures numbered { IfOk result (λ o. is_numbered o.table ≡ true) }
     ensures buffer { IfOk result (λ o. length o.buffer.items ≡ piece_bytes) }
     ensures synced { OnOk result (IsTrue (D.is_honest disk.new) → Only (D.contents disk.old) (D.image disk.new)) }
-    ensures says { IfErr result (λ e. IsTrue (D.is_honest disk.new) → (bank : ℕ) → SaysOld bank (D.size_of disk.old) (D.contents disk.old) e) }
+    ensures says { IfErr result (λ e. IsTrue (D.is_honest disk.new) → (bank : ℕ) → UpgradeSays bank (D.size_of disk.old) (D.contents disk.old) e) }
     ensures cause { IfErr result (IsCausedUpgrade (D.failures_of disk.old) (D.failures_of disk.new)) }
     ensures tells { IfErr result (λ e. IsTrue (D.is_honest disk.new)
-        → TellsOld (D.contents disk.old) (D.image disk.old) (D.image disk.new) e) }
+        → UpgradeDeviceTells (D.contents disk.old) (D.image disk.old) (D.image disk.new) e) }
     ensures small { IsErrOf result UpgradeFault.TooSmall → ⊥ }
     ensures reads { IsTrue (D.is_honest disk.new) → WritesNothing D.image D.moment D.image_since disk.old disk.new }
     ensures after { AfterCalls D.Disk disk.old disk.new result }
@@ -92,16 +93,14 @@ fn find_old<D: Disk>(alloc: Global, disk: &mut D) -> Result<Old, UpgradeFault>
 ///
 /// Refused as `TooSmall` before the first call of the disk, and otherwise, but for a fault of the device, before the first write.
 pub fn upgrade<D: Disk>(alloc: Global, disk: &mut D, size: u32) -> Result<(), UpgradeFault>
-    requires least { 20971520 ≤ size }
-    requires most { size ≤ 1073741824 }
+    requires least { least_bank_bytes ≤ size }
+    requires most { size ≤ most_bank_bytes }
 
     // A crash at any moment leaves the same library and the same table, in the old format or in the new one.
     ensures any_moment { IsTrue (D.is_honest disk.new)
         → LeavesStep D.moment D.image_since D.image disk.old disk.new (IsUpgrade size) }
-    // And at `Ok` in the new one alone: the contents were a store of format 1, and each image is one of format 2 with what it held.
-    ensures done { OnOk result (IsTrue (D.is_honest disk.new) → (library : List ℕ) × (table : TableValue)
-        × IsStoreIn One (D.contents disk.old) library table
-        × ((c : List ℕ) → D.image disk.new c → IsStoreIn (Two size) c library table)) }
+    // And at `Ok` in the new one alone, with what it held, none of it larger than a server takes.
+    ensures done { OnOk result (IsTrue (D.is_honest disk.new) → IsBrought size (D.contents disk.old) (D.image disk.new)) }
     ensures small { RefusesSmall D.Disk UpgradeFault.TooSmall size disk.old disk.new result }
     ensures refused { IfErr result (λ e. RefusesUpgrade D.Disk size disk.old disk.new e) }
     // at most the calls of a reading, as `inspect` makes them, and those of a checkpoint
@@ -127,8 +126,6 @@ pub fn upgrade<D: Disk>(alloc: Global, disk: &mut D, size: u32) -> Result<(), Up
         table,
         mut buffer,
     } = old;
-    match switch_to(disk, &mut buffer, chosen, size, &library, &table) {
-        Ok(_) => Ok(()),
-        Err(fault) => Err(UpgradeFault::Device(fault)),
-    }
+    switch_to(disk, &mut buffer, chosen, size, &library, &table).map_err(UpgradeFault::Device)?;
+    Ok(())
 }

@@ -1,4 +1,4 @@
--- A buffer between a reader and its caller.
+-- A buffer between a reader and its caller. (This project's choice.)
 use Rattle.std.specs.Prelude.{◌≡◌, ℕ, ◌<◌, Bool, true, false, List, [], length, slice_range, Option, ⊤}
 use Rattle.std.specs.Io.KnownBytes.{Consumes, Keeps, IsAtEnd, prepend_known}
 use Rattle.oa_stream.specs.declared.ahead.Ahead.{Ahead}

@@ -1,4 +1,4 @@
--- A buffer between a caller and a writer.
+-- A buffer between a caller and a writer. (This project's choice.)
 use Rattle.std.specs.Prelude.{ℕ, ◌+◌, ◌-◌, ◌≤◌, List, ◌++◌, length}
 use Rattle.std.proofs.Common.{arith, length-append}
 use Rattle.oa_stream.specs.declared.behind.Behind.{Behind}

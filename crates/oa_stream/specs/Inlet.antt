@@ -1,4 +1,4 @@
--- Readers of the standard library.
+-- Readers of the standard library. (This project's choice.)
 use Rattle.std.specs.Prelude.{ℕ, false, List, Option}
 use Rattle.oa_stream.specs.declared.inlet.Inlet.{Inlet}
 use Rattle.oa_stream.specs.Source.{Input}

@@ -1,4 +1,4 @@
--- Readers and writers in memory.
+-- Readers and writers in memory. (This project's choice.)
 use Rattle.std.specs.Prelude.{◌+◌, ◌-◌, ◌&&◌, ◌==◌, true, [], Some, vec_capacity, vec_len}
 use Rattle.oa_stream.specs.declared.gathered.Gathered.{Gathered}
 use Rattle.oa_stream.specs.declared.cutting.Cutting.{Cutting}

@@ -1,4 +1,4 @@
--- Writers of the standard library.
+-- Writers of the standard library. (This project's choice.)
 use Rattle.std.specs.Prelude.{◌≡◌, ℕ, ◌+◌, ◌<◌, ◌≤◌, Bool, true, false, List, [], length, take, Option}
 use Rattle.std.specs.Io.KnownBytes.{Appends, Keeps}
 use Rattle.oa_stream.specs.declared.outlet.Outlet.{Outlet}

@@ -25,7 +25,7 @@ impl<W: Sink + Drop> Behind<W> {
         Ok(Behind { writer, back })
     }
 
-    // Passes on what is kept back.
+    /// Passes on what is kept back.
     fn pass(&mut self) -> Result<(), Unwritten>
         requires unbroken { (W.out self.old.writer).broken ≡ false }
         ensures empty { IfOk result (λ _. self.new.back.bytes.items ≡ []) }

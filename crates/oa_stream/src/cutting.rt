@@ -20,7 +20,7 @@ impl<'a> Cutting<'a> {
         Cutting { bytes, lengths }
     }
 
-    // How many bytes the next call gives at most.
+    /// How many bytes the next call gives at most.
     fn most(&mut self) -> usize
         ensures some { 0 < result }
         ensures bytes { self.new.bytes ≡ self.old.bytes }

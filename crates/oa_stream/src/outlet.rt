@@ -47,7 +47,7 @@ impl<W: Write> Outlet<W> {
         }
     }
 
-    // One write call, after which a flush is wanting. A call that takes nothing is a failure.
+    /// One write call, after which a flush is wanting. A call that takes nothing is a failure.
     fn take(&mut self, bytes: &[u8]) -> Taken
         requires unbroken { self.old.broken ≡ false }
         requires some { 0 < length bytes.now }
@@ -71,7 +71,7 @@ impl<W: Write> Outlet<W> {
         }
     }
 
-    // A call of the writer has failed.
+    /// A call of the writer has failed.
     fn fail(&mut self) -> Taken
         ensures fault { result ≡ Taken.Fault }
         ensures broken { self.new.broken ≡ true }
@@ -85,7 +85,7 @@ impl<W: Write> Outlet<W> {
         Taken::Fault
     }
 
-    // One flush.
+    /// One flush.
     fn flush(&mut self) -> Taken
         requires unbroken { self.old.broken ≡ false }
         requires few { self.old.tries < most_tries }

@@ -1,5 +1,5 @@
 //! Readers that give some bytes a call.
-ghost use Rattle.std.specs.Prelude.{◌≡◌, ◌<◌, true, false, length};
+ghost use Rattle.std.specs.Prelude.{◌≡◌, ◌<◌, false, length};
 ghost use Rattle.oa_stream.specs.Source.{Fills, Input, in_memory};
 
 /// What one read call gave.

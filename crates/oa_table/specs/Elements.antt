@@ -38,7 +38,7 @@ with_element_put index element (AnArray a) =
     then (if fits_type element a.elem then Ok (AnArray (with_cell a index element)) else Err (Array arrays.TypeMismatch))
     else Err (Array arrays.BadIndex)
 
--- the first bound is replaced: there must be no lock, and then not too many cells
+-- the first bound is replaced: there must be no lock, and then not too many elements
 abbrev pub redimensioned_value : Bound → Variant → Result Variant TableFault
 redimensioned_value bound (One s) = Err NotArray
 redimensioned_value bound (AnArray a) =

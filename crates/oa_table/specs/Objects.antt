@@ -1,4 +1,4 @@
--- Changes of the cells of an object, or why there is none.
+-- Changes of the cells of an object, or why there is none. (This project's choice.)
 use Rattle.std.specs.Prelude.{ℕ, ◌==◌, Bool, if◌then◌else◌, List, Option, Some, None, Result, Ok, Err}
 use Rattle.std.specs.List.{list_any}
 use Rattle.std.specs.Map.{set_value, values_of}

@@ -1,4 +1,4 @@
--- What a call that may refuse a change answers, and what it leaves.
+-- What a call that may refuse a change answers, and what it leaves. (This project's choice.)
 use Rattle.std.specs.Prelude.{◌≡◌, ℕ, Result, Ok, Err, IsOk}
 use Rattle.oa_table.specs.declared.fault.TableFault.{TableFault}
 use Rattle.oa_table.specs.declared.fault.TableFault.TheVariants.{Memory}

@@ -1,4 +1,4 @@
--- The table of a next number and a list of objects.
+-- The table of a next number and a list of objects. (This project's choice.)
 use Rattle.std.specs.Prelude.{◌≡◌, ◌<◌, ◌≤◌, ℕ, List, [], ◌∷◌, map, All}
 use Rattle.std.specs.List.{IsDistinct}
 use Rattle.std.specs.Map.{keys_of, values_of}

@@ -28,7 +28,7 @@ pub enum Event {
         index: Indices,
         value: Scalar,
     },
-    /// The array in a cell gets another first bound; cells stay at their positions.
+    /// The array in a cell gets another first bound; elements stay at their positions.
     Redim {
         name: CellName,
         bound: Bound,

@@ -4,7 +4,7 @@
 //! Its contract: `apply` of an event gives the one new table, or the reason why the event does not apply, or
 //! want of memory with nothing changed (`applied`).
 //!
-//! What stands on it: oa_image writes it, oa_fits judges it, oa_turn changes it and answers from it; the storage
+//! What stands on it: oa_image writes it, oa_fits judges it, oa_decision answers from it, oa_turn changes it; the storage
 //! crates, whose stores are of such tables.
 #![tactic(auto)]
 

@@ -4,10 +4,8 @@ ghost use Rattle.std.specs.List.Sorted.{IsStrictlySortedBy};
 ghost use Rattle.std.specs.Map.{keys_of};
 ghost use Rattle.std.specs.Option.{option_map};
 ghost use Rattle.std.specs.Ordering.{nat_cmp};
-ghost use Rattle.oa_table.specs.Elements.{with_element_put, redimensioned_value};
 ghost use Rattle.oa_table.specs.Events.{BringsNoLocks, applied};
 ghost use Rattle.oa_table.specs.Locks.{locked_in, locks_at, with_lock, without_lock};
-ghost use Rattle.oa_table.specs.Objects.{with_change};
 ghost use Rattle.oa_table.specs.Outcomes.{CountsLocks, Does};
 ghost use Rattle.oa_table.specs.Parts.{table_of};
 ghost use Rattle.oa_table.specs.Sizes.{largest_cell, table_size};
@@ -127,10 +125,10 @@ impl Objects {
         match event {
             Event::Create { number, class } => self.create(number, class),
             Event::Release { number } => self.release(number),
-            Event::Put { name, value } => match self.put(name, value) {
-                Ok(_) => Ok(()),
-                Err(refused) => Err(refused),
-            },
+            Event::Put { name, value } => {
+                self.put(name, value)?;
+                Ok(())
+            }
             Event::PutElement { name, index, value } => self.put_element(name, index, value),
             Event::Redim { name, bound } => self.redim(name, bound),
         }
@@ -206,14 +204,10 @@ impl Objects {
             let name = CellName { object, place };
             return Err((Event::Put { name, value }, TableFault::NoObject));
         };
-        let change = match found.put(place, value) {
-            Ok(change) => change,
-            Err(((place, value), fault)) => {
-                let name = CellName { object, place };
-                return Err((Event::Put { name, value }, fault));
-            }
-        };
-        Ok(change)
+        found.put(place, value).map_err(|((place, value), fault)| {
+            let name = CellName { object, place };
+            (Event::Put { name, value }, fault)
+        })
     }
 
     fn put_element(

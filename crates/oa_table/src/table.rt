@@ -109,10 +109,7 @@ impl Table {
     pub fn class_of(&self, number: u32) -> Option<Uuid>
         ensures { result ≡ class_in (object_at number self.now) }
     {
-        match self.objects.get(number) {
-            Some(object) => Some(object.class()),
-            None => None,
-        }
+        Some(self.objects.get(number)?.class())
     }
 
     /// An object; None where there is none of that number.
@@ -126,10 +123,7 @@ impl Table {
     pub fn get(&self, name: &CellName) -> Option<&Variant>
         ensures { option_map (λ x. x.now) result ≡ cell_in name.now.place (object_at name.now.object self.now) }
     {
-        match self.objects.get(name.object) {
-            Some(object) => object.get(&name.place),
-            None => None,
-        }
+        self.objects.get(name.object)?.get(&name.place)
     }
 
     /// Whether an array of an object is locked. Looks at the object's own cells.
@@ -286,13 +280,9 @@ impl Table {
         if self.size > ROOM_FOR_ANY_PUT {
             return self.change(Event::Put { name, value });
         }
-        match self.objects.put(name, value) {
-            Ok(change) => {
-                self.size = self.size + change.come - change.gone;
-                Ok(())
-            }
-            Err(refused) => Err(refused),
-        }
+        let change = self.objects.put(name, value)?;
+        self.size = self.size + change.come - change.gone;
+        Ok(())
     }
 
     /// `apply` of the event that sets an element of the array in a cell.
@@ -323,13 +313,9 @@ impl Table {
         if size > LARGEST_IMAGE {
             return Err((event, TableFault::Memory));
         }
-        match self.objects.apply(event) {
-            Ok(()) => {
-                self.size = size;
-                Ok(())
-            }
-            Err(refused) => Err(refused),
-        }
+        self.objects.apply(event)?;
+        self.size = size;
+        Ok(())
     }
 
     /// Adds a lock of the array in a cell, and answers the new count. NoObject where there is no such object, NotArray where the cell was

@@ -3,6 +3,7 @@ use Rattle.std.proofs.Common.{◌≡◌, ℕ, ◌+◌, ◌-◌, ◌≤◌, ◌�
 use Rattle.std.proofs.Common.{◌∙◌, arith}
 use Rattle.std.specs.Prelude.{nat_lt, if◌then◌else◌}
 use Rattle.std.proofs.lemmas.Bool.{ltb-false}
+use Rattle.std.specs.Result.{IsErrAnd, MatchResult}
 use Rattle.oa_image.specs.Tables.{reserved_bytes}
 use Rattle.oa_model.specs.Limits.{max_event_bytes}
 use Rattle.oa_image.specs.Events.{event_image}
@@ -23,6 +24,7 @@ use Rattle.oa_table.specs.Outcomes.{Because}
 use Rattle.oa_table.specs.Tables.{TableValue, first_table, unlocked_table}
 use Rattle.oa_decision.specs.declared.decision.LockChange.{LockChange}
 use Rattle.oa_decision.specs.declared.decision.LockChange.TheVariants.{Lock, Unlock}
+use Rattle.oa_turn.specs.Changes.{ChangesTable, MakesTable}
 use Rattle.oa_turn.specs.Steps.{relocked}
 use Rattle.oa_turn.specs.Limits.{IsSoundTable, least_bank}
 use Rattle.oa_decision.specs.Limits.{allowed, limited, within_limits}
@@ -99,6 +101,14 @@ allowed_sound bank event old new sound is = stays_sound bank event old new sound
 -- an event that is within the limits is allowed where it applies
 pub within_allowed : (bank : ℕ) (event : Event) (old new : TableValue) → applied event old ≡ Ok new → within_limits bank event new ≡ Ok new → allowed bank event old ≡ Ok new
 within_allowed bank event old new at is = rw at is
+
+-- a change that is allowed, where each refusal was made the code of want of memory
+pub changed : {E : Type 0} (bank : ℕ) (event : Event) (old new : TableValue) (P : E → HResult → Type 0) (from : Result (Unit {0}) E) (to : Result (Unit {0}) HResult)
+    → IsOk (allowed bank event old) → MakesTable event old new from → MatchResult from (λ u. to ≡ Ok u) (λ e. IsErrAnd to (P e))
+    → ((e : E) (code : HResult) → P e code → code ≡ e_outofmemory) → ChangesTable bank event old new to
+changed bank event old new P (Ok u) to ok made told coded = rw told (is_allowed bank event old new ok made).is
+changed bank event old new P (Err e) (Ok u) ok made told coded = absurd told
+changed bank event old new P (Err e) (Err code) ok made told coded = (made, inr (coded e code told, ok))
 
 -- why the table does not apply an event that is within the limits
 pub why_refused : (bank : ℕ) (event : Event) (old : TableValue) (fault : TableFault) → ((new : TableValue) → applied event old ≡ Ok new → within_limits bank event new ≡ Ok new) → Because (applied event old) fault

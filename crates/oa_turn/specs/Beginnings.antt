@@ -1,4 +1,4 @@
--- With which tables a server begins.
+-- With which tables a server begins. (This project's choice.)
 use Rattle.std.specs.Prelude.{◌≡◌, ℕ, true}
 use Rattle.oa_fits.specs.Fits.{fits}
 use Rattle.oa_idl.specs.Trees.{TreeValue}

@@ -1,4 +1,4 @@
--- What a change makes of a table, and of a state.
+-- What a change makes of a table, and of a state. (This project's choice.)
 use Rattle.std.specs.Prelude.{◌≡◌, ◌⊎◌, ℕ, Result, Ok, Err, IsOk}
 use Rattle.oa_model.specs.declared.hresult.HResult.{HResult}
 use Rattle.oa_model.specs.Codes.{e_outofmemory}

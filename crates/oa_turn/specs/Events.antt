@@ -1,4 +1,4 @@
--- What images hold of a state, and the event that a turn makes.
+-- What images hold of a state, and the event that a turn makes. (This project's choice.)
 use Rattle.std.specs.Prelude.{◌≡◌, ℕ, ◌==◌, Bool, false, true, List, [], Option, Some, None}
 use Rattle.oa_image.specs.Events.{event_image}
 use Rattle.oa_record.specs.Asks.{Asks}

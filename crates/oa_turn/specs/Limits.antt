@@ -1,4 +1,4 @@
--- The tables that a server can have.
+-- The tables that a server can have. (This project's choice.)
 use Rattle.std.specs.Prelude.{◌≡◌, ◌+◌, ℕ, true}
 use Rattle.oa_image.specs.Tables.{FitsBank, is_numbered, reserved_bytes}
 use Rattle.oa_table.specs.Tables.{TableValue}

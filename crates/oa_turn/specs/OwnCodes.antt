@@ -1,4 +1,4 @@
--- The codes that tell of the device, which no step answers.
+-- The codes that tell of the device, which no step answers. (This project's choice.)
 use Rattle.std.specs.Prelude.{◌==◌, ◌&&◌, not, Bool}
 use Rattle.oa_model.specs.declared.hresult.HResult.{HResult}
 use Rattle.oa_model.specs.Codes.{e_fail, stg_e_writefault}

@@ -1,4 +1,4 @@
--- What is left of a turn once its body was looked at.
+-- What is left of a turn once its body was looked at. (This project's choice.)
 use Rattle.std.specs.Prelude.{◌≡◌, List, [], ℕ, None, Ok, Err, IsOk, ⊤}
 use Rattle.oa_model.specs.declared.hresult.HResult.{HResult}
 use Rattle.oa_record.specs.declared.request.Request.{Request}

@@ -1,4 +1,4 @@
--- What becomes of a body that asks for another library, before anything is changed.
+-- What becomes of a body that asks for another library, before anything is changed. (This project's choice.)
 use Rattle.std.specs.Prelude.{◌≡◌, ◌⊎◌, ℕ, false, List, IsSome, Some, None, Result, Ok, Err}
 use Rattle.oa_idl.specs.Trees.{TreeValue}
 use Rattle.oa_model.specs.Codes.{bad_stub_data, e_outofmemory}

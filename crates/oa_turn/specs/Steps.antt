@@ -1,4 +1,5 @@
 -- The step of a request: its outcome, and so its reply and the state after it. A request that is refused changes nothing.
+-- (This project's choice.)
 use Rattle.std.specs.Prelude.{◌≡◌, ℕ, List, [], Option, Some, None, Result, Ok, Err}
 use Rattle.oa_model.specs.declared.hresult.HResult.{HResult}
 use Rattle.oa_model.specs.Codes.{s_ok}

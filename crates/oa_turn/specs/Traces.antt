@@ -1,4 +1,4 @@
--- What is left of a run without turns that were not answered with S_OK.
+-- What is left of a run without turns that were not answered with S_OK. (This project's choice.)
 use Rattle.std.specs.Prelude.{ℕ, ◌==◌, ◌&&◌, not, Bool, if◌then◌else◌, List, [], ◌∷◌}
 use Rattle.oa_record.specs.Replies.{ReplyValue}
 

@@ -1,4 +1,4 @@
--- Turns of a server, and runs of turns.
+-- Turns of a server, and runs of turns. (This project's choice.)
 use Rattle.std.specs.Prelude.{◌≡◌, ◌⊎◌, ℕ, true, false, List, [], ◌∷◌, Option, None}
 use Rattle.oa_model.specs.Codes.{bad_stub_data, disp_e_badvartype, e_outofmemory}
 use Rattle.oa_record.specs.declared.request.Request.{Request}

@@ -1,7 +1,6 @@
 //! The ways in which a table changes.
-ghost use Rattle.std.specs.Prelude.{◌≡◌, ◌-◌, ◌<◌, ℕ, IsOk, Ok};
-ghost use Rattle.oa_turn.specs.Changes.{MakesTable, RelocksTable};
-ghost use Rattle.oa_turn.specs.Changes.{ChangesTable};
+ghost use Rattle.std.specs.Prelude.{◌≡◌, ℕ, IsOk};
+ghost use Rattle.oa_turn.specs.Changes.{ChangesTable, MakesTable, RelocksTable};
 ghost use Rattle.oa_turn.specs.Limits.{IsSoundTable};
 ghost use Rattle.oa_decision.specs.Limits.{StaysWithin, allowed};
 ghost use Rattle.oa_decision.specs.declared.decision.LockChange.TheVariants.{Lock as ALock, Unlock as AnUnlock};
@@ -39,10 +38,7 @@ pub(crate) fn change(bank: u32, table: &mut Table, event: Event) -> Result<(), H
     if let Some(code) = disallowed(bank, table, &event) {
         return Err(code);
     }
-    match apply(table, event) {
-        Ok(()) => Ok(()),
-        Err(_) => Err(HResult::E_OUTOFMEMORY),
-    }
+    apply(table, event).map_err(|_| HResult::E_OUTOFMEMORY)
 }
 
 /// The same of one that is within the limits, where it applies.
@@ -74,10 +70,8 @@ fn lock(table: &mut Table, name: CellName) -> Result<(), TableFault>
     ensures same { unlocked_table table.new ≡ unlocked_table table.old }
     ensures sound { (bank : ℕ) → IsSoundTable bank table.old → IsSoundTable bank table.new }
 {
-    match table.lock(&name) {
-        Ok(_) => Ok(()),
-        Err(fault) => Err(fault),
-    }
+    table.lock(&name)?;
+    Ok(())
 }
 
 fn unlock(table: &mut Table, name: CellName) -> Result<(), TableFault>
@@ -85,8 +79,6 @@ fn unlock(table: &mut Table, name: CellName) -> Result<(), TableFault>
     ensures same { unlocked_table table.new ≡ unlocked_table table.old }
     ensures sound { (bank : ℕ) → IsSoundTable bank table.old → IsSoundTable bank table.new }
 {
-    match table.unlock(&name) {
-        Ok(_) => Ok(()),
-        Err(fault) => Err(fault),
-    }
+    table.unlock(&name)?;
+    Ok(())
 }

@@ -1,5 +1,5 @@
 //! A library and a table in memory, and one turn after another.
-ghost use Rattle.std.specs.Prelude.{◌≡◌, ◌-◌, ◌≤◌, List, ℕ, [], map, IsOk, IfOk, OnErr};
+ghost use Rattle.std.specs.Prelude.{◌≡◌, ◌≤◌, List, ℕ, [], map, IsOk, IfOk, OnErr};
 ghost use Rattle.oa_decision.specs.Decisions.{ChangesNoLocks, Decides};
 ghost use Rattle.oa_turn.specs.Changes.{MakesChange};
 ghost use Rattle.oa_turn.specs.Steps.{after_outcome, relocked, relocking};
@@ -9,7 +9,6 @@ ghost use Rattle.oa_turn.specs.Plans.{Drafts, HasNoEvent, HoldsSame, IsDrafted, 
 ghost use Rattle.oa_decision.specs.Decided.{decided, may_want_memory};
 ghost use Rattle.oa_turn.specs.Steps.{reply_with};
 ghost use Rattle.oa_turn.specs.Turns.{Ordinary, Run, Turn};
-ghost use Rattle.oa_record.specs.Replacement.{is_replacement};
 ghost use Rattle.oa_table.specs.Events.{BringsNoLocks};
 ghost use Rattle.oa_table.specs.Tables.{first_table};
 

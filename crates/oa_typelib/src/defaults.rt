@@ -4,7 +4,7 @@ ghost use Rattle.oa_model.specs.Folding.{folded_name};
 ghost use Rattle.oa_checks.specs.Libraries.{same};
 ghost use Rattle.oa_typelib.specs.Indexes.{default_among, default_in};
 
-use oa_checks::{Names, folded};
+use oa_checks::{FoldedNames, folded};
 use oa_idl::{Entry, Item, Name};
 use std::alloc::{AllocError, Global};
 
@@ -15,14 +15,18 @@ fn default_entry(entries: &[Entry]) -> Option<&Entry>
 }
 
 /// The place of the item that has a name.
-fn place_named(alloc: Global, names: &Names, name: &Name) -> Result<Option<usize>, AllocError>
+fn place_named(alloc: Global, names: &FoldedNames, name: &Name) -> Result<Option<usize>, AllocError>
     ensures { IfOk result (λ place. place ≡ position (same (folded_name name.now)) names.now) }
 {
     let key = folded(alloc, name)?;
     Ok(names.place(key.as_slice()))
 }
 
-fn entry_place(alloc: Global, names: &Names, entries: &[Entry]) -> Result<Option<usize>, AllocError>
+fn entry_place(
+    alloc: Global,
+    names: &FoldedNames,
+    entries: &[Entry],
+) -> Result<Option<usize>, AllocError>
     ensures { IfOk result (λ place. place ≡ default_among names.now entries.now) }
 {
     match default_entry(entries) {
@@ -31,7 +35,11 @@ fn entry_place(alloc: Global, names: &Names, entries: &[Entry]) -> Result<Option
     }
 }
 
-fn item_default(alloc: Global, names: &Names, item: &Item) -> Result<Option<usize>, AllocError>
+fn item_default(
+    alloc: Global,
+    names: &FoldedNames,
+    item: &Item,
+) -> Result<Option<usize>, AllocError>
     ensures { IfOk result (λ place. place ≡ default_in names.now item.now) }
 {
     match item {
@@ -43,7 +51,7 @@ fn item_default(alloc: Global, names: &Names, item: &Item) -> Result<Option<usiz
 /// The place of each coclass's default interface.
 pub(crate) fn find_defaults(
     alloc: Global,
-    names: &Names,
+    names: &FoldedNames,
     items: &[Item],
 ) -> Result<Vec<Option<usize>>, AllocError>
     ensures { IfOk result (λ v. v.items ≡ map (default_in names.now) items.now) }

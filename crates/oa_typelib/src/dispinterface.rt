@@ -67,7 +67,7 @@ impl<'a> Dispinterface<'a> {
         self.interface
     }
 
-    // What is true of each interface of a library: a call can be bound to each of its properties.
+    /// What is true of each interface of a library: a call can be bound to each of its properties.
     fn is_sound(&self)
         ensures { AreSound (declarations self.now) }
     {

@@ -3,7 +3,7 @@
 //! Its contract: `check` answers a library exactly where its tree has no breach (`IsLibrary`), and else the
 //! first; each look-up gives what the definitions over the tree say (`Members`, `Names`, `Descriptions`).
 //!
-//! What stands on it: oa_keeps, oa_bind, oa_fits, oa_description, oa_turn, oa_server, and the program.
+//! What stands on it: oa_keeps, oa_bind, oa_fits, oa_description, oa_decision, oa_turn, oa_server, and the program.
 #![tactic(auto)]
 
 mod access;

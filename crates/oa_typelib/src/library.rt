@@ -28,7 +28,7 @@ use crate::members::Members;
 use oa_canonical::laws::marked_is_read;
 use oa_canonical::print;
 use oa_checks::{
-    CheckError, Checked, Guids, Names, at, check_tree, class_at, interface_at, is_zero_guid,
+    CheckError, Checked, FoldedNames, Guids, at, check_tree, class_at, interface_at, is_zero_guid,
     items_of, mark, place_in_front,
 };
 use oa_idl::{Coclass, Item, Tree};
@@ -93,7 +93,12 @@ pub fn check(alloc: Global, tree: Tree) -> Result<Library, CheckError>
 }
 
 /// The library of a tree that breaks none of the checks but perhaps the last, that of its text's length.
-fn library_of(alloc: Global, tree: Tree, names: &Names, guids: Guids) -> Result<Library, CheckError>
+fn library_of(
+    alloc: Global,
+    tree: Tree,
+    names: &FoldedNames,
+    guids: Guids,
+) -> Result<Library, CheckError>
     requires text { IsOfText tree }
     requires unbroken { tree_breach tree ≡ None }
     requires names { names.now ≡ folded_names tree.items }
@@ -126,7 +131,7 @@ struct Kept {
 }
 
 /// What a library keeps of a tree whose defaults are marked, where its canonical text is short enough.
-fn kept_of(alloc: Global, tree: &Tree, names: &Names) -> Result<Kept, CheckError>
+fn kept_of(alloc: Global, tree: &Tree, names: &FoldedNames) -> Result<Kept, CheckError>
     ensures { RefusesBreach (length_breach tree.now) (λ kept. (kept.text.items ≡ canonical tree.now) × (kept.index ≡ index_of tree.now)
         × (kept.defaults.items ≡ map (default_in names.now) tree.now.items)) result }
 {
@@ -156,13 +161,6 @@ fn is_text(text: &[u8]) -> bool
 }
 
 impl Library {
-    /// The tree, with one default interface marked in each coclass.
-    pub fn tree(&self) -> &Tree
-        ensures { result.now ≡ self.now }
-    {
-        &self.tree
-    }
-
     /// The canonical text of the tree (docs/idl.md), of which the tree is read again.
     pub fn text(&self) -> &[u8]
         ensures text { result.now ≡ canonical self.now }

@@ -85,7 +85,7 @@ static WRITINGS: [Writing; 9] = writings! {
     "a flush that is interrupted and fails": &[1, 2], [Moves, Moves, Interrupts, Fails, Moves] => Err(Unwritten), 4;
 };
 
-// Puts bytes and delivers them, and delivers nothing more.
+/// Puts bytes and delivers them, and delivers nothing more.
 fn put<W: Sink>(writer: &mut W, bytes: &[u8]) -> Result<(), Unwritten>
     requires { (W.out writer.old).broken ≡ false }
 {
@@ -107,7 +107,7 @@ fn an_interrupted_write_is_made_again_and_a_failed_one_is_not(rt: HostRuntime) {
     }
 }
 
-// Whether a buffer shows nothing, then what one call gives, and then what is left of it behind its first byte.
+/// Whether a buffer shows nothing, then what one call gives, and then what is left of it behind its first byte.
 fn shown(alloc: Global) -> [bool; 4] {
     let Ok(mut reader) = Ahead::new(alloc, Cutting::new(b"abcde", &[2])) else {
         return [false; 4];
@@ -126,7 +126,7 @@ fn a_buffer_shows_what_one_call_gave(rt: HostRuntime) {
     expect(&rt, "what it shows", shown(rt.alloc()) == [true; 4]);
 }
 
-// What two calls of a reader give that is interrupted once, how many calls it counts, and what is in the buffer.
+/// What two calls of a reader give that is interrupted once, how many calls it counts, and what is in the buffer.
 fn interrupted_once() -> (Next, Next, u64, [u8; 4]) {
     let mut reader = Interrupted::new(b"ab".as_slice(), 1);
     let mut buffer = [0u8; 4];

@@ -81,7 +81,7 @@ pub fn is_variant(value: &Variant)
     }
 }
 
-// What is true of each cell of an array.
+/// What is true of each cell of an array.
 fn are_scalars(cells: &[Scalar])
     ensures { All IsScalar cells.now }
 {
@@ -90,7 +90,7 @@ fn are_scalars(cells: &[Scalar])
     }
 }
 
-// What is true of each bound of an array.
+/// What is true of each bound of an array.
 fn are_bounds(bounds: &[Bound])
     ensures { All IsBound bounds.now }
 {
@@ -99,7 +99,7 @@ fn are_bounds(bounds: &[Bound])
     }
 }
 
-// What is true of each bound: its numbers are in the ranges of their types.
+/// What is true of each bound: its numbers are in the ranges of their types.
 #[tactic(auto, unfolding(crate::specs::Variants::IsBound))]
 fn is_bound(bound: &Bound)
     ensures { IsBound bound.now }

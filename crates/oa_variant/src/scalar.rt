@@ -81,7 +81,7 @@ impl Scalar {
         }
     }
 
-    // The number inside, 0 for false and 1 for true; 0 where there is none.
+    /// The number inside, 0 for false and 1 for true; 0 where there is none.
     fn number(&self) -> i128
         ensures { result ≡ key_number self.now }
     {
@@ -104,7 +104,7 @@ impl Scalar {
         }
     }
 
-    // The bytes of the text inside; None where there is none, and for the null BSTR.
+    /// The bytes of the text inside; None where there is none, and for the null BSTR.
     fn text(&self) -> Option<&[u8]>
         ensures { option_map (λ x. x.now) result ≡ text_of self.now }
     {
@@ -120,7 +120,7 @@ impl Scalar {
         }
     }
 
-    // The DECIMAL inside; zero where there is none.
+    /// The DECIMAL inside; zero where there is none.
     fn decimal(&self) -> Decimal
         ensures { result ≡ decimal_of self.now }
     {

@@ -11,13 +11,13 @@ use Rattle.oa_array.specs.Arrays.{ArrayValue}
 use Rattle.oa_array.specs.Boxes.{box_size}
 use Rattle.oa_variant.specs.declared.scalar.Scalar.{Scalar}
 use Rattle.oa_variant.specs.declared.scalar.Scalar.TheVariants as scalars
-use Rattle.oa_wire_text.specs.declared.fault.ReadFault.{ReadFault}
-use Rattle.oa_wire_text.specs.declared.fault.ReadFault.TheVariants.{BadStub, Memory}
+use Rattle.oa_wire_text.specs.declared.fault.StubFault.{StubFault}
+use Rattle.oa_wire_text.specs.declared.fault.StubFault.TheVariants.{BadStub, Memory}
 use Rattle.oa_wire_text.specs.Reading.{blob_at}
 use Rattle.oa_wire_array.specs.Reading.{signed_at, scalar_at, arm_at}
 
 -- the same as ReadsField, for what view shows of the value
-abbrev pub ReadsFieldBy : {X Y : Type 0} → (X → Y) → Result X ReadFault → Cursor → Option (Y × Cursor) → Type 0
+abbrev pub ReadsFieldBy : {X Y : Type 0} → (X → Y) → Result X StubFault → Cursor → Option (Y × Cursor) → Type 0
 ReadsFieldBy view (Ok x) new read = read ≡ Some (view x, new)
 ReadsFieldBy view (Err BadStub) new read = read ≡ None
 ReadsFieldBy view (Err Memory) new read = Unit {0}

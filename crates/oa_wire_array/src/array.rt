@@ -1,8 +1,7 @@
 //! Arrays.
 
-ghost use Rattle.std.specs.Prelude.{◌≡◌, ◌*◌, ◌≤◌, ◌<◌, true, IfOk, OnOk, OnErr, length, List, nat_le, ℕ};
+ghost use Rattle.std.specs.Prelude.{◌≡◌, ◌*◌, ◌≤◌, ◌<◌, true, IfOk, length, nat_le};
 ghost use Rattle.oa_ndr.specs.Reading.{many, map_at, referent_at};
-ghost use Rattle.oa_ndr.specs.Writing.{in_field, put_all};
 ghost use Rattle.oa_wire_text.specs.Reading.{ReadsField, OnMemory};
 ghost use Rattle.oa_wire_array.specs.Reading.{arm_at};
 ghost use Rattle.oa_wire_array.specs.Arrays.{IsArrayFront};
@@ -32,11 +31,11 @@ use oa_cells::Cells;
 use oa_model::{Bound, MAX_DIMENSIONS, VarType};
 use oa_ndr::Ndr;
 use oa_variant::Scalar;
-use oa_wire_text::{ReadFault, read_blob};
+use oa_wire_text::{StubFault, read_blob};
 use std::alloc::{AllocError, Global};
 
 #[tactic(auto, unfolding(oa_ndr::specs::Reading::steps, crate::specs::ArrayReading::bound_at, crate::specs::Reading::signed_at))]
-fn bound(r: &mut Ndr<'_>) -> Result<Bound, ReadFault>
+fn bound(r: &mut Ndr<'_>) -> Result<Bound, StubFault>
     ensures { ReadsField result r.new (bound_at r.old) }
 {
     let count = r.u32()?;
@@ -44,7 +43,7 @@ fn bound(r: &mut Ndr<'_>) -> Result<Bound, ReadFault>
     Ok(Bound { count, lower })
 }
 
-fn bounds(alloc: Global, dims: u16, r: &mut Ndr<'_>) -> Result<Vec<Bound>, ReadFault>
+fn bounds(alloc: Global, dims: u16, r: &mut Ndr<'_>) -> Result<Vec<Bound>, StubFault>
     ensures { ReadsFieldBy (λ v. v.items) result r.new (many bound_at dims r.old) }
 {
     let mut all = Vec::new(alloc);
@@ -55,8 +54,8 @@ fn bounds(alloc: Global, dims: u16, r: &mut Ndr<'_>) -> Result<Vec<Bound>, ReadF
     Ok(all)
 }
 
-// Which referents of the cells are set.
-fn flags(alloc: Global, count: u32, r: &mut Ndr<'_>) -> Result<Vec<bool>, ReadFault>
+/// Which referents of the cells are set.
+fn flags(alloc: Global, count: u32, r: &mut Ndr<'_>) -> Result<Vec<bool>, StubFault>
     ensures { ReadsFieldBy (λ v. v.items) result r.new (many referent_at count r.old) }
 {
     let mut all = Vec::new(alloc);
@@ -67,7 +66,7 @@ fn flags(alloc: Global, count: u32, r: &mut Ndr<'_>) -> Result<Vec<bool>, ReadFa
     Ok(all)
 }
 
-// Cells to be filled.
+/// Cells to be filled.
 fn blank(alloc: Global, count: usize) -> Result<Cells<Scalar>, AllocError>
     ensures { IfOk result (λ cells. length cells ≡ count) }
 {
@@ -79,7 +78,7 @@ fn blank(alloc: Global, count: usize) -> Result<Cells<Scalar>, AllocError>
 }
 
 #[tactic(auto, unfolding(oa_ndr::specs::Reading::steps, crate::specs::ArrayReading::text_cell_at))]
-fn text_cell(alloc: Global, is_set: bool, r: &mut Ndr<'_>) -> Result<Scalar, ReadFault>
+fn text_cell(alloc: Global, is_set: bool, r: &mut Ndr<'_>) -> Result<Scalar, StubFault>
     ensures { ReadsField result r.new (text_cell_at is_set r.old) }
 {
     if is_set {
@@ -89,7 +88,7 @@ fn text_cell(alloc: Global, is_set: bool, r: &mut Ndr<'_>) -> Result<Scalar, Rea
 }
 
 #[tactic(auto, unfolding(oa_ndr::specs::Reading::steps, crate::specs::ArrayReading::variant_cell_at))]
-fn variant_cell(alloc: Global, is_set: bool, r: &mut Ndr<'_>) -> Result<Scalar, ReadFault>
+fn variant_cell(alloc: Global, is_set: bool, r: &mut Ndr<'_>) -> Result<Scalar, StubFault>
     ensures { ReadsField result r.new (variant_cell_at is_set r.old) }
 {
     if is_set {
@@ -98,26 +97,26 @@ fn variant_cell(alloc: Global, is_set: bool, r: &mut Ndr<'_>) -> Result<Scalar, 
     Ok(Scalar::Empty)
 }
 
-// What lies behind the referent of a cell.
+/// What lies behind the referent of a cell.
 #[tactic(auto, unfolding(oa_ndr::specs::Reading::fail, crate::specs::ArrayReading::pointee_at))]
-fn pointee(alloc: Global, elem: VarType, is_set: bool, r: &mut Ndr<'_>) -> Result<Scalar, ReadFault>
+fn pointee(alloc: Global, elem: VarType, is_set: bool, r: &mut Ndr<'_>) -> Result<Scalar, StubFault>
     ensures { ReadsField result r.new (pointee_at elem is_set r.old) }
 {
     match elem {
         VarType::Bstr => text_cell(alloc, is_set, r),
         VarType::Variant => variant_cell(alloc, is_set, r),
-        _ => Err(ReadFault::BadStub),
+        _ => Err(StubFault::BadStub),
     }
 }
 
-// The pointees, one for each referent.
+/// The pointees, one for each referent.
 #[tactic(auto, using(crate::proofs::Loops::map_full, crate::proofs::Loops::map_put, crate::proofs::Loops::map_err))]
 fn pointees(
     alloc: Global,
     elem: VarType,
     flags: &[bool],
     r: &mut Ndr<'_>,
-) -> Result<Cells<Scalar>, ReadFault>
+) -> Result<Cells<Scalar>, StubFault>
     ensures { ReadsField result r.new (map_at (pointee_at elem) flags.now r.old) }
 {
     let mut cells = blank(alloc, flags.len())?;
@@ -128,7 +127,7 @@ fn pointees(
     Ok(cells)
 }
 
-// Whether as many bytes are left as so many cells without pointees take at least.
+/// Whether as many bytes are left as so many cells without pointees take at least.
 fn are_there(elem: VarType, count: u32, r: &Ndr<'_>) -> bool
     ensures { result ≡ nat_le (count * plain_width elem) (length r.now.rest) }
 {
@@ -140,18 +139,18 @@ fn are_there(elem: VarType, count: u32, r: &Ndr<'_>) -> bool
     count as u64 * width as u64 <= r.rest().len() as u64
 }
 
-// Cells without pointees. No block is asked for where the bytes are not there.
+/// Cells without pointees. No block is asked for where the bytes are not there.
 #[tactic(auto, using(crate::proofs::Loops::cells_full, crate::proofs::Loops::cells_put, crate::proofs::Loops::cells_err))]
 fn plain(
     alloc: Global,
     elem: VarType,
     count: u32,
     r: &mut Ndr<'_>,
-) -> Result<Cells<Scalar>, ReadFault>
+) -> Result<Cells<Scalar>, StubFault>
     ensures { ReadsField result r.new (many (arm_at elem) count r.old) }
 {
     if !are_there(elem, count, r) {
-        return Err(ReadFault::BadStub);
+        return Err(StubFault::BadStub);
     }
     let mut cells = blank(alloc, count as usize)?;
     for i in 0..count as usize {
@@ -161,14 +160,14 @@ fn plain(
     Ok(cells)
 }
 
-// All referents first, then the pointees.
+/// All referents first, then the pointees.
 #[tactic(auto, unfolding(oa_ndr::specs::Reading::bind, crate::specs::ArrayReading::pointed_at))]
 fn pointed(
     alloc: Global,
     elem: VarType,
     count: u32,
     r: &mut Ndr<'_>,
-) -> Result<Cells<Scalar>, ReadFault>
+) -> Result<Cells<Scalar>, StubFault>
     ensures { ReadsField result r.new (pointed_at elem count r.old) }
 {
     let flags = flags(alloc, count, r)?;
@@ -181,7 +180,7 @@ fn elements(
     elem: VarType,
     count: u32,
     r: &mut Ndr<'_>,
-) -> Result<Cells<Scalar>, ReadFault>
+) -> Result<Cells<Scalar>, StubFault>
     ensures { ReadsField result r.new (elements_at elem count r.old) }
 {
     match elem {
@@ -190,7 +189,7 @@ fn elements(
     }
 }
 
-// Whether arrays of the type have this sfType.
+/// Whether arrays of the type have this sfType.
 fn has_sf_type(elem: VarType, sf_type: u32) -> bool
     ensures { result ≡ has_sf_type elem sf_type }
 {
@@ -200,7 +199,7 @@ fn has_sf_type(elem: VarType, sf_type: u32) -> bool
     }
 }
 
-// Whether there is an array of these bounds, and has this number of cells.
+/// Whether there is an array of these bounds, and has this number of cells.
 fn is_count(elem: VarType, bounds: &[Bound], count: u32) -> bool
     ensures { result ≡ is_count elem bounds.now count }
 {
@@ -217,7 +216,7 @@ fn cells(
     bounds: Vec<Bound>,
     count: u32,
     r: &mut Ndr<'_>,
-) -> Result<SafeArray<Scalar>, ReadFault>
+) -> Result<SafeArray<Scalar>, StubFault>
     requires { is_count elem bounds.items count ≡ true }
     ensures { ReadsField result r.new (cells_at elem bounds.items count r.old) }
 {
@@ -225,7 +224,7 @@ fn cells(
     Ok(SafeArray::of_cells(elem, bounds, cells))
 }
 
-// The bounds, the maximum count of the data, the data.
+/// The bounds, the maximum count of the data, the data.
 #[tactic(auto, unfolding(oa_ndr::specs::Reading::steps, crate::specs::ArrayReading::data_at))]
 fn data(
     alloc: Global,
@@ -233,7 +232,7 @@ fn data(
     dims: u16,
     size: u32,
     r: &mut Ndr<'_>,
-) -> Result<SafeArray<Scalar>, ReadFault>
+) -> Result<SafeArray<Scalar>, StubFault>
     ensures { ReadsField result r.new (data_at elem dims size r.old) }
 {
     let bounds = bounds(alloc, dims, r)?;
@@ -241,12 +240,12 @@ fn data(
     if maximum == size && is_count(elem, &bounds, size) {
         return cells(alloc, elem, bounds, size, r);
     }
-    Err(ReadFault::BadStub)
+    Err(StubFault::BadStub)
 }
 
-// The maximum count, cDims, fFeatures, cbElements, cLocks, sfType, Size and the pointer, with what lies behind them.
+/// The maximum count, cDims, fFeatures, cbElements, cLocks, sfType, Size and the pointer, with what lies behind them.
 #[tactic(auto, unfolding(oa_ndr::specs::Reading::steps, crate::specs::ArrayReading::header_at))]
-fn header(alloc: Global, elem: VarType, r: &mut Ndr<'_>) -> Result<SafeArray<Scalar>, ReadFault>
+fn header(alloc: Global, elem: VarType, r: &mut Ndr<'_>) -> Result<SafeArray<Scalar>, StubFault>
     ensures value { ReadsField result r.new (header_at elem r.old) }
     ensures memory { OnMemory result (28 ≤ length r.old.rest) }
 {
@@ -261,18 +260,18 @@ fn header(alloc: Global, elem: VarType, r: &mut Ndr<'_>) -> Result<SafeArray<Sca
     if maximum == dims as u32 && dims as usize <= MAX_DIMENSIONS && has_sf_type(elem, sf_type) {
         return data(alloc, elem, dims, size, r);
     }
-    Err(ReadFault::BadStub)
+    Err(StubFault::BadStub)
 }
 
 #[tactic(auto, unfolding(oa_ndr::specs::Reading::steps, crate::specs::ArrayReading::array_at))]
-fn array(alloc: Global, elem: VarType, r: &mut Ndr<'_>) -> Result<SafeArray<Scalar>, ReadFault>
+fn array(alloc: Global, elem: VarType, r: &mut Ndr<'_>) -> Result<SafeArray<Scalar>, StubFault>
     ensures value { ReadsField result r.new (array_at elem r.old) }
     ensures memory { OnMemory result (32 ≤ length r.old.rest) }
 {
     if r.referent()? {
         return header(alloc, elem, r);
     }
-    Err(ReadFault::BadStub)
+    Err(StubFault::BadStub)
 }
 
 /// Reads an array with cells of a type from the second of its two referents on, with all that it
@@ -300,7 +299,7 @@ pub fn read_array(
             *r = ahead;
             Ok(array)
         }
-        Err(ReadFault::BadStub) => Err(WireFault::BadStub),
-        Err(ReadFault::Memory) => Err(WireFault::Memory),
+        Err(StubFault::BadStub) => Err(WireFault::BadStub),
+        Err(StubFault::Memory) => Err(WireFault::Memory),
     }
 }

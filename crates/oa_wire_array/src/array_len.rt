@@ -5,7 +5,7 @@ ghost use Rattle.oa_ndr.specs.Forms.{padding};
 ghost use Rattle.oa_ndr.specs.Writing.{put_all};
 ghost use Rattle.oa_variant.specs.Scalars.{text_of, FitsType};
 ghost use Rattle.std.specs.Option.{IsSome};
-ghost use Rattle.std.specs.Prelude.{true, false, Some, ◌⊎◌};
+ghost use Rattle.std.specs.Prelude.{false, Some, ◌⊎◌};
 ghost use Rattle.oa_model.specs.Limits.{max_cells};
 ghost use Rattle.oa_model.specs.Types.{sf_type_of, element_size_of};
 ghost use Rattle.oa_wire_array.specs.Canon.{put_arm};
@@ -16,7 +16,7 @@ use oa_array::SafeArray;
 use oa_model::VarType;
 use oa_variant::Scalar;
 
-// The next multiple of n.
+/// The next multiple of n.
 fn aligned(n: usize, place: usize) -> usize
     requires above { 0 < n }
     requires small { n ≤ 16 }
@@ -28,7 +28,7 @@ fn aligned(n: usize, place: usize) -> usize
     if over == 0 { place } else { place + n - over }
 }
 
-// Where the text of a cell ends; a null text takes nothing.
+/// Where the text of a cell ends; a null text takes nothing.
 fn text_end(cell: &Scalar, place: usize) -> usize
     requires { place < 2 ^ 59 }
     ensures value { (out : List ℕ) → length out ≡ place → length (put_text (text_of cell.now) out) ≡ result }
@@ -46,7 +46,7 @@ fn text_end(cell: &Scalar, place: usize) -> usize
     }
 }
 
-// Where the pointee of a cell ends.
+/// Where the pointee of a cell ends.
 fn pointee_end(elem: VarType, cell: &Scalar, place: usize) -> usize
     requires { place < 2 ^ 59 }
     ensures value { (out : List ℕ) → length out ≡ place → length (put_pointee elem cell.now out) ≡ result }
@@ -71,14 +71,14 @@ fn pointees_end(elem: VarType, cells: &[Scalar], place: usize) -> usize
     end
 }
 
-// Whether the cells of a type have referents and pointees.
+/// Whether the cells of a type have referents and pointees.
 pub(crate) fn is_pointed(elem: VarType) -> bool
     ensures { result ≡ is_pointed elem }
 {
     matches!(elem, VarType::Bstr | VarType::Variant)
 }
 
-// The bytes of a cell without a pointee.
+/// The bytes of a cell without a pointee.
 fn plain_len(elem: VarType) -> usize
     requires plain { is_pointed elem ≡ false }
     requires typed { IsSome (sf_type_of elem) }
@@ -90,7 +90,7 @@ fn plain_len(elem: VarType) -> usize
     elem.element_size().unwrap_or(0) as usize
 }
 
-// Where cells without pointees end.
+/// Where cells without pointees end.
 fn plain_end(elem: VarType, cells: &[Scalar], place: usize) -> usize
     requires plain { is_pointed elem ≡ false }
     requires typed { IsSome (sf_type_of elem) }

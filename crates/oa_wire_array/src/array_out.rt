@@ -1,6 +1,6 @@
 //! Arrays as they are written.
 
-ghost use Rattle.std.specs.Prelude.{◌≡◌, ◌≤◌, ◌<◌, ◌+◌, ◌*◌, ◌^◌, OnOk, OnErr, length, List, ℕ};
+ghost use Rattle.std.specs.Prelude.{◌≡◌, ◌<◌, ◌*◌, OnOk, OnErr};
 ghost use Rattle.oa_ndr.specs.Writing.{TakesNothingBack, in_field, put_all};
 ghost use Rattle.oa_variant.specs.Scalars.{text_of};
 ghost use Rattle.oa_wire_array.specs.Canon.{put_arm};
@@ -44,7 +44,7 @@ fn write_bounds(out: &mut NdrOut, bounds: &[Bound]) -> Result<(), AllocError>
     Ok(())
 }
 
-// Cells without pointees.
+/// Cells without pointees.
 fn write_plain(out: &mut NdrOut, cells: &[Scalar]) -> Result<(), AllocError>
     ensures ok { OnOk result (out.new ≡ in_field (put_all put_arm cells.now) out.old) }
     ensures kept { TakesNothingBack out.old out.new }
@@ -55,7 +55,7 @@ fn write_plain(out: &mut NdrOut, cells: &[Scalar]) -> Result<(), AllocError>
     Ok(())
 }
 
-// Whether the referent of a cell is set.
+/// Whether the referent of a cell is set.
 fn has_pointee(elem: VarType, cell: &Scalar) -> bool
     ensures { result ≡ has_pointee elem cell.now }
 {
@@ -76,7 +76,7 @@ fn write_referents(out: &mut NdrOut, elem: VarType, cells: &[Scalar]) -> Result<
     Ok(())
 }
 
-// The text of a cell, where it is not null.
+/// The text of a cell, where it is not null.
 fn write_cell_text(out: &mut NdrOut, cell: &Scalar) -> Result<(), AllocError>
     ensures ok { OnOk result (out.new ≡ in_field (put_text (text_of cell.now)) out.old) }
     ensures kept { TakesNothingBack out.old out.new }
@@ -112,7 +112,7 @@ fn write_pointees(out: &mut NdrOut, elem: VarType, cells: &[Scalar]) -> Result<(
     Ok(())
 }
 
-// All referents first, then the pointees.
+/// All referents first, then the pointees.
 fn write_pointed(out: &mut NdrOut, elem: VarType, cells: &[Scalar]) -> Result<(), AllocError>
     ensures ok { OnOk result (out.new ≡ in_field (put_pointed elem cells.now) out.old) }
     ensures kept { TakesNothingBack out.old out.new }
@@ -131,7 +131,7 @@ fn write_elements(out: &mut NdrOut, elem: VarType, cells: &[Scalar]) -> Result<(
     }
 }
 
-// fFeatures.
+/// fFeatures.
 fn features_of(elem: VarType) -> u16
     ensures { result ≡ features_of elem }
 {
@@ -142,7 +142,7 @@ fn features_of(elem: VarType) -> u16
     }
 }
 
-// The second referent, the maximum count, cDims, fFeatures, cbElements.
+/// The second referent, the maximum count, cDims, fFeatures, cbElements.
 fn write_shape(out: &mut NdrOut, elem: VarType, dims: u16) -> Result<(), AllocError>
     ensures ok { OnOk result (out.new ≡ in_field (put_shape elem dims) out.old) }
     ensures kept { TakesNothingBack out.old out.new }
@@ -154,7 +154,7 @@ fn write_shape(out: &mut NdrOut, elem: VarType, dims: u16) -> Result<(), AllocEr
     out.u32(elem.element_size().unwrap_or(0))
 }
 
-// cLocks, sfType, Size, the pointer.
+/// cLocks, sfType, Size, the pointer.
 fn write_size(out: &mut NdrOut, elem: VarType, count: u32) -> Result<(), AllocError>
     ensures ok { OnOk result (out.new ≡ in_field (put_size elem count) out.old) }
     ensures kept { TakesNothingBack out.old out.new }
@@ -165,7 +165,7 @@ fn write_size(out: &mut NdrOut, elem: VarType, count: u32) -> Result<(), AllocEr
     out.referent(true)
 }
 
-// The same as `write_array`, but where memory is refused a part of it may stay.
+/// The same as `write_array`, but where memory is refused a part of it may stay.
 #[tactic(auto, unfolding(crate::specs::ArrayCanon::put_array))]
 fn add_array(out: &mut NdrOut, array: &SafeArray<Scalar>) -> Result<(), AllocError>
     ensures ok { OnOk result (out.new ≡ in_field (put_array array.now) out.old) }

@@ -1,10 +1,9 @@
 //! Scalars.
 
 ghost use Rattle.std.specs.Prelude.{◌≡◌, ◌≤◌, ◌<◌, [], OnOk, OnErr, length};
-ghost use Rattle.oa_model.specs.Types.{vt_of};
 ghost use Rattle.oa_model.specs.declared.var_type.VarType.TheVariants as types;
 ghost use Rattle.oa_ndr.specs.Writing.{TakesNothingBack, in_field};
-ghost use Rattle.oa_wire_array.specs.Scalars.{scalar, union_of, TakesText};
+ghost use Rattle.oa_wire_array.specs.Scalars.{union_of, TakesText};
 ghost use Rattle.oa_wire_text.specs.Reading.{ReadsField, IsFront, OnMemory, from_multiple};
 ghost use Rattle.oa_wire_array.specs.Reading.{sign_at, decimal_at, arm_at, union_at, scalar_at};
 ghost use Rattle.oa_wire_array.specs.Canon.{max_wire_scalar, put_truth, put_decimal, put_arm, put_head, put_sized, put_scalar, scalar_len};
@@ -12,23 +11,23 @@ ghost use Rattle.oa_wire_array.specs.Canon.{max_wire_scalar, put_truth, put_deci
 use oa_model::VarType;
 use oa_ndr::{Ndr, NdrOut};
 use oa_variant::{Decimal, Scalar};
-use oa_wire_text::{ReadFault, read_bstr, write_bstr};
+use oa_wire_text::{StubFault, read_bstr, write_bstr};
 use std::alloc::{AllocError, Global};
 
 #[tactic(auto, unfolding(oa_ndr::specs::Reading::steps, crate::specs::Reading::sign_at))]
-fn sign(r: &mut Ndr<'_>) -> Result<bool, ReadFault>
+fn sign(r: &mut Ndr<'_>) -> Result<bool, StubFault>
     ensures value { ReadsField result r.new (sign_at r.old) }
     ensures memory { OnMemory result ⊥ }
 {
     match r.u8()? {
         0 => Ok(false),
         0x80 => Ok(true),
-        _ => Err(ReadFault::BadStub),
+        _ => Err(StubFault::BadStub),
     }
 }
 
 #[tactic(auto, unfolding(oa_ndr::specs::Reading::steps, crate::specs::Reading::decimal_at))]
-fn decimal(r: &mut Ndr<'_>) -> Result<Decimal, ReadFault>
+fn decimal(r: &mut Ndr<'_>) -> Result<Decimal, StubFault>
     ensures value { ReadsField result r.new (decimal_at r.old) }
     ensures memory { OnMemory result ⊥ }
 {
@@ -39,15 +38,15 @@ fn decimal(r: &mut Ndr<'_>) -> Result<Decimal, ReadFault>
     let high = r.u32()?;
     let low = r.u64()?;
     if scale > 28 {
-        return Err(ReadFault::BadStub);
+        return Err(StubFault::BadStub);
     }
     let magnitude = high as u128 * 0x1_0000_0000_0000_0000 + low as u128;
     Ok(Decimal::new(negative, scale, magnitude))
 }
 
-// The arm of a type.
+/// The arm of a type.
 #[tactic(auto, unfolding(oa_ndr::specs::Reading::steps, crate::specs::Reading::arm_at, crate::specs::Reading::signed_at, crate::specs::Reading::truth_at))]
-pub(crate) fn arm(alloc: Global, var_type: VarType, r: &mut Ndr<'_>) -> Result<Scalar, ReadFault>
+pub(crate) fn arm(alloc: Global, var_type: VarType, r: &mut Ndr<'_>) -> Result<Scalar, StubFault>
     ensures value { ReadsField result r.new (arm_at var_type r.old) }
     ensures memory { OnMemory result (var_type ≡ types.Bstr) }
 {
@@ -69,22 +68,22 @@ pub(crate) fn arm(alloc: Global, var_type: VarType, r: &mut Ndr<'_>) -> Result<S
         VarType::Error => Scalar::Error(r.u32()?),
         VarType::Bstr => Scalar::Bstr(read_bstr(alloc, r)?),
         VarType::Decimal => Scalar::Decimal(decimal(r)?),
-        VarType::Variant => return Err(ReadFault::BadStub),
+        VarType::Variant => return Err(StubFault::BadStub),
     })
 }
 
 #[tactic(auto, unfolding(oa_ndr::specs::Reading::steps, crate::specs::Reading::arm_of, crate::specs::Reading::union_at))]
-fn union(alloc: Global, vt: u16, r: &mut Ndr<'_>) -> Result<Scalar, ReadFault>
+fn union(alloc: Global, vt: u16, r: &mut Ndr<'_>) -> Result<Scalar, StubFault>
     ensures value { ReadsField result r.new (union_at vt r.old) }
     ensures memory { OnMemory result ((vt ≡ 8) × (4 ≤ length r.old.rest)) }
 {
     let discriminant = r.u32()?;
     if discriminant != vt as u32 {
-        return Err(ReadFault::BadStub);
+        return Err(StubFault::BadStub);
     }
     match VarType::from_vt(vt) {
         Some(var_type) => arm(alloc, var_type, r),
-        None => Err(ReadFault::BadStub),
+        None => Err(StubFault::BadStub),
     }
 }
 
@@ -93,7 +92,7 @@ fn union(alloc: Global, vt: u16, r: &mut Ndr<'_>) -> Result<Scalar, ReadFault>
 ///
 /// `BadStub` where no bytes from the reader on are those of a scalar with that vt. `Memory` only for a
 /// BSTR. At an error the reader is as it was.
-pub fn read_union(alloc: Global, vt: u16, r: &mut Ndr<'_>) -> Result<Scalar, ReadFault>
+pub fn read_union(alloc: Global, vt: u16, r: &mut Ndr<'_>) -> Result<Scalar, StubFault>
     ensures exact { IsFront (union_of vt) result r.old r.new }
     ensures memory { OnMemory result ((vt ≡ 8) × (4 ≤ length r.old.rest)) }
 {
@@ -105,8 +104,10 @@ pub fn read_union(alloc: Global, vt: u16, r: &mut Ndr<'_>) -> Result<Scalar, Rea
     answer
 }
 
+/// A wireVARIANT without VT_ARRAY at the next multiple of 8, with its pointee (MS-OAUT 2.2.29): clSize at its first byte, vt at 8, the
+/// discriminant at 16, the arm from 20 on. clSize and reserved numbers are not looked at.
 #[tactic(auto, unfolding(oa_ndr::specs::Reading::bind, crate::specs::Reading::scalar_at))]
-pub(crate) fn scalar(alloc: Global, r: &mut Ndr<'_>) -> Result<Scalar, ReadFault>
+pub(crate) fn scalar(alloc: Global, r: &mut Ndr<'_>) -> Result<Scalar, StubFault>
     ensures value { ReadsField result r.new (scalar_at r.old) }
     ensures memory { OnMemory result (TakesText (from_multiple 8 r.old)) }
 {
@@ -118,24 +119,6 @@ pub(crate) fn scalar(alloc: Global, r: &mut Ndr<'_>) -> Result<Scalar, ReadFault
     r.u16()?;
     r.u16()?;
     union(alloc, vt, r)
-}
-
-/// Reads a wireVARIANT without VT_ARRAY at the next multiple of 8, with its pointee
-/// (MS-OAUT 2.2.29): clSize at its first byte, vt at 8, the discriminant at 16, the arm from 20
-/// on. clSize and reserved numbers are not looked at.
-///
-/// `BadStub` where no bytes from the reader on spell a scalar. `Memory` only where the vt is that of a
-/// BSTR. At an error the reader is as it was.
-pub fn read_scalar(alloc: Global, r: &mut Ndr<'_>) -> Result<Scalar, ReadFault>
-    ensures exact { IsFront scalar result r.old r.new }
-    ensures memory { OnMemory result (TakesText (from_multiple 8 r.old)) }
-{
-    let mut ahead = r.fork();
-    let answer = scalar(alloc, &mut ahead);
-    if answer.is_ok() {
-        *r = ahead;
-    }
-    answer
 }
 
 fn write_truth(out: &mut NdrOut, truth: bool) -> Result<(), AllocError>
@@ -183,7 +166,7 @@ pub(crate) fn write_arm(out: &mut NdrOut, value: &Scalar) -> Result<(), AllocErr
     }
 }
 
-// The bytes of a head at a multiple of 8. They are laid out at once, since a scalar is mostly head.
+/// The bytes of a head at a multiple of 8. They are laid out at once, since a scalar is mostly head.
 fn head_bytes(size: u32, vt: u16) -> [u8; 16]
     ensures { result ≡ put_head size vt [] }
 {
@@ -192,7 +175,7 @@ fn head_bytes(size: u32, vt: u16) -> [u8; 16]
     [a, b, c, d, 0, 0, 0, 0, e, f, 0, 0, 0, 0, 0, 0]
 }
 
-// The same as `write_head`, but where memory is refused a part of it may stay.
+/// The same as `write_head`, but where memory is refused a part of it may stay.
 fn add_head(out: &mut NdrOut, size: u32, vt: u16) -> Result<(), AllocError>
     ensures ok { OnOk result (out.new ≡ in_field (put_head size vt) out.old) }
     ensures kept { TakesNothingBack out.old out.new }
@@ -251,7 +234,7 @@ pub fn scalar_len(value: &Scalar) -> usize
     }
 }
 
-// The same as `write_scalar`, but where memory is refused a part of it may stay.
+/// The same as `write_scalar`, but where memory is refused a part of it may stay.
 pub(crate) fn add_scalar(out: &mut NdrOut, value: &Scalar) -> Result<(), AllocError>
     ensures ok { OnOk result (out.new ≡ in_field (put_scalar value.now) out.old) }
     ensures kept { TakesNothingBack out.old out.new }
@@ -261,7 +244,7 @@ pub(crate) fn add_scalar(out: &mut NdrOut, value: &Scalar) -> Result<(), AllocEr
 }
 
 /// Writes a wireVARIANT without VT_ARRAY at the next multiple of 8, with its pointee (see
-/// `read_scalar`). clSize is the number of its bytes, in units of 8, rounded up.
+/// `scalar`). clSize is the number of its bytes, in units of 8, rounded up.
 ///
 /// Where memory is refused, the output is as it was.
 pub fn write_scalar(out: &mut NdrOut, value: &Scalar) -> Result<(), AllocError>

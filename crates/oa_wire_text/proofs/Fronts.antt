@@ -3,8 +3,8 @@ use Rattle.std.proofs.Common.{◌≡◌, true, false, ◌+◌, ◌++◌, length,
 use Rattle.std.specs.Result.{is_ok}
 use Rattle.oa_ndr.specs.Reading.{Cursor, at, Reading}
 use Rattle.oa_ndr.proofs.Laws.{Reads, Always}
-use Rattle.oa_wire_text.specs.declared.fault.ReadFault.{ReadFault}
-use Rattle.oa_wire_text.specs.declared.fault.ReadFault.TheVariants.{BadStub, Memory}
+use Rattle.oa_wire_text.specs.declared.fault.StubFault.{StubFault}
+use Rattle.oa_wire_text.specs.declared.fault.StubFault.TheVariants.{BadStub, Memory}
 use Rattle.oa_wire_text.specs.Reading.{ReadsField, Stretch, IsFront}
 
 abbrev done : {A : Type 0} → A → Cursor → Option (A × Cursor)
@@ -18,21 +18,21 @@ no_front {A} {F} {read} r old none x end stretch =
     absurd cc
 
 pub front_ok : {A : Type 0} {F : A → ℕ → List ℕ → Type 0} {read : Reading A} → Reads Always F read
-    → (result : Result A ReadFault) (old ahead new : Cursor) → ahead ≡ old → ReadsField result new (read ahead) → is_ok result ≡ true → IsFront F result old new
+    → (result : Result A StubFault) (old ahead new : Cursor) → ahead ≡ old → ReadsField result new (read ahead) → is_ok result ≡ true → IsFront F result old new
 front_ok {A} {F} {read} r (Ok x) old ahead new same h e =
     let one = (r.takes old.position old.rest x new (ap read (sym same) ∙ h)).1 in
     record { text = one.text; parts = one.parts; place = one.place; form = one.form }
 front_ok r (Err f) old ahead new same h e = absurd cc
 
 pub front_err : {A : Type 0} {F : A → ℕ → List ℕ → Type 0} {read : Reading A} → Reads Always F read
-    → (result : Result A ReadFault) (old ahead new : Cursor) → ahead ≡ old → ReadsField result new (read ahead) → is_ok result ≡ false → IsFront F result old old
+    → (result : Result A StubFault) (old ahead new : Cursor) → ahead ≡ old → ReadsField result new (read ahead) → is_ok result ≡ false → IsFront F result old old
 front_err r (Ok x) old ahead new same h e = absurd cc
 front_err {A} {F} {read} r (Err BadStub) old ahead new same h e = (no_front r old (ap read (sym same) ∙ h), refl)
 front_err r (Err Memory) old ahead new same h e = refl
 
 -- the other way round: what a call answered is what reading gives
 pub front_answers : {A : Type 0} {F : A → ℕ → List ℕ → Type 0} {read : Reading A} → Reads Always F read
-    → (result : Result A ReadFault) (old new : Cursor) → IsFront F result old new → ReadsField result new (read old)
+    → (result : Result A StubFault) (old new : Cursor) → IsFront F result old new → ReadsField result new (read old)
 front_answers {A} {F} {read} r (Ok x) old new h =
     let again = r.again old.position h.text new.rest x tt h.form in
     let same : read old ≡ read (at old.position (h.text ++ new.rest)) = ap (λ (y : List ℕ). read (at old.position y)) h.parts in

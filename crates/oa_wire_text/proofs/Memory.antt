@@ -3,11 +3,11 @@ use Rattle.std.proofs.Common.{◌≡◌, ℕ, ◌+◌, ◌≤◌, Bool, length, 
 use Rattle.std.proofs.lemmas.List.{length-append}
 use Rattle.oa_ndr.specs.Reading.{Cursor, unit_at, referent_at}
 use Rattle.oa_ndr.proofs.Laws.{unit_reads, referent_reads}
-use Rattle.oa_wire_text.specs.declared.fault.ReadFault.{ReadFault}
-use Rattle.oa_wire_text.specs.declared.fault.ReadFault.TheVariants.{BadStub, Memory}
+use Rattle.oa_wire_text.specs.declared.fault.StubFault.{StubFault}
+use Rattle.oa_wire_text.specs.declared.fault.StubFault.TheVariants.{BadStub, Memory}
 use Rattle.oa_wire_text.specs.Reading.{OnMemory}
 
-pub on_memory : {A : Type 0} {P Q : Type 0} (r : Result A ReadFault) → (P → Q) → OnMemory r P → OnMemory r Q
+pub on_memory : {A : Type 0} {P Q : Type 0} (r : Result A StubFault) → (P → Q) → OnMemory r P → OnMemory r Q
 on_memory (Ok x) f h = tt
 on_memory (Err BadStub) f h = tt
 on_memory (Err Memory) f h = f h
@@ -25,10 +25,10 @@ referent_there s t b e =
     omega (arith, ap length one.parts, length-append one.text t.rest, ap length one.form.form.parts, length-append one.form.form.front one.form.form.back, front.len)
 
 -- what is true anyhow is true where memory was refused
-pub anyhow : {A : Type 0} {P : Type 0} (r : Result A ReadFault) → P → OnMemory r P
+pub anyhow : {A : Type 0} {P : Type 0} (r : Result A StubFault) → P → OnMemory r P
 anyhow r p = on_memory r (λ _. p) (own r)
   where
-    own : {A : Type 0} (r : Result A ReadFault) → OnMemory r (Unit {0})
+    own : {A : Type 0} (r : Result A StubFault) → OnMemory r (Unit {0})
     own (Ok x) = tt
     own (Err BadStub) = tt
     own (Err Memory) = tt

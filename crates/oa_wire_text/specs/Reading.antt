@@ -3,18 +3,18 @@ use Rattle.std.specs.Prelude.{◌≡◌, ℕ, ◌+◌, ◌%◌, ◌==◌, ◌&&�
 use Rattle.oa_ndr.specs.Forms.{padding}
 use Rattle.oa_ndr.specs.Reading.{Cursor, Reading, ◌>>=◌, give, fail, choose, bytes_at, unit_at, referent_at}
 use Rattle.oa_model.specs.Limits.{max_text_bytes}
-use Rattle.oa_wire_text.specs.declared.fault.ReadFault.{ReadFault}
-use Rattle.oa_wire_text.specs.declared.fault.ReadFault.TheVariants.{BadStub, Memory}
+use Rattle.oa_wire_text.specs.declared.fault.StubFault.{StubFault}
+use Rattle.oa_wire_text.specs.declared.fault.StubFault.TheVariants.{BadStub, Memory}
 use Rattle.oa_wire_text.specs.Texts.{units}
 
 -- What a call returned, and the reader after it, is what reading gives, unless memory ran out.
-abbrev pub ReadsField : {A : Type 0} → Result A ReadFault → Cursor → Option (A × Cursor) → Type 0
+abbrev pub ReadsField : {A : Type 0} → Result A StubFault → Cursor → Option (A × Cursor) → Type 0
 ReadsField (Ok x) new read = read ≡ Some (x, new)
 ReadsField (Err BadStub) new read = read ≡ None
 ReadsField (Err Memory) new read = Unit {0}
 
 -- what is true where a call was refused memory
-abbrev pub OnMemory : {A : Type 0} → Result A ReadFault → Type 0 → Type 0
+abbrev pub OnMemory : {A : Type 0} → Result A StubFault → Type 0 → Type 0
 OnMemory (Ok x) P = Unit {0}
 OnMemory (Err BadStub) P = Unit {0}
 OnMemory (Err Memory) P = P
@@ -32,7 +32,7 @@ pub record Stretch (F : ℕ → List ℕ → Type 0) (from to : Cursor) : Type 0
 
 -- What a call at a reader answers: the value of the bytes that it moved past; BadStub where no bytes there are of the form of any value. At
 -- an error the reader is as it was.
-abbrev pub IsFront : {A : Type 0} → (A → ℕ → List ℕ → Type 0) → Result A ReadFault → Cursor → Cursor → Type 0
+abbrev pub IsFront : {A : Type 0} → (A → ℕ → List ℕ → Type 0) → Result A StubFault → Cursor → Cursor → Type 0
 IsFront F (Ok x) old new = Stretch (F x) old new
 IsFront {A} F (Err BadStub) old new = ((x : A) (end : Cursor) → Stretch (F x) old end → ⊥) × (new ≡ old)
 IsFront F (Err Memory) old new = new ≡ old

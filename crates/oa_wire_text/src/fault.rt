@@ -1,7 +1,7 @@
 //! Why bytes are no value.
 
 ghost use Rattle.std.specs.Prelude.{◌≡◌};
-ghost use Rattle.oa_wire_text.specs.declared.fault.ReadFault.TheVariants.{BadStub, Memory};
+ghost use Rattle.oa_wire_text.specs.declared.fault.StubFault.TheVariants.{BadStub, Memory};
 
 use oa_ndr::Short;
 use std::alloc::{AllocError, AllocFailed};
@@ -9,7 +9,7 @@ use thiserror::Error;
 
 /// Why a part of a field was not read.
 #[derive(Clone, Copy, Debug, PartialEq, Eq, Error)]
-pub enum ReadFault {
+pub enum StubFault {
     /// The bytes are of no value.
     #[error("bad stub data")]
     BadStub,
@@ -18,26 +18,26 @@ pub enum ReadFault {
     Memory,
 }
 
-impl From<Short> for ReadFault {
+impl From<Short> for StubFault {
     ghost from_gives = { λ _ e. e ≡ BadStub };
 
-    fn from(_e: Short) -> ReadFault {
-        ReadFault::BadStub
+    fn from(_e: Short) -> StubFault {
+        StubFault::BadStub
     }
 }
 
-impl From<AllocError> for ReadFault {
+impl From<AllocError> for StubFault {
     ghost from_gives = { λ _ e. e ≡ Memory };
 
-    fn from(_e: AllocError) -> ReadFault {
-        ReadFault::Memory
+    fn from(_e: AllocError) -> StubFault {
+        StubFault::Memory
     }
 }
 
-impl<T: Drop> From<AllocFailed<T>> for ReadFault {
+impl<T: Drop> From<AllocFailed<T>> for StubFault {
     ghost from_gives = { λ _ e. e ≡ Memory };
 
-    fn from(_e: AllocFailed<T>) -> ReadFault {
-        ReadFault::Memory
+    fn from(_e: AllocFailed<T>) -> StubFault {
+        StubFault::Memory
     }
 }

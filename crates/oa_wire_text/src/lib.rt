@@ -4,11 +4,11 @@
 //! (`IsFront`, `blob`); `write_text` adds the one writing (`put_blob`). `read_blob`, `read_bstr`, `add_blob` and
 //! `write_bstr` are the same for a part of a field, and may leave a part at a fault (`blob_at`, `bstr_at`).
 //!
-//! What stands on it: oa_wire_array, and oa_wire_variant for `ReadFault`.
+//! What stands on it: oa_wire_array, and oa_wire_variant for `StubFault`.
 #![tactic(auto)]
 
 mod fault;
 mod text;
 
-pub use fault::ReadFault;
+pub use fault::StubFault;
 pub use text::{add_blob, read_blob, read_bstr, read_text, write_bstr, write_text};

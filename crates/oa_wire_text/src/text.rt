@@ -1,13 +1,12 @@
 //! Texts as pointees.
 
-ghost use Rattle.std.specs.Prelude.{◌≡◌, ◌≤◌, ◌<◌, ◌++◌, OnOk, OnErr, length};
-ghost use Rattle.oa_model.specs.Limits.{max_text_bytes};
+ghost use Rattle.std.specs.Prelude.{◌≡◌, ◌≤◌, ◌<◌, OnOk, OnErr, length};
 ghost use Rattle.oa_ndr.specs.Writing.{TakesNothingBack, in_field};
 ghost use Rattle.oa_wire_text.specs.Texts.{units, blob};
 ghost use Rattle.oa_wire_text.specs.Reading.{ReadsField, IsFront, OnMemory, text_at, blob_at, bstr_at};
 ghost use Rattle.oa_wire_text.specs.Canon.{put_blob, put_bstr};
 
-use crate::fault::ReadFault;
+use crate::fault::StubFault;
 use oa_bstr::Bstr;
 use oa_model::MAX_TEXT_BYTES;
 use oa_ndr::{Ndr, NdrOut};
@@ -16,26 +15,26 @@ use std::alloc::{AllocError, Global};
 // What cBytes holds for the null text.
 const NULL_TEXT: u32 = 0xFFFF_FFFF;
 
-// How many 16-bit units n bytes take.
+/// How many 16-bit units n bytes take.
 fn units(n: u32) -> u32
     ensures { result ≡ units n }
 {
     n / 2 + n % 2
 }
 
-// The bytes behind the three numbers.
+/// The bytes behind the three numbers.
 #[tactic(auto, unfolding(oa_ndr::specs::Reading::steps, crate::specs::Reading::body_at, crate::specs::Reading::text_at))]
-fn text(alloc: Global, len: u32, r: &mut Ndr<'_>) -> Result<Bstr, ReadFault>
+fn text(alloc: Global, len: u32, r: &mut Ndr<'_>) -> Result<Bstr, StubFault>
     ensures { ReadsField result r.new (text_at len r.old) }
 {
     let bytes = r.bytes(len as usize)?;
     r.bytes(len as usize % 2)?;
-    Bstr::from_bytes(alloc, bytes).map_err(|_| ReadFault::Memory)
+    Bstr::from_bytes(alloc, bytes).map_err(|_| StubFault::Memory)
 }
 
 /// The same as `read_text`, but at a fault the reader may have moved: the maximum count, cBytes, clSize and the bytes.
 #[tactic(auto, unfolding(oa_ndr::specs::Reading::steps, crate::specs::Reading::blob_at))]
-pub fn read_blob(alloc: Global, r: &mut Ndr<'_>) -> Result<Bstr, ReadFault>
+pub fn read_blob(alloc: Global, r: &mut Ndr<'_>) -> Result<Bstr, StubFault>
     ensures value { ReadsField result r.new (blob_at r.old) }
     ensures memory { OnMemory result (12 ≤ length r.old.rest) }
 {
@@ -46,18 +45,18 @@ pub fn read_blob(alloc: Global, r: &mut Ndr<'_>) -> Result<Bstr, ReadFault>
         if maximum == 0 && size == 0 {
             return Ok(Bstr::null());
         }
-        return Err(ReadFault::BadStub);
+        return Err(StubFault::BadStub);
     }
     if maximum == units(len) && size == units(len) && len <= MAX_TEXT_BYTES {
         return text(alloc, len, r);
     }
-    Err(ReadFault::BadStub)
+    Err(StubFault::BadStub)
 }
 
 /// Reads a referent and its pointee (MS-OAUT 2.2.23), a null referent as the null text. `BadStub` where the bytes end too early or where
 /// `read_text` refuses the pointee, `Memory` where the text gets no block. At a fault the reader may have moved.
 #[tactic(auto, unfolding(oa_ndr::specs::Reading::steps, crate::specs::Reading::bstr_at))]
-pub fn read_bstr(alloc: Global, r: &mut Ndr<'_>) -> Result<Bstr, ReadFault>
+pub fn read_bstr(alloc: Global, r: &mut Ndr<'_>) -> Result<Bstr, StubFault>
     ensures value { ReadsField result r.new (bstr_at r.old) }
     ensures memory { OnMemory result (16 ≤ length r.old.rest) }
 {
@@ -73,7 +72,7 @@ pub fn read_bstr(alloc: Global, r: &mut Ndr<'_>) -> Result<Bstr, ReadFault>
 /// `BadStub` where the bytes end too early, where the maximum count or clSize is not cBytes / 2
 /// rounded up, or where the text has more than `MAX_TEXT_BYTES`. `Memory` only where 12 bytes are there.
 /// At an error the reader is as it was.
-pub fn read_text(alloc: Global, r: &mut Ndr<'_>) -> Result<Bstr, ReadFault>
+pub fn read_text(alloc: Global, r: &mut Ndr<'_>) -> Result<Bstr, StubFault>
     ensures exact { IsFront blob result r.old r.new }
     ensures memory { OnMemory result (12 ≤ length r.old.rest) }
 {

@@ -19,8 +19,8 @@ use Rattle.oa_variant.specs.declared.variant.Variant.{Variant}
 use Rattle.oa_variant.specs.declared.variant.Variant.TheVariants.{One, Array}
 use Rattle.oa_wire_array.specs.declared.fault.WireFault.{WireFault}
 use Rattle.oa_wire_array.specs.declared.fault.WireFault.TheVariants.{BadStub, BadVarType, Memory}
-use Rattle.oa_wire_text.specs.declared.fault.ReadFault.{ReadFault}
-use Rattle.oa_wire_text.specs.declared.fault.ReadFault.TheVariants as faults
+use Rattle.oa_wire_text.specs.declared.fault.StubFault.{StubFault}
+use Rattle.oa_wire_text.specs.declared.fault.StubFault.TheVariants as faults
 use Rattle.oa_wire_text.specs.Reading.{ReadsField, Stretch}
 use Rattle.oa_wire_array.specs.Arrays.{array, IsArrayFront}
 use Rattle.oa_wire_array.specs.ArrayReading.{array_at}
@@ -155,9 +155,9 @@ array_answers t (Err BadVarType) old new h = no_array t old (λ a end e stretch.
 array_answers t (Err Memory) old new h = tt
 
 -- and what was made of its answer: the array, or what each refusal becomes
-pub array_told : (P : WireFault → ReadFault → Type 0) (t : VarType) (from : Result (ArrayValue Scalar) WireFault) (to : Result (ArrayValue Scalar) ReadFault) (old new : Cursor)
+pub array_told : (P : WireFault → StubFault → Type 0) (t : VarType) (from : Result (ArrayValue Scalar) WireFault) (to : Result (ArrayValue Scalar) StubFault) (old new : Cursor)
     → IsArrayFront t from old new → MatchResult from (λ a. to ≡ Ok a) (λ e. IsErrAnd to (P e))
-    → ((f : ReadFault) → P BadStub f → f ≡ faults.BadStub) → ((f : ReadFault) → P BadVarType f → f ≡ faults.BadStub) → ((f : ReadFault) → P Memory f → f ≡ faults.Memory)
+    → ((f : StubFault) → P BadStub f → f ≡ faults.BadStub) → ((f : StubFault) → P BadVarType f → f ≡ faults.BadStub) → ((f : StubFault) → P Memory f → f ≡ faults.Memory)
     → ReadsField to new (array_at t old)
 array_told P t (Ok a) to old new h is stub type memory = rw is (array_answers t (Ok a) old new h)
 array_told P t (Err e) (Ok a) old new h is stub type memory = absurd is

@@ -7,13 +7,13 @@ use Rattle.oa_array.specs.Arrays.{ArrayValue}
 use Rattle.oa_variant.specs.declared.scalar.Scalar.{Scalar}
 use Rattle.oa_variant.specs.declared.variant.Variant.{Variant}
 use Rattle.oa_variant.specs.declared.variant.Variant.TheVariants.{One, Array}
-use Rattle.oa_wire_text.specs.declared.fault.ReadFault.{ReadFault}
-use Rattle.oa_wire_text.specs.declared.fault.ReadFault.TheVariants.{BadStub, Memory}
+use Rattle.oa_wire_text.specs.declared.fault.StubFault.{StubFault}
+use Rattle.oa_wire_text.specs.declared.fault.StubFault.TheVariants.{BadStub, Memory}
 use Rattle.oa_wire_array.specs.Reading.{union_at}
 use Rattle.oa_wire_array.specs.ArrayReading.{array_at}
 
 -- what a call on a whole field returned is what reading gives, unless memory ran out
-abbrev pub ReadsWholeField : {A : Type 0} → Result A ReadFault → Option A → Type 0
+abbrev pub ReadsWholeField : {A : Type 0} → Result A StubFault → Option A → Type 0
 ReadsWholeField (Ok x) read = read ≡ Some x
 ReadsWholeField (Err BadStub) read = read ≡ None
 ReadsWholeField (Err Memory) read = Unit {0}

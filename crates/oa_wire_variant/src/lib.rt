@@ -10,5 +10,4 @@ pub mod laws;
 mod variant;
 
 pub use oa_wire_array::WireFault;
-pub use oa_wire_text::ReadFault;
 pub use variant::{read_variant, wire_len, write_variant};

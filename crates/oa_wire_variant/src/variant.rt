@@ -27,7 +27,7 @@ use oa_variant::{Scalar, Variant};
 use oa_wire_array::{
     WireFault, array_end, read_array, read_union, scalar_len, write_array, write_head, write_scalar,
 };
-use oa_wire_text::ReadFault;
+use oa_wire_text::StubFault;
 use std::alloc::{AllocError, Global};
 use std::mem;
 
@@ -37,39 +37,39 @@ const LONG_BYTES: usize = 24;
 // Where the second referent of an array stands.
 const SECOND_REFERENT: usize = 24;
 
-fn union(alloc: Global, vt: u16, r: &mut Ndr<'_>) -> Result<Scalar, ReadFault>
+fn union(alloc: Global, vt: u16, r: &mut Ndr<'_>) -> Result<Scalar, StubFault>
     ensures value { ReadsField result r.new (union_at vt r.old) }
     ensures memory { OnMemory result ((vt ≡ 8) × (4 ≤ length r.old.rest)) }
 {
     read_union(alloc, vt, r)
 }
 
-fn array(alloc: Global, elem: VarType, r: &mut Ndr<'_>) -> Result<SafeArray<Scalar>, ReadFault>
+fn array(alloc: Global, elem: VarType, r: &mut Ndr<'_>) -> Result<SafeArray<Scalar>, StubFault>
     ensures value { ReadsField result r.new (array_at elem r.old) }
     ensures memory { OnMemory result (IsSome (sf_type_of elem)) }
 {
     read_array(alloc, r, elem).map_err(|fault| match fault {
-        WireFault::BadStub | WireFault::BadVarType => ReadFault::BadStub,
-        WireFault::Memory => ReadFault::Memory,
+        WireFault::BadStub | WireFault::BadVarType => StubFault::BadStub,
+        WireFault::Memory => StubFault::Memory,
     })
 }
 
 #[tactic(auto, unfolding(oa_ndr::specs::Reading::steps, crate::specs::Reading::scalar_value_at))]
-fn scalar_value(alloc: Global, vt: u16, r: &mut Ndr<'_>) -> Result<Variant, ReadFault>
+fn scalar_value(alloc: Global, vt: u16, r: &mut Ndr<'_>) -> Result<Variant, StubFault>
     ensures value { ReadsField result r.new (scalar_value_at vt r.old) }
     ensures memory { OnMemory result ((vt ≡ 8) × (4 ≤ length r.old.rest)) }
 {
     Ok(Variant::One(union(alloc, vt, r)?))
 }
 
-// The discriminant, the first referent and the array.
+/// The discriminant, the first referent and the array.
 #[tactic(auto, unfolding(oa_ndr::specs::Reading::steps, crate::specs::Reading::array_union_at))]
 fn array_union(
     alloc: Global,
     elem: VarType,
     vt: u16,
     r: &mut Ndr<'_>,
-) -> Result<SafeArray<Scalar>, ReadFault>
+) -> Result<SafeArray<Scalar>, StubFault>
     ensures value { ReadsField result r.new (array_union_at elem vt r.old) }
     ensures memory { OnMemory result ((4 ≤ length r.old.rest) × IsSome (sf_type_of elem)) }
 {
@@ -78,23 +78,23 @@ fn array_union(
     if (discriminant == VT_ARRAY as u32 || discriminant == vt as u32) && is_set {
         return array(alloc, elem, r);
     }
-    Err(ReadFault::BadStub)
+    Err(StubFault::BadStub)
 }
 
 #[tactic(auto, unfolding(oa_ndr::specs::Reading::steps, crate::specs::Reading::array_value_at))]
-fn array_value(alloc: Global, vt: u16, r: &mut Ndr<'_>) -> Result<Variant, ReadFault>
+fn array_value(alloc: Global, vt: u16, r: &mut Ndr<'_>) -> Result<Variant, StubFault>
     requires { 8192 ≤ vt }
     ensures value { ReadsField result r.new (array_value_at (type_at (vt - 8192)) vt r.old) }
     ensures memory { OnMemory result ((4 ≤ length r.old.rest) × IsArrayVt vt) }
 {
     match VarType::from_vt(vt - VT_ARRAY) {
         Some(elem) => Ok(Variant::Array(array_union(alloc, elem, vt, r)?)),
-        None => Err(ReadFault::BadStub),
+        None => Err(StubFault::BadStub),
     }
 }
 
 #[tactic(auto, unfolding(oa_ndr::specs::Reading::steps, crate::specs::Reading::variant_at))]
-fn variant(alloc: Global, r: &mut Ndr<'_>) -> Result<Variant, ReadFault>
+fn variant(alloc: Global, r: &mut Ndr<'_>) -> Result<Variant, StubFault>
     ensures value { ReadsField result r.new (variant_at r.old) }
     ensures memory { OnMemory result (TakesMemory (from_multiple 8 r.old)) }
 {
@@ -111,7 +111,7 @@ fn variant(alloc: Global, r: &mut Ndr<'_>) -> Result<Variant, ReadFault>
     array_value(alloc, vt, r)
 }
 
-// The number of a long, the value that most fields spell. None of any other field.
+/// The number of a long, the value that most fields spell. None of any other field.
 #[tactic(auto, using(crate::proofs::Longs::long_reads))]
 fn long(bytes: &[u8]) -> Option<i32>
     ensures { IfSome result (λ number. whole variant_at bytes.now ≡ Some (One (I4 number))) }
@@ -125,7 +125,7 @@ fn long(bytes: &[u8]) -> Option<i32>
     None
 }
 
-fn whole(alloc: Global, bytes: &[u8]) -> Result<Variant, ReadFault>
+fn whole(alloc: Global, bytes: &[u8]) -> Result<Variant, StubFault>
     ensures value { ReadsWholeField result (whole variant_at bytes.now) }
     ensures memory { OnMemory result (TakesMemory bytes.now) }
 {
@@ -135,12 +135,12 @@ fn whole(alloc: Global, bytes: &[u8]) -> Result<Variant, ReadFault>
     let mut r = Ndr::new(bytes);
     let value = variant(alloc, &mut r)?;
     if !r.rest().is_empty() {
-        return Err(ReadFault::BadStub);
+        return Err(StubFault::BadStub);
     }
     Ok(value)
 }
 
-// Whether some value has this vt.
+/// Whether some value has this vt.
 fn is_value_type(vt: u16) -> bool
     ensures { result ≡ is_value_type vt }
 {
@@ -178,12 +178,12 @@ pub fn read_variant(alloc: Global, bytes: &[u8]) -> Result<Variant, WireFault>
     ensures exact { ReadsVariant bytes.now result }
 {
     whole(alloc, bytes).map_err(|fault| match fault {
-        ReadFault::Memory => WireFault::Memory,
-        ReadFault::BadStub => field_fault(bytes),
+        StubFault::Memory => WireFault::Memory,
+        StubFault::BadStub => field_fault(bytes),
     })
 }
 
-// How many bytes `write_variant` adds. Of an array it is what clSize counts.
+/// How many bytes `write_variant` adds. Of an array it is what clSize counts.
 #[tactic(auto, unfolding(oa_wire_array::specs::Canon::scalar_len))]
 fn measure(value: &Variant) -> usize
     ensures value { result ≡ length (canon value.now) }
@@ -204,7 +204,7 @@ pub fn wire_len(value: &Variant) -> usize
     measure(value)
 }
 
-// What stands before the second referent of an array.
+/// What stands before the second referent of an array.
 fn write_array_head(out: &mut NdrOut, size: u32, vt: u16) -> Result<(), AllocError>
     ensures ok { OnOk result (out.new ≡ in_field (put_array_head size vt) out.old) }
     ensures before { out.new.before ≡ out.old.before }
@@ -227,7 +227,7 @@ fn write_sized_array(
     write_array(out, array)
 }
 
-// Adds the bytes of a value, in place; `len` is how many an array takes.
+/// Adds the bytes of a value, in place; `len` is how many an array takes.
 fn write_field(out: &mut NdrOut, value: &Variant, len: usize) -> Result<(), AllocError>
     requires counted { IsArrayLen len value.now }
     requires small { len < 2 ^ 40 }

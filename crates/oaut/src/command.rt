@@ -1,6 +1,7 @@
 //! What the command line may be: the commands with their words, options and help.
 use clap::{Arg, ArgAction, Command, value_parser};
-use oa_commands::{LEAST_BANK, MOST_BANK};
+use oa_journal::{LEAST_BANK_BYTES, MOST_BANK_BYTES};
+use oa_model::MAX_GROUP;
 use std::alloc::{AllocError, Global};
 
 /// A word that has to be there.
@@ -107,7 +108,9 @@ fn bank<'a>(alloc: Global) -> Arg<'a> {
     Arg::new(alloc, "bank")
         .long("bank")
         .value_name("B")
-        .value_parser(value_parser!(u32).range(i64::from(LEAST_BANK)..=i64::from(MOST_BANK)))
+        .value_parser(value_parser!(u32).range(
+            i64::from(LEAST_BANK_BYTES)..=i64::from(MOST_BANK_BYTES),
+        ))
         .default_value("20971520")
         .help(
             "Give each of the store's two banks B bytes, from 20971520 to 1073741824; the objects may take 5242880 fewer as an image",
@@ -119,7 +122,7 @@ fn group<'a>(alloc: Global) -> Arg<'a> {
     Arg::new(alloc, "group")
         .long("group")
         .value_name("N")
-        .value_parser(value_parser!(u32).range(1..=1024))
+        .value_parser(value_parser!(u32).range(1..=MAX_GROUP as i64))
         .default_value("1")
         .help(
             "Commit N requests together, from 1 to 1024, and write their replies behind that; with 1 each request is committed before its reply",

@@ -12,9 +12,8 @@ mod session;
 
 use clap::ArgMatches;
 use clap::error::ErrorKind;
-use oa_commands::{
-    Fault, LEAST_BANK, Streams, format_store, tell, upgrade_store, write_dump, write_text,
-};
+use oa_commands::{Fault, Streams, format_store, tell, upgrade_store, write_dump, write_text};
+use oa_journal::DEFAULT_BANK_BYTES;
 use oa_stream::{Behind, Outlet};
 use std::alloc::Global;
 use std::process::ExitCode;
@@ -111,7 +110,9 @@ fn formats(rt: &HostRuntime, arguments: &ArgMatches) -> Result<(), Fault> {
         rt,
         arguments.get_str("STORE").unwrap_or(""),
         arguments.get_str("LIB").unwrap_or(""),
-        arguments.get_one::<u32>("bank").unwrap_or(LEAST_BANK),
+        arguments
+            .get_one::<u32>("bank")
+            .unwrap_or(DEFAULT_BANK_BYTES),
     )?;
     tell(rt, disk, b"formatted\n")
 }
@@ -121,7 +122,9 @@ fn upgrades(rt: &HostRuntime, arguments: &ArgMatches) -> Result<(), Fault> {
     let disk = upgrade_store(
         rt,
         arguments.get_str("STORE").unwrap_or(""),
-        arguments.get_one::<u32>("bank").unwrap_or(LEAST_BANK),
+        arguments
+            .get_one::<u32>("bank")
+            .unwrap_or(DEFAULT_BANK_BYTES),
     )?;
     tell(rt, disk, b"upgraded\n")
 }
@@ -138,9 +141,11 @@ fn dumps(rt: &HostRuntime, arguments: &ArgMatches) -> Result<(), Fault> {
 }
 
 fn checks(rt: &HostRuntime, arguments: &ArgMatches) -> Result<(), Fault> {
+    let mut writer = Outlet::new(io::writer(rt));
     write_text(
         rt,
         arguments.get_str("LIB").unwrap_or(""),
         arguments.get_flag("where"),
+        &mut writer,
     )
 }

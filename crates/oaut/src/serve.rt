@@ -1,11 +1,9 @@
 //! Answering requests with objects that a store keeps.
 use crate::session::hold;
-use oa_commands::{Fault, STANDARD_INPUT, Streams, found, read_library};
+use oa_commands::{Fault, STANDARD_INPUT, Streams, open_store_file, read_library};
 use oa_disk::FileDisk;
+use oa_model::MAX_GROUP;
 use oa_server::Server;
-
-/// The greatest number of requests that are committed together.
-const MOST: u32 = 1024;
 
 /// Holds a session over a store of a library, so many requests committed together.
 pub(crate) fn serve(
@@ -20,13 +18,13 @@ pub(crate) fn serve(
     }
     let _streams = Streams::new(rt);
     let mut server = opened(rt, store, library)?;
-    hold(rt, &mut server, group.clamp(1, MOST) as usize, hex)
+    hold(rt, &mut server, (group as usize).clamp(1, MAX_GROUP), hex)
 }
 
 /// A server over a store of a library.
 fn opened(rt: &HostRuntime, store: &str, library: &str) -> Result<Server<FileDisk>, Fault> {
     let alloc = rt.alloc();
     let library = read_library(rt, alloc, library)?;
-    let disk = found(rt, alloc, store)?;
+    let disk = open_store_file(rt, alloc, store)?;
     Server::open(alloc, disk, library).map_err(|(_, fault)| Fault::from(fault))
 }

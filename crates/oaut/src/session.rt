@@ -22,7 +22,7 @@ pub(crate) fn hold<D: Disk + Drop>(
     requires small { group ≤ max_group }
 {
     let alloc = rt.alloc();
-    settle(alloc)?;
+    keep_long_blocks(alloc)?;
     let mut reader = Ahead::new(alloc, Inlet::new(rt.reader()))?;
     let mut writer = Behind::new(alloc, Outlet::new(io::writer(rt)))?;
     let served = if hex {
@@ -35,7 +35,7 @@ pub(crate) fn hold<D: Disk + Drop>(
 
 /// Takes a block as long as the longest line and gives it back, untouched. From then on the C library keeps the blocks of long texts that are
 /// given back, which it would else have from the system anew, page by page, for each of them (mallopt(3), M_MMAP_THRESHOLD).
-fn settle(alloc: Global) -> Result<(), AllocError> {
+fn keep_long_blocks(alloc: Global) -> Result<(), AllocError> {
     let block: Vec<u8> = Vec::with_capacity(alloc, MAX_LINE_CHARACTERS as usize)?;
     drop(block);
     Ok(())

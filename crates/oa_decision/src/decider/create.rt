@@ -10,7 +10,7 @@ use crate::decision::{Decision, Undecided};
 use crate::fields::Fields;
 use crate::limits::disallowed;
 use crate::refusal::Refusal;
-use oa_model::{HResult, MAX_LIVE_OBJECTS};
+use oa_model::{GREATEST_OBJECT_NUMBER, HResult, MAX_LIVE_OBJECTS};
 use oa_record::number_field;
 use oa_table::Event;
 use uuid::Uuid;
@@ -47,7 +47,7 @@ impl Decider<'_> {
         if self.library.class(class).is_none() {
             return Err(Refusal::of(HResult::REGDB_E_CLASSNOTREG));
         }
-        if self.table.len() >= MAX_LIVE_OBJECTS || self.table.next() == u32::MAX {
+        if self.table.len() >= MAX_LIVE_OBJECTS || self.table.next() > GREATEST_OBJECT_NUMBER {
             return Err(Refusal::of(HResult::E_UNEXPECTED));
         }
         Ok(())

@@ -1,5 +1,5 @@
 //! LIST.
-ghost use Rattle.std.specs.Prelude.{◌≡◌, ◌≤◌, ◌+◌, ◌*◌, ◌++◌, length, true, IfOk, OnOk};
+ghost use Rattle.std.specs.Prelude.{◌≡◌, ◌+◌, ◌*◌, ◌++◌, length, true, IfOk, OnOk};
 ghost use Rattle.std.specs.List.{flat_map};
 ghost use Rattle.oa_decision.specs.Decisions.{ChangesNoLocks, Decides};
 ghost use Rattle.oa_decision.specs.Listing.{entry_of, listing, objects_field};
@@ -8,12 +8,12 @@ use super::Decider;
 use crate::decision::{Decision, Undecided};
 use crate::fields::Fields;
 use oa_model::HResult;
-use oa_record::{put_number_field, put_object_field};
+use oa_record::{MAX_FIELDS_BYTES, put_number_field, put_object_field};
 use oa_table::Table;
 use std::alloc::AllocError;
 
 /// How many objects the fields of one reply have room for.
-const MAX_LISTED: usize = 178_956_969;
+const MAX_LISTED: usize = (MAX_FIELDS_BYTES - 8) / 24;
 
 impl Decider<'_> {
     /// Decides a LIST: the live objects by rising number, each with its coclass.

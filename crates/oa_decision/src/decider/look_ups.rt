@@ -1,6 +1,7 @@
 //! GETIDS.
 ghost use Rattle.std.specs.Prelude.{◌≡◌, ◌≤◌, ℕ, length, true, IfErr, IfOk, None, Ok, Some};
 ghost use Rattle.oa_model.specs.Codes.{rpc_e_disconnected};
+ghost use Rattle.oa_model.specs.Limits.{max_names};
 ghost use Rattle.oa_decision.specs.Decisions.{ChangesNoLocks, Decides};
 ghost use Rattle.oa_decision.specs.Interfaces.{interface_found};
 ghost use Rattle.oa_decision.specs.LookUps.{ids_answer, look_up};
@@ -31,7 +32,7 @@ impl Decider<'_> {
 
     /// The answer to names; their DISPIDs are told also where not all are known.
     fn ids_answer(&self, found: DispIds) -> Result<Decision, Undecided>
-        requires { length found.ids ≤ 17 }
+        requires { length found.ids ≤ max_names }
         ensures decided { Decides (Ok (ids_answer found)) true result }
         ensures unlocked { IfOk result ChangesNoLocks }
     {

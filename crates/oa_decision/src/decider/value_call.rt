@@ -1,5 +1,5 @@
 //! An INVOKE that brings no more than a put's new value, of a property without parameters.
-ghost use Rattle.std.specs.Prelude.{◌≡◌, [], true, IfSome, Ok, Some};
+ghost use Rattle.std.specs.Prelude.{◌≡◌, IfSome, Some};
 ghost use Rattle.oa_checks.specs.Declarations.{kind_of_property};
 ghost use Rattle.oa_coerce.specs.Answers.{coerced};
 ghost use Rattle.oa_record.specs.ValueCalls.{bringing};
@@ -27,19 +27,11 @@ impl Decider<'_> {
     pub fn plan_value(&self, tag: u32, head: CallHead, value: Option<Variant>) -> Option<Plan>
         ensures { IfSome result (PlansValue self.now tag (Invoke (bringing head value))) }
     {
-        let Ok(object) = self.find_object(head.object) else {
-            return None;
-        };
-        let Ok(interface) = self.find_interface_of(object, &head.interface, &head.riid) else {
-            return None;
-        };
-        let Some((declared, form)) = find_keyless(
-            &interface,
-            head.dispid,
-            Access::Flags(head.flags),
-        ) else {
-            return None;
-        };
+        let object = self.find_object(head.object).ok()?;
+        let interface = self
+            .find_interface_of(object, &head.interface, &head.riid)
+            .ok()?;
+        let (declared, form) = find_keyless(&interface, head.dispid, Access::Flags(head.flags))?;
         let guid = interface.interface().guid;
         let name = CellName {
             object: head.object,
@@ -81,9 +73,7 @@ impl Decider<'_> {
         requires { HasZero declared }
         ensures { IfSome result (PlansPut tag name (coerced argument declared)) }
     {
-        let Ok(value) = coerce(self.alloc, argument, declared) else {
-            return None;
-        };
+        let value = coerce(self.alloc, argument, declared).ok()?;
         let value = value.into_unlocked();
         let event = Event::Put { name, value };
         let fields = Fields::none(self.alloc);

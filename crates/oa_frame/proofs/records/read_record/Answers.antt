@@ -9,7 +9,7 @@ pub returns-in-Some-clause-paced : goal.returns-in-Some-clause-paced
 returns-in-Some-clause-paced g c = paced_ahead _ _ _ _ refl c.requires.unbroken.reader c.advance.ensures.taken
 
 pub returns-in-Some-clause-input : goal.returns-in-Some-clause-input
-returns-in-Some-clause-input g c =
+returns-in-Some-clause-input g c = λ number.
     record_ahead _ _ (read_ahead c.args.reader.now) c.copy_front.new.body.items (slice_range (read_ahead c.args.reader.now) 4 (4 + c.in-Some.n)) c.in-Some.n (rw c.buffered.ensures at c.in-Some.ensures.says) c.in-Some.ensures.within.0 c.in-Some.ensures.within.1 (rw c.buffered.ensures at c.in-Some.ensures.within.2)
     (rw c.buffered-in-Some.ensures at c.copy_front.ensures.front) refl c.advance.ensures.taken.taken
 

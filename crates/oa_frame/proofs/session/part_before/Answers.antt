@@ -6,4 +6,4 @@ use Rattle.oa_frame.proofs.session.part_before.Goals as goal
 pub returns-clause-parts : goal.returns-clause-parts
 returns-clause-parts g c =
     let is : g.S.Responder.alone c.args.body.now ≡ true = search rules in
-    parted_on (frames c.args.framing) _ _ _ c.deliver.result _ _ _ _ _ _ is c.in_default.ensures.finishes c.deliver.ensures
+    parted_on (frames c.args.framing) _ _ _ c.deliver.result _ _ _ _ _ _ is c.in_ok-finish.ensures.finishes c.deliver.ensures

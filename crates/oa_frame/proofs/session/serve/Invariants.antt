@@ -1,4 +1,4 @@
-use Rattle.std.proofs.Common.{◌≡◌, ◌+◌, ◌≤◌, true, false, length}
+use Rattle.std.proofs.Common.{◌≡◌, ◌+◌, ◌≤◌, true, false}
 use Rattle.std.specs.Prelude.{vec_capacity}
 use Rattle.oa_model.specs.Limits.{max_request_bytes, max_line_characters}
 use Rattle.oa_stream.specs.Ahead.{ahead}

@@ -28,7 +28,7 @@ groups-preserved g c =
       gate = λ h.
           let stay = (c.in_ok-at.ensures.reads (before h)).contents_stay ∙ (c.groups.invariant.reads (first h)).contents_stay in
           gate_moved c.in_ok-opened-2.opened (g.D.Disk.contents c.read_group.new.disk) disk (c.args.body + c.from-in-groups.result) (c.args.body + c.in_ok-at.at) stay (ap (λ (k : ℕ). c.args.body + k) c.from-in-groups.ensures) (c.in_ok-opened-2.ensures.opened h);
-      shown = λ h. subst (λ (d : List ℕ). HasBytesAt d c.is_open-in-groups.new.window.from (take c.is_open-in-groups.new.window.len c.is_open-in-groups.new.window.buffer.items)) (sym (c.in_ok-opened-2.ensures.reads h).contents_stay) (c.in_ok-opened-2.ensures.shown h);
+      shown = λ h. subst (λ (d : List ℕ). HasBytesAt d c.is_open-in-groups.new.ahead.from (take c.is_open-in-groups.new.ahead.len c.is_open-in-groups.new.ahead.buffer.items)) (sym (c.in_ok-opened-2.ensures.reads h).contents_stay) (c.in_ok-opened-2.ensures.shown h);
       reads = λ h. reads_on g.D.Disk.contents g.D.Disk.image g.D.Disk.moment g.D.Disk.image_since c.args.disk.now c.groups.disk c.is_open-in-groups.new.disk (c.groups.invariant.reads (first h))
           (reads_on g.D.Disk.contents g.D.Disk.image g.D.Disk.moment g.D.Disk.image_since c.groups.disk c.read_group.new.disk c.is_open-in-groups.new.disk (c.in_ok-at.ensures.reads (before h)) (c.in_ok-opened-2.ensures.reads h));
       size = c.in_ok-opened-2.ensures.after.size ∙ c.in_ok-at.ensures.after.size ∙ c.groups.invariant.size;

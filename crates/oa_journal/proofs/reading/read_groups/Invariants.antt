@@ -3,7 +3,7 @@ use Rattle.oa_image.specs.Tables.{is_numbered}
 use Rattle.oa_disk.specs.Disk.{HasBytesAt}
 use Rattle.oa_table.specs.Tables.{unlocked_table}
 use Rattle.oa_journal.specs.Bank.{from_place}
-use Rattle.oa_journal.specs.Damages.{GroupsTo}
+use Rattle.oa_journal.specs.Damages.{AreGroupsTo}
 use Rattle.oa_journal.specs.Reads.{OnlyReads}
 use Rattle.oa_journal.specs.Replays.{ReplaysAll}
 use Rattle.oa_journal.proofs.reading.read_groups.Given as goal
@@ -14,11 +14,11 @@ invariant-groups g l = record {
   inside : l.at < l.size;
   numbered : is_numbered l.table ≡ true;
   unlocked : unlocked_table l.table ≡ l.table;
-  kept : length l.window.buffer.items ≡ length l.fn.buffer.items;
+  kept : length l.ahead.buffer.items ≡ length l.fn.buffer.items;
   calls : IsTrue (g.D.Disk.is_honest l.disk) → g.D.Disk.moment l.disk + l.from ≤ g.D.Disk.moment l.fn.disk + (2 + l.at);
-  so_far : IsTrue (g.D.Disk.is_honest l.disk) → (before : List (List ℕ)) × GroupsTo (from_place l.body (g.D.Disk.contents l.fn.disk)) l.from before l.at × ReplaysAll before l.fn.first l.table;
+  so_far : IsTrue (g.D.Disk.is_honest l.disk) → (before : List (List ℕ)) × AreGroupsTo (from_place l.body (g.D.Disk.contents l.fn.disk)) l.from before l.at × ReplaysAll before l.fn.first l.table;
   gate : IsTrue (g.D.Disk.is_honest l.disk) → IsTrue l.opened ↔ (slice_index (g.D.Disk.contents l.fn.disk) (l.body + l.at) ≡ 1);
-  shown : IsTrue (g.D.Disk.is_honest l.disk) → HasBytesAt (g.D.Disk.contents l.disk) l.window.from (take l.window.len l.window.buffer.items);
+  shown : IsTrue (g.D.Disk.is_honest l.disk) → HasBytesAt (g.D.Disk.contents l.disk) l.ahead.from (take l.ahead.len l.ahead.buffer.items);
   reads : IsTrue (g.D.Disk.is_honest l.disk) → OnlyReads g.D.Disk.contents g.D.Disk.image g.D.Disk.moment g.D.Disk.image_since l.fn.disk l.disk;
   size : g.D.Disk.size_of l.disk ≡ g.D.Disk.size_of l.fn.disk;
   honest : IsTrue (g.D.Disk.is_honest l.disk) → IsTrue (g.D.Disk.is_honest l.fn.disk);

@@ -1,4 +1,4 @@
-use Rattle.std.proofs.Common.{ℕ, List, sym, subst}
+use Rattle.std.proofs.Common.{ℕ, List, subst}
 use Rattle.oa_keeper.specs.Holding.{Commits}
 use Rattle.oa_keeper.proofs.committing.commit.Goals as goal
 

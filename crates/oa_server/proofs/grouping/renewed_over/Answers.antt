@@ -11,4 +11,4 @@ pub returns-in-Err-clause-renewed : goal.returns-in-Err-clause-renewed
 returns-in-Err-clause-renewed g c =
     let said = c.renew_over.ensures in
     let due = c.in-Err.ensures.failed in
-    in_doubt {g = g.D.Disk} c.args.store.now c.renew_over.new.store c.args.host.now c.renew_over.new.host c.args.body.now c.requires.kind said.renews.same said.renews.any_moment said.renews.each said.renews.goes due.0 due.1 due.2 c.in-Err.ensures.stops c.bare.result (search rules)
+    in_doubt {g = g.D.Disk} c.args.store.now c.renew_over.new.store c.args.host.now c.renew_over.new.host c.args.body.now c.requires.kind said.renews.same said.renews.any_moment said.renews.each said.renews.goes due.0 due.1 due.2 c.in-Err.ensures.stops c.bare_reply.result (search rules)

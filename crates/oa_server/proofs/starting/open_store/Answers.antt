@@ -1,4 +1,5 @@
 use Rattle.std.proofs.Common.{rules, List, ℕ, inl, inr, refl, subst, sym, true≢false}
+use Rattle.std.proofs.lemmas.Result.{err_from_is_err_and}
 use Rattle.oa_canonical.specs.Canonical.{canonical}
 use Rattle.oa_journal.specs.Shapes.{body_bytes}
 use Rattle.oa_journal.specs.declared.shape.Shape.{Shape}
@@ -14,8 +15,8 @@ returns-then-can_serve-clause-opened g c =
     let disk = c.args.disk in
     let contents = g.D.Disk.contents disk in
     let library = c.args.library.now in
-    let store = c.in-Ok.store in
-    let table = c.in-Ok.table in
+    let store = c.in_ok-store.store in
+    let table = c.in_ok-store.table in
     let shape = store.bank.shape in
     let two = is_two shape store.is_new in
     record {
@@ -25,15 +26,15 @@ returns-then-can_serve-clause-opened g c =
       shape = two;
       text = search rules;
       goes_on = search rules;
-      size = c.in-Ok.ensures.after.size;
-      unfailed = c.in-Ok.ensures.after.unfailed;
+      size = c.in_ok-store.ensures.after.size;
+      unfailed = c.in_ok-store.ensures.after.unfailed;
       found = λ h.
-          let honest = c.in-Ok.ensures.after.honest h in
-          let there = of_text library c.text_of.result.now contents c.text_of.ensures.text shape table (store.chosen, store.bank.gate, c.in-Ok.ensures.found.contents h) in
+          let honest = c.in_ok-store.ensures.after.honest h in
+          let there = of_text library c.text_of.result.now contents c.text_of.ensures.text shape table (store.chosen, store.bank.gate, c.in_ok-store.ensures.found.contents h) in
           record {
             honest = honest;
-            reads = c.in-Ok.ensures.reads h;
-            each = λ image is. subst (λ (text : List ℕ). IsStoreAt shape store.chosen store.bank.gate text table image) (sym c.in-Ok.ensures.starts.has) (c.in-Ok.ensures.found.found h image is);
+            reads = c.in_ok-store.ensures.reads h;
+            each = λ image is. subst (λ (text : List ℕ). IsStoreAt shape store.chosen store.bank.gate text table image) (sym c.in_ok-store.ensures.starts.has) (c.in_ok-store.ensures.found.found h image is);
             contents = there;
             one = finds_one (g.D.Disk.image disk) contents (g.met.D.Disk.contents_is_image disk honest) (body_bytes shape) library table
                 (subst (λ (s : Shape). IsStoreIn s contents (canonical library) table) two there);
@@ -46,21 +47,21 @@ returns-else-can_serve-clause-refused g c =
     let disk = c.args.disk in
     let contents = g.D.Disk.contents disk in
     let library = c.args.library.now in
-    let store = c.in-Ok.store in
-    let table = c.in-Ok.table in
+    let store = c.in_ok-store.store in
+    let table = c.in_ok-store.table in
     let shape = store.bank.shape in
     let bank = body_bytes shape in
     rw c.into_disk.ensures (record {
-      size = c.in-Ok.ensures.after.size;
-      cause = c.in-Ok.ensures.after.unfailed;
+      size = c.in_ok-store.ensures.after.size;
+      cause = c.in_ok-store.ensures.after.unfailed;
       told = λ h.
-          let honest = c.in-Ok.ensures.after.honest h in
+          let honest = c.in_ok-store.ensures.after.honest h in
           let there = subst (λ (s : Shape). IsStoreIn s contents (canonical library) table) (is_two shape store.is_new)
-          (of_text library c.text_of.result.now contents c.text_of.ensures.text shape table (store.chosen, store.bank.gate, c.in-Ok.ensures.found.contents h)) in
+          (of_text library c.text_of.result.now contents c.text_of.ensures.text shape table (store.chosen, store.bank.gate, c.in_ok-store.ensures.found.contents h)) in
           let cannot = λ (serves : CanServe bank library table). true≢false (sym (c.if-can_serve.ensures.1 (subst (λ (n : ℕ). CanServe n library table) (sym c.bank_size.ensures) serves))) in
           record {
             honest = honest;
-            reads = c.in-Ok.ensures.reads h;
+            reads = c.in_ok-store.ensures.reads h;
             says = inr (record { told = refl; bank = bank; table = table; holds = there; cannot = cannot });
             early = search rules;
             differs = λ state other r. absurd (differs_unfit contents library bank table there state other);
@@ -69,28 +70,29 @@ returns-else-can_serve-clause-refused g c =
           };
     })
 
-pub returns-in-Err-clause-refused : goal.returns-in-Err-clause-refused
-returns-in-Err-clause-refused g c =
+pub returns-in_err-store-clause-refused : goal.returns-in_err-store-clause-refused
+returns-in_err-store-clause-refused g c =
+    let p = err_from_is_err_and c.from_residual.result c.from_residual.ensures.1 in
     let disk = c.args.disk in
     let contents = g.D.Disk.contents disk in
     let library = c.args.library.now in
     let text = c.text_of.result.now in
-    let refused = c.in-Err.ensures.refused in
-    record {
-      size = c.in-Err.ensures.after_err.size;
+    let refused = c.in_err-store.ensures.refused in
+    rw (p.1, p.2) (record {
+      size = c.in_err-store.ensures.after_err.size;
       cause = refused.cause;
       told = λ h.
-          let honest = c.in-Err.ensures.after_err.honest h in
+          let honest = c.in_err-store.ensures.after_err.honest h in
           let is = g.met.D.Disk.contents_is_image disk honest in
           let long = g.met.D.Disk.images_have_size disk contents honest is in
           let says = says_library library text contents c.text_of.ensures.text (g.D.Disk.size_of disk) _ (refused.says h) in
           record {
             honest = honest;
-            reads = c.in-Err.ensures.reads_err h;
+            reads = c.in_err-store.ensures.reads_err h;
             says = inl says;
             early = refused.early h;
             differs = λ state other r. differs_told contents (g.D.Disk.size_of disk) long library _ says state other r;
             late = λ r. refuses_one (same_library c.one_tree.ensures (is_read c.marked_is_read.ensures)) library c.is_checked.ensures contents (g.D.Disk.size_of disk) long _ r says
                 (λ table store. refused.refused r h table (of_library library text contents c.text_of.ensures.text table store)) (g.D.Disk.image disk) is;
           };
-    }
+    })

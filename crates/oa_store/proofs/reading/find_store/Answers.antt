@@ -1,22 +1,23 @@
-use Rattle.std.proofs.Common.{rules, ◌∙◌, ◌-◌, ℕ, List, length, Some, false, refl, subst, sym, ap, arith}
+use Rattle.std.proofs.Common.{rules, ◌≡◌, ◌∙◌, ◌-◌, ℕ, List, length, Some, false, refl, subst, sym, ap, arith}
 use Rattle.std.proofs.lemmas.Result.{err_from_is_err_and}
 use Rattle.oa_journal.specs.declared.bank.Bank.{Bank}
 use Rattle.oa_journal.specs.declared.shape.Shape.{Shape}
+use Rattle.oa_journal.specs.declared.shape.Shape.TheVariants.{Two}
 use Rattle.oa_journal.specs.Append.{IsAt}
 use Rattle.oa_journal.specs.Bank.{from_place, IsBank, HasLibrary}
 use Rattle.oa_journal.specs.Damages.{HasNoHeader, IsDamagedBank}
 use Rattle.oa_journal.proofs.Damages.{bank_library, one_library}
 use Rattle.oa_journal.specs.Shapes.{body_bytes}
-use Rattle.oa_store.specs.Faults.{IsDamaged}
+use Rattle.oa_store.specs.Faults.{HasWanted, IsDamaged}
 use Rattle.oa_store.specs.Stores.{body_place, head_place, IsStoreAt}
-use Rattle.oa_store.proofs.Opened.{carried, of_library, if_damaged, says_late, spoilt}
+use Rattle.oa_store.proofs.Opened.{carried, of_library, if_damaged, says_first, says_late, spoilt, wanted_in}
 use Rattle.oa_store.proofs.reading.find_store.Goals as goal
 
 pub returns-in_err-found-clause-refused : goal.returns-in_err-found-clause-refused
 returns-in_err-found-clause-refused g c =
     let p = err_from_is_err_and c.from_residual.result c.from_residual.ensures.1 in
     rw (p.1, p.2) (record {
-      says = λ h. c.in_err-found.ensures.says h (Some c.args.library.now);
+      says = λ h. says_first (Some c.args.library.now) (g.D.Disk.size_of c.args.disk.now) (g.D.Disk.contents c.args.disk.now) c.in_err-found.field-0.0 (c.in_err-found.ensures.says h);
       early = search rules;
       cause = search rules;
       tells = search rules;
@@ -62,12 +63,13 @@ returns-in_err-table-clause-refused g c =
           let at1 = subst (λ (b : Bank). IsAt shape head body (body_bytes shape - 1) false b) (sym c.in_ok-text.ensures.bank) at0 in
           let text = sym c.deref.ensures.value ∙ c.if-not-same.ensures.0 refl in
           let has = carried (λ s x y. HasLibrary s x y c.in_ok-text.text.items) c.bank_of-bank.result shape head body (body_bytes shape - 1) false (g.D.Disk.contents c.find_room.new.disk) contents at0 first (c.in_ok-text.ensures.found h2) in
-          let wanted = subst (λ (l : List ℕ). HasLibrary shape (from_place head contents) (from_place body contents) l) text has in
+          let two : (size : ℕ) × (shape ≡ Two size) = search rules in
+          let wanted = wanted_in shape two.0 two.1 (from_place head contents) (from_place body contents) c.args.library.now (subst (λ (l : List ℕ). HasLibrary shape (from_place head contents) (from_place body contents) l) text has) in
           says_late (Some c.args.library.now) _ contents c.in_err-table.field-0.0 c.in_err-table.ensures.late (if_damaged c.in_err-table.field-0.0 _ (IsDamaged (Some c.args.library.now) contents) (λ at is.
           let sized = subst (λ (s : Shape). IsDamagedBank s c.read_library.new.bank.head c.read_library.new.bank.body (g.D.Disk.contents c.read_library.new.disk) at) at1.shape_is is in
           let headed = subst (λ (k : ℕ). IsDamagedBank shape k c.read_library.new.bank.body (g.D.Disk.contents c.read_library.new.disk) at) at1.head_is sized in
           let placed = subst (λ (k : ℕ). IsDamagedBank shape head k (g.D.Disk.contents c.read_library.new.disk) at) at1.body_is headed in
-          spoilt (Some c.args.library.now) contents chosen shape c.in_ok-found.found.head.library c.in_ok-found.found.head.snapshot at found.0 found.1 wanted
+          spoilt (HasWanted (Some c.args.library.now)) contents chosen shape c.in_ok-found.found.head.library c.in_ok-found.found.head.snapshot at found.0 found.1 wanted
           (subst (λ (d : List ℕ). IsDamagedBank shape head body d at) stay placed)) (c.in_err-table.ensures.damaged h));
     })
 

@@ -2,16 +2,16 @@ use Rattle.std.proofs.Common.{None, List, ℕ, subst, arith, rules}
 use Rattle.std.proofs.lemmas.Result.{err_from_is_err_and}
 use Rattle.oa_journal.specs.Bank.{from_place, IsBank}
 use Rattle.oa_journal.specs.Damages.{IsDamagedBank}
-use Rattle.oa_store.specs.Faults.{IsDamaged}
+use Rattle.oa_store.specs.Faults.{HasWanted, IsDamaged}
 use Rattle.oa_store.specs.Stores.{body_place, head_place}
-use Rattle.oa_store.proofs.Opened.{if_damaged, says_late, spoilt}
+use Rattle.oa_store.proofs.Opened.{if_damaged, says_first, says_late, spoilt}
 use Rattle.oa_store.proofs.reading.inspect.Goals as goal
 
 pub returns-in_err-chosen-clause-refused : goal.returns-in_err-chosen-clause-refused
 returns-in_err-chosen-clause-refused g c =
     let p = err_from_is_err_and c.from_residual.result c.from_residual.ensures.1 in
     rw (p.1, p.2) (record {
-      says = λ h. c.in_err-chosen.ensures.says h None;
+      says = λ h. says_first None (g.D.Disk.size_of c.args.disk.now) (g.D.Disk.contents c.args.disk.now) c.in_err-chosen.field-0.0 (c.in_err-chosen.ensures.says h);
       early = search rules;
       any_library = search rules;
       any_format = search rules;
@@ -37,7 +37,7 @@ returns-in_err-library-clause-refused g c =
           let chosen = c.in_ok-chosen.chosen in
           let head = c.in_ok-chosen.head in
           says_late None size contents c.in_err-library.field-0.0 c.in_err-library.ensures.late (if_damaged c.in_err-library.field-0.0 _ (IsDamaged None contents)
-          (λ at is. spoilt None contents chosen head.shape head.library head.snapshot at found.0 found.1 tt
+          (λ at is. spoilt (HasWanted None) contents chosen head.shape head.library head.snapshot at found.0 found.1 tt
           (subst (λ (d : List ℕ). IsDamagedBank head.shape (head_place chosen) (body_place head.shape chosen) d at) stay is)) (c.in_err-library.ensures.damaged h));
     })
 

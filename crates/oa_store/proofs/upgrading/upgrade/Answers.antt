@@ -4,11 +4,11 @@ use Rattle.oa_disk.specs.Moments.{chained}
 use Rattle.oa_table.specs.Tables.{unlocked_table}
 use Rattle.oa_journal.specs.Banks.{first_gate}
 use Rattle.oa_store.specs.Changes.{IsMove, IsMoved, IsUpgrade}
-use Rattle.oa_store.proofs.Upgraded.{moved, arrived}
+use Rattle.oa_store.proofs.Upgraded.{moved, arrived, was_done}
 use Rattle.oa_store.proofs.upgrading.upgrade.Goals as goal
 
-pub returns-in-Ok-clause-any_moment : goal.returns-in-Ok-clause-any_moment
-returns-in-Ok-clause-any_moment g c h =
+pub returns-in_err-map_err-clause-any_moment : goal.returns-in_err-map_err-clause-any_moment
+returns-in_err-map_err-clause-any_moment g c h =
     let chosen = c.in_ok-old.old.chosen in
     let size = c.args.size in
     let old = c.args.disk.now in
@@ -55,8 +55,8 @@ returns-clause-any_moment g c h =
           (subst (λ (l : List ℕ). IsMove chosen size (first_gate l table) l (unlocked_table table) step.0 f) c.deref.ensures.value step.2),
     ))
 
-pub returns-in-Ok-clause-done : goal.returns-in-Ok-clause-done
-returns-in-Ok-clause-done g c h =
+pub returns-clause-done : goal.returns-clause-done
+returns-clause-done g c h =
     let chosen = c.in_ok-old.old.chosen in
     let size = c.args.size in
     let old = c.args.disk.now in
@@ -67,24 +67,38 @@ returns-in-Ok-clause-done g c h =
     let library = c.in_ok-old.old.library.items in
     let h1 = sym c.switch_to.ensures.after.honest ∙ h in
     let h0 = c.find_old.ensures.after.honest h1 in
-    let found = c.in_ok-old.ensures.found h1 in (
-      library,
-      table,
-      (chosen, found.0, found.1),
-      λ f now.
-          let step = c.in-Ok.ensures.done h1 f now in (
+    let found = c.in_ok-old.ensures.found h1 in
+    let done = was_done _ _ _ c.switch_to.result (sym c.in_ok-map_err.ensures.variant) c.switch_to.ensures.done h1 in
+    record {
+      library = library;
+      table = table;
+      store = (chosen, found.0, found.1);
+      each = λ f now.
+          let step = done f now in (
             1 - chosen,
             first_gate library table,
             arrived size chosen found.0 (first_gate library table) library table first step.0 f found.1 (c.in_ok-old.ensures.synced h1 step.0 step.1)
                 (subst (λ (l : List ℕ). IsMoved chosen size (first_gate l table) l (unlocked_table table) step.0 f) c.deref.ensures.value step.2),
-          ),
-    )
+          );
+      short = search rules;
+      fits = search rules;
+    }
 
 pub returns-in_err-old-clause-refused : goal.returns-in_err-old-clause-refused
 returns-in_err-old-clause-refused g c =
     let p = err_from_is_err_and c.from_residual.result c.from_residual.ensures.1 in
     rw (p.1, p.2) (record {
       says = λ h. c.in_err-old.ensures.says h c.args.size;
+      refused = search rules;
+      cause = search rules;
+      tells = search rules;
+    })
+
+pub returns-in_err-map_err-clause-refused : goal.returns-in_err-map_err-clause-refused
+returns-in_err-map_err-clause-refused g c =
+    let p = err_from_is_err_and c.from_residual-in_err-map_err.result c.from_residual-in_err-map_err.ensures.1 in
+    rw (p.1, p.2) (record {
+      says = search rules;
       refused = search rules;
       cause = search rules;
       tells = search rules;

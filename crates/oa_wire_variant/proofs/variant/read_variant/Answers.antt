@@ -3,8 +3,8 @@ use Rattle.std.specs.Result.{IsErrAnd, MatchResult}
 use Rattle.oa_ndr.specs.Reading.{whole}
 use Rattle.oa_ndr.proofs.Laws.{whole_takes, whole_again}
 use Rattle.oa_variant.specs.declared.variant.Variant.{Variant}
-use Rattle.oa_wire_text.specs.declared.fault.ReadFault.{ReadFault}
-use Rattle.oa_wire_text.specs.declared.fault.ReadFault.TheVariants as faults
+use Rattle.oa_wire_text.specs.declared.fault.StubFault.{StubFault}
+use Rattle.oa_wire_text.specs.declared.fault.StubFault.TheVariants as faults
 use Rattle.oa_wire_array.specs.declared.fault.WireFault.{WireFault}
 use Rattle.oa_wire_array.specs.declared.fault.WireFault.TheVariants.{BadStub, BadVarType, Memory}
 use Rattle.oa_wire_text.specs.Reading.{OnMemory}
@@ -24,7 +24,7 @@ fault_is bytes BadVarType is never = (never, sym is)
 fault_is bytes Memory is never = absurd (no_memory _ is)
 
 -- what was made of the answer of `whole`: the value, or what each refusal becomes
-told : (P : ReadFault → WireFault → Type 0) (bytes : List ℕ) (from : Result Variant ReadFault) (to : Result Variant WireFault)
+told : (P : StubFault → WireFault → Type 0) (bytes : List ℕ) (from : Result Variant StubFault) (to : Result Variant WireFault)
     → ReadsWholeField from (whole variant_at bytes) → OnMemory from (TakesMemory bytes) → MatchResult from (λ v. to ≡ Ok v) (λ e. IsErrAnd to (P e))
     → ((e : WireFault) → P faults.BadStub e → e ≡ field_fault bytes) → ((e : WireFault) → P faults.Memory e → e ≡ Memory) → ReadsVariant bytes to
 told P bytes (Ok v) to read takes is stub memory = rw is (whole_takes variant_reads bytes v read).1

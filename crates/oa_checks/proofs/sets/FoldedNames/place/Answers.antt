@@ -1,7 +1,7 @@
 use Rattle.std.proofs.Common.{ℕ, sym, ◌∙◌, Vec, Global}
 use Rattle.oa_checks.specs.Libraries.{same}
 use Rattle.oa_checks.proofs.Lists.{position-map}
-use Rattle.oa_checks.proofs.sets.Names.place.Goals as goal
+use Rattle.oa_checks.proofs.sets.FoldedNames.place.Goals as goal
 
 pub returns : goal.returns
 returns c =

@@ -1,5 +1,5 @@
 //! Bytes of a disk that were read ahead: a reader in pieces.
-ghost use Rattle.std.specs.Prelude.{◌≡◌, ◌↔◌, ◌+◌, ◌-◌, ◌^◌, ◌<◌, ◌≤◌, ℕ, List, IsTrue, length, take, drop, OnOk, OnErr, IfErr, IsErrOf};
+ghost use Rattle.std.specs.Prelude.{◌≡◌, ◌↔◌, ◌+◌, ◌-◌, ◌<◌, ◌≤◌, ℕ, List, IsTrue, length, take, OnOk, IfErr, IsErrOf};
 ghost use Rattle.oa_disk.specs.After.{AfterCalls};
 ghost use Rattle.oa_disk.specs.Disk.{HasBytesAt};
 ghost use Rattle.oa_disk.specs.declared.disk.DeviceFault.{DeviceFault};
@@ -36,7 +36,7 @@ fn read_front<D: Disk>(
 
 /// The bytes of a disk from a place on, as they were read into the front of a buffer.
 #[derive(Drop)]
-pub(crate) struct Window {
+pub(crate) struct DiskAhead {
     from: u64,
     len: usize,
     buffer: Vec<u8>,
@@ -44,14 +44,14 @@ pub(crate) struct Window {
     ghost some: { 5 ≤ length buffer.items },
 }
 
-impl Window {
+impl DiskAhead {
     /// No bytes.
-    pub(crate) fn over(buffer: Vec<u8>) -> Window
+    pub(crate) fn over(buffer: Vec<u8>) -> DiskAhead
         requires { 5 ≤ length buffer.items }
         ensures shown { (disk : List ℕ) → HasBytesAt disk result.from (take result.len result.buffer.items) }
         ensures kept { length result.buffer.items ≡ length buffer.items }
     {
-        Window {
+        DiskAhead {
             from: 0,
             len: 0,
             buffer,
@@ -62,7 +62,7 @@ impl Window {
     pub(crate) fn into_buffer(self) -> Vec<u8>
         ensures { length result.items ≡ length self.buffer.items }
     {
-        let Window { buffer, .. } = self;
+        let DiskAhead { buffer, .. } = self;
         buffer
     }
 

@@ -1,7 +1,7 @@
 use Rattle.std.proofs.Common.{ℕ, List, map, ap, ◌∙◌, Vec, Global}
 use Rattle.oa_checks.specs.Libraries.{same}
 use Rattle.oa_checks.proofs.Lists.{list_any-map, insert_key-map}
-use Rattle.oa_checks.proofs.sets.Names.insert.Goals as goal
+use Rattle.oa_checks.proofs.sets.FoldedNames.insert.Goals as goal
 
 pub returns-clause-added : goal.returns-clause-added
 returns-clause-added c = rw (← c.self.view_is) (rw list_any-map (c.in_ok-insert.ensures.added))

@@ -2,7 +2,7 @@
 _oaut() {
     local word=${COMP_WORDS[COMP_CWORD]} before=${COMP_WORDS[COMP_CWORD - 1]} command=${COMP_WORDS[1]} options=
     if ((COMP_CWORD == 1)); then
-        COMPREPLY=($(compgen -W "check play serve format upgrade dump help --help --version" -- "$word"))
+        COMPREPLY=($(compgen -W "check play serve format upgrade dump --help --version" -- "$word"))
         return
     fi
     case $before in --group | --bank) COMPREPLY=() && return ;; esac

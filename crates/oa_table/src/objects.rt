@@ -125,10 +125,10 @@ impl Objects {
         match event {
             Event::Create { number, class } => self.create(number, class),
             Event::Release { number } => self.release(number),
-            Event::Put { name, value } => {
-                self.put(name, value)?;
-                Ok(())
-            }
+            Event::Put { name, value } => match self.put(name, value) {
+                Ok(_) => Ok(()),
+                Err(refused) => Err(refused),
+            },
             Event::PutElement { name, index, value } => self.put_element(name, index, value),
             Event::Redim { name, bound } => self.redim(name, bound),
         }
@@ -204,10 +204,14 @@ impl Objects {
             let name = CellName { object, place };
             return Err((Event::Put { name, value }, TableFault::NoObject));
         };
-        found.put(place, value).map_err(|((place, value), fault)| {
-            let name = CellName { object, place };
-            (Event::Put { name, value }, fault)
-        })
+        let change = match found.put(place, value) {
+            Ok(change) => change,
+            Err(((place, value), fault)) => {
+                let name = CellName { object, place };
+                return Err((Event::Put { name, value }, fault));
+            }
+        };
+        Ok(change)
     }
 
     fn put_element(

@@ -280,9 +280,14 @@ impl Table {
         if self.size > ROOM_FOR_ANY_PUT {
             return self.change(Event::Put { name, value });
         }
-        let change = self.objects.put(name, value)?;
-        self.size = self.size + change.come - change.gone;
-        Ok(())
+        // A match: `?` would move the whole answer, which has room for a refused event, on each put.
+        match self.objects.put(name, value) {
+            Ok(change) => {
+                self.size = self.size + change.come - change.gone;
+                Ok(())
+            }
+            Err(refused) => Err(refused),
+        }
     }
 
     /// `apply` of the event that sets an element of the array in a cell.
@@ -313,9 +318,13 @@ impl Table {
         if size > LARGEST_IMAGE {
             return Err((event, TableFault::Memory));
         }
-        self.objects.apply(event)?;
-        self.size = size;
-        Ok(())
+        match self.objects.apply(event) {
+            Ok(()) => {
+                self.size = size;
+                Ok(())
+            }
+            Err(refused) => Err(refused),
+        }
     }
 
     /// Adds a lock of the array in a cell, and answers the new count. NoObject where there is no such object, NotArray where the cell was

@@ -1,7 +1,6 @@
 -- The two formats of a bank, which differ in the head's bytes, in the size of the body, and in where a store has the body. All that
 -- stands in a body is the same in both. (This project's choice.)
-use Rattle.std.specs.Prelude.{if◌then◌else◌}
-use Rattle.std.proofs.Common.{◌==◌, ℕ, ◌+◌, ◌*◌, ◌≤◌}
+use Rattle.std.specs.Prelude.{ℕ, ◌+◌, ◌*◌, ◌≤◌}
 use Rattle.oa_model.specs.Limits.{group_bytes, max_event_bytes}
 use Rattle.oa_journal.specs.declared.shape.Shape.{Shape}
 use Rattle.oa_journal.specs.declared.shape.Shape.TheVariants.{One, Two}
@@ -55,7 +54,3 @@ default_bank_bytes = least_bank_bytes
 -- fewer bytes than `group_bytes` and one event more, and a gate and a length stand before them.
 abbrev pub ample_bytes : ℕ
 ample_bytes = max_event_bytes + group_bytes + 5
-
--- the format whose body has so many bytes
-abbrev pub shape_of : ℕ → Shape
-shape_of size = if size == 16777184 then One else Two size

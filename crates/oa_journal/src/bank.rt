@@ -8,7 +8,7 @@ ghost use Rattle.oa_journal.specs.Bank.{from_place, Apart, HasLibrary};
 ghost use Rattle.oa_journal.specs.Banks.{first_gate};
 ghost use Rattle.oa_journal.specs.Damages.{HasNoHeader, IsDamagedBank};
 ghost use Rattle.oa_journal.specs.Reads.{OnlyReads};
-ghost use Rattle.oa_journal.specs.Shapes.{body_bytes, shape_of, IsShape};
+ghost use Rattle.oa_journal.specs.Shapes.{body_bytes, IsShape};
 
 use crate::Shape;
 use crate::batch::{append_group, lay_out};
@@ -90,20 +90,20 @@ impl Bank {
     ghost use Rattle.oa_journal.specs.Append.{group_of, IsAt, IsWithOrWithout, IsWith};
     ghost use Rattle.oa_journal.specs.BankCalls.{LiesWithin, MovesGate, ReadsBank, RefusesBank, RefusesGroup, WritesBank};
 
-    /// The bank whose head and whose body, of so many bytes, stand at these places of a disk; in format 1, which is only read
-    /// (inspected or upgraded, never opened), the body has 16,777,184. Until it is written or read, its room is 1: no group fits.
-    pub fn at(head: u64, body: u64, size: u32) -> Bank
-        requires known { IsShape (shape_of size) }
+    /// The bank of that format whose head and whose body stand at these places of a disk; one of format 1 is only read (inspected or
+    /// upgraded, never opened). Until it is written or read, its room is 1: no group fits.
+    pub fn at(head: u64, body: u64, shape: Shape) -> Bank
+        requires known { IsShape shape }
         requires on_a_disk { head + 32 < 2 ^ 63 }
-        requires body_on_a_disk { body + size < 2 ^ 63 }
-        requires apart { Apart head body size }
-        ensures { IsAt (shape_of size) head body (size - 1) false result }
+        requires body_on_a_disk { body + body_bytes shape < 2 ^ 63 }
+        requires apart { Apart head body (body_bytes shape) }
+        ensures { IsAt shape head body (body_bytes shape - 1) false result }
     {
         Bank {
-            shape: Shape::of(size),
+            shape,
             head,
             body,
-            gate: size - 1,
+            gate: shape.body_bytes() - 1,
             stopped: false,
         }
     }

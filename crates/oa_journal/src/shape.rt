@@ -1,5 +1,5 @@
 //! The two formats of a bank.
-ghost use Rattle.oa_journal.specs.Shapes.{body_bytes, disk_bytes, shape_of};
+ghost use Rattle.oa_journal.specs.Shapes.{body_bytes, disk_bytes};
 
 use oa_model::{GROUP_BYTES, MAX_EVENT_BYTES};
 
@@ -32,17 +32,6 @@ pub enum Shape {
 
 impl Shape {
     ghost use Rattle.std.specs.Prelude.{◌≡◌};
-
-    /// The format whose body has so many bytes.
-    pub fn of(size: u32) -> Shape
-        ensures { result ≡ shape_of size }
-    {
-        if size == FORMAT_ONE_BODY_BYTES {
-            Shape::One
-        } else {
-            Shape::Two(size)
-        }
-    }
 
     /// How many bytes the body has.
     pub fn body_bytes(self) -> u32

@@ -1,5 +1,5 @@
 -- What an opening finds.
-use Rattle.std.proofs.Common.{◌≡◌, ◌⊎◌, inl, inr, ⊎_elim, ◌∙◌, ℕ, List, Bool, Option, Some, length, sym, subst, arith}
+use Rattle.std.proofs.Common.{◌≡◌, ◌⊎◌, inl, inr, ⊎_elim, ◌∙◌, ℕ, List, Bool, Option, Some, length, refl, sym, subst, arith}
 use Rattle.oa_disk.specs.Disk.{Only}
 use Rattle.oa_disk.specs.declared.disk.DeviceFault.{DeviceFault}
 use Rattle.oa_disk.specs.declared.disk.DeviceFault.TheVariants as devices
@@ -10,12 +10,14 @@ use Rattle.oa_journal.proofs.Banks.{bank_header}
 use Rattle.oa_journal.proofs.Unique.{one_head}
 use Rattle.oa_journal.specs.Bank.{from_place, IsBank, HasHead, HasHeader, HasLibrary}
 use Rattle.oa_journal.specs.declared.bank.Bank.{Bank}
+use Rattle.oa_journal.specs.declared.bank.BankFault.{BankFault}
+use Rattle.oa_journal.specs.declared.bank.BankFault.TheVariants as banks
 use Rattle.oa_journal.specs.Append.{IsAt}
 use Rattle.oa_journal.specs.Damages.{IsDamagedBank}
 use Rattle.oa_journal.proofs.Damages.{bank_library, not_damaged, one_library}
 use Rattle.oa_store.specs.declared.fault.OpenFault.{OpenFault}
 use Rattle.oa_store.specs.declared.fault.OpenFault.TheVariants.{NotAStore, OldFormat, LibraryDiffers, Damaged, Device, Memory}
-use Rattle.oa_store.specs.Faults.{SpeaksOfContents, ComesOfBanks, HeadSays, IfDamaged, IsBeheaded, IsDamaged, IsFailed, IsSpoilt, HasWanted, RefusalSays, DeviceTells}
+use Rattle.oa_store.specs.Faults.{SpeaksOfContents, ComesOfBanks, HeadSays, IfDamaged, IsBeheaded, IsDamaged, IsFailed, IsSpoilt, HasWanted, RefusalSays, DeviceTells, of_bank}
 use Rattle.oa_store.specs.Stores.{body_place, head_place, IsFormatted, IsStoreAt, IsNewStore}
 
 -- what holds of the bytes where a bank stands holds of them under other names
@@ -62,6 +64,18 @@ says_first wanted size contents LibraryDiffers says = absurd says
 says_first wanted size contents (Damaged place) says = inl says
 says_first wanted size contents (Device fault) says = tt
 says_first wanted size contents Memory says = tt
+
+-- what a bank's fault says, as one of an opening
+pub bank_says : (size : ℕ) (contents : List ℕ) (e : BankFault) → ((at : ℕ) → e ≡ banks.Damaged at → IsBeheaded contents at)
+    → HeadSays size contents (of_bank e)
+bank_says size contents (banks.Damaged place) f = f place refl
+bank_says size contents (banks.Device fault) f = tt
+bank_says size contents banks.Memory f = tt
+
+pub bank_damaged : (e : BankFault) (P : ℕ → Type 0) → ((at : ℕ) → e ≡ banks.Damaged at → P at) → IfDamaged (of_bank e) P
+bank_damaged (banks.Damaged place) P f = f place refl
+bank_damaged (banks.Device fault) P f = tt
+bank_damaged banks.Memory P f = tt
 
 -- which call has failed
 pub read_failed : (contents : List ℕ) (before after : List ℕ → Type 0) (fault : DeviceFault) → fault ≡ devices.Read → Only contents after

@@ -6,6 +6,8 @@ use Rattle.oa_disk.specs.declared.disk.DeviceFault.TheVariants as devices
 use Rattle.oa_image.specs.Tables.{FitsBank, reserved_bytes, table_image}
 use Rattle.oa_model.specs.Limits.{max_library_bytes}
 use Rattle.oa_table.specs.Tables.{TableValue}
+use Rattle.oa_journal.specs.declared.bank.BankFault.{BankFault}
+use Rattle.oa_journal.specs.declared.bank.BankFault.TheVariants as banks
 use Rattle.oa_journal.specs.declared.shape.Shape.{Shape}
 use Rattle.oa_journal.specs.declared.shape.Shape.TheVariants.{One, Two}
 use Rattle.oa_journal.specs.Bank.{from_place, HasHead, HasLibrary}
@@ -15,6 +17,12 @@ use Rattle.oa_store.specs.declared.fault.OpenFault.TheVariants.{NotAStore, OldFo
 use Rattle.oa_store.specs.declared.fault.UpgradeFault.{UpgradeFault}
 use Rattle.oa_store.specs.declared.fault.UpgradeFault.TheVariants as upgrades
 use Rattle.oa_store.specs.Stores.{body_place, head_place, IsFormatted, IsForeign, IsStoreIn}
+
+-- a fault of a bank, as one of an opening
+abbrev pub of_bank : BankFault → OpenFault
+of_bank (banks.Damaged place) = Damaged place
+of_bank (banks.Device fault) = Device fault
+of_bank banks.Memory = Memory
 
 -- it says what stands on the disk
 abbrev pub SpeaksOfContents : OpenFault → Type 0

@@ -1,5 +1,11 @@
 //! Why a store was not made, not opened, or did not go on.
+ghost use Rattle.std.specs.Prelude.{◌≡◌};
+ghost use Rattle.oa_store.specs.declared.fault.OpenFault.TheVariants.{Device, Memory};
+ghost use Rattle.oa_store.specs.Faults.{of_bank};
+
 use oa_disk::DeviceFault;
+use oa_journal::BankFault;
+use std::alloc::AllocError;
 use thiserror::Error;
 
 /// Why a disk was not made a store.
@@ -38,6 +44,34 @@ pub enum OpenFault {
     /// There is no memory for what is read.
     #[error("out of memory")]
     Memory,
+}
+
+impl From<AllocError> for OpenFault {
+    ghost from_gives = { λ _ e. e ≡ Memory };
+
+    fn from(_e: AllocError) -> OpenFault {
+        OpenFault::Memory
+    }
+}
+
+impl From<DeviceFault> for OpenFault {
+    ghost from_gives = { λ f e. e ≡ Device f };
+
+    fn from(e: DeviceFault) -> OpenFault {
+        OpenFault::Device(e)
+    }
+}
+
+impl From<BankFault> for OpenFault {
+    ghost from_gives = { λ f e. e ≡ of_bank f };
+
+    fn from(e: BankFault) -> OpenFault {
+        match e {
+            BankFault::Damaged(place) => OpenFault::Damaged(place),
+            BankFault::Device(fault) => OpenFault::Device(fault),
+            BankFault::Memory => OpenFault::Memory,
+        }
+    }
 }
 
 /// Why a store was not brought to format 2.

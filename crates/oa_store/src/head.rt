@@ -14,7 +14,7 @@ ghost use Rattle.oa_store.specs.Stores.{store_bytes, body_place, head_place, IsF
 
 use crate::OpenFault;
 use oa_disk::{DeviceFault, Disk};
-use oa_journal::{BankFault, FORMAT_ONE_BODY_BYTES, FORMAT_ONE_BYTES, Head, Shape, read_head};
+use oa_journal::{FORMAT_ONE_BODY_BYTES, FORMAT_ONE_BYTES, Head, Shape, read_head};
 use oa_model::MAX_LIBRARY_BYTES;
 use std::alloc::{AllocError, Global};
 
@@ -108,18 +108,12 @@ pub(crate) fn find_bank<D: Disk>(disk: &mut D) -> Result<u8, OpenFault>
     if disk.size() < STORE_BYTES {
         return Err(OpenFault::NotAStore);
     }
-    if let Err(fault) = disk.sync() {
-        return Err(OpenFault::Device(fault));
+    disk.sync()?;
+    if read_byte(disk, 0)? != 1 {
+        return Err(OpenFault::NotAStore);
     }
-    match read_byte(disk, 0) {
-        Ok(1) => {}
-        Ok(_) => return Err(OpenFault::NotAStore),
-        Err(fault) => return Err(OpenFault::Device(fault)),
-    }
-    match read_byte(disk, SELECTOR) {
-        Ok(selector) => Ok(selector % 2),
-        Err(fault) => Err(OpenFault::Device(fault)),
-    }
+    let selector = read_byte(disk, SELECTOR)?;
+    Ok(selector % 2)
 }
 
 /// The number of the bank that the selector names, and what its head tells.
@@ -144,12 +138,8 @@ pub(crate) fn find_head<D: Disk>(disk: &mut D) -> Result<(u8, Head), OpenFault>
     ensures calls { IsTrue (D.is_honest disk.new) → D.moment disk.new ≤ D.moment disk.old + 8 }
 {
     let chosen = find_bank(disk)?;
-    match read_head(disk, head_place(chosen)) {
-        Ok(head) => Ok((chosen, head)),
-        Err(BankFault::Damaged(place)) => Err(OpenFault::Damaged(place)),
-        Err(BankFault::Device(fault)) => Err(OpenFault::Device(fault)),
-        Err(BankFault::Memory) => Err(OpenFault::Memory),
-    }
+    let head = read_head(disk, head_place(chosen))?;
+    Ok((chosen, head))
 }
 
 /// The number of the bank that the selector names, what its head tells, and the room that a store has.
@@ -187,21 +177,13 @@ pub(crate) fn find_room<D: Disk>(alloc: Global, disk: &mut D) -> Result<Room, Op
     ensures calls { IsTrue (D.is_honest disk.new) → D.moment disk.new ≤ D.moment disk.old + 8 }
 {
     let chosen = find_bank(disk)?;
-    let Ok(buffer) = buffer(alloc) else {
-        return Err(OpenFault::Memory);
-    };
-    let Ok(library) = Vec::with_capacity(alloc, MAX_LIBRARY_BYTES) else {
-        return Err(OpenFault::Memory);
-    };
-    match read_head(disk, head_place(chosen)) {
-        Ok(head) => Ok(Room {
-            chosen,
-            head,
-            buffer,
-            library,
-        }),
-        Err(BankFault::Damaged(place)) => Err(OpenFault::Damaged(place)),
-        Err(BankFault::Device(fault)) => Err(OpenFault::Device(fault)),
-        Err(BankFault::Memory) => Err(OpenFault::Memory),
-    }
+    let buffer = buffer(alloc)?;
+    let library = Vec::with_capacity(alloc, MAX_LIBRARY_BYTES)?;
+    let head = read_head(disk, head_place(chosen))?;
+    Ok(Room {
+        chosen,
+        head,
+        buffer,
+        library,
+    })
 }

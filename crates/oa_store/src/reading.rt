@@ -18,7 +18,7 @@ ghost use Rattle.oa_store.specs.Stores.{body_place, head_place};
 use crate::OpenFault;
 use crate::head::{Room, body_place, buffer, find_head, find_room, head_place};
 use oa_disk::Disk;
-use oa_journal::{Bank, BankFault, Shape};
+use oa_journal::{Bank, Shape};
 use oa_table::Table;
 use std::alloc::Global;
 
@@ -55,12 +55,8 @@ fn read_library<D: Disk>(alloc: Global, disk: &mut D, bank: &mut Bank) -> Result
     ensures after { AfterCalls D.Disk disk.old disk.new result }
     ensures calls { IsTrue (D.is_honest disk.new) → D.moment disk.new ≤ D.moment disk.old + 4 }
 {
-    match bank.read_library(alloc, disk) {
-        Ok(text) => Ok(text),
-        Err(BankFault::Damaged(place)) => Err(OpenFault::Damaged(place)),
-        Err(BankFault::Device(fault)) => Err(OpenFault::Device(fault)),
-        Err(BankFault::Memory) => Err(OpenFault::Memory),
-    }
+    let text = bank.read_library(alloc, disk)?;
+    Ok(text)
 }
 
 /// The library of a bank, and its table after its groups.
@@ -90,12 +86,8 @@ fn read_all<D: Disk>(
     ensures calls { IfOk result (λ r. IsTrue (D.is_honest disk.new)
         → D.moment disk.new + length r.0.items ≤ D.moment disk.old + (8 + bank.new.gate)) }
 {
-    match bank.read_all(alloc, disk, buffer) {
-        Ok(read) => Ok(read),
-        Err(BankFault::Damaged(place)) => Err(OpenFault::Damaged(place)),
-        Err(BankFault::Device(fault)) => Err(OpenFault::Device(fault)),
-        Err(BankFault::Memory) => Err(OpenFault::Memory),
-    }
+    let read = bank.read_all(alloc, disk, buffer)?;
+    Ok(read)
 }
 
 /// The bank of that number in that format.
@@ -104,11 +96,7 @@ pub(crate) fn bank_of(shape: Shape, number: u8) -> Bank
     requires known { IsShape shape }
     ensures { IsAt shape (head_place number) (body_place shape number) (body_bytes shape - 1) false result }
 {
-    Bank::at(
-        head_place(number),
-        body_place(shape, number),
-        shape.body_bytes(),
-    )
+    Bank::at(head_place(number), body_place(shape, number), shape)
 }
 
 /// The store that is on the disk, which has to be one of this library in format 2.
@@ -195,9 +183,7 @@ pub fn inspect<D: Disk>(alloc: Global, disk: &mut D) -> Result<(Vec<u8>, Table),
     ensures after { AfterCalls D.Disk disk.old disk.new result }
 {
     let (chosen, head) = find_head(disk)?;
-    let Ok(buffer) = buffer(alloc) else {
-        return Err(OpenFault::Memory);
-    };
+    let buffer = buffer(alloc)?;
     let (library, table, _, _) = look(alloc, disk, chosen, head.shape, buffer)?;
     Ok((library, table))
 }

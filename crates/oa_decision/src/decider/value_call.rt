@@ -73,7 +73,9 @@ impl Decider<'_> {
         requires { HasZero declared }
         ensures { IfSome result (PlansPut tag name (coerced argument declared)) }
     {
-        let value = coerce(self.alloc, argument, declared).ok()?;
+        let Ok(value) = coerce(self.alloc, argument, declared) else {
+            return None;
+        };
         let value = value.into_unlocked();
         let event = Event::Put { name, value };
         let fields = Fields::none(self.alloc);

@@ -11,9 +11,6 @@ pub const COMMIT: u64 = 4;
 /// Those of a checkpoint: the head, the body in one piece, a sync, the selector, a sync.
 pub const CHECKPOINT: u64 = 5;
 
-/// Those of a format: the first byte, a sync, the head, the body in one piece, the selector, a sync, the first byte, a sync.
-pub const FORMAT: u64 = 8;
-
 /// The moments of a session of so many groups, each with an event: its start, and two of each call of the disk.
 pub fn session_moments(groups: u16) -> u64
     ensures { result ≡ 21 + 8 * groups }
@@ -26,11 +23,4 @@ pub fn checkpoint_moments() -> u64
     ensures { result ≡ 31 }
 {
     1 + 2 * (OPENING + CHECKPOINT)
-}
-
-/// Those of a format.
-pub fn format_moments() -> u64
-    ensures { result ≡ 17 }
-{
-    1 + 2 * FORMAT
 }

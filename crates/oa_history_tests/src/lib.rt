@@ -8,8 +8,6 @@
 
 pub mod counts;
 #[cfg(test)]
-mod formats;
-#[cfg(test)]
 mod histories;
 #[cfg(test)]
 mod script;

@@ -172,16 +172,6 @@ pub(crate) fn new_store(alloc: Global) -> Option<MemoryDisk>
     }
 }
 
-/// A store in which an object was made.
-pub(crate) fn store_of_one(alloc: Global) -> Option<MemoryDisk>
-    ensures { IfSome result IsFreshDisk }
-{
-    let store = new_store(alloc)?;
-    let calls = calls_of(alloc, first().get(..1)?, 1)?;
-    let (_, store) = played(alloc, &store, calls, END, Tear::Lost)?;
-    Some(store)
-}
-
 /// The disk once more, with what is read of it.
 pub(crate) fn again(disk: &MemoryDisk) -> Option<MemoryDisk>
     ensures { IfSome result IsFreshDisk }

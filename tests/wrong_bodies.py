@@ -194,7 +194,7 @@ def ran(root, wanted, last, *flags):
 
 def tried_over(root, **commits):
     """Says of these crates over which commit all of their edits were tried."""
-    write(f"{root}/{TRIED}", "# a comment\n" + "".join(f"{name} {it} 2026-01-01 7\n" for name, it in commits.items()))
+    write(f"{root}/{TRIED}", "# a comment\n" + "".join(f"{name} {it} 2026-01-01 7 21\n" for name, it in commits.items()))
 
 
 def choices(root):
@@ -203,10 +203,14 @@ def choices(root):
     labels, seen = [f"{name}/{count}" for name in crates for count in range(31)], {}
     chosen = lambda: Choice(root, labels, True)
     tried_over(root, steps=git(root, "rev-parse", "HEAD"), above=git(root, "rev-parse", "HEAD"))
-    sizes = collections.Counter(parts_of(labels).values())
+    sizes = collections.Counter(parts_of(labels, {}).values())
     tell("the parts are of one length", sorted(sizes) == [*range(PARTS)] and max(sizes.values()) - min(sizes.values()) < 2, sizes)
-    tell("a part has its edits one after another", [*parts_of(labels).values()] == sorted(parts_of(labels).values()))
-    of_part = lambda head: [it for it, part in parts_of(labels).items() if part == int(head, 16) % PARTS]
+    tell("a part has its edits one after another", [*parts_of(labels, {}).values()] == sorted(parts_of(labels, {}).values()))
+    seconds, took = {"steps": 9, "above": 2}, collections.Counter()
+    for label, part in parts_of(labels, seconds).items():
+        took[part] += seconds[label.partition("/")[0]]
+    tell("the parts take equally long", sorted(took) == [*range(PARTS)] and max(took.values()) - min(took.values()) <= 9, took)
+    of_part = lambda head: [it for it, part in parts_of(labels, {}).items() if part == int(head, 16) % PARTS]
     for count in range(40):
         head = commit(root, f"{count}")
         choice = chosen()
@@ -243,16 +247,17 @@ def choices(root):
     tell("no file has all tried", chosen().whole == {*crates})
     # what is written
     commit(root, "without the file")
-    tell("one crate was tried over a commit", write_tried(root, {"above": 5}, below).endswith("is written for 1 of 1 crates") and chosen().whole == {"steps"}, chosen().why)
-    tell("and the other after it", write_tried(root, {"steps": 7}, below).endswith("is written for 1 of 1 crates") and chosen().whole == set(), chosen().why)
+    tell("one crate was tried over a commit", write_tried(root, {"above": (5, 9.4)}, below).endswith("is written for 1 of 1 crates") and chosen().whole == {"steps"}, chosen().why)
+    tell("and the other after it", write_tried(root, {"steps": (7, 0.2)}, below).endswith("is written for 1 of 1 crates") and chosen().whole == set(), chosen().why)
     lines = read_tried(root)
-    tell("the lines say commit and count", [(it[0], it[2]) for it in (lines["above"], lines["steps"])] == [(git(root, "rev-parse", "HEAD"), "5"), (git(root, "rev-parse", "HEAD"), "7")], lines)
+    head = git(root, "rev-parse", "HEAD")
+    tell("the lines say commit, count and seconds", [(it[0], *it[2:]) for it in (lines["above"], lines["steps"])] == [(head, "5", "9"), (head, "7", "1")], lines)
     write_tried(root, {}, {"steps": []})
     tell("nothing tried writes nothing", read_tried(root) == lines, read_tried(root))
     for path in ("crates/above/src/lib.rt", "crates/above/wrong-bodies/new.edit", "crates/steps/src/lib.rt"):
         tried_over(root, steps=older)
         write(f"{root}/{path}", "x")
-        said = write_tried(root, {"above": 5}, below)
+        said = write_tried(root, {"above": (5, 9.4)}, below)
         tell(f"{path} is of no commit, so that the crate gets no line", said.endswith("0 of 1 crates; not as in a commit: above") and "above" not in read_tried(root), said)
         git(root, "checkout", "-q", ".")
         git(root, "clean", "-qfd", "crates")
@@ -283,7 +288,7 @@ def main():
         before = commit(root, "all tried")
         tried_over(root, steps=before, above=before)
         write(f"{root}/crates/steps/src/lib.rt", SOURCE + "\n// changed\n")
-        parts = parts_of([*sorted(steps), *above])
+        parts = parts_of([*sorted(steps), *above], {})
         tell("the parts of the second crate's edits", all((parts[f"above/{name}"] == PARTS - 1) == is_last for name, (is_last, _, _) in ABOVE_EDITS.items()), parts)
         while int(commit(root, "one crate changed"), 16) % PARTS != PARTS - 1:
             pass

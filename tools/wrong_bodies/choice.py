@@ -2,7 +2,7 @@
 
 The part is chosen by the commit: its hash says which of six stretches of the list of all edits is tried, so each comes again and again, and none is left out for good. The list is
 by crates, so that a part has few of them: most of what a check costs is read before its first edit. The file wrong-bodies/TRIED names, crate by crate, the commit over which
-all of the crate's edits were tried and refused."""
+all of the crate's edits were tried and refused, and the seconds that this took: by them the stretches take equally long."""
 import datetime
 import functools
 import os
@@ -12,7 +12,7 @@ PARTS = 6
 # what of a crate counts; that a crate below it changed does not, since a crate is proved by the contracts of those below it
 FOLDERS = ("src", "specs", "proofs", "wrong-bodies")
 TRIED = "wrong-bodies/TRIED"
-HEAD = "# CRATE COMMIT DAY COUNT: the commit over which all wrong bodies of the crate were tried, and how many were refused. bin/wrong-bodies writes it."
+HEAD = "# CRATE COMMIT DAY COUNT SECONDS: the commit over which all wrong bodies of the crate were tried, how many were refused, and how long it took. bin/wrong-bodies writes it."
 # how many crates are named one by one
 NAMED = 6
 
@@ -26,18 +26,28 @@ def git(root, *words):
     return None if ran.returncode else ran.stdout
 
 
-def parts_of(labels):
-    """Returns the part of each edit: their list is cut into stretches of one length."""
-    return {label: PARTS * at // len(labels) for at, label in enumerate(labels)}
+def parts_of(labels, seconds):
+    """Returns the part of each edit: their list is cut into stretches that take equally long, by the seconds of an edit of each crate."""
+    usual = sum(seconds.values()) / len(seconds) if seconds else 1
+    took, parts, before = [seconds.get(it.partition("/")[0], usual) for it in labels], {}, 0
+    for label, it in zip(labels, took):
+        parts[label] = int(PARTS * (before + it / 2) / sum(took))
+        before += it
+    return parts
 
 
 def read_tried(root):
-    """Returns the lines of the crates: each crate's commit, day and count."""
+    """Returns the lines of the crates: each crate's commit, day, count and seconds."""
     if not os.path.isfile(f"{root}/{TRIED}"):
         return {}
     with open(f"{root}/{TRIED}", encoding="utf-8") as it:
         lines = [line.split() for line in it if not line.startswith("#")]
-    return {it[0]: it[1:] for it in lines if len(it) == 4}
+    return {it[0]: it[1:] for it in lines if len(it) == 5}
+
+
+def seconds_of(tried):
+    """Returns how long an edit of each crate took."""
+    return {name: int(seconds) / int(count) for name, (_, _, count, seconds) in tried.items()}
 
 
 def changed_crates(root, commit):
@@ -55,10 +65,10 @@ class Choice:
     def __init__(self, root, labels, is_for_gate):
         crates = {it.partition("/")[0] for it in labels}
         self.is_for_gate, self.whole, self.part, self.why = is_for_gate, crates, None, ""
-        self.parts = parts_of(labels)
+        self.tried = read_tried(root)
+        self.parts = parts_of(labels, seconds_of(self.tried))
         if not is_for_gate:
             return
-        self.tried = read_tried(root)
         self.changed_since = functools.cache(lambda commit: changed_crates(root, commit))
         head = git(root, "rev-parse", "HEAD")
         if head is None:
@@ -81,13 +91,14 @@ class Choice:
 
 
 def write_tried(root, counts, below):
-    """Says of these crates, by their counts, that all of their edits were tried and refused over the commit as it stands; a crate gets no line while it, or one of those below it,
-    is not as in the commit. Returns what was written."""
+    """Says of these crates, by their counts and seconds, that all of their edits were tried and refused over the commit as it stands; a crate gets no line while it, or one of those
+    below it, is not as in the commit. Returns what was written."""
     head, tried = git(root, "rev-parse", "HEAD"), read_tried(root)
     changed = changed_crates(root, "HEAD") if head else None
     written = [] if changed is None else sorted(it for it in counts if not {it, *below[it]} & changed)
     for it in written:
-        tried[it] = [head.strip(), str(datetime.date.today()), str(counts[it])]
+        count, seconds = counts[it]
+        tried[it] = [head.strip(), str(datetime.date.today()), str(count), str(max(1, round(seconds)))]
     if written:
         os.makedirs(os.path.dirname(f"{root}/{TRIED}"), exist_ok=True)
         with open(f"{root}/{TRIED}", "w", encoding="utf-8") as it:

@@ -36,27 +36,15 @@ class Judge:
                 it.verdict = Verdict(NOT_TRIED, it.why)
             else:
                 left.append(it)
-        left = self.judge_together(left)
-        # what calls a function that falls by another edit is told where that one is gone
-        if len(left) > 2:
-            left = self.judge_together(left)
-        for it in left:
-            self.judge_and_tell([it], True, False)
+        for turn in range(2):
+            groups, left = batches_of(left, self.sources, self.args.proved) if not turn else [[it] for it in left], []
+            for batch in groups:
+                cuts = self.args.proved and not turn
+                left += self.judge(batch, bool(turn) or len(batch) == 1 and not cuts, cuts)
+                if self.args.proved:
+                    self.tell(batch)
         if not self.args.proved:
             self.control()
-
-    def judge_together(self, edits):
-        """Tries edits in batches; returns those that are to be tried again."""
-        cuts, again = self.args.proved, []
-        for batch in batches_of(edits, self.sources, cuts):
-            again += self.judge_and_tell(batch, len(batch) == 1 and not cuts, cuts)
-        return again
-
-    def judge_and_tell(self, batch, is_last, cuts):
-        again = self.judge(batch, is_last, cuts)
-        if self.args.proved:
-            self.tell(batch)
-        return again
 
     def compile(self, edits):
         """Gives a verdict to those of some edits that do not compile, and to no other."""

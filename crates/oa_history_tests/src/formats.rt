@@ -1,0 +1,21 @@
+//! A format answers wherever it is stopped. What its stop leaves is shown of the program (`cli/test_crashes.py`).
+use crate::histories::expect;
+use crate::script::{library, new_disk};
+use oa_disk::Tear;
+use oa_history::formatted;
+use std::alloc::Global;
+use std::rt::HostRuntime;
+
+/// The eight calls of a format end at moment 16.
+fn answers(alloc: Global) -> Option<()> {
+    let library = library(alloc)?;
+    for moment in 0..17u64 {
+        let _ = formatted(alloc, new_disk(alloc)?, &library, moment, Tear::Lost).ok()?;
+    }
+    Some(())
+}
+
+#[test]
+fn a_format_answers_at_each_moment(rt: HostRuntime) {
+    expect(&rt, "17 moments", answers(rt.alloc()).is_some());
+}

@@ -192,9 +192,9 @@ def ran(root, wanted, last, *flags):
     return lines
 
 
-def tried_over(root, **commits):
-    """Says of these crates over which commit all of their edits were tried."""
-    write(f"{root}/{TRIED}", "# a comment\n" + "".join(f"{name} {it} 2026-01-01 7 21\n" for name, it in commits.items()))
+def tried_over(root, seconds=None, **commits):
+    """Says of these crates over which commit all of their edits were tried, and what an edit took."""
+    write(f"{root}/{TRIED}", "# a comment\n" + "".join(f"{name} {it} 2026-01-01 7 {7 * (seconds or {}).get(name, 3)}\n" for name, it in commits.items()))
 
 
 def choices(root):
@@ -210,6 +210,13 @@ def choices(root):
     for label, part in parts_of(labels, seconds).items():
         took[part] += seconds[label.partition("/")[0]]
     tell("the parts take equally long", sorted(took) == [*range(PARTS)] and max(took.values()) - min(took.values()) <= 9, took)
+    head = git(root, "rev-parse", "HEAD")
+    tried_over(root, seconds, steps=head, above=head)
+    tell("by the seconds that the file has", [it for it in labels if chosen().is_tried(it)] == [it for it, part in parts_of(labels, seconds).items() if part == int(head, 16) % PARTS])
+    for line in (f"steps {head} 2026-01-01 0 5", f"steps {head} 2026-01-01 7 soon", f"steps {head} 2026-01-01 7"):
+        write(f"{root}/{TRIED}", f"{line}\n")
+        tell(f"'{line}' is no line", chosen().whole == {*crates})
+    tried_over(root, steps=head, above=head)
     of_part = lambda head: [it for it, part in parts_of(labels, {}).items() if part == int(head, 16) % PARTS]
     for count in range(40):
         head = commit(root, f"{count}")

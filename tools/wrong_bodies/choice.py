@@ -6,6 +6,7 @@ all of the crate's edits were tried and refused, and the seconds that this took:
 import datetime
 import functools
 import os
+import re
 import subprocess
 
 PARTS = 6
@@ -30,19 +31,20 @@ def parts_of(labels, seconds):
     """Returns the part of each edit: their list is cut into stretches that take equally long, by the seconds of an edit of each crate."""
     usual = sum(seconds.values()) / len(seconds) if seconds else 1
     took, parts, before = [seconds.get(it.partition("/")[0], usual) for it in labels], {}, 0
+    whole = sum(took)
     for label, it in zip(labels, took):
-        parts[label] = int(PARTS * (before + it / 2) / sum(took))
+        parts[label] = int(PARTS * (before + it / 2) / whole)
         before += it
     return parts
 
 
 def read_tried(root):
-    """Returns the lines of the crates: each crate's commit, day, count and seconds."""
+    """Returns the lines of the crates: each crate's commit, day, count and seconds. A line of any other form is none."""
     if not os.path.isfile(f"{root}/{TRIED}"):
         return {}
     with open(f"{root}/{TRIED}", encoding="utf-8") as it:
         lines = [line.split() for line in it if not line.startswith("#")]
-    return {it[0]: it[1:] for it in lines if len(it) == 5}
+    return {it[0]: it[1:] for it in lines if len(it) == 5 and all(re.fullmatch("[1-9][0-9]*", number) for number in it[3:])}
 
 
 def seconds_of(tried):

@@ -17,7 +17,7 @@ ROOT = os.path.dirname(os.path.dirname(os.path.abspath(__file__)))
 TOOL = os.path.join(ROOT, "bin", "wrong-bodies")
 sys.dont_write_bytecode = True
 sys.path.insert(0, os.path.join(ROOT, "tools"))
-from wrong_bodies.choice import PARTS, TRIED, Choice, parts_of, read_tried, write_tried
+from wrong_bodies.choice import PARTS, SOURCES, TRIED, Choice, parts_of, read_tried, write_tried
 
 # (core alone: a check that reads std takes twice as long)
 BUILD = """load("@rattle//bazel/rattle:crate.bzl", "rattle_crate")
@@ -250,6 +250,11 @@ def choices(root):
         tell(name, well and f"all of {len(whole)} of 2 crates" in choice.why, choice.why)
     tried_over(root, steps=newer, above=older)
     tell("what stands above a crate that changed since is compiled", chosen().has_changed("steps", "above") and not chosen().has_changed("above", "above"))
+    write(f"{root}/crates/steps/wrong-bodies/new.edit", "x")
+    tried_over(root, steps=newer, above=newer)
+    tell("but not above one whose wrong bodies alone changed", chosen().has_changed("steps", "above") and not chosen().has_changed("steps", "above", SOURCES))
+    git(root, "clean", "-qfd", "crates")
+    tried_over(root, steps=newer, above=older)
     os.remove(f"{root}/{TRIED}")
     tell("no file has all tried", chosen().whole == {*crates})
     # what is written

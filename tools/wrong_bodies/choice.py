@@ -11,7 +11,8 @@ import subprocess
 
 PARTS = 6
 # what of a crate counts; that a crate below it changed does not, since a crate is proved by the contracts of those below it
-FOLDERS = ("src", "specs", "proofs", "wrong-bodies")
+SOURCES = ("src", "specs", "proofs")
+FOLDERS = (*SOURCES, "wrong-bodies")
 TRIED = "wrong-bodies/TRIED"
 HEAD = "# CRATE COMMIT DAY COUNT SECONDS: the commit over which all wrong bodies of the crate were tried, how many were refused, and how long it took. bin/wrong-bodies writes it."
 # how many crates are named one by one
@@ -52,13 +53,13 @@ def seconds_of(tried):
     return {name: int(seconds) / int(count) for name, (_, _, count, seconds) in tried.items()}
 
 
-def changed_crates(root, commit):
-    """Returns the crates that differ, committed or not, from how they stood in a commit, or None where it is not in the history."""
+def changed_crates(root, commit, folders=FOLDERS):
+    """Returns the crates whose folders differ, committed or not, from how they stood in a commit, or None where it is not in the history."""
     if git(root, "merge-base", "--is-ancestor", commit, "HEAD") is None:
         return None
     paths = (git(root, "diff", "--name-only", "-z", commit, "--", "crates") or "") + (git(root, "ls-files", "-z", "--others", "--exclude-standard", "crates") or "")
     parts = [it.split("/") for it in paths.split("\0") if it]
-    return {it[1] for it in parts if len(it) > 3 and it[2] in FOLDERS}
+    return {it[1] for it in parts if len(it) > 3 and it[2] in folders}
 
 
 class Choice:
@@ -71,7 +72,7 @@ class Choice:
         self.parts = parts_of(labels, seconds_of(self.tried))
         if not is_for_gate:
             return
-        self.changed_since = functools.cache(lambda commit: changed_crates(root, commit))
+        self.changed_since = functools.cache(lambda commit, folders: changed_crates(root, commit, folders))
         head = git(root, "rev-parse", "HEAD")
         if head is None:
             self.why = "no commit chooses a part: all are tried"
@@ -81,11 +82,11 @@ class Choice:
         named = f": {', '.join(sorted(self.whole))}" if 0 < len(self.whole) <= NAMED else ""
         self.why = f"part {self.part + 1} of {PARTS}, by the commit, and all of {len(self.whole)} of {len(crates)} crates, changed since they were tried{named}"
 
-    def has_changed(self, crate, since):
-        """Whether a crate has changed since all edits of another, or its own, were tried, or nobody knows."""
+    def has_changed(self, crate, since, folders=FOLDERS):
+        """Whether these folders of a crate have changed since all edits of another, or its own, were tried, or nobody knows."""
         if since not in self.tried:
             return True
-        changed = self.changed_since(self.tried[since][0])
+        changed = self.changed_since(self.tried[since][0], folders)
         return changed is None or crate in changed
 
     def is_tried(self, label):

@@ -53,7 +53,7 @@ class Packed(Cases):
             for bits, compiler in (("64", "x86_64-w64-mingw32-gcc"), ("32", "i686-w64-mingw32-gcc")):
                 dll = f"{top}/windows/{bits}/oautcom.dll"
                 self.tell(f"the bridge of {bits} bits, where its compiler is", os.path.exists(dll) == bool(shutil.which(compiler)))
-            for link in ("docs/com.md", "clients/com/example/sheet.reg", "clients/python/README.md"):
+            for link in ("docs/com.md", "clients/com/example/sheet.reg", "clients/python/README.md", "dist/units/oaut.socket"):
                 self.tell(f"{link} is there", os.path.exists(f"{top}/{link}"))
             text = "set -e\n" + "".join(f"echo '@{place}'\n{command}\n" for place, (command, _) in enumerate(commands))
             alone = ["unshare", "--net"] if os.getuid() == 0 and shutil.which("unshare") else []

@@ -1,6 +1,6 @@
 """Random bytes, some seconds of each kind (cli/fuzz.py), and that the fuzzer finds what is wrong.
 
-OAUT_FUZZ says how many seconds each kind has (20 where nothing is said), and OAUT_SEED from which seed.
+OAUT_FUZZ says how many seconds each kind has (8 where nothing is said), and OAUT_SEED from which seed.
 """
 import os
 import tempfile
@@ -13,7 +13,7 @@ from model import LIBRARY
 from preloaded import fast_folder
 from running import Cases, fill, rows_of
 
-SECONDS, SEED = float(os.environ.get("OAUT_FUZZ") or 20), int(os.environ.get("OAUT_SEED") or 1)
+SECONDS, SEED = float(os.environ.get("OAUT_FUZZ") or 8), int(os.environ.get("OAUT_SEED") or 1)
 
 
 def found_by(part, seconds=SECONDS, most=5):
@@ -66,5 +66,5 @@ class Fuzzed(Cases):
     def test_that_a_wrong_rule_is_found(self):
         for name, part, rule, wrong in WRONG_RULES:
             with mock.patch(rule, wrong):
-                found = found_by(part, seconds=6 * SECONDS, most=1)  # (it ends with the first difference)
+                found = found_by(part, seconds=15 * SECONDS, most=1)  # (it ends with the first difference)
             self.tell(f"{name}: found in {found.tried} {found.what}", found.differ, f"{found}")

@@ -1,27 +1,28 @@
 //! Reading numbers, GUIDs and truth values, one behind the other at no multiple of anything.
 ghost use Rattle.std.specs.Prelude.{◌≡◌, length, IfOk};
-ghost use Rattle.oa_layout.specs.Answers.{ReadsImage, ReadsImageBy};
+ghost use Rattle.oa_ndr.specs.Reading.{Gives};
+ghost use Rattle.oa_layout.specs.Answers.{ReadsImage};
 ghost use Rattle.oa_layout.specs.Formats.{raw};
 ghost use Rattle.oa_layout.specs.Numbers as numbers;
 
 use crate::ReadFault;
 use oa_model::guid_from_wire;
-use oa_ndr::Ndr;
+use oa_ndr::{Ndr, Short};
 use uuid::Uuid;
 
 /// The next `n` bytes.
 #[tactic(auto, unfolding(crate::specs::Formats::raw))]
-pub(crate) fn read_bytes<'a>(n: usize, r: &mut Ndr<'a>) -> Result<&'a [u8], ReadFault>
-    ensures read { ReadsImageBy (λ x. x.now) result r.new ((raw n).read r.old) }
+pub(crate) fn read_bytes<'a>(n: usize, r: &mut Ndr<'a>) -> Result<&'a [u8], Short>
+    ensures read { Gives (λ x. x.now) result r.old r.new ((raw n).read r.old) }
     ensures len { IfOk result (λ x. length x.now ≡ n) }
 {
-    Ok(r.bytes(n)?)
+    r.bytes(n)
 }
 
 /// The next byte.
 #[tactic(auto, unfolding(oa_ndr::specs::Reading::steps, crate::specs::Formats::made_where, crate::specs::Numbers::u8))]
-pub fn read_u8(r: &mut Ndr<'_>) -> Result<u8, ReadFault>
-    ensures { ReadsImage result r.new (numbers.u8.read r.old) }
+pub fn read_u8(r: &mut Ndr<'_>) -> Result<u8, Short>
+    ensures { Gives (λ x. x) result r.old r.new (numbers.u8.read r.old) }
 {
     let b = read_bytes(1, r)?;
     Ok(u8::from_le_bytes([b[0]]))
@@ -29,8 +30,8 @@ pub fn read_u8(r: &mut Ndr<'_>) -> Result<u8, ReadFault>
 
 /// A number of 2 bytes.
 #[tactic(auto, unfolding(oa_ndr::specs::Reading::steps, crate::specs::Formats::made_where, crate::specs::Numbers::u16))]
-pub fn read_u16(r: &mut Ndr<'_>) -> Result<u16, ReadFault>
-    ensures { ReadsImage result r.new (numbers.u16.read r.old) }
+pub fn read_u16(r: &mut Ndr<'_>) -> Result<u16, Short>
+    ensures { Gives (λ x. x) result r.old r.new (numbers.u16.read r.old) }
 {
     let b = read_bytes(2, r)?;
     Ok(u16::from_le_bytes([b[0], b[1]]))
@@ -38,8 +39,8 @@ pub fn read_u16(r: &mut Ndr<'_>) -> Result<u16, ReadFault>
 
 /// A number of 4 bytes.
 #[tactic(auto, unfolding(oa_ndr::specs::Reading::steps, crate::specs::Formats::made_where, crate::specs::Numbers::u32))]
-pub fn read_u32(r: &mut Ndr<'_>) -> Result<u32, ReadFault>
-    ensures { ReadsImage result r.new (numbers.u32.read r.old) }
+pub fn read_u32(r: &mut Ndr<'_>) -> Result<u32, Short>
+    ensures { Gives (λ x. x) result r.old r.new (numbers.u32.read r.old) }
 {
     let b = read_bytes(4, r)?;
     Ok(u32::from_le_bytes([b[0], b[1], b[2], b[3]]))
@@ -47,8 +48,8 @@ pub fn read_u32(r: &mut Ndr<'_>) -> Result<u32, ReadFault>
 
 /// A number of 8 bytes.
 #[tactic(auto, unfolding(oa_ndr::specs::Reading::steps, crate::specs::Formats::made_where, crate::specs::Numbers::u64))]
-pub(crate) fn read_u64(r: &mut Ndr<'_>) -> Result<u64, ReadFault>
-    ensures { ReadsImage result r.new (numbers.u64.read r.old) }
+pub(crate) fn read_u64(r: &mut Ndr<'_>) -> Result<u64, Short>
+    ensures { Gives (λ x. x) result r.old r.new (numbers.u64.read r.old) }
 {
     let b = read_bytes(8, r)?;
     Ok(u64::from_le_bytes([b[0], b[1], b[2], b[3], b[4], b[5], b[6], b[7]]))
@@ -56,40 +57,40 @@ pub(crate) fn read_u64(r: &mut Ndr<'_>) -> Result<u64, ReadFault>
 
 /// A signed number of one byte.
 #[tactic(auto, unfolding(oa_ndr::specs::Reading::steps, crate::specs::Formats::made_where, crate::specs::Numbers::i8))]
-pub(crate) fn read_i8(r: &mut Ndr<'_>) -> Result<i8, ReadFault>
-    ensures { ReadsImage result r.new (numbers.i8.read r.old) }
+pub(crate) fn read_i8(r: &mut Ndr<'_>) -> Result<i8, Short>
+    ensures { Gives (λ x. x) result r.old r.new (numbers.i8.read r.old) }
 {
     Ok(read_u8(r)?.cast_signed())
 }
 
 /// A signed number of 2 bytes.
 #[tactic(auto, unfolding(oa_ndr::specs::Reading::steps, crate::specs::Formats::made_where, crate::specs::Numbers::i16))]
-pub(crate) fn read_i16(r: &mut Ndr<'_>) -> Result<i16, ReadFault>
-    ensures { ReadsImage result r.new (numbers.i16.read r.old) }
+pub(crate) fn read_i16(r: &mut Ndr<'_>) -> Result<i16, Short>
+    ensures { Gives (λ x. x) result r.old r.new (numbers.i16.read r.old) }
 {
     Ok(read_u16(r)?.cast_signed())
 }
 
 /// A signed number of 4 bytes.
 #[tactic(auto, unfolding(oa_ndr::specs::Reading::steps, crate::specs::Formats::made_where, crate::specs::Numbers::i32))]
-pub fn read_i32(r: &mut Ndr<'_>) -> Result<i32, ReadFault>
-    ensures { ReadsImage result r.new (numbers.i32.read r.old) }
+pub fn read_i32(r: &mut Ndr<'_>) -> Result<i32, Short>
+    ensures { Gives (λ x. x) result r.old r.new (numbers.i32.read r.old) }
 {
     Ok(read_u32(r)?.cast_signed())
 }
 
 /// A signed number of 8 bytes.
 #[tactic(auto, unfolding(oa_ndr::specs::Reading::steps, crate::specs::Formats::made_where, crate::specs::Numbers::i64))]
-pub(crate) fn read_i64(r: &mut Ndr<'_>) -> Result<i64, ReadFault>
-    ensures { ReadsImage result r.new (numbers.i64.read r.old) }
+pub(crate) fn read_i64(r: &mut Ndr<'_>) -> Result<i64, Short>
+    ensures { Gives (λ x. x) result r.old r.new (numbers.i64.read r.old) }
 {
     Ok(read_u64(r)?.cast_signed())
 }
 
 /// A GUID in wire order (MS-DTYP section 2.3.4.2).
 #[tactic(auto, unfolding(oa_ndr::specs::Reading::steps, crate::specs::Formats::made_where, crate::specs::Numbers::guid))]
-pub fn read_guid(r: &mut Ndr<'_>) -> Result<Uuid, ReadFault>
-    ensures { ReadsImage result r.new (numbers.guid.read r.old) }
+pub fn read_guid(r: &mut Ndr<'_>) -> Result<Uuid, Short>
+    ensures { Gives (λ x. x) result r.old r.new (numbers.guid.read r.old) }
 {
     let b = read_bytes(16, r)?;
     Ok(guid_from_wire([

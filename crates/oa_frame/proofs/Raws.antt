@@ -1,5 +1,5 @@
 -- Records of a length and that many bytes.
-use Rattle.std.proofs.Common.{◌≡◌, ℕ, ◌+◌, ◌-◌, ◌≤◌, ◌<◌, Bool, false, List, ◌++◌, Option, Some, None, take, drop, length, slice_range, inr}
+use Rattle.std.proofs.Common.{◌≡◌, ℕ, ◌+◌, ◌-◌, ◌≤◌, ◌<◌, Bool, false, List, ◌++◌, Option, Some, None, take, drop, length, slice_range, refl, inr}
 use Rattle.std.proofs.Common.{sym, ap, ◌∙◌, append_assoc, length-take-le, arith}
 use Rattle.std.proofs.lemmas.List.{append-nil, length-append, length-drop}
 use lib.Seq.{take-add}
@@ -9,7 +9,8 @@ use Rattle.oa_stream.specs.Source.{Input, later}
 use Rattle.oa_frame.specs.declared.ends.End.TheVariants.{Cut, ReadFault}
 use Rattle.oa_frame.specs.Known.{Known}
 use Rattle.oa_frame.specs.Framings.{records, SaysLength}
-use Rattle.oa_frame.specs.Records.{SpendsCalls}
+use Rattle.oa_frame.specs.Records.{Gets, SpendsCalls}
+use Rattle.oa_frame.specs.declared.records.Got.TheVariants.{Fault}
 use Rattle.oa_frame.specs.Paces.{Paced}
 
 later_sum : (m k x : ℕ) → m ≤ k → later (k - m) (later (m - 0) x) ≡ later k x
@@ -39,11 +40,22 @@ known_cut (Some x) (Some y) (Some z) head part n s some short few p q e =
       few = inr (y, record { head = head; n = n; says = s; is = (some, short, rw all few); whole = p });
     }
 
-pub known_lost : (a b c : Option (List ℕ)) (head part : List ℕ) → Consumes a b head → Consumes b c part → Known (records.Stop ReadFault) a c
-known_lost None b c head part p q = tt
-known_lost (Some x) None c head part p q = absurd p
-known_lost (Some x) (Some y) None head part p q = absurd q
-known_lost (Some x) (Some y) (Some z) head part p q = (head ++ part, p ∙ ap (λ l. head ++ l) q ∙ sym (append_assoc head part z))
+pub known_lost : (a b c : Option (List ℕ)) (head part : List ℕ) (n : ℕ) → SaysLength head n → n ≤ max_request_bytes → length part < n
+    → Consumes a b head → Consumes b c part → Known (records.Stop ReadFault) a c
+known_lost None b c head part n s short few p q = tt
+known_lost (Some x) None c head part n s short few p q = absurd p
+known_lost (Some x) (Some y) None head part n s short few p q = absurd q
+known_lost (Some x) (Some y) (Some z) head part n s short few p q = record {
+  part = head ++ part;
+  whole = p ∙ ap (λ l. head ++ l) q ∙ sym (append_assoc head part z);
+  few = inr (part, record { head = head; n = n; says = s; is = (short, few); whole = refl });
+}
+
+-- what was taken for a buffer that is not full
+pub lost_part : (a c : Option (List ℕ)) (out : List ℕ) (at : ℕ) → at < length out → Consumes a c (take at out) → Gets Fault a c out
+lost_part a c out at short p =
+    let within : at ≤ length out = omega (arith, short) in
+    (take at out, rw (length-take-le at out within) short, p)
 
 -- a record that was read ahead whole
 pub record_ahead : (a c : Option (List ℕ)) (front body bytes : List ℕ) (n : ℕ) → SaysLength (take 4 front) n → 0 < n → n ≤ max_request_bytes

@@ -376,7 +376,7 @@ sound_end end requests sound is = absurd (false≢true (sym sound ∙ ap is_read
 pub known_over : (f : Framing) (a : Option (List ℕ)) → Known ((frames f).Stop ReadFault) a a
 known_over f None = tt
 known_over HexLines (Some x) = record { part = []; whole = refl; free = λ i _ below. absurd (omega (arith, below)) }
-known_over Records (Some x) = ([], refl)
+known_over Records (Some x) = record { part = []; whole = refl; few = inl (omega arith) }
 
 pub can_over : (f : Framing) (requests : ℕ) → (frames f).Can (requests + 1) ReadFault
 can_over HexLines requests = tt

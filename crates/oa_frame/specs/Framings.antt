@@ -85,12 +85,18 @@ pub record EndsInRecord (bytes rest : List ℕ) : Type 0 where
   pub some : 0 < length bytes
   pub few : (length bytes < 4) ⊎ ((more : List ℕ) × Length (λ n. (0 < n) × (n ≤ max_request_bytes) × (length more < n)) bytes more)
 
+-- no more than a part of the first record was read: of its length, or of the body behind that
+pub record IsPartOfRecord (bytes rest : List ℕ) : Type 0 where
+  pub part : List ℕ
+  pub whole : bytes ≡ part ++ rest
+  pub few : (length part < 4) ⊎ ((more : List ℕ) × Length (λ n. (n ≤ max_request_bytes) × (length more < n)) part more)
+
 abbrev pub RecordStop : End → List ℕ → List ℕ → Type 0
 RecordStop end.Closed bytes rest = ((bytes ≡ []) × (rest ≡ [])) ⊎ Length (λ n. n ≡ 0) bytes rest
 RecordStop end.Cut bytes rest = EndsInRecord bytes rest
 RecordStop end.TooLong bytes rest = Length (λ n. max_request_bytes < n) bytes rest
 RecordStop (end.BadHex line) bytes rest = ⊥
-RecordStop end.ReadFault bytes rest = (part : List ℕ) × (bytes ≡ part ++ rest)
+RecordStop end.ReadFault bytes rest = IsPartOfRecord bytes rest
 RecordStop end.WriteFault bytes rest = ⊥
 
 abbrev pub RecordCan : ℕ → End → Type 0

@@ -16,4 +16,5 @@ returns-in-End-clause-input g c = λ number bytes head says p.
     (tt, known_cut _ _ _ head (take c.in-End.field-0 c.fill_up.new.out) c.args.n says (search rules) (search rules) (search rules) p c.in-End.ensures.gets.1 c.in-End.ensures.gets.2)
 
 pub returns-in-Fault-clause-input : goal.returns-in-Fault-clause-input
-returns-in-Fault-clause-input g c = λ number bytes head says p. (tt, known_lost _ _ _ head c.in-Fault.ensures.gets.0 p c.in-Fault.ensures.gets.1)
+returns-in-Fault-clause-input g c = λ number bytes head says p.
+    (tt, known_lost _ _ _ head c.in-Fault.ensures.gets.0 c.args.n says (search rules) (search rules) p c.in-Fault.ensures.gets.2)

@@ -1,12 +1,12 @@
 -- What follows for every format.
-use Rattle.std.proofs.Common.{◌≡◌, ℕ, suc, ◌<◌, ◌≤◌, List, [], ◌∷◌, ◌++◌, length, get_or, Some, None, Err, refl, sym, ap, ◌∙◌, arith}
+use Rattle.std.proofs.Common.{◌≡◌, ℕ, suc, ◌-◌, ◌<◌, ◌≤◌, List, [], ◌∷◌, ◌++◌, length, get_or, Some, None, Err, refl, sym, ap, ◌∙◌, arith}
 use Rattle.std.specs.List.{AllByRecursion, flat_map}
 use Rattle.std.proofs.lemmas.List.{append-nil, length-append}
 use Rattle.oa_ndr.specs.Reading.{Cursor, at}
 use Rattle.oa_layout.specs.Formats.{Format, IsBytes, same_content}
 use Rattle.oa_layout.specs.declared.fault.ReadFault.{ReadFault}
 use Rattle.oa_layout.specs.declared.fault.ReadFault.TheVariants as reads
-use Rattle.oa_layout.specs.Answers.{ReadsImage, HasBytes, ReadsWholeImage, placed}
+use Rattle.oa_layout.specs.Answers.{ReadsImage, HasBytes, IsFirstLeft, ReadsWholeImage, placed}
 
 pub all_bytes : (xs : List ℕ) → ((i : ℕ) → get_or xs i 0 < 256) → IsBytes xs
 all_bytes [] each = tt
@@ -58,8 +58,24 @@ bytes_left {C} F bytes x t h left c is same =
     let p = same_content (x, t) (c, at one.0 []) (sym h ∙ one.1) in
     left (ap (λ (y : C × Cursor). y.1.rest) p)
 
+-- bytes left over
+pub first_left : {C : Type 0} (F : Format C) (bytes : List ℕ) (x : C) (t : Cursor) (place : ℕ) → F.read (at 0 bytes) ≡ Some (x, t)
+    → place ≡ length bytes - length t.rest → IsFirstLeft F bytes place
+first_left {C} F bytes x t place h here c rest is same =
+    let one = F.again c 0 rest is in
+    let p = same_content (x, t) (c, at one.0 rest) (sym h ∙ ap (λ (xs : List ℕ). F.read (at 0 xs)) same ∙ one.1) in
+    let left : length t.rest ≡ length rest = ap (λ (y : C × Cursor). length y.1.rest) p in
+    omega (arith, here, ap length same, length-append (F.image c) rest, left)
+
+-- refused bytes begin with no image
+pub none_begins : {C : Type 0} (F : Format C) (bytes : List ℕ) → F.read (at 0 bytes) ≡ None → (c : C) (rest : List ℕ) → F.Is c
+    → bytes ≡ F.image c ++ rest → ⊥
+none_begins F bytes h c rest is same =
+    let one = sym h ∙ ap (λ (xs : List ℕ). F.read (at 0 xs)) same ∙ (F.again c 0 rest is).1 in
+    absurd cc
+
 -- where a part was refused
 pub refused : {C : Type 0} (F : Format C) (bytes : List ℕ) (e : ReadFault) (t : Cursor) (place : ℕ)
     → ReadsImage {A = C} (Err e) t (F.read (at 0 bytes)) → place ≤ length bytes → ReadsWholeImage {C = C} F bytes (Err (placed e place))
-refused F bytes reads.Broken t place h among = (not_read F bytes h, among)
+refused F bytes reads.Broken t place h among = (not_read F bytes h, among, λ c rest is same. absurd (none_begins F bytes h c rest is same))
 refused F bytes reads.Memory t place h among = tt

@@ -1,5 +1,6 @@
-use Rattle.std.proofs.Common.{arith, refl}
-use Rattle.oa_layout.proofs.Exact.{all_bytes, read_to_its_end, bytes_left, refused}
+use Rattle.std.proofs.Common.{◌≡◌, Some, arith, refl}
+use Rattle.oa_ndr.specs.Reading.{at}
+use Rattle.oa_layout.proofs.Exact.{all_bytes, read_to_its_end, bytes_left, first_left, refused}
 use Rattle.oa_layout.proofs.image.read_exactly.Goals as goal
 
 pub returns-then-is_done : goal.returns-then-is_done
@@ -8,9 +9,15 @@ returns-then-is_done g c = record {
 }
 
 pub returns-else-is_done : goal.returns-else-is_done
-returns-else-is_done g c = record {
-  exact = (bytes_left g.F.ReadImage.format c.args.bytes.now c.in-Ok.value c.read.new.r (rw (← c.new-r.ensures) c.in-Ok.ensures) (λ e. let t = c.if-is_done.ensures.1 e in absurd cc), c.place_in.ensures.within);
-}
+returns-else-is_done g c =
+    let read : g.F.ReadImage.format.read (at 0 c.args.bytes.now) ≡ Some (c.in-Ok.value, c.read.new.r) = rw (← c.new-r.ensures) c.in-Ok.ensures in
+    record {
+      exact = (
+        bytes_left g.F.ReadImage.format c.args.bytes.now c.in-Ok.value c.read.new.r read (λ e. let t = c.if-is_done.ensures.1 e in absurd cc),
+        c.place_in.ensures.within,
+        first_left g.F.ReadImage.format c.args.bytes.now c.in-Ok.value c.read.new.r c.place_in.result read c.place_in.ensures.place,
+      );
+    }
 
 pub returns-in-Err : goal.returns-in-Err
 returns-in-Err g c = record {

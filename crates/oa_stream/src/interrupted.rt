@@ -1,6 +1,7 @@
 //! A reader that is interrupted.
-ghost use Rattle.std.specs.Prelude.{◌≡◌};
+ghost use Rattle.std.specs.Prelude.{◌≡◌, ◌-◌, ◌<◌, false, length};
 ghost use Rattle.oa_stream.specs.Memory.{interrupted};
+ghost use Rattle.oa_stream.specs.Source.{Fills};
 
 use crate::{Next, Source};
 
@@ -37,7 +38,14 @@ impl<R: Source> Interrupted<R> {
 impl<R: Source> Source for Interrupted<R> {
     ghost input = { interrupted R.input };
 
-    fn fill(&mut self, buffer: &mut [u8]) -> Next {
+    // So many calls are interrupted, before the reader within is called, and no more.
+    fn fill(&mut self, buffer: &mut [u8]) -> Next
+        requires room { 0 < length buffer.old }
+        requires unbroken { (interrupted R.input self.old).faulted ≡ false }
+        ensures fills { Fills result (interrupted R.input self.old) (interrupted R.input self.new) buffer.new }
+        ensures interrupts { 0 < self.old.times → (result ≡ Next.Again) × (self.new.reader ≡ self.old.reader) }
+        ensures times { self.new.times ≡ self.old.times - 1 }
+    {
         self.calls = self.calls.saturating_add(1);
         if self.times > 0 {
             self.times -= 1;

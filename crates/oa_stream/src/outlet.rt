@@ -35,8 +35,10 @@ pub struct Outlet<W> {
 impl<W: Write> Outlet<W> {
     /// A writer to which nothing was written yet.
     pub fn new(writer: W) -> Outlet<W>
-        ensures { outlet W.contents result
+        ensures output { outlet W.contents result
             ≡ record { reached = W.contents writer; kept = []; flushed = true; back = 0; room = 0; broken = false } }
+        ensures failed { result.failed ≡ false }
+        ensures tries { result.tries ≡ 0 }
     {
         Outlet {
             writer,

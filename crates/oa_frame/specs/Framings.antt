@@ -1,5 +1,5 @@
 -- Framings: how bodies stand in bytes, what ends them, and how replies are spelled (this project's choice).
-use Rattle.std.specs.Prelude.{◌≡◌, ◌⊎◌, ℕ, ◌<◌, ◌≤◌, Bool, true, false, List, [], ◌∷◌, ◌++◌, length, take, Option, IsErr, Ok, ⊤}
+use Rattle.std.specs.Prelude.{◌≡◌, ◌⊎◌, ℕ, ◌<◌, ◌≤◌, max, Bool, true, false, List, [], ◌∷◌, ◌++◌, length, take, Option, IsErr, Ok, ⊤}
 use Rattle.std.specs.Io.KnownBytes as known
 use Rattle.std.specs.Int.{w32, from_le_bytes, to_le_bytes}
 use Rattle.hex.specs.Hex.{decode_of, encode_lower}
@@ -132,6 +132,12 @@ abbrev pub FitsBuffer : Read → List ℕ → Type 0
 FitsBuffer (read.Body n) buffer = n ≤ length buffer
 FitsBuffer (read.Ends why) buffer = ⊤
 FitsBuffer read.Unwritten buffer = ⊤
+
+-- how long the buffer gets: no longer than it was or the body is
+abbrev pub GrowsTo : Read → ℕ → ℕ → Type 0
+GrowsTo (read.Body n) old new = new ≤ max old n
+GrowsTo (read.Ends why) old new = ⊤
+GrowsTo read.Unwritten old new = new ≤ old
 
 abbrev pub is_read_fault : End → Bool
 is_read_fault end.Closed = false

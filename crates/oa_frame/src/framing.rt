@@ -1,8 +1,8 @@
 //! How bodies stand in bytes.
-ghost use Rattle.std.specs.Prelude.{◌≤◌, vec_capacity};
+ghost use Rattle.std.specs.Prelude.{◌≤◌, length, vec_capacity};
 ghost use Rattle.oa_stream.specs.Ahead.{ahead};
 ghost use Rattle.oa_frame.specs.Beginnings.{AreUnbroken, HoldLongest};
-ghost use Rattle.oa_frame.specs.Framings.{Hands, Inputs, FitsBuffer, frames, ends_in_read_fault};
+ghost use Rattle.oa_frame.specs.Framings.{GrowsTo, Hands, Inputs, FitsBuffer, frames, ends_in_read_fault};
 ghost use Rattle.oa_frame.specs.Paces.{Paced};
 
 use crate::End;
@@ -34,7 +34,7 @@ pub enum Read {
 ///
 /// Where all of it was read ahead, neither reader nor writer is called. Else what the writer keeps back is handed on before the first of
 /// its bytes is taken, and the reader is called at most `MAX_READ_CALLS` times. Takes no memory: `line` has room for the longest line, which the
-/// records' framing leaves alone, and `body` for the longest body. `body` gets no longer than the longest that came.
+/// records' framing leaves alone, and `body` for the longest body. `body` gets no longer than a body that comes, where it was shorter.
 pub fn read_body<R: Source + Drop, W: Sink>(
     framing: Framing,
     reader: &mut Ahead<R>,
@@ -48,6 +48,7 @@ pub fn read_body<R: Source + Drop, W: Sink>(
     ensures capacity { vec_capacity line.old ≤ vec_capacity line.new }
     ensures buffer { vec_capacity body.old ≤ vec_capacity body.new }
     ensures within { FitsBuffer result body.new.items }
+    ensures longest { GrowsTo result (length body.old.items) (length body.new.items) }
     ensures input { Inputs (frames framing) result number body.new.items (ahead R.input reader.old).left (ahead R.input reader.new).left }
     ensures paced { Paced (ends_in_read_fault result) (ahead R.input reader.old) (ahead R.input reader.new) }
     ensures output { Hands result (W.out writer.old) (W.out writer.new) }

@@ -7,7 +7,7 @@ ghost use Rattle.oa_stream.specs.Ahead.{ahead};
 ghost use Rattle.oa_frame.specs.Beginnings.{AreUnbroken, HoldLongest};
 ghost use Rattle.oa_frame.specs.Digits.{HasDigitValue};
 ghost use Rattle.oa_frame.specs.Lines.{DecodesLine, without_return};
-ghost use Rattle.oa_frame.specs.Framings.{Hands, Inputs, FitsBuffer, hex_lines, ends_in_read_fault};
+ghost use Rattle.oa_frame.specs.Framings.{GrowsTo, Hands, Inputs, FitsBuffer, hex_lines, ends_in_read_fault};
 ghost use Rattle.oa_frame.specs.Paces.{Paced};
 
 use crate::buffer::lengthen;
@@ -32,6 +32,7 @@ pub(crate) fn read_hex<R: Source + Drop, W: Sink>(
     ensures capacity { vec_capacity line.old ≤ vec_capacity line.new }
     ensures buffer { vec_capacity body.old ≤ vec_capacity body.new }
     ensures within { FitsBuffer result body.new.items }
+    ensures longest { GrowsTo result (length body.old.items) (length body.new.items) }
     ensures input { Inputs hex_lines result number body.new.items (ahead R.input reader.old).left (ahead R.input reader.new).left }
     ensures paced { Paced (ends_in_read_fault result) (ahead R.input reader.old) (ahead R.input reader.new) }
     ensures output { Hands result (W.out writer.old) (W.out writer.new) }
@@ -69,6 +70,7 @@ fn judge(line: &[u8], body: &mut Vec<u8>, number: u64) -> Read
     requires { max_request_bytes ≤ vec_capacity body.now }
     ensures buffer { vec_capacity body.old ≤ vec_capacity body.new }
     ensures says { DecodesLine result number line.now body.new.items }
+    ensures longest { GrowsTo result (length body.old.items) (length body.new.items) }
 {
     if line.is_empty() {
         return Read::Ends(End::Closed);
@@ -89,6 +91,7 @@ fn decode(line: &[u8], buffer: &mut [u8]) -> Option<usize>
     requires { length line.now ≤ 2 * length buffer.old }
     ensures len { length buffer.new ≡ length buffer.old }
     ensures within { IfSome result (λ n. n ≤ length buffer.new) }
+    ensures count { IfSome result (λ n. length line.now ≡ 2 * n) }
     ensures some { IfSome result (λ n. decode_of line.now ≡ Ok (take n buffer.new)) }
     ensures none { IsNone result → IsErr (decode_of line.now) }
 {

@@ -1,12 +1,12 @@
 //! Bodies as records of a length and that many bytes.
-ghost use Rattle.std.specs.Prelude.{◌≡◌, ◌≤◌, ◌<◌, ◌+◌, ℕ, List, Option, false, length, take, vec_capacity, IfSome};
+ghost use Rattle.std.specs.Prelude.{◌≡◌, ◌≤◌, ◌<◌, ◌+◌, ℕ, List, Option, false, length, max, take, vec_capacity, IfSome};
 ghost use Rattle.std.specs.Io.KnownBytes.{Consumes};
 ghost use Rattle.oa_model.specs.Limits.{max_read_calls, max_request_bytes};
 ghost use Rattle.oa_stream.specs.Ahead.{ahead, read_ahead};
 ghost use Rattle.oa_stream.specs.Sink.{IsHandedOn};
 ghost use Rattle.oa_stream.specs.Source.{Input};
 ghost use Rattle.oa_frame.specs.Beginnings.{AreUnbroken};
-ghost use Rattle.oa_frame.specs.Framings.{Hands, Inputs, WriterStands, FitsBuffer, SaysLength, ends_in_read_fault, records};
+ghost use Rattle.oa_frame.specs.Framings.{GrowsTo, Hands, Inputs, WriterStands, FitsBuffer, SaysLength, ends_in_read_fault, records};
 ghost use Rattle.oa_frame.specs.Paces.{Paced};
 ghost use Rattle.oa_frame.specs.Records.{Fetches, Gets, SpendsCalls, is_gone};
 
@@ -39,6 +39,7 @@ pub(crate) fn read_record<R: Source + Drop, W: Sink>(
     requires unbroken { AreUnbroken (ahead R.input reader.old) (W.out writer.old) }
     ensures buffer { vec_capacity body.old ≤ vec_capacity body.new }
     ensures within { FitsBuffer result body.new.items }
+    ensures longest { GrowsTo result (length body.old.items) (length body.new.items) }
     ensures input { (number : ℕ)
         → Inputs records result number body.new.items (ahead R.input reader.old).left (ahead R.input reader.new).left }
     ensures paced { Paced (ends_in_read_fault result) (ahead R.input reader.old) (ahead R.input reader.new) }
@@ -60,6 +61,7 @@ fn copy_front(body: &mut Vec<u8>, bytes: &[u8])
     requires { length bytes.now ≤ vec_capacity body.old }
     ensures buffer { vec_capacity body.old ≤ vec_capacity body.new }
     ensures len { length bytes.now ≤ length body.new.items }
+    ensures longest { length body.new.items ≤ max (length body.old.items) (length bytes.now) }
     ensures front { take (length bytes.now) body.new.items ≡ bytes.now }
 {
     let n = bytes.len();
@@ -102,6 +104,7 @@ fn read_waiting<R: Source + Drop, W: Sink>(
     requires quiet { IsHandedOn (W.out writer.now) }
     ensures buffer { vec_capacity body.old ≤ vec_capacity body.new }
     ensures within { FitsBuffer result body.new.items }
+    ensures longest { GrowsTo result (length body.old.items) (length body.new.items) }
     ensures input { (number : ℕ)
         → Inputs records result number body.new.items (ahead R.input reader.old).left (ahead R.input reader.new).left }
     ensures paced { Paced (ends_in_read_fault result) (ahead R.input reader.old) (ahead R.input reader.new) }
@@ -134,6 +137,7 @@ fn read_content<R: Source + Drop, W: Sink>(
     requires few { calls ≤ max_read_calls }
     ensures buffer { vec_capacity body.old ≤ vec_capacity body.new }
     ensures within { FitsBuffer result body.new.items }
+    ensures longest { GrowsTo result (length body.old.items) (length body.new.items) }
     ensures input { (number : ℕ) (bytes : Option (List ℕ)) (head : List ℕ) → SaysLength head n
         → Consumes bytes (ahead R.input reader.old).left head
         → Inputs records result number body.new.items bytes (ahead R.input reader.new).left }
@@ -167,6 +171,7 @@ fn read_bytes<R: Source + Drop, W: Sink>(
     requires few { calls ≤ max_read_calls }
     ensures len { length body.new ≡ length body.old }
     ensures within { FitsBuffer result body.new }
+    ensures whole { GrowsTo result 0 n }
     ensures input { (number : ℕ) (bytes : Option (List ℕ)) (head : List ℕ) → SaysLength head n
         → Consumes bytes (ahead R.input reader.old).left head
         → Inputs records result number body.new bytes (ahead R.input reader.new).left }

@@ -115,6 +115,7 @@ spoilt Begins contents chosen shape l s at head has begins (inr body) = inr (rec
   chosen = chosen;
   head = head;
   shape = shape;
+  room = has.room;
   offset = body.0;
   there = body.1;
   damaged = body.2;

@@ -12,6 +12,7 @@ use Rattle.oa_journal.specs.declared.shape.Shape.{Shape}
 use Rattle.oa_journal.specs.declared.shape.Shape.TheVariants.{One, Two}
 use Rattle.oa_journal.specs.Bank.{from_place, HasHead, HasLibrary}
 use Rattle.oa_journal.specs.Damages.{IsDamagedBody, IsDamagedHead}
+use Rattle.oa_journal.specs.Shapes.{disk_bytes}
 use Rattle.oa_store.specs.declared.fault.OpenFault.{OpenFault}
 use Rattle.oa_store.specs.declared.fault.OpenFault.TheVariants.{NotAStore, OldFormat, LibraryDiffers, Damaged, Device, Memory}
 use Rattle.oa_store.specs.declared.fault.UpgradeFault.{UpgradeFault}
@@ -98,6 +99,7 @@ pub record IsOther (contents library : List ℕ) : Type 0 where
   pub chosen : ℕ
   pub head : IsFormatted chosen contents
   pub size : ℕ
+  pub room : disk_bytes (Two size) ≤ length contents
   pub other : List ℕ
   pub has : HasLibrary (Two size) (from_place (head_place chosen) contents) (from_place (body_place (Two size) chosen) contents) other
   pub differs : other ≢ library
@@ -132,6 +134,7 @@ pub record IsSpoilt (Begins : Shape → (ℕ → ℕ) → (ℕ → ℕ) → Type
   pub chosen : ℕ
   pub head : IsFormatted chosen contents
   pub shape : Shape
+  pub room : disk_bytes shape ≤ length contents
   pub offset : ℕ
   pub there : place ≡ body_place shape chosen + offset
   pub damaged : IsDamagedBody shape (from_place (head_place chosen) contents) (from_place (body_place shape chosen) contents) offset

@@ -40,7 +40,8 @@ pub record Leaves {D T E : Type 0} (g : Ghosts D) (meanwhile at_last : List ℕ 
   pub any_moment : IsTrue (g.is_honest old) → LeavesStep g.moment g.image_since g.image old new meanwhile
   pub done : OnOk result (IsTrue (g.is_honest old) → Follows at_last (g.image old) (g.image new))
 
--- A disk before its first call: it is honest, and a crash leaves what a read gives.
+-- A disk before its first call: it is honest, no call has failed, and a crash leaves what a read gives.
 pub record BeginsHonest {D : Type 0} (g : Ghosts D) (disk : D) : Type 0 where
   pub honest : IsTrue (g.is_honest disk)
+  pub failures : g.failures_of disk ≡ 0
   pub settled : NothingPending g.contents g.image disk

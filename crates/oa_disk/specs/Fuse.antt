@@ -1,5 +1,6 @@
 -- What a FuseDisk shows.
-use Rattle.std.specs.Prelude.{◌≡◌, ℕ, ◌+◌, ◌-◌, ◌^◌, ◌<◌, Bool, min, Result, IsErr}
+use Rattle.std.specs.Prelude.{◌≡◌, ◌↔◌, ℕ, ◌+◌, ◌-◌, ◌^◌, ◌<◌, Bool, List, min, Result, IsErr}
+use Rattle.oa_disk.specs.declared.disk.Disk.{Ghosts}
 use Rattle.oa_disk.specs.declared.fuse.FuseDisk.{FuseDisk}
 
 -- the disk that it passes calls on to
@@ -17,6 +18,16 @@ refused_of f = f.refused
 -- the failures of the disk within and its own, up to the greatest u64
 abbrev pub failures_with : {D : Type 0} → (D → ℕ) → FuseDisk D → ℕ
 failures_with failures f = min (failures f.disk + f.refused) (2 ^ 64 - 1)
+
+-- One disk shows all that another shows.
+pub record ShowsAllOf {D E : Type 0} (g : Ghosts D) (h : Ghosts E) (within : D) (disk : E) : Type 0 where
+  pub size : h.size_of disk ≡ g.size_of within
+  pub failures : h.failures_of disk ≡ g.failures_of within
+  pub honest : h.is_honest disk ≡ g.is_honest within
+  pub contents : h.contents disk ≡ g.contents within
+  pub image : (c : List ℕ) → h.image disk c ↔ g.image within c
+  pub moment : h.moment disk ≡ g.moment within
+  pub image_since : (t : ℕ) (c : List ℕ) → h.image_since disk t c ↔ g.image_since within t c
 
 -- A call takes one of those that are left, and the fuse itself refuses none. With none left it fails, and the disk within
 -- is as it was.

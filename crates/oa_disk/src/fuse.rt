@@ -31,17 +31,15 @@ fn spend(calls_left: &mut u64, refused: &mut u64, fault: DeviceFault) -> Result<
 }
 
 impl<D: Disk> FuseDisk<D> {
-    ghost use Rattle.oa_disk.specs.Fuse.{inner_of, calls_left_of, refused_of};
+    ghost use Rattle.oa_disk.specs.Fuse.{inner_of, calls_left_of, refused_of, ShowsAllOf};
 
     /// Passes the calls before call number `first_failing` on, and fails each one from there on. Reads, writes and syncs
-    /// are its calls, numbered from 1. It is honest as the disk within is, and shows what that shows.
+    /// are its calls, numbered from 1. It is honest as the disk within is, and shows what that shows, its failures among it.
     pub fn new(disk: D, first_failing: u64) -> FuseDisk<D>
         ensures disk { inner_of result ≡ disk }
         ensures calls { calls_left_of result ≡ first_failing - 1 }
         ensures refused { refused_of result ≡ 0 }
-        ensures honest { ⟦<FuseDisk<D> as Disk>⟧.is_honest result ≡ D.is_honest disk }
-        ensures contents { ⟦<FuseDisk<D> as Disk>⟧.contents result ≡ D.contents disk }
-        ensures image { (c : List ℕ) → ⟦<FuseDisk<D> as Disk>⟧.image result c ↔ D.image disk c }
+        ensures shows { ShowsAllOf D.Disk ⟦<FuseDisk<D> as Disk>⟧ disk result }
     {
         FuseDisk {
             disk,

@@ -11,5 +11,6 @@ invariant_of-result-clause-whole g c = subst (λ (r : Record). IsHistory c.args.
 pub returns-clause-begins : goal.returns-clause-begins
 returns-clause-begins g c = record {
   honest = search rules;
+  failures = search rules;
   settled = beginning_settled g.held c.args.size _ c.beginning-history.ensures;
 }

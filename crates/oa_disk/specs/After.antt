@@ -25,12 +25,13 @@ pub record AfterAttempt {D T E : Type 0} (g : Ghosts D) (device : DeviceFault �
       → (fault ≡ Write) × HasCounted (g.failures_of old) (g.failures_of new)
   pub calls : IsTrue (g.is_honest old) → g.moment new ≤ g.moment old + 2 * most
 
--- Any calls, reads among them: a read may show that the disk has not kept the rules.
+-- Any calls, reads among them, which end with the first that fails: a read may show that the disk has not kept the rules.
 pub record AfterCalls {D T E : Type 0} (g : Ghosts D) (old new : D) (result : Result T E) : Type 0 where
   pub size : g.size_of new ≡ g.size_of old
   -- what is honest now was honest before
   pub honest : IsTrue (g.is_honest new) → IsTrue (g.is_honest old)
   pub failures : g.failures_of old ≤ g.failures_of new
+  pub once : g.failures_of new ≤ g.failures_of old + 1
   -- at `Ok` no call has failed
   pub unfailed : OnOk result (g.failures_of new ≡ g.failures_of old)
 

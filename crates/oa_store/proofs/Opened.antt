@@ -15,9 +15,12 @@ use Rattle.oa_journal.specs.declared.bank.BankFault.TheVariants as banks
 use Rattle.oa_journal.specs.Append.{IsAt}
 use Rattle.oa_journal.specs.Damages.{IsDamagedBank}
 use Rattle.oa_journal.proofs.Damages.{bank_library, not_damaged, one_library}
+use Rattle.oa_journal.specs.Replies.{IsCaused as IsBankCaused}
+use Rattle.oa_store.specs.declared.fault.FindFault.{FindFault}
+use Rattle.oa_store.specs.declared.fault.FindFault.TheVariants as finds
 use Rattle.oa_store.specs.declared.fault.OpenFault.{OpenFault}
 use Rattle.oa_store.specs.declared.fault.OpenFault.TheVariants.{NotAStore, OldFormat, LibraryDiffers, Damaged, Device, Memory}
-use Rattle.oa_store.specs.Faults.{SpeaksOfContents, ComesOfBanks, HeadSays, IfDamaged, IsBeheaded, IsDamaged, IsFailed, IsSpoilt, HasWanted, RefusalSays, DeviceTells, of_bank}
+use Rattle.oa_store.specs.Faults.{SpeaksOfContents, HeadSays, IsBeheaded, IsCaused, IsDamaged, IsFailed, IsSpoilt, HasWanted, RefusalSays, DeviceTells, finding_of_bank, of_bank, of_finding}
 use Rattle.oa_store.specs.Stores.{body_place, head_place, IsFormatted, IsStoreAt, IsNewStore}
 
 -- what holds of the bytes where a bank stands holds of them under other names
@@ -38,44 +41,33 @@ of_library shape head body library text read table gate is has bank =
     let same = one_library shape head body read text (bank_library shape head body read table gate bank) has in
     subst (λ (l : List ℕ). IsBank shape head body l table gate) (same ∙ is) bank
 
-pub if_damaged : (e : OpenFault) (P Q : ℕ → Type 0) → ((at : ℕ) → P at → Q at) → IfDamaged e P → IfDamaged e Q
-if_damaged NotAStore P Q f p = tt
-if_damaged OldFormat P Q f p = tt
-if_damaged LibraryDiffers P Q f p = tt
-if_damaged (Damaged place) P Q f p = f place p
-if_damaged (Device fault) P Q f p = tt
-if_damaged Memory P Q f p = tt
-
 -- a refusal that is given once a bank is looked at
-pub says_late : (wanted : Option (List ℕ)) (size : ℕ) (contents : List ℕ) (e : OpenFault) → ComesOfBanks e
-    → IfDamaged e (IsDamaged wanted contents) → RefusalSays wanted size contents e
-says_late wanted size contents NotAStore late p = absurd late
-says_late wanted size contents OldFormat late p = absurd late
-says_late wanted size contents LibraryDiffers late p = absurd late
-says_late wanted size contents (Damaged place) late p = p
-says_late wanted size contents (Device fault) late p = tt
-says_late wanted size contents Memory late p = tt
+pub says_late : (wanted : Option (List ℕ)) (size : ℕ) (contents : List ℕ) (e : BankFault)
+    → ((at : ℕ) → e ≡ banks.Damaged at → IsDamaged wanted contents at) → RefusalSays wanted size contents (of_bank e)
+says_late wanted size contents (banks.Damaged place) f = f place refl
+says_late wanted size contents (banks.Device fault) f = tt
+says_late wanted size contents banks.Memory f = tt
 
 -- and one that is given before
-pub says_first : (wanted : Option (List ℕ)) (size : ℕ) (contents : List ℕ) (e : OpenFault) → HeadSays size contents e → RefusalSays wanted size contents e
-says_first wanted size contents NotAStore says = says
-says_first wanted size contents OldFormat says = absurd says
-says_first wanted size contents LibraryDiffers says = absurd says
-says_first wanted size contents (Damaged place) says = inl says
-says_first wanted size contents (Device fault) says = tt
-says_first wanted size contents Memory says = tt
+pub says_first : (wanted : Option (List ℕ)) (size : ℕ) (contents : List ℕ) (e : FindFault) → HeadSays size contents e
+    → RefusalSays wanted size contents (of_finding e)
+says_first wanted size contents finds.NotAStore says = says
+says_first wanted size contents (finds.Damaged place) says = inl says
+says_first wanted size contents (finds.Device fault) says = tt
+says_first wanted size contents finds.Memory says = tt
 
--- what a bank's fault says, as one of an opening
+-- what a bank's fault says, as one of a search for a head
 pub bank_says : (size : ℕ) (contents : List ℕ) (e : BankFault) → ((at : ℕ) → e ≡ banks.Damaged at → IsBeheaded contents at)
-    → HeadSays size contents (of_bank e)
+    → HeadSays size contents (finding_of_bank e)
 bank_says size contents (banks.Damaged place) f = f place refl
 bank_says size contents (banks.Device fault) f = tt
 bank_says size contents banks.Memory f = tt
 
-pub bank_damaged : (e : BankFault) (P : ℕ → Type 0) → ((at : ℕ) → e ≡ banks.Damaged at → P at) → IfDamaged (of_bank e) P
-bank_damaged (banks.Damaged place) P f = f place refl
-bank_damaged (banks.Device fault) P f = tt
-bank_damaged banks.Memory P f = tt
+-- its cause, as that of a fault of an opening
+pub bank_caused : (before now : ℕ) (e : BankFault) → IsBankCaused before now e → IsCaused before now (of_bank e)
+bank_caused before now (banks.Damaged place) is = is
+bank_caused before now (banks.Device fault) is = is
+bank_caused before now banks.Memory is = is
 
 -- which call has failed
 pub read_failed : (contents : List ℕ) (before after : List ℕ → Type 0) (fault : DeviceFault) → fault ≡ devices.Read → Only contents after
@@ -87,14 +79,12 @@ pub sync_failed : (contents : List ℕ) (before after : List ℕ → Type 0) (fa
 sync_failed contents before after fault is stay = subst (λ (f : DeviceFault). IsFailed contents before after f) (sym is) stay
 
 -- once a bank is looked at, no sync fails
-pub tells_late : (contents : List ℕ) (before after : List ℕ → Type 0) (e : OpenFault) → ComesOfBanks e → Only contents after
-    → DeviceTells contents before after e
-tells_late contents before after NotAStore late only = tt
-tells_late contents before after OldFormat late only = tt
-tells_late contents before after LibraryDiffers late only = tt
-tells_late contents before after (Damaged place) late only = tt
-tells_late contents before after (Device fault) late only = read_failed contents before after fault late only
-tells_late contents before after Memory late only = tt
+pub tells_late : (contents : List ℕ) (before after : List ℕ → Type 0) (e : BankFault)
+    → ((fault : DeviceFault) → e ≡ banks.Device fault → fault ≡ devices.Read) → Only contents after
+    → DeviceTells contents before after (of_bank e)
+tells_late contents before after (banks.Damaged place) read only = tt
+tells_late contents before after (banks.Device fault) read only = read_failed contents before after fault (read fault refl) only
+tells_late contents before after banks.Memory read only = tt
 
 -- the library that is wanted is that of a bank of format 2 that begins with it
 pub wanted_in : (shape : Shape) (size : ℕ) → shape ≡ Two size → (head body : ℕ → ℕ) (library : List ℕ) → HasLibrary shape head body library → HasWanted (Some library) shape head body

@@ -1,5 +1,6 @@
 -- What an upgrade finds and leaves.
 use Rattle.std.proofs.Common.{◌≡◌, ◌⊎◌, inl, inr, ⊎_elim, ℕ, ◌-◌, List, Result, Ok, Err, OnOk, is_ok, false, true, true≢false, refl, sym, subst}
+use Rattle.oa_disk.specs.Disk.{Only}
 use Rattle.oa_disk.specs.declared.disk.DeviceFault.{DeviceFault}
 use Rattle.oa_disk.specs.declared.disk.DeviceFault.TheVariants as devices
 use Rattle.oa_table.specs.Tables.{TableValue, unlocked_table}
@@ -10,54 +11,62 @@ use Rattle.oa_journal.specs.Shapes.{body_bytes}
 use Rattle.oa_journal.specs.Append.{IsAt, TornBank}
 use Rattle.oa_journal.specs.Bank.{from_place, IsBank}
 use Rattle.oa_journal.proofs.Lockless.{no_locks}
-use Rattle.oa_store.specs.declared.fault.OpenFault.{OpenFault}
-use Rattle.oa_store.specs.declared.fault.OpenFault.TheVariants.{NotAStore, OldFormat, LibraryDiffers, Damaged, Device, Memory}
+use Rattle.oa_journal.specs.declared.bank.BankFault.{BankFault}
+use Rattle.oa_journal.specs.declared.bank.BankFault.TheVariants as banks
+use Rattle.oa_journal.specs.Replies.{IsCaused as IsBankCaused}
+use Rattle.oa_store.specs.declared.fault.FindFault.{FindFault}
+use Rattle.oa_store.specs.declared.fault.FindFault.TheVariants as finds
 use Rattle.oa_store.specs.Changes.{IsMove, IsMoved, IsUpgrade}
-use Rattle.oa_store.specs.Faults.{ComesOfHead, HeadSays, HasOldShape, ComesOfBanks, IsBeheaded, IsSpoilt, IsOld, IfDamaged, IsCaused, IsCausedUpgrade, IsFailed, IsFailedUpgrade, UpgradeSays, DeviceTells, UpgradeDeviceTells, of_opening}
+use Rattle.oa_store.specs.Faults.{HeadSays, HasOldShape, IsBeheaded, IsSpoilt, IsOld, IsCaused, IsCausedUpgrade, IsFailed, IsFailedUpgrade, UpgradeSays, DeviceTells, UpgradeDeviceTells, of_finding, upgrade_of_bank, upgrade_of_finding}
 use Rattle.oa_store.proofs.OneStore.{one_store_at}
 use Rattle.oa_store.specs.Stores.{body_place, head_place, IsStoreAt, IsStoreIn}
 
--- a refusal of an opening, as one of an upgrade
-pub says_early : (bank size : ℕ) (contents : List ℕ) (e : OpenFault) → ComesOfHead e → HeadSays size contents e
-    → UpgradeSays bank size contents (of_opening e)
-says_early bank size contents NotAStore is says = says
-says_early bank size contents OldFormat is says = absurd is
-says_early bank size contents LibraryDiffers is says = absurd is
-says_early bank size contents (Damaged place) is says = inr (inl says)
-says_early bank size contents (Device fault) is says = tt
-says_early bank size contents Memory is says = absurd is
+-- a refusal before a bank is looked at, as one of an upgrade
+pub says_early : (bank size : ℕ) (contents : List ℕ) (e : FindFault) → (e ≡ finds.Memory → ⊥) → HeadSays size contents e
+    → UpgradeSays bank size contents (upgrade_of_finding e)
+says_early bank size contents finds.NotAStore none says = says
+says_early bank size contents (finds.Damaged place) none says = inr (inl says)
+says_early bank size contents (finds.Device fault) none says = tt
+says_early bank size contents finds.Memory none says = absurd (none refl)
 
-pub says_spoilt : (bank size : ℕ) (contents : List ℕ) (e : OpenFault) → ComesOfBanks e → IsOld contents
-    → IfDamaged e (λ place. IsBeheaded contents place ⊎ IsSpoilt HasOldShape contents place)
-    → UpgradeSays bank size contents (of_opening e)
-says_spoilt bank size contents NotAStore is old p = absurd is
-says_spoilt bank size contents OldFormat is old p = absurd is
-says_spoilt bank size contents LibraryDiffers is old p = absurd is
-says_spoilt bank size contents (Damaged place) is old p = inr p
-says_spoilt bank size contents (Device fault) is old p = tt
-says_spoilt bank size contents Memory is old p = old
-
-pub caused_upgrade : (before now : ℕ) (e : OpenFault) → IsCaused before now e → IsCausedUpgrade before now (of_opening e)
-caused_upgrade before now NotAStore is = is
-caused_upgrade before now OldFormat is = is
-caused_upgrade before now LibraryDiffers is = is
-caused_upgrade before now (Damaged place) is = is
-caused_upgrade before now (Device fault) is = is
-caused_upgrade before now Memory is = is
+pub caused_early : (before now : ℕ) (e : FindFault) → IsCaused before now (of_finding e) → IsCausedUpgrade before now (upgrade_of_finding e)
+caused_early before now finds.NotAStore is = is
+caused_early before now (finds.Damaged place) is = is
+caused_early before now (finds.Device fault) is = is
+caused_early before now finds.Memory is = is
 
 failed_upgrade : (contents : List ℕ) (before after : List ℕ → Type 0) (fault : DeviceFault) → IsFailed contents before after fault
     → IsFailedUpgrade contents before after fault
 failed_upgrade contents before after devices.Read is = is
 failed_upgrade contents before after devices.Write is = inl is
 
-pub upgrade_tells : (contents : List ℕ) (before after : List ℕ → Type 0) (e : OpenFault) → DeviceTells contents before after e
-    → UpgradeDeviceTells contents before after (of_opening e)
-upgrade_tells contents before after NotAStore is = tt
-upgrade_tells contents before after OldFormat is = tt
-upgrade_tells contents before after LibraryDiffers is = tt
-upgrade_tells contents before after (Damaged place) is = tt
-upgrade_tells contents before after (Device fault) is = failed_upgrade contents before after fault is
-upgrade_tells contents before after Memory is = tt
+pub tells_early : (contents : List ℕ) (before after : List ℕ → Type 0) (e : FindFault) → DeviceTells contents before after (of_finding e)
+    → UpgradeDeviceTells contents before after (upgrade_of_finding e)
+tells_early contents before after finds.NotAStore is = tt
+tells_early contents before after (finds.Damaged place) is = tt
+tells_early contents before after (finds.Device fault) is = failed_upgrade contents before after fault is
+tells_early contents before after finds.Memory is = tt
+
+-- and one once it is looked at
+pub says_spoilt : (bank size : ℕ) (contents : List ℕ) (e : BankFault) → IsOld contents
+    → ((place : ℕ) → e ≡ banks.Damaged place → IsBeheaded contents place ⊎ IsSpoilt HasOldShape contents place)
+    → UpgradeSays bank size contents (upgrade_of_bank e)
+says_spoilt bank size contents (banks.Damaged place) old f = inr (f place refl)
+says_spoilt bank size contents (banks.Device fault) old f = tt
+says_spoilt bank size contents banks.Memory old f = old
+
+pub caused_late : (before now : ℕ) (e : BankFault) → IsBankCaused before now e → IsCausedUpgrade before now (upgrade_of_bank e)
+caused_late before now (banks.Damaged place) is = is
+caused_late before now (banks.Device fault) is = is
+caused_late before now banks.Memory is = is
+
+pub read_tells : (contents : List ℕ) (before after : List ℕ → Type 0) (e : BankFault)
+    → ((fault : DeviceFault) → e ≡ banks.Device fault → fault ≡ devices.Read) → Only contents after
+    → UpgradeDeviceTells contents before after (upgrade_of_bank e)
+read_tells contents before after (banks.Damaged place) read only = tt
+read_tells contents before after (banks.Device fault) read only =
+    subst (λ (f : DeviceFault). IsFailedUpgrade contents before after f) (sym (read fault refl)) only
+read_tells contents before after banks.Memory read only = tt
 
 -- a write fails once a store is found
 pub write_failed : (contents : List ℕ) (before after : List ℕ → Type 0) (fault : DeviceFault) → fault ≡ devices.Write

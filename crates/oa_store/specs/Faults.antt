@@ -13,6 +13,8 @@ use Rattle.oa_journal.specs.declared.shape.Shape.TheVariants.{One, Two}
 use Rattle.oa_journal.specs.Bank.{from_place, HasHead, HasLibrary}
 use Rattle.oa_journal.specs.Damages.{IsDamagedBody, IsDamagedHead}
 use Rattle.oa_journal.specs.Shapes.{disk_bytes}
+use Rattle.oa_store.specs.declared.fault.FindFault.{FindFault}
+use Rattle.oa_store.specs.declared.fault.FindFault.TheVariants as finds
 use Rattle.oa_store.specs.declared.fault.OpenFault.{OpenFault}
 use Rattle.oa_store.specs.declared.fault.OpenFault.TheVariants.{NotAStore, OldFormat, LibraryDiffers, Damaged, Device, Memory}
 use Rattle.oa_store.specs.declared.fault.UpgradeFault.{UpgradeFault}
@@ -24,6 +26,32 @@ abbrev pub of_bank : BankFault → OpenFault
 of_bank (banks.Damaged place) = Damaged place
 of_bank (banks.Device fault) = Device fault
 of_bank banks.Memory = Memory
+
+-- as one of a search for a head
+abbrev pub finding_of_bank : BankFault → FindFault
+finding_of_bank (banks.Damaged place) = finds.Damaged place
+finding_of_bank (banks.Device fault) = finds.Device fault
+finding_of_bank banks.Memory = finds.Memory
+
+-- and as one of an upgrade
+abbrev pub upgrade_of_bank : BankFault → UpgradeFault
+upgrade_of_bank (banks.Damaged place) = upgrades.Damaged place
+upgrade_of_bank (banks.Device fault) = upgrades.Device fault
+upgrade_of_bank banks.Memory = upgrades.Memory
+
+-- a fault of a search for a head, as one of an opening
+abbrev pub of_finding : FindFault → OpenFault
+of_finding finds.NotAStore = NotAStore
+of_finding (finds.Damaged place) = Damaged place
+of_finding (finds.Device fault) = Device fault
+of_finding finds.Memory = Memory
+
+-- and as one of an upgrade
+abbrev pub upgrade_of_finding : FindFault → UpgradeFault
+upgrade_of_finding finds.NotAStore = upgrades.NotAStore
+upgrade_of_finding (finds.Damaged place) = upgrades.Damaged place
+upgrade_of_finding (finds.Device fault) = upgrades.Device fault
+upgrade_of_finding finds.Memory = upgrades.Memory
 
 -- it says what stands on the disk
 abbrev pub SpeaksOfContents : OpenFault → Type 0
@@ -42,33 +70,6 @@ ComesOfForeign LibraryDiffers = ⊥
 ComesOfForeign (Damaged place) = ⊥
 ComesOfForeign (Device fault) = ⊤
 ComesOfForeign Memory = ⊥
-
--- it may be given where a bank is looked at, whatever library it has
-abbrev pub ComesOfBanks : OpenFault → Type 0
-ComesOfBanks NotAStore = ⊥
-ComesOfBanks OldFormat = ⊥
-ComesOfBanks LibraryDiffers = ⊥
-ComesOfBanks (Damaged place) = ⊤
-ComesOfBanks (Device fault) = fault ≡ devices.Read
-ComesOfBanks Memory = ⊤
-
--- it is given before a library is looked at
-abbrev pub ComesOfHead : OpenFault → Type 0
-ComesOfHead NotAStore = ⊤
-ComesOfHead OldFormat = ⊥
-ComesOfHead LibraryDiffers = ⊥
-ComesOfHead (Damaged place) = ⊤
-ComesOfHead (Device fault) = ⊤
-ComesOfHead Memory = ⊥
-
--- what a place has where damage is answered
-abbrev pub IfDamaged : OpenFault → (ℕ → Type 0) → Type 0
-IfDamaged NotAStore P = ⊤
-IfDamaged OldFormat P = ⊤
-IfDamaged LibraryDiffers P = ⊤
-IfDamaged (Damaged place) P = P place
-IfDamaged (Device fault) P = ⊤
-IfDamaged Memory P = ⊤
 
 -- one that speaks of the device is given only where a call has failed, and any other where none has
 abbrev pub IsCaused : ℕ → ℕ → OpenFault → Type 0
@@ -144,13 +145,11 @@ abbrev pub IsDamaged : Option (List ℕ) → List ℕ → ℕ → Type 0
 IsDamaged wanted contents place = IsBeheaded contents place ⊎ IsSpoilt (HasWanted wanted) contents place
 
 -- What a refusal says of a disk of this size and these contents where no body was looked at.
-abbrev pub HeadSays : ℕ → List ℕ → OpenFault → Type 0
-HeadSays size contents NotAStore = IsForeign size contents
-HeadSays size contents OldFormat = ⊥
-HeadSays size contents LibraryDiffers = ⊥
-HeadSays size contents (Damaged place) = IsBeheaded contents place
-HeadSays size contents (Device fault) = ⊤
-HeadSays size contents Memory = ⊤
+abbrev pub HeadSays : ℕ → List ℕ → FindFault → Type 0
+HeadSays size contents finds.NotAStore = IsForeign size contents
+HeadSays size contents (finds.Damaged place) = IsBeheaded contents place
+HeadSays size contents (finds.Device fault) = ⊤
+HeadSays size contents finds.Memory = ⊤
 
 -- it has another library than the one that is wanted
 abbrev pub IsUnwanted : Option (List ℕ) → List ℕ → Type 0
@@ -170,15 +169,6 @@ RefusalSays wanted size contents LibraryDiffers = IsUnwanted wanted contents
 RefusalSays wanted size contents (Damaged place) = IsDamaged wanted contents place
 RefusalSays wanted size contents (Device fault) = ⊤
 RefusalSays wanted size contents Memory = ⊤
-
--- a fault of an opening that compares no library, as one of an upgrade
-abbrev pub of_opening : OpenFault → UpgradeFault
-of_opening NotAStore = upgrades.NotAStore
-of_opening OldFormat = upgrades.Memory
-of_opening LibraryDiffers = upgrades.Memory
-of_opening (Damaged place) = upgrades.Damaged place
-of_opening (Device fault) = upgrades.Device fault
-of_opening Memory = upgrades.Memory
 
 -- its bank has a head of format 2
 pub record IsNew (contents : List ℕ) : Type 0 where

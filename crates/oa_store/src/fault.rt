@@ -1,7 +1,8 @@
 //! Why a store was not made, not opened, or did not go on.
 ghost use Rattle.std.specs.Prelude.{◌≡◌};
-ghost use Rattle.oa_store.specs.declared.fault.OpenFault.TheVariants.{Device, Memory};
-ghost use Rattle.oa_store.specs.Faults.{of_bank};
+ghost use Rattle.oa_store.specs.declared.fault.OpenFault.TheVariants.{Memory};
+ghost use Rattle.oa_store.specs.declared.fault.FindFault.TheVariants as finds;
+ghost use Rattle.oa_store.specs.Faults.{finding_of_bank, of_bank, of_finding, upgrade_of_bank, upgrade_of_finding};
 
 use oa_disk::DeviceFault;
 use oa_journal::BankFault;
@@ -11,7 +12,7 @@ use thiserror::Error;
 /// Why a disk was not made a store.
 #[derive(Clone, Copy, Debug, PartialEq, Eq, Error)]
 pub enum FormatFault {
-    /// It has fewer bytes than those of format 1 and two bodies of that size.
+    /// It has fewer bytes than those of format 1 and two bodies of the size that is asked for.
     #[error("disk too small")]
     TooSmall,
     /// A call of the device failed. The disk holds no store now, or one that is whole.
@@ -54,14 +55,6 @@ impl From<AllocError> for OpenFault {
     }
 }
 
-impl From<DeviceFault> for OpenFault {
-    ghost from_gives = { λ f e. e ≡ Device f };
-
-    fn from(e: DeviceFault) -> OpenFault {
-        OpenFault::Device(e)
-    }
-}
-
 impl From<BankFault> for OpenFault {
     ghost from_gives = { λ f e. e ≡ of_bank f };
 
@@ -74,10 +67,64 @@ impl From<BankFault> for OpenFault {
     }
 }
 
+impl From<FindFault> for OpenFault {
+    ghost from_gives = { λ f e. e ≡ of_finding f };
+
+    fn from(e: FindFault) -> OpenFault {
+        match e {
+            FindFault::NotAStore => OpenFault::NotAStore,
+            FindFault::Damaged(place) => OpenFault::Damaged(place),
+            FindFault::Device(fault) => OpenFault::Device(fault),
+            FindFault::Memory => OpenFault::Memory,
+        }
+    }
+}
+
+/// Why the head of the bank that the selector names was not found: no library is compared, and each format is known.
+#[derive(Clone, Copy)]
+pub(crate) enum FindFault {
+    /// The disk has fewer bytes than a store, or its first byte is not 1.
+    NotAStore,
+    /// The bytes at this place of the disk are not those of a head.
+    Damaged(u64),
+    /// A call of the device failed.
+    Device(DeviceFault),
+    /// There is no memory for what a store is read with.
+    Memory,
+}
+
+impl From<AllocError> for FindFault {
+    ghost from_gives = { λ _ e. e ≡ finds.Memory };
+
+    fn from(_e: AllocError) -> FindFault {
+        FindFault::Memory
+    }
+}
+
+impl From<DeviceFault> for FindFault {
+    ghost from_gives = { λ f e. e ≡ finds.Device f };
+
+    fn from(e: DeviceFault) -> FindFault {
+        FindFault::Device(e)
+    }
+}
+
+impl From<BankFault> for FindFault {
+    ghost from_gives = { λ f e. e ≡ finding_of_bank f };
+
+    fn from(e: BankFault) -> FindFault {
+        match e {
+            BankFault::Damaged(place) => FindFault::Damaged(place),
+            BankFault::Device(fault) => FindFault::Device(fault),
+            BankFault::Memory => FindFault::Memory,
+        }
+    }
+}
+
 /// Why a store was not brought to format 2.
 #[derive(Clone, Copy, Debug, PartialEq, Eq, Error)]
 pub enum UpgradeFault {
-    /// It has fewer bytes than those of format 1 and two bodies of that size.
+    /// It has fewer bytes than those of format 1 and two bodies of the size that is asked for.
     #[error("disk too small")]
     TooSmall,
     /// It has fewer bytes than a store, or its first byte is not 1.
@@ -95,6 +142,31 @@ pub enum UpgradeFault {
     /// There is no memory for what is read, or to write a bank's bytes from. Nothing was written.
     #[error("out of memory")]
     Memory,
+}
+
+impl From<FindFault> for UpgradeFault {
+    ghost from_gives = { λ f e. e ≡ upgrade_of_finding f };
+
+    fn from(e: FindFault) -> UpgradeFault {
+        match e {
+            FindFault::NotAStore => UpgradeFault::NotAStore,
+            FindFault::Damaged(place) => UpgradeFault::Damaged(place),
+            FindFault::Device(fault) => UpgradeFault::Device(fault),
+            FindFault::Memory => UpgradeFault::Memory,
+        }
+    }
+}
+
+impl From<BankFault> for UpgradeFault {
+    ghost from_gives = { λ f e. e ≡ upgrade_of_bank f };
+
+    fn from(e: BankFault) -> UpgradeFault {
+        match e {
+            BankFault::Damaged(place) => UpgradeFault::Damaged(place),
+            BankFault::Device(fault) => UpgradeFault::Device(fault),
+            BankFault::Memory => UpgradeFault::Memory,
+        }
+    }
 }
 
 /// Why a group was not committed.

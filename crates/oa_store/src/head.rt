@@ -4,15 +4,15 @@ ghost use Rattle.oa_disk.specs.After.{AfterCalls};
 ghost use Rattle.oa_disk.specs.Disk.{CountsFailures, Only};
 ghost use Rattle.oa_disk.specs.declared.disk.DeviceFault.{DeviceFault};
 ghost use Rattle.oa_model.specs.Limits.{max_library_bytes};
-ghost use Rattle.oa_store.specs.declared.fault.OpenFault.{OpenFault};
+ghost use Rattle.oa_store.specs.declared.fault.FindFault.{FindFault};
 ghost use Rattle.oa_store.specs.Calls.{piece_bytes};
-ghost use Rattle.oa_store.specs.Faults.{ComesOfForeign, ComesOfHead, DeviceTells, HeadSays, IsCaused};
+ghost use Rattle.oa_store.specs.Faults.{of_finding, ComesOfForeign, DeviceTells, HeadSays, IsCaused};
 ghost use Rattle.oa_store.specs.Reads.{WritesNothing};
 ghost use Rattle.oa_journal.specs.Bank.{HasHead};
 ghost use Rattle.oa_journal.specs.Shapes.{body_bytes, disk_bytes, IsShape};
 ghost use Rattle.oa_store.specs.Stores.{store_bytes, body_place, head_place, IsFormatted, IsForeign};
 
-use crate::OpenFault;
+use crate::fault::FindFault;
 use oa_disk::{DeviceFault, Disk};
 use oa_journal::{FORMAT_ONE_BODY_BYTES, FORMAT_ONE_BYTES, Head, Shape, read_head};
 use oa_model::MAX_LIBRARY_BYTES;
@@ -88,36 +88,36 @@ fn read_byte<D: Disk>(disk: &mut D, at: u64) -> Result<u8, DeviceFault>
 
 /// The number of the bank that the selector names, on a disk that is formatted. It begins with a sync, so that what it finds is what a
 /// crash leaves.
-pub(crate) fn find_bank<D: Disk>(disk: &mut D) -> Result<u8, OpenFault>
+pub(crate) fn find_bank<D: Disk>(disk: &mut D) -> Result<u8, FindFault>
     ensures found { IfOk result (λ chosen. IsTrue (D.is_honest disk.new) → IsFormatted chosen (D.contents disk.old)) }
     ensures two { IfOk result (λ chosen. chosen < 2) }
     ensures big { OnOk result (store_bytes ≤ D.size_of disk.old) }
     ensures synced { OnOk result (IsTrue (D.is_honest disk.new) → Only (D.contents disk.old) (D.image disk.new)) }
-    ensures early { IfErr result ComesOfForeign }
-    ensures foreign { IsErrOf result OpenFault.NotAStore → IsTrue (D.is_honest disk.new)
+    ensures early { IfErr result (λ e. ComesOfForeign (of_finding e)) }
+    ensures foreign { IsErrOf result FindFault.NotAStore → IsTrue (D.is_honest disk.new)
         → IsForeign (D.size_of disk.old) (D.contents disk.old) }
     ensures contents { OnOk result (IsTrue (D.is_honest disk.new) → D.contents disk.new ≡ D.contents disk.old) }
     ensures reads { IsTrue (D.is_honest disk.new) → WritesNothing D.image D.moment D.image_since disk.old disk.new }
     ensures after { AfterCalls D.Disk disk.old disk.new result }
-    ensures cause { IfErr result (IsCaused (D.failures_of disk.old) (D.failures_of disk.new)) }
+    ensures cause { IfErr result (λ e. IsCaused (D.failures_of disk.old) (D.failures_of disk.new) (of_finding e)) }
     ensures tells { IfErr result (λ e. IsTrue (D.is_honest disk.new)
-        → DeviceTells (D.contents disk.old) (D.image disk.old) (D.image disk.new) e) }
+        → DeviceTells (D.contents disk.old) (D.image disk.old) (D.image disk.new) (of_finding e)) }
     // at most three calls
     ensures calls { IsTrue (D.is_honest disk.new) → D.moment disk.new ≤ D.moment disk.old + 6 }
 {
     if disk.size() < STORE_BYTES {
-        return Err(OpenFault::NotAStore);
+        return Err(FindFault::NotAStore);
     }
     disk.sync()?;
     if read_byte(disk, 0)? != 1 {
-        return Err(OpenFault::NotAStore);
+        return Err(FindFault::NotAStore);
     }
     let selector = read_byte(disk, SELECTOR)?;
     Ok(selector % 2)
 }
 
 /// The number of the bank that the selector names, and what its head tells.
-pub(crate) fn find_head<D: Disk>(disk: &mut D) -> Result<(u8, Head), OpenFault>
+pub(crate) fn find_head<D: Disk>(disk: &mut D) -> Result<(u8, Head), FindFault>
     ensures found { IfOk result (λ r. IsTrue (D.is_honest disk.new) → IsFormatted r.0 (D.contents disk.old)
         × HasHead r.1.shape (head_place r.0) (D.contents disk.old) r.1.library r.1.snapshot) }
     ensures two { IfOk result (λ r. r.0 < 2) }
@@ -127,14 +127,14 @@ pub(crate) fn find_head<D: Disk>(disk: &mut D) -> Result<(u8, Head), OpenFault>
     ensures synced { OnOk result (IsTrue (D.is_honest disk.new) → Only (D.contents disk.old) (D.image disk.new)) }
     ensures says { IfErr result (λ e. IsTrue (D.is_honest disk.new) → HeadSays (D.size_of disk.old) (D.contents disk.old) e) }
     ensures early { IfErr result (λ e. IsTrue (D.is_honest disk.new) → IsForeign (D.size_of disk.old) (D.contents disk.old)
-        → ComesOfForeign e) }
-    ensures any { IfErr result ComesOfHead }
+        → ComesOfForeign (of_finding e)) }
+    ensures memory { IsErrOf result FindFault.Memory → ⊥ }
     ensures contents { OnOk result (IsTrue (D.is_honest disk.new) → D.contents disk.new ≡ D.contents disk.old) }
     ensures reads { IsTrue (D.is_honest disk.new) → WritesNothing D.image D.moment D.image_since disk.old disk.new }
     ensures after { AfterCalls D.Disk disk.old disk.new result }
-    ensures cause { IfErr result (IsCaused (D.failures_of disk.old) (D.failures_of disk.new)) }
+    ensures cause { IfErr result (λ e. IsCaused (D.failures_of disk.old) (D.failures_of disk.new) (of_finding e)) }
     ensures tells { IfErr result (λ e. IsTrue (D.is_honest disk.new)
-        → DeviceTells (D.contents disk.old) (D.image disk.old) (D.image disk.new) e) }
+        → DeviceTells (D.contents disk.old) (D.image disk.old) (D.image disk.new) (of_finding e)) }
     ensures calls { IsTrue (D.is_honest disk.new) → D.moment disk.new ≤ D.moment disk.old + 8 }
 {
     let chosen = find_bank(disk)?;
@@ -153,8 +153,8 @@ pub(crate) struct Room {
     pub library: Vec<u8>,
 }
 
-/// The same, with the room of a store, which is reserved before the head is looked at.
-pub(crate) fn find_room<D: Disk>(alloc: Global, disk: &mut D) -> Result<Room, OpenFault>
+/// What `find_head` finds, with the room of a store, which is reserved before the head is looked at.
+pub(crate) fn find_room<D: Disk>(alloc: Global, disk: &mut D) -> Result<Room, FindFault>
     ensures found { IfOk result (λ r. IsTrue (D.is_honest disk.new) → IsFormatted r.chosen (D.contents disk.old)
         × HasHead r.head.shape (head_place r.chosen) (D.contents disk.old) r.head.library r.head.snapshot) }
     ensures two { IfOk result (λ r. r.chosen < 2) }
@@ -167,13 +167,13 @@ pub(crate) fn find_room<D: Disk>(alloc: Global, disk: &mut D) -> Result<Room, Op
     ensures synced { OnOk result (IsTrue (D.is_honest disk.new) → Only (D.contents disk.old) (D.image disk.new)) }
     ensures says { IfErr result (λ e. IsTrue (D.is_honest disk.new) → HeadSays (D.size_of disk.old) (D.contents disk.old) e) }
     ensures early { IfErr result (λ e. IsTrue (D.is_honest disk.new) → IsForeign (D.size_of disk.old) (D.contents disk.old)
-        → ComesOfForeign e) }
+        → ComesOfForeign (of_finding e)) }
     ensures contents { OnOk result (IsTrue (D.is_honest disk.new) → D.contents disk.new ≡ D.contents disk.old) }
     ensures reads { IsTrue (D.is_honest disk.new) → WritesNothing D.image D.moment D.image_since disk.old disk.new }
     ensures after { AfterCalls D.Disk disk.old disk.new result }
-    ensures cause { IfErr result (IsCaused (D.failures_of disk.old) (D.failures_of disk.new)) }
+    ensures cause { IfErr result (λ e. IsCaused (D.failures_of disk.old) (D.failures_of disk.new) (of_finding e)) }
     ensures tells { IfErr result (λ e. IsTrue (D.is_honest disk.new)
-        → DeviceTells (D.contents disk.old) (D.image disk.old) (D.image disk.new) e) }
+        → DeviceTells (D.contents disk.old) (D.image disk.old) (D.image disk.new) (of_finding e)) }
     ensures calls { IsTrue (D.is_honest disk.new) → D.moment disk.new ≤ D.moment disk.old + 8 }
 {
     let chosen = find_bank(disk)?;

@@ -1,16 +1,18 @@
 //! Reading a store.
-ghost use Rattle.std.specs.Prelude.{◌≡◌, ◌↔◌, ◌+◌, ◌-◌, ◌<◌, ◌≤◌, true, false, Some, IsTrue, OnOk, IfOk, IfErr};
+ghost use Rattle.std.specs.Prelude.{◌≡◌, ◌↔◌, ◌+◌, ◌-◌, ◌<◌, ◌≤◌, ℕ, true, false, Some, IsTrue, OnOk, IfOk, IfErr, IsErrOf};
 ghost use Rattle.std.specs.Prelude.{length, vec_capacity};
 ghost use Rattle.oa_model.specs.Limits.{max_library_bytes};
 ghost use Rattle.oa_disk.specs.After.{AfterCalls};
+ghost use Rattle.oa_disk.specs.declared.disk.DeviceFault.{DeviceFault};
 ghost use Rattle.oa_image.specs.Tables.{is_numbered};
 ghost use Rattle.oa_table.specs.Tables.{unlocked_table};
 ghost use Rattle.oa_journal.specs.Append.{IsAt};
 ghost use Rattle.oa_journal.specs.Bank.{from_place, IsBank, HasLibrary};
 ghost use Rattle.oa_journal.specs.Damages.{HasNoHeader, IsDamagedBank};
 ghost use Rattle.oa_journal.specs.Shapes.{body_bytes, disk_bytes, IsShape};
+ghost use Rattle.oa_journal.specs.Replies.{IsCaused};
+ghost use Rattle.oa_journal.specs.declared.bank.BankFault.{BankFault};
 ghost use Rattle.oa_store.specs.declared.fault.OpenFault.{OpenFault};
-ghost use Rattle.oa_store.specs.Faults.{ComesOfBanks, IfDamaged, IsCaused};
 ghost use Rattle.oa_store.specs.Openings.{Finds, FindsAny, Refuses, RefusesAny};
 ghost use Rattle.oa_store.specs.Reads.{WritesNothing};
 ghost use Rattle.oa_store.specs.Stores.{body_place, head_place};
@@ -18,7 +20,7 @@ ghost use Rattle.oa_store.specs.Stores.{body_place, head_place};
 use crate::OpenFault;
 use crate::head::{Room, body_place, buffer, find_head, find_room, head_place};
 use oa_disk::Disk;
-use oa_journal::{Bank, Shape};
+use oa_journal::{Bank, BankFault, Shape};
 use oa_table::Table;
 use std::alloc::Global;
 
@@ -39,24 +41,23 @@ fn same(one: &[u8], other: &[u8]) -> bool
 }
 
 /// The library of a bank, from its head and its text alone.
-fn read_library<D: Disk>(alloc: Global, disk: &mut D, bank: &mut Bank) -> Result<Vec<u8>, OpenFault>
+fn read_library<D: Disk>(alloc: Global, disk: &mut D, bank: &mut Bank) -> Result<Vec<u8>, BankFault>
     requires inside { bank.old.head + 32 ≤ D.size_of disk.old }
     requires body_inside { bank.old.body + body_bytes bank.old.shape ≤ D.size_of disk.old }
     ensures found { IfOk result (λ text. IsTrue (D.is_honest disk.new)
         → HasLibrary bank.old.shape (from_place bank.old.head (D.contents disk.old)) (from_place bank.old.body (D.contents disk.old))
         text.items) }
     ensures bank { OnOk result (bank.new ≡ bank.old) }
-    ensures damaged { IfErr result (λ e. IsTrue (D.is_honest disk.new)
-        → IfDamaged e (λ at. (at ≡ bank.old.head) × HasNoHeader bank.old.shape (from_place bank.old.head (D.contents disk.old)))) }
-    ensures late { IfErr result ComesOfBanks }
+    ensures damaged { (at : ℕ) → IsErrOf result (BankFault.Damaged at) → IsTrue (D.is_honest disk.new)
+        → HasNoHeader bank.old.shape (from_place bank.old.head (D.contents disk.old)) }
+    ensures device { (fault : DeviceFault) → IsErrOf result (BankFault.Device fault) → fault ≡ DeviceFault.Read }
     ensures cause { IfErr result (IsCaused (D.failures_of disk.old) (D.failures_of disk.new)) }
     ensures contents { IsTrue (D.is_honest disk.new) → D.contents disk.new ≡ D.contents disk.old }
     ensures reads { IsTrue (D.is_honest disk.new) → WritesNothing D.image D.moment D.image_since disk.old disk.new }
     ensures after { AfterCalls D.Disk disk.old disk.new result }
     ensures calls { IsTrue (D.is_honest disk.new) → D.moment disk.new ≤ D.moment disk.old + 4 }
 {
-    let text = bank.read_library(alloc, disk)?;
-    Ok(text)
+    bank.read_library(alloc, disk)
 }
 
 /// The library of a bank, and its table after its groups.
@@ -65,7 +66,7 @@ fn read_all<D: Disk>(
     disk: &mut D,
     bank: &mut Bank,
     buffer: Vec<u8>,
-) -> Result<(Vec<u8>, Table, Vec<u8>), OpenFault>
+) -> Result<(Vec<u8>, Table, Vec<u8>), BankFault>
     requires some { 5 ≤ length buffer.items }
     requires inside { bank.old.head + 32 ≤ D.size_of disk.old }
     requires body_inside { bank.old.body + body_bytes bank.old.shape ≤ D.size_of disk.old }
@@ -76,9 +77,9 @@ fn read_all<D: Disk>(
     ensures unlocked { IfOk result (λ r. unlocked_table r.1 ≡ r.1) }
     ensures buffer { IfOk result (λ r. length r.2.items ≡ length buffer.items) }
     ensures bank { OnOk result (IsAt bank.old.shape bank.old.head bank.old.body bank.new.gate bank.old.stopped bank.new) }
-    ensures damaged { IfErr result (λ e. IsTrue (D.is_honest disk.new)
-        → IfDamaged e (IsDamagedBank bank.old.shape bank.old.head bank.old.body (D.contents disk.old))) }
-    ensures late { IfErr result ComesOfBanks }
+    ensures damaged { (at : ℕ) → IsErrOf result (BankFault.Damaged at) → IsTrue (D.is_honest disk.new)
+        → IsDamagedBank bank.old.shape bank.old.head bank.old.body (D.contents disk.old) at }
+    ensures device { (fault : DeviceFault) → IsErrOf result (BankFault.Device fault) → fault ≡ DeviceFault.Read }
     ensures cause { IfErr result (IsCaused (D.failures_of disk.old) (D.failures_of disk.new)) }
     ensures contents { IsTrue (D.is_honest disk.new) → D.contents disk.new ≡ D.contents disk.old }
     ensures reads { IsTrue (D.is_honest disk.new) → WritesNothing D.image D.moment D.image_since disk.old disk.new }
@@ -86,8 +87,7 @@ fn read_all<D: Disk>(
     ensures calls { IfOk result (λ r. IsTrue (D.is_honest disk.new)
         → D.moment disk.new + length r.0.items ≤ D.moment disk.old + (8 + bank.new.gate)) }
 {
-    let read = bank.read_all(alloc, disk, buffer)?;
-    Ok(read)
+    bank.read_all(alloc, disk, buffer)
 }
 
 /// The bank of that number in that format.
@@ -148,7 +148,7 @@ pub(crate) fn look<D: Disk>(
     chosen: u8,
     shape: Shape,
     buffer: Vec<u8>,
-) -> Result<(Vec<u8>, Table, Bank, Vec<u8>), OpenFault>
+) -> Result<(Vec<u8>, Table, Bank, Vec<u8>), BankFault>
     requires some { 5 ≤ length buffer.items }
     requires two { chosen < 2 }
     requires known { IsShape shape }
@@ -159,9 +159,9 @@ pub(crate) fn look<D: Disk>(
     ensures numbered { IfOk result (λ r. is_numbered r.1 ≡ true) }
     ensures unlocked { IfOk result (λ r. unlocked_table r.1 ≡ r.1) }
     ensures buffer { IfOk result (λ r. length r.3.items ≡ length buffer.items) }
-    ensures damaged { IfErr result (λ e. IsTrue (D.is_honest disk.new)
-        → IfDamaged e (IsDamagedBank shape (head_place chosen) (body_place shape chosen) (D.contents disk.old))) }
-    ensures late { IfErr result ComesOfBanks }
+    ensures damaged { (at : ℕ) → IsErrOf result (BankFault.Damaged at) → IsTrue (D.is_honest disk.new)
+        → IsDamagedBank shape (head_place chosen) (body_place shape chosen) (D.contents disk.old) at }
+    ensures device { (fault : DeviceFault) → IsErrOf result (BankFault.Device fault) → fault ≡ DeviceFault.Read }
     ensures cause { IfErr result (IsCaused (D.failures_of disk.old) (D.failures_of disk.new)) }
     ensures contents { IsTrue (D.is_honest disk.new) → D.contents disk.new ≡ D.contents disk.old }
     ensures reads { IsTrue (D.is_honest disk.new) → WritesNothing D.image D.moment D.image_since disk.old disk.new }

@@ -10,15 +10,15 @@ ghost use Rattle.oa_journal.specs.declared.shape.Shape.TheVariants.{One, Two};
 ghost use Rattle.oa_store.specs.declared.fault.UpgradeFault.{UpgradeFault};
 ghost use Rattle.oa_store.specs.Calls.{piece_bytes, checkpoint_calls};
 ghost use Rattle.oa_store.specs.Changes.{IsUpgrade};
-ghost use Rattle.oa_store.specs.Faults.{of_opening, IsBrought, IsCausedUpgrade, UpgradeSays, UpgradeDeviceTells};
+ghost use Rattle.oa_store.specs.Faults.{IsBrought, IsCausedUpgrade, UpgradeSays, UpgradeDeviceTells};
 ghost use Rattle.oa_store.specs.Making.{RefusesSmall, RefusesUpgrade};
 ghost use Rattle.oa_store.specs.Reads.{WritesNothing};
 ghost use Rattle.oa_store.specs.Stores.{IsStoreAt};
 
+use crate::UpgradeFault;
 use crate::head::{buffer, find_head};
 use crate::reading::look;
 use crate::switching::switch_to;
-use crate::{OpenFault, UpgradeFault};
 use oa_disk::Disk;
 use oa_image::RESERVED_BYTES;
 use oa_image::laws::images_are_counted;
@@ -35,19 +35,6 @@ struct Old {
     table: Table,
     /// What the new bank is written from.
     buffer: Vec<u8>,
-}
-
-/// A fault of an opening that compares no library, as one of an upgrade.
-fn of_opening(fault: OpenFault) -> UpgradeFault
-    ensures { result ≡ of_opening fault }
-{
-    match fault {
-        OpenFault::NotAStore => UpgradeFault::NotAStore,
-        OpenFault::OldFormat | OpenFault::LibraryDiffers => UpgradeFault::Memory,
-        OpenFault::Damaged(place) => UpgradeFault::Damaged(place),
-        OpenFault::Device(fault) => UpgradeFault::Device(fault),
-        OpenFault::Memory => UpgradeFault::Memory,
-    }
 }
 
 /// The store of format 1 that is on the disk. It writes nothing, and begins with a sync.
@@ -67,25 +54,20 @@ fn find_old<D: Disk>(alloc: Global, disk: &mut D) -> Result<Old, UpgradeFault>
     ensures reads { IsTrue (D.is_honest disk.new) → WritesNothing D.image D.moment D.image_since disk.old disk.new }
     ensures after { AfterCalls D.Disk disk.old disk.new result }
 {
-    let (chosen, head) = match find_head(disk) {
-        Ok(found) => found,
-        Err(fault) => return Err(of_opening(fault)),
-    };
+    let (chosen, head) = find_head(disk)?;
     if let Shape::Two(_) = head.shape {
         return Err(UpgradeFault::AlreadyNew);
     }
     let Ok(buffer) = buffer(alloc) else {
         return Err(UpgradeFault::Memory);
     };
-    match look(alloc, disk, chosen, head.shape, buffer) {
-        Ok((library, table, _, buffer)) => Ok(Old {
-            chosen,
-            library,
-            table,
-            buffer,
-        }),
-        Err(fault) => Err(of_opening(fault)),
-    }
+    let (library, table, _, buffer) = look(alloc, disk, chosen, head.shape, buffer)?;
+    Ok(Old {
+        chosen,
+        library,
+        table,
+        buffer,
+    })
 }
 
 /// Brings a store of format 1 to format 2 with bodies of that size: its library and its table go into the bank that is not in use, and the

@@ -1,6 +1,7 @@
-use Rattle.std.proofs.Common.{rules, ◌≡◌, ◌∙◌, ◌-◌, ℕ, List, length, Some, false, refl, subst, sym, ap, arith}
+use Rattle.std.proofs.Common.{rules, ◌≡◌, ◌∙◌, ◌-◌, ℕ, List, length, Some, Err, false, refl, subst, sym, ap, arith}
 use Rattle.std.proofs.lemmas.Result.{err_from_is_err_and}
 use Rattle.oa_journal.specs.declared.bank.Bank.{Bank}
+use Rattle.oa_journal.specs.declared.bank.BankFault.{BankFault}
 use Rattle.oa_journal.specs.declared.shape.Shape.{Shape}
 use Rattle.oa_journal.specs.declared.shape.Shape.TheVariants.{Two}
 use Rattle.oa_journal.specs.Append.{IsAt}
@@ -8,9 +9,9 @@ use Rattle.oa_journal.specs.Bank.{from_place, IsBank, HasLibrary}
 use Rattle.oa_journal.specs.Damages.{HasNoHeader, IsDamagedBank}
 use Rattle.oa_journal.proofs.Damages.{bank_library, one_library}
 use Rattle.oa_journal.specs.Shapes.{body_bytes}
-use Rattle.oa_store.specs.Faults.{HasWanted, IsDamaged}
+use Rattle.oa_store.specs.Faults.{of_bank, HasWanted, IsCaused}
 use Rattle.oa_store.specs.Stores.{body_place, head_place, IsStoreAt}
-use Rattle.oa_store.proofs.Opened.{carried, of_library, if_damaged, says_first, says_late, spoilt, wanted_in}
+use Rattle.oa_store.proofs.Opened.{bank_caused, carried, of_library, says_first, says_late, spoilt, tells_late, wanted_in}
 use Rattle.oa_store.proofs.reading.find_store.Goals as goal
 
 pub returns-in_err-found-clause-refused : goal.returns-in_err-found-clause-refused
@@ -26,28 +27,39 @@ returns-in_err-found-clause-refused g c =
 pub returns-in_err-text-clause-refused : goal.returns-in_err-text-clause-refused
 returns-in_err-text-clause-refused g c =
     let p = err_from_is_err_and c.from_residual-in_err-text.result c.from_residual-in_err-text.ensures.1 in
+    let fault = c.in_err-text.field-0.0 in
     rw (p.1, p.2) (record {
       early = search rules;
-      cause = search rules;
-      tells = search rules;
+      cause = subst (λ (n : ℕ). IsCaused n (g.D.Disk.failures_of c.read_library.new.disk) (of_bank fault)) c.in_ok-found.ensures.after.unfailed (bank_caused _ _ fault c.in_err-text.ensures.cause);
+      tells = λ h.
+          let h1 = c.read_library.ensures.after.honest h in
+          tells_late (g.D.Disk.contents c.args.disk.now) (g.D.Disk.image c.args.disk.now) (g.D.Disk.image c.read_library.new.disk) fault
+          (λ why is. c.in_err-text.ensures.device why (ap (λ (x : BankFault). Err x) is))
+          (λ image is. c.in_ok-found.ensures.synced h1 image ((c.read_library.ensures.reads h).images image is));
       says = λ h.
           let h1 = c.read_library.ensures.after.honest h in
           let contents = g.D.Disk.contents c.args.disk.now in
           let found = c.in_ok-found.ensures.found h1 in
           let chosen = c.in_ok-found.found.chosen in
           let shape = c.in_ok-found.found.head.shape in
-          says_late (Some c.args.library.now) _ contents c.in_err-text.field-0.0 c.in_err-text.ensures.late (if_damaged c.in_err-text.field-0.0 _ (IsDamaged (Some c.args.library.now) contents) (λ at is.
-          let none = carried (λ s x y. HasNoHeader s x) c.bank_of-bank.result shape (head_place chosen) (body_place shape chosen) (body_bytes shape - 1) false (g.D.Disk.contents c.find_room.new.disk) contents c.bank_of-bank.ensures (c.in_ok-found.ensures.contents h1) is.1 in
-          absurd (none c.in_ok-found.found.head.library c.in_ok-found.found.head.snapshot found.1.has)) (c.in_err-text.ensures.damaged h));
+          says_late (Some c.args.library.now) _ contents fault (λ at is.
+          let none = carried (λ s x y. HasNoHeader s x) c.bank_of-bank.result shape (head_place chosen) (body_place shape chosen) (body_bytes shape - 1) false (g.D.Disk.contents c.find_room.new.disk) contents c.bank_of-bank.ensures (c.in_ok-found.ensures.contents h1) (c.in_err-text.ensures.damaged at (ap (λ (x : BankFault). Err x) is) h) in
+          absurd (none c.in_ok-found.found.head.library c.in_ok-found.found.head.snapshot found.1.has));
     })
 
 pub returns-in_err-table-clause-refused : goal.returns-in_err-table-clause-refused
 returns-in_err-table-clause-refused g c =
     let p = err_from_is_err_and c.from_residual-in_err-table.result c.from_residual-in_err-table.ensures.1 in
+    let fault = c.in_err-table.field-0.0 in
     rw (p.1, p.2) (record {
       early = search rules;
-      cause = search rules;
-      tells = search rules;
+      cause = subst (λ (n : ℕ). IsCaused n (g.D.Disk.failures_of c.read_all.new.disk) (of_bank fault)) (c.in_ok-text.ensures.after.unfailed ∙ c.in_ok-found.ensures.after.unfailed) (bank_caused _ _ fault c.in_err-table.ensures.cause);
+      tells = λ h.
+          let h2 = c.read_all.ensures.after.honest h in
+          let h1 = c.read_library.ensures.after.honest h2 in
+          tells_late (g.D.Disk.contents c.args.disk.now) (g.D.Disk.image c.args.disk.now) (g.D.Disk.image c.read_all.new.disk) fault
+          (λ why is. c.in_err-table.ensures.device why (ap (λ (x : BankFault). Err x) is))
+          (λ image is. c.in_ok-found.ensures.synced h1 image ((c.read_library.ensures.reads h2).images image ((c.read_all.ensures.reads h).images image is)));
       says = λ h.
           let h2 = c.read_all.ensures.after.honest h in
           let h1 = c.read_library.ensures.after.honest h2 in
@@ -65,12 +77,13 @@ returns-in_err-table-clause-refused g c =
           let has = carried (λ s x y. HasLibrary s x y c.in_ok-text.text.items) c.bank_of-bank.result shape head body (body_bytes shape - 1) false (g.D.Disk.contents c.find_room.new.disk) contents at0 first (c.in_ok-text.ensures.found h2) in
           let two : (size : ℕ) × (shape ≡ Two size) = search rules in
           let wanted = wanted_in shape two.0 two.1 (from_place head contents) (from_place body contents) c.args.library.now (subst (λ (l : List ℕ). HasLibrary shape (from_place head contents) (from_place body contents) l) text has) in
-          says_late (Some c.args.library.now) _ contents c.in_err-table.field-0.0 c.in_err-table.ensures.late (if_damaged c.in_err-table.field-0.0 _ (IsDamaged (Some c.args.library.now) contents) (λ at is.
+          says_late (Some c.args.library.now) _ contents fault (λ at e.
+          let is = c.in_err-table.ensures.damaged at (ap (λ (x : BankFault). Err x) e) h in
           let sized = subst (λ (s : Shape). IsDamagedBank s c.read_library.new.bank.head c.read_library.new.bank.body (g.D.Disk.contents c.read_library.new.disk) at) at1.shape_is is in
           let headed = subst (λ (k : ℕ). IsDamagedBank shape k c.read_library.new.bank.body (g.D.Disk.contents c.read_library.new.disk) at) at1.head_is sized in
           let placed = subst (λ (k : ℕ). IsDamagedBank shape head k (g.D.Disk.contents c.read_library.new.disk) at) at1.body_is headed in
           spoilt (HasWanted (Some c.args.library.now)) contents chosen shape c.in_ok-found.found.head.library c.in_ok-found.found.head.snapshot at found.0 found.1 wanted
-          (subst (λ (d : List ℕ). IsDamagedBank shape head body d at) stay placed)) (c.in_err-table.ensures.damaged h));
+          (subst (λ (d : List ℕ). IsDamagedBank shape head body d at) stay placed));
     })
 
 pub returns-clause-found : goal.returns-clause-found

@@ -1,10 +1,11 @@
-use Rattle.std.proofs.Common.{None, List, ℕ, subst, arith, rules}
+use Rattle.std.proofs.Common.{◌≡◌, None, List, ℕ, Err, ap, subst, arith, rules}
 use Rattle.std.proofs.lemmas.Result.{err_from_is_err_and}
 use Rattle.oa_journal.specs.Bank.{from_place, IsBank}
 use Rattle.oa_journal.specs.Damages.{IsDamagedBank}
-use Rattle.oa_store.specs.Faults.{HasWanted, IsDamaged}
+use Rattle.oa_journal.specs.declared.bank.BankFault.{BankFault}
+use Rattle.oa_store.specs.Faults.{of_bank, HasWanted, IsCaused}
 use Rattle.oa_store.specs.Stores.{body_place, head_place}
-use Rattle.oa_store.proofs.Opened.{if_damaged, says_first, says_late, spoilt}
+use Rattle.oa_store.proofs.Opened.{bank_caused, says_first, says_late, spoilt, tells_late}
 use Rattle.oa_store.proofs.reading.inspect.Goals as goal
 
 pub returns-in_err-chosen-clause-refused : goal.returns-in_err-chosen-clause-refused
@@ -22,12 +23,17 @@ returns-in_err-chosen-clause-refused g c =
 pub returns-in_err-library-clause-refused : goal.returns-in_err-library-clause-refused
 returns-in_err-library-clause-refused g c =
     let p = err_from_is_err_and c.from_residual-in_err-library.result c.from_residual-in_err-library.ensures.1 in
+    let fault = c.in_err-library.field-0.0 in
     rw (p.1, p.2) (record {
       early = search rules;
       any_library = search rules;
       any_format = search rules;
-      cause = search rules;
-      tells = search rules;
+      cause = subst (λ (n : ℕ). IsCaused n (g.D.Disk.failures_of c.look.new.disk) (of_bank fault)) c.in_ok-chosen.ensures.after.unfailed (bank_caused _ _ fault c.in_err-library.ensures.cause);
+      tells = λ h.
+          let h1 = c.look.ensures.after.honest h in
+          tells_late (g.D.Disk.contents c.args.disk.now) (g.D.Disk.image c.args.disk.now) (g.D.Disk.image c.look.new.disk) fault
+          (λ why is. c.in_err-library.ensures.device why (ap (λ (x : BankFault). Err x) is))
+          (λ image is. c.in_ok-chosen.ensures.synced h1 image ((c.look.ensures.reads h).images image is));
       says = λ h.
           let size = g.D.Disk.size_of c.args.disk.now in
           let contents = g.D.Disk.contents c.args.disk.now in
@@ -36,9 +42,8 @@ returns-in_err-library-clause-refused g c =
           let stay = c.in_ok-chosen.ensures.contents h1 in
           let chosen = c.in_ok-chosen.chosen in
           let head = c.in_ok-chosen.head in
-          says_late None size contents c.in_err-library.field-0.0 c.in_err-library.ensures.late (if_damaged c.in_err-library.field-0.0 _ (IsDamaged None contents)
-          (λ at is. spoilt (HasWanted None) contents chosen head.shape head.library head.snapshot at found.0 found.1 tt
-          (subst (λ (d : List ℕ). IsDamagedBank head.shape (head_place chosen) (body_place head.shape chosen) d at) stay is)) (c.in_err-library.ensures.damaged h));
+          says_late None size contents fault (λ at is. spoilt (HasWanted None) contents chosen head.shape head.library head.snapshot at found.0 found.1 tt
+          (subst (λ (d : List ℕ). IsDamagedBank head.shape (head_place chosen) (body_place head.shape chosen) d at) stay (c.in_err-library.ensures.damaged at (ap (λ (x : BankFault). Err x) is) h)));
     })
 
 pub returns-clause-found : goal.returns-clause-found

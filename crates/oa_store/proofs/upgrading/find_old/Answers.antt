@@ -1,32 +1,59 @@
-use Rattle.std.proofs.Common.{◌≡◌, ◌⊎◌, sym, subst, List, ℕ}
+use Rattle.std.proofs.Common.{◌≡◌, ℕ, List, Err, ap, subst}
+use Rattle.std.proofs.lemmas.Result.{err_from_is_err_and}
 use Rattle.oa_journal.specs.Bank.{HasHead}
+use Rattle.oa_journal.specs.declared.bank.BankFault.{BankFault}
 use Rattle.oa_journal.specs.declared.shape.Shape.{Shape}
 use Rattle.oa_journal.specs.declared.shape.Shape.TheVariants.{One}
 use Rattle.oa_journal.specs.Damages.{IsDamagedBank}
-use Rattle.oa_store.specs.declared.fault.UpgradeFault.{UpgradeFault}
-use Rattle.oa_store.specs.Faults.{HasOldShape, IsBeheaded, IsSpoilt, UpgradeSays}
+use Rattle.oa_store.specs.declared.fault.FindFault.{FindFault}
+use Rattle.oa_store.specs.Faults.{HasOldShape, IsCausedUpgrade, upgrade_of_bank}
 use Rattle.oa_store.specs.Stores.{body_place, head_place}
-use Rattle.oa_store.proofs.Opened.{if_damaged, spoilt}
-use Rattle.oa_store.proofs.Upgraded.{says_early, says_spoilt}
+use Rattle.oa_store.proofs.Opened.{spoilt}
+use Rattle.oa_store.proofs.Upgraded.{caused_early, caused_late, read_tells, says_early, says_spoilt, tells_early}
 use Rattle.oa_store.proofs.upgrading.find_old.Goals as goal
 
-pub returns-in-Err-clause-says : goal.returns-in-Err-clause-says
-returns-in-Err-clause-says g c h bank =
-    let size = g.D.Disk.size_of c.args.disk.now in
-    let contents = g.D.Disk.contents c.args.disk.now in
-    subst (λ (u : UpgradeFault). UpgradeSays bank size contents u) (sym c.of_opening.ensures) (says_early bank size contents c.in-Err.fault c.in-Err.ensures.any (c.in-Err.ensures.says h))
+pub returns-in_err-chosen-clause-says : goal.returns-in_err-chosen-clause-says
+returns-in_err-chosen-clause-says g c =
+    let p = err_from_is_err_and c.from_residual.result c.from_residual.ensures.1 in
+    rw (p.1, p.2) (λ h bank. says_early bank (g.D.Disk.size_of c.args.disk.now) (g.D.Disk.contents c.args.disk.now) c.in_err-chosen.field-0.0
+    (λ is. c.in_err-chosen.ensures.memory (ap (λ (x : FindFault). Err x) is)) (c.in_err-chosen.ensures.says h))
 
-pub returns-in-Err-look-clause-says : goal.returns-in-Err-look-clause-says
-returns-in-Err-look-clause-says g c h bank =
+pub returns-in_err-chosen-clause-cause : goal.returns-in_err-chosen-clause-cause
+returns-in_err-chosen-clause-cause g c =
+    let p = err_from_is_err_and c.from_residual.result c.from_residual.ensures.1 in
+    rw (p.1, p.2) (caused_early _ _ c.in_err-chosen.field-0.0 c.in_err-chosen.ensures.cause)
+
+pub returns-in_err-chosen-clause-tells : goal.returns-in_err-chosen-clause-tells
+returns-in_err-chosen-clause-tells g c =
+    let p = err_from_is_err_and c.from_residual.result c.from_residual.ensures.1 in
+    rw (p.1, p.2) (λ h. tells_early _ _ _ c.in_err-chosen.field-0.0 (c.in_err-chosen.ensures.tells h))
+
+pub returns-in_err-library-clause-says : goal.returns-in_err-library-clause-says
+returns-in_err-library-clause-says g c =
+    let p = err_from_is_err_and c.from_residual-in_err-library.result c.from_residual-in_err-library.ensures.1 in
+    rw (p.1, p.2) (λ h bank.
     let size = g.D.Disk.size_of c.args.disk.now in
     let contents = g.D.Disk.contents c.args.disk.now in
     let h1 = c.look.ensures.after.honest h in
-    let found = c.in-Ok.ensures.found h1 in
-    let stay = c.in-Ok.ensures.contents h1 in
-    let chosen = c.in-Ok.found.0 in
-    let head = c.in-Ok.found.1 in
+    let found = c.in_ok-chosen.ensures.found h1 in
+    let stay = c.in_ok-chosen.ensures.contents h1 in
+    let chosen = c.in_ok-chosen.chosen in
+    let head = c.in_ok-chosen.head in
     let one : head.shape ≡ One = cc in
-    subst (λ (u : UpgradeFault). UpgradeSays bank size contents u) (sym c.of_opening-in-Err-look.ensures)
-    (says_spoilt bank size contents c.in-Err-look.fault c.in-Err-look.ensures.late (record { chosen = chosen; head = found.0; library = head.library; snapshot = head.snapshot; has = subst (λ (s : Shape). HasHead s (head_place chosen) contents head.library head.snapshot) one found.1 }) (if_damaged c.in-Err-look.fault _ (λ place. IsBeheaded contents place ⊎ IsSpoilt HasOldShape contents place)
+    says_spoilt bank size contents c.in_err-library.field-0.0 (record { chosen = chosen; head = found.0; library = head.library; snapshot = head.snapshot; has = subst (λ (s : Shape). HasHead s (head_place chosen) contents head.library head.snapshot) one found.1 })
     (λ at is. spoilt HasOldShape contents chosen head.shape head.library head.snapshot at found.0 found.1 one
-    (subst (λ (d : List ℕ). IsDamagedBank head.shape (head_place chosen) (body_place head.shape chosen) d at) stay is)) (c.in-Err-look.ensures.damaged h)))
+    (subst (λ (d : List ℕ). IsDamagedBank head.shape (head_place chosen) (body_place head.shape chosen) d at) stay (c.in_err-library.ensures.damaged at (ap (λ (x : BankFault). Err x) is) h))))
+
+pub returns-in_err-library-clause-cause : goal.returns-in_err-library-clause-cause
+returns-in_err-library-clause-cause g c =
+    let p = err_from_is_err_and c.from_residual-in_err-library.result c.from_residual-in_err-library.ensures.1 in
+    let fault = c.in_err-library.field-0.0 in
+    rw (p.1, p.2) (subst (λ (n : ℕ). IsCausedUpgrade n (g.D.Disk.failures_of c.look.new.disk) (upgrade_of_bank fault)) c.in_ok-chosen.ensures.after.unfailed (caused_late _ _ fault c.in_err-library.ensures.cause))
+
+pub returns-in_err-library-clause-tells : goal.returns-in_err-library-clause-tells
+returns-in_err-library-clause-tells g c =
+    let p = err_from_is_err_and c.from_residual-in_err-library.result c.from_residual-in_err-library.ensures.1 in
+    rw (p.1, p.2) (λ h.
+    let h1 = c.look.ensures.after.honest h in
+    read_tells _ _ _ c.in_err-library.field-0.0 (λ why is. c.in_err-library.ensures.device why (ap (λ (x : BankFault). Err x) is))
+    (λ image is. c.in_ok-chosen.ensures.synced h1 image ((c.look.ensures.reads h).images image is)))

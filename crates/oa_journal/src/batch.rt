@@ -52,13 +52,12 @@ pub(crate) fn append_group<D: Disk>(
 pub(crate) fn lay_out<D: Disk>(
     disk: &mut D,
     head: u64,
-    header: &[u8],
+    header: &[u8; 32],
     body: u64,
     buffer: &mut [u8],
     bytes: &mut BodyBytes<'_>,
     size: u32,
 ) -> Result<u64, DeviceFault>
-    requires short { length header.now ≡ 32 }
     requires some { 0 < length buffer.old }
     requires few { length bytes.old ≤ size }
     requires head_inside { head + 32 ≤ D.size_of disk.old }

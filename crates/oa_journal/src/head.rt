@@ -1,5 +1,5 @@
 //! The head of a bank.
-ghost use Rattle.std.specs.Prelude.{◌≡◌, ◌↔◌, ◌+◌, ◌<◌, ◌≤◌, ℕ, IsTrue, length, slice_index, IfOk, IfErr, IsErr, IsErrOf};
+ghost use Rattle.std.specs.Prelude.{◌≡◌, ◌↔◌, ◌+◌, ◌<◌, ◌≤◌, ℕ, IsTrue, None, slice_index, IfOk, IfSome, IfErr, IsErrOf};
 ghost use Rattle.oa_disk.specs.After.{AfterCalls};
 ghost use Rattle.oa_disk.specs.declared.disk.DeviceFault.{DeviceFault};
 ghost use Rattle.oa_journal.specs.BankCalls.{FindsHead, RefusesHead};
@@ -26,10 +26,6 @@ pub struct Head {
     pub snapshot: u32,
 }
 
-/// There is no such part.
-#[derive(Clone, Copy)]
-pub(crate) struct NotThere;
-
 fn same(one: &[u8], other: &[u8]) -> bool
     ensures { IsTrue result ↔ (one.now ≡ other.now) }
 {
@@ -37,40 +33,39 @@ fn same(one: &[u8], other: &[u8]) -> bool
 }
 
 /// The format of that number whose head tells that size.
-fn told_shape(format: u8, size: u32) -> Result<Shape, NotThere>
-    ensures found { IfOk result (λ shape. IsShape shape × (format_of shape ≡ format) × (told_size shape ≡ size)) }
-    ensures none { IsErr result → (shape : AShape) → IsShape shape → format_of shape ≡ format → told_size shape ≡ size → ⊥ }
+fn told_shape(format: u8, size: u32) -> Option<Shape>
+    ensures found { IfSome result (λ shape. IsShape shape × (format_of shape ≡ format) × (told_size shape ≡ size)) }
+    ensures none { result ≡ None → (shape : AShape) → IsShape shape → format_of shape ≡ format → told_size shape ≡ size → ⊥ }
 {
     if format == 1 && size == 0 {
-        return Ok(Shape::One);
+        return Some(Shape::One);
     }
     if format == 2 && size >= LEAST_BANK_BYTES && size <= MOST_BANK_BYTES {
-        return Ok(Shape::Two(size));
+        return Some(Shape::Two(size));
     }
-    Err(NotThere)
+    None
 }
 
-/// What a head of 32 bytes tells.
-pub(crate) fn head_in(bytes: &[u8]) -> Result<Head, NotThere>
-    requires { length bytes.now ≡ 32 }
-    ensures found { IfOk result (λ h. HasHeader h.shape (slice_index bytes.now) h.library h.snapshot) }
-    ensures none { IsErr result → (shape : AShape) → HasNoHeader shape (slice_index bytes.now) }
+/// What a head tells.
+pub(crate) fn head_in(bytes: &[u8; 32]) -> Option<Head>
+    ensures found { IfSome result (λ h. HasHeader h.shape (slice_index bytes.now) h.library h.snapshot) }
+    ensures none { result ≡ None → (shape : AShape) → HasNoHeader shape (slice_index bytes.now) }
 {
     let format = bytes[8];
     let library = u32::from_le_bytes([bytes[12], bytes[13], bytes[14], bytes[15]]);
     let snapshot = u32::from_le_bytes([bytes[16], bytes[17], bytes[18], bytes[19]]);
     let size = u32::from_le_bytes([bytes[20], bytes[21], bytes[22], bytes[23]]);
-    let Ok(shape) = told_shape(format, size) else {
-        return Err(NotThere);
+    let Some(shape) = told_shape(format, size) else {
+        return None;
     };
     let header = head_bytes(format, size, library, snapshot);
     if !same(bytes, &header) {
-        return Err(NotThere);
+        return None;
     }
     if u64::from(library) + u64::from(snapshot) >= u64::from(shape.body_bytes()) {
-        return Err(NotThere);
+        return None;
     }
-    Ok(Head {
+    Some(Head {
         shape,
         library,
         snapshot,
@@ -96,10 +91,10 @@ pub(crate) fn head_at<D: Disk>(disk: &mut D, place: u64) -> Result<Head, BankFau
 {
     let mut bytes = [0; 32];
     disk.read_at(place, &mut bytes)?;
-    match head_in(&bytes) {
-        Ok(head) => Ok(head),
-        Err(NotThere) => Err(BankFault::Damaged(place)),
-    }
+    let Some(head) = head_in(&bytes) else {
+        return Err(BankFault::Damaged(place));
+    };
+    Ok(head)
 }
 
 /// The head of a bank at that place of a disk, in either format. `Damaged` exactly where there is none whose two banks the disk has room

@@ -28,7 +28,7 @@ pieces-preserved g c =
       tears = λ h. let h1 = so_far.honest ∙ h in
           tears_more d.contents d.image d.moment d.image_since c.args.head c.args.body c.args.size c.args.disk.now c.pieces.disk c.write_at-in-pieces.new.self (c.args.body + at) (length piece) (so_far.tears h) (omega arith) fits (c.write_at-in-pieces.ensures.writes h1) (c.write_at-in-pieces.ensures.time h1);
       titled = λ h. let h1 = so_far.honest ∙ h in
-          head_kept c.args.head c.args.body c.args.size (c.args.body + at) (length piece) c.args.header.now (d.contents c.pieces.disk) (d.contents c.write_at-in-pieces.new.self) c.requires.apart c.requires.short (omega arith) fits (c.write_at-in-pieces.ensures.writes h1).others (so_far.titled h);
+          head_kept c.args.head c.args.body c.args.size (c.args.body + at) (length piece) c.args.header.now (d.contents c.pieces.disk) (d.contents c.write_at-in-pieces.new.self) c.requires.apart c.told-header (omega arith) fits (c.write_at-in-pieces.ensures.writes h1).others (so_far.titled h);
       held = λ h. let h1 = so_far.honest ∙ h in
           subst (λ (k : ℕ). HasBytesAt (d.contents c.write_at-in-pieces.new.self) c.args.body (take (at + k) all)) given.1
           (holds_more (d.contents c.pieces.disk) (d.contents c.write_at-in-pieces.new.self) c.args.body at (c.args.body + at) (length piece) all piece so_far.enough (so_far.held h) refl (c.write_at-in-pieces.ensures.writes h1).others (c.in_ok-write_at-2.ensures.written h1) text);
@@ -71,7 +71,7 @@ returns-in_err-write_at-2-clause-others g c h =
 pub returns-in_err-write_at-clause-any_moment : goal.returns-in_err-write_at-clause-any_moment
 returns-in_err-write_at-clause-any_moment g c h =
     let d = g.D.Disk in
-    (tears_head d.contents d.image d.moment d.image_since c.args.head c.args.body c.args.size c.args.disk.now c.write_at.new.self (length c.args.header.now) (λ f left. g.met.D.Disk.only_now c.args.disk.now f h left) c.requires.short (c.write_at.ensures.writes h) (c.write_at.ensures.time h)).run
+    (tears_head d.contents d.image d.moment d.image_since c.args.head c.args.body c.args.size c.args.disk.now c.write_at.new.self (length c.args.header.now) (λ f left. g.met.D.Disk.only_now c.args.disk.now f h left) c.told-header (c.write_at.ensures.writes h) (c.write_at.ensures.time h)).run
 
 pub returns-then-count-eq0-clause-written : goal.returns-then-count-eq0-clause-written
 returns-then-count-eq0-clause-written g c h =

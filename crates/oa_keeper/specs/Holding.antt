@@ -74,7 +74,7 @@ pub record CallsForGroup {D T E : Type 0} {g : Ghosts D} (batch : List ℕ) (old
   pub calls : IsTrue (g.is_honest old.disk) → g.moment new.disk ≤ g.moment old.disk + 8
   pub chosen : new.chosen ≡ old.chosen
 
--- The store stops exactly where a commit fails.
-pub record StopsUncommitted {D T E : Type 0} {g : Ghosts D} (old new : Store D g) (result : Result T E) : Type 0 where
+-- The store stops exactly where the call is refused.
+pub record StopsWhereRefused {D T E : Type 0} {g : Ghosts D} (old new : Store D g) (result : Result T E) : Type 0 where
   pub going : OnOk result (new.stopped ≡ false)
   pub stops : OnErr result ((new.stopped ≡ true) × HasCounted (g.failures_of old.disk) (g.failures_of new.disk))

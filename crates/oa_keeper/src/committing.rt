@@ -2,29 +2,29 @@
 ghost use Rattle.std.specs.Prelude.{◌≡◌, ◌⊎◌, ◌+◌, ◌≤◌, [], length, vec_capacity};
 ghost use Rattle.oa_journal.specs.Append.{group_of};
 ghost use Rattle.oa_journal.specs.Shapes.{ample_bytes, body_bytes};
-ghost use Rattle.oa_keeper.specs.Holding.{CallsForGroup, CanBeKept, Carries, Commits, IsOpenFor, MakesRoom, StopsAtWrite, StopsUncommitted};
+ghost use Rattle.oa_keeper.specs.Holding.{CallsForGroup, CanBeKept, Carries, Commits, IsOpenFor, MakesRoom, StopsWhereRefused};
 ghost use Rattle.oa_store.specs.Writing.{Goes};
 ghost use Rattle.oa_table.specs.Tables.{unlocked_table};
 
-use crate::{Batch, DeviceFailed, KeepFault};
+use crate::{Batch, DeviceFailed};
 use oa_disk::Disk;
 use oa_store::Store;
 use oa_table::Table;
 
 /// Makes room for the events of a group before the first of them: a checkpoint of the table, where one is due. Where events are in hand
-/// nothing is done. The images hold the same table at every moment.
+/// nothing is done. The images hold the same table at every moment. Takes no memory.
 pub fn make_room<D: Disk>(
     store: &mut Store<D>,
     table: &Table,
     batch: &Batch,
-) -> Result<(), KeepFault>
+) -> Result<(), DeviceFailed>
     requires open { IsOpenFor batch.now store.old }
     requires kept { CanBeKept (body_bytes store.old.bank.shape) table.now }
 
     // Whatever table the images hold, which is the one in memory while no event is in hand.
     ensures carries { Carries batch.now (unlocked_table table.now) store.old store.new }
     ensures room { MakesRoom batch.now store.old store.new result }
-    ensures stops { StopsAtWrite store.old store.new result }
+    ensures stops { StopsWhereRefused store.old store.new result }
     ensures goes { Goes store.old store.new }
 {
     if !batch.is_empty() {
@@ -33,7 +33,7 @@ pub fn make_room<D: Disk>(
     if !store.checkpoint_due() {
         return Ok(());
     }
-    store.checkpoint(table).map_err(|_| KeepFault::Write)
+    store.checkpoint(table).map_err(|_| DeviceFailed)
 }
 
 /// Ends a group: its events go out under one gate, with two writes and two syncs. A group without events makes no call of the device.
@@ -45,7 +45,7 @@ pub fn commit<D: Disk>(store: &mut Store<D>, batch: &mut Batch) -> Result<(), De
     ensures commits { Commits batch.old store.old store.new }
     ensures calls { CallsForGroup batch.old store.old store.new result }
     ensures emptied { batch.new ≡ [] }
-    ensures stops { StopsUncommitted store.old store.new result }
+    ensures stops { StopsWhereRefused store.old store.new result }
     ensures goes { Goes store.old store.new }
 {
     commit_bytes(store, &mut batch.bytes)
@@ -61,7 +61,7 @@ fn commit_bytes<D: Disk>(store: &mut Store<D>, bytes: &mut Vec<u8>) -> Result<()
     ensures emptied { bytes.new.items ≡ [] }
     // The batch keeps its room.
     ensures places { vec_capacity bytes.new ≡ vec_capacity bytes.old }
-    ensures stops { StopsUncommitted store.old store.new result }
+    ensures stops { StopsWhereRefused store.old store.new result }
     ensures goes { Goes store.old store.new }
 {
     if bytes.len() <= 5 {

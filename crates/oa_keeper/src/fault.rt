@@ -1,5 +1,6 @@
 //! Why a change was not made, or a group not committed.
 ghost use Rattle.std.specs.Prelude.{◌≡◌};
+ghost use Rattle.oa_keeper.specs.declared.fault.KeepFault.TheVariants.{Memory, Write};
 
 use std::alloc::AllocError;
 use thiserror::Error;
@@ -21,11 +22,17 @@ pub enum KeepFault {
 pub struct DeviceFailed;
 
 impl From<AllocError> for KeepFault {
-    ghost use Rattle.oa_keeper.specs.declared.fault.KeepFault.TheVariants.{Memory};
-
     ghost from_gives = { λ _ e. e ≡ Memory };
 
     fn from(_: AllocError) -> KeepFault {
         KeepFault::Memory
+    }
+}
+
+impl From<DeviceFailed> for KeepFault {
+    ghost from_gives = { λ _ e. e ≡ Write };
+
+    fn from(_: DeviceFailed) -> KeepFault {
+        KeepFault::Write
     }
 }

@@ -21,4 +21,4 @@ pub use formatting::format;
 pub use head::STORE_BYTES;
 pub use reading::inspect;
 pub use store::Store;
-pub use upgrading::upgrade;
+pub use upgrading::{check_upgrade, upgrade};

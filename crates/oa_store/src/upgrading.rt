@@ -3,7 +3,8 @@ ghost use Rattle.std.specs.Prelude.{◌≡◌, ◌+◌, ◌*◌, ◌-◌, ◌<�
 ghost use Rattle.std.specs.Prelude.{IsErrOf, true};
 ghost use Rattle.oa_disk.specs.After.{AfterCalls};
 ghost use Rattle.oa_disk.specs.Disk.{LeavesStep, Only};
-ghost use Rattle.oa_image.specs.Tables.{is_numbered};
+ghost use Rattle.oa_image.specs.Tables.{FitsBank, is_numbered};
+ghost use Rattle.oa_model.specs.Limits.{max_library_bytes};
 ghost use Rattle.oa_table.specs.Tables.{TableValue};
 ghost use Rattle.oa_journal.specs.Shapes.{least_bank_bytes, most_bank_bytes};
 ghost use Rattle.oa_journal.specs.declared.shape.Shape.TheVariants.{One, Two};
@@ -13,7 +14,7 @@ ghost use Rattle.oa_store.specs.Changes.{IsUpgrade};
 ghost use Rattle.oa_store.specs.Faults.{IsBrought, IsCausedUpgrade, UpgradeSays, UpgradeDeviceTells};
 ghost use Rattle.oa_store.specs.Making.{RefusesSmall, RefusesUpgrade};
 ghost use Rattle.oa_store.specs.Reads.{WritesNothing};
-ghost use Rattle.oa_store.specs.Stores.{IsStoreAt};
+ghost use Rattle.oa_store.specs.Stores.{IsStoreAt, IsStoreIn};
 
 use crate::UpgradeFault;
 use crate::head::{buffer, find_head};
@@ -70,6 +71,58 @@ fn find_old<D: Disk>(alloc: Global, disk: &mut D) -> Result<Old, UpgradeFault>
     })
 }
 
+/// The same, where a server takes its library, and a body of that size its table.
+fn find_fitting<D: Disk>(alloc: Global, disk: &mut D, size: u32) -> Result<Old, UpgradeFault>
+    requires { least_bank_bytes ≤ size }
+    ensures found { IfOk result (λ o. IsTrue (D.is_honest disk.new)
+        → (gate : ℕ) × IsStoreAt One o.chosen gate o.library.items o.table (D.contents disk.old)
+        × (D.moment disk.new + length o.library.items ≤ D.moment disk.old + (16 + gate))) }
+    ensures two { IfOk result (λ o. o.chosen < 2) }
+    ensures numbered { IfOk result (λ o. is_numbered o.table ≡ true) }
+    ensures short { IfOk result (λ o. length o.library.items ≤ max_library_bytes) }
+    ensures fits { IfOk result (λ o. FitsBank size o.table) }
+    ensures buffer { IfOk result (λ o. length o.buffer.items ≡ piece_bytes) }
+    ensures synced { OnOk result (IsTrue (D.is_honest disk.new) → Only (D.contents disk.old) (D.image disk.new)) }
+    ensures refused { IfErr result (λ e. RefusesUpgrade D.Disk size disk.old disk.new e) }
+    ensures small { IsErrOf result UpgradeFault.TooSmall → ⊥ }
+    ensures reads { IsTrue (D.is_honest disk.new) → WritesNothing D.image D.moment D.image_since disk.old disk.new }
+    ensures after { AfterCalls D.Disk disk.old disk.new result }
+{
+    let old = find_old(alloc, disk)?;
+    images_are_counted();
+    if old.library.len() > MAX_LIBRARY_BYTES {
+        return Err(UpgradeFault::Damaged(0));
+    }
+    if old.table.image_size() > u64::from(size - RESERVED_BYTES) {
+        return Err(UpgradeFault::Damaged(0));
+    }
+    Ok(old)
+}
+
+/// Whether an upgrade to bodies of that size would bring over what is on the disk, were the disk as large as that takes. Its refusals are
+/// those of `upgrade`, but for `TooSmall`. It writes nothing, and begins with a sync.
+pub fn check_upgrade<D: Disk>(alloc: Global, disk: &mut D, size: u32) -> Result<(), UpgradeFault>
+    requires { least_bank_bytes ≤ size }
+
+    // At `Ok` it is a store of format 1, of a library that a server takes and a table that such a body has room for.
+    ensures found { OnOk result (IsTrue (D.is_honest disk.new) → (library : List ℕ) × (table : TableValue)
+        × IsStoreIn One (D.contents disk.old) library table × (length library ≤ max_library_bytes) × FitsBank size table) }
+    // So it is a store in each image, and that one alone.
+    ensures synced { OnOk result (IsTrue (D.is_honest disk.new) → Only (D.contents disk.old) (D.image disk.new)) }
+    ensures refused { IfErr result (λ e. RefusesUpgrade D.Disk size disk.old disk.new e) }
+    // That the disk has no room for format 2 is no reason.
+    ensures any_size { IsErrOf result UpgradeFault.TooSmall → ⊥ }
+    // at most the calls of a reading, as `inspect` makes them
+    ensures calls { OnOk result (IsTrue (D.is_honest disk.new) → (library : List ℕ) × (table : TableValue) × (chosen : ℕ) × (gate : ℕ)
+        × IsStoreAt One chosen gate library table (D.contents disk.old)
+        × (D.moment disk.new + length library ≤ D.moment disk.old + (16 + gate))) }
+    ensures reads { IsTrue (D.is_honest disk.new) → WritesNothing D.image D.moment D.image_since disk.old disk.new }
+    ensures after { AfterCalls D.Disk disk.old disk.new result }
+{
+    find_fitting(alloc, disk, size)?;
+    Ok(())
+}
+
 /// Brings a store of format 1 to format 2 with bodies of that size: its library and its table go into the bank that is not in use, and the
 /// selector then names it. It begins with a sync.
 ///
@@ -94,14 +147,7 @@ pub fn upgrade<D: Disk>(alloc: Global, disk: &mut D, size: u32) -> Result<(), Up
     if disk.size() < Shape::Two(size).disk_bytes() {
         return Err(UpgradeFault::TooSmall);
     }
-    let old = find_old(alloc, disk)?;
-    images_are_counted();
-    if old.library.len() > MAX_LIBRARY_BYTES {
-        return Err(UpgradeFault::Damaged(0));
-    }
-    if old.table.image_size() > u64::from(size - RESERVED_BYTES) {
-        return Err(UpgradeFault::Damaged(0));
-    }
+    let old = find_fitting(alloc, disk, size)?;
     let Old {
         chosen,
         library,

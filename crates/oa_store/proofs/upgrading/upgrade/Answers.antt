@@ -12,15 +12,15 @@ returns-in_err-map_err-clause-any_moment g c h =
     let chosen = c.in_ok-old.old.chosen in
     let size = c.args.size in
     let old = c.args.disk.now in
-    let mid = c.find_old.new.disk in
+    let mid = c.find_fitting.new.disk in
     let new = c.switch_to.new.disk in
     let first = g.D.Disk.contents old in
     let table = c.in_ok-old.old.table in
     let library = c.in_ok-old.old.library.items in
     let h1 = sym c.switch_to.ensures.after.honest ∙ h in
-    let h0 = c.find_old.ensures.after.honest h1 in
+    let h0 = c.find_fitting.ensures.after.honest h1 in
     let found = c.in_ok-old.ensures.found h1 in
-    let reads = c.find_old.ensures.reads h1 in
+    let reads = c.find_fitting.ensures.reads h1 in
     let P : List ℕ → Type 0 = λ f. (d : List ℕ) × g.D.Disk.image old d × IsUpgrade size d f in
     chained g.D.Disk.moment g.D.Disk.image_since old mid new (g.D.Disk.image old) _ P reads.moments (c.switch_to.ensures.any_moment h1)
     (λ f is. (f, is, λ shape text other store. inl store))
@@ -36,15 +36,15 @@ returns-clause-any_moment g c h =
     let chosen = c.in_ok-old.old.chosen in
     let size = c.args.size in
     let old = c.args.disk.now in
-    let mid = c.find_old.new.disk in
+    let mid = c.find_fitting.new.disk in
     let new = c.switch_to.new.disk in
     let first = g.D.Disk.contents old in
     let table = c.in_ok-old.old.table in
     let library = c.in_ok-old.old.library.items in
     let h1 = sym c.switch_to.ensures.after.honest ∙ h in
-    let h0 = c.find_old.ensures.after.honest h1 in
+    let h0 = c.find_fitting.ensures.after.honest h1 in
     let found = c.in_ok-old.ensures.found h1 in
-    let reads = c.find_old.ensures.reads h1 in
+    let reads = c.find_fitting.ensures.reads h1 in
     let P : List ℕ → Type 0 = λ f. (d : List ℕ) × g.D.Disk.image old d × IsUpgrade size d f in
     chained g.D.Disk.moment g.D.Disk.image_since old mid new (g.D.Disk.image old) _ P reads.moments (c.switch_to.ensures.any_moment h1)
     (λ f is. (f, is, λ shape text other store. inl store))
@@ -60,13 +60,13 @@ returns-clause-done g c h =
     let chosen = c.in_ok-old.old.chosen in
     let size = c.args.size in
     let old = c.args.disk.now in
-    let mid = c.find_old.new.disk in
+    let mid = c.find_fitting.new.disk in
     let new = c.switch_to.new.disk in
     let first = g.D.Disk.contents old in
     let table = c.in_ok-old.old.table in
     let library = c.in_ok-old.old.library.items in
     let h1 = sym c.switch_to.ensures.after.honest ∙ h in
-    let h0 = c.find_old.ensures.after.honest h1 in
+    let h0 = c.find_fitting.ensures.after.honest h1 in
     let found = c.in_ok-old.ensures.found h1 in
     let done = was_done _ _ _ c.switch_to.result (sym c.in_ok-map_err.ensures.variant) c.switch_to.ensures.done h1 in
     record {
@@ -87,12 +87,7 @@ returns-clause-done g c h =
 pub returns-in_err-old-clause-refused : goal.returns-in_err-old-clause-refused
 returns-in_err-old-clause-refused g c =
     let p = err_from_is_err_and c.from_residual.result c.from_residual.ensures.1 in
-    rw (p.1, p.2) (record {
-      says = λ h. c.in_err-old.ensures.says h c.args.size;
-      refused = search rules;
-      cause = search rules;
-      tells = search rules;
-    })
+    rw (p.1, p.2) c.in_err-old.ensures.refused
 
 pub returns-in_err-map_err-clause-refused : goal.returns-in_err-map_err-clause-refused
 returns-in_err-map_err-clause-refused g c =

@@ -93,8 +93,7 @@ class Upgrade(Cases):
         size = 8 + 30 * (24 + 22 + 12 + 524_288)
         self.tell("upgrade: the image of 30 arrays, above 15,728,640 bytes", size == len(store.table_image(*store.read(too_large)[1:3])) == 15_730_388)
         self.upgrades("29 arrays of 65,536 elements", fits, store.upgraded(fits))
-        longer = too_large + bytes(SIZE - len(too_large))
-        self.leaves("upgrade: 30 arrays in banks of 20,971,520 bytes", UPGRADE, 3, b"", fault("damaged at 0"), {"it.store": too_large}, {"it.store": longer})
+        self.refuses("30 arrays in banks of 20,971,520 bytes", too_large, 3, "damaged at 0")
         self.upgrades("30 arrays in larger banks", too_large, store.upgraded(too_large, 25_165_824), "--bank", "25165824")
 
 

@@ -8,7 +8,7 @@ use crate::fault::Fault;
 use crate::store::{open_store_file, store_bytes, unopened, unwritten};
 use oa_disk::{Disk, FileDisk};
 use oa_journal::{LEAST_BANK_BYTES, MOST_BANK_BYTES};
-use oa_store::{OpenFault, Store, inspect};
+use oa_store::check_upgrade;
 use std::alloc::Global;
 use std::fs::{File, OpenFile, OpenOptions};
 use std::io;
@@ -26,8 +26,8 @@ pub fn upgrade_store(rt: &HostRuntime, path: &str, bank: u32) -> Result<FileDisk
     upgraded(rt, path, bank.clamp(LEAST_BANK_BYTES, MOST_BANK_BYTES))
 }
 
-/// The same with banks of a size that they can have. The file is opened anew behind each step, and locked in each: what it is then is
-/// looked at again, since between them another process may have had it.
+/// The same with banks of a size that they can have. What is refused is refused before the file is made longer. It is opened anew behind
+/// each step, and locked in each: what it is then is looked at again, since between them another process may have had it.
 fn upgraded(rt: &HostRuntime, path: &str, bank: u32) -> Result<FileDisk, Fault>
     requires least { least_bank_bytes ≤ bank }
     requires most { bank ≤ most_bank_bytes }
@@ -35,26 +35,11 @@ fn upgraded(rt: &HostRuntime, path: &str, bank: u32) -> Result<FileDisk, Fault>
     ensures refused { IfErr result IsOfUpgrade }
 {
     let alloc = rt.alloc();
-    refuse_others(alloc, open_store_file(rt, alloc, path)?)?;
+    check_upgrade(alloc, &mut open_store_file(rt, alloc, path)?, bank)?;
     lengthen(rt, alloc, path, store_bytes(bank))?;
     let mut disk = open_store_file(rt, alloc, path)?;
     oa_store::upgrade(alloc, &mut disk, bank)?;
     Ok(disk)
-}
-
-/// Refuses what is no whole store of format 1, before its file is made longer. An opening tells the format before it compares the
-/// library, and none is the library of no bytes.
-fn refuse_others(alloc: Global, disk: FileDisk) -> Result<(), Fault>
-    ensures { IfErr result IsOfUpgrade }
-{
-    match Store::open(alloc, disk, &[]) {
-        Err((mut disk, OpenFault::OldFormat)) => {
-            inspect(alloc, &mut disk)?;
-            Ok(())
-        }
-        Ok(_) | Err((_, OpenFault::LibraryDiffers)) => Err(Fault::AlreadyNew),
-        Err((_, fault)) => Err(Fault::from(fault)),
-    }
 }
 
 /// Lengthens a shorter file to so many bytes.

@@ -9,17 +9,11 @@ use crate::fault::Fault;
 use crate::library::{read_library, unread};
 use crate::shown::shown_name;
 use oa_disk::{Disk, FileDisk};
-use oa_journal::{LEAST_BANK_BYTES, MOST_BANK_BYTES};
-use oa_store::STORE_BYTES;
+use oa_journal::{LEAST_BANK_BYTES, MOST_BANK_BYTES, Shape};
 use std::alloc::Global;
 use std::fs::OpenOptions;
 use std::io;
 use std::io::ErrorKind;
-
-/// How many bytes a store takes whose banks have so many.
-pub(crate) fn store_bytes(bank: u32) -> u64 {
-    STORE_BYTES + 2 * u64::from(bank)
-}
 
 /// Makes a file the store of a library, without objects, with banks of so many bytes, and answers it. A file that is not there is made; one
 /// that is there is used in its own length, and what it held is gone. The caller keeps a
@@ -50,7 +44,8 @@ fn made_store(rt: &HostRuntime, path: &str, library: &str, bank: u32) -> Result<
 {
     let alloc = rt.alloc();
     let library = read_library(rt, alloc, library)?;
-    let mut disk = found_or_made(rt, alloc, path, store_bytes(bank))?;
+    let size = Shape::Two(bank).disk_bytes();
+    let mut disk = found_or_made(rt, alloc, path, size)?;
     oa_store::format(alloc, &mut disk, library.text(), bank)?;
     Ok(disk)
 }

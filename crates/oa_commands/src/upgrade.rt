@@ -5,9 +5,9 @@ ghost use Rattle.oa_commands.specs.Stores.{IsUpgraded, bank_near};
 ghost use Rattle.oa_journal.specs.Shapes.{least_bank_bytes, most_bank_bytes};
 
 use crate::fault::Fault;
-use crate::store::{open_store_file, store_bytes, unopened, unwritten};
+use crate::store::{open_store_file, unopened, unwritten};
 use oa_disk::{Disk, FileDisk};
-use oa_journal::{LEAST_BANK_BYTES, MOST_BANK_BYTES};
+use oa_journal::{LEAST_BANK_BYTES, MOST_BANK_BYTES, Shape};
 use oa_store::check_upgrade;
 use std::alloc::Global;
 use std::fs::{File, OpenFile, OpenOptions};
@@ -36,7 +36,7 @@ fn upgraded(rt: &HostRuntime, path: &str, bank: u32) -> Result<FileDisk, Fault>
 {
     let alloc = rt.alloc();
     check_upgrade(alloc, &mut open_store_file(rt, alloc, path)?, bank)?;
-    lengthen(rt, alloc, path, store_bytes(bank))?;
+    lengthen(rt, alloc, path, Shape::Two(bank).disk_bytes())?;
     let mut disk = open_store_file(rt, alloc, path)?;
     oa_store::upgrade(alloc, &mut disk, bank)?;
     Ok(disk)

@@ -19,7 +19,7 @@ use oa_model::MAX_LIBRARY_BYTES;
 use std::alloc::{AllocError, Global};
 
 /// The least size of a disk that has a store.
-pub const STORE_BYTES: u64 = FORMAT_ONE_BYTES;
+pub(crate) const STORE_BYTES: u64 = FORMAT_ONE_BYTES;
 
 /// Where the selector stands.
 pub(crate) const SELECTOR: u64 = 4096;

@@ -18,7 +18,6 @@ mod upgrading;
 
 pub use fault::{CheckpointFault, CommitFault, FormatFault, OpenFault, UpgradeFault};
 pub use formatting::format;
-pub use head::STORE_BYTES;
 pub use reading::inspect;
 pub use store::Store;
 pub use upgrading::{check_upgrade, upgrade};

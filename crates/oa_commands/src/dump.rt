@@ -10,6 +10,7 @@ ghost use Rattle.oa_table.specs.Tables.{TableValue};
 
 use crate::fault::Fault;
 use crate::store::open_store_file;
+use crate::streams::StandardStreams;
 use oa_disk::{Disk, FileDisk};
 use oa_frame::put_hex;
 use oa_image::{write_key, write_value};
@@ -21,10 +22,10 @@ use std::alloc::{AllocError, Global};
 use uuid::Uuid;
 
 /// Writes the objects of a store and their cells, a line each, or the bytes of its library in their place, and hands them on. The file is
-/// let go before the first line, and of one that holds no whole store (a fault of status 3) nothing is written. The caller keeps a
-/// `Streams`, or the file may take the number of a closed standard stream.
+/// let go before the first line, and of one that holds no whole store (a fault of status 3) nothing is written.
 pub fn write_dump<W: Sink>(
     rt: &HostRuntime,
+    streams: &StandardStreams,
     path: &str,
     library: bool,
     writer: &mut W,
@@ -37,16 +38,21 @@ pub fn write_dump<W: Sink>(
     ensures nothing { IfErr result (λ fault. status_of fault ≡ 3 → W.out writer.new ≡ W.out writer.old) }
 {
     let alloc = rt.alloc();
-    let (text, table) = kept(rt, alloc, path)?;
+    let (text, table) = kept(rt, streams, alloc, path)?;
     put_dump(alloc, &text, &table, library, writer)
 }
 
 /// The library and the table that a store keeps.
-fn kept(rt: &HostRuntime, alloc: Global, path: &str) -> Result<(Vec<u8>, Table), Fault>
+fn kept(
+    rt: &HostRuntime,
+    streams: &StandardStreams,
+    alloc: Global,
+    path: &str,
+) -> Result<(Vec<u8>, Table), Fault>
     ensures read { IfOk result (λ r. WasRead ⟦<FileDisk as Disk>⟧ r.0.items r.1) }
     ensures refused { IfErr result IsOfDump }
 {
-    let mut disk = open_store_file(rt, alloc, path)?;
+    let mut disk = open_store_file(rt, streams, alloc, path)?;
     Ok(inspect(alloc, &mut disk)?)
 }
 

@@ -23,6 +23,6 @@ pub use fault::Fault;
 pub use library::{STANDARD_INPUT, read_library};
 pub use place::Place;
 pub use store::{format_store, open_store_file};
-pub use streams::{Streams, tell};
+pub use streams::{StandardStreams, tell};
 pub use text::write_text;
 pub use upgrade::upgrade_store;

@@ -27,19 +27,19 @@ pub fn tell(rt: &HostRuntime, disk: FileDisk, line: &[u8]) -> Result<(), Fault>
 }
 
 /// What takes the place of standard streams that are closed, as long as it is kept. Without it a file that is opened next would take it,
-/// and be read as the requests or written over by the replies. A folder can be neither read nor written, so a closed stream stays one that
-/// fails.
+/// and be read as the requests or written over by the replies: so whatever opens the file of a store asks for one. A folder can be neither
+/// read nor written, so a closed stream stays one that fails.
 #[derive(Drop)]
-pub struct Streams {
+pub struct StandardStreams {
     input: Option<File>,
     output: Option<File>,
     errors: Option<File>,
 }
 
-impl Streams {
-    /// Takes what is free of the first three numbers of files.
-    pub fn new(rt: &HostRuntime) -> Streams {
-        Streams {
+impl StandardStreams {
+    /// Opens the root folder for each standard stream that is closed: it takes what is free of the first three numbers of files.
+    pub fn fill_closed(rt: &HostRuntime) -> StandardStreams {
+        StandardStreams {
             input: File::open(rt, "/").ok(),
             output: File::open(rt, "/").ok(),
             errors: File::open(rt, "/").ok(),

@@ -6,6 +6,7 @@ ghost use Rattle.oa_journal.specs.Shapes.{least_bank_bytes, most_bank_bytes};
 
 use crate::fault::Fault;
 use crate::store::{open_store_file, unopened, unwritten};
+use crate::streams::StandardStreams;
 use oa_disk::{Disk, FileDisk};
 use oa_journal::{LEAST_BANK_BYTES, MOST_BANK_BYTES, Shape};
 use oa_store::check_upgrade;
@@ -18,32 +19,52 @@ use std::os::unix::fs::FileExt;
 const PIECE: usize = 65_536;
 
 /// Brings a store of format 1 to format 2, with banks of so many bytes, and answers its file. One that is too short for it is lengthened.
-/// The caller keeps a `Streams`, or the file may take the number of a closed standard stream.
-pub fn upgrade_store(rt: &HostRuntime, path: &str, bank: u32) -> Result<FileDisk, Fault>
+pub fn upgrade_store(
+    rt: &HostRuntime,
+    streams: &StandardStreams,
+    path: &str,
+    bank: u32,
+) -> Result<FileDisk, Fault>
     ensures upgraded { IfOk result (IsUpgraded ⟦<FileDisk as Disk>⟧ (bank_near bank)) }
     ensures refused { IfErr result IsOfUpgrade }
 {
-    upgraded(rt, path, bank.clamp(LEAST_BANK_BYTES, MOST_BANK_BYTES))
+    upgraded(
+        rt,
+        streams,
+        path,
+        bank.clamp(LEAST_BANK_BYTES, MOST_BANK_BYTES),
+    )
 }
 
 /// The same with banks of a size that they can have. What is refused is refused before the file is made longer. It is opened anew behind
 /// each step, and locked in each: what it is then is looked at again, since between them another process may have had it.
-fn upgraded(rt: &HostRuntime, path: &str, bank: u32) -> Result<FileDisk, Fault>
+fn upgraded(
+    rt: &HostRuntime,
+    streams: &StandardStreams,
+    path: &str,
+    bank: u32,
+) -> Result<FileDisk, Fault>
     requires least { least_bank_bytes ≤ bank }
     requires most { bank ≤ most_bank_bytes }
     ensures upgraded { IfOk result (IsUpgraded ⟦<FileDisk as Disk>⟧ bank) }
     ensures refused { IfErr result IsOfUpgrade }
 {
     let alloc = rt.alloc();
-    check_upgrade(alloc, &mut open_store_file(rt, alloc, path)?, bank)?;
-    lengthen(rt, alloc, path, Shape::Two(bank).disk_bytes())?;
-    let mut disk = open_store_file(rt, alloc, path)?;
+    check_upgrade(alloc, &mut open_store_file(rt, streams, alloc, path)?, bank)?;
+    lengthen(rt, streams, alloc, path, Shape::Two(bank).disk_bytes())?;
+    let mut disk = open_store_file(rt, streams, alloc, path)?;
     oa_store::upgrade(alloc, &mut disk, bank)?;
     Ok(disk)
 }
 
 /// Lengthens a shorter file to so many bytes.
-fn lengthen(rt: &HostRuntime, alloc: Global, path: &str, size: u64) -> Result<(), Fault>
+fn lengthen(
+    rt: &HostRuntime,
+    _streams: &StandardStreams,
+    alloc: Global,
+    path: &str,
+    size: u64,
+) -> Result<(), Fault>
     ensures { IfErr result IsBeforeStores }
 {
     let file = OpenOptions::new()

@@ -12,7 +12,9 @@ mod session;
 
 use clap::ArgMatches;
 use clap::error::ErrorKind;
-use oa_commands::{Fault, Streams, format_store, tell, upgrade_store, write_dump, write_text};
+use oa_commands::{
+    Fault, StandardStreams, format_store, tell, upgrade_store, write_dump, write_text,
+};
 use oa_journal::DEFAULT_BANK_BYTES;
 use oa_stream::{Behind, Outlet};
 use std::alloc::Global;
@@ -105,9 +107,10 @@ fn serves(rt: &HostRuntime, arguments: &ArgMatches) -> Result<(), Fault> {
 }
 
 fn formats(rt: &HostRuntime, arguments: &ArgMatches) -> Result<(), Fault> {
-    let _streams = Streams::new(rt);
+    let streams = StandardStreams::fill_closed(rt);
     let disk = format_store(
         rt,
+        &streams,
         arguments.get_str("STORE").unwrap_or(""),
         arguments.get_str("LIB").unwrap_or(""),
         arguments
@@ -118,9 +121,10 @@ fn formats(rt: &HostRuntime, arguments: &ArgMatches) -> Result<(), Fault> {
 }
 
 fn upgrades(rt: &HostRuntime, arguments: &ArgMatches) -> Result<(), Fault> {
-    let _streams = Streams::new(rt);
+    let streams = StandardStreams::fill_closed(rt);
     let disk = upgrade_store(
         rt,
+        &streams,
         arguments.get_str("STORE").unwrap_or(""),
         arguments
             .get_one::<u32>("bank")
@@ -130,10 +134,11 @@ fn upgrades(rt: &HostRuntime, arguments: &ArgMatches) -> Result<(), Fault> {
 }
 
 fn dumps(rt: &HostRuntime, arguments: &ArgMatches) -> Result<(), Fault> {
-    let _streams = Streams::new(rt);
+    let streams = StandardStreams::fill_closed(rt);
     let mut writer = Behind::new(rt.alloc(), Outlet::new(io::writer(rt)))?;
     write_dump(
         rt,
+        &streams,
         arguments.get_str("STORE").unwrap_or(""),
         arguments.get_flag("library"),
         &mut writer,

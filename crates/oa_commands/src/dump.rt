@@ -1,9 +1,9 @@
 //! The objects of a store as lines of text.
-ghost use Rattle.std.specs.Prelude.{◌≡◌, ℕ, List, false, IfErr, IfOk, OnOk};
+ghost use Rattle.std.specs.Prelude.{◌≡◌, ◌⊎◌, ℕ, List, false, IfErr, IfOk, OnOk};
 ghost use Rattle.std.specs.List.{flat_map};
 ghost use Rattle.std.specs.String.{string_bytes};
 ghost use Rattle.oa_commands.specs.Dumps.{cell_line, cell_place, cell_start, dump, key_digits, next_line, object_line, table_lines, value_digits};
-ghost use Rattle.oa_commands.specs.Statuses.{IsOfDump, IsOfWriting, status_of};
+ghost use Rattle.oa_commands.specs.Statuses.{IsOfDump, IsOfWriting};
 ghost use Rattle.oa_commands.specs.Stores.{WasRead};
 ghost use Rattle.oa_stream.specs.Sink.{IsHandedOn, Writes};
 ghost use Rattle.oa_table.specs.Tables.{TableValue};
@@ -22,7 +22,7 @@ use std::alloc::{AllocError, Global};
 use uuid::Uuid;
 
 /// Writes the objects of a store and their cells, a line each, or the bytes of its library in their place, and hands them on. The file is
-/// let go before the first line, and of one that holds no whole store (a fault of status 3) nothing is written.
+/// let go before the first line, and of one that is not opened or holds no whole store nothing is written.
 pub fn write_dump<W: Sink>(
     rt: &HostRuntime,
     streams: &StandardStreams,
@@ -35,7 +35,8 @@ pub fn write_dump<W: Sink>(
         × Writes (W.out writer.old) (W.out writer.new) (dump library text table)) }
     ensures handed_on { OnOk result (IsHandedOn (W.out writer.new)) }
     ensures refused { IfErr result IsOfDump }
-    ensures nothing { IfErr result (λ fault. status_of fault ≡ 3 → W.out writer.new ≡ W.out writer.old) }
+    // Where it fails the writer is as it was, or the fault is one of making and writing lines.
+    ensures nothing { IfErr result (λ fault. (W.out writer.new ≡ W.out writer.old) ⊎ IsOfWriting fault) }
 {
     let alloc = rt.alloc();
     let (text, table) = kept(rt, streams, alloc, path)?;

@@ -11,7 +11,7 @@ use Rattle.oa_journal.specs.Shapes.{body_bytes}
 use Rattle.oa_store.specs.declared.fault.OpenFault.{OpenFault}
 use Rattle.oa_store.specs.declared.fault.OpenFault.TheVariants.{Damaged, LibraryDiffers}
 use Rattle.oa_store.specs.declared.store.Store.{Store}
-use Rattle.oa_store.specs.Faults.{IsCaused, ComesOfForeign, SpeaksOfContents, RefusalSays}
+use Rattle.oa_store.specs.Faults.{IsCaused, ComesOfForeign, SpeaksOfContents, RefusalSays, DeviceTells}
 use Rattle.oa_store.specs.Reads.{WritesNothing}
 use Rattle.oa_store.specs.Stores.{IsForeign, IsStoreIn}
 use Rattle.oa_table.specs.Tables.{TableValue, unlocked_table}
@@ -91,6 +91,8 @@ pub record IsTold {D : Type 0} (g : Ghosts D) (disk back : D) (library : TreeVal
   pub differs : (state : State) → HoldsOther (g.contents disk) library state → SpeaksOfContents fault → fault ≡ LibraryDiffers
   -- where a stop has left one of two states, nothing else is
   pub late : SpeaksOfContents fault → RefusesOneOf (g.image disk) (g.contents disk) library fault
+  -- Read is told once all that was written is on the device, and Write where the sync at the start failed.
+  pub tells : DeviceTells (g.contents disk) (g.image disk) (g.image back) fault
 
 -- nothing was opened, and the disk is handed back
 pub record IsNotOpened {D : Type 0} (g : Ghosts D) (disk back : D) (library : TreeValue) (fault : OpenFault) : Type 0 where

@@ -67,6 +67,7 @@ returns-else-can_serve-clause-refused g c =
             differs = λ state other r. absurd (differs_unfit contents library bank table there state other);
             late = λ r. refuses_unfit (same_library c.one_tree.ensures (is_read c.marked_is_read.ensures)) library c.is_checked.ensures (g.D.Disk.image disk) contents
                 (g.met.D.Disk.contents_is_image disk honest) bank table there cannot _;
+            tells = tt;
           };
     })
 
@@ -94,5 +95,6 @@ returns-in_err-store-clause-refused g c =
             differs = λ state other r. differs_told contents (g.D.Disk.size_of disk) long library _ says state other r;
             late = λ r. refuses_one (same_library c.one_tree.ensures (is_read c.marked_is_read.ensures)) library c.is_checked.ensures contents (g.D.Disk.size_of disk) long _ r says
                 (λ table store. refused.refused r h table (of_library library text contents c.text_of.ensures.text table store)) (g.D.Disk.image disk) is;
+            tells = refused.tells h;
           };
     })

@@ -78,7 +78,7 @@ fn lengthen(
     fill_up(&file, size).map_err(|error| unwritten(alloc, &error, path))
 }
 
-/// Adds zeros to a file up to that length. Where that fails, it has its length of before.
+/// Adds zeros to a file up to that length. Where that fails, it has its length of before, if that can be set.
 fn fill_up(file: &File, size: u64) -> io::Result<()> {
     let old = file.metadata()?.len();
     if let Err(error) = add_zeros(file, old, size) {

@@ -80,7 +80,7 @@ fn settle<D: Disk>(alloc: Global, host: &Host, store: &mut Store<D>, hand: &mut 
     }
 }
 
-/// Takes one request. Where that ends the group in hand, its replies are to be handed out, those that are in hand then.
+/// Takes one request. True where the group in hand has ended: its replies are to be handed out, those that are in hand then.
 pub(crate) fn take<D: Disk>(
     alloc: Global,
     host: &mut Host,
@@ -127,7 +127,7 @@ pub(crate) fn take<D: Disk>(
     }
 }
 
-/// The same, behind the end of the group before it, which the device may have failed.
+/// Answers one body that asks for another library, behind the end of the group before it, which the device may have failed.
 fn renewed_or_late<D: Disk>(
     alloc: Global,
     host: &mut Host,

@@ -54,7 +54,8 @@ pub fn events_call_for_the_device()
         → (request : ARequest) × Asks body request × (0 < length (change_bytes (outcome state request).event)) }
 {}
 
-/// The same of a run as groups hold it: the requests that were answered with S_OK alone are a run too, with the same replies and events.
+/// A refused request leaves no trace in a run as groups hold it: those that were answered with S_OK alone are a run too, with the same
+/// replies and events.
 pub fn no_trace_of_groups()
     ensures { OthersAreRun requests }
 {}

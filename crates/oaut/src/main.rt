@@ -64,28 +64,28 @@ fn perform(rt: &HostRuntime, matches: &ArgMatches) -> Result<ExitCode, Fault> {
     let Some((name, arguments)) = matches.subcommand() else {
         return Ok(ExitCode::from(2));
     };
-    act(rt, name, arguments)?;
-    Ok(ExitCode::SUCCESS)
+    act(rt, name, arguments)
 }
 
 /// Carries out a command. The words of each are taken in a function of its own, since a proof sees all that one function holds at once.
-fn act(rt: &HostRuntime, name: &str, arguments: &ArgMatches) -> Result<(), Fault> {
+fn act(rt: &HostRuntime, name: &str, arguments: &ArgMatches) -> Result<ExitCode, Fault> {
     if name == "play" {
-        return plays(rt, arguments);
+        plays(rt, arguments)?;
+    } else if name == "serve" {
+        serves(rt, arguments)?;
+    } else if name == "format" {
+        formats(rt, arguments)?;
+    } else if name == "upgrade" {
+        upgrades(rt, arguments)?;
+    } else if name == "dump" {
+        dumps(rt, arguments)?;
+    } else if name == "check" {
+        checks(rt, arguments)?;
+    } else {
+        // The parser of the command line lets no other word through.
+        return Ok(ExitCode::from(2));
     }
-    if name == "serve" {
-        return serves(rt, arguments);
-    }
-    if name == "format" {
-        return formats(rt, arguments);
-    }
-    if name == "upgrade" {
-        return upgrades(rt, arguments);
-    }
-    if name == "dump" {
-        return dumps(rt, arguments);
-    }
-    checks(rt, arguments)
+    Ok(ExitCode::SUCCESS)
 }
 
 fn plays(rt: &HostRuntime, arguments: &ArgMatches) -> Result<(), Fault> {

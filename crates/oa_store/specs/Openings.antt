@@ -5,16 +5,37 @@ use Rattle.oa_disk.specs.Disk.{Only}
 use Rattle.oa_disk.specs.declared.disk.Disk.{Ghosts}
 use Rattle.oa_image.specs.Tables.{is_numbered}
 use Rattle.oa_journal.specs.Append.{IsAt}
-use Rattle.oa_journal.specs.Shapes.{disk_bytes}
+use Rattle.oa_journal.specs.Bank.{HasHead}
+use Rattle.oa_journal.specs.Shapes.{disk_bytes, IsShape}
+use Rattle.oa_journal.specs.declared.head.Head.{Head}
 use Rattle.oa_journal.specs.declared.shape.Shape.TheVariants.{Two}
 use Rattle.oa_store.specs.Calls.{piece_bytes}
+use Rattle.oa_store.specs.declared.fault.FindFault.{FindFault}
 use Rattle.oa_store.specs.declared.fault.OpenFault.{OpenFault}
 use Rattle.oa_store.specs.declared.fault.OpenFault.TheVariants.{LibraryDiffers, OldFormat}
 use Rattle.oa_store.specs.declared.reading.Found.{Found}
 use Rattle.oa_store.specs.declared.store.Store.{Store}
-use Rattle.oa_store.specs.Faults.{IsCaused, ComesOfForeign, SpeaksOfContents, RefusalSays, DeviceTells}
-use Rattle.oa_store.specs.Stores.{body_place, head_place, IsForeign, IsNewStore, IsStore, IsStoreAt}
+use Rattle.oa_store.specs.Faults.{of_finding, IsCaused, ComesOfForeign, SpeaksOfContents, HeadSays, RefusalSays, DeviceTells}
+use Rattle.oa_store.specs.Stores.{body_place, head_place, store_bytes, IsFormatted, IsForeign, IsNewStore, IsStore, IsStoreAt}
 use Rattle.oa_table.specs.Tables.{TableValue, unlocked_table}
+
+-- The bank that the selector of a disk names was found, with its head. Nothing is pending.
+pub record FindsChosen {D : Type 0} (g : Ghosts D) (chosen : ℕ) (head : Head) (old new : D) : Type 0 where
+  pub found : IsTrue (g.is_honest new) → IsFormatted chosen (g.contents old)
+      × HasHead head.shape (head_place chosen) (g.contents old) head.library head.snapshot
+  pub two : chosen < 2
+  pub known : IsShape head.shape
+  pub room : disk_bytes head.shape ≤ g.size_of old
+  pub big : store_bytes ≤ g.size_of old
+  pub synced : IsTrue (g.is_honest new) → Only (g.contents old) (g.image new)
+  pub contents : IsTrue (g.is_honest new) → g.contents new ≡ g.contents old
+
+-- It was not found.
+pub record RefusesChosen {D : Type 0} (g : Ghosts D) (old new : D) (fault : FindFault) : Type 0 where
+  pub says : IsTrue (g.is_honest new) → HeadSays (g.size_of old) (g.contents old) fault
+  pub early : IsTrue (g.is_honest new) → IsForeign (g.size_of old) (g.contents old) → ComesOfForeign (of_finding fault)
+  pub cause : IsCaused (g.failures_of old) (g.failures_of new) (of_finding fault)
+  pub tells : IsTrue (g.is_honest new) → DeviceTells (g.contents old) (g.image old) (g.image new) (of_finding fault)
 
 -- The store of this library that a disk has was found, in format 2. Nothing is pending.
 pub record Finds {D : Type 0} (g : Ghosts D) (library : List ℕ) (old new : D) (f : Found) : Type 0 where

@@ -6,9 +6,9 @@ ghost use Rattle.oa_disk.specs.declared.disk.DeviceFault.{DeviceFault};
 ghost use Rattle.oa_model.specs.Limits.{max_library_bytes};
 ghost use Rattle.oa_store.specs.declared.fault.FindFault.{FindFault};
 ghost use Rattle.oa_store.specs.Calls.{piece_bytes};
-ghost use Rattle.oa_store.specs.Faults.{of_finding, ComesOfForeign, DeviceTells, HeadSays, IsCaused};
+ghost use Rattle.oa_store.specs.Faults.{of_finding, ComesOfForeign, DeviceTells, IsCaused};
+ghost use Rattle.oa_store.specs.Openings.{FindsChosen, RefusesChosen};
 ghost use Rattle.oa_store.specs.Reads.{WritesNothing};
-ghost use Rattle.oa_journal.specs.Bank.{HasHead};
 ghost use Rattle.oa_journal.specs.Shapes.{body_bytes, disk_bytes, IsShape};
 ghost use Rattle.oa_store.specs.Stores.{store_bytes, body_place, head_place, IsFormatted, IsForeign};
 
@@ -118,23 +118,11 @@ pub(crate) fn find_bank<D: Disk>(disk: &mut D) -> Result<u8, FindFault>
 
 /// The number of the bank that the selector names, and what its head tells.
 pub(crate) fn find_head<D: Disk>(disk: &mut D) -> Result<(u8, Head), FindFault>
-    ensures found { IfOk result (λ r. IsTrue (D.is_honest disk.new) → IsFormatted r.0 (D.contents disk.old)
-        × HasHead r.1.shape (head_place r.0) (D.contents disk.old) r.1.library r.1.snapshot) }
-    ensures two { IfOk result (λ r. r.0 < 2) }
-    ensures known { IfOk result (λ r. IsShape r.1.shape) }
-    ensures room { IfOk result (λ r. disk_bytes r.1.shape ≤ D.size_of disk.old) }
-    ensures big { OnOk result (store_bytes ≤ D.size_of disk.old) }
-    ensures synced { OnOk result (IsTrue (D.is_honest disk.new) → Only (D.contents disk.old) (D.image disk.new)) }
-    ensures says { IfErr result (λ e. IsTrue (D.is_honest disk.new) → HeadSays (D.size_of disk.old) (D.contents disk.old) e) }
-    ensures early { IfErr result (λ e. IsTrue (D.is_honest disk.new) → IsForeign (D.size_of disk.old) (D.contents disk.old)
-        → ComesOfForeign (of_finding e)) }
+    ensures found { IfOk result (λ r. FindsChosen D.Disk r.0 r.1 disk.old disk.new) }
+    ensures refused { IfErr result (λ e. RefusesChosen D.Disk disk.old disk.new e) }
     ensures memory { IsErrOf result FindFault.Memory → ⊥ }
-    ensures contents { OnOk result (IsTrue (D.is_honest disk.new) → D.contents disk.new ≡ D.contents disk.old) }
     ensures reads { IsTrue (D.is_honest disk.new) → WritesNothing D.image D.moment D.image_since disk.old disk.new }
     ensures after { AfterCalls D.Disk disk.old disk.new result }
-    ensures cause { IfErr result (λ e. IsCaused (D.failures_of disk.old) (D.failures_of disk.new) (of_finding e)) }
-    ensures tells { IfErr result (λ e. IsTrue (D.is_honest disk.new)
-        → DeviceTells (D.contents disk.old) (D.image disk.old) (D.image disk.new) (of_finding e)) }
     ensures calls { IsTrue (D.is_honest disk.new) → D.moment disk.new ≤ D.moment disk.old + 8 }
 {
     let chosen = find_bank(disk)?;
@@ -155,25 +143,13 @@ pub(crate) struct Room {
 
 /// What `find_head` finds, with the room of a store, which is reserved before the head is looked at.
 pub(crate) fn find_room<D: Disk>(alloc: Global, disk: &mut D) -> Result<Room, FindFault>
-    ensures found { IfOk result (λ r. IsTrue (D.is_honest disk.new) → IsFormatted r.chosen (D.contents disk.old)
-        × HasHead r.head.shape (head_place r.chosen) (D.contents disk.old) r.head.library r.head.snapshot) }
-    ensures two { IfOk result (λ r. r.chosen < 2) }
-    ensures known { IfOk result (λ r. IsShape r.head.shape) }
-    ensures room { IfOk result (λ r. disk_bytes r.head.shape ≤ D.size_of disk.old) }
+    ensures found { IfOk result (λ r. FindsChosen D.Disk r.chosen r.head disk.old disk.new) }
+    ensures refused { IfErr result (λ e. RefusesChosen D.Disk disk.old disk.new e) }
     ensures buffer { IfOk result (λ r. length r.buffer.items ≡ piece_bytes) }
     ensures library { IfOk result (λ r. max_library_bytes ≤ vec_capacity r.library) }
     ensures none { IfOk result (λ r. length r.library.items ≡ 0) }
-    ensures big { OnOk result (store_bytes ≤ D.size_of disk.old) }
-    ensures synced { OnOk result (IsTrue (D.is_honest disk.new) → Only (D.contents disk.old) (D.image disk.new)) }
-    ensures says { IfErr result (λ e. IsTrue (D.is_honest disk.new) → HeadSays (D.size_of disk.old) (D.contents disk.old) e) }
-    ensures early { IfErr result (λ e. IsTrue (D.is_honest disk.new) → IsForeign (D.size_of disk.old) (D.contents disk.old)
-        → ComesOfForeign (of_finding e)) }
-    ensures contents { OnOk result (IsTrue (D.is_honest disk.new) → D.contents disk.new ≡ D.contents disk.old) }
     ensures reads { IsTrue (D.is_honest disk.new) → WritesNothing D.image D.moment D.image_since disk.old disk.new }
     ensures after { AfterCalls D.Disk disk.old disk.new result }
-    ensures cause { IfErr result (λ e. IsCaused (D.failures_of disk.old) (D.failures_of disk.new) (of_finding e)) }
-    ensures tells { IfErr result (λ e. IsTrue (D.is_honest disk.new)
-        → DeviceTells (D.contents disk.old) (D.image disk.old) (D.image disk.new) (of_finding e)) }
     ensures calls { IsTrue (D.is_honest disk.new) → D.moment disk.new ≤ D.moment disk.old + 8 }
 {
     let chosen = find_bank(disk)?;

@@ -12,7 +12,6 @@ ghost use Rattle.oa_journal.specs.Damages.{HasNoHeader, IsDamagedBank};
 ghost use Rattle.oa_journal.specs.Shapes.{body_bytes, disk_bytes, IsShape};
 ghost use Rattle.oa_journal.specs.Replies.{IsCaused};
 ghost use Rattle.oa_journal.specs.declared.bank.BankFault.{BankFault};
-ghost use Rattle.oa_store.specs.declared.fault.OpenFault.{OpenFault};
 ghost use Rattle.oa_store.specs.Openings.{Finds, FindsAny, Refuses, RefusesAny};
 ghost use Rattle.oa_store.specs.Reads.{WritesNothing};
 ghost use Rattle.oa_store.specs.Stores.{body_place, head_place};

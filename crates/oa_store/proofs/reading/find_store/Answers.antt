@@ -18,7 +18,7 @@ pub returns-in_err-found-clause-refused : goal.returns-in_err-found-clause-refus
 returns-in_err-found-clause-refused g c =
     let p = err_from_is_err_and c.from_residual.result c.from_residual.ensures.1 in
     rw (p.1, p.2) (record {
-      says = λ h. says_first (Some c.args.library.now) (g.D.Disk.size_of c.args.disk.now) (g.D.Disk.contents c.args.disk.now) c.in_err-found.field-0.0 (c.in_err-found.ensures.says h);
+      says = λ h. says_first (Some c.args.library.now) (g.D.Disk.size_of c.args.disk.now) (g.D.Disk.contents c.args.disk.now) c.in_err-found.field-0.0 (c.in_err-found.ensures.refused.says h);
       early = search rules;
       cause = search rules;
       tells = search rules;
@@ -35,15 +35,15 @@ returns-in_err-text-clause-refused g c =
           let h1 = c.read_library.ensures.after.honest h in
           tells_late (g.D.Disk.contents c.args.disk.now) (g.D.Disk.image c.args.disk.now) (g.D.Disk.image c.read_library.new.disk) fault
           (λ why is. c.in_err-text.ensures.device why (ap (λ (x : BankFault). Err x) is))
-          (λ image is. c.in_ok-found.ensures.synced h1 image ((c.read_library.ensures.reads h).images image is));
+          (λ image is. c.in_ok-found.ensures.found.synced h1 image ((c.read_library.ensures.reads h).images image is));
       says = λ h.
           let h1 = c.read_library.ensures.after.honest h in
           let contents = g.D.Disk.contents c.args.disk.now in
-          let found = c.in_ok-found.ensures.found h1 in
+          let found = c.in_ok-found.ensures.found.found h1 in
           let chosen = c.in_ok-found.found.chosen in
           let shape = c.in_ok-found.found.head.shape in
           says_late (Some c.args.library.now) _ contents fault (λ at is.
-          let none = carried (λ s x y. HasNoHeader s x) c.bank_of-bank.result shape (head_place chosen) (body_place shape chosen) (body_bytes shape - 1) false (g.D.Disk.contents c.find_room.new.disk) contents c.bank_of-bank.ensures (c.in_ok-found.ensures.contents h1) (c.in_err-text.ensures.damaged at (ap (λ (x : BankFault). Err x) is) h) in
+          let none = carried (λ s x y. HasNoHeader s x) c.bank_of-bank.result shape (head_place chosen) (body_place shape chosen) (body_bytes shape - 1) false (g.D.Disk.contents c.find_room.new.disk) contents c.bank_of-bank.ensures (c.in_ok-found.ensures.found.contents h1) (c.in_err-text.ensures.damaged at (ap (λ (x : BankFault). Err x) is) h) in
           absurd (none c.in_ok-found.found.head.library c.in_ok-found.found.head.snapshot found.1.has));
     })
 
@@ -59,17 +59,17 @@ returns-in_err-table-clause-refused g c =
           let h1 = c.read_library.ensures.after.honest h2 in
           tells_late (g.D.Disk.contents c.args.disk.now) (g.D.Disk.image c.args.disk.now) (g.D.Disk.image c.read_all.new.disk) fault
           (λ why is. c.in_err-table.ensures.device why (ap (λ (x : BankFault). Err x) is))
-          (λ image is. c.in_ok-found.ensures.synced h1 image ((c.read_library.ensures.reads h2).images image ((c.read_all.ensures.reads h).images image is)));
+          (λ image is. c.in_ok-found.ensures.found.synced h1 image ((c.read_library.ensures.reads h2).images image ((c.read_all.ensures.reads h).images image is)));
       says = λ h.
           let h2 = c.read_all.ensures.after.honest h in
           let h1 = c.read_library.ensures.after.honest h2 in
           let contents = g.D.Disk.contents c.args.disk.now in
-          let found = c.in_ok-found.ensures.found h1 in
+          let found = c.in_ok-found.ensures.found.found h1 in
           let chosen = c.in_ok-found.found.chosen in
           let shape = c.in_ok-found.found.head.shape in
           let head = head_place chosen in
           let body = body_place shape chosen in
-          let first = c.in_ok-found.ensures.contents h1 in
+          let first = c.in_ok-found.ensures.found.contents h1 in
           let stay = c.read_library.ensures.contents h2 ∙ first in
           let at0 = c.bank_of-bank.ensures in
           let at1 = subst (λ (b : Bank). IsAt shape head body (body_bytes shape - 1) false b) (sym c.in_ok-text.ensures.bank) at0 in
@@ -92,12 +92,12 @@ returns-clause-found g c = record {
       let h2 = c.read_all.ensures.after.honest h in
       let h1 = c.read_library.ensures.after.honest h2 in
       let contents = g.D.Disk.contents c.args.disk.now in
-      let found = c.in_ok-found.ensures.found h1 in
+      let found = c.in_ok-found.ensures.found.found h1 in
       let chosen = c.in_ok-found.found.chosen in
       let shape = c.in_ok-found.found.head.shape in
       let head = head_place chosen in
       let body = body_place shape chosen in
-      let first = c.in_ok-found.ensures.contents h1 in
+      let first = c.in_ok-found.ensures.found.contents h1 in
       let stay = c.read_library.ensures.contents h2 ∙ first in
       let at0 = c.bank_of-bank.ensures in
       let at1 = subst (λ (b : Bank). IsAt shape head body (body_bytes shape - 1) false b) (sym c.in_ok-text.ensures.bank) at0 in
@@ -128,7 +128,7 @@ returns-clause-found g c = record {
       let shape = c.in_ok-found.found.head.shape in
       let head = head_place chosen in
       let body = body_place shape chosen in
-      let first = c.in_ok-found.ensures.contents h1 in
+      let first = c.in_ok-found.ensures.found.contents h1 in
       let stay = c.read_library.ensures.contents h2 ∙ first in
       let at0 = c.bank_of-bank.ensures in
       let at1 = subst (λ (b : Bank). IsAt shape head body (body_bytes shape - 1) false b) (sym c.in_ok-text.ensures.bank) at0 in

@@ -1,4 +1,4 @@
-use Rattle.std.proofs.Common.{◌≡◌, None, List, ℕ, Err, ap, subst, arith, rules}
+use Rattle.std.proofs.Common.{None, List, ℕ, Err, ap, subst, arith, rules}
 use Rattle.std.proofs.lemmas.Result.{err_from_is_err_and}
 use Rattle.oa_journal.specs.Bank.{from_place, IsBank}
 use Rattle.oa_journal.specs.Damages.{IsDamagedBank}
@@ -12,7 +12,7 @@ pub returns-in_err-chosen-clause-refused : goal.returns-in_err-chosen-clause-ref
 returns-in_err-chosen-clause-refused g c =
     let p = err_from_is_err_and c.from_residual.result c.from_residual.ensures.1 in
     rw (p.1, p.2) (record {
-      says = λ h. says_first None (g.D.Disk.size_of c.args.disk.now) (g.D.Disk.contents c.args.disk.now) c.in_err-chosen.field-0.0 (c.in_err-chosen.ensures.says h);
+      says = λ h. says_first None (g.D.Disk.size_of c.args.disk.now) (g.D.Disk.contents c.args.disk.now) c.in_err-chosen.field-0.0 (c.in_err-chosen.ensures.refused.says h);
       early = search rules;
       any_library = search rules;
       any_format = search rules;
@@ -33,13 +33,13 @@ returns-in_err-library-clause-refused g c =
           let h1 = c.look.ensures.after.honest h in
           tells_late (g.D.Disk.contents c.args.disk.now) (g.D.Disk.image c.args.disk.now) (g.D.Disk.image c.look.new.disk) fault
           (λ why is. c.in_err-library.ensures.device why (ap (λ (x : BankFault). Err x) is))
-          (λ image is. c.in_ok-chosen.ensures.synced h1 image ((c.look.ensures.reads h).images image is));
+          (λ image is. c.in_ok-chosen.ensures.found.synced h1 image ((c.look.ensures.reads h).images image is));
       says = λ h.
           let size = g.D.Disk.size_of c.args.disk.now in
           let contents = g.D.Disk.contents c.args.disk.now in
           let h1 = c.look.ensures.after.honest h in
-          let found = c.in_ok-chosen.ensures.found h1 in
-          let stay = c.in_ok-chosen.ensures.contents h1 in
+          let found = c.in_ok-chosen.ensures.found.found h1 in
+          let stay = c.in_ok-chosen.ensures.found.contents h1 in
           let chosen = c.in_ok-chosen.chosen in
           let head = c.in_ok-chosen.head in
           says_late None size contents fault (λ at is. spoilt (HasWanted None) contents chosen head.shape head.library head.snapshot at found.0 found.1 tt
@@ -54,8 +54,8 @@ returns-clause-found g c = record {
   unlocked = search rules;
   calls = λ h.
       let h1 = c.look.ensures.after.honest h in
-      let found = c.in_ok-chosen.ensures.found h1 in
-      let stay = c.in_ok-chosen.ensures.contents h1 in
+      let found = c.in_ok-chosen.ensures.found.found h1 in
+      let stay = c.in_ok-chosen.ensures.found.contents h1 in
       let chosen = c.in_ok-chosen.chosen in
       let shape = c.in_ok-chosen.head.shape in
       let gate = c.in_ok-library.field-0-2.gate in

@@ -16,17 +16,17 @@ pub returns-in_err-chosen-clause-says : goal.returns-in_err-chosen-clause-says
 returns-in_err-chosen-clause-says g c =
     let p = err_from_is_err_and c.from_residual.result c.from_residual.ensures.1 in
     rw (p.1, p.2) (λ h bank. says_early bank (g.D.Disk.size_of c.args.disk.now) (g.D.Disk.contents c.args.disk.now) c.in_err-chosen.field-0.0
-    (λ is. c.in_err-chosen.ensures.memory (ap (λ (x : FindFault). Err x) is)) (c.in_err-chosen.ensures.says h))
+    (λ is. c.in_err-chosen.ensures.memory (ap (λ (x : FindFault). Err x) is)) (c.in_err-chosen.ensures.refused.says h))
 
 pub returns-in_err-chosen-clause-cause : goal.returns-in_err-chosen-clause-cause
 returns-in_err-chosen-clause-cause g c =
     let p = err_from_is_err_and c.from_residual.result c.from_residual.ensures.1 in
-    rw (p.1, p.2) (caused_early _ _ c.in_err-chosen.field-0.0 c.in_err-chosen.ensures.cause)
+    rw (p.1, p.2) (caused_early _ _ c.in_err-chosen.field-0.0 c.in_err-chosen.ensures.refused.cause)
 
 pub returns-in_err-chosen-clause-tells : goal.returns-in_err-chosen-clause-tells
 returns-in_err-chosen-clause-tells g c =
     let p = err_from_is_err_and c.from_residual.result c.from_residual.ensures.1 in
-    rw (p.1, p.2) (λ h. tells_early _ _ _ c.in_err-chosen.field-0.0 (c.in_err-chosen.ensures.tells h))
+    rw (p.1, p.2) (λ h. tells_early _ _ _ c.in_err-chosen.field-0.0 (c.in_err-chosen.ensures.refused.tells h))
 
 pub returns-in_err-library-clause-says : goal.returns-in_err-library-clause-says
 returns-in_err-library-clause-says g c =
@@ -35,8 +35,8 @@ returns-in_err-library-clause-says g c =
     let size = g.D.Disk.size_of c.args.disk.now in
     let contents = g.D.Disk.contents c.args.disk.now in
     let h1 = c.look.ensures.after.honest h in
-    let found = c.in_ok-chosen.ensures.found h1 in
-    let stay = c.in_ok-chosen.ensures.contents h1 in
+    let found = c.in_ok-chosen.ensures.found.found h1 in
+    let stay = c.in_ok-chosen.ensures.found.contents h1 in
     let chosen = c.in_ok-chosen.chosen in
     let head = c.in_ok-chosen.head in
     let one : head.shape ≡ One = cc in
@@ -56,4 +56,4 @@ returns-in_err-library-clause-tells g c =
     rw (p.1, p.2) (λ h.
     let h1 = c.look.ensures.after.honest h in
     read_tells _ _ _ c.in_err-library.field-0.0 (λ why is. c.in_err-library.ensures.device why (ap (λ (x : BankFault). Err x) is))
-    (λ image is. c.in_ok-chosen.ensures.synced h1 image ((c.look.ensures.reads h).images image is)))
+    (λ image is. c.in_ok-chosen.ensures.found.synced h1 image ((c.look.ensures.reads h).images image is)))

@@ -272,8 +272,8 @@ class PlantedFaults(UnderWine):
                 self.bridge.set(Script=int(finder in ("lost", "types")), Idle=0)
                 dll = windows(f"{room.name}/oautcom.dll").replace("\\", "\\\\")
                 self.bridge.enter("".join(f'[HKEY_CLASSES_ROOT\\CLSID\\{{{it}}}\\InprocServer32]\n@="{dll}"\n\n' for it in (ITEM, HUB)))
-                output = getattr(self, finder)()
-                self.assertTrue(self.bad(output), "it is not found")
+                # (some show only where the connection's end arrives before the next request is sent, which a busy machine may miss)
+                self.assertTrue(any(self.bad(getattr(self, finder)()) for _ in range(3)), "it is not found")
 
 
 def load_tests(loader, tests, pattern):

@@ -50,13 +50,13 @@ class Sessions(Served):
     def test_the_group_in_hand_is_committed(self):
         for group in map(str, GROUPS):
             cut = put(1, 8) + get(2) + b"0"
-            self.serves(f"the group in hand is committed before bad hex ends the session, groups of {group}", cut, 4, wire.reply(1) + got(2, 8), fault("bad hex on line 3"), TWO, store.add(bytearray(TWO), put_of(8)), "--hex", "--group", group)
+            self.serves(f"the open group is committed before bad hex ends the session, groups of {group}", cut, 4, wire.reply(1) + got(2, 8), fault("bad hex on line 3"), TWO, store.add(bytearray(TWO), put_of(8)), "--hex", "--group", group)
             record = struct.pack("<I", len(put(1, 8)) // 2) + bytes.fromhex(put(1, 8).decode())
             answer = bytes.fromhex(wire.reply(1).decode())
             stub = struct.pack("<IIIII", 16, 0, 0x8007_06F7, 0xFFFF_FFFF, 0)
             self.serves(f"records: and before a record that is cut, groups of {group}", record + b"\7", 4, struct.pack("<I", 16) + answer + stub, fault("record cut"), TWO, store.add(bytearray(TWO), put_of(8)), "--group", group)
         with open("/dev/full", "wb") as full:
-            self.serves("the group in hand is committed where nobody takes its replies", put(1, 8), 1, None, fault("write fault"), TWO, store.add(bytearray(TWO), put_of(8)), "--hex", "--group", str(GROUPS[-1]), stdout=full)
+            self.serves("the open group is committed where nobody takes its replies", put(1, 8), 1, None, fault("write fault"), TWO, store.add(bytearray(TWO), put_of(8)), "--hex", "--group", str(GROUPS[-1]), stdout=full)
 
     def test_objects_come_and_go_in_groups(self):
         coming, gone = CREATED_1 + b"\1" + struct.pack("<I", 2) + CLASS, b"\2" + struct.pack("<I", 1)

@@ -1,10 +1,10 @@
--- A request that is a group of its own, with nothing in hand.
+-- A request that is a group of its own, where no group is open.
 use Rattle.std.proofs.Common.{◌≡◌, ◌⊎◌, inl, inr, ℕ, ◌+◌, true, false, IsTrue, List, [], ◌∷◌, ◌++◌}
 use Rattle.std.proofs.Common.{length, map, refl, sym, ◌∙◌, ap, subst, arith, length-append}
 use Rattle.std.proofs.lemmas.List.{append-nil, map-append}
 use Rattle.oa_disk.specs.declared.disk.Disk.{Ghosts}
 use Rattle.oa_store.specs.declared.store.Store.{Store}
-use Rattle.oa_groups.specs.Desks.{Desk, IsAnsweredAlone}
+use Rattle.oa_groups.specs.Groupings.{Grouping, IsAnsweredAlone}
 use Rattle.oa_groups.specs.Faults.{IsWholeBefore}
 use Rattle.oa_groups.specs.Going.{IsCut, Going, Faulted}
 use Rattle.oa_groups.specs.Groups.{events_in, joined}
@@ -16,22 +16,22 @@ use Rattle.oa_groups.proofs.Running.{after_all, after_fewer, after_more, run_mor
 use Rattle.oa_groups.proofs.Stores.{state_held}
 
 module _ {S R : Type 0} (t : Turns S R) where
-  -- nothing is in hand
+  -- no group is open
   abbrev pub Idle : ℕ → List (List (Exchange R)) → List (Exchange R) → Type 0
   Idle size groups held = IsCutBefore t.alone size groups held × (held ≡ [])
 
-  module _ {D : Type 0} {g : Ghosts D} (only : (d : D) (c : List ℕ) → IsTrue (g.is_honest d) → g.image_since d (g.moment d) c → g.image d c) (start : Desk S R D g) where
+  module _ {D : Type 0} {g : Ghosts D} (only : (d : D) (c : List ℕ) → IsTrue (g.is_honest d) → g.image_since d (g.moment d) c → g.image d c) (start : Grouping S R D g) where
     abbrev first : S
     first = start.state
 
     abbrev Begins : Type 0
     Begins = AllHoldState t start.store start.state
 
-    abbrev Moments : Desk S R D g → List (List (Exchange R)) → ℕ → Type 0
+    abbrev Moments : Grouping S R D g → List (List (Exchange R)) → ℕ → Type 0
     Moments now groups count = (moments : List ℕ) × IsRun t g.moment g.image_since start.store.disk now.store.disk first groups count moments
 
-    module _ {old : Desk S R D g} {bodies : List (List ℕ)} {out : List R} (size : ℕ) (was : Going t (Idle size) start old bodies out) where
-      -- so many groups were answered, and nothing is in hand
+    module _ {old : Grouping S R D g} {bodies : List (List ℕ)} {out : List R} (size : ℕ) (was : Going t (Idle size) start old bodies out) where
+      -- so many groups were answered, and no group is open
       idle_run : TurnsOver t first (joined was.groups) old.state
       idle_run = let none = was.cuts.1 in
           subst (λ (s : S). TurnsOver t first (joined was.groups) s) (subst (λ (l : List (Exchange R)). TurnsOver t was.committed l old.state) none was.runs) was.stands
@@ -44,7 +44,7 @@ module _ {S R : Type 0} (t : Turns S R) where
           marked (inl same) = same
           marked (inr called) = absurd (calls_none t was.committed (subst (λ (l : List (Exchange R)). CallsFor t was.committed l) was.cuts.1 called))
 
-      module _ (asked : Exchange R) (told : List R) (new : Desk S R D g) (one : IsAnsweredAlone t asked told old new) where
+      module _ (asked : Exchange R) (told : List R) (new : Grouping S R D g) (one : IsAnsweredAlone t asked told old new) where
         abbrev more : List (List (Exchange R))
         more = was.groups ++ (asked ∷ []) ∷ []
 
@@ -131,8 +131,8 @@ module _ {S R : Type 0} (t : Turns S R) where
           moments = apart_during;
         }
 
-    -- nothing was in hand
-    pub going_idle : (size : ℕ) (old mid : Desk S R D g) (bodies : List (List ℕ)) (out : List R) → old.pending ≡ [] → (mid.pending ≡ []) × (mid.events ≡ []) → mid.store ≡ old.store → mid.state ≡ old.state
+    -- no group was open
+    pub going_idle : (size : ℕ) (old mid : Grouping S R D g) (bodies : List (List ℕ)) (out : List R) → old.pending ≡ [] → (mid.pending ≡ []) × (mid.events ≡ []) → mid.store ≡ old.store → mid.state ≡ old.state
         → Going t (IsCut t.alone size) start old bodies out → Going t (Idle size) start mid bodies out
     going_idle size old mid bodies out none idle store state was =
         let empty : was.held ≡ [] = no_entry was.held (sym was.pending_are ∙ none) in

@@ -3,7 +3,7 @@ use Rattle.std.proofs.Common.{◌≡◌, ◌⊎◌, inl, inr, ℕ, true, false, 
 use Rattle.std.proofs.lemmas.List.{append-nil}
 use Rattle.oa_disk.specs.declared.disk.Disk.{Ghosts}
 use Rattle.oa_store.specs.declared.store.Store.{Store}
-use Rattle.oa_groups.specs.Desks.{Desk, IsEnded}
+use Rattle.oa_groups.specs.Groupings.{Grouping, IsEnded}
 use Rattle.oa_groups.specs.Faults.{IsFaultIn, IsWholeBefore}
 use Rattle.oa_groups.specs.Going.{Faulted, Going, IsCut, IsNextGroup, Underway}
 use Rattle.oa_groups.specs.Groups.{groups_of, joined, rest_of}
@@ -14,7 +14,7 @@ use Rattle.oa_groups.specs.Turns.{Exchange, Turns, body_of, reply_of}
 use Rattle.oa_groups.proofs.Called.{calls_none}
 use Rattle.oa_groups.proofs.Entries.{IsEnd, cut_last, either, ends_after, group_ends, joined_push, no_entry, run_append, some_entry}
 use Rattle.oa_groups.proofs.Faulted.{faulted_as}
-use Rattle.oa_groups.proofs.InHand.{going_as, going_breaks, going_ends}
+use Rattle.oa_groups.proofs.InOpenGroup.{going_as, going_breaks, going_ends}
 use Rattle.oa_groups.proofs.Stores.{goes_on}
 
 no_group : {X : Type 0} (x : X) → [] ≡ x ∷ [] → ⊥
@@ -24,12 +24,12 @@ one_group : {X : Type 0} (x y : X) → x ∷ [] ≡ y ∷ [] → x ≡ y
 one_group x y e = cc
 
 module _ {S R : Type 0} (t : Turns S R) where
-  module _ {D : Type 0} {g : Ghosts D} (only : (d : D) (c : List ℕ) → IsTrue (g.is_honest d) → g.image_since d (g.moment d) c → g.image d c) (start : Desk S R D g) where
+  module _ {D : Type 0} {g : Ghosts D} (only : (d : D) (c : List ℕ) → IsTrue (g.is_honest d) → g.image_since d (g.moment d) c → g.image d c) (start : Grouping S R D g) where
     abbrev first : S
     first = start.state
 
     -- all was answered
-    served_all : (size : ℕ) (now : Desk S R D g) (bodies : List (List ℕ)) (out : List R) → now.pending ≡ [] → now.store.stopped ≡ false → Goes start.store now.store → Going t (IsEnd t.alone size) start now bodies out
+    served_all : (size : ℕ) (now : Grouping S R D g) (bodies : List (List ℕ)) (out : List R) → now.pending ≡ [] → now.store.stopped ≡ false → Goes start.store now.store → Going t (IsEnd t.alone size) start now bodies out
         → IsServed t size start.store now.store first now.state bodies out
     served_all size now bodies out none going goes was =
         let empty : was.held ≡ [] = no_entry was.held (sym was.pending_are ∙ none) in
@@ -64,7 +64,7 @@ module _ {S R : Type 0} (t : Turns S R) where
             (subst (λ (d : D). InTurn t start.store.disk first was.groups d now.state) (sym same) (subst (λ (s : S). InTurn t start.store.disk first was.groups was.mark s) at_last was.in_turn))
 
     -- or up to a fault
-    served_part : (size : ℕ) (now : Desk S R D g) (bodies : List (List ℕ)) (out : List R) → now.store.stopped ≡ true → Goes start.store now.store → Faulted t size (λ state group others. (others ≡ []) ⊎ IsWholeBefore t size state group others) start now bodies out
+    served_part : (size : ℕ) (now : Grouping S R D g) (bodies : List (List ℕ)) (out : List R) → now.store.stopped ≡ true → Goes start.store now.store → Faulted t size (λ state group others. (others ≡ []) ⊎ IsWholeBefore t size state group others) start now bodies out
         → IsServed t size start.store now.store first now.state bodies out
     served_part size now bodies out stopped goes was =
         let whole : joined (was.groups ++ was.group ∷ []) ≡ joined was.groups ++ was.group = joined_push was.groups was.group in
@@ -88,11 +88,11 @@ module _ {S R : Type 0} (t : Turns S R) where
           goes = goes;
         }
 
-    abbrev Ends : ℕ → Desk S R D g → List (List ℕ) → List R → Type 0
+    abbrev Ends : ℕ → Grouping S R D g → List (List ℕ) → List R → Type 0
     Ends size now bodies out = IsServed t size start.store now.store first now.state bodies out
 
-    -- whatever is in hand, and nothing more comes
-    stopped_or_not : (size : ℕ) (now : Desk S R D g) (bodies : List (List ℕ)) (out : List R) → now.pending ≡ [] → Underway t size start now bodies out → Ends size now bodies out
+    -- whatever the open group holds, and nothing more comes
+    stopped_or_not : (size : ℕ) (now : Grouping S R D g) (bodies : List (List ℕ)) (out : List R) → now.pending ≡ [] → Underway t size start now bodies out → Ends size now bodies out
     stopped_or_not size now bodies out none so_far = by (either now.store.stopped)
       where
         by : (now.store.stopped ≡ false) ⊎ (now.store.stopped ≡ true) → Ends size now bodies out
@@ -103,7 +103,7 @@ module _ {S R : Type 0} (t : Turns S R) where
         by (inr stopped) = served_part size now bodies out stopped so_far.goes (faulted_as t only start size (IsWholeBefore t size) (λ state group others. (others ≡ []) ⊎ IsWholeBefore t size state group others) (λ state group others is. inr is) now now bodies out out refl refl refl (so_far.broken stopped))
 
     -- the input has ended
-    pub underway_ended : (size : ℕ) (old new : Desk S R D g) (bodies : List (List ℕ)) (out told : List R) → Underway t size start old bodies out → IsEnded t told old new → Ends size new bodies (out ++ told)
+    pub underway_ended : (size : ℕ) (old new : Grouping S R D g) (bodies : List (List ℕ)) (out told : List R) → Underway t size start old bodies out → IsEnded t told old new → Ends size new bodies (out ++ told)
     underway_ended size old new bodies out told so_far (inl idle) =
         subst (λ (l : List R). IsServed t size start.store new.store first new.state bodies l) (sym (ap (λ (l : List R). out ++ l) idle.nothing ∙ append-nil out))
         (subst (λ (s : S). IsServed t size start.store new.store first s bodies out) (sym idle.state)

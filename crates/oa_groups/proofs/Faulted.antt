@@ -3,7 +3,7 @@ use Rattle.std.proofs.Common.{◌≡◌, inl, inr, ℕ, IsTrue, List, [], ◌∷
 use Rattle.std.proofs.Common.{length, map, sym, ◌∙◌, ap, subst, append_assoc}
 use Rattle.std.proofs.lemmas.List.{map-append}
 use Rattle.oa_disk.specs.declared.disk.Disk.{Ghosts}
-use Rattle.oa_groups.specs.Desks.{Desk, IsAfterFault}
+use Rattle.oa_groups.specs.Groupings.{Grouping, IsAfterFault}
 use Rattle.oa_groups.specs.Faults.{IsWholeBefore}
 use Rattle.oa_groups.specs.Going.{Faulted}
 use Rattle.oa_groups.specs.Groups.{joined}
@@ -17,26 +17,26 @@ module _ {S R : Type 0} (t : Turns S R) where
   still_whole size body state group (next ∷ others) (inr begins) = inr begins
   still_whole size body state group [] (inr begins) = absurd begins
 
-  module _ {D : Type 0} {g : Ghosts D} (only : (d : D) (c : List ℕ) → IsTrue (g.is_honest d) → g.image_since d (g.moment d) c → g.image d c) (start : Desk S R D g) where
+  module _ {D : Type 0} {g : Ghosts D} (only : (d : D) (c : List ℕ) → IsTrue (g.is_honest d) → g.image_since d (g.moment d) c → g.image d c) (start : Grouping S R D g) where
     abbrev first : S
     first = start.state
 
     abbrev Begins : Type 0
     Begins = AllHoldState t start.store start.state
 
-    abbrev Moments : Desk S R D g → List (List (Exchange R)) → ℕ → Type 0
+    abbrev Moments : Grouping S R D g → List (List (Exchange R)) → ℕ → Type 0
     Moments now groups count = (moments : List ℕ) × IsRun t g.moment g.image_since start.store.disk now.store.disk first groups count moments
 
     -- after the fault
-    over_moments : (old new : Desk S R D g) (groups : List (List (Exchange R))) (count : ℕ) → new.store.disk ≡ old.store.disk → (Begins → Moments old groups count) → Begins → Moments new groups count
+    over_moments : (old new : Grouping S R D g) (groups : List (List (Exchange R))) (count : ℕ) → new.store.disk ≡ old.store.disk → (Begins → Moments old groups count) → Begins → Moments new groups count
     over_moments old new groups count same moments begins =
         let before = moments begins in (before.0, subst (λ (d : D). IsRun t g.moment g.image_since start.store.disk d first groups count before.0) (sym same) before.1)
 
-    turn_as : (old new : Desk S R D g) (groups : List (List (Exchange R))) → new.store.disk ≡ old.store.disk → new.state ≡ old.state → InTurn t start.store.disk first groups old.store.disk old.state → InTurn t start.store.disk first groups new.store.disk new.state
+    turn_as : (old new : Grouping S R D g) (groups : List (List (Exchange R))) → new.store.disk ≡ old.store.disk → new.state ≡ old.state → InTurn t start.store.disk first groups old.store.disk old.state → InTurn t start.store.disk first groups new.store.disk new.state
     turn_as old new groups disk state was =
         subst (λ (d : D). InTurn t start.store.disk first groups d new.state) (sym disk) (subst (λ (s : S). InTurn t start.store.disk first groups old.store.disk s) (sym state) was)
 
-    pub faulted_as : (size : ℕ) (W W' : S → List (Exchange R) → List (List ℕ) → Type 0) → ((state : S) (group : List (Exchange R)) (others : List (List ℕ)) → W state group others → W' state group others) → (old new : Desk S R D g) (bodies : List (List ℕ)) (replies more : List R) → more ≡ replies → new.store.disk ≡ old.store.disk → new.state ≡ old.state
+    pub faulted_as : (size : ℕ) (W W' : S → List (Exchange R) → List (List ℕ) → Type 0) → ((state : S) (group : List (Exchange R)) (others : List (List ℕ)) → W state group others → W' state group others) → (old new : Grouping S R D g) (bodies : List (List ℕ)) (replies more : List R) → more ≡ replies → new.store.disk ≡ old.store.disk → new.state ≡ old.state
         → Faulted t size W start old bodies replies → Faulted t size W' start new bodies more
     faulted_as size W W' weaker old new bodies replies more told disk state was = record {
       groups = was.groups;
@@ -54,7 +54,7 @@ module _ {S R : Type 0} (t : Turns S R) where
       moments = over_moments old new (was.groups ++ was.group ∷ []) (length was.groups) disk was.moments;
     }
 
-    pub faulted_more : (size : ℕ) (old new : Desk S R D g) (bodies : List (List ℕ)) (replies : List R) (body : List ℕ) → IsAfterFault old new → (W : S → List (Exchange R) → List (List ℕ) → Type 0)
+    pub faulted_more : (size : ℕ) (old new : Grouping S R D g) (bodies : List (List ℕ)) (replies : List R) (body : List ℕ) → IsAfterFault old new → (W : S → List (Exchange R) → List (List ℕ) → Type 0)
         → ((state : S) (group : List (Exchange R)) (others : List (List ℕ)) → W state group others → IsWholeBefore t size state group (others ++ body ∷ [])) → Faulted t size W start old bodies replies
         → Faulted t size (IsWholeBefore t size) start new (bodies ++ body ∷ []) (replies ++ t.failed body ∷ [])
     faulted_more size old new bodies replies body over W then was = record {

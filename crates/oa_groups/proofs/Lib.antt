@@ -8,6 +8,6 @@ pub mod Ends
 pub mod Histories
 -- what this crate alone does
 mod Running
-mod InHand
+mod InOpenGroup
 mod Faulted
 mod Alone

@@ -4,7 +4,7 @@ use Rattle.std.proofs.Common.{length, refl, sym, ◌∙◌, ap, subst, append_as
 use Rattle.std.proofs.lemmas.List.{append-nil}
 use Rattle.oa_disk.specs.declared.disk.Disk.{Ghosts}
 use Rattle.oa_store.specs.declared.store.Store.{Store}
-use Rattle.oa_groups.specs.Desks.{Desk, IsApart, IsFlushed, IsAnsweredAlone, IsTaken}
+use Rattle.oa_groups.specs.Groupings.{Grouping, IsApart, IsFlushed, IsAnsweredAlone, IsTaken}
 use Rattle.oa_groups.specs.Faults.{IsWholeBefore}
 use Rattle.oa_groups.specs.Going.{IsCut, Going, Faulted, Underway}
 use Rattle.oa_groups.specs.Groups.{BeginsAlone, is_full}
@@ -14,10 +14,10 @@ use Rattle.oa_groups.proofs.Entries.{cut_before, cut_ends, cut_flushed, cut_hold
 use Rattle.oa_groups.proofs.Stores.{goes_nowhere, goes_on}
 use Rattle.oa_groups.proofs.Alone.{Idle, breaks_apart, going_apart, going_idle}
 use Rattle.oa_groups.proofs.Faulted.{faulted_more, still_whole}
-use Rattle.oa_groups.proofs.InHand.{fills_as, going_breaks, going_ends, going_fails, going_held, going_start}
+use Rattle.oa_groups.proofs.InOpenGroup.{fills_as, going_breaks, going_ends, going_fails, going_held, going_start}
 
 module _ {S R : Type 0} (t : Turns S R) where
-  module _ {D : Type 0} {g : Ghosts D} (only : (d : D) (c : List ℕ) → IsTrue (g.is_honest d) → g.image_since d (g.moment d) c → g.image d c) (start : Desk S R D g) where
+  module _ {D : Type 0} {g : Ghosts D} (only : (d : D) (c : List ℕ) → IsTrue (g.is_honest d) → g.image_since d (g.moment d) c → g.image d c) (start : Grouping S R D g) where
     pub underway_start : (size : ℕ) → start.store.stopped ≡ false → start.pending ≡ [] → start.events ≡ [] → Underway t size start start [] []
     underway_start size going none empty = record {
       going = λ is. going_start t only start size none empty;
@@ -26,7 +26,7 @@ module _ {S R : Type 0} (t : Turns S R) where
     }
 
     -- a request that is a group of its own, behind those that were answered
-    underway_then : (size : ℕ) (mid new : Desk S R D g) (bodies : List (List ℕ)) (body : List ℕ) (sent told : List R) → Going t (Idle t size) start mid bodies sent → Goes start.store mid.store
+    underway_then : (size : ℕ) (mid new : Grouping S R D g) (bodies : List (List ℕ)) (body : List ℕ) (sent told : List R) → Going t (Idle t size) start mid bodies sent → Goes start.store mid.store
         → ((reply : R) × IsAnsweredAlone t (exchange body reply []) told mid new) → Underway t size start new (bodies ++ body ∷ []) (sent ++ told)
     underway_then size mid new bodies body sent told here goes due = record {
       going = λ is. going_apart t only start size here (exchange body due.0 []) told new due.1 is;
@@ -34,8 +34,8 @@ module _ {S R : Type 0} (t : Turns S R) where
       goes = goes_on start.store mid.store new.store goes due.1.goes;
     }
 
-    -- the group in hand ends before it
-    underway_apart : (size : ℕ) (old new : Desk S R D g) (bodies : List (List ℕ)) (out : List R) (body : List ℕ) (told : List R) → Underway t size start old bodies out → IsApart t body told old new
+    -- the open group ends before it
+    underway_apart : (size : ℕ) (old new : Grouping S R D g) (bodies : List (List ℕ)) (out : List R) (body : List ℕ) (told : List R) → Underway t size start old bodies out → IsApart t body told old new
         → Underway t size start new (bodies ++ body ∷ []) (out ++ told)
     underway_apart size old new bodies out body told so_far apart =
         subst (λ (l : List R). Underway t size start new (bodies ++ body ∷ []) l) (append_assoc out apart.before apart.after ∙ ap (λ (l : List R). out ++ l) (sym apart.told_are)) (by apart.flushed)
@@ -73,7 +73,7 @@ module _ {S R : Type 0} (t : Turns S R) where
                 }
 
     -- one request more
-    pub underway_taken : (size : ℕ) (old new : Desk S R D g) (bodies : List (List ℕ)) (out : List R) (body : List ℕ) (told : List R) → Underway t size start old bodies out → IsTaken t size body told old new
+    pub underway_taken : (size : ℕ) (old new : Grouping S R D g) (bodies : List (List ℕ)) (out : List R) (body : List ℕ) (told : List R) → Underway t size start old bodies out → IsTaken t size body told old new
         → Underway t size start new (bodies ++ body ∷ []) (out ++ told)
     underway_taken size old new bodies out body told so_far (inl kept) =
         let was = so_far.going kept.was in

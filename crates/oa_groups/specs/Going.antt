@@ -1,7 +1,7 @@
 -- What stands while requests are taken. (This project's choice.)
 use Rattle.std.specs.Prelude.{◌≡◌, ◌⊎◌, ℕ, Bool, true, false, List, [], ◌∷◌, ◌++◌, length, map}
 use Rattle.oa_disk.specs.declared.disk.Disk.{Ghosts}
-use Rattle.oa_groups.specs.Desks.{Desk}
+use Rattle.oa_groups.specs.Groupings.{Grouping}
 use Rattle.oa_groups.specs.Faults.{IsWholeBefore}
 use Rattle.oa_groups.specs.Groups.{cut, events_in, groups_of, joined}
 use Rattle.oa_groups.specs.Runs.{AllHoldState, CallsFor, HasMoments, InTurn, TurnsOver}
@@ -13,13 +13,13 @@ abbrev pub IsCut : {R : Type 0} → (List ℕ → Bool) → ℕ → List (List (
 IsCut {R} alone size groups held =
     (later : List (Exchange R)) → groups_of alone size (joined groups ++ (held ++ later)) ≡ groups ++ cut alone size held later
 
--- The requests in hand are a group.
+-- The requests of the open group are a group.
 abbrev pub IsNextGroup : {R : Type 0} → (List ℕ → Bool) → ℕ → List (List (Exchange R)) → List (Exchange R) → Type 0
 IsNextGroup alone size groups held = groups_of alone size (joined groups ++ held) ≡ groups ++ held ∷ []
 
--- Some whole groups were answered, and the requests in hand are held. C says how the requests are cut.
+-- Some whole groups were answered, and the requests of the open group are held. C says how the requests are cut.
 pub record Going {S R D : Type 0} {g : Ghosts D} (t : Turns S R) (C : List (List (Exchange R)) → List (Exchange R) → Type 0)
-    (start now : Desk S R D g) (bodies : List (List ℕ)) (out : List R) : Type 0 where
+    (start now : Grouping S R D g) (bodies : List (List ℕ)) (out : List R) : Type 0 where
   pub groups : List (List (Exchange R))
   pub held : List (Exchange R)
   pub committed : S
@@ -30,7 +30,7 @@ pub record Going {S R D : Type 0} {g : Ghosts D} (t : Turns S R) (C : List (List
   pub events_are : now.events ≡ events_in held
   pub stands : TurnsOver t start.state (joined groups) committed
   pub runs : TurnsOver t committed held now.state
-  -- none of those in hand has replaced the library
+  -- none of the open group's has replaced the library
   pub same : t.text now.state ≡ t.text committed
   pub same_bank : t.bank now.state ≡ t.bank committed
   -- the disk behind the groups
@@ -42,7 +42,7 @@ pub record Going {S R D : Type 0} {g : Ghosts D} (t : Turns S R) (C : List (List
 
 -- A call of the device failed, in the group behind those that were answered. C says why it ends where it does, and what came behind it.
 pub record Faulted {S R D : Type 0} {g : Ghosts D} (t : Turns S R) (size : ℕ) (C : S → List (Exchange R) → List (List ℕ) → Type 0)
-    (start now : Desk S R D g) (bodies : List (List ℕ)) (replies : List R) : Type 0 where
+    (start now : Grouping S R D g) (bodies : List (List ℕ)) (replies : List R) : Type 0 where
   pub groups : List (List (Exchange R))
   pub group : List (Exchange R)
   pub others : List (List ℕ)
@@ -58,7 +58,7 @@ pub record Faulted {S R D : Type 0} {g : Ghosts D} (t : Turns S R) (size : ℕ) 
   pub moments : HasMoments t start.store now.store start.state (groups ++ group ∷ []) (length groups)
 
 -- These bodies were taken since the start, and these replies handed out.
-pub record Underway {S R D : Type 0} {g : Ghosts D} (t : Turns S R) (size : ℕ) (start now : Desk S R D g) (bodies : List (List ℕ))
+pub record Underway {S R D : Type 0} {g : Ghosts D} (t : Turns S R) (size : ℕ) (start now : Grouping S R D g) (bodies : List (List ℕ))
     (out : List R) : Type 0 where
   pub going : now.store.stopped ≡ false → Going t (IsCut t.alone size) start now bodies out
   pub broken : now.store.stopped ≡ true → Faulted t size (IsWholeBefore t size) start now bodies out

@@ -1,4 +1,4 @@
-pub mod Desks
+pub mod Groupings
 pub mod Faults
 pub mod Going
 pub mod Groups

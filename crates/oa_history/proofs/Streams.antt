@@ -27,7 +27,7 @@ parts_made size old new before after (part ∷ parts) is = (is.0, is.1, is.2.ser
 pub all_made_of : {D : Type 0} {g : Ghosts D} (size : ℕ) (old new : Storage D g) (before after : State) (bodies : List (List ℕ)) (handed : List (List (List ℕ))) (read_ahead : List (List ℕ)) (is : InParts size old new before after bodies handed read_ahead)
     → Made old before (calls_in is) new after
 all_made_of {D} {g} size old new before after bodies handed read_ahead is =
-    let rest : Done = record { call = record { size = size; bodies = is.in_hand; replies = is.told }; moment = g.moment (disk_of new) } in
+    let rest : Done = record { call = record { size = size; bodies = is.open_bodies; replies = is.told }; moment = g.moment (disk_of new) } in
     made_push old before (parts_of size old is.mid before is.state is.parts is.served) is.mid is.state rest new after (parts_made size old is.mid before is.state is.parts is.served) is.ends refl
 
 -- nothing was read ahead of the bytes
@@ -36,14 +36,14 @@ reads_from bytes reader at none = ap (λ (l : List ℕ). with_front l (in_memory
 
 pub has_written : {g : Ghosts MemoryDisk} (input : Input) (framing : Framing) (bytes : Bor (List ℕ)) (reader : Ahead (Bor (List ℕ))) (empty output : Gathered) (served : Served) (old new : Server MemoryDisk g) (unread : Read)
     → input.framing ≡ framing → bytes.now ≡ input.bytes.items → reader.reader ≡ bytes → read_ahead reader ≡ [] → empty.bytes.items ≡ []
-    → HasTalked (frames framing) (ahead (λ (s : Bor (List ℕ)). in_memory s.now) reader) unread (gathered_output empty) (gathered_output output) input.group old.clerk new.clerk served
-    → (done : List Done) × HasWritten input (record { output = output; served = served }) old new done × Made old.clerk.storage old.clerk.host done new.clerk.storage new.clerk.host
+    → HasTalked (frames framing) (ahead (λ (s : Bor (List ℕ)). in_memory s.now) reader) unread (gathered_output empty) (gathered_output output) input.group old.engine new.engine served
+    → (done : List Done) × HasWritten input (record { output = output; served = served }) old new done × Made old.engine.storage old.engine.host done new.engine.storage new.engine.host
 has_written input framing bytes reader empty output served old new unread is same at none nothing talked =
     let whole : ahead (λ (s : Bor (List ℕ)). in_memory s.now) reader ≡ in_memory input.bytes.items = reads_from bytes reader at none ∙ ap in_memory same in
-    let here : HasTalked (frames input.framing) (in_memory input.bytes.items) unread (gathered_output empty) (gathered_output output) input.group old.clerk new.clerk served =
-    subst (λ (f : Framing). HasTalked (frames f) (in_memory input.bytes.items) unread (gathered_output empty) (gathered_output output) input.group old.clerk new.clerk served) (sym is)
-    (subst (λ (i : Read). HasTalked (frames framing) i unread (gathered_output empty) (gathered_output output) input.group old.clerk new.clerk served) whole talked) in (
+    let here : HasTalked (frames input.framing) (in_memory input.bytes.items) unread (gathered_output empty) (gathered_output output) input.group old.engine new.engine served =
+    subst (λ (f : Framing). HasTalked (frames f) (in_memory input.bytes.items) unread (gathered_output empty) (gathered_output output) input.group old.engine new.engine served) (sym is)
+    (subst (λ (i : Read). HasTalked (frames framing) i unread (gathered_output empty) (gathered_output output) input.group old.engine new.engine served) whole talked) in (
       calls_in here.in_parts,
       record { empty = empty; nothing = nothing; unread = unread; talked = here; are = refl },
-      all_made_of input.group old.clerk.storage new.clerk.storage old.clerk.host new.clerk.host here.io.bodies here.io.handed here.io.held here.in_parts,
+      all_made_of input.group old.engine.storage new.engine.storage old.engine.host new.engine.host here.io.bodies here.io.handed here.io.held here.in_parts,
     )

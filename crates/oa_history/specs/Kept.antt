@@ -37,8 +37,8 @@ pub record Sits {D : Type 0} {g : Ghosts D} (disk : D) (store : Store D g) (stat
   pub sits : Sitting requests disk store state state []
 
 pub record BeginsServing {D : Type 0} {g : Ghosts D} (disk : D) (server : Server D g) (state : State) : Type 0 where
-  pub host : server.clerk.host ≡ state
-  pub over : OverStore server.clerk.storage (λ store. Sits disk store state)
+  pub host : server.engine.host ≡ state
+  pub over : OverStore server.engine.storage (λ store. Sits disk store state)
 
 -- Why a store that stands has no history: memory is wanting, or room on the disk, or a call of it has failed. No opening was refused.
 abbrev pub IsWanting : HistoryFault → Type 0

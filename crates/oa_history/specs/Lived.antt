@@ -70,8 +70,8 @@ pub record IsHeardUntilStop (session : Played) (heard : Heard) (found : List ℕ
   pub last : Opened
   pub calls : List Done
   pub asks : HasAsked session.asked heard.replies first.server last.server calls
-  pub made : Made first.server.clerk.storage before calls last.server.clerk.storage last.server.clerk.host
-  pub disk : heard.disk ≡ disk_of last.server.clerk.storage
+  pub made : Made first.server.engine.storage before calls last.server.engine.storage last.server.engine.host
+  pub disk : heard.disk ≡ disk_of last.server.engine.storage
   -- what is left is what a crash of this disk at the moment of the stop leaves, as the tear says
   pub torn : IsTornAt heard.disk session.tear (min session.moment (moments_of heard.disk)) left
   pub stops : Stops session.moment calls before after

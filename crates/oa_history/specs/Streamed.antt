@@ -22,12 +22,12 @@ parts_of {D} {g} size old new before after (part ∷ parts) is =
     record { call = record { size = size; bodies = part.bodies; replies = part.told }; moment = g.moment (disk_of is.0) }
     ∷ parts_of size is.0 new is.1 after parts is.3
 
--- So is what was in hand at the end, behind them.
+-- So is what the open group held at the end, behind them.
 abbrev pub calls_in : {D : Type 0} {g : Ghosts D} {size : ℕ} {old new : Storage D g} {before after : State} {bodies : List (List ℕ)}
     {handed : List (List (List ℕ))} {held : List (List ℕ)} → InParts size old new before after bodies handed held → List Done
 calls_in {D} {g} {size} {old} {new} {before} {after} {bodies} {handed} {held} is =
     parts_of size old is.mid before is.state is.parts is.served
-    ++ record { call = record { size = size; bodies = is.in_hand; replies = is.told }; moment = g.moment (disk_of new) } ∷ []
+    ++ record { call = record { size = size; bodies = is.open_bodies; replies = is.told }; moment = g.moment (disk_of new) } ∷ []
 
 -- A server was given this input, and an empty writer. What was read, answered and written is what `serve_hex` and `serve` say: the replies to
 -- the bodies of the input, in order, each part's behind its last call of the disk. These are the parts.
@@ -36,5 +36,5 @@ pub record HasWritten {D : Type 0} {g : Ghosts D} (input : Input) (written : Wri
   pub nothing : empty.bytes.items ≡ []
   pub unread : Read
   pub talked : HasTalked (frames input.framing) (in_memory input.bytes.items) unread (gathered_output empty) (gathered_output written.output) input.group
-      old.clerk new.clerk written.served
+      old.engine new.engine written.served
   pub are : done ≡ calls_in talked.in_parts

@@ -48,7 +48,7 @@ Answered old first [] (one ∷ told) new last = ⊥
 Answered old first (call ∷ calls) [] new last = ⊥
 
 abbrev pub AnsweredBy : {D : Type 0} {g : Ghosts D} → Server D g → List ServerCall → List Told → Server D g → Type 0
-AnsweredBy old calls told new = Answered old.clerk.storage old.clerk.host calls told new.clerk.storage new.clerk.host
+AnsweredBy old calls told new = Answered old.engine.storage old.engine.host calls told new.engine.storage new.engine.host
 
 -- ---- a disk that fails from some call on
 
@@ -71,8 +71,8 @@ pub record IsPlayed (disk : MemoryDisk) (first_failing : ℕ) (calls : List Serv
   pub begins : BeginsOver disk first_failing first.server before
   pub last : Fused
   pub answered : AnsweredBy first.server calls told last.server
-  pub handed_back : back ≡ inner_of (disk_of last.server.clerk.storage)
-  -- The replies are those of a run from the state before, group for group. Where a call of the disk fails, all of the group in hand is
+  pub handed_back : back ≡ inner_of (disk_of last.server.engine.storage)
+  -- The replies are those of a run from the state before, group for group. Where a call of the disk fails, all of the open group is
   -- answered by that, and all that comes behind it is refused.
   pub fault : Bool
   pub state : State
@@ -98,9 +98,9 @@ pub record IsWithstood (disk : MemoryDisk) (first_failing : ℕ) (calls : List S
 
 -- A server was opened on the disk, whatever is pending on it, and serves the state, over a store that holds it.
 pub record IsTakenUp {D : Type 0} {g : Ghosts D} (disk : D) (server : Server D g) (state : State) : Type 0 where
-  pub host : server.clerk.host ≡ state
-  pub found : OverStore server.clerk.storage (λ store. IsOpened g disk state.library store state.table)
-  pub over : OverStore server.clerk.storage (λ store. AllHoldState requests store state)
+  pub host : server.engine.host ≡ state
+  pub found : OverStore server.engine.storage (λ store. IsOpened g disk state.library store state.table)
+  pub over : OverStore server.engine.storage (λ store. AllHoldState requests store state)
 
 -- Calls over a new store of a state, on a disk that fails from some call on; then the disk is opened as it was handed back, by way of
 -- nothing that fails.

@@ -25,8 +25,8 @@ fn answered(
     calls: &[ServerCall],
 ) -> Result<Vec<Answer>, HistoryFault>
     ensures all { IfOk result (λ answers. length answers.items ≡ length calls.now) }
-    ensures made { IfOk result (λ answers. Made server.old.clerk.storage server.old.clerk.host (calls_of calls.now answers.items)
-        server.new.clerk.storage server.new.clerk.host) }
+    ensures made { IfOk result (λ answers. Made server.old.engine.storage server.old.engine.host (calls_of calls.now answers.items)
+        server.new.engine.storage server.new.engine.host) }
     ensures wanting { IfErr result (λ fault. fault ≡ Memory) }
 {
     let mut answers = Vec::new(alloc);
@@ -45,7 +45,7 @@ fn replied(
     asked: &Asked,
 ) -> Result<Replies, HistoryFault>
     ensures asked { IfOk result (λ replies. (done : List Done) × HasAsked asked.now replies server.old server.new done
-        × Made server.old.clerk.storage server.old.clerk.host done server.new.clerk.storage server.new.clerk.host) }
+        × Made server.old.engine.storage server.old.engine.host done server.new.engine.storage server.new.engine.host) }
     ensures wanting { IfErr result (λ fault. fault ≡ Memory) }
 {
     match asked {

@@ -18,7 +18,7 @@ pub(crate) fn written(
     input: &Input,
 ) -> Result<Written, HistoryFault>
     ensures written { IfOk result (λ written. (done : List Done) × HasWritten input.now written server.old server.new done
-        × Made server.old.clerk.storage server.old.clerk.host done server.new.clerk.storage server.new.clerk.host) }
+        × Made server.old.engine.storage server.old.engine.host done server.new.engine.storage server.new.engine.host) }
     ensures wanting { IfErr result (λ fault. fault ≡ Memory) }
 {
     let mut reader = Ahead::new(alloc, input.bytes.as_slice())?;

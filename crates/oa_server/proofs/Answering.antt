@@ -3,7 +3,7 @@ use Rattle.std.proofs.Common.{◌≡◌, ◌⊎◌, ◌+◌, ◌<◌, ◌≤◌,
 use Rattle.std.proofs.Common.{◌∙◌, subst, arith, length-append}
 use Rattle.oa_disk.specs.declared.disk.Disk.{Ghosts}
 use Rattle.oa_disk.specs.Moments.{chained, weakened}
-use Rattle.oa_groups.specs.Desks.{Desk, IsSettled, IsTaken, LeavesState}
+use Rattle.oa_groups.specs.Groupings.{Grouping, IsSettled, IsTaken, LeavesState}
 use Rattle.oa_groups.specs.Groups.{fills}
 use Rattle.oa_groups.specs.Served.{IsServed}
 use Rattle.oa_store.specs.Writing.{Goes}
@@ -26,7 +26,7 @@ use Rattle.oa_store.specs.Stores.{IsStoreIn}
 use Rattle.oa_store.specs.declared.store.Store.{Store}
 use Rattle.oa_table.specs.Tables.{TableValue}
 use Rattle.oa_server.specs.Answers.{IsAnswered, MakesNoEvent}
-use Rattle.oa_server.specs.Hands.{CallsWhereDue, IsDueFor, desk}
+use Rattle.oa_server.specs.OpenGroups.{CallsWhereDue, IsDueFor, grouping}
 use Rattle.oa_server.specs.Requests.{HasTurn, IsHeldBack, faulted, requests, text_of_library}
 use Rattle.oa_turn.specs.Events.{held_of}
 use Rattle.oa_decision.specs.States.{State}
@@ -41,14 +41,14 @@ full_one bytes = refl
 
 module _ {D : Type 0} {g : Ghosts D} (only : (d : D) (c : List ℕ) → IsTrue (g.is_honest d) → g.image_since d (g.moment d) c → g.image d c) (old mid : Store D g) (was : old.stopped ≡ false) (before after : State) (body start : List ℕ) (empty : start ≡ []) (first : Goes old mid) (stays : mid.library.items ≡ old.library.items) (plain : is_replacement body ≡ false)
     (leaves : (committed : TableValue) → (length start ≡ 0 → held_of before ≡ committed) → AllHold old committed → LeavesTable old mid committed) where
-  abbrev at_first : Desk State ReplyValue D g
-  at_first = desk old before [] start
+  abbrev at_first : Grouping State ReplyValue D g
+  at_first = grouping old before [] start
 
   -- taken, it is served
-  alone : (new : Store D g) (reply : ReplyValue) (events : List ℕ) → IsTaken requests 1 body (reply ∷ []) at_first (desk new after [] events) → IsServed requests 1 old new before after (body ∷ []) (reply ∷ [])
+  alone : (new : Store D g) (reply : ReplyValue) (events : List ℕ) → IsTaken requests 1 body (reply ∷ []) at_first (grouping new after [] events) → IsServed requests 1 old new before after (body ∷ []) (reply ∷ [])
   alone new reply events one =
-      let under = underway_taken requests {g = g} only at_first 1 at_first (desk new after [] events) [] [] body (reply ∷ []) (underway_start requests {g = g} only at_first 1 was refl empty) one in
-      underway_ended requests {g = g} only at_first 1 (desk new after [] events) (desk new after [] events) (body ∷ []) (reply ∷ []) [] under (inl (record { none = refl; nothing = refl; store = refl; state = refl }))
+      let under = underway_taken requests {g = g} only at_first 1 at_first (grouping new after [] events) [] [] body (reply ∷ []) (underway_start requests {g = g} only at_first 1 was refl empty) one in
+      underway_ended requests {g = g} only at_first 1 (grouping new after [] events) (grouping new after [] events) (body ∷ []) (reply ∷ []) [] under (inl (record { none = refl; nothing = refl; store = refl; state = refl }))
 
   -- what images hold under the library of before
   module _ (turned : (due : ReplyValue) × Turn before body due after) (all : AllHoldState requests old before) where
@@ -109,12 +109,12 @@ module _ {D : Type 0} {g : Ghosts D} (only : (d : D) (c : List ℕ) → IsTrue (
         (meanwhile_table all.all) (either_state (due, turn.asked.turn) all)
 
     -- held, and then the group of one ends
-    filled : (reply : ReplyValue) → IsSettled requests (reply ∷ []) (desk mid after (due ∷ []) events) (desk new after [] []) → IsServed requests 1 old new before after (body ∷ []) (reply ∷ [])
+    filled : (reply : ReplyValue) → IsSettled requests (reply ∷ []) (grouping mid after (due ∷ []) events) (grouping new after [] []) → IsServed requests 1 old new before after (body ∷ []) (reply ∷ [])
     filled reply settled = alone new reply [] (inr (inl (record {
       was = was;
       reply = due;
       event = turn.event;
-      mid = desk mid after (due ∷ []) events;
+      mid = grouping mid after (due ∷ []) events;
       held = record { turn = turn.asked; plain = plain; pending = refl; events = turn.added; going = on; calls = calls; carries = record { any_moment = leaves; each = λ going. holds; library = stays }; goes = first };
       full = full_one (length events);
       settled = settled;

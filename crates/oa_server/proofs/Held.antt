@@ -12,7 +12,7 @@ use Rattle.oa_keeper.proofs.Committed.{one_event}
 use Rattle.oa_keeper.specs.Holding.{Carries}
 use Rattle.oa_store.specs.declared.store.Store.{Store}
 use Rattle.oa_table.specs.declared.fault.TableFault.{TableFault}
-use Rattle.oa_server.specs.Hands.{CallsWhereDue}
+use Rattle.oa_server.specs.OpenGroups.{CallsWhereDue}
 use Rattle.oa_decision.specs.Limits.{limited}
 use Rattle.std.proofs.lemmas.List.{append-nil}
 use Rattle.oa_model.specs.Limits.{max_event_bytes}

@@ -7,8 +7,8 @@ use Rattle.oa_frame.specs.declared.session.Served.{Served}
 use Rattle.oa_record.specs.Replacement.{is_replacement}
 use Rattle.oa_stream.specs.Source.{Input}
 use Rattle.oa_stream.specs.Sink.{Output}
-use Rattle.oa_server.specs.declared.clerk.Clerk.{Clerk}
-use Rattle.oa_server.specs.declared.hand.Hand.{Hand}
+use Rattle.oa_server.specs.declared.engine.Engine.{Engine}
+use Rattle.oa_server.specs.declared.open_group.OpenGroup.{OpenGroup}
 use Rattle.oa_server.specs.declared.storage.Storage.{Storage}
 use Rattle.oa_server.specs.declared.storage.Storage.TheVariants.{Disk, Memory}
 use Rattle.oa_server.specs.Serving.{none_held, turn_written}
@@ -22,31 +22,31 @@ pub record StaysInMemory {D : Type 0} {g : Ghosts D} (new : Storage D g) (before
   pub memory : InMemory new
 
 module _ {D : Type 0} {g : Ghosts D} where
-  in_memory : (old new : Storage D g) (before after : State) (hand hand' : Hand) (body : List ℕ) (replies : List (List ℕ)) → InMemory old → Taken old before hand body replies new after hand'
+  in_memory : (old new : Storage D g) (before after : State) (open_group open_group' : OpenGroup) (body : List ℕ) (replies : List (List ℕ)) → InMemory old → Taken old before open_group body replies new after open_group'
       → StaysInMemory new before body replies after
-  in_memory (Memory one) new before after hand hand' body replies here is = record { turn = is.1; memory = subst (λ (s : Storage D g). InMemory s) (sym is.0) tt }
-  in_memory (Disk one) new before after hand hand' body replies here is = absurd here
+  in_memory (Memory one) new before after open_group open_group' body replies here is = record { turn = is.1; memory = subst (λ (s : Storage D g). InMemory s) (sym is.0) tt }
+  in_memory (Disk one) new before after open_group open_group' body replies here is = absurd here
 
-  ended_in_memory : (old new : Storage D g) (before after : State) (hand hand' : Hand) (replies : List (List ℕ)) → InMemory old → InputEnds old before hand replies new after hand' → none_held before replies after
-  ended_in_memory (Memory one) new before after hand hand' replies here is = is.1
-  ended_in_memory (Disk one) new before after hand hand' replies here is = absurd here
+  ended_in_memory : (old new : Storage D g) (before after : State) (open_group open_group' : OpenGroup) (replies : List (List ℕ)) → InMemory old → InputEnds old before open_group replies new after open_group' → none_held before replies after
+  ended_in_memory (Memory one) new before after open_group open_group' replies here is = is.1
+  ended_in_memory (Disk one) new before after open_group open_group' replies here is = absurd here
 
-  pub record RunsInMemory (old new : Clerk D g) (bodies : List (List ℕ)) (handed : List (List (List ℕ))) : Type 0 where
+  pub record RunsInMemory (old new : Engine D g) (bodies : List (List ℕ)) (handed : List (List (List ℕ))) : Type 0 where
     pub run : sessions.BodiesTurned turn_written old.host bodies handed new.host
     pub memory : InMemory new.storage
 
-  run_in_memory : (old new : Clerk D g) (bodies : List (List ℕ)) (handed : List (List (List ℕ))) → InMemory old.storage → sessions.BodiesTurned taken_written old bodies handed new → RunsInMemory old new bodies handed
-  run_in_memory old new [] [] here run = record { run = ap (λ (s : Clerk D g). s.host) run; memory = subst (λ (s : Clerk D g). InMemory s.storage) (sym run) here }
+  run_in_memory : (old new : Engine D g) (bodies : List (List ℕ)) (handed : List (List (List ℕ))) → InMemory old.storage → sessions.BodiesTurned taken_written old bodies handed new → RunsInMemory old new bodies handed
+  run_in_memory old new [] [] here run = record { run = ap (λ (s : Engine D g). s.host) run; memory = subst (λ (s : Engine D g). InMemory s.storage) (sym run) here }
   run_in_memory old new (body ∷ bodies) (replies ∷ handed) here run =
-      let one = in_memory old.storage run.0.storage old.host run.0.host old.hand run.0.hand body replies here run.1 in
+      let one = in_memory old.storage run.0.storage old.host run.0.host old.open_group run.0.open_group body replies here run.1 in
       let rest = run_in_memory run.0 new bodies handed one.memory run.2 in
       record { run = (run.0.host, one.turn, rest.run); memory = rest.memory }
   run_in_memory old new [] (replies ∷ handed) here run = absurd run
   run_in_memory old new (body ∷ bodies) [] here run = absurd run
 
-  pub session_in_memory : (f : Frames) (last : List ℕ) (input input' : Input) (out out' : Output) (old new : Clerk D g) (served : Served) → InMemory old.storage
+  pub session_in_memory : (f : Frames) (last : List ℕ) (input input' : Input) (out out' : Output) (old new : Engine D g) (served : Served) → InMemory old.storage
       → sessions.Session f is_replacement taken_written ended_written last input input' out out' old new served → sessions.Session f is_replacement turn_written none_held last input input' out out' old.host new.host served
   session_in_memory f last input input' out out' old new served here is =
       let runs = run_in_memory old is.mid is.bodies is.handed here is.run in
-      let ended = ended_in_memory is.mid.storage new.storage is.mid.host new.host is.mid.hand new.hand is.held runs.memory is.ended in
+      let ended = ended_in_memory is.mid.storage new.storage is.mid.host new.host is.mid.open_group new.open_group is.held runs.memory is.ended in
       session_as taken_written turn_written ended_written none_held f is_replacement last input input' out out' old new old.host is.mid.host new.host served is runs.run ended

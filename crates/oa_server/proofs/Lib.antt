@@ -9,7 +9,7 @@ pub mod Answering
 pub mod Put
 pub mod Retold
 pub mod InMemory
-pub mod InHand
+pub mod InOpenGroup
 pub mod Apart
 pub mod Talking
 pub mod Beginning

@@ -3,7 +3,7 @@ use Rattle.std.proofs.Common.{◌≡◌, ◌⊎◌, inl, inr, ⊎_elim, ℕ, ◌
 use Rattle.oa_disk.specs.Disk.{LeavesOnly, LeavesStep}
 use Rattle.oa_disk.specs.Moments.{weakened}
 use Rattle.oa_disk.specs.declared.disk.Disk.{Ghosts}
-use Rattle.oa_groups.specs.Desks.{Desk, IsEnded, IsFlushed, IsTaken, LeavesState}
+use Rattle.oa_groups.specs.Groupings.{Grouping, IsEnded, IsFlushed, IsTaken, LeavesState}
 use Rattle.oa_groups.specs.Runs.{AllHoldState, HoldsState}
 use Rattle.oa_groups.specs.Served.{IsServed}
 use Rattle.oa_store.specs.Writing.{Goes}
@@ -22,7 +22,7 @@ use Rattle.oa_journal.specs.declared.shape.Shape.TheVariants.{Two}
 use Rattle.oa_store.specs.Stores.{IsStoreAt, IsStoreIn}
 use Rattle.oa_store.specs.declared.store.Store.{Store}
 use Rattle.oa_table.specs.Tables.{TableValue}
-use Rattle.oa_server.specs.Hands.{desk}
+use Rattle.oa_server.specs.OpenGroups.{grouping}
 use Rattle.oa_turn.specs.Replacing.{Replacement}
 use Rattle.oa_server.specs.Answers.{IsAnswered, IsRenewed, IsRenewedOrLate}
 use Rattle.oa_server.specs.Requests.{IsAsked, faulted, requests, text_of_library}
@@ -136,15 +136,15 @@ one_reply a b e = cc
 
 module _ {D : Type 0} {g : Ghosts D} (only : (d : D) (c : List ℕ) → IsTrue (g.is_honest d) → g.image_since d (g.moment d) c → g.image d c) (old new : Store D g) (was : old.stopped ≡ false) (before after : State) (body : List ℕ) (reply : ReplyValue)
     (kind : is_replacement body ≡ true) (is : IsRenewed old new before after body reply) where
-  abbrev begin : Desk State ReplyValue D g
-  begin = desk old before [] []
+  abbrev begin : Grouping State ReplyValue D g
+  begin = grouping old before [] []
 
   is_due : new.stopped ≡ false → reply ≡ is.due
   is_due going = one_reply reply is.due (is.replaced.well going)
 
   served_apart : IsServed requests 1 old new before after (body ∷ []) (reply ∷ [])
   served_apart =
-      let under = underway_taken requests {g = g} only begin 1 begin (desk new after [] []) [] [] body (reply ∷ []) (underway_start requests {g = g} only begin 1 was refl refl) (inr (inr (inr (inr (record {
+      let under = underway_taken requests {g = g} only begin 1 begin (grouping new after [] []) [] [] body (reply ∷ []) (underway_start requests {g = g} only begin 1 was refl refl) (inr (inr (inr (inr (record {
         was = was;
         alone = kind;
         mid = begin;
@@ -155,7 +155,7 @@ module _ {D : Type 0} {g : Ghosts D} (only : (d : D) (c : List ℕ) → IsTrue (
         going = λ going. (is.due, is.replaced);
         late = λ stopped. absurd (true≢false (sym stopped ∙ was));
       }))))) in
-      underway_ended requests {g = g} only begin 1 (desk new after [] []) (desk new after [] []) (body ∷ []) (reply ∷ []) [] under (inl (record { none = refl; nothing = refl; store = refl; state = refl }))
+      underway_ended requests {g = g} only begin 1 (grouping new after [] []) (grouping new after [] []) (body ∷ []) (reply ∷ []) [] under (inl (record { none = refl; nothing = refl; store = refl; state = refl }))
 
   pub answered_apart : IsAnswered old new before after body reply
   answered_apart = record {
@@ -173,8 +173,8 @@ module _ {D : Type 0} {g : Ghosts D} (only : (d : D) (c : List ℕ) → IsTrue (
 
 -- behind the group before it
 module _ {D : Type 0} {g : Ghosts D} (old mid new : Store D g) (was : old.stopped ≡ false) (before after : State) (body : List ℕ) (reply : ReplyValue) (kind : is_replacement body ≡ true)
-    (pending told : List ReplyValue) (events batch : List ℕ) (ended : IsEnded requests told (desk old before pending events) (desk mid before [] batch)) (is : IsRenewedOrLate mid new before after body reply) where
-  flushed : IsEnded requests told (desk old before pending events) (desk mid before [] batch) → IsFlushed requests told (desk old before pending events) (desk mid before [] [])
+    (pending told : List ReplyValue) (events batch : List ℕ) (ended : IsEnded requests told (grouping old before pending events) (grouping mid before [] batch)) (is : IsRenewedOrLate mid new before after body reply) where
+  flushed : IsEnded requests told (grouping old before pending events) (grouping mid before [] batch) → IsFlushed requests told (grouping old before pending events) (grouping mid before [] [])
   flushed (inl idle) = inl (record { none = idle.none; nothing = idle.nothing; store = idle.store; state = idle.state })
   flushed (inr (inl last)) = inr (record {
     was = last.was;
@@ -192,11 +192,11 @@ module _ {D : Type 0} {g : Ghosts D} (old mid new : Store D g) (was : old.stoppe
   })
   flushed (inr (inr left)) = absurd (true≢false (sym left.over.was ∙ was))
 
-  pub taken_apart : (all : List ReplyValue) → all ≡ told ++ reply ∷ [] → (events' : List ℕ) → events' ≡ [] → (size : ℕ) → IsTaken requests size body all (desk old before pending events) (desk new after [] events')
-  taken_apart all are events' none size = subst (λ (l : List ℕ). IsTaken requests size body all (desk old before pending events) (desk new after [] l)) (sym none) (inr (inr (inr (inr (record {
+  pub taken_apart : (all : List ReplyValue) → all ≡ told ++ reply ∷ [] → (events' : List ℕ) → events' ≡ [] → (size : ℕ) → IsTaken requests size body all (grouping old before pending events) (grouping new after [] events')
+  taken_apart all are events' none size = subst (λ (l : List ℕ). IsTaken requests size body all (grouping old before pending events) (grouping new after [] l)) (sym none) (inr (inr (inr (inr (record {
     was = was;
     alone = kind;
-    mid = desk mid before [] [];
+    mid = grouping mid before [] [];
     before = told;
     after = reply ∷ [];
     told_are = are;

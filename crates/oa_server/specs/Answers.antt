@@ -3,10 +3,10 @@ use Rattle.std.specs.Prelude.{◌≡◌, ◌⊎◌, ℕ, true, false, List, [], 
 use Rattle.oa_disk.specs.declared.disk.Disk.{Ghosts}
 use Rattle.oa_groups.specs.Served.{IsServed}
 use Rattle.oa_store.specs.Writing.{Goes}
-use Rattle.oa_groups.specs.Desks.{IsAnsweredAlone, LeavesState}
+use Rattle.oa_groups.specs.Groupings.{IsAnsweredAlone, LeavesState}
 use Rattle.oa_groups.specs.Runs.{AllHoldState, HoldsState}
 use Rattle.oa_groups.specs.Turns.{exchange}
-use Rattle.oa_server.specs.Hands.{desk}
+use Rattle.oa_server.specs.OpenGroups.{grouping}
 use Rattle.oa_record.specs.Asks.{Asks}
 use Rattle.oa_record.specs.Replacement.{is_replacement}
 use Rattle.oa_record.specs.Replies.{ReplyValue}
@@ -53,10 +53,10 @@ pub record RenewsStore {D : Type 0} {g : Ghosts D} (old new : Store D g) (before
   pub each : new.stopped ≡ false → AllHoldState requests old before → AllHoldState requests new after
   pub goes : Goes old new
 
--- A body that asks for another library is answered, with nothing in hand: as a group of its own.
+-- A body that asks for another library is answered, where no group is open: as a group of its own.
 pub record IsRenewed {D : Type 0} {g : Ghosts D} (old new : Store D g) (before after : State) (body : List ℕ) (reply : ReplyValue) : Type 0 where
   pub due : ReplyValue
-  pub replaced : IsAnsweredAlone requests (exchange body due []) (reply ∷ []) (desk old before [] []) (desk new after [] [])
+  pub replaced : IsAnsweredAlone requests (exchange body due []) (reply ∷ []) (grouping old before [] []) (grouping new after [] [])
 
 abbrev pub IsRenewedOrLate : {D : Type 0} {g : Ghosts D} → Store D g → Store D g → State → State → List ℕ → ReplyValue → Type 0
 IsRenewedOrLate old new before after body reply =

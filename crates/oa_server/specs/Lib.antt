@@ -1,7 +1,7 @@
 pub mod Serving
 pub mod Requests
 pub mod Openings
-pub mod Hands
+pub mod OpenGroups
 pub mod Answers
 pub mod Storages
 pub mod Talks

@@ -25,7 +25,7 @@ pub record IsAsked (asked : Exchange ReplyValue) (old new : State) : Type 0 wher
   pub made : HasEvent old asked.body asked.reply asked.event
   pub replays : Replays asked.event (held_of old) (held_of new)
 
--- a turn, whose event is added to those in hand
+-- a turn, whose event is added to those of the open group
 pub record IsHeldBack (body : List ℕ) (reply : ReplyValue) (events events' : List ℕ) (old new : State) : Type 0 where
   pub event : List ℕ
   pub asked : IsAsked (exchange body reply event) old new

@@ -4,7 +4,7 @@ use Rattle.oa_disk.specs.declared.disk.Disk.{Ghosts}
 use Rattle.oa_frame.specs.Framings.{Frames}
 use Rattle.oa_frame.specs.Sessions.{Session, joined}
 use Rattle.oa_frame.specs.declared.session.Served.{Served}
-use Rattle.oa_groups.specs.Desks.{IsEnded, IsTaken}
+use Rattle.oa_groups.specs.Groupings.{IsEnded, IsTaken}
 use Rattle.oa_groups.specs.Faults.{IsWhole}
 use Rattle.oa_groups.specs.Groups.{is_full}
 use Rattle.oa_groups.specs.Runs.{TurnsOver}
@@ -15,70 +15,70 @@ use Rattle.oa_record.specs.Replies.{ReplyValue, reply_record}
 use Rattle.oa_stream.specs.Sink.{Output}
 use Rattle.oa_stream.specs.Source.{Input}
 use Rattle.oa_store.specs.declared.store.Store.{Store}
-use Rattle.oa_server.specs.declared.clerk.Clerk.{Clerk}
-use Rattle.oa_server.specs.declared.hand.Hand.{Hand}
+use Rattle.oa_server.specs.declared.engine.Engine.{Engine}
+use Rattle.oa_server.specs.declared.open_group.OpenGroup.{OpenGroup}
 use Rattle.oa_server.specs.declared.storage.Storage.{Storage}
 use Rattle.oa_server.specs.declared.storage.Storage.TheVariants.{Disk, Memory}
-use Rattle.oa_server.specs.Hands.{CanTake, desk_of}
+use Rattle.oa_server.specs.OpenGroups.{CanTake, grouping_of}
 use Rattle.oa_server.specs.Requests.{requests}
 use Rattle.oa_server.specs.Serving.{last_written, none_held, turn_written}
 use Rattle.oa_decision.specs.States.{State}
 use Rattle.oa_server.specs.Storages.{Serves}
 
--- the hand can take one request more
-abbrev pub HandIsReady : {D : Type 0} {g : Ghosts D} → Storage D g → Hand → Type 0
-HandIsReady (Memory disk) hand = ⊤
-HandIsReady (Disk store) hand = CanTake store hand
+-- the open group can take one request more
+abbrev pub OpenGroupIsReady : {D : Type 0} {g : Ghosts D} → Storage D g → OpenGroup → Type 0
+OpenGroupIsReady (Memory disk) open_group = ⊤
+OpenGroupIsReady (Disk store) open_group = CanTake store open_group
 
--- One body is taken into the group in hand, and these replies are handed out.
-abbrev pub TakenIn : {D : Type 0} {g : Ghosts D} → Storage D g → State → Hand → List ℕ → List ReplyValue
-    → Storage D g → State → Hand → Type 0
-TakenIn (Disk old) before hand body told (Disk new) after hand' =
-    IsTaken requests hand.size body told (desk_of old before hand) (desk_of new after hand')
-TakenIn (Disk old) before hand body told (Memory new) after hand' = ⊥
-TakenIn (Memory old) before hand body told new after hand' = ⊥
+-- One body is taken into the open group, and these replies are handed out.
+abbrev pub TakenIn : {D : Type 0} {g : Ghosts D} → Storage D g → State → OpenGroup → List ℕ → List ReplyValue
+    → Storage D g → State → OpenGroup → Type 0
+TakenIn (Disk old) before open_group body told (Disk new) after open_group' =
+    IsTaken requests open_group.size body told (grouping_of old before open_group) (grouping_of new after open_group')
+TakenIn (Disk old) before open_group body told (Memory new) after open_group' = ⊥
+TakenIn (Memory old) before open_group body told new after open_group' = ⊥
 
-abbrev pub EndedIn : {D : Type 0} {g : Ghosts D} → Storage D g → State → Hand → List ReplyValue → Storage D g → State → Hand → Type 0
-EndedIn (Disk old) before hand told (Disk new) after hand' = IsEnded requests told (desk_of old before hand) (desk_of new after hand')
-EndedIn (Disk old) before hand told (Memory new) after hand' = ⊥
-EndedIn (Memory old) before hand told new after hand' = ⊥
+abbrev pub EndedIn : {D : Type 0} {g : Ghosts D} → Storage D g → State → OpenGroup → List ReplyValue → Storage D g → State → OpenGroup → Type 0
+EndedIn (Disk old) before open_group told (Disk new) after open_group' = IsEnded requests told (grouping_of old before open_group) (grouping_of new after open_group')
+EndedIn (Disk old) before open_group told (Memory new) after open_group' = ⊥
+EndedIn (Memory old) before open_group told new after open_group' = ⊥
 
 -- the same, with the bytes of the replies, which have no length before them
-pub record IsTakenOver {D : Type 0} {g : Ghosts D} (old : Storage D g) (before : State) (hand : Hand) (body : List ℕ)
-    (replies : List (List ℕ)) (new : Storage D g) (after : State) (hand' : Hand) : Type 0 where
+pub record IsTakenOver {D : Type 0} {g : Ghosts D} (old : Storage D g) (before : State) (open_group : OpenGroup) (body : List ℕ)
+    (replies : List (List ℕ)) (new : Storage D g) (after : State) (open_group' : OpenGroup) : Type 0 where
   pub told : List ReplyValue
   pub are : replies ≡ map reply_record told
-  pub size : hand'.size ≡ hand.size
-  pub ready : HandIsReady new hand'
-  pub taken : TakenIn old before hand body told new after hand'
+  pub size : open_group'.size ≡ open_group.size
+  pub ready : OpenGroupIsReady new open_group'
+  pub taken : TakenIn old before open_group body told new after open_group'
 
-pub record IsEndedOver {D : Type 0} {g : Ghosts D} (old : Storage D g) (before : State) (hand : Hand)
-    (replies : List (List ℕ)) (new : Storage D g) (after : State) (hand' : Hand) : Type 0 where
+pub record IsEndedOver {D : Type 0} {g : Ghosts D} (old : Storage D g) (before : State) (open_group : OpenGroup)
+    (replies : List (List ℕ)) (new : Storage D g) (after : State) (open_group' : OpenGroup) : Type 0 where
   pub told : List ReplyValue
   pub are : replies ≡ map reply_record told
-  pub size : hand'.size ≡ hand.size
-  pub none : hand'.replies.items ≡ []
-  pub ended : EndedIn old before hand told new after hand'
+  pub size : open_group'.size ≡ open_group.size
+  pub none : open_group'.replies.items ≡ []
+  pub ended : EndedIn old before open_group told new after open_group'
 
--- In memory every body has one reply, handed out at that body. Over a store the group in hand takes it.
-abbrev pub Taken : {D : Type 0} {g : Ghosts D} → Storage D g → State → Hand → List ℕ → List (List ℕ) → Storage D g → State → Hand → Type 0
-Taken (Memory old) before hand body replies new after hand' = (new ≡ Memory old) × turn_written before body replies after
-Taken (Disk old) before hand body replies new after hand' = IsTakenOver (Disk old) before hand body replies new after hand'
+-- In memory every body has one reply, handed out at that body. Over a store the open group takes it.
+abbrev pub Taken : {D : Type 0} {g : Ghosts D} → Storage D g → State → OpenGroup → List ℕ → List (List ℕ) → Storage D g → State → OpenGroup → Type 0
+Taken (Memory old) before open_group body replies new after open_group' = (new ≡ Memory old) × turn_written before body replies after
+Taken (Disk old) before open_group body replies new after open_group' = IsTakenOver (Disk old) before open_group body replies new after open_group'
 
--- So none is held when the input ends. Over a store the group in hand ends, and its replies are handed out.
-abbrev pub InputEnds : {D : Type 0} {g : Ghosts D} → Storage D g → State → Hand → List (List ℕ) → Storage D g → State → Hand → Type 0
-InputEnds (Memory old) before hand replies new after hand' = (new ≡ Memory old) × none_held before replies after
-InputEnds (Disk old) before hand replies new after hand' = IsEndedOver (Disk old) before hand replies new after hand'
+-- So none is held when the input ends. Over a store the open group ends, and its replies are handed out.
+abbrev pub InputEnds : {D : Type 0} {g : Ghosts D} → Storage D g → State → OpenGroup → List (List ℕ) → Storage D g → State → OpenGroup → Type 0
+InputEnds (Memory old) before open_group replies new after open_group' = (new ≡ Memory old) × none_held before replies after
+InputEnds (Disk old) before open_group replies new after open_group' = IsEndedOver (Disk old) before open_group replies new after open_group'
 
 -- what holds of a server between two bodies
-abbrev pub TakesBodies : {D : Type 0} {g : Ghosts D} → Clerk D g → Type 0
-TakesBodies clerk = HandIsReady clerk.storage clerk.hand
+abbrev pub TakesBodies : {D : Type 0} {g : Ghosts D} → Engine D g → Type 0
+TakesBodies engine = OpenGroupIsReady engine.storage engine.open_group
 
-abbrev pub taken_written : {D : Type 0} {g : Ghosts D} → Clerk D g → List ℕ → List (List ℕ) → Clerk D g → Type 0
-taken_written old body replies new = Taken old.storage old.host old.hand body replies new.storage new.host new.hand
+abbrev pub taken_written : {D : Type 0} {g : Ghosts D} → Engine D g → List ℕ → List (List ℕ) → Engine D g → Type 0
+taken_written old body replies new = Taken old.storage old.host old.open_group body replies new.storage new.host new.open_group
 
-abbrev pub ended_written : {D : Type 0} {g : Ghosts D} → Clerk D g → List (List ℕ) → Clerk D g → Type 0
-ended_written old replies new = InputEnds old.storage old.host old.hand replies new.storage new.host new.hand
+abbrev pub ended_written : {D : Type 0} {g : Ghosts D} → Engine D g → List (List ℕ) → Engine D g → Type 0
+ended_written old replies new = InputEnds old.storage old.host old.open_group replies new.storage new.host new.open_group
 
 -- what was read and written, whatever the server does
 abbrev pub any_turn : Unit {0} → List ℕ → List (List ℕ) → Unit {0} → Type 0
@@ -145,7 +145,7 @@ EndsGroup size (Disk old) (Disk new) before bodies told after =
 EndsGroup size (Disk old) (Memory new) before bodies told after = ⊥
 EndsGroup size (Memory old) new before bodies told after = length bodies ≡ 1
 
--- So over a store; in memory, and after a fault of the device, none is in hand.
+-- So over a store; in memory, and after a fault of the device, none is held.
 abbrev pub EndsBefore : {D : Type 0} {g : Ghosts D} → ℕ → Storage D g → Storage D g → State → List (List ℕ) → List ReplyValue
     → State → Type 0
 EndsBefore size (Disk old) (Disk new) before bodies told after =
@@ -172,22 +172,22 @@ calls_of size [] = []
 calls_of size (part ∷ parts) = record { size = size; bodies = part.bodies; replies = part.told } ∷ calls_of size parts
 
 -- The bodies of a session part by part: the replies of each, one group, are handed out at its last body, that is, before the next one
--- is read, and are those of a call that is over by then. What is in hand at the end is no group yet; it is a call too, whose replies are
+-- is read, and are those of a call that is over by then. What the open group holds at the end is no group yet; it is a call too, whose replies are
 -- handed out then.
 pub record InParts {D : Type 0} {g : Ghosts D} (size : ℕ) (old new : Storage D g) (before after : State) (bodies : List (List ℕ))
     (handed : List (List (List ℕ))) (held : List (List ℕ)) : Type 0 where
   pub parts : List Part
-  pub in_hand : List (List ℕ)
+  pub open_bodies : List (List ℕ)
   pub told : List ReplyValue
   pub mid : Storage D g
   pub state : State
-  pub bodies_are : bodies ≡ bodies_of_parts parts ++ in_hand
-  pub handed_are : handed ≡ handed_of parts ++ silent in_hand
+  pub bodies_are : bodies ≡ bodies_of_parts parts ++ open_bodies
+  pub handed_are : handed ≡ handed_of parts ++ silent open_bodies
   pub held_are : held ≡ map reply_record told
   pub served : Parts size old mid before parts state
-  pub few : length in_hand < size
-  pub rest : EndsBefore size mid new state in_hand told after
-  pub ends : Serves size mid new state in_hand told after
+  pub few : length open_bodies < size
+  pub rest : EndsBefore size mid new state open_bodies told after
+  pub ends : Serves size mid new state open_bodies told after
 
 -- A whole session: what was read and written, and that these replies are what serving the bodies that were read and answered in groups of
 -- this size makes. Where the writer failed before a body that is a group of its own, that body is none of them.
@@ -200,7 +200,7 @@ pub record ServesSession {D : Type 0} {g : Ghosts D} (f : Frames) (last : List �
   pub in_parts : InParts size old new before after io.bodies io.handed io.held
 
 -- the same of a server
-abbrev pub HasTalked : {D : Type 0} {g : Ghosts D} → Frames → Input → Input → Output → Output → ℕ → Clerk D g → Clerk D g → Served → Type 0
+abbrev pub HasTalked : {D : Type 0} {g : Ghosts D} → Frames → Input → Input → Output → Output → ℕ → Engine D g → Engine D g → Served → Type 0
 HasTalked f input input' out out' size old new served =
     ServesSession f last_written input input' out out' size old.storage new.storage old.host new.host served
 

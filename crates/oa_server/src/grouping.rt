@@ -1,16 +1,16 @@
 //! A server over a store: groups of requests whose events go out under one gate, and whose replies are held back until then.
 ghost use Rattle.std.specs.Prelude.{◌≡◌, ◌≤◌, ◌<◌, ◌+◌, ◌++◌, [], IfOk, OnErr, false, length, map, true, vec_capacity};
-ghost use Rattle.oa_groups.specs.Desks.{IsEnded, IsSettled, IsTaken};
+ghost use Rattle.oa_groups.specs.Groupings.{IsEnded, IsSettled, IsTaken};
 ghost use Rattle.oa_groups.specs.Served.{IsServed};
 ghost use Rattle.oa_journal.specs.Shapes.{ample_bytes};
 ghost use Rattle.oa_keeper.specs.Kept.{HasRoom};
 ghost use Rattle.oa_record.specs.Replacement.{is_replacement};
 ghost use Rattle.oa_server.specs.Answers.{IsAnswered, AnswersAfterFault, IsRenewed, IsRenewedOrLate};
-ghost use Rattle.oa_server.specs.Hands.{CanTake, CanTakeCleared, HandsOut, HasBanks, cleared_desk, desk_of};
+ghost use Rattle.oa_server.specs.OpenGroups.{CanTake, CanTakeCleared, HandsOut, HasBanks, cleared_grouping, grouping_of};
 ghost use Rattle.oa_server.specs.Requests.{requests};
 
-use crate::hand::{Hand, bare_reply, withdraw};
 use crate::holding::turn_held;
+use crate::open_group::{OpenGroup, bare_reply, withdraw};
 use crate::renewal::renew_over;
 use oa_disk::Disk;
 use oa_keeper::{Batch, commit};
@@ -62,66 +62,66 @@ fn renewed_over<D: Disk>(alloc: Global, host: &mut Host, store: &mut Store<D>, b
     }
 }
 
-/// Ends the group in hand: its events go out, and its replies may be handed out, or are taken back.
-fn settle<D: Disk>(alloc: Global, host: &Host, store: &mut Store<D>, hand: &mut Hand)
+/// Ends the open group: its events go out, and its replies may be handed out, or are taken back.
+fn settle<D: Disk>(alloc: Global, host: &Host, store: &mut Store<D>, open_group: &mut OpenGroup)
     requires goes_on { store.old.stopped ≡ false }
-    requires room { HasRoom hand.old.batch store.old }
-    requires few { length hand.old.batch + 6 ≤ ample_bytes }
-    ensures settled { IsSettled requests hand.new.replies.items (desk_of store.old host.now hand.old)
-        (cleared_desk store.new host.now hand.new) }
-    ensures batch { hand.new.batch ≡ [] }
+    requires room { HasRoom open_group.old.batch store.old }
+    requires few { length open_group.old.batch + 6 ≤ ample_bytes }
+    ensures settled { IsSettled requests open_group.new.replies.items (grouping_of store.old host.now open_group.old)
+        (cleared_grouping store.new host.now open_group.new) }
+    ensures batch { open_group.new.batch ≡ [] }
     ensures shape { store.new.bank.shape ≡ store.old.bank.shape }
-    ensures len { length hand.new.replies.items ≡ length hand.old.replies.items }
-    ensures places { vec_capacity hand.new.replies ≡ vec_capacity hand.old.replies }
-    ensures size { hand.new.size ≡ hand.old.size }
+    ensures len { length open_group.new.replies.items ≡ length open_group.old.replies.items }
+    ensures places { vec_capacity open_group.new.replies ≡ vec_capacity open_group.old.replies }
+    ensures size { open_group.new.size ≡ open_group.old.size }
 {
-    if let Err(_) = commit(store, &mut hand.batch) {
-        withdraw(alloc, &mut hand.replies);
+    if let Err(_) = commit(store, &mut open_group.batch) {
+        withdraw(alloc, &mut open_group.replies);
     }
 }
 
-/// Takes one request. True where the group in hand has ended: its replies are to be handed out, those that are in hand then.
+/// Takes one request. True where the open group has ended: its replies are to be handed out, those that it holds then.
 pub(crate) fn take<D: Disk>(
     alloc: Global,
     host: &mut Host,
     store: &mut Store<D>,
-    hand: &mut Hand,
+    open_group: &mut OpenGroup,
     body: &[u8],
 ) -> bool
-    requires ready { CanTake store.old hand.old }
+    requires ready { CanTake store.old open_group.old }
     requires banks { HasBanks store.old host.old }
     ensures held { result ≡ false
-        → IsTaken requests hand.old.size body.now [] (desk_of store.old host.old hand.old) (desk_of store.new host.new hand.new) }
-    ensures told { result ≡ true → IsTaken requests hand.old.size body.now hand.new.replies.items (desk_of store.old host.old hand.old)
-        (cleared_desk store.new host.new hand.new) }
-    ensures ready { result ≡ false → CanTake store.new hand.new }
-    ensures cleared { result ≡ true → CanTakeCleared store.new hand.new }
+        → IsTaken requests open_group.old.size body.now [] (grouping_of store.old host.old open_group.old) (grouping_of store.new host.new open_group.new) }
+    ensures told { result ≡ true → IsTaken requests open_group.old.size body.now open_group.new.replies.items (grouping_of store.old host.old open_group.old)
+        (cleared_grouping store.new host.new open_group.new) }
+    ensures ready { result ≡ false → CanTake store.new open_group.new }
+    ensures cleared { result ≡ true → CanTakeCleared store.new open_group.new }
     ensures banks { HasBanks store.new host.new }
-    ensures one { length hand.new.replies.items ≡ length hand.old.replies.items + 1 }
-    ensures size { hand.new.size ≡ hand.old.size }
+    ensures one { length open_group.new.replies.items ≡ length open_group.old.replies.items + 1 }
+    ensures size { open_group.new.size ≡ open_group.old.size }
 {
     if store.has_stopped() {
         let reply = bare_reply(alloc, body, HResult::E_FAIL);
-        hand.replies.push_reserved(reply);
+        open_group.replies.push_reserved(reply);
         return true;
     }
     if is_replacement(body) {
-        take_apart(alloc, host, store, hand, body);
+        take_apart(alloc, host, store, open_group, body);
         return true;
     }
-    match turn_held(alloc, host, store, &mut hand.batch, body) {
+    match turn_held(alloc, host, store, &mut open_group.batch, body) {
         Ok(reply) => {
-            hand.replies.push_reserved(reply);
-            if !hand.is_full() {
+            open_group.replies.push_reserved(reply);
+            if !open_group.is_full() {
                 return false;
             }
-            settle(alloc, host, store, hand);
+            settle(alloc, host, store, open_group);
             true
         }
         Err(_) => {
             let reply = bare_reply(alloc, body, HResult::STG_E_WRITEFAULT);
-            withdraw(alloc, &mut hand.replies);
-            hand.replies.push_reserved(reply);
+            withdraw(alloc, &mut open_group.replies);
+            open_group.replies.push_reserved(reply);
             true
         }
     }
@@ -145,45 +145,45 @@ fn renewed_or_late<D: Disk>(
     bare_reply(alloc, body, HResult::E_FAIL)
 }
 
-/// Takes a request that is a group of its own: first the group in hand ends. All replies in hand are to be handed out then.
+/// Takes a request that is a group of its own: first the open group ends. All replies that it holds are to be handed out then.
 fn take_apart<D: Disk>(
     alloc: Global,
     host: &mut Host,
     store: &mut Store<D>,
-    hand: &mut Hand,
+    open_group: &mut OpenGroup,
     body: &[u8],
 )
-    requires ready { CanTake store.old hand.old }
+    requires ready { CanTake store.old open_group.old }
     requires going { store.old.stopped ≡ false }
     requires kind { is_replacement body.now ≡ true }
     requires banks { HasBanks store.old host.old }
-    ensures told { IsTaken requests hand.old.size body.now hand.new.replies.items (desk_of store.old host.old hand.old)
-        (cleared_desk store.new host.new hand.new) }
-    ensures cleared { CanTakeCleared store.new hand.new }
+    ensures told { IsTaken requests open_group.old.size body.now open_group.new.replies.items (grouping_of store.old host.old open_group.old)
+        (cleared_grouping store.new host.new open_group.new) }
+    ensures cleared { CanTakeCleared store.new open_group.new }
     ensures banks { HasBanks store.new host.new }
-    ensures one { length hand.new.replies.items ≡ length hand.old.replies.items + 1 }
-    ensures size { hand.new.size ≡ hand.old.size }
+    ensures one { length open_group.new.replies.items ≡ length open_group.old.replies.items + 1 }
+    ensures size { open_group.new.size ≡ open_group.old.size }
 {
-    finish(alloc, host, store, hand);
-    hand.batch = Batch::new(alloc);
+    finish(alloc, host, store, open_group);
+    open_group.batch = Batch::new(alloc);
     let reply = renewed_or_late(alloc, host, store, body);
-    hand.replies.push_reserved(reply);
+    open_group.replies.push_reserved(reply);
 }
 
-/// The input has ended: what is in hand is a group, whose replies are to be handed out.
-pub(crate) fn finish<D: Disk>(alloc: Global, host: &Host, store: &mut Store<D>, hand: &mut Hand)
-    requires ready { CanTake store.old hand.old }
-    ensures ended { IsEnded requests hand.new.replies.items (desk_of store.old host.now hand.old)
-        (cleared_desk store.new host.now hand.new) }
-    ensures cleared { CanTakeCleared store.new hand.new }
+/// The input has ended: the open group has ended, whose replies are to be handed out.
+pub(crate) fn finish<D: Disk>(alloc: Global, host: &Host, store: &mut Store<D>, open_group: &mut OpenGroup)
+    requires ready { CanTake store.old open_group.old }
+    ensures ended { IsEnded requests open_group.new.replies.items (grouping_of store.old host.now open_group.old)
+        (cleared_grouping store.new host.now open_group.new) }
+    ensures cleared { CanTakeCleared store.new open_group.new }
     ensures shape { store.new.bank.shape ≡ store.old.bank.shape }
-    ensures len { length hand.new.replies.items ≡ length hand.old.replies.items }
-    ensures size { hand.new.size ≡ hand.old.size }
+    ensures len { length open_group.new.replies.items ≡ length open_group.old.replies.items }
+    ensures size { open_group.new.size ≡ open_group.old.size }
 {
-    if hand.replies.is_empty() {
+    if open_group.replies.is_empty() {
         return;
     }
-    settle(alloc, host, store, hand);
+    settle(alloc, host, store, open_group);
 }
 
 /// Takes one request, and hands the replies of a group that has ended out.
@@ -191,42 +191,42 @@ fn take_on<D: Disk>(
     alloc: Global,
     host: &mut Host,
     store: &mut Store<D>,
-    hand: &mut Hand,
+    open_group: &mut OpenGroup,
     body: &[u8],
     out: &mut Vec<Reply>,
 )
-    requires ready { CanTake store.old hand.old }
-    requires places { length out.old.items + length hand.old.replies.items < vec_capacity out.old }
+    requires ready { CanTake store.old open_group.old }
+    requires places { length out.old.items + length open_group.old.replies.items < vec_capacity out.old }
     requires banks { HasBanks store.old host.old }
-    ensures taken { HandsOut (λ told. IsTaken requests hand.old.size body.now told (desk_of store.old host.old hand.old)
-        (desk_of store.new host.new hand.new)) out.old.items out.new.items }
-    ensures ready { CanTake store.new hand.new }
+    ensures taken { HandsOut (λ told. IsTaken requests open_group.old.size body.now told (grouping_of store.old host.old open_group.old)
+        (grouping_of store.new host.new open_group.new)) out.old.items out.new.items }
+    ensures ready { CanTake store.new open_group.new }
     ensures banks { HasBanks store.new host.new }
-    ensures one { length out.new.items + length hand.new.replies.items ≡ length out.old.items + length hand.old.replies.items + 1 }
+    ensures one { length out.new.items + length open_group.new.replies.items ≡ length out.old.items + length open_group.old.replies.items + 1 }
     ensures places { vec_capacity out.old ≤ vec_capacity out.new }
-    ensures size { hand.new.size ≡ hand.old.size }
+    ensures size { open_group.new.size ≡ open_group.old.size }
 {
-    if take(alloc, host, store, hand, body) {
-        hand_out(&mut hand.replies, out);
+    if take(alloc, host, store, open_group, body) {
+        hand_out(&mut open_group.replies, out);
     }
 }
 
-/// The input has ended: the replies in hand are handed out too.
+/// The input has ended: the replies of the open group are handed out too.
 fn finish_on<D: Disk>(
     alloc: Global,
     host: &Host,
     store: &mut Store<D>,
-    hand: &mut Hand,
+    open_group: &mut OpenGroup,
     out: &mut Vec<Reply>,
 )
-    requires ready { CanTake store.old hand.old }
-    requires places { length out.old.items + length hand.old.replies.items ≤ vec_capacity out.old }
-    ensures ended { HandsOut (λ told. IsEnded requests told (desk_of store.old host.now hand.old) (desk_of store.new host.now hand.new))
+    requires ready { CanTake store.old open_group.old }
+    requires places { length out.old.items + length open_group.old.replies.items ≤ vec_capacity out.old }
+    ensures ended { HandsOut (λ told. IsEnded requests told (grouping_of store.old host.now open_group.old) (grouping_of store.new host.now open_group.new))
         out.old.items out.new.items }
     ensures shape { store.new.bank.shape ≡ store.old.bank.shape }
 {
-    finish(alloc, host, store, hand);
-    hand_out(&mut hand.replies, out);
+    finish(alloc, host, store, open_group);
+    hand_out(&mut open_group.replies, out);
 }
 
 /// Moves the replies to those that were handed out.
@@ -258,10 +258,10 @@ pub(crate) fn run_over<D: Disk>(
     ensures banks { HasBanks store.new host.new }
 {
     let mut out = Vec::with_capacity(alloc, bodies.len())?;
-    let mut hand = Hand::new(alloc, group)?;
+    let mut open_group = OpenGroup::new(alloc, group)?;
     'bodies: for body in bodies {
-        take_on(alloc, host, store, &mut hand, body, &mut out);
+        take_on(alloc, host, store, &mut open_group, body, &mut out);
     }
-    finish_on(alloc, host, store, &mut hand, &mut out);
+    finish_on(alloc, host, store, &mut open_group, &mut out);
     Ok(out)
 }

@@ -4,7 +4,7 @@ ghost use Rattle.oa_image.specs.Events.{event_image};
 ghost use Rattle.oa_keeper.specs.Holding.{CallsForRoom, IsOpenFor};
 ghost use Rattle.oa_keeper.specs.declared.fault.KeepFault.{KeepFault};
 ghost use Rattle.oa_record.specs.Replacement.{is_replacement};
-ghost use Rattle.oa_server.specs.Hands.{CallsWhereDue, CanBeMade, HasBanks, HoldsOn, IsAdded, IsCutOff, MakesWay};
+ghost use Rattle.oa_server.specs.OpenGroups.{CallsWhereDue, CanBeMade, HasBanks, HoldsOn, IsAdded, IsCutOff, MakesWay};
 ghost use Rattle.oa_server.specs.Requests.{IsHeldBack};
 ghost use Rattle.oa_turn.specs.Changes.{MakesChange};
 ghost use Rattle.oa_turn.specs.Events.{held_of};
@@ -21,7 +21,7 @@ use oa_table::Event;
 use oa_turn::{Host, Plan, Planned};
 use std::alloc::Global;
 
-/// One turn over a store. Its event is added to those in hand; before the first of them a checkpoint is made, where one is due. At
+/// One turn over a store. Its event is added to the open group's; before the first of them a checkpoint is made, where one is due. At
 /// `Err` the checkpoint failed.
 pub(crate) fn turn_held<D: Disk>(
     alloc: Global,
@@ -101,7 +101,7 @@ fn hold_change<D: Disk>(
     Ok(())
 }
 
-/// Makes a change that is allowed, and adds its event to those in hand. The growths come in this order: the event's bytes, the table's.
+/// Makes a change that is allowed, and adds its event to the open group's. The growths come in this order: the event's bytes, the table's.
 fn add_change(host: &mut Host, batch: &mut Batch, event: Event) -> Result<(), KeepFault>
     requires { CanBeMade host.old event }
     ensures change { MakesChange event host.old host.new result }

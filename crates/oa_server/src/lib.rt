@@ -7,11 +7,11 @@
 //! What stands on it: the program; oa_history, and the tests of sessions.
 #![tactic(auto)]
 
-mod clerk;
+mod engine;
 mod grouping;
-mod hand;
 mod holding;
 pub mod laws;
+mod open_group;
 mod renewal;
 mod server;
 mod serving;

@@ -2,11 +2,11 @@
 ghost use Rattle.std.specs.Prelude.{◌≡◌, false, true, IfOk, OnErr, OnOk};
 ghost use Rattle.oa_record.specs.Replies.{ReplyValue};
 ghost use Rattle.oa_server.specs.Answers.{RenewsStore};
-ghost use Rattle.oa_server.specs.Hands.{HasBanks};
+ghost use Rattle.oa_server.specs.OpenGroups.{HasBanks};
 ghost use Rattle.oa_turn.specs.Events.{is_done};
 ghost use Rattle.oa_turn.specs.Replacing.{Replacement};
 
-use crate::hand::bare_reply;
+use crate::open_group::bare_reply;
 use crate::starting::text_of;
 use oa_disk::Disk;
 use oa_keeper::DeviceFailed;
@@ -16,7 +16,7 @@ use oa_store::{CheckpointFault, Store};
 use oa_turn::{Host, Renewal};
 use std::alloc::Global;
 
-/// The turn of a body of opcode 12 over a store, with nothing in hand: a group of its own. The store goes on in its other bank with the other
+/// The turn of a body of opcode 12 over a store, where no group is open: a group of its own. The store goes on in its other bank with the other
 /// library; where the body is refused, the device is not called. At `Err` the device has failed, and the turn is in doubt: the state is
 /// the one after it.
 pub(crate) fn renew_over<D: Disk>(

@@ -9,7 +9,7 @@ ghost use Rattle.oa_turn.specs.Turns.{Run, Turn};
 ghost use Rattle.oa_server.specs.declared.storage.Storage.TheVariants.{Disk as ADisk};
 ghost use Rattle.oa_table.specs.Tables.{first_table};
 
-use crate::clerk::{Clerk, answer_with, run_with};
+use crate::engine::{Engine, answer_with, run_with};
 use crate::storage::Storage;
 use oa_disk::{Disk, NoDisk};
 use oa_journal::DEFAULT_BANK_BYTES;
@@ -23,18 +23,18 @@ use std::alloc::{AllocError, Global};
 /// An automation object server: in memory, or over a disk that keeps its table.
 #[derive(Drop)]
 pub struct Server<D: Disk> {
-    pub(crate) clerk: Clerk<D>,
+    pub(crate) engine: Engine<D>,
 }
 
 impl Server<NoDisk> {
     /// A server of this library in memory, with no objects. It makes no call of a disk.
     pub fn in_memory(alloc: Global, library: Library) -> Server<NoDisk>
-        ensures state { result.clerk.host ≡ record { bank = default_bank_bytes; library = library; table = first_table } }
-        ensures memory { InMemory result.clerk.storage }
+        ensures state { result.engine.host ≡ record { bank = default_bank_bytes; library = library; table = first_table } }
+        ensures memory { InMemory result.engine.storage }
     {
         let host = Host::new(alloc, DEFAULT_BANK_BYTES, library);
         Server {
-            clerk: Clerk::new(alloc, host, Storage::Memory(NoDisk::new())),
+            engine: Engine::new(alloc, host, Storage::Memory(NoDisk::new())),
         }
     }
 }
@@ -49,40 +49,40 @@ impl<D: Disk> Server<D> {
     ) -> Server<D>
         requires sound { IsSoundTable (body_bytes store.bank.shape) table }
         requires text { store.library.items ≡ canonical library }
-        ensures state { result.clerk.host ≡ record { bank = body_bytes store.bank.shape; library = library; table = table } }
-        ensures store { result.clerk.storage ≡ ADisk store }
+        ensures state { result.engine.host ≡ record { bank = body_bytes store.bank.shape; library = library; table = table } }
+        ensures store { result.engine.storage ≡ ADisk store }
     {
         let host = Host::over(alloc, store.bank_size(), library, table);
         Server {
-            clerk: Clerk::new(alloc, host, Storage::Disk(store)),
+            engine: Engine::new(alloc, host, Storage::Disk(store)),
         }
     }
 
     /// The disk as it is between two calls: its clock tells when the one before has ended. This makes no call.
     pub fn disk(&self) -> &D
-        ensures { result.now ≡ disk_of self.now.clerk.storage }
+        ensures { result.now ≡ disk_of self.now.engine.storage }
     {
-        self.clerk.storage.disk()
+        self.engine.storage.disk()
     }
 
     /// The disk as it is. This makes no call.
     pub fn into_disk(self) -> D
-        ensures { result ≡ disk_of self.clerk.storage }
+        ensures { result ≡ disk_of self.engine.storage }
     {
-        let Server { clerk } = self;
-        clerk.into_disk()
+        let Server { engine } = self;
+        engine.into_disk()
     }
 
     /// Answers one body: over a store a group of one, which is committed before this returns. Want of memory is told in the reply, which
     /// then leaves the server as it was.
     pub fn answer(&mut self, body: &[u8]) -> Reply
-        ensures answers { AnswersOne self.old.clerk.storage self.new.clerk.storage self.old.clerk.host body.now result self.new.clerk.host }
-        ensures memory { InMemory self.old.clerk.storage → Turn self.old.clerk.host body.now result self.new.clerk.host }
+        ensures answers { AnswersOne self.old.engine.storage self.new.engine.storage self.old.engine.host body.now result self.new.engine.host }
+        ensures memory { InMemory self.old.engine.storage → Turn self.old.engine.host body.now result self.new.engine.host }
     {
         answer_with(
-            self.clerk.alloc,
-            &mut self.clerk.host,
-            &mut self.clerk.storage,
+            self.engine.alloc,
+            &mut self.engine.host,
+            &mut self.engine.storage,
             body,
         )
     }
@@ -92,16 +92,16 @@ impl<D: Disk> Server<D> {
     pub fn run(&mut self, bodies: &[Vec<u8>], group: usize) -> Result<Vec<Reply>, AllocError>
         requires positive { 1 ≤ group }
         requires small { group ≤ max_group }
-        ensures serves { IfOk result (λ replies. Serves group self.old.clerk.storage self.new.clerk.storage self.old.clerk.host
-            (map (λ b. b.items) bodies.now) replies.items self.new.clerk.host) }
-        ensures memory { InMemory self.old.clerk.storage
-            → IfOk result (λ replies. Run self.old.clerk.host (map (λ b. b.items) bodies.now) replies.items self.new.clerk.host) }
-        ensures err { OnErr result ((self.new.clerk.storage ≡ self.old.clerk.storage) × (self.new.clerk.host ≡ self.old.clerk.host)) }
+        ensures serves { IfOk result (λ replies. Serves group self.old.engine.storage self.new.engine.storage self.old.engine.host
+            (map (λ b. b.items) bodies.now) replies.items self.new.engine.host) }
+        ensures memory { InMemory self.old.engine.storage
+            → IfOk result (λ replies. Run self.old.engine.host (map (λ b. b.items) bodies.now) replies.items self.new.engine.host) }
+        ensures err { OnErr result ((self.new.engine.storage ≡ self.old.engine.storage) × (self.new.engine.host ≡ self.old.engine.host)) }
     {
         run_with(
-            self.clerk.alloc,
-            &mut self.clerk.host,
-            &mut self.clerk.storage,
+            self.engine.alloc,
+            &mut self.engine.host,
+            &mut self.engine.storage,
             bodies,
             group,
         )

@@ -13,9 +13,9 @@ ghost use Rattle.oa_server.specs.OneReply.{one_reply};
 ghost use Rattle.oa_server.specs.Storages.{InMemory};
 
 use crate::Server;
-use crate::clerk::Clerk;
+use crate::engine::Engine;
 use crate::grouping::{finish, take};
-use crate::hand::Hand;
+use crate::open_group::OpenGroup;
 use crate::storage::Storage;
 use oa_disk::Disk;
 use oa_frame::{Framing, Responder, Served, put_reply, serve};
@@ -26,7 +26,7 @@ use std::alloc::AllocError;
 
 /// In memory each body has its reply at once. Over a store its reply is held until its group ends, and then all replies of the group are
 /// written.
-impl<D: Disk> Responder for Clerk<D> {
+impl<D: Disk> Responder for Engine<D> {
     ghost ready = { TakesBodies };
 
     ghost turn = { taken_written };
@@ -53,10 +53,10 @@ impl<D: Disk> Responder for Clerk<D> {
                 put_reply(framing, writer, &reply.head(), reply.body())
             }
             Storage::Disk(store) => {
-                if !take(self.alloc, &mut self.host, store, &mut self.hand, body) {
+                if !take(self.alloc, &mut self.host, store, &mut self.open_group, body) {
                     return Ok(());
                 }
-                put_held(framing, writer, &mut self.hand.replies)
+                put_held(framing, writer, &mut self.open_group.replies)
             }
         }
     }
@@ -65,8 +65,8 @@ impl<D: Disk> Responder for Clerk<D> {
         match &mut self.storage {
             Storage::Memory(_) => Ok(()),
             Storage::Disk(store) => {
-                finish(self.alloc, &self.host, store, &mut self.hand);
-                put_held(framing, writer, &mut self.hand.replies)
+                finish(self.alloc, &self.host, store, &mut self.open_group);
+                put_held(framing, writer, &mut self.open_group.replies)
             }
         }
     }
@@ -75,14 +75,14 @@ impl<D: Disk> Responder for Clerk<D> {
         match &mut self.storage {
             Storage::Memory(_) => {}
             Storage::Disk(store) => {
-                finish(self.alloc, &self.host, store, &mut self.hand);
-                self.hand.replies.clear();
+                finish(self.alloc, &self.host, store, &mut self.open_group);
+                self.open_group.replies.clear();
             }
         }
     }
 }
 
-/// Writes the replies in hand, and lets them go.
+/// Writes the replies that are held, and lets them go.
 fn put_held<W: Sink>(
     framing: Framing,
     writer: &mut W,
@@ -117,7 +117,7 @@ fn put_replies<W: Sink>(
 impl<D: Disk> Server<D> {
     /// Answers the bodies of a reader, a line of hexadecimal digits each, by lines on a writer. `group` is from 1 to 1,024: over a store
     /// the changes of so many requests are committed together, and their replies are written behind that; in memory each reply is written
-    /// before the next line is read. At the end what is in hand is committed and its replies are written. All replies that are written are
+    /// before the next line is read. At the end the open group is committed and its replies are written. All replies that are written are
     /// handed on before each wait for more input. Err only where memory is refused before anything was read.
     pub fn serve_hex<R: Source + Drop, W: Sink>(
         &mut self,
@@ -129,14 +129,14 @@ impl<D: Disk> Server<D> {
         requires small { group ≤ max_group }
         requires unbroken { AreUnbroken (ahead R.input reader.old) (W.out writer.old) }
         ensures session { IfOk result (HasTalked hex_lines (ahead R.input reader.old) (ahead R.input reader.new)
-            (W.out writer.old) (W.out writer.new) group self.old.clerk self.new.clerk) }
-        ensures memory { InMemory self.old.clerk.storage → IfOk result (HasTalkedInMemory hex_lines (ahead R.input reader.old)
-            (ahead R.input reader.new) (W.out writer.old) (W.out writer.new) self.old.clerk.host self.new.clerk.host) }
+            (W.out writer.old) (W.out writer.new) group self.old.engine self.new.engine) }
+        ensures memory { InMemory self.old.engine.storage → IfOk result (HasTalkedInMemory hex_lines (ahead R.input reader.old)
+            (ahead R.input reader.new) (W.out writer.old) (W.out writer.new) self.old.engine.host self.new.engine.host) }
         ensures input { OnErr result (ahead R.input reader.new ≡ ahead R.input reader.old) }
         ensures output { OnErr result (W.out writer.new ≡ W.out writer.old) }
         ensures state { OnErr result (self.new ≡ self.old) }
     {
-        session_with(&mut self.clerk, Framing::HexLines, reader, writer, group)
+        session_with(&mut self.engine, Framing::HexLines, reader, writer, group)
     }
 
     /// The same of records: each body and each reply stands behind its length, a u32. A length of 0 ends the session.
@@ -150,21 +150,21 @@ impl<D: Disk> Server<D> {
         requires small { group ≤ max_group }
         requires unbroken { AreUnbroken (ahead R.input reader.old) (W.out writer.old) }
         ensures session { IfOk result (HasTalked records (ahead R.input reader.old) (ahead R.input reader.new)
-            (W.out writer.old) (W.out writer.new) group self.old.clerk self.new.clerk) }
-        ensures memory { InMemory self.old.clerk.storage → IfOk result (HasTalkedInMemory records (ahead R.input reader.old)
-            (ahead R.input reader.new) (W.out writer.old) (W.out writer.new) self.old.clerk.host self.new.clerk.host) }
+            (W.out writer.old) (W.out writer.new) group self.old.engine self.new.engine) }
+        ensures memory { InMemory self.old.engine.storage → IfOk result (HasTalkedInMemory records (ahead R.input reader.old)
+            (ahead R.input reader.new) (W.out writer.old) (W.out writer.new) self.old.engine.host self.new.engine.host) }
         ensures input { OnErr result (ahead R.input reader.new ≡ ahead R.input reader.old) }
         ensures output { OnErr result (W.out writer.new ≡ W.out writer.old) }
         ensures state { OnErr result (self.new ≡ self.old) }
     {
-        session_with(&mut self.clerk, Framing::Records, reader, writer, group)
+        session_with(&mut self.engine, Framing::Records, reader, writer, group)
     }
 }
 
-/// A session in either framing, with a hand of its own and room for the longest line and the longest body. What memory these take is given
+/// A session in either framing, with a group of its own and room for the longest line and the longest body. What memory these take is given
 /// back at the end.
 fn session_with<D: Disk, R: Source + Drop, W: Sink>(
-    clerk: &mut Clerk<D>,
+    engine: &mut Engine<D>,
     framing: Framing,
     reader: &mut Ahead<R>,
     writer: &mut W,
@@ -173,44 +173,44 @@ fn session_with<D: Disk, R: Source + Drop, W: Sink>(
     requires positive { 1 ≤ group }
     requires unbroken { AreUnbroken (ahead R.input reader.old) (W.out writer.old) }
     ensures session { IfOk result (HasTalked (frames framing) (ahead R.input reader.old) (ahead R.input reader.new)
-        (W.out writer.old) (W.out writer.new) group clerk.old clerk.new) }
-    ensures memory { InMemory clerk.old.storage → IfOk result (HasTalkedInMemory (frames framing) (ahead R.input reader.old)
-        (ahead R.input reader.new) (W.out writer.old) (W.out writer.new) clerk.old.host clerk.new.host) }
-    ensures hand { OnOk result (clerk.new.hand.size ≡ 0) }
+        (W.out writer.old) (W.out writer.new) group engine.old engine.new) }
+    ensures memory { InMemory engine.old.storage → IfOk result (HasTalkedInMemory (frames framing) (ahead R.input reader.old)
+        (ahead R.input reader.new) (W.out writer.old) (W.out writer.new) engine.old.host engine.new.host) }
+    ensures open_group { OnOk result (engine.new.open_group.size ≡ 0) }
     ensures input { OnErr result (ahead R.input reader.new ≡ ahead R.input reader.old) }
     ensures output { OnErr result (W.out writer.new ≡ W.out writer.old) }
-    ensures state { OnErr result (clerk.new ≡ clerk.old) }
+    ensures state { OnErr result (engine.new ≡ engine.old) }
 {
-    let alloc = clerk.alloc;
+    let alloc = engine.alloc;
     let mut line = Vec::with_capacity(alloc, MAX_LINE_CHARACTERS as usize + 1)?;
     let mut body = Vec::with_capacity(alloc, MAX_REQUEST_BYTES as usize)?;
-    let hand = Hand::new(alloc, group)?;
-    clerk.hand = hand;
-    let served = talk(clerk, framing, reader, writer, &mut line, &mut body);
-    clerk.hand = Hand::none(alloc);
+    let open_group = OpenGroup::new(alloc, group)?;
+    engine.open_group = open_group;
+    let served = talk(engine, framing, reader, writer, &mut line, &mut body);
+    engine.open_group = OpenGroup::none(alloc);
     Ok(served)
 }
 
-/// The same with all its memory: a hand without a request, which has the places of a group's replies, and room for a line and a body.
+/// The same with all its memory: a group without a request, which has the places of a group's replies, and room for a line and a body.
 fn talk<D: Disk, R: Source + Drop, W: Sink>(
-    clerk: &mut Clerk<D>,
+    engine: &mut Engine<D>,
     framing: Framing,
     reader: &mut Ahead<R>,
     writer: &mut W,
     line: &mut Vec<u8>,
     body: &mut Vec<u8>,
 ) -> Served
-    requires positive { 1 ≤ clerk.old.hand.size }
-    requires places { clerk.old.hand.size ≤ vec_capacity clerk.old.hand.replies }
-    requires replies { clerk.old.hand.replies.items ≡ [] }
-    requires batch { clerk.old.hand.batch ≡ [] }
+    requires positive { 1 ≤ engine.old.open_group.size }
+    requires places { engine.old.open_group.size ≤ vec_capacity engine.old.open_group.replies }
+    requires replies { engine.old.open_group.replies.items ≡ [] }
+    requires batch { engine.old.open_group.batch ≡ [] }
     requires buffers { HoldLongest (vec_capacity line.now) (vec_capacity body.now) }
     requires unbroken { AreUnbroken (ahead R.input reader.old) (W.out writer.old) }
     ensures session { HasTalked (frames framing) (ahead R.input reader.old) (ahead R.input reader.new)
-        (W.out writer.old) (W.out writer.new) clerk.old.hand.size clerk.old clerk.new result }
-    ensures memory { InMemory clerk.old.storage → HasTalkedInMemory (frames framing) (ahead R.input reader.old) (ahead R.input reader.new)
-        (W.out writer.old) (W.out writer.new) clerk.old.host clerk.new.host result }
+        (W.out writer.old) (W.out writer.new) engine.old.open_group.size engine.old engine.new result }
+    ensures memory { InMemory engine.old.storage → HasTalkedInMemory (frames framing) (ahead R.input reader.old) (ahead R.input reader.new)
+        (W.out writer.old) (W.out writer.new) engine.old.host engine.new.host result }
 {
-    let last = Reply::bare(clerk.alloc, 0, HResult::BAD_STUB_DATA, None).head();
-    serve(clerk, framing, &last, reader, writer, line, body)
+    let last = Reply::bare(engine.alloc, 0, HResult::BAD_STUB_DATA, None).head();
+    serve(engine, framing, &last, reader, writer, line, body)
 }

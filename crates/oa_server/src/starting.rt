@@ -68,10 +68,10 @@ impl<D: Disk> Server<D> {
     /// hands the disk back; it is Damaged(0) also where the library cannot have the table, or a bank has no room for its image. Locks end
     /// with a session: the table has none.
     pub fn open(alloc: Global, disk: D, library: Library) -> Result<Server<D>, (D, OpenFault)>
-        ensures library { IfOk result (λ server. server.clerk.host.library ≡ library) }
-        ensures bank { IfOk result (λ server. server.clerk.host.bank ≡ bank_of server.clerk.storage) }
-        ensures opened { IfOk result (λ server. OverStore server.clerk.storage
-            (λ store. IsOpened D.Disk disk library store server.clerk.host.table)) }
+        ensures library { IfOk result (λ server. server.engine.host.library ≡ library) }
+        ensures bank { IfOk result (λ server. server.engine.host.bank ≡ bank_of server.engine.storage) }
+        ensures opened { IfOk result (λ server. OverStore server.engine.storage
+            (λ store. IsOpened D.Disk disk library store server.engine.host.table)) }
         ensures refused { IfErr result (λ e. IsNotOpened D.Disk disk e.0 library e.1) }
     {
         let (store, table) = open_store(alloc, disk, &library)?;

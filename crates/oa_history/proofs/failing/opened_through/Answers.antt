@@ -15,14 +15,14 @@ returns-in-Ok-clause-begins c state kept =
     let alone = subst (λ (d : MemoryDisk). NothingPending contents_of image_of d) (sym c.new-fuse.ensures.disk) c.requires.alone in
     let holds = subst (λ (d : MemoryDisk). HoldsState requests state (contents_of d)) (sym c.new-fuse.ensures.disk) kept.holds in
     let same = c.in_ok-library.ensures.kept state kept.holds kept.begins.checked in
-    let clerk = c.in-Ok.server.clerk in
+    let engine = c.in-Ok.server.engine in
     record {
       fuse = fuse;
       within = c.new-fuse.ensures.disk;
       passes = c.new-fuse.ensures.calls;
       begins = record {
-        host = serves fuse library state alone (λ d. refl) holds kept.unlocked same clerk.storage clerk.host c.in-Ok.ensures.library c.in-Ok.ensures.bank c.in-Ok.ensures.opened;
-        over = sits fuse library state alone (λ d. refl) holds kept.unlocked same c.an_opening_finds_what_was_kept.ensures.begins clerk.storage clerk.host.table c.in-Ok.ensures.opened;
+        host = serves fuse library state alone (λ d. refl) holds kept.unlocked same engine.storage engine.host c.in-Ok.ensures.library c.in-Ok.ensures.bank c.in-Ok.ensures.opened;
+        over = sits fuse library state alone (λ d. refl) holds kept.unlocked same c.an_opening_finds_what_was_kept.ensures.begins engine.storage engine.host.table c.in-Ok.ensures.opened;
       };
     }
 

@@ -3,4 +3,4 @@ use Rattle.oa_history.specs.Survived.{Answered}
 use Rattle.oa_history.proofs.failing.told_by.Given as goal
 
 abbrev pub invariant-calls : goal.invariant-calls
-invariant-calls l = Answered l.fn.server.clerk.storage l.fn.server.clerk.host (take l.call-index l.calls) l.told.items l.server.clerk.storage l.server.clerk.host
+invariant-calls l = Answered l.fn.server.engine.storage l.fn.server.engine.host (take l.call-index l.calls) l.told.items l.server.engine.storage l.server.engine.host

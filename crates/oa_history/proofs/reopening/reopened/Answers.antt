@@ -8,10 +8,10 @@ returns-in-Ok-clause-begins c state kept =
     let disk = c.args.disk in
     let library = c.in_ok-library.library in
     let same = c.in_ok-library.ensures.kept state kept.holds kept.begins.checked in
-    let clerk = c.in-Ok.server.clerk in
+    let engine = c.in-Ok.server.engine in
     record {
-      host = serves disk library state c.requires.alone (λ d. refl) kept.holds kept.unlocked same clerk.storage clerk.host c.in-Ok.ensures.library c.in-Ok.ensures.bank c.in-Ok.ensures.opened;
-      over = sits disk library state c.requires.alone (λ d. refl) kept.holds kept.unlocked same c.an_opening_finds_what_was_kept.ensures.begins clerk.storage clerk.host.table c.in-Ok.ensures.opened;
+      host = serves disk library state c.requires.alone (λ d. refl) kept.holds kept.unlocked same engine.storage engine.host c.in-Ok.ensures.library c.in-Ok.ensures.bank c.in-Ok.ensures.opened;
+      over = sits disk library state c.requires.alone (λ d. refl) kept.holds kept.unlocked same c.an_opening_finds_what_was_kept.ensures.begins engine.storage engine.host.table c.in-Ok.ensures.opened;
     }
 
 pub returns-clause-wanting : goal.returns-clause-wanting

@@ -6,5 +6,5 @@ use Rattle.oa_history.proofs.stopping.answered.Given as goal
 abbrev pub invariant-calls : goal.invariant-calls
 invariant-calls l = record {
   all : length l.answers.items ≡ length (take l.call-index l.calls);
-  made : Made l.fn.server.clerk.storage l.fn.server.clerk.host (calls_of (take l.call-index l.calls) l.answers.items) l.server.clerk.storage l.server.clerk.host;
+  made : Made l.fn.server.engine.storage l.fn.server.engine.host (calls_of (take l.call-index l.calls) l.answers.items) l.server.engine.storage l.server.engine.host;
 }

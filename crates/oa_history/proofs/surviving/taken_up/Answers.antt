@@ -12,12 +12,12 @@ returns-in-Ok-clause-taken c state holds begins =
     let library = c.in_ok-library.library in
     let same = c.in_ok-library.ensures.kept state holds begins.checked in
     let law = c.an_opening_finds_what_was_kept.ensures in
-    let clerk = c.in-Ok.server.clerk in
-    let host = host_is disk library state (λ d. refl) holds begins same law.kept clerk.storage clerk.host c.in-Ok.ensures.library c.in-Ok.ensures.bank c.in-Ok.ensures.opened in
+    let engine = c.in-Ok.server.engine in
+    let host = host_is disk library state (λ d. refl) holds begins same law.kept engine.storage engine.host c.in-Ok.ensures.library c.in-Ok.ensures.bank c.in-Ok.ensures.opened in
     record {
       host = host;
-      found = opened_so disk library state (λ d. refl) holds begins same law.kept clerk.storage clerk.host host c.in-Ok.ensures.opened;
-      over = all_hold disk library state (λ d. refl) holds begins same law.kept law.joins clerk.storage clerk.host.table c.in-Ok.ensures.opened;
+      found = opened_so disk library state (λ d. refl) holds begins same law.kept engine.storage engine.host host c.in-Ok.ensures.opened;
+      over = all_hold disk library state (λ d. refl) holds begins same law.kept law.joins engine.storage engine.host.table c.in-Ok.ensures.opened;
     }
 
 pub returns-clause-wanting : goal.returns-clause-wanting

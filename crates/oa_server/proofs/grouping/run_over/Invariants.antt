@@ -2,17 +2,17 @@ use Rattle.std.proofs.Common.{◌≡◌, ◌+◌, ◌≤◌, false, true, [], ta
 use Rattle.std.specs.Prelude.{vec_capacity}
 use Rattle.oa_groups.specs.Going.{Underway}
 use Rattle.oa_server.specs.Answers.{AnswersAfterFault}
-use Rattle.oa_server.specs.Hands.{HasBanks, IsReady, desk}
+use Rattle.oa_server.specs.OpenGroups.{HasBanks, IsReady, grouping}
 use Rattle.oa_server.specs.Requests.{requests}
 use Rattle.oa_server.proofs.grouping.run_over.Given as goal
 
 abbrev pub invariant-bodies : goal.invariant-bodies
 invariant-bodies g l = record {
-  ready : IsReady l.store l.hand.size (vec_capacity l.hand.replies) l.hand.replies.items l.hand.batch;
+  ready : IsReady l.store l.open_group.size (vec_capacity l.open_group.replies) l.open_group.replies.items l.open_group.batch;
   banks : HasBanks l.store l.host;
-  size : l.hand.size ≡ l.group;
-  count : length l.out.items + length l.hand.replies.items ≡ l.body-index;
+  size : l.open_group.size ≡ l.group;
+  count : length l.out.items + length l.open_group.replies.items ≡ l.body-index;
   places : length l.bodies ≤ vec_capacity l.out;
-  going : l.fn.store.stopped ≡ false → Underway requests l.group (desk l.fn.store l.fn.host [] []) (desk l.store l.host l.hand.replies.items l.hand.batch) (map (λ b. b.items) (take l.body-index l.bodies)) l.out.items;
+  going : l.fn.store.stopped ≡ false → Underway requests l.group (grouping l.fn.store l.fn.host [] []) (grouping l.store l.host l.open_group.replies.items l.open_group.batch) (map (λ b. b.items) (take l.body-index l.bodies)) l.out.items;
   late : l.fn.store.stopped ≡ true → AnswersAfterFault l.fn.store l.store l.fn.host l.host (map (λ b. b.items) (take l.body-index l.bodies)) l.out.items;
 }

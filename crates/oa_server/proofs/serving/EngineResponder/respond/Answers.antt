@@ -2,7 +2,7 @@ use Rattle.std.proofs.Common.{rules, [], ◌∷◌, refl}
 use Rattle.oa_frame.specs.Framings.{frames}
 use Rattle.oa_frame.proofs.Spelled.{puts_none, puts_one}
 use Rattle.oa_record.specs.Replies.{reply_record}
-use Rattle.oa_server.proofs.serving.ClerkResponder.respond.Goals as goal
+use Rattle.oa_server.proofs.serving.EngineResponder.respond.Goals as goal
 
 pub returns-in-Memory : goal.returns-in-Memory
 returns-in-Memory g c =

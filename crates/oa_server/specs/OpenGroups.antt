@@ -1,7 +1,7 @@
--- A server at work over a store, and the group in hand. (This project's choice.)
+-- A server at work over a store, and the open group. (This project's choice.)
 use Rattle.std.specs.Prelude.{◌≡◌, ◌⊎◌, ◌-◌, ◌<◌, ◌≤◌, ◌++◌, ℕ, true, false, List, [], length, vec_capacity, Result, IsOk, OnOk, OnErr}
 use Rattle.oa_disk.specs.declared.disk.Disk.{Ghosts}
-use Rattle.oa_groups.specs.Desks.{Desk, IsDue}
+use Rattle.oa_groups.specs.Groupings.{Grouping, IsDue}
 use Rattle.oa_image.specs.Events.{event_image}
 use Rattle.oa_journal.specs.Replays.{Replays}
 use Rattle.oa_journal.specs.Shapes.{ample_bytes, body_bytes}
@@ -15,22 +15,22 @@ use Rattle.oa_store.specs.declared.store.Store.{Store}
 use Rattle.oa_table.specs.Events.{BringsNoLocks}
 use Rattle.oa_table.specs.Tables.{TableValue}
 use Rattle.oa_table.specs.declared.event.Event.{Event}
-use Rattle.oa_server.specs.declared.hand.Hand.{Hand}
+use Rattle.oa_server.specs.declared.open_group.OpenGroup.{OpenGroup}
 use Rattle.oa_server.specs.Requests.{HasTurn, requests}
 use Rattle.oa_turn.specs.Events.{held_of}
 use Rattle.oa_decision.specs.Limits.{allowed}
 use Rattle.oa_decision.specs.States.{State}
 
 -- the store, the state, the replies that are held back, the events that are not committed yet
-abbrev pub desk : {D : Type 0} {g : Ghosts D} → Store D g → State → List ReplyValue → List ℕ → Desk State ReplyValue D g
-desk store state pending events = record { store = store; state = state; pending = pending; events = events }
+abbrev pub grouping : {D : Type 0} {g : Ghosts D} → Store D g → State → List ReplyValue → List ℕ → Grouping State ReplyValue D g
+grouping store state pending events = record { store = store; state = state; pending = pending; events = events }
 
--- with the group in hand, and where the replies of that were handed out
-abbrev pub desk_of : {D : Type 0} {g : Ghosts D} → Store D g → State → Hand → Desk State ReplyValue D g
-desk_of store state hand = desk store state hand.replies.items hand.batch
+-- with the open group, and where the replies of that were handed out
+abbrev pub grouping_of : {D : Type 0} {g : Ghosts D} → Store D g → State → OpenGroup → Grouping State ReplyValue D g
+grouping_of store state open_group = grouping store state open_group.replies.items open_group.batch
 
-abbrev pub cleared_desk : {D : Type 0} {g : Ghosts D} → Store D g → State → Hand → Desk State ReplyValue D g
-cleared_desk store state hand = desk store state [] hand.batch
+abbrev pub cleared_grouping : {D : Type 0} {g : Ghosts D} → Store D g → State → OpenGroup → Grouping State ReplyValue D g
+cleared_grouping store state open_group = grouping store state [] open_group.batch
 
 -- the state is one over the store's banks
 abbrev pub HasBanks : {D : Type 0} {g : Ghosts D} → Store D g → State → Type 0
@@ -46,13 +46,13 @@ pub record IsReady {D : Type 0} {g : Ghosts D} (store : Store D g) (size places 
   pub small : store.stopped ≡ false → length events < group_bytes
   pub late : store.stopped ≡ true → pending ≡ []
 
--- the hand can take one
-abbrev pub CanTake : {D : Type 0} {g : Ghosts D} → Store D g → Hand → Type 0
-CanTake store hand = IsReady store hand.size (vec_capacity hand.replies) hand.replies.items hand.batch
+-- the open group can take one
+abbrev pub CanTake : {D : Type 0} {g : Ghosts D} → Store D g → OpenGroup → Type 0
+CanTake store open_group = IsReady store open_group.size (vec_capacity open_group.replies) open_group.replies.items open_group.batch
 
 -- it can when its replies were handed out
-abbrev pub CanTakeCleared : {D : Type 0} {g : Ghosts D} → Store D g → Hand → Type 0
-CanTakeCleared store hand = IsReady store hand.size (vec_capacity hand.replies) [] hand.batch
+abbrev pub CanTakeCleared : {D : Type 0} {g : Ghosts D} → Store D g → OpenGroup → Type 0
+CanTakeCleared store open_group = IsReady store open_group.size (vec_capacity open_group.replies) [] open_group.batch
 
 -- a checkpoint is due before an event of this body
 abbrev pub IsDueFor : {D : Type 0} {g : Ghosts D} → Store D g → State → List ℕ → List ℕ → Type 0
@@ -84,7 +84,7 @@ pub record CanBeMade (state : State) (event : Event) : Type 0 where
   pub unlocked : BringsNoLocks event
   pub allows : IsOk (allowed state.bank event state.table)
 
--- the event of a change that was made stands behind those in hand
+-- the event of a change that was made stands behind those of the open group
 pub record IsAdded (event : Event) (events events' : List ℕ) (old new : State) : Type 0 where
   pub replays : Replays (event_image event) (held_of old) (held_of new)
   pub small : length (event_image event) ≤ max_event_bytes

@@ -1,21 +1,21 @@
--- The requests in hand of a session over a store, and the end of their group.
+-- The open group of a session over a store, and the end of their group.
 use Rattle.std.proofs.Common.{rules, ◌≡◌, inl, inr, ℕ, ◌≤◌, true, false, true≢false, List, [], ◌∷◌, ◌++◌, length, map, refl, sym, ap}
 use Rattle.std.proofs.Common.{◌∙◌, subst}
 use Rattle.std.proofs.lemmas.List.{append-nil, length-map, map_push, nil_from_length, same_from_push}
 use Rattle.oa_disk.specs.declared.disk.Disk.{Ghosts}
-use Rattle.oa_groups.specs.Desks.{Desk, IsEnded, IsHeld, IsSettled}
+use Rattle.oa_groups.specs.Groupings.{Grouping, IsEnded, IsHeld, IsSettled}
 use Rattle.oa_groups.specs.Groups.{events_in, fills, is_full}
 use Rattle.oa_groups.specs.Runs.{TurnsOver}
 use Rattle.oa_groups.specs.Turns.{Exchange, body_of, exchange, reply_of}
 use Rattle.oa_groups.proofs.Entries.{events_push, run_append}
 use Rattle.oa_record.specs.Replies.{ReplyValue}
 use Rattle.oa_store.specs.declared.store.Store.{Store}
-use Rattle.oa_server.specs.Hands.{IsDueFor, desk}
+use Rattle.oa_server.specs.OpenGroups.{IsDueFor, grouping}
 use Rattle.oa_server.specs.Requests.{requests}
 use Rattle.oa_decision.specs.States.{State}
 use Rattle.oa_server.specs.Talks.{IsWholeGroup, IsNoGroupYet}
 
--- these requests are in hand, and are no group yet
+-- these requests are in the open group, and are no group yet
 pub record Holding {D : Type 0} {g : Ghosts D} (size : ℕ) (first : State) (now : Store D g) (state : State) (pending : List ReplyValue) (events : List ℕ) (bodies : List (List ℕ)) : Type 0 where
   pub held : List (Exchange ReplyValue)
   pub bodies_are : bodies ≡ map body_of held
@@ -29,7 +29,7 @@ fills_none : (size : ℕ) → 1 ≤ size → fills size 0 0 ≡ false
 unfolding fills
 fills_none size some = search (some, rules)
 
--- what is in hand tells whether it is a group
+-- what the open group holds tells whether it is a group
 full_is : (size : ℕ) (pending : List ReplyValue) (events : List ℕ) (held : List (Exchange ReplyValue)) → pending ≡ map reply_of held → events ≡ events_in held
     → fills size (length pending) (length events) ≡ is_full size held
 full_is size pending events held replies bytes =
@@ -53,14 +53,14 @@ module _ {D : Type 0} {g : Ghosts D} (size : ℕ) where
       more_run : (after : State) → requests.Turn asked before after → TurnsOver requests first more after
       more_run after turn = run_append requests first was.held before (asked ∷ []) after was.run (after, turn, refl)
 
-      more_pending : (now : Desk State ReplyValue D g) → IsHeld requests asked (desk old before pending events) now → now.pending ≡ map reply_of more
+      more_pending : (now : Grouping State ReplyValue D g) → IsHeld requests asked (grouping old before pending events) now → now.pending ≡ map reply_of more
       more_pending now one = one.pending ∙ ap (λ (l : List ReplyValue). l ++ reply ∷ []) was.pending_are ∙ sym (map_push reply_of was.held asked)
 
-      more_events : (now : Desk State ReplyValue D g) → IsHeld requests asked (desk old before pending events) now → now.events ≡ events_in more
+      more_events : (now : Grouping State ReplyValue D g) → IsHeld requests asked (grouping old before pending events) now → now.events ≡ events_in more
       more_events now one = one.events ∙ ap (λ (l : List ℕ). l ++ event) was.events_are ∙ sym (events_push was.held asked)
 
-      -- one request more is in hand
-      pub holds_more : (now : Desk State ReplyValue D g) → IsHeld requests asked (desk old before pending events) now → fills size (length now.pending) (length now.events) ≡ false
+      -- the open group has one request more
+      pub holds_more : (now : Grouping State ReplyValue D g) → IsHeld requests asked (grouping old before pending events) now → fills size (length now.pending) (length now.events) ≡ false
           → Holding size first now.store now.state now.pending now.events (bodies ++ body ∷ [])
       holds_more now one small = record {
         held = more;
@@ -77,7 +77,7 @@ module _ {D : Type 0} {g : Ghosts D} (size : ℕ) where
       not_before front last is = subst (λ (l : List (Exchange ReplyValue)). is_full size l ≡ false) (same_from_push was.held front asked last is).0 was.short
 
       -- it fills the group
-      pub group_filled : (mid new : Desk State ReplyValue D g) (told : List ReplyValue) → IsHeld requests asked (desk old before pending events) mid → fills size (length mid.pending) (length mid.events) ≡ true
+      pub group_filled : (mid new : Grouping State ReplyValue D g) (told : List ReplyValue) → IsHeld requests asked (grouping old before pending events) mid → fills size (length mid.pending) (length mid.events) ≡ true
           → IsSettled requests told mid new → IsWholeGroup size new.store first (bodies ++ body ∷ []) told new.state
       group_filled mid new told one full settled = record {
         group = more;
@@ -89,7 +89,7 @@ module _ {D : Type 0} {g : Ghosts D} (size : ℕ) where
       }
 
       -- the checkpoint before it fails
-      pub group_faulted : (new : Desk State ReplyValue D g) (told : List ReplyValue) → requests.Turn asked before new.state → IsDueFor old before events body → event ≡ [] → new.store.stopped ≡ true
+      pub group_faulted : (new : Grouping State ReplyValue D g) (told : List ReplyValue) → requests.Turn asked before new.state → IsDueFor old before events body → event ≡ [] → new.store.stopped ≡ true
           → IsWholeGroup size new.store first (bodies ++ body ∷ []) told new.state
       group_faulted new told turn due none stopped = record {
         group = more;
@@ -109,7 +109,7 @@ module _ {D : Type 0} {g : Ghosts D} (size : ℕ) where
       }
 
     -- the input ends
-    pub rest_ends : (new : Desk State ReplyValue D g) (told : List ReplyValue) → IsEnded requests told (desk old before pending events) new → IsNoGroupYet size new.store first bodies told new.state
+    pub rest_ends : (new : Grouping State ReplyValue D g) (told : List ReplyValue) → IsEnded requests told (grouping old before pending events) new → IsNoGroupYet size new.store first bodies told new.state
     rest_ends new told (inl idle) = record {
       held = was.held;
       bodies_are = was.bodies_are;

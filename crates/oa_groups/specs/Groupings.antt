@@ -1,4 +1,4 @@
--- A server at work: its store and its state, and the group in hand. (This project's choice.)
+-- A server at work: its store and its state, and the open group. (This project's choice.)
 use Rattle.std.specs.Prelude.{◌≡◌, ◌≢◌, ◌⊎◌, ◌+◌, ◌-◌, ◌<◌, ◌≤◌, ℕ, IsTrue, true, false, List, [], ◌∷◌, ◌++◌, length, map}
 use Rattle.oa_disk.specs.Disk.{LeavesOnly}
 use Rattle.oa_disk.specs.declared.disk.Disk.{Ghosts}
@@ -11,7 +11,7 @@ use Rattle.oa_store.specs.Writing.{Goes}
 use Rattle.oa_groups.specs.Turns.{Exchange, Turns, exchange}
 
 -- pending: the replies that are held back; events: the bytes of the events that are not committed yet
-pub record Desk (S R D : Type 0) (g : Ghosts D) : Type 0 where
+pub record Grouping (S R D : Type 0) (g : Ghosts D) : Type 0 where
   pub store : Store D g
   pub state : S
   pub pending : List R
@@ -28,8 +28,8 @@ abbrev pub LeavesState : {D : Type 0} {g : Ghosts D} → Store D g → Store D g
 LeavesState {D} {g} old new P = LeavesOnly g.moment g.image_since old.disk new.disk P
 
 -- One request is answered by a turn, and its reply and its event are held. The images go on to hold what they held, which is
--- what is held of the state while no event is in hand.
-pub record IsHeld {S R D : Type 0} {g : Ghosts D} (t : Turns S R) (asked : Exchange R) (old new : Desk S R D g) : Type 0 where
+-- what is held of the state while the open group has no event.
+pub record IsHeld {S R D : Type 0} {g : Ghosts D} (t : Turns S R) (asked : Exchange R) (old new : Grouping S R D g) : Type 0 where
   pub turn : t.Turn asked old.state new.state
   -- it is none that is a group of its own
   pub plain : t.alone asked.body ≡ false
@@ -41,8 +41,8 @@ pub record IsHeld {S R D : Type 0} {g : Ghosts D} (t : Turns S R) (asked : Excha
   pub carries : Carries old.events (t.held old.state) old.store new.store
   pub goes : Goes old.store new.store
 
--- The group in hand ends, and its replies are told: as they are, or, where it could not be committed, taken back.
-pub record IsSettled {S R D : Type 0} {g : Ghosts D} (t : Turns S R) (told : List R) (old new : Desk S R D g) : Type 0 where
+-- The open group ends, and its replies are told: as they are, or, where it could not be committed, taken back.
+pub record IsSettled {S R D : Type 0} {g : Ghosts D} (t : Turns S R) (told : List R) (old new : Grouping S R D g) : Type 0 where
   pub state : new.state ≡ old.state
   pub well : new.store.stopped ≡ false → (told ≡ old.pending) × (new.pending ≡ []) × (new.events ≡ [])
   pub broken : new.store.stopped ≡ true → told ≡ map t.withdrawn old.pending
@@ -56,7 +56,7 @@ pub record IsSettled {S R D : Type 0} {g : Ghosts D} (t : Turns S R) (told : Lis
 -- The checkpoint before a request's event was due, and failed: the group ends with this request, and is taken back. A turn without an
 -- event that changes nothing that images hold stands for the request.
 pub record FailsAtCheckpoint {S R D : Type 0} {g : Ghosts D} (t : Turns S R) (body : List ℕ) (told : List R)
-    (old new : Desk S R D g) : Type 0 where
+    (old new : Grouping S R D g) : Type 0 where
   pub reply : R
   pub event : List ℕ
   pub turn : t.Turn (exchange body reply event) old.state new.state
@@ -70,17 +70,17 @@ pub record FailsAtCheckpoint {S R D : Type 0} {g : Ghosts D} (t : Turns S R) (bo
   pub goes : Goes old.store new.store
 
 -- After a fault nothing is done.
-pub record IsAfterFault {S R D : Type 0} {g : Ghosts D} (old new : Desk S R D g) : Type 0 where
+pub record IsAfterFault {S R D : Type 0} {g : Ghosts D} (old new : Grouping S R D g) : Type 0 where
   pub was : old.store.stopped ≡ true
   pub is : new.store.stopped ≡ true
   pub disk : new.store.disk ≡ old.store.disk
   pub state : new.state ≡ old.state
   pub goes : Goes old.store new.store
 
--- A request that is a group of its own is answered, with nothing in hand. It makes no event. Where it is done, the store goes on with the
+-- A request that is a group of its own is answered, where no group is open. It makes no event. Where it is done, the store goes on with the
 -- library of the new state; where it is not, the device is not called. A stop at any moment of it leaves the state before or the one after.
 pub record IsAnsweredAlone {S R D : Type 0} {g : Ghosts D} (t : Turns S R) (asked : Exchange R) (told : List R)
-    (old new : Desk S R D g) : Type 0 where
+    (old new : Grouping S R D g) : Type 0 where
   pub turn : t.Turn asked old.state new.state
   pub alone : t.alone asked.body ≡ true
   pub none : asked.event ≡ []
@@ -97,7 +97,7 @@ pub record IsAnsweredAlone {S R D : Type 0} {g : Ghosts D} (t : Turns S R) (aske
 
 -- the request is held, and the group goes on
 pub record IsKeptBack {S R D : Type 0} {g : Ghosts D} (t : Turns S R) (size : ℕ) (body : List ℕ) (told : List R)
-    (old new : Desk S R D g) : Type 0 where
+    (old new : Grouping S R D g) : Type 0 where
   pub was : old.store.stopped ≡ false
   pub reply : R
   pub event : List ℕ
@@ -107,52 +107,52 @@ pub record IsKeptBack {S R D : Type 0} {g : Ghosts D} (t : Turns S R) (size : �
 
 -- it is held, and that fills the group, which ends
 pub record IsFilled {S R D : Type 0} {g : Ghosts D} (t : Turns S R) (size : ℕ) (body : List ℕ) (told : List R)
-    (old new : Desk S R D g) : Type 0 where
+    (old new : Grouping S R D g) : Type 0 where
   pub was : old.store.stopped ≡ false
   pub reply : R
   pub event : List ℕ
-  pub mid : Desk S R D g
+  pub mid : Grouping S R D g
   pub held : IsHeld t (exchange body reply event) old mid
   pub full : fills size (length mid.pending) (length mid.events) ≡ true
   pub settled : IsSettled t told mid new
 
 -- its checkpoint fails
-pub record IsFaulted {S R D : Type 0} {g : Ghosts D} (t : Turns S R) (body : List ℕ) (told : List R) (old new : Desk S R D g) : Type 0 where
+pub record IsFaulted {S R D : Type 0} {g : Ghosts D} (t : Turns S R) (body : List ℕ) (told : List R) (old new : Grouping S R D g) : Type 0 where
   pub was : old.store.stopped ≡ false
   pub failed : FailsAtCheckpoint t body told old new
 
 -- the device has failed before
-pub record IsTooLate {S R D : Type 0} {g : Ghosts D} (t : Turns S R) (body : List ℕ) (told : List R) (old new : Desk S R D g) : Type 0 where
+pub record IsTooLate {S R D : Type 0} {g : Ghosts D} (t : Turns S R) (body : List ℕ) (told : List R) (old new : Grouping S R D g) : Type 0 where
   pub over : IsAfterFault old new
   pub told_is : told ≡ t.failed body ∷ []
 
--- nothing was in hand
-pub record IsIdle {S R D : Type 0} {g : Ghosts D} (told : List R) (old new : Desk S R D g) : Type 0 where
+-- no group was open
+pub record IsIdle {S R D : Type 0} {g : Ghosts D} (told : List R) (old new : Grouping S R D g) : Type 0 where
   pub none : old.pending ≡ []
   pub nothing : told ≡ []
   pub store : new.store ≡ old.store
   pub state : new.state ≡ old.state
 
--- the group in hand ends
-pub record IsLast {S R D : Type 0} {g : Ghosts D} (t : Turns S R) (told : List R) (old new : Desk S R D g) : Type 0 where
+-- the open group ends
+pub record IsLast {S R D : Type 0} {g : Ghosts D} (t : Turns S R) (told : List R) (old new : Grouping S R D g) : Type 0 where
   pub was : old.store.stopped ≡ false
   pub some : old.pending ≢ []
   pub settled : IsSettled t told old new
 
 -- the device has failed before
-pub record IsLeft {S R D : Type 0} {g : Ghosts D} (told : List R) (old new : Desk S R D g) : Type 0 where
+pub record IsLeft {S R D : Type 0} {g : Ghosts D} (told : List R) (old new : Grouping S R D g) : Type 0 where
   pub over : IsAfterFault old new
   pub nothing : told ≡ []
 
--- The group in hand, if there is one, ends.
-abbrev pub IsFlushed : {S R D : Type 0} {g : Ghosts D} → Turns S R → List R → Desk S R D g → Desk S R D g → Type 0
+-- The open group, if there is one, ends.
+abbrev pub IsFlushed : {S R D : Type 0} {g : Ghosts D} → Turns S R → List R → Grouping S R D g → Grouping S R D g → Type 0
 IsFlushed t told old new = IsIdle told old new ⊎ IsLast t told old new
 
--- The request is a group of its own: first the group in hand ends, and then, unless that could not be committed, the request is answered.
-pub record IsApart {S R D : Type 0} {g : Ghosts D} (t : Turns S R) (body : List ℕ) (told : List R) (old new : Desk S R D g) : Type 0 where
+-- The request is a group of its own: first the open group ends, and then, unless that could not be committed, the request is answered.
+pub record IsApart {S R D : Type 0} {g : Ghosts D} (t : Turns S R) (body : List ℕ) (told : List R) (old new : Grouping S R D g) : Type 0 where
   pub was : old.store.stopped ≡ false
   pub alone : t.alone body ≡ true
-  pub mid : Desk S R D g
+  pub mid : Grouping S R D g
   pub before : List R
   pub after : List R
   pub told_are : told ≡ before ++ after
@@ -161,11 +161,11 @@ pub record IsApart {S R D : Type 0} {g : Ghosts D} (t : Turns S R) (body : List 
   pub late : mid.store.stopped ≡ true → (after ≡ t.failed body ∷ []) × IsAfterFault mid new
 
 -- One request is taken, and these replies are handed out.
-abbrev pub IsTaken : {S R D : Type 0} {g : Ghosts D} → Turns S R → ℕ → List ℕ → List R → Desk S R D g → Desk S R D g → Type 0
+abbrev pub IsTaken : {S R D : Type 0} {g : Ghosts D} → Turns S R → ℕ → List ℕ → List R → Grouping S R D g → Grouping S R D g → Type 0
 IsTaken t size body told old new =
     IsKeptBack t size body told old new
     ⊎ (IsFilled t size body told old new ⊎ (IsFaulted t body told old new ⊎ (IsTooLate t body told old new ⊎ IsApart t body told old new)))
 
 -- The input has ended, and these replies are handed out.
-abbrev pub IsEnded : {S R D : Type 0} {g : Ghosts D} → Turns S R → List R → Desk S R D g → Desk S R D g → Type 0
+abbrev pub IsEnded : {S R D : Type 0} {g : Ghosts D} → Turns S R → List R → Grouping S R D g → Grouping S R D g → Type 0
 IsEnded t told old new = IsIdle told old new ⊎ (IsLast t told old new ⊎ IsLeft told old new)

@@ -1,4 +1,4 @@
-//! The group in hand of a server over a store.
+//! The open group of a server over a store.
 ghost use Rattle.std.specs.Prelude.{◌≡◌, ◌<◌, ◌≤◌, [], None, IfOk, false, length, map, vec_capacity};
 ghost use Rattle.oa_decision.specs.Decided.{refusal};
 ghost use Rattle.oa_groups.specs.Groups.{fills};
@@ -12,9 +12,9 @@ use oa_model::HResult;
 use oa_record::{Reply, tag_of};
 use std::alloc::{AllocError, Global};
 
-/// The group in hand: its events, which are not committed yet, and its replies, which are held back.
+/// The open group: its events, which are not committed yet, and its replies, which are held back.
 #[derive(Drop)]
-pub(crate) struct Hand {
+pub(crate) struct OpenGroup {
     /// The events.
     pub batch: Batch,
     /// The replies.
@@ -23,29 +23,29 @@ pub(crate) struct Hand {
     pub size: usize,
 }
 
-impl Hand {
-    /// A hand without a request, with the places of a group's replies.
-    pub(crate) fn new(alloc: Global, size: usize) -> Result<Hand, AllocError>
-        ensures replies { IfOk result (λ hand. hand.replies.items ≡ []) }
-        ensures places { IfOk result (λ hand. size ≤ vec_capacity hand.replies) }
-        ensures batch { IfOk result (λ hand. hand.batch ≡ []) }
-        ensures size { IfOk result (λ hand. hand.size ≡ size) }
+impl OpenGroup {
+    /// A group without a request, with the places of a group's replies.
+    pub(crate) fn new(alloc: Global, size: usize) -> Result<OpenGroup, AllocError>
+        ensures replies { IfOk result (λ open_group. open_group.replies.items ≡ []) }
+        ensures places { IfOk result (λ open_group. size ≤ vec_capacity open_group.replies) }
+        ensures batch { IfOk result (λ open_group. open_group.batch ≡ []) }
+        ensures size { IfOk result (λ open_group. open_group.size ≡ size) }
     {
         let replies = Vec::with_capacity(alloc, size)?;
-        Ok(Hand {
+        Ok(OpenGroup {
             batch: Batch::new(alloc),
             replies,
             size,
         })
     }
 
-    /// A hand that takes no requests. Takes no memory.
-    pub(crate) fn none(alloc: Global) -> Hand
+    /// A group that takes no requests. Takes no memory.
+    pub(crate) fn none(alloc: Global) -> OpenGroup
         ensures replies { result.replies.items ≡ [] }
         ensures batch { result.batch ≡ [] }
         ensures size { result.size ≡ 0 }
     {
-        Hand {
+        OpenGroup {
             batch: Batch::new(alloc),
             replies: Vec::new(alloc),
             size: 0,

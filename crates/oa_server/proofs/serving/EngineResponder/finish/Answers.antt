@@ -1,7 +1,7 @@
 use Rattle.std.proofs.Common.{[], refl}
 use Rattle.oa_frame.specs.Framings.{frames}
 use Rattle.oa_frame.proofs.Spelled.{puts_none}
-use Rattle.oa_server.proofs.serving.ClerkResponder.finish.Goals as goal
+use Rattle.oa_server.proofs.serving.EngineResponder.finish.Goals as goal
 
 pub returns-in-Memory : goal.returns-in-Memory
 returns-in-Memory g c = record {

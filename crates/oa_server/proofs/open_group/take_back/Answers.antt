@@ -3,7 +3,7 @@ use Rattle.oa_model.specs.Codes.{stg_e_writefault}
 use Rattle.oa_server.specs.Requests.{withdrawn}
 use Rattle.oa_decision.specs.Decided.{refusal}
 use Rattle.oa_server.proofs.Mapping.{mapped, mapped_all, mapped_step}
-use Rattle.oa_server.proofs.hand.take_back.Goals as goal
+use Rattle.oa_server.proofs.open_group.take_back.Goals as goal
 
 pub loop-reply-preserved : goal.loop-reply-preserved
 loop-reply-preserved c = mapped_step withdrawn c.args.replies.now c.loop-reply.replies c.loop-reply.reply-index c.bare.result _ c.loop-reply.invariant c.loop-reply-test.true

@@ -4,36 +4,36 @@ ghost use Rattle.oa_server.specs.Storages.{AnswersOne, InMemory, Serves, bank_of
 ghost use Rattle.oa_turn.specs.Turns.{Run, Turn};
 
 use crate::grouping::{answer_over, run_over};
-use crate::hand::Hand;
+use crate::open_group::OpenGroup;
 use crate::storage::Storage;
 use oa_disk::Disk;
 use oa_record::Reply;
 use oa_turn::Host;
 use std::alloc::{AllocError, Global};
 
-/// A library and a table in memory, where the table is kept, and the group in hand.
+/// A library and a table in memory, where the table is kept, and the open group.
 #[derive(Drop)]
-pub(crate) struct Clerk<D: Disk> {
+pub(crate) struct Engine<D: Disk> {
     pub alloc: Global,
     pub host: Host,
     pub storage: Storage<D>,
-    /// The group in hand of a session over a store.
-    pub hand: Hand,
+    /// The open group of a session over a store.
+    pub open_group: OpenGroup,
     ghost banks: { bank_of storage ≡ host.bank },
 }
 
-impl<D: Disk> Clerk<D> {
+impl<D: Disk> Engine<D> {
     /// A server of these parts.
-    pub(crate) fn new(alloc: Global, host: Host, storage: Storage<D>) -> Clerk<D>
+    pub(crate) fn new(alloc: Global, host: Host, storage: Storage<D>) -> Engine<D>
         requires banks { bank_of storage ≡ host.bank }
         ensures host { result.host ≡ host }
         ensures storage { result.storage ≡ storage }
     {
-        Clerk {
+        Engine {
             alloc,
             host,
             storage,
-            hand: Hand::none(alloc),
+            open_group: OpenGroup::none(alloc),
         }
     }
 
@@ -41,7 +41,7 @@ impl<D: Disk> Clerk<D> {
     pub(crate) fn into_disk(self) -> D
         ensures { result ≡ disk_of self.storage }
     {
-        let Clerk { storage, .. } = self;
+        let Engine { storage, .. } = self;
         storage.into_disk()
     }
 }

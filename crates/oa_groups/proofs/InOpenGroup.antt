@@ -1,4 +1,4 @@
--- A group in hand: it begins, a request more is held, it ends.
+-- An open group: it begins, a request more is held, it ends.
 use Rattle.std.proofs.Common.{◌≡◌, ◌⊎◌, inl, inr, ℕ, ◌+◌, ◌<◌, true, false, true≢false, IsTrue, List, [], ◌∷◌, ◌++◌}
 use Rattle.std.proofs.Common.{length, map, refl, sym, ◌∙◌, ap, subst, arith, length-append, append_assoc}
 use Rattle.std.proofs.lemmas.List.{append-nil, map-append, length-map}
@@ -8,7 +8,7 @@ use Rattle.oa_journal.specs.declared.shape.Shape.TheVariants.{Two}
 use Rattle.oa_store.specs.Stores.{IsStoreIn}
 use Rattle.oa_table.specs.Tables.{TableValue}
 use Rattle.oa_keeper.proofs.Committed.{no_change}
-use Rattle.oa_groups.specs.Desks.{Desk, IsDue, FailsAtCheckpoint, IsHeld, IsSettled}
+use Rattle.oa_groups.specs.Groupings.{Grouping, IsDue, FailsAtCheckpoint, IsHeld, IsSettled}
 use Rattle.oa_groups.specs.Faults.{IsWholeBefore}
 use Rattle.oa_groups.specs.Going.{IsCut, IsNextGroup, Going, Faulted}
 use Rattle.oa_groups.specs.Groups.{events_in, fills, is_full, joined}
@@ -20,14 +20,14 @@ use Rattle.oa_groups.proofs.Running.{after_all, after_fewer, after_more, run_mor
 use Rattle.oa_groups.proofs.Stores.{held_as, state_held}
 
 module _ {S R : Type 0} (t : Turns S R) where
-  module _ {D : Type 0} {g : Ghosts D} (only : (d : D) (c : List ℕ) → IsTrue (g.is_honest d) → g.image_since d (g.moment d) c → g.image d c) (start : Desk S R D g) where
+  module _ {D : Type 0} {g : Ghosts D} (only : (d : D) (c : List ℕ) → IsTrue (g.is_honest d) → g.image_since d (g.moment d) c → g.image d c) (start : Grouping S R D g) where
     abbrev first : S
     first = start.state
 
     abbrev Begins : Type 0
     Begins = AllHoldState t start.store start.state
 
-    abbrev Moments : Desk S R D g → List (List (Exchange R)) → ℕ → Type 0
+    abbrev Moments : Grouping S R D g → List (List (Exchange R)) → ℕ → Type 0
     Moments now groups count = (moments : List ℕ) × IsRun t g.moment g.image_since start.store.disk now.store.disk first groups count moments
 
     pub going_start : (size : ℕ) → start.pending ≡ [] → start.events ≡ [] → Going t (IsCut t.alone size) start start [] []
@@ -52,7 +52,7 @@ module _ {S R : Type 0} (t : Turns S R) where
     }
 
     -- how the requests are cut may be said otherwise
-    pub going_as : {C : List (List (Exchange R)) → List (Exchange R) → Type 0} {now : Desk S R D g} {bodies : List (List ℕ)} {out : List R} (was : Going t C start now bodies out)
+    pub going_as : {C : List (List (Exchange R)) → List (Exchange R) → Type 0} {now : Grouping S R D g} {bodies : List (List ℕ)} {out : List R} (was : Going t C start now bodies out)
         (C' : List (List (Exchange R)) → List (Exchange R) → Type 0) → C' was.groups was.held → Going t C' start now bodies out
     going_as was C' cuts = record {
       groups = was.groups;
@@ -74,8 +74,8 @@ module _ {S R : Type 0} (t : Turns S R) where
       moments = was.moments;
     }
 
-    module _ {C : List (List (Exchange R)) → List (Exchange R) → Type 0} {old : Desk S R D g} {bodies : List (List ℕ)} {out : List R} (was : Going t C start old bodies out) where
-      -- the events in hand make of what is committed what is held of the state
+    module _ {C : List (List (Exchange R)) → List (Exchange R) → Type 0} {old : Grouping S R D g} {bodies : List (List ℕ)} {out : List R} (was : Going t C start old bodies out) where
+      -- the events of the open group make of what is committed what is held of the state
       makes : Replays old.events (t.held was.committed) (t.held old.state)
       makes = subst (λ (l : List ℕ). Replays l (t.held was.committed) (t.held old.state)) (sym was.events_are) (run_replays t was.committed was.held old.state was.runs)
 
@@ -85,7 +85,7 @@ module _ {S R : Type 0} (t : Turns S R) where
       abbrev InBank : List ℕ → TableValue → Type 0
       InBank c held = IsStoreIn old.store.bank.shape c old.store.library.items held
 
-      -- the library in hand is that of what is committed
+      -- the state's library is that of what is committed
       under : Begins → (c : List ℕ) → InBank c (t.held was.committed) → HoldsState t was.committed c
       under begins c is = held_as t old.store was.committed (was.all begins) (t.held was.committed) c is
 
@@ -95,7 +95,7 @@ module _ {S R : Type 0} (t : Turns S R) where
           (subst (λ (n : ℕ). IsStoreIn (Two n) c (t.text was.committed) (t.held old.state)) (sym was.same_bank) (held_as t old.store was.committed (was.all begins) (t.held old.state) c is))
 
       -- so far, and for what this request calls
-      called_by : (asked : Exchange R) (new : Desk S R D g) → IsHeld t asked old new → (new.store.disk ≡ was.mark) ⊎ CallsFor t was.committed (was.held ++ asked ∷ [])
+      called_by : (asked : Exchange R) (new : Grouping S R D g) → IsHeld t asked old new → (new.store.disk ≡ was.mark) ⊎ CallsFor t was.committed (was.held ++ asked ∷ [])
       called_by asked new one = by one.calls was.calls
         where
           by : (new.store.disk ≡ old.store.disk) ⊎ IsDue t old.store old.state old.events asked.body → (old.store.disk ≡ was.mark) ⊎ CallsFor t was.committed was.held
@@ -104,8 +104,8 @@ module _ {S R : Type 0} (t : Turns S R) where
           by (inl same) (inl before) = inl (same ∙ before)
           by (inl same) (inr called) = inr (calls_more t was.committed was.held (asked ∷ []) called)
 
-      -- the group in hand calls for its events
-      settled_by : (told : List R) (new : Desk S R D g) → IsSettled t told old new → ((new.store.disk ≡ old.store.disk) × (new.store.stopped ≡ false)) ⊎ CallsFor t was.committed was.held
+      -- the open group calls for its events
+      settled_by : (told : List R) (new : Grouping S R D g) → IsSettled t told old new → ((new.store.disk ≡ old.store.disk) × (new.store.stopped ≡ false)) ⊎ CallsFor t was.committed was.held
       settled_by told new one = by (none_or_some old.events)
         where
           by : (length old.events ≡ 0) ⊎ (0 < length old.events) → ((new.store.disk ≡ old.store.disk) × (new.store.stopped ≡ false)) ⊎ CallsFor t was.committed was.held
@@ -113,7 +113,7 @@ module _ {S R : Type 0} (t : Turns S R) where
           by (inr some) = inr (calls_events t was.committed was.held old.state was.runs (subst (λ (l : List ℕ). 0 < length l) was.events_are some))
 
       -- a request more is held
-      pub going_held : (C' : List (List (Exchange R)) → List (Exchange R) → Type 0) (asked : Exchange R) (new : Desk S R D g) → C' was.groups (was.held ++ asked ∷ []) → IsHeld t asked old new → Going t C' start new (bodies ++ asked.body ∷ []) out
+      pub going_held : (C' : List (List (Exchange R)) → List (Exchange R) → Type 0) (asked : Exchange R) (new : Grouping S R D g) → C' was.groups (was.held ++ asked ∷ []) → IsHeld t asked old new → Going t C' start new (bodies ++ asked.body ∷ []) out
       going_held C' asked new cuts one = record {
         groups = was.groups;
         held = was.held ++ asked ∷ [];
@@ -141,7 +141,7 @@ module _ {S R : Type 0} (t : Turns S R) where
       }
 
       -- the test of the code is that of the cut
-      pub fills_as : (size : ℕ) (asked : Exchange R) (new : Desk S R D g) → IsHeld t asked old new → fills size (length new.pending) (length new.events) ≡ is_full size (was.held ++ asked ∷ [])
+      pub fills_as : (size : ℕ) (asked : Exchange R) (new : Grouping S R D g) → IsHeld t asked old new → fills size (length new.pending) (length new.events) ≡ is_full size (was.held ++ asked ∷ [])
       fills_as size asked new one =
           let group = was.held ++ asked ∷ [] in
           let count : length new.pending ≡ length group =
@@ -163,7 +163,7 @@ module _ {S R : Type 0} (t : Turns S R) where
       has begins c (inr with_it) =
           after_fewer t (length grown) (length was.groups) first grown c (omega (arith, length-append was.groups (was.held ∷ []))) (after_all t first grown old.state c stood (under_now begins c with_it))
 
-      during : (told : List R) (new : Desk S R D g) → IsSettled t told old new → Begins → Moments new grown (length was.groups)
+      during : (told : List R) (new : Grouping S R D g) → IsSettled t told old new → Begins → Moments new grown (length was.groups)
       during told new one begins =
           let before = was.moments begins in (
             before.0,
@@ -171,7 +171,7 @@ module _ {S R : Type 0} (t : Turns S R) where
                 (one.commits.any_moment (t.held was.committed) (t.held old.state) makes (was.all begins).all) (has begins),
           )
 
-      committed_now : (told : List R) (new : Desk S R D g) → new.store.stopped ≡ false → IsSettled t told old new → Begins → AllHoldState t new.store old.state
+      committed_now : (told : List R) (new : Grouping S R D g) → new.store.stopped ≡ false → IsSettled t told old new → Begins → AllHoldState t new.store old.state
       committed_now told new going one begins =
           let before = was.all begins in record {
             shape = one.goes.shape ∙ before.shape ∙ ap Two (sym was.same_bank);
@@ -179,7 +179,7 @@ module _ {S R : Type 0} (t : Turns S R) where
             all = one.commits.each going (t.held was.committed) (t.held old.state) makes before.all;
           }
 
-      ended_by : (told : List R) (new : Desk S R D g) → IsSettled t told old new → (new.store.disk ≡ was.mark) ⊎ CallsFor t was.committed was.held
+      ended_by : (told : List R) (new : Grouping S R D g) → IsSettled t told old new → (new.store.disk ≡ was.mark) ⊎ CallsFor t was.committed was.held
       ended_by told new one = by (settled_by told new one) was.calls
         where
           by : ((new.store.disk ≡ old.store.disk) × (new.store.stopped ≡ false)) ⊎ CallsFor t was.committed was.held → (old.store.disk ≡ was.mark) ⊎ CallsFor t was.committed was.held
@@ -188,8 +188,8 @@ module _ {S R : Type 0} (t : Turns S R) where
           by (inl same) (inl before) = inl (same.0 ∙ before)
           by (inl same) (inr called) = inr called
 
-      -- the group in hand was committed, and its replies are handed out
-      pub going_ends : (C' : List (List (Exchange R)) → List (Exchange R) → Type 0) (told : List R) (new : Desk S R D g) → new.store.stopped ≡ false → C' grown [] → IsSettled t told old new → Going t C' start new bodies (out ++ told)
+      -- the open group was committed, and its replies are handed out
+      pub going_ends : (C' : List (List (Exchange R)) → List (Exchange R) → Type 0) (told : List R) (new : Grouping S R D g) → new.store.stopped ≡ false → C' grown [] → IsSettled t told old new → Going t C' start new bodies (out ++ told)
       going_ends C' told new going cuts one =
           let well = one.well going in
           record {
@@ -220,7 +220,7 @@ module _ {S R : Type 0} (t : Turns S R) where
           }
 
       -- it could not be committed, and its replies are taken back
-      pub going_breaks : (size : ℕ) (W : S → List (Exchange R) → List (List ℕ) → Type 0) (told : List R) (new : Desk S R D g) → W was.committed was.held [] → new.store.stopped ≡ true → IsNextGroup t.alone size was.groups was.held → IsSettled t told old new
+      pub going_breaks : (size : ℕ) (W : S → List (Exchange R) → List (List ℕ) → Type 0) (told : List R) (new : Grouping S R D g) → W was.committed was.held [] → new.store.stopped ≡ true → IsNextGroup t.alone size was.groups was.held → IsSettled t told old new
           → Faulted t size W start new bodies (out ++ told)
       going_breaks size W told new whole stopped ends one = record {
         groups = was.groups;
@@ -245,7 +245,7 @@ module _ {S R : Type 0} (t : Turns S R) where
           by (inr called) = called
 
       -- the checkpoint before its event failed: the group ends with this request
-      pub going_fails : (size : ℕ) (body : List ℕ) (told : List R) (new : Desk S R D g) → IsCut t.alone size was.groups was.held → FailsAtCheckpoint t body told old new → Faulted t size (IsWholeBefore t size) start new (bodies ++ body ∷ []) (out ++ told)
+      pub going_fails : (size : ℕ) (body : List ℕ) (told : List R) (new : Grouping S R D g) → IsCut t.alone size was.groups was.held → FailsAtCheckpoint t body told old new → Faulted t size (IsWholeBefore t size) start new (bodies ++ body ∷ []) (out ++ told)
       going_fails size body told new cuts one =
           let asked : Exchange R = exchange body one.reply one.event in
           let group = was.held ++ asked ∷ [] in

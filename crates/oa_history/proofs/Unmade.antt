@@ -2,8 +2,8 @@
 use Rattle.std.proofs.Common.{◌≡◌, ◌<◌, ℕ, Bool, false, true, true≢false, Err, IsErrOf, Result, refl, sym, ◌∙◌, ap}
 use Rattle.oa_disk.specs.declared.disk.DeviceFault.{DeviceFault}
 use Rattle.oa_disk.specs.declared.disk.DeviceFault.TheVariants.{Write}
-use Rattle.oa_store.specs.declared.fault.CheckpointFault.{CheckpointFault}
-use Rattle.oa_store.specs.declared.fault.CheckpointFault.TheVariants as checkpoints
+use Rattle.oa_store.specs.declared.fault.WriteFault.{WriteFault}
+use Rattle.oa_store.specs.declared.fault.WriteFault.TheVariants as writes
 use Rattle.oa_store.specs.declared.fault.FormatFault.{FormatFault}
 use Rattle.oa_store.specs.declared.fault.FormatFault.TheVariants.{TooSmall, Device, Memory}
 use Rattle.oa_history.specs.Kept.{IsUnformatted, IsUnmade, IsWanting}
@@ -24,7 +24,7 @@ unmade size (histories.Text fault) wanting = tt
 unmade size histories.Memory wanting = tt
 
 -- a checkpoint of a store that goes on fails by a write
-pub write_failed : (was : Bool) (result : Result (Unit {0}) CheckpointFault) (fault : CheckpointFault) → result ≡ Err fault → was ≡ false → (IsErrOf result checkpoints.Stopped → was ≡ true) → ((device : DeviceFault) → IsErrOf result (checkpoints.Device device) → device ≡ Write)
-    → fault ≡ checkpoints.Device Write
-write_failed was result checkpoints.Stopped is going late fails = absurd (true≢false (sym (late is) ∙ going))
-write_failed was result (checkpoints.Device device) is going late fails = ap checkpoints.Device (fails device is)
+pub write_failed : (was : Bool) (result : Result (Unit {0}) WriteFault) (fault : WriteFault) → result ≡ Err fault → was ≡ false → (IsErrOf result writes.Stopped → was ≡ true) → ((device : DeviceFault) → IsErrOf result (writes.Device device) → device ≡ Write)
+    → fault ≡ writes.Device Write
+write_failed was result writes.Stopped is going late fails = absurd (true≢false (sym (late is) ∙ going))
+write_failed was result (writes.Device device) is going late fails = ap writes.Device (fails device is)

@@ -13,9 +13,9 @@ use Rattle.oa_decision.specs.States.{State}
 use Rattle.oa_server.specs.Storages.{OverStore}
 use Rattle.oa_server.specs.declared.server.Server.{Server}
 use Rattle.oa_store.specs.Faults.{SpeaksOfContents}
-use Rattle.oa_store.specs.declared.fault.CheckpointFault.TheVariants as checkpoints
 use Rattle.oa_store.specs.declared.fault.FormatFault.{FormatFault}
 use Rattle.oa_store.specs.declared.fault.FormatFault.TheVariants as formats
+use Rattle.oa_store.specs.declared.fault.WriteFault.TheVariants as writes
 use Rattle.oa_store.specs.declared.store.Store.{Store}
 use Rattle.oa_history.specs.declared.fault.HistoryFault.{HistoryFault}
 use Rattle.oa_history.specs.declared.fault.HistoryFault.TheVariants.{Format, Open, Checkpoint, Text, Memory}
@@ -44,7 +44,7 @@ pub record BeginsServing {D : Type 0} {g : Ghosts D} (disk : D) (server : Server
 abbrev pub IsWanting : HistoryFault → Type 0
 IsWanting (Format fault) = ⊥
 IsWanting (Open fault) = SpeaksOfContents fault → ⊥
-IsWanting (Checkpoint fault) = fault ≡ checkpoints.Device devices.Write
+IsWanting (Checkpoint fault) = fault ≡ writes.Device devices.Write
 IsWanting (Text fault) = ⊤
 IsWanting Memory = ⊤
 
@@ -58,6 +58,6 @@ IsUnformatted size formats.Memory = ⊤
 abbrev pub IsUnmade : ℕ → HistoryFault → Type 0
 IsUnmade size (Format fault) = IsUnformatted size fault
 IsUnmade size (Open fault) = SpeaksOfContents fault → ⊥
-IsUnmade size (Checkpoint fault) = fault ≡ checkpoints.Device devices.Write
+IsUnmade size (Checkpoint fault) = fault ≡ writes.Device devices.Write
 IsUnmade size (Text fault) = ⊤
 IsUnmade size Memory = ⊤

@@ -3,7 +3,7 @@ ghost use Rattle.std.specs.Prelude.{◌≡◌};
 ghost use Rattle.oa_history.specs.declared.fault.HistoryFault.TheVariants.{Memory};
 
 use oa_keeps::TextError;
-use oa_store::{CheckpointFault, FormatFault, OpenFault};
+use oa_store::{FormatFault, OpenFault, WriteFault};
 use std::alloc::{AllocError, AllocFailed};
 use thiserror::Error;
 
@@ -18,7 +18,7 @@ pub enum HistoryFault {
     Open(OpenFault),
     /// A checkpoint was not made, since a call of the device failed.
     #[error("no checkpoint: {0}")]
-    Checkpoint(CheckpointFault),
+    Checkpoint(WriteFault),
     /// The text of a store's library was not read.
     #[error("library: {0}")]
     Text(TextError),

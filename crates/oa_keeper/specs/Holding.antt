@@ -1,5 +1,5 @@
 -- What stands while events are held, and when they are committed. (This project's choice.)
-use Rattle.std.specs.Prelude.{◌≡◌, ℕ, ◌+◌, ◌-◌, ◌<◌, ◌≤◌, true, false, IsTrue, List, length, Result, IsOk, IsErrOf, OnOk, OnErr}
+use Rattle.std.specs.Prelude.{◌≡◌, ℕ, ◌+◌, ◌-◌, ◌<◌, ◌≤◌, true, false, IsTrue, List, length, Result, IsOk, OnOk, OnErr}
 use Rattle.oa_disk.specs.Disk.{HasCounted}
 use Rattle.oa_disk.specs.declared.disk.Disk.{Ghosts}
 use Rattle.oa_image.specs.Tables.{FitsBank, is_numbered}
@@ -7,11 +7,9 @@ use Rattle.oa_journal.specs.Replays.{Replays}
 use Rattle.oa_journal.specs.Shapes.{ample_bytes, body_bytes}
 use Rattle.oa_store.specs.declared.store.Store.{Store}
 use Rattle.oa_table.specs.Tables.{TableValue}
-use Rattle.oa_keeper.specs.declared.fault.KeepFault.{KeepFault}
-use Rattle.oa_keeper.specs.declared.fault.KeepFault.TheVariants.{Write}
 use Rattle.oa_keeper.specs.Kept.{AllHold, HasRoom, LeavesEither, LeavesTable}
 
--- The store has not stopped, and has room for the greatest group where events are in hand.
+-- The store has not stopped, and has room for the greatest group where the batch has events.
 pub record IsOpenFor {D : Type 0} {g : Ghosts D} (batch : List ℕ) (store : Store D g) : Type 0 where
   pub goes_on : store.stopped ≡ false
   pub room : HasRoom batch store
@@ -21,7 +19,7 @@ pub record CanBeKept (bank : ℕ) (table : TableValue) : Type 0 where
   pub fits : FitsBank bank table
   pub numbered : is_numbered table ≡ true
 
--- Images hold this table: what is held in memory where no event is in hand, and while some are, what they held before the first.
+-- Images hold this table: what is held in memory where the batch has no event, and else what they held before its first.
 abbrev pub IsLastCommitted : List ℕ → TableValue → TableValue → Type 0
 IsLastCommitted batch held committed = length batch ≡ 0 → held ≡ committed
 
@@ -41,34 +39,21 @@ pub record Carries {D : Type 0} {g : Ghosts D} (batch : List ℕ) (held : TableV
   pub each : new.stopped ≡ false → KeepsCommitted batch held old new
   pub library : new.library.items ≡ old.library.items
 
--- There is room for a group before its first event. No checkpoint is made for that while events are in hand, nor one that is not due.
+-- There is room for a group before its first event. No checkpoint is made for that where the batch has events, nor one that is not due.
 pub record MakesRoom {D T E : Type 0} {g : Ghosts D} (batch : List ℕ) (old new : Store D g) (result : Result T E) : Type 0 where
   pub quiet : 0 < length batch → (new.disk ≡ old.disk) × IsOk result
   pub undue : ample_bytes ≤ body_bytes old.bank.shape - old.bank.gate → (new.disk ≡ old.disk) × IsOk result
   pub room : OnOk result (ample_bytes ≤ body_bytes new.bank.shape - new.bank.gate)
   pub room_kept : new.stopped ≡ false → HasRoom batch new
 
--- The device is called for a checkpoint alone, which is due and comes before the first event of a group.
-pub record CallsForRoom {D T : Type 0} {g : Ghosts D} (batch held : List ℕ) (old new : Store D g) (result : Result T KeepFault) : Type 0 where
-  pub quiet : 0 < length batch → new.disk ≡ old.disk
-  pub undue : ample_bytes ≤ body_bytes old.bank.shape - old.bank.gate → new.disk ≡ old.disk
-  pub first : IsErrOf result Write → length batch ≡ 0
-  pub due : IsErrOf result Write → body_bytes old.bank.shape - old.bank.gate < ample_bytes
-  pub room : new.stopped ≡ false → HasRoom held new
-
--- The store stops exactly where a checkpoint fails.
-pub record StopsAtWrite {D T : Type 0} {g : Ghosts D} (old new : Store D g) (result : Result T KeepFault) : Type 0 where
-  pub going : (IsErrOf result Write → ⊥) → new.stopped ≡ false
-  pub stops : IsErrOf result Write → (new.stopped ≡ true) × HasCounted (g.failures_of old.disk) (g.failures_of new.disk)
-
--- Whatever table the images hold, and whatever the events in hand make of it: a stop leaves the one or the other, and the store that goes
+-- Whatever table the images hold, and whatever the events of the batch make of it: a stop leaves the one or the other, and the store that goes
 -- on has the latter.
 pub record Commits {D : Type 0} {g : Ghosts D} (batch : List ℕ) (old new : Store D g) : Type 0 where
   pub any_moment : (committed now : TableValue) → Replays batch committed now → AllHold old committed → LeavesEither old new committed now
   pub each : new.stopped ≡ false → (committed now : TableValue) → Replays batch committed now → AllHold old committed → AllHold new now
   pub library : new.library.items ≡ old.library.items
 
--- A commit makes four calls at most, and no checkpoint; none where no event is in hand.
+-- A commit makes four calls at most, and no checkpoint; none where the batch has no event.
 pub record CallsForGroup {D T E : Type 0} {g : Ghosts D} (batch : List ℕ) (old new : Store D g) (result : Result T E) : Type 0 where
   pub quiet : length batch ≡ 0 → (new.disk ≡ old.disk) × IsOk result × (new.stopped ≡ false)
   pub calls : IsTrue (g.is_honest old.disk) → g.moment new.disk ≤ g.moment old.disk + 8

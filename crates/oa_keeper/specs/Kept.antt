@@ -26,6 +26,6 @@ abbrev pub LeavesEither : {D : Type 0} {g : Ghosts D} → Store D g → Store D 
 LeavesEither {D} {g} old new before after =
     LeavesOnly g.moment g.image_since old.disk new.disk (λ c. IsStoreIn old.bank.shape c old.library.items before ⊎ IsStoreIn old.bank.shape c old.library.items after)
 
--- Where events are in hand, the bank in use has room for the greatest group.
+-- Where the batch has events, the bank in use has room for the greatest group.
 abbrev pub HasRoom : {D : Type 0} {g : Ghosts D} → List ℕ → Store D g → Type 0
 HasRoom batch store = 0 < length batch → ample_bytes ≤ body_bytes store.bank.shape - store.bank.gate

@@ -1,8 +1,9 @@
 //! What a store keeps of a table in memory: the events of its changes go out under one gate.
-ghost use Rattle.std.specs.Prelude.{◌≡◌, ◌⊎◌, ◌+◌, ◌≤◌, [], length, vec_capacity};
+ghost use Rattle.std.specs.Prelude.{◌≡◌, ◌⊎◌, ◌+◌, ◌*◌, ◌≤◌, IsTrue, [], length, vec_capacity};
 ghost use Rattle.oa_journal.specs.Append.{group_of};
 ghost use Rattle.oa_journal.specs.Shapes.{ample_bytes, body_bytes};
 ghost use Rattle.oa_keeper.specs.Holding.{CallsForGroup, CanBeKept, Carries, Commits, IsOpenFor, MakesRoom, StopsWhereRefused};
+ghost use Rattle.oa_store.specs.Calls.{checkpoint_calls};
 ghost use Rattle.oa_store.specs.Writing.{Goes};
 ghost use Rattle.oa_table.specs.Tables.{unlocked_table};
 
@@ -11,8 +12,8 @@ use oa_disk::Disk;
 use oa_store::Store;
 use oa_table::Table;
 
-/// Makes room for the events of a group before the first of them: a checkpoint of the table, where one is due. Where events are in hand
-/// nothing is done. The images hold the same table at every moment. Takes no memory.
+/// Makes room for the events of a group before the first of them: a checkpoint of the table, where one is due. Where the batch
+/// has events nothing is done. The images hold the same table at every moment. Takes no memory.
 pub fn make_room<D: Disk>(
     store: &mut Store<D>,
     table: &Table,
@@ -21,11 +22,14 @@ pub fn make_room<D: Disk>(
     requires open { IsOpenFor batch.now store.old }
     requires kept { CanBeKept (body_bytes store.old.bank.shape) table.now }
 
-    // Whatever table the images hold, which is the one in memory while no event is in hand.
+    // Whatever table the images hold, which is the one in memory while the batch has no event.
     ensures carries { Carries batch.now (unlocked_table table.now) store.old store.new }
     ensures room { MakesRoom batch.now store.old store.new result }
     ensures stops { StopsWhereRefused store.old store.new result }
     ensures goes { Goes store.old store.new }
+    // One checkpoint at most.
+    ensures calls { IsTrue (D.is_honest store.old.disk)
+        → D.moment store.new.disk ≤ D.moment store.old.disk + 2 * checkpoint_calls store.old.library.items table.now }
 {
     if !batch.is_empty() {
         return Ok(());

@@ -1,13 +1,13 @@
 -- A server at work over a store, and the open group. (This project's choice.)
-use Rattle.std.specs.Prelude.{◌≡◌, ◌⊎◌, ◌-◌, ◌<◌, ◌≤◌, ◌++◌, ℕ, true, false, List, [], length, vec_capacity, Result, IsOk, OnOk, OnErr}
+use Rattle.std.specs.Prelude.{◌≡◌, ◌⊎◌, ◌-◌, ◌<◌, ◌≤◌, ◌++◌, ℕ, true, false, List, [], length, vec_capacity, Result, IsOk, IsErrOf, OnOk, OnErr, ⊥}
+use Rattle.oa_disk.specs.Disk.{HasCounted}
 use Rattle.oa_disk.specs.declared.disk.Disk.{Ghosts}
 use Rattle.oa_groups.specs.Groupings.{Grouping, IsDue}
 use Rattle.oa_image.specs.Events.{event_image}
 use Rattle.oa_journal.specs.Replays.{Replays}
 use Rattle.oa_journal.specs.Shapes.{ample_bytes, body_bytes}
-use Rattle.oa_keeper.specs.Holding.{Carries, StopsAtWrite}
+use Rattle.oa_keeper.specs.Holding.{Carries}
 use Rattle.oa_keeper.specs.Kept.{HasRoom}
-use Rattle.oa_keeper.specs.declared.fault.KeepFault.{KeepFault}
 use Rattle.oa_model.specs.Limits.{group_bytes, max_event_bytes}
 use Rattle.oa_record.specs.Replies.{ReplyValue}
 use Rattle.oa_store.specs.Writing.{Goes}
@@ -15,6 +15,8 @@ use Rattle.oa_store.specs.declared.store.Store.{Store}
 use Rattle.oa_table.specs.Events.{BringsNoLocks}
 use Rattle.oa_table.specs.Tables.{TableValue}
 use Rattle.oa_table.specs.declared.event.Event.{Event}
+use Rattle.oa_server.specs.declared.fault.HoldFault.{HoldFault}
+use Rattle.oa_server.specs.declared.fault.HoldFault.TheVariants as faults
 use Rattle.oa_server.specs.declared.open_group.OpenGroup.{OpenGroup}
 use Rattle.oa_server.specs.Requests.{HasTurn, requests}
 use Rattle.oa_turn.specs.Events.{held_of}
@@ -91,11 +93,24 @@ pub record IsAdded (event : Event) (events events' : List ℕ) (old new : State)
   pub some : 0 < length (event_image event)
   pub behind : events' ≡ events ++ event_image event
 
+-- The device is called for a checkpoint alone, which is due and comes before the first event of a group.
+pub record CallsForRoom {D T : Type 0} {g : Ghosts D} (batch held : List ℕ) (old new : Store D g) (result : Result T HoldFault) : Type 0 where
+  pub quiet : 0 < length batch → new.disk ≡ old.disk
+  pub undue : ample_bytes ≤ body_bytes old.bank.shape - old.bank.gate → new.disk ≡ old.disk
+  pub first : IsErrOf result faults.Device → length batch ≡ 0
+  pub due : IsErrOf result faults.Device → body_bytes old.bank.shape - old.bank.gate < ample_bytes
+  pub room : new.stopped ≡ false → HasRoom held new
+
+-- The store stops exactly where a checkpoint fails.
+pub record StopsAtCheckpoint {D T : Type 0} {g : Ghosts D} (old new : Store D g) (result : Result T HoldFault) : Type 0 where
+  pub going : (IsErrOf result faults.Device → ⊥) → new.stopped ≡ false
+  pub stops : IsErrOf result faults.Device → (new.stopped ≡ true) × HasCounted (g.failures_of old.disk) (g.failures_of new.disk)
+
 -- what a checkpoint before an event leaves of the store, which stops exactly where it fails
 pub record MakesWay {D T : Type 0} {g : Ghosts D} (events : List ℕ) (held : TableValue) (old new : Store D g)
-    (result : Result T KeepFault) : Type 0 where
+    (result : Result T HoldFault) : Type 0 where
   pub carries : Carries events held old new
-  pub stops : StopsAtWrite old new result
+  pub stops : StopsAtCheckpoint old new result
   pub goes : Goes old new
 
 -- replies of which this holds were handed out

@@ -1,18 +1,19 @@
 //! A turn over a store: the event that it makes is held in a batch until its group ends.
 ghost use Rattle.std.specs.Prelude.{◌≡◌, ◌++◌, List, ℕ, false, IfOk, IsErr, IsErrOf, OnErr, OnOk};
 ghost use Rattle.oa_image.specs.Events.{event_image};
-ghost use Rattle.oa_keeper.specs.Holding.{CallsForRoom, IsOpenFor};
-ghost use Rattle.oa_keeper.specs.declared.fault.KeepFault.{KeepFault};
+ghost use Rattle.oa_keeper.specs.Holding.{IsOpenFor};
 ghost use Rattle.oa_record.specs.Replacement.{is_replacement};
-ghost use Rattle.oa_server.specs.OpenGroups.{CallsWhereDue, CanBeMade, HasBanks, HoldsOn, IsAdded, IsCutOff, MakesWay};
+ghost use Rattle.oa_server.specs.OpenGroups.{CallsForRoom, CallsWhereDue, CanBeMade, HasBanks, HoldsOn, IsAdded, IsCutOff, MakesWay};
 ghost use Rattle.oa_server.specs.Requests.{IsHeldBack};
+ghost use Rattle.oa_server.specs.declared.fault.HoldFault.{HoldFault};
 ghost use Rattle.oa_turn.specs.Changes.{MakesChange};
 ghost use Rattle.oa_turn.specs.Events.{held_of};
 ghost use Rattle.oa_turn.specs.Plans.{IsPlanned};
 
+use crate::fault::HoldFault;
 use oa_disk::Disk;
 use oa_image::laws::is_event;
-use oa_keeper::{Batch, DeviceFailed, KeepFault, make_room};
+use oa_keeper::{Batch, DeviceFailed, make_room};
 use oa_model::HResult;
 use oa_record::Reply;
 use oa_record::laws::one_request;
@@ -72,19 +73,19 @@ fn hold<D: Disk>(
     let Planned { tag, event, fields } = planned;
     match hold_change(host, store, batch, event) {
         Ok(()) => Ok(Reply::new(tag, HResult::S_OK, None, fields.into_vec())),
-        Err(KeepFault::Memory) => Ok(Reply::bare(alloc, tag, HResult::E_OUTOFMEMORY, None)),
-        Err(KeepFault::Write) => Err(DeviceFailed),
+        Err(HoldFault::Memory) => Ok(Reply::bare(alloc, tag, HResult::E_OUTOFMEMORY, None)),
+        Err(HoldFault::Device) => Err(DeviceFailed),
     }
 }
 
 /// Makes a change that is allowed, and holds its event in a batch, behind a checkpoint where one is due: that has the table before the
-/// change. Then the growths of the event's bytes and of the table follow. At `Write` the checkpoint failed.
+/// change. Then the growths of the event's bytes and of the table follow. At `Device` the checkpoint failed.
 fn hold_change<D: Disk>(
     host: &mut Host,
     store: &mut Store<D>,
     batch: &mut Batch,
     event: Event,
-) -> Result<(), KeepFault>
+) -> Result<(), HoldFault>
     requires change { CanBeMade host.old event }
     requires open { IsOpenFor batch.old store.old }
     requires banks { HasBanks store.old host.old }
@@ -102,18 +103,18 @@ fn hold_change<D: Disk>(
 }
 
 /// Makes a change that is allowed, and adds its event to the open group's. The growths come in this order: the event's bytes, the table's.
-fn add_change(host: &mut Host, batch: &mut Batch, event: Event) -> Result<(), KeepFault>
+fn add_change(host: &mut Host, batch: &mut Batch, event: Event) -> Result<(), HoldFault>
     requires { CanBeMade host.old event }
     ensures change { MakesChange event host.old host.new result }
     ensures event { OnOk result (batch.new ≡ batch.old ++ event_image event) }
     ensures same { OnErr result (batch.new ≡ batch.old) }
-    ensures kind { IsErr result → IsErrOf result KeepFault.Memory }
+    ensures kind { IsErr result → IsErrOf result HoldFault.Memory }
 {
     let before = batch.len();
     batch.add(&event)?;
     if let Err(_) = host.apply(event) {
         batch.cut(before);
-        return Err(KeepFault::Memory);
+        return Err(HoldFault::Memory);
     }
     Ok(())
 }

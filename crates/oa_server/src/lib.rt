@@ -8,6 +8,7 @@
 #![tactic(auto)]
 
 mod engine;
+mod fault;
 mod grouping;
 mod holding;
 pub mod laws;

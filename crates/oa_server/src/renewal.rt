@@ -12,13 +12,13 @@ use oa_disk::Disk;
 use oa_keeper::DeviceFailed;
 use oa_model::HResult;
 use oa_record::Reply;
-use oa_store::{CheckpointFault, Store};
+use oa_store::{Store, WriteFault};
 use oa_turn::{Host, Renewal};
 use std::alloc::Global;
 
-/// The turn of a body of opcode 12 over a store, where no group is open: a group of its own. The store goes on in its other bank with the other
-/// library; where the body is refused, the device is not called. At `Err` the device has failed, and the turn is in doubt: the state is
-/// the one after it.
+/// The turn of a body of opcode 12 over a store, where no group is open: a group of its own. The store goes on in its other bank with the
+/// other library; where the body is refused, the device is not called. At `Err` the device has failed, and the turn is in doubt: the state
+/// is the one after it.
 pub(crate) fn renew_over<D: Disk>(
     alloc: Global,
     host: &mut Host,
@@ -45,10 +45,10 @@ pub(crate) fn renew_over<D: Disk>(
             host.replace_library(library);
             Ok(bare_reply(alloc, body, HResult::S_OK))
         }
-        Err(CheckpointFault::Device(_)) => {
+        Err(WriteFault::Device(_)) => {
             host.replace_library(library);
             Err(DeviceFailed)
         }
-        Err(CheckpointFault::Stopped) => Err(DeviceFailed),
+        Err(WriteFault::Stopped) => Err(DeviceFailed),
     }
 }

@@ -7,6 +7,8 @@ use Rattle.oa_disk.specs.declared.disk.Disk.{Ghosts}
 use Rattle.oa_journal.specs.Append.{group_of}
 use Rattle.oa_journal.specs.Banks.{first_gate}
 use Rattle.oa_journal.specs.Shapes.{ample_bytes, body_bytes}
+use Rattle.oa_store.specs.declared.fault.WriteFault.{WriteFault}
+use Rattle.oa_store.specs.declared.fault.WriteFault.TheVariants as faults
 use Rattle.oa_store.specs.declared.store.Store.{Store}
 use Rattle.oa_table.specs.Tables.{TableValue}
 
@@ -23,12 +25,11 @@ pub record Goes {D : Type 0} {g : Ghosts D} (old new : Store D g) : Type 0 where
   pub unfailed : new.stopped ≡ false → g.failures_of new.disk ≡ g.failures_of old.disk
 
 -- The store goes on exactly where `Ok` is answered. One fault says that it had stopped before, and the others that a write has failed.
-pub record StopsAtFault {D T E : Type 0} {g : Ghosts D} (late : E) (device : DeviceFault → E) (old new : Store D g)
-    (result : Result T E) : Type 0 where
+pub record StopsAtFault {D T : Type 0} {g : Ghosts D} (old new : Store D g) (result : Result T WriteFault) : Type 0 where
   pub goes_on : OnOk result (new.stopped ≡ false)
   pub stops : OnErr result (new.stopped ≡ true)
-  pub stopped : IsErrOf result late ↔ (old.stopped ≡ true)
-  pub fault : (fault : DeviceFault) → IsErrOf result (device fault) → fault ≡ Write
+  pub stopped : IsErrOf result faults.Stopped ↔ (old.stopped ≡ true)
+  pub fault : (fault : DeviceFault) → IsErrOf result (faults.Device fault) → fault ≡ Write
 
 -- The bank in use has the group of a batch more, or nothing has changed in memory.
 pub record AddsGroup {D T E : Type 0} {g : Ghosts D} (batch : List ℕ) (old new : Store D g) (result : Result T E) : Type 0 where

@@ -169,20 +169,9 @@ impl From<BankFault> for UpgradeFault {
     }
 }
 
-/// Why a group was not committed.
+/// Why an open store has written no group, or made no checkpoint.
 #[derive(Clone, Copy, Debug, PartialEq, Eq, Error)]
-pub enum CommitFault {
-    /// The device has failed a call before.
-    #[error("the store has stopped")]
-    Stopped,
-    /// The device has failed a call.
-    #[error("device: {0}")]
-    Device(DeviceFault),
-}
-
-/// Why no checkpoint was made.
-#[derive(Clone, Copy, Debug, PartialEq, Eq, Error)]
-pub enum CheckpointFault {
+pub enum WriteFault {
     /// The device has failed a call before.
     #[error("the store has stopped")]
     Stopped,

@@ -16,7 +16,7 @@ mod store;
 mod switching;
 mod upgrading;
 
-pub use fault::{CheckpointFault, CommitFault, FormatFault, OpenFault, UpgradeFault};
+pub use fault::{FormatFault, OpenFault, UpgradeFault, WriteFault};
 pub use formatting::format;
 pub use reading::inspect;
 pub use store::Store;

@@ -1,5 +1,5 @@
 //! A store that is open.
-ghost use Rattle.std.specs.Prelude.{◌≡◌, ◌↔◌, ◌+◌, ◌*◌, ◌-◌, ◌<◌, ◌≤◌, false, true, IsTrue, length, IfErr, IfOk, vec_capacity};
+ghost use Rattle.std.specs.Prelude.{◌≡◌, ◌↔◌, ◌+◌, ◌*◌, ◌-◌, ◌<◌, ◌≤◌, false, true, IsTrue, length, IfErr, IfOk, OnOk, vec_capacity};
 ghost use Rattle.oa_disk.specs.After.{AfterCalls, Leaves};
 ghost use Rattle.oa_model.specs.Limits.{max_library_bytes};
 ghost use Rattle.oa_table.specs.Tables.{unlocked_table};
@@ -14,7 +14,7 @@ ghost use Rattle.oa_store.specs.Stores.{body_place, head_place};
 
 use crate::reading::find_store;
 use crate::switching::switch_to;
-use crate::{CheckpointFault, CommitFault, OpenFault};
+use crate::{OpenFault, WriteFault};
 use oa_disk::Disk;
 use oa_journal::{AMPLE_BYTES, AppendFault, Bank};
 use oa_table::Table;
@@ -44,8 +44,7 @@ pub struct Store<D: Disk> {
 }
 
 impl<D: Disk> Store<D> {
-    ghost use Rattle.oa_store.specs.declared.fault.CommitFault.{CommitFault};
-    ghost use Rattle.oa_store.specs.declared.fault.CheckpointFault.{CheckpointFault};
+    ghost use Rattle.oa_store.specs.declared.fault.WriteFault.{WriteFault};
     ghost use Rattle.oa_store.specs.Openings.{FindsStore, RefusesDisk, Starts};
     ghost use Rattle.oa_store.specs.Writing.{AddsGroup, Goes, StopsAtFault, SwitchesBank};
 
@@ -107,6 +106,17 @@ impl<D: Disk> Store<D> {
         self.stopped
     }
 
+    /// Err where it has stopped.
+    fn going(&self) -> Result<(), WriteFault>
+        ensures going { OnOk result (self.now.stopped ≡ false) }
+        ensures stopped { IfErr result (λ e. (e ≡ WriteFault.Stopped) × (self.now.stopped ≡ true)) }
+    {
+        if self.stopped {
+            return Err(WriteFault::Stopped);
+        }
+        Ok(())
+    }
+
     /// The disk as it is, while the store goes on: its clock tells when a call has ended. This makes no call.
     pub fn disk(&self) -> &D
         ensures { result.now ≡ self.now.disk }
@@ -126,7 +136,7 @@ impl<D: Disk> Store<D> {
     /// of the disk. Of the batch, the free bytes alone may change. After `Device`, and only then, the store has stopped.
     ///
     /// That the group's events apply to the committed table is a premise of what the images hold, not a condition of the call.
-    pub fn commit(&mut self, batch: &mut [u8]) -> Result<(), CommitFault>
+    pub fn commit(&mut self, batch: &mut [u8]) -> Result<(), WriteFault>
         requires some { 5 < length batch.old }
         requires fits { self.old.bank.gate + length batch.old < body_bytes self.old.bank.shape }
 
@@ -135,21 +145,19 @@ impl<D: Disk> Store<D> {
             (IsCommitted self.old.bank.shape self.old.chosen self.old.bank.gate (group_of batch.old)) self.old.disk self.new.disk result }
         ensures adds { AddsGroup batch.old self.old self.new result }
         ensures kept { group_of batch.new ≡ group_of batch.old }
-        ensures stops { StopsAtFault CommitFault.Stopped CommitFault.Device self.old self.new result }
+        ensures stops { StopsAtFault self.old self.new result }
         ensures goes { Goes self.old self.new }
         // At most four calls.
         ensures calls { IsTrue (D.is_honest self.old.disk) → D.moment self.new.disk ≤ D.moment self.old.disk + 8 }
     {
-        if self.stopped {
-            return Err(CommitFault::Stopped);
-        }
+        self.going()?;
         match self.bank.append(&mut self.disk, batch) {
             Ok(()) => Ok(()),
             Err(AppendFault::Device(fault)) => {
                 self.stopped = true;
-                Err(CommitFault::Device(fault))
+                Err(WriteFault::Device(fault))
             }
-            Err(AppendFault::Full | AppendFault::Stopped) => Err(CommitFault::Stopped),
+            Err(AppendFault::Full | AppendFault::Stopped) => Err(WriteFault::Stopped),
         }
     }
 
@@ -157,7 +165,7 @@ impl<D: Disk> Store<D> {
     /// then, the store has stopped.
     ///
     /// That the table, its locks apart, is the committed one is a premise of what the images hold, not a condition of the call.
-    pub fn checkpoint(&mut self, table: &Table) -> Result<(), CheckpointFault>
+    pub fn checkpoint(&mut self, table: &Table) -> Result<(), WriteFault>
         requires fits { length (table_image table.now) + reserved_bytes ≤ body_bytes self.old.bank.shape }
         requires numbered { is_numbered table.now ≡ true }
 
@@ -169,14 +177,12 @@ impl<D: Disk> Store<D> {
             (first_gate self.old.library.items table.now) self.old.library.items (unlocked_table table.now))
             self.old.disk self.new.disk result }
         ensures switches { SwitchesBank self.old.library.items table.now self.old self.new result }
-        ensures stops { StopsAtFault CheckpointFault.Stopped CheckpointFault.Device self.old self.new result }
+        ensures stops { StopsAtFault self.old self.new result }
         ensures goes { Goes self.old self.new }
         ensures calls { IsTrue (D.is_honest self.old.disk)
             → D.moment self.new.disk ≤ D.moment self.old.disk + 2 * checkpoint_calls self.old.library.items table.now }
     {
-        if self.stopped {
-            return Err(CheckpointFault::Stopped);
-        }
+        self.going()?;
         let size = self.bank.size();
         match switch_to(
             &mut self.disk,
@@ -193,13 +199,13 @@ impl<D: Disk> Store<D> {
             }
             Err(fault) => {
                 self.stopped = true;
-                Err(CheckpointFault::Device(fault))
+                Err(WriteFault::Device(fault))
             }
         }
     }
 
     /// The same with another library, which later checkpoints then have too. Its bytes are kept in room that `open` has reserved.
-    pub fn checkpoint_with(&mut self, library: &[u8], table: &Table) -> Result<(), CheckpointFault>
+    pub fn checkpoint_with(&mut self, library: &[u8], table: &Table) -> Result<(), WriteFault>
         requires fits { length (table_image table.now) + reserved_bytes ≤ body_bytes self.old.bank.shape }
         requires numbered { is_numbered table.now ≡ true }
         requires short { length library.now ≤ max_library_bytes }
@@ -212,14 +218,12 @@ impl<D: Disk> Store<D> {
             self.old.library.items library.now (unlocked_table table.now))
             self.old.disk self.new.disk result }
         ensures switches { SwitchesBank library.now table.now self.old self.new result }
-        ensures stops { StopsAtFault CheckpointFault.Stopped CheckpointFault.Device self.old self.new result }
+        ensures stops { StopsAtFault self.old self.new result }
         ensures goes { Goes self.old self.new }
         ensures calls { IsTrue (D.is_honest self.old.disk)
             → D.moment self.new.disk ≤ D.moment self.old.disk + 2 * checkpoint_calls library.now table.now }
     {
-        if self.stopped {
-            return Err(CheckpointFault::Stopped);
-        }
+        self.going()?;
         let size = self.bank.size();
         match switch_to(
             &mut self.disk,
@@ -238,7 +242,7 @@ impl<D: Disk> Store<D> {
             }
             Err(fault) => {
                 self.stopped = true;
-                Err(CheckpointFault::Device(fault))
+                Err(WriteFault::Device(fault))
             }
         }
     }

@@ -1,0 +1,34 @@
+//! Why a change was not made over a store.
+ghost use Rattle.std.specs.Prelude.{◌≡◌};
+ghost use Rattle.oa_server.specs.declared.fault.HoldFault.TheVariants.{Device, Memory};
+
+use oa_keeper::DeviceFailed;
+use std::alloc::AllocError;
+use thiserror::Error;
+
+/// Why a change was not made. The table and the open group are as they were, and images hold the table that they held before.
+#[derive(Clone, Copy, Debug, PartialEq, Eq, Error)]
+pub(crate) enum HoldFault {
+    /// No memory was found.
+    #[error("out of memory")]
+    Memory,
+    /// A call of the device failed in a checkpoint, and the store has stopped.
+    #[error("the device has failed")]
+    Device,
+}
+
+impl From<AllocError> for HoldFault {
+    ghost from_gives = { λ _ e. e ≡ Memory };
+
+    fn from(_: AllocError) -> HoldFault {
+        HoldFault::Memory
+    }
+}
+
+impl From<DeviceFailed> for HoldFault {
+    ghost from_gives = { λ _ e. e ≡ Device };
+
+    fn from(_: DeviceFailed) -> HoldFault {
+        HoldFault::Device
+    }
+}

@@ -69,9 +69,10 @@ union_of vt v = given (scalar_vt v ≡ vt) ▸ union v
 abbrev pub own_vt : List ℕ → ℕ
 own_vt bytes = little_number 2 (drop 8 bytes)
 
--- a scalar takes memory where it is a text: the vt is VT_BSTR (MS-OAUT 2.2.7), and a discriminant is there
+-- a scalar takes memory where it is a text: the vt is VT_BSTR (MS-OAUT 2.2.7), and the head, the discriminant, the referent and the three
+-- numbers before the text are there, 16, 4, 4 and 12 bytes
 abbrev pub TakesText : List ℕ → Type 0
-TakesText bytes = (20 ≤ length bytes) × (own_vt bytes ≡ 8)
+TakesText bytes = (36 ≤ length bytes) × (own_vt bytes ≡ 8)
 
 -- clSize, rpcReserved, vt, three reserved numbers, the union
 abbrev pub scalar : Scalar → Form

@@ -193,10 +193,7 @@ fn elements(
 fn has_sf_type(elem: VarType, sf_type: u32) -> bool
     ensures { result ≡ has_sf_type elem sf_type }
 {
-    match elem.sf_type() {
-        Some(own) => own == sf_type,
-        None => false,
-    }
+    elem.sf_type() == Some(sf_type)
 }
 
 /// Whether there is an array of these bounds, and has this number of cells.

@@ -3,7 +3,7 @@
 ghost use Rattle.std.specs.Prelude.{◌≡◌, ◌≤◌, ◌<◌, [], OnOk, OnErr, length};
 ghost use Rattle.oa_model.specs.declared.var_type.VarType.TheVariants as types;
 ghost use Rattle.oa_ndr.specs.Writing.{TakesNothingBack, in_field};
-ghost use Rattle.oa_wire_array.specs.Scalars.{union_of, TakesText};
+ghost use Rattle.oa_wire_array.specs.Scalars.{scalar, union_of, TakesText};
 ghost use Rattle.oa_wire_text.specs.Reading.{ReadsField, IsFront, OnMemory, from_multiple};
 ghost use Rattle.oa_wire_array.specs.Reading.{sign_at, decimal_at, arm_at, union_at, scalar_at};
 ghost use Rattle.oa_wire_array.specs.Canon.{max_wire_scalar, put_truth, put_decimal, put_arm, put_head, put_sized, put_scalar, scalar_len};
@@ -48,7 +48,7 @@ fn decimal(r: &mut Ndr<'_>) -> Result<Decimal, StubFault>
 #[tactic(auto, unfolding(oa_ndr::specs::Reading::steps, crate::specs::Reading::arm_at, crate::specs::Reading::signed_at, crate::specs::Reading::truth_at))]
 pub(crate) fn arm(alloc: Global, var_type: VarType, r: &mut Ndr<'_>) -> Result<Scalar, StubFault>
     ensures value { ReadsField result r.new (arm_at var_type r.old) }
-    ensures memory { OnMemory result (var_type ≡ types.Bstr) }
+    ensures memory { OnMemory result ((var_type ≡ types.Bstr) × (16 ≤ length r.old.rest)) }
 {
     Ok(match var_type {
         VarType::Empty => Scalar::Empty,
@@ -75,7 +75,7 @@ pub(crate) fn arm(alloc: Global, var_type: VarType, r: &mut Ndr<'_>) -> Result<S
 #[tactic(auto, unfolding(oa_ndr::specs::Reading::steps, crate::specs::Reading::arm_of, crate::specs::Reading::union_at))]
 fn union(alloc: Global, vt: u16, r: &mut Ndr<'_>) -> Result<Scalar, StubFault>
     ensures value { ReadsField result r.new (union_at vt r.old) }
-    ensures memory { OnMemory result ((vt ≡ 8) × (4 ≤ length r.old.rest)) }
+    ensures memory { OnMemory result ((vt ≡ 8) × (20 ≤ length r.old.rest)) }
 {
     let discriminant = r.u32()?;
     if discriminant != vt as u32 {
@@ -91,10 +91,10 @@ fn union(alloc: Global, vt: u16, r: &mut Ndr<'_>) -> Result<Scalar, StubFault>
 /// before: the discriminant, which must be that vt, and the arm with its pointee.
 ///
 /// `BadStub` where no bytes from the reader on are those of a scalar with that vt. `Memory` only for a
-/// BSTR. At an error the reader is as it was.
+/// BSTR, where the 20 bytes before a text are there. At an error the reader is as it was.
 pub fn read_union(alloc: Global, vt: u16, r: &mut Ndr<'_>) -> Result<Scalar, StubFault>
     ensures exact { IsFront (union_of vt) result r.old r.new }
-    ensures memory { OnMemory result ((vt ≡ 8) × (4 ≤ length r.old.rest)) }
+    ensures memory { OnMemory result ((vt ≡ 8) × (20 ≤ length r.old.rest)) }
 {
     let mut ahead = r.fork();
     let answer = union(alloc, vt, &mut ahead);
@@ -104,8 +104,7 @@ pub fn read_union(alloc: Global, vt: u16, r: &mut Ndr<'_>) -> Result<Scalar, Stu
     answer
 }
 
-/// A wireVARIANT without VT_ARRAY at the next multiple of 8, with its pointee (MS-OAUT 2.2.29): clSize at its first byte, vt at 8, the
-/// discriminant at 16, the arm from 20 on. clSize and reserved numbers are not looked at.
+/// The same as `read_scalar`, but at a fault the reader may have moved.
 #[tactic(auto, unfolding(oa_ndr::specs::Reading::bind, crate::specs::Reading::scalar_at))]
 pub(crate) fn scalar(alloc: Global, r: &mut Ndr<'_>) -> Result<Scalar, StubFault>
     ensures value { ReadsField result r.new (scalar_at r.old) }
@@ -119,6 +118,24 @@ pub(crate) fn scalar(alloc: Global, r: &mut Ndr<'_>) -> Result<Scalar, StubFault
     r.u16()?;
     r.u16()?;
     union(alloc, vt, r)
+}
+
+/// Reads a wireVARIANT without VT_ARRAY at the next multiple of 8, with its pointee (MS-OAUT 2.2.29):
+/// clSize at its first byte, vt at 8, the discriminant at 16, the arm from 20 on. clSize and reserved
+/// numbers are not looked at.
+///
+/// `BadStub` where no bytes from the reader on spell a scalar. `Memory` only where the vt is that of BSTR
+/// and the 36 bytes before a text are there. At an error the reader is as it was.
+pub fn read_scalar(alloc: Global, r: &mut Ndr<'_>) -> Result<Scalar, StubFault>
+    ensures exact { IsFront scalar result r.old r.new }
+    ensures memory { OnMemory result (TakesText (from_multiple 8 r.old)) }
+{
+    let mut ahead = r.fork();
+    let answer = scalar(alloc, &mut ahead);
+    if answer.is_ok() {
+        *r = ahead;
+    }
+    answer
 }
 
 fn write_truth(out: &mut NdrOut, truth: bool) -> Result<(), AllocError>
@@ -244,7 +261,7 @@ pub(crate) fn add_scalar(out: &mut NdrOut, value: &Scalar) -> Result<(), AllocEr
 }
 
 /// Writes a wireVARIANT without VT_ARRAY at the next multiple of 8, with its pointee (see
-/// `scalar`). clSize is the number of its bytes, in units of 8, rounded up.
+/// `read_scalar`). clSize is the number of its bytes, in units of 8, rounded up.
 ///
 /// Where memory is refused, the output is as it was.
 pub fn write_scalar(out: &mut NdrOut, value: &Scalar) -> Result<(), AllocError>

@@ -1,6 +1,7 @@
 -- Reading a whole field reads its form, and what is written is of the form.
 use Rattle.std.proofs.Common.{◌≡◌, ℕ, ◌+◌, ◌-◌, ◌/◌, ◌%◌, ◌^◌, ◌<◌, ◌≤◌, ◌⊎◌, inl, inr, Bool, true, false, eqb, ltb, ◌&&◌, ◌||◌, is_some}
 use Rattle.std.proofs.Common.{List, [], ◌++◌, length, Result, Ok, Err, Option, Some, None, refl, sym, ap, ◌∙◌, arith}
+use Rattle.std.specs.Option.{IsSome}
 use Rattle.std.specs.Result.{IsErrAnd, MatchResult}
 use Rattle.std.proofs.lemmas.Bool.{eqb-true, eq-eqb, ltb-true, ltb-false, and_parts, and_from, or_left, or_right, true≢false}
 use Rattle.oa_ndr.specs.Forms.{unit, referent}
@@ -21,7 +22,8 @@ use Rattle.oa_wire_array.specs.declared.fault.WireFault.{WireFault}
 use Rattle.oa_wire_array.specs.declared.fault.WireFault.TheVariants.{BadStub, BadVarType, Memory}
 use Rattle.oa_wire_text.specs.declared.fault.StubFault.{StubFault}
 use Rattle.oa_wire_text.specs.declared.fault.StubFault.TheVariants as faults
-use Rattle.oa_wire_text.specs.Reading.{ReadsField, Stretch}
+use Rattle.oa_wire_text.specs.Reading.{ReadsField, OnMemory, Stretch}
+use Rattle.oa_wire_text.proofs.Memory.{anyhow}
 use Rattle.oa_wire_array.specs.Arrays.{array, IsArrayFront}
 use Rattle.oa_wire_array.specs.ArrayReading.{array_at}
 use Rattle.oa_wire_array.specs.ArrayCanon.{put_array}
@@ -164,6 +166,17 @@ array_told P t (Err e) (Ok a) old new h is stub type memory = absurd is
 array_told P t (Err BadStub) (Err f) old new h is stub type memory = rw (stub f is) (array_answers t (Err BadStub) old new h)
 array_told P t (Err BadVarType) (Err f) old new h is stub type memory = rw (type f is) (array_answers t (Err BadVarType) old new h)
 array_told P t (Err Memory) (Err f) old new h is stub type memory = rw (memory f is) tt
+
+-- and want of memory, which comes of want of memory alone
+pub array_starved : (P : WireFault → StubFault → Type 0) (t : VarType) (from : Result (ArrayValue Scalar) WireFault) (to : Result (ArrayValue Scalar) StubFault) (old new : Cursor)
+    → IsArrayFront t from old new → MatchResult from (λ a. to ≡ Ok a) (λ e. IsErrAnd to (P e))
+    → ((f : StubFault) → P BadStub f → f ≡ faults.BadStub) → ((f : StubFault) → P BadVarType f → f ≡ faults.BadStub)
+    → OnMemory to (IsSome (sf_type_of t) × (32 ≤ length old.rest))
+array_starved P t (Ok a) to old new h is stub type = rw is tt
+array_starved P t (Err e) (Ok a) old new h is stub type = tt
+array_starved P t (Err BadStub) (Err f) old new h is stub type = rw (stub f is) tt
+array_starved P t (Err BadVarType) (Err f) old new h is stub type = rw (type f is) tt
+array_starved P t (Err Memory) (Err f) old new h is stub type = anyhow {A = ArrayValue Scalar} (Err f) (h.0, h.1)
 
 -- ---- lengths
 

@@ -1,6 +1,7 @@
 -- How a field is written: the ignored parts and the choices of a spelling (this project's choice).
 use Rattle.std.specs.Prelude.{◌≡◌, ℕ, ◌+◌, ◌/◌, ◌%◌, ◌^◌, true, List, [], length}
 use Rattle.oa_ndr.specs.Writing.{put_unit, put_referent}
+use Rattle.oa_model.specs.Invoke.{vt_array}
 use Rattle.oa_model.specs.Types.{vt_of}
 use Rattle.oa_array.specs.Arrays.{ArrayValue}
 use Rattle.oa_variant.specs.declared.scalar.Scalar.{Scalar}
@@ -12,11 +13,11 @@ use Rattle.oa_wire_array.specs.ArrayCanon.{put_array}
 
 -- up to the second referent: the discriminant is VT_ARRAY
 abbrev pub put_array_head : ℕ → ℕ → List ℕ → List ℕ
-put_array_head size vt out = out |> put_head size vt |> put_unit 4 8192 |> put_referent true
+put_array_head size vt out = out |> put_head size vt |> put_unit 4 vt_array |> put_referent true
 
 -- with a given clSize
 abbrev pub put_sized_array : ℕ → ArrayValue Scalar → List ℕ → List ℕ
-put_sized_array size a out = out |> put_array_head size (vt_of a.elem + 8192) |> put_array a
+put_sized_array size a out = out |> put_array_head size (vt_of a.elem + vt_array) |> put_array a
 
 -- how many bytes an array takes, from the first of its wireVARIANT to the last of its pointees
 unfoldable pub array_len : ArrayValue Scalar → ℕ

@@ -1,6 +1,7 @@
 -- Reading a field as a function on lists, which says the same as the forms (proofs/VariantLaws has the law).
 use Rattle.std.specs.Prelude.{◌≡◌, ℕ, ◌-◌, ◌==◌, ◌&&◌, ◌||◌, nat_lt, Option, Some, None, Result, Ok, Err}
 use Rattle.oa_ndr.specs.Reading.{Reading, ◌>>=◌, give, fail, choose, align_at, unit_at, referent_at}
+use Rattle.oa_model.specs.Invoke.{vt_array}
 use Rattle.oa_model.specs.Types.{type_at}
 use Rattle.oa_model.specs.declared.var_type.VarType.{VarType}
 use Rattle.oa_array.specs.Arrays.{ArrayValue}
@@ -29,7 +30,7 @@ unfoldable pub array_union_at : VarType → ℕ → Reading (ArrayValue Scalar)
 array_union_at t vt = do
   discriminant ← unit_at 4
   is_set ← referent_at
-  choose (((discriminant == 8192) || (discriminant == vt)) && is_set) (array_at t) fail
+  choose (((discriminant == vt_array) || (discriminant == vt)) && is_set) (array_at t) fail
 
 unfoldable pub array_value_at : Option VarType → ℕ → Reading Variant
 array_value_at None vt = fail
@@ -46,4 +47,4 @@ variant_at = do
   _ ← unit_at 2
   _ ← unit_at 2
   _ ← unit_at 2
-  choose (nat_lt vt 8192) (scalar_value_at vt) (array_value_at (type_at (vt - 8192)) vt)
+  choose (nat_lt vt vt_array) (scalar_value_at vt) (array_value_at (type_at (vt - vt_array)) vt)

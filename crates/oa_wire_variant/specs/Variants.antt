@@ -2,6 +2,7 @@
 use Rattle.std.specs.Prelude.{◌≡◌, ℕ, ◌+◌, ◌-◌, ◌≤◌, ◌&&◌, ◌⊎◌, nat_le, nat_lt, is_some, Bool, true, false, not, if◌then◌else◌, List}
 use Rattle.std.specs.Prelude.{length, Option, Some, None, Result, Ok, Err}
 use Rattle.oa_ndr.specs.Forms.{Form, ◌▸◌, align, ignored, unit, with, given, referent}
+use Rattle.oa_model.specs.Invoke.{vt_array}
 use Rattle.oa_model.specs.Types.{vt_of, vt_of_value, type_at, sf_type_of}
 use Rattle.oa_model.specs.declared.var_type.VarType.{VarType}
 use Rattle.oa_model.specs.declared.var_type.VarType.TheVariants as types
@@ -10,7 +11,7 @@ use Rattle.oa_variant.specs.Variants.{value_type_of}
 use Rattle.oa_variant.specs.declared.scalar.Scalar.{Scalar}
 use Rattle.oa_variant.specs.declared.variant.Variant.{Variant}
 use Rattle.oa_variant.specs.declared.variant.Variant.TheVariants.{One, Array}
-use Rattle.oa_wire_array.specs.Scalars.{own_vt, union}
+use Rattle.oa_wire_array.specs.Scalars.{own_vt, union, TakesText}
 use Rattle.oa_wire_array.specs.Arrays.{array}
 use Rattle.oa_wire_array.specs.declared.fault.WireFault.{WireFault}
 use Rattle.oa_wire_array.specs.declared.fault.WireFault.TheVariants.{BadStub, BadVarType, Memory}
@@ -22,7 +23,7 @@ value_vt v = vt_of_value (value_type_of v)
 -- the union of an array: the discriminant, which is VT_ARRAY or vt (this project's choice), a referent, which is set, and what lies behind
 -- it
 abbrev pub array_union : ArrayValue Scalar → Form
-array_union a = with (unit 4) (λ d. given ((d ≡ 8192) ⊎ (d ≡ vt_of a.elem + 8192)) ▸ referent true ▸ array a)
+array_union a = with (unit 4) (λ d. given ((d ≡ vt_array) ⊎ (d ≡ vt_of a.elem + vt_array)) ▸ referent true ▸ array a)
 
 abbrev pub value_union : Variant → Form
 value_union (One s) = union s
@@ -49,7 +50,7 @@ is_cell_type (Some t) = is_some (sf_type_of t)
 
 -- whether some value has this vt
 abbrev pub is_value_type : ℕ → Bool
-is_value_type vt = if nat_lt vt 8192 then is_scalar_type (type_at vt) else is_cell_type (type_at (vt - 8192))
+is_value_type vt = if nat_lt vt vt_array then is_scalar_type (type_at vt) else is_cell_type (type_at (vt - vt_array))
 
 -- the fault of a field that spells no value (this project's choice): its vt, at the offset 8, is asked where the field has room for a vt
 -- and a discriminant
@@ -58,11 +59,12 @@ field_fault bytes = if nat_le 20 (length bytes) && not (is_value_type (own_vt by
 
 -- the vt of an array with cells of a type of which there are arrays
 abbrev pub IsArrayVt : ℕ → Type 0
-IsArrayVt vt = (8192 ≤ vt) × (is_cell_type (type_at (vt - 8192)) ≡ true)
+IsArrayVt vt = (vt_array ≤ vt) × (is_cell_type (type_at (vt - vt_array)) ≡ true)
 
--- a value takes memory where it is a text, VT_BSTR, or an array, VT_ARRAY with a type of cells (MS-OAUT 2.2.7), and a discriminant is there
+-- a value takes memory where it is a text, or an array: its vt is VT_ARRAY with a type of cells (MS-OAUT 2.2.7), and the head, the
+-- discriminant, the two referents and the numbers before the bounds are there, 16, 4, 8 and 28 bytes
 abbrev pub TakesMemory : List ℕ → Type 0
-TakesMemory bytes = (20 ≤ length bytes) × ((own_vt bytes ≡ 8) ⊎ IsArrayVt (own_vt bytes))
+TakesMemory bytes = TakesText bytes ⊎ ((56 ≤ length bytes) × IsArrayVt (own_vt bytes))
 
 -- what reading a field answers: the value that its bytes spell, or its fault where they spell none; want of memory only where a value takes
 -- some

@@ -9,5 +9,5 @@
 pub mod laws;
 mod variant;
 
-pub use oa_wire_array::WireFault;
+pub use oa_wire_array::{WireFault, scalar_len};
 pub use variant::{read_variant, wire_len, write_variant};

@@ -1,6 +1,7 @@
 //! Whole fields.
 
 ghost use Rattle.std.specs.Prelude.{◌≡◌, ◌++◌, ◌-◌, ◌<◌, ◌≤◌, ◌^◌, length, IfSome, IsSome, OnOk, OnErr, Some};
+ghost use Rattle.oa_model.specs.Invoke.{vt_array};
 ghost use Rattle.oa_model.specs.Types.{type_at, sf_type_of};
 ghost use Rattle.oa_ndr.specs.Reading.{whole};
 ghost use Rattle.oa_ndr.specs.Writing.{in_field};
@@ -39,14 +40,14 @@ const SECOND_REFERENT: usize = 24;
 
 fn union(alloc: Global, vt: u16, r: &mut Ndr<'_>) -> Result<Scalar, StubFault>
     ensures value { ReadsField result r.new (union_at vt r.old) }
-    ensures memory { OnMemory result ((vt ≡ 8) × (4 ≤ length r.old.rest)) }
+    ensures memory { OnMemory result ((vt ≡ 8) × (20 ≤ length r.old.rest)) }
 {
     read_union(alloc, vt, r)
 }
 
 fn array(alloc: Global, elem: VarType, r: &mut Ndr<'_>) -> Result<SafeArray<Scalar>, StubFault>
     ensures value { ReadsField result r.new (array_at elem r.old) }
-    ensures memory { OnMemory result (IsSome (sf_type_of elem)) }
+    ensures memory { OnMemory result (IsSome (sf_type_of elem) × (32 ≤ length r.old.rest)) }
 {
     read_array(alloc, r, elem).map_err(|fault| match fault {
         WireFault::BadStub | WireFault::BadVarType => StubFault::BadStub,
@@ -57,7 +58,7 @@ fn array(alloc: Global, elem: VarType, r: &mut Ndr<'_>) -> Result<SafeArray<Scal
 #[tactic(auto, unfolding(oa_ndr::specs::Reading::steps, crate::specs::Reading::scalar_value_at))]
 fn scalar_value(alloc: Global, vt: u16, r: &mut Ndr<'_>) -> Result<Variant, StubFault>
     ensures value { ReadsField result r.new (scalar_value_at vt r.old) }
-    ensures memory { OnMemory result ((vt ≡ 8) × (4 ≤ length r.old.rest)) }
+    ensures memory { OnMemory result ((vt ≡ 8) × (20 ≤ length r.old.rest)) }
 {
     Ok(Variant::One(union(alloc, vt, r)?))
 }
@@ -71,7 +72,7 @@ fn array_union(
     r: &mut Ndr<'_>,
 ) -> Result<SafeArray<Scalar>, StubFault>
     ensures value { ReadsField result r.new (array_union_at elem vt r.old) }
-    ensures memory { OnMemory result ((4 ≤ length r.old.rest) × IsSome (sf_type_of elem)) }
+    ensures memory { OnMemory result (IsSome (sf_type_of elem) × (40 ≤ length r.old.rest)) }
 {
     let discriminant = r.u32()?;
     let is_set = r.referent()?;
@@ -83,9 +84,9 @@ fn array_union(
 
 #[tactic(auto, unfolding(oa_ndr::specs::Reading::steps, crate::specs::Reading::array_value_at))]
 fn array_value(alloc: Global, vt: u16, r: &mut Ndr<'_>) -> Result<Variant, StubFault>
-    requires { 8192 ≤ vt }
-    ensures value { ReadsField result r.new (array_value_at (type_at (vt - 8192)) vt r.old) }
-    ensures memory { OnMemory result ((4 ≤ length r.old.rest) × IsArrayVt vt) }
+    requires { vt_array ≤ vt }
+    ensures value { ReadsField result r.new (array_value_at (type_at (vt - vt_array)) vt r.old) }
+    ensures memory { OnMemory result (IsArrayVt vt × (40 ≤ length r.old.rest)) }
 {
     match VarType::from_vt(vt - VT_ARRAY) {
         Some(elem) => Ok(Variant::Array(array_union(alloc, elem, vt, r)?)),
@@ -172,8 +173,9 @@ fn field_fault(bytes: &[u8]) -> WireFault
 /// `BadVarType` where they spell none, are at least 20, and the vt at the offset 8 is that of no
 /// value: outside the types of `VarType`, VARIANT, or VT_ARRAY with anything but a type of which
 /// there are arrays. `BadStub` where they spell none for another reason, bytes left over among them.
-/// `Memory` only where a block for the value was refused: the field has at least 20 bytes, and its vt
-/// is that of BSTR, or VT_ARRAY with a type of which there are arrays.
+/// `Memory` only where a block for the value was refused: the vt is that of BSTR and the field has at
+/// least 36 bytes, all before the text, or the vt is VT_ARRAY with a type of which there are arrays and
+/// the field has at least 56 bytes, all before the bounds.
 pub fn read_variant(alloc: Global, bytes: &[u8]) -> Result<Variant, WireFault>
     ensures exact { ReadsVariant bytes.now result }
 {

@@ -6,7 +6,7 @@ use Rattle.oa_ndr.specs.Forms.{padding, unit}
 use Rattle.oa_ndr.specs.Reading.{Cursor, at, unit_at}
 use Rattle.oa_ndr.proofs.Laws.{unit_reads}
 use Rattle.oa_record.specs.Layouts.{Layout, opcode_of, layout}
-use Rattle.oa_record.specs.Opcodes.{opcode_number, listed_opcode, opcode_at, opcode_takes_memory, some_takes_memory}
+use Rattle.oa_record.specs.Opcodes.{opcode_number, opcode_named, opcode_at, opcode_takes_memory, some_takes_memory}
 use Rattle.oa_record.specs.declared.opcode.Opcode.{Opcode}
 use Rattle.oa_record.specs.Reading.{IsStarved, IsStarvedBody}
 use Rattle.oa_record.specs.declared.fault.RecordFault.{RecordFault}
@@ -56,7 +56,7 @@ opcode_read body x n y s t u e f g =
     (omega (arith, ap length three.parts, length-append three.text u.rest, len_c))
 
 -- so want of memory is that of a body
-pub starves : (e : RecordFault) (body : List ℕ) (n : ℕ) (opcode : Opcode) → (8 ≤ length body) × (opcode_at body ≡ n) → listed_opcode n ≡ Some opcode → IsStarved e opcode → IsStarvedBody e body
+pub starves : (e : RecordFault) (body : List ℕ) (n : ℕ) (opcode : Opcode) → (8 ≤ length body) × (opcode_at body ≡ n) → opcode_named n ≡ Some opcode → IsStarved e opcode → IsStarvedBody e body
 starves Stub body n opcode at is s = tt
 starves (BadVarType i) body n opcode at is s = tt
 starves Memory body n opcode at is s = (at.0, ap opcode_takes_memory at.1 ∙ ap some_takes_memory is ∙ s)

@@ -15,7 +15,7 @@ use Rattle.oa_wire_array.specs.Arrays.{bound}
 use Rattle.oa_wire_array.specs.ArrayReading.{bound_at}
 use Rattle.oa_wire_array.proofs.ScalarLaws.{signed_reads}
 use Rattle.oa_record.specs.CallParts.{CallParts, ElementParts, PutParts, RedimParts}
-use Rattle.oa_record.specs.Opcodes.{opcode_number, opcode_named, is_listed, only_listed, listed_opcode}
+use Rattle.oa_record.specs.Opcodes.{opcode_number, opcode_named}
 use Rattle.oa_record.specs.declared.opcode.Opcode.{Opcode}
 use Rattle.oa_record.specs.declared.opcode.Opcode.TheVariants as opcodes
 use Rattle.oa_record.specs.declared.request.CallHead.{CallHead}
@@ -24,7 +24,7 @@ use Rattle.oa_record.specs.Layouts.{Layout, opcode_of, guid, dispid, field, call
 use Rattle.oa_record.specs.Layouts.{redim_parts, string, get_ids, number, fields, layout}
 use Rattle.oa_record.specs.Reading.{guid_at, dispid_at, field_at, head_of, call_head_at, parts_of, lists_at, call_at, index_list_at}
 use Rattle.oa_record.specs.Reading.{indices_at, parts_of_element, element_at, put_of, put_at, redim_of, redim_at, string_at, ids_of, names_at}
-use Rattle.oa_record.specs.Reading.{get_ids_at, number_at, fields_at, listed_at, layout_at}
+use Rattle.oa_record.specs.Reading.{get_ids_at, number_at, fields_at, named_at, layout_at}
 
 guid_reads : Reads Always guid guid_at
 unfolding guid_at
@@ -248,38 +248,17 @@ number_from n k e =
     tried n 7 opcodes.Redimension _ k refl e (λ e. tried n 8 opcodes.Lock _ k refl e (λ e. tried n 9 opcodes.Unlock _ k refl e (λ e.
     tried n 10 opcodes.TypeInfo _ k refl e (λ e. tried n 11 opcodes.Objects _ k refl e (λ e. absurd cc)))))))))))
 
--- what is listed is named so, and listed
-only_is : (o : Option Opcode) (k : Opcode) → only_listed o ≡ Some k → (o ≡ Some k) × (is_listed k ≡ true)
-only_is None k e = absurd cc
-only_is (Some j) k e = by_test (is_listed j) refl e
-  where
-    by_test : (b : Bool) → is_listed j ≡ b → cond b (Some j) None ≡ Some k → (some_opcode j ≡ Some k) × (is_listed k ≡ true)
-    by_test true h e = (e, ap is_listed (sym (same_opcode j k e)) ∙ h)
-    by_test false h e = absurd cc
-
-only_back : (k : Opcode) → is_listed k ≡ true → only_listed (Some k) ≡ Some k
-only_back k h = ap (λ (b : Bool). cond b (Some k) None) h
-
-pub listed_back : (k : Opcode) → is_listed k ≡ true → listed_opcode (opcode_number k) ≡ Some k
-listed_back k h = ap only_listed (named_back k) ∙ only_back k h
-
--- the layouts of a number
-abbrev IsOf : ℕ → Layout → Type 0
-IsOf n l = (opcode_number (opcode_of l) ≡ n) × (is_listed (opcode_of l) ≡ true)
-
-listed_reads : (n : ℕ) (o : Option Opcode) → listed_opcode n ≡ o → Reads (IsOf n) fields (listed_at o)
-unfolding listed_at
-listed_reads n None e = fail_reads (λ l p text h _.
-    let some : listed_opcode n ≡ Some (opcode_of l) = ap listed_opcode (sym h.0) ∙ listed_back (opcode_of l) h.1 in
+named_reads : (n : ℕ) (o : Option Opcode) → opcode_named n ≡ o → Reads (λ l. opcode_number (opcode_of l) ≡ n) fields (named_at o)
+unfolding named_at
+named_reads n None e = fail_reads (λ l p text h _.
+    let some : opcode_named n ≡ Some (opcode_of l) = ap opcode_named (sym h) ∙ named_back (opcode_of l) in
     absurd cc)
-listed_reads n (Some k) e =
-    let is = only_is (opcode_named n) k e in
-    same_values (fields_reads k)
-    (λ l h. (ap opcode_number h ∙ number_from n k is.0, ap is_listed h ∙ is.1))
-    (λ l h. same_opcode (opcode_of l) k (sym (listed_back (opcode_of l) h.1) ∙ ap listed_opcode h.0 ∙ e))
+named_reads n (Some k) e = same_values (fields_reads k)
+    (λ l h. ap opcode_number h ∙ number_from n k e)
+    (λ l h. same_opcode (opcode_of l) k (sym (named_back (opcode_of l)) ∙ ap opcode_named h ∙ e))
 
-pub layout_reads : Reads (λ (l : Layout). is_listed (opcode_of l) ≡ true) layout layout_at
+pub layout_reads : Reads Always layout layout_at
 unfolding layout_at
 layout_reads =
     ignored_then 4 (bind_reads (unit 2) (λ l. opcode_number (opcode_of l)) (unit_reads 2) (λ _ _. tt) (λ n _.
-    ignored_then 2 (same_values (listed_reads n (listed_opcode n) refl) (λ l h. (h.1, h.0)) (λ l h. (h.1, h.0)))))
+    ignored_then 2 (same_values (named_reads n (opcode_named n) refl) (λ l h. (tt, h)) (λ l h. h.1))))

@@ -8,7 +8,7 @@ use Rattle.std.specs.List.{flat_map}
 use Rattle.oa_model.specs.Limits.{max_names}
 use Rattle.oa_ndr.specs.Forms.{padding}
 use Rattle.oa_ndr.specs.Writing.{FieldOutput, field_after, in_field}
-use Rattle.oa_record.specs.Replies.{word, half_word, max_fields_bytes, signed_word, number_field, padded}
+use Rattle.oa_record.specs.Replies.{word, half_word, max_fields_bytes, max_value_bytes, signed_word, number_field, padded}
 
 pub signed_length : (ids : List ℤ) → length (flat_map signed_word ids) ≡ 4 * length ids
 unfolding word
@@ -51,7 +51,7 @@ zeros_below x = by_test (eqb x 0) refl
     by_test false h = let some = positive x (eqb-false _ _ h) in omega (arith, some)
 
 -- the longest field of a value
-pub value_small : (n : ℕ) (bytes : List ℕ) → length bytes ≤ 4294967264 → length (number_field n ++ padded bytes) ≤ max_fields_bytes
+pub value_small : (n : ℕ) (bytes : List ℕ) → length bytes ≤ max_value_bytes → length (number_field n ++ padded bytes) ≤ max_fields_bytes
 value_small n bytes few =
     omega (arith, few, number_length n, zeros_below (length bytes % 8), length-append (number_field n) (padded bytes), length-append bytes (replicate (padding 8 (length bytes)) 0), length-replicate {A = ℕ} (padding 8 (length bytes)) 0)
 

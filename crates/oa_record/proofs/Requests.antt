@@ -21,7 +21,7 @@ use Rattle.oa_record.specs.Asks.{HasBroken}
 use Rattle.oa_record.specs.Asks.{HasBadType, HasNoLayout, IsStub, IsBadVarType, IsRequest}
 use Rattle.oa_record.specs.declared.request.Request.{Request}
 use Rattle.oa_record.specs.declared.request.Call.{Call}
-use Rattle.oa_record.proofs.LayoutLaws.{layout_reads, listed_back}
+use Rattle.oa_record.proofs.LayoutLaws.{layout_reads, named_back}
 use Rattle.oa_record.proofs.Header.{opcode_lies}
 
 -- what spells a value, spells no other
@@ -40,7 +40,7 @@ same_spelled one (f ∷ fs) [] ws a b = absurd a
 same_spelled one (f ∷ fs) (v ∷ vs) [] a b = absurd b
 
 pub one_layout : (body : List ℕ) (p q : Layout) → HasLayout p body → HasLayout q body → p ≡ q
-one_layout body p q a b = one_value layout_reads body p q a.listed a.form b.listed b.form
+one_layout body p q a b = one_value layout_reads body p q tt a.form tt b.form
 
 abbrev some_request : Request → Option Request
 some_request q = Some q
@@ -101,16 +101,14 @@ bad_type_asks_nothing body index q b a = spoilt_asks_nothing _ body q b.parts b.
 -- ---- what reading a body answers
 
 no_layout : (body : List ℕ) → whole layout_at body ≡ None → HasNoLayout body
-no_layout body none parts lies = let some = whole_again layout_reads body parts lies.listed lies.form in absurd (clash (whole layout_at body) none parts some)
+no_layout body none parts lies = let some = whole_again layout_reads body parts tt lies.form in absurd (clash (whole layout_at body) none parts some)
   where
     clash : (o : Option Layout) → o ≡ None → (parts : Layout) → o ≡ Some parts → ⊥
     clash None a parts b = cc
     clash (Some x) a parts b = cc
 
 lies_so : (body : List ℕ) (parts : Layout) → length body ≤ max_request_bytes → whole layout_at body ≡ Some parts → HasLayout parts body
-lies_so body parts short e =
-    let h = whole_takes layout_reads body parts e in
-    record { short = short; listed = h.0; form = h.1 }
+lies_so body parts short e = record { short = short; form = (whole_takes layout_reads body parts e).1 }
 
 pub no_parts : (body : List ℕ) (e : RecordFault) → length body ≤ max_request_bytes → ReadingFails e (whole layout_at body) → IsStarvedBody e body
     → IsRequest body (Err e)
@@ -130,7 +128,7 @@ refuses body parts (BadVarType index) short read h = record { parts = parts; lie
 refuses body parts Memory short read h =
     let lies = lies_so body parts short read in
     let at = opcode_lies parts body lies.form in
-    record { long = at.0; short = short; opcode = ap opcode_takes_memory at.1 ∙ ap some_takes_memory (listed_back (opcode_of parts) lies.listed) ∙ h }
+    record { long = at.0; short = short; opcode = ap opcode_takes_memory at.1 ∙ ap some_takes_memory (named_back (opcode_of parts)) ∙ h }
 
 pub answered : (body : List ℕ) (parts : Layout) (r : Result Request RecordFault) → length body ≤ max_request_bytes
     → whole layout_at body ≡ Some parts → Requests parts r → IsRequest body r

@@ -9,8 +9,8 @@ use Rattle.oa_wire_variant.specs.Variants.{Spells, field_fault}
 use Rattle.oa_wire_array.specs.declared.fault.WireFault.{WireFault}
 use Rattle.oa_wire_array.specs.declared.fault.WireFault.TheVariants as faults
 use Rattle.oa_record.specs.CallParts.{CallParts}
-use Rattle.oa_record.specs.Layouts.{Layout, layout, opcode_of, variant_fields}
-use Rattle.oa_record.specs.Opcodes.{is_listed, opcode_at, opcode_takes_memory}
+use Rattle.oa_record.specs.Layouts.{Layout, layout, variant_fields}
+use Rattle.oa_record.specs.Opcodes.{opcode_at, opcode_takes_memory}
 use Rattle.oa_record.specs.declared.opcode.Opcode.{Opcode}
 use Rattle.oa_record.specs.declared.opcode.Opcode.TheVariants as opcodes
 use Rattle.oa_record.specs.declared.request.Call.{Call}
@@ -20,10 +20,9 @@ use Rattle.oa_record.specs.declared.request.Request.TheVariants.{Unlock, TypeInf
 use Rattle.oa_record.specs.declared.fault.RecordFault.{RecordFault}
 use Rattle.oa_record.specs.declared.fault.RecordFault.TheVariants.{Stub, BadVarType, Memory}
 
--- the body is laid out so, for an opcode whose requests are read
+-- the body is laid out so
 pub record HasLayout (parts : Layout) (body : List ℕ) : Type 0 where
   pub short : length body ≤ max_request_bytes
-  pub listed : is_listed (opcode_of parts) ≡ true
   pub form : layout parts 0 body
 
 -- each field spells its value
@@ -151,7 +150,7 @@ pub record IsBadVarType (body : List ℕ) (index : Option ℕ) : Type 0 where
 abbrev pub tag_at : List ℕ → ℕ
 tag_at body = if nat_lt (length body) 8 then 0 else little_number 4 body
 
--- The body is of a listed opcode whose bodies take memory to be read. No other body is answered with want of memory.
+-- The body is of an opcode whose bodies take memory to be read. No other body is answered with want of memory.
 pub record MayStarve (body : List ℕ) : Type 0 where
   pub long : 8 ≤ length body
   pub short : length body ≤ max_request_bytes

@@ -32,28 +32,6 @@ opcode_named n =
     else if n == 11 then Some opcodes.Objects
     else None
 
--- The opcodes whose requests are read. A body of another one is bad stub data until its line here says true.
-abbrev pub is_listed : Opcode → Bool
-is_listed opcodes.Create = true
-is_listed opcodes.Release = true
-is_listed opcodes.GetIds = true
-is_listed opcodes.Invoke = true
-is_listed opcodes.GetElement = true
-is_listed opcodes.PutElement = true
-is_listed opcodes.Redimension = true
-is_listed opcodes.Lock = true
-is_listed opcodes.Unlock = true
-is_listed opcodes.TypeInfo = true
-is_listed opcodes.Objects = true
-
-abbrev pub only_listed : Option Opcode → Option Opcode
-only_listed None = None
-only_listed (Some opcode) = if is_listed opcode then Some opcode else None
-
--- the opcode of a number, where it is listed
-abbrev pub listed_opcode : ℕ → Option Opcode
-listed_opcode n = only_listed (opcode_named n)
-
 -- The number of no request: a body with it asks for another library (Replacement), which no layout describes, since its text is borrowed.
 abbrev pub replacement_opcode : ℕ
 replacement_opcode = 12
@@ -85,6 +63,6 @@ abbrev pub some_takes_memory : Option Opcode → Bool
 some_takes_memory None = false
 some_takes_memory (Some opcode) = takes_memory opcode
 
--- the numbers of listed opcodes whose bodies take memory to be read
+-- the numbers of opcodes whose bodies take memory to be read
 abbrev pub opcode_takes_memory : ℕ → Bool
-opcode_takes_memory n = some_takes_memory (listed_opcode n)
+opcode_takes_memory n = some_takes_memory (opcode_named n)

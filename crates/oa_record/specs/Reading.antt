@@ -8,7 +8,7 @@ use Rattle.oa_model.specs.declared.bound.Bound.{Bound}
 use Rattle.oa_wire_array.specs.ArrayReading.{bound_at}
 use Rattle.oa_record.specs.CallParts.{CallParts, ElementParts, PutParts, RedimParts}
 use Rattle.oa_record.specs.Layouts.{Layout}
-use Rattle.oa_record.specs.Opcodes.{listed_opcode, opcode_at, opcode_takes_memory, takes_memory}
+use Rattle.oa_record.specs.Opcodes.{opcode_named, opcode_at, opcode_takes_memory, takes_memory}
 use Rattle.oa_record.specs.declared.opcode.Opcode.{Opcode}
 use Rattle.oa_record.specs.declared.opcode.Opcode.TheVariants as opcodes
 use Rattle.oa_record.specs.declared.request.CallHead.{CallHead}
@@ -217,14 +217,14 @@ fields_at opcodes.TypeInfo = do
   give (Layout.TypeInfoBody index)
 fields_at opcodes.Objects = give Layout.ObjectsBody
 
--- where requests of the opcode are read
-unfoldable pub listed_at : Option Opcode → Reading Layout
-listed_at None = fail
-listed_at (Some opcode) = fields_at opcode
+-- the fields of the opcode of some number
+unfoldable pub named_at : Option Opcode → Reading Layout
+named_at None = fail
+named_at (Some opcode) = fields_at opcode
 
 unfoldable pub layout_at : Reading Layout
 layout_at = do
   _ ← unit_at 4
   n ← unit_at 2
   _ ← unit_at 2
-  listed_at (listed_opcode n)
+  named_at (opcode_named n)

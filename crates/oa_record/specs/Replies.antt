@@ -1,5 +1,5 @@
 -- The bytes of a reply (this project's choice): tag, code, index and a reserved number; the fields of its body.
-use Rattle.std.specs.Prelude.{ℕ, ℤ, List, ◌++◌, length, replicate, Option, Some, None}
+use Rattle.std.specs.Prelude.{ℕ, ℤ, ◌-◌, ◌*◌, ◌/◌, List, ◌++◌, length, replicate, Option, Some, None}
 use Rattle.std.specs.Int.{to_le_bytes, cast_unsigned, w16, w32}
 use Rattle.std.specs.List.{flat_map}
 use Rattle.oa_ndr.specs.Forms.{padding}
@@ -17,6 +17,10 @@ pub record ReplyValue : Type 0 where
 -- the most bytes that the fields of a reply have: with the 16 before them, as many as 4 bytes count
 abbrev pub max_fields_bytes : ℕ
 max_fields_bytes = 4294967279
+
+-- the most bytes of a value that a reply has room for: behind the 8 bytes before it, and with its padding
+abbrev pub max_value_bytes : ℕ
+max_value_bytes = (max_fields_bytes - 8) / 8 * 8
 
 -- a number of 4 bytes
 unfoldable pub word : ℕ → List ℕ

@@ -7,8 +7,8 @@ ghost use Rattle.oa_variant.specs.declared.variant.Variant.TheVariants.{One};
 ghost use Rattle.oa_ndr.specs.Writing.{put_unit};
 ghost use Rattle.oa_wire_array.specs.Canon.{max_wire_scalar, put_head};
 ghost use Rattle.oa_wire_variant.specs.Canon.{canon};
-ghost use Rattle.oa_record.specs.Replies.{word, half_word, lost_field, max_fields_bytes, signed_word, number_field, object_field};
-ghost use Rattle.oa_record.specs.Replies.{variant_field, ids_field, string_field};
+ghost use Rattle.oa_record.specs.Replies.{word, half_word, lost_field, max_fields_bytes, max_value_bytes, signed_word, number_field};
+ghost use Rattle.oa_record.specs.Replies.{object_field, variant_field, ids_field, string_field};
 ghost use Rattle.oa_record.specs.declared.fault.FieldFault.TheVariants.{TooLong};
 
 use crate::FieldFault;
@@ -24,8 +24,8 @@ use uuid::Uuid;
 /// The most bytes that the fields of a reply have.
 pub const MAX_FIELDS_BYTES: usize = 4_294_967_279;
 
-/// The longest value that a reply has room for, in bytes.
-const MAX_VALUE_BYTES: usize = 4_294_967_264;
+/// The longest value that a reply has room for, in bytes: behind the 8 bytes before it, and with its padding.
+const MAX_VALUE_BYTES: usize = (MAX_FIELDS_BYTES - 8) / 8 * 8;
 
 /// A number and a reserved number.
 #[tactic(auto, unfolding(crate::specs::Replies::word))]
@@ -122,7 +122,7 @@ fn long_field(bits: u32) -> [u8; 32]
 /// Adds a value of `len` bytes as a field.
 fn add_value(out: &mut Vec<u8>, value: &Variant, len: usize) -> Result<(), AllocError>
     requires counted { len ≡ length (canon value.now) }
-    requires few { len ≤ 4294967264 }
+    requires few { len ≤ max_value_bytes }
     ensures ok { OnOk result (out.new.items ≡ out.old.items ++ variant_field value.now) }
     ensures front { OnErr result (take (length out.old.items) out.new.items ≡ out.old.items) }
 {
@@ -137,7 +137,7 @@ fn add_value(out: &mut Vec<u8>, value: &Variant, len: usize) -> Result<(), Alloc
 pub fn put_variant_field(out: &mut Vec<u8>, value: &Variant) -> Result<(), FieldFault>
     ensures value { OnOk result (out.new.items ≡ out.old.items ++ variant_field value.now) }
     ensures err { OnErr result (out.new.items ≡ out.old.items) }
-    ensures long { IsErrOf result TooLong ↔ (4294967264 < length (canon value.now)) }
+    ensures long { IsErrOf result TooLong ↔ (max_value_bytes < length (canon value.now)) }
 {
     let len = wire_len(value);
     if len > MAX_VALUE_BYTES {
@@ -156,7 +156,7 @@ pub fn put_variant_field(out: &mut Vec<u8>, value: &Variant) -> Result<(), Field
 pub fn variant_field(alloc: Global, value: &Variant) -> Result<Vec<u8>, FieldFault>
     ensures value { IfOk result (λ v. v.items ≡ variant_field value.now) }
     ensures len { IfOk result (λ v. length v.items ≤ max_fields_bytes) }
-    ensures long { IsErrOf result TooLong ↔ (4294967264 < length (canon value.now)) }
+    ensures long { IsErrOf result TooLong ↔ (max_value_bytes < length (canon value.now)) }
 {
     if let Variant::One(Scalar::I4(number)) = value {
         return Ok(Vec::from_slice(alloc, &long_field(number.cast_unsigned()))?);
@@ -212,7 +212,9 @@ fn put_scalar_field(out: &mut Vec<u8>, value: &Scalar) -> Result<(), AllocError>
     undone(out, len, added)
 }
 
-/// The fields of a reply that are a scalar's value.
+/// The fields of a reply that are a scalar's value: u32 count of the value's bytes at 0, u32 reserved at 4, these bytes from 8 on as
+/// `oa_wire_variant::write_variant` spells the scalar (wireVARIANT, MS-OAUT section 2.2.29), zeros up to a multiple of 8. Err only where memory
+/// is refused.
 pub fn scalar_field(alloc: Global, value: &Scalar) -> Result<Vec<u8>, AllocError>
     ensures value { IfOk result (λ v. v.items ≡ variant_field (One value.now)) }
     ensures len { IfOk result (λ v. length v.items ≤ max_fields_bytes) }
@@ -303,9 +305,10 @@ fn put_string_field(out: &mut Vec<u8>, text: &[u8]) -> Result<(), FieldFault>
     Ok(())
 }
 
-/// A text of ASCII characters as a string of its own.
+/// A text of ASCII characters as a string of its own: u32 count of the characters at 0, u32 reserved at 4, from 8 on a UTF-16 unit of 2 bytes
+/// for each, zeros up to a multiple of 8.
 ///
-/// `TooLong` for a text of more than 4,294,967,295 characters, and for nothing else.
+/// `TooLong` for a text of more than 4,294,967,295 characters, and for nothing else; `Memory` where a block was refused.
 pub fn string_field(alloc: Global, text: &[u8]) -> Result<Vec<u8>, FieldFault>
     ensures value { IfOk result (λ v. v.items ≡ string_field text.now) }
     ensures long { IsErrOf result TooLong ↔ (4294967295 < length text.now) }

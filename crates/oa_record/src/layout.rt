@@ -179,7 +179,7 @@ fn value_call<'a>(r: &mut Ndr<'a>) -> Result<ValueParts<'a>, Short>
 }
 
 /// The head of an INVOKE that brings no more than a new value, and the bytes of that value's field. Err of any other body.
-#[tactic(auto, unfolding(oa_ndr::specs::Reading::steps, crate::specs::Reading::layout_at, crate::specs::Reading::listed_at, crate::specs::Reading::fields_at))]
+#[tactic(auto, unfolding(oa_ndr::specs::Reading::steps, crate::specs::Reading::layout_at, crate::specs::Reading::named_at, crate::specs::Reading::fields_at))]
 pub(crate) fn read_value_parts(body: &[u8]) -> Result<ValueParts<'_>, Short>
     ensures { IfOk result (λ c. whole layout_at body.now ≡ Some (Layout.InvokeBody (parts_bringing c.head (option_map (λ f. f.now) c.field)))) }
 {
@@ -187,7 +187,7 @@ pub(crate) fn read_value_parts(body: &[u8]) -> Result<ValueParts<'_>, Short>
     r.u32()?;
     let number = r.u16()?;
     r.u16()?;
-    let Some(Opcode::Invoke) = Opcode::listed(number) else {
+    let Some(Opcode::Invoke) = Opcode::from_number(number) else {
         return Err(Short);
     };
     let Ok(call) = value_call(&mut r) else {
@@ -358,7 +358,7 @@ fn fields_of<'a>(alloc: Global, opcode: Opcode, r: &mut Ndr<'a>) -> Result<Parts
 }
 
 /// The parts of a whole body. Want of memory comes only where the opcode's body takes some.
-#[tactic(auto, unfolding(oa_ndr::specs::Reading::steps, crate::specs::Reading::layout_at, crate::specs::Reading::listed_at))]
+#[tactic(auto, unfolding(oa_ndr::specs::Reading::steps, crate::specs::Reading::layout_at, crate::specs::Reading::named_at))]
 pub(crate) fn read_parts(alloc: Global, body: &[u8]) -> Result<Parts<'_>, RecordFault>
     ensures all { ReadsBodyToItsEnd shown result (whole layout_at body.now) }
     ensures memory { Starves result body.now }
@@ -367,7 +367,7 @@ pub(crate) fn read_parts(alloc: Global, body: &[u8]) -> Result<Parts<'_>, Record
     r.u32()?;
     let number = r.u16()?;
     r.u16()?;
-    let Some(opcode) = Opcode::listed(number) else {
+    let Some(opcode) = Opcode::from_number(number) else {
         return Err(RecordFault::Stub);
     };
     let parts = fields_of(alloc, opcode, &mut r)?;

@@ -1,6 +1,6 @@
 //! Opcodes.
 ghost use Rattle.std.specs.Prelude.{◌≡◌};
-ghost use Rattle.oa_record.specs.Opcodes.{opcode_number, opcode_named, is_listed, listed_opcode, opcode_in};
+ghost use Rattle.oa_record.specs.Opcodes.{opcode_number, opcode_named, opcode_in};
 
 use byteorder::{ByteOrder, LittleEndian};
 
@@ -73,39 +73,10 @@ impl Opcode {
             _ => None,
         }
     }
-
-    /// Whether requests of this opcode are read. A body of one that is not is bad stub data.
-    pub fn is_listed(self) -> bool
-        ensures { result ≡ is_listed self }
-    {
-        match self {
-            Opcode::Create => true,
-            Opcode::Release => true,
-            Opcode::GetIds => true,
-            Opcode::Invoke => true,
-            Opcode::GetElement => true,
-            Opcode::PutElement => true,
-            Opcode::Redimension => true,
-            Opcode::Lock => true,
-            Opcode::Unlock => true,
-            Opcode::TypeInfo => true,
-            Opcode::Objects => true,
-        }
-    }
-
-    /// The opcode of a number, where requests of it are read.
-    pub(crate) fn listed(number: u16) -> Option<Opcode>
-        ensures { result ≡ listed_opcode number }
-    {
-        match Opcode::from_number(number) {
-            Some(opcode) if opcode.is_listed() => Some(opcode),
-            _ => None,
-        }
-    }
 }
 
-/// The opcode of a request that stands in a body, whether it is listed or not; None for a body under 8 bytes, and for a number that is none,
-/// such as that of `is_replacement`.
+/// The opcode of a request that stands in a body, at 4; None for a body under 8 bytes, and for a number that is none, such as that of
+/// `is_replacement`.
 pub fn opcode_of(body: &[u8]) -> Option<Opcode>
     ensures { result ≡ opcode_in body.now }
 {

@@ -165,7 +165,7 @@ fn request(alloc: Global, parts: Parts<'_>) -> Result<Request, RecordFault>
 /// The request that a body asks: the tag at its first byte, which `tag_of` reads, the opcode at 4, its fields from 8 to the end (this
 /// project's choice).
 ///
-/// `Stub` where the body is laid out as no request of a listed opcode, has more than `MAX_REQUEST_BYTES`, more than 32 arguments or named ones,
+/// `Stub` where the body is laid out as no request, has more than `MAX_REQUEST_BYTES`, more than 32 arguments or named ones,
 /// no name or more than 17, or more than 16 indices, and where the field of a value is broken; else `BadVarType` for the first value with a
 /// type outside the profile: with its index in rgvarg, or None for the new value of an element. `Memory` only for an opcode whose bodies
 /// take memory to be read, in a body of 8 to `MAX_REQUEST_BYTES`.

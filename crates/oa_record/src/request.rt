@@ -10,10 +10,12 @@ use uuid::Uuid;
 pub enum Request {
     /// A new object of a coclass.
     Create {
+        /// The GUID of the coclass.
         class: Uuid,
     },
     /// An object ends.
     Release {
+        /// The number of the object.
         object: u32,
     },
     /// The DISPIDs of a member and of its parameters.
@@ -22,18 +24,25 @@ pub enum Request {
     Invoke(Call),
     /// An element of an array that a property holds.
     GetElement {
+        /// The property.
         call: Call,
+        /// The indices of the element, at most 16: one for each bound, in the order of the bounds.
         indices: Indices,
     },
     /// A new value of an element of an array that a property holds.
     PutElement {
+        /// The property.
         call: Call,
+        /// The indices of the element, at most 16: one for each bound, in the order of the bounds.
         indices: Indices,
+        /// The new value, which is no argument of the call.
         value: Variant,
     },
     /// Another first listed bound of an array that a property holds.
     Redimension {
+        /// The property.
         call: Call,
+        /// What replaces the first listed bound (SAFEARRAYBOUND, MS-OAUT section 2.2.30.1).
         bound: Bound,
     },
     /// A lock of an array that a property holds.

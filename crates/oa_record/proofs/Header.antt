@@ -56,7 +56,7 @@ opcode_read body x n y s t u e f g =
     (omega (arith, ap length three.parts, length-append three.text u.rest, len_c))
 
 -- so want of memory is that of a body
-pub starves : (e : RecordFault) (body : List ℕ) (n : ℕ) (opcode : Opcode) → (8 ≤ length body) × (opcode_at body ≡ n) → opcode_named n ≡ Some opcode → IsStarved e opcode → IsStarvedBody e body
-starves Stub body n opcode at is s = tt
-starves (BadVarType i) body n opcode at is s = tt
-starves Memory body n opcode at is s = (at.0, ap opcode_takes_memory at.1 ∙ ap some_takes_memory is ∙ s)
+pub starves : (e : RecordFault) (body : List ℕ) (n : ℕ) (opcode : Opcode) (s : Cursor) → 8 + length s.rest ≤ length body → opcode_at body ≡ n → opcode_named n ≡ Some opcode → IsStarved e opcode s → IsStarvedBody e body
+starves Stub body n opcode s long at is h = tt
+starves (BadVarType i) body n opcode s long at is h = tt
+starves Memory body n opcode s long at is h = (omega (arith, long, h.1), ap opcode_takes_memory at ∙ ap some_takes_memory is ∙ h.0)

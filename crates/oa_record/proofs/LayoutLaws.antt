@@ -26,7 +26,7 @@ use Rattle.oa_record.specs.Reading.{guid_at, dispid_at, field_at, head_of, call_
 use Rattle.oa_record.specs.Reading.{indices_at, parts_of_element, element_at, put_of, put_at, redim_of, redim_at, string_at, ids_of, names_at}
 use Rattle.oa_record.specs.Reading.{get_ids_at, number_at, fields_at, named_at, layout_at}
 
-guid_reads : Reads Always guid guid_at
+pub guid_reads : Reads Always guid guid_at
 unfolding guid_at
 guid_reads = made_from wire_order (told_reads (bytes_reads 16)) (λ _. tt)
 
@@ -45,7 +45,7 @@ head_is : (h : CallHead) (object : ℕ) (dispid : ℤ) (interface riid : List �
     → head_of object dispid interface riid lcid flags ≡ h
 head_is h object dispid interface riid lcid flags a b c d e f = rw (← a, ← b, ← c, ← d, ← e, ← f) refl
 
-call_head_reads : Reads Always call_head call_head_at
+pub call_head_reads : Reads Always call_head call_head_at
 unfolding call_head_at
 call_head_reads =
     bind_reads (unit 4) (λ (h : CallHead). h.object) (unit_reads 4) (λ _ _. tt) (λ object _.

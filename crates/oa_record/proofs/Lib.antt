@@ -1,5 +1,6 @@
 mod Bringing
 mod Fallible
+mod HeadLengths
 mod Header
 mod Judged
 pub mod LayoutLaws

@@ -22,6 +22,7 @@ use Rattle.oa_record.specs.Asks.{HasBadType, HasNoLayout, IsStub, IsBadVarType, 
 use Rattle.oa_record.specs.declared.request.Request.{Request}
 use Rattle.oa_record.specs.declared.request.Call.{Call}
 use Rattle.oa_record.proofs.LayoutLaws.{layout_reads, named_back}
+use Rattle.oa_record.proofs.HeadLengths.{layout_length}
 use Rattle.oa_record.proofs.Header.{opcode_lies}
 
 -- what spells a value, spells no other
@@ -128,7 +129,7 @@ refuses body parts (BadVarType index) short read h = record { parts = parts; lie
 refuses body parts Memory short read h =
     let lies = lies_so body parts short read in
     let at = opcode_lies parts body lies.form in
-    record { long = at.0; short = short; opcode = ap opcode_takes_memory at.1 ∙ ap some_takes_memory (named_back (opcode_of parts)) ∙ h }
+    record { long = layout_length parts body h lies.form; short = short; opcode = ap opcode_takes_memory at.1 ∙ ap some_takes_memory (named_back (opcode_of parts)) ∙ h }
 
 pub answered : (body : List ℕ) (parts : Layout) (r : Result Request RecordFault) → length body ≤ max_request_bytes
     → whole layout_at body ≡ Some parts → Requests parts r → IsRequest body r

@@ -150,9 +150,10 @@ pub record IsBadVarType (body : List ℕ) (index : Option ℕ) : Type 0 where
 abbrev pub tag_at : List ℕ → ℕ
 tag_at body = if nat_lt (length body) 8 then 0 else little_number 4 body
 
--- The body is of an opcode whose bodies take memory to be read. No other body is answered with want of memory.
+-- The body is of an opcode whose bodies take memory to be read, and has the 8 bytes before the fields and at least 48 of a head and its
+-- counts, behind which memory is taken. No other body is answered with want of memory.
 pub record MayStarve (body : List ℕ) : Type 0 where
-  pub long : 8 ≤ length body
+  pub long : 56 ≤ length body
   pub short : length body ≤ max_request_bytes
   pub opcode : opcode_takes_memory (opcode_at body) ≡ true
 

@@ -37,21 +37,31 @@ abbrev pub ReadsBodyToItsEnd : {X Y : Type 0} → (X → Y) → Result X RecordF
 ReadsBodyToItsEnd view (Ok x) read = read ≡ Some (view x)
 ReadsBodyToItsEnd view (Err e) read = ReadingFails e read
 
--- want of memory comes only where the opcode takes some
-abbrev pub IsStarved : RecordFault → Opcode → Type 0
-IsStarved Stub opcode = Unit {0}
-IsStarved (BadVarType i) opcode = Unit {0}
-IsStarved Memory opcode = takes_memory opcode ≡ true
+-- where a call answers, or lacks memory, so many bytes are there
+abbrev pub FaultReaches : ℕ → RecordFault → Cursor → Type 0
+FaultReaches n Stub s = Unit {0}
+FaultReaches n (BadVarType i) s = Unit {0}
+FaultReaches n Memory s = n ≤ length s.rest
 
-abbrev pub StarvesAt : {X : Type 0} → Result X RecordFault → Opcode → Type 0
-StarvesAt (Ok x) opcode = Unit {0}
-StarvesAt (Err e) opcode = IsStarved e opcode
+abbrev pub Reaches : {X : Type 0} → ℕ → Result X RecordFault → Cursor → Type 0
+Reaches n (Ok x) s = n ≤ length s.rest
+Reaches n (Err e) s = FaultReaches n e s
 
--- and where the body is long enough for an opcode
+-- want of memory comes only where the opcode takes some, behind the 48 bytes of a look-up's head and count, or the 56 of a call's
+abbrev pub IsStarved : RecordFault → Opcode → Cursor → Type 0
+IsStarved Stub opcode s = Unit {0}
+IsStarved (BadVarType i) opcode s = Unit {0}
+IsStarved Memory opcode s = (takes_memory opcode ≡ true) × (48 ≤ length s.rest)
+
+abbrev pub StarvesAt : {X : Type 0} → Result X RecordFault → Opcode → Cursor → Type 0
+StarvesAt (Ok x) opcode s = Unit {0}
+StarvesAt (Err e) opcode s = IsStarved e opcode s
+
+-- and where the body has these, and the 8 bytes before its fields
 abbrev pub IsStarvedBody : RecordFault → List ℕ → Type 0
 IsStarvedBody Stub body = Unit {0}
 IsStarvedBody (BadVarType i) body = Unit {0}
-IsStarvedBody Memory body = (8 ≤ length body) × (opcode_takes_memory (opcode_at body) ≡ true)
+IsStarvedBody Memory body = (56 ≤ length body) × (opcode_takes_memory (opcode_at body) ≡ true)
 
 abbrev pub Starves : {X : Type 0} → Result X RecordFault → List ℕ → Type 0
 Starves (Ok x) body = Unit {0}

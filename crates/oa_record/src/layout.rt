@@ -7,6 +7,7 @@ ghost use Rattle.oa_record.specs.Reading.{
   ReadsBody,
   ReadsBodyToItsEnd,
   ReadsFixed,
+  Reaches,
   Starves,
   StarvesAt,
   guid_at,
@@ -124,7 +125,8 @@ fn call_head(r: &mut Ndr<'_>) -> Result<CallHead, Short>
 /// These, the counts, and the lists behind them.
 #[tactic(auto, unfolding(oa_ndr::specs::Reading::steps, crate::specs::Reading::call_at, crate::specs::Reading::lists_at))]
 fn call<'a>(alloc: Global, r: &mut Ndr<'a>) -> Result<RawCall<'a>, RecordFault>
-    ensures { ReadsBody (λ x. x) result r.new (call_at r.old) }
+    ensures answers { ReadsBody (λ x. x) result r.new (call_at r.old) }
+    ensures long { Reaches 48 result r.old }
 {
     let head = call_head(r)?;
     let count = r.u32()?;
@@ -218,7 +220,8 @@ fn indices(alloc: Global, r: &mut Ndr<'_>) -> Result<Indices, RecordFault>
 /// A call that names an array, and the index list of an element.
 #[tactic(auto, unfolding(oa_ndr::specs::Reading::steps, crate::specs::Reading::element_at))]
 fn element<'a>(alloc: Global, r: &mut Ndr<'a>) -> Result<(RawCall<'a>, Indices), RecordFault>
-    ensures { ReadsBody (λ x. parts_of_element x.0 x.1) result r.new (element_at r.old) }
+    ensures answers { ReadsBody (λ x. parts_of_element x.0 x.1) result r.new (element_at r.old) }
+    ensures long { Reaches 48 result r.old }
 {
     let call = call(alloc, r)?;
     let indices = indices(alloc, r)?;
@@ -277,7 +280,8 @@ fn strings(alloc: Global, count: u32, r: &mut Ndr<'_>) -> Result<Vec<Vec<u16>>, 
 /// Object, GUIDs and lcid, the count, and the names behind it.
 #[tactic(auto, unfolding(oa_ndr::specs::Reading::steps, crate::specs::Reading::get_ids_at, crate::specs::Reading::names_at))]
 fn get_ids(alloc: Global, r: &mut Ndr<'_>) -> Result<GetIds, RecordFault>
-    ensures { ReadsBody (λ x. x) result r.new (get_ids_at r.old) }
+    ensures answers { ReadsBody (λ x. x) result r.new (get_ids_at r.old) }
+    ensures long { Reaches 48 result r.old }
 {
     let object = r.u32()?;
     r.u32()?;
@@ -311,7 +315,8 @@ fn number(r: &mut Ndr<'_>) -> Result<u32, Short>
 /// A call that names an array, and an element of it.
 #[tactic(auto, unfolding(oa_ndr::specs::Reading::bind, oa_ndr::specs::Reading::give, crate::specs::Reading::fields_at))]
 fn get_element<'a>(alloc: Global, r: &mut Ndr<'a>) -> Result<Parts<'a>, RecordFault>
-    ensures { ReadsBody shown result r.new (fields_at opcodes.GetElement r.old) }
+    ensures answers { ReadsBody shown result r.new (fields_at opcodes.GetElement r.old) }
+    ensures long { Reaches 48 result r.old }
 {
     let (call, indices) = element(alloc, r)?;
     Ok(Parts::GetElement(call, indices))
@@ -320,7 +325,8 @@ fn get_element<'a>(alloc: Global, r: &mut Ndr<'a>) -> Result<Parts<'a>, RecordFa
 /// The same, and a new value.
 #[tactic(auto, unfolding(oa_ndr::specs::Reading::steps, crate::specs::Reading::fields_at, crate::specs::Reading::put_at))]
 fn put_element<'a>(alloc: Global, r: &mut Ndr<'a>) -> Result<Parts<'a>, RecordFault>
-    ensures { ReadsBody shown result r.new (fields_at opcodes.PutElement r.old) }
+    ensures answers { ReadsBody shown result r.new (fields_at opcodes.PutElement r.old) }
+    ensures long { Reaches 48 result r.old }
 {
     let (call, indices) = element(alloc, r)?;
     Ok(Parts::PutElement(call, indices, field(r)?))
@@ -329,7 +335,8 @@ fn put_element<'a>(alloc: Global, r: &mut Ndr<'a>) -> Result<Parts<'a>, RecordFa
 /// A call that names an array, and its new first listed bound.
 #[tactic(auto, unfolding(oa_ndr::specs::Reading::steps, crate::specs::Reading::fields_at, crate::specs::Reading::redim_at))]
 fn redimension<'a>(alloc: Global, r: &mut Ndr<'a>) -> Result<Parts<'a>, RecordFault>
-    ensures { ReadsBody shown result r.new (fields_at opcodes.Redimension r.old) }
+    ensures answers { ReadsBody shown result r.new (fields_at opcodes.Redimension r.old) }
+    ensures long { Reaches 48 result r.old }
 {
     let call = call(alloc, r)?;
     let bound = bound(r)?;
@@ -340,7 +347,7 @@ fn redimension<'a>(alloc: Global, r: &mut Ndr<'a>) -> Result<Parts<'a>, RecordFa
 #[tactic(auto, unfolding(oa_ndr::specs::Reading::bind, oa_ndr::specs::Reading::give, crate::specs::Reading::fields_at))]
 fn fields_of<'a>(alloc: Global, opcode: Opcode, r: &mut Ndr<'a>) -> Result<Parts<'a>, RecordFault>
     ensures answers { ReadsBody shown result r.new (fields_at opcode r.old) }
-    ensures memory { StarvesAt result opcode }
+    ensures memory { StarvesAt result opcode r.old }
 {
     match opcode {
         Opcode::Create => Ok(Parts::Create(guid(r)?)),
@@ -357,7 +364,7 @@ fn fields_of<'a>(alloc: Global, opcode: Opcode, r: &mut Ndr<'a>) -> Result<Parts
     }
 }
 
-/// The parts of a whole body. Want of memory comes only where the opcode's body takes some.
+/// The parts of a whole body. Want of memory comes only where the opcode's body takes some, behind the head and the counts.
 #[tactic(auto, unfolding(oa_ndr::specs::Reading::steps, crate::specs::Reading::layout_at, crate::specs::Reading::named_at))]
 pub(crate) fn read_parts(alloc: Global, body: &[u8]) -> Result<Parts<'_>, RecordFault>
     ensures all { ReadsBodyToItsEnd shown result (whole layout_at body.now) }

@@ -241,7 +241,16 @@ fn put_description(out: &mut Vec<u8>, description: &Description<'_>) -> Result<(
     put_content(out, &description.content)
 }
 
-/// The fields of a reply that are a description.
+/// The fields of a reply that are a description (this project's choice; the numbers are those of MS-OAUT section 2.2: TYPEKIND, INVOKEKIND,
+/// VARTYPE, PARAMFLAGS, and VARFLAG_FREADONLY). At 0 the kind u32, 4 for an interface and 5 for a coclass; at 4 the number of entries u32; at 8
+/// the GUID, 16 bytes in wire order; at 24 the name; then the entries. A name is as `oa_record::string_field` writes it.
+///
+/// An entry of an interface is a member: at its first byte the DISPID i32; at 4 the kind u16, 0 from `properties:`, else 1 a method, 2 a get, 4
+/// a put; at 6 the flags u16, 1 for `readonly`; at 8 the vt u16, 24 (VT_VOID) for none; at 10 the number of parameters u16; at 12 a reserved
+/// u32; at 16 the name; then the parameters. A parameter has the vt u16; at 2 the flags u16, the sum of 1 (in), 0x10 (optional) and 0x20 (has a
+/// default); at 4 a reserved u32; at 8 the name; then its default, if any, as `oa_record::scalar_field` writes it.
+///
+/// An entry of a coclass has the flags u32, 1 for the default interface, and at 4 the index of the interface u32.
 ///
 /// Err where memory is refused, and for a description of more than 4,294,967,279 bytes, which no library has.
 pub fn description_field(

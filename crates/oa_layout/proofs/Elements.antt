@@ -17,7 +17,7 @@ use Rattle.oa_layout.specs.Variants.{content, kind, value}
 by_type : (t : VarType) (s : Scalar) → (t ≡ types.Variant → ⊥) → FitsType s t → (of_type (type_of s)).image s ≡ (of_type t).image s
 by_type t s other fits = ⊎_elim (λ is. absurd (other is)) (λ same. ap (λ (k : VarType). (of_type k).image s) same) fits
 
-element_same : (t : VarType) (s : Scalar) → FitsType s t → element_image t s ≡ (cell_of t).image s
+pub element_same : (t : VarType) (s : Scalar) → FitsType s t → element_image t s ≡ (cell_of t).image s
 unfolding element_image cell_of
 element_same types.Variant s fits = refl
 element_same types.Empty s fits = by_type types.Empty s (λ is. absurd cc) fits

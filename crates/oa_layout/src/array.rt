@@ -121,15 +121,11 @@ pub(crate) fn read_array(
     Ok(SafeArray::of_cells(elem, bounds, cells))
 }
 
-#[tactic(auto, unfolding(crate::specs::Arrays::cell_of))]
 fn put_cell(elem: VarType, s: &Scalar, w: &mut Window, out: &mut [u8])
     requires { FitsType s.now elem }
     ensures { Adds ((arrays.cell_of elem).image s.now) w.old w.new out.old out.new }
 {
-    match elem {
-        VarType::Variant => ScalarFormat::put(s, w, out),
-        _ => put_content(s, w, out),
-    }
+    put_element(elem, s, w, out)
 }
 
 fn put_cells(elem: VarType, cells: &[Scalar], w: &mut Window, out: &mut [u8])
@@ -164,11 +160,13 @@ pub fn put_element(elem: VarType, s: &Scalar, w: &mut Window, out: &mut [u8])
     }
 }
 
-/// Adds what stands before the cells in the image of an array.
+/// Adds what stands before the cells in the image of an array: the number of their type with VT_ARRAY (0x2000) as u16, how many bounds
+/// there are as u16, and each bound in 8 bytes: its count as u32 and its lowest index as i32. Takes no memory.
 #[tactic(auto, unfolding(crate::specs::Formats::combinators, crate::specs::Arrays::bounds_of, crate::specs::Variants::kind, crate::specs::Elements::array_head), using(crate::specs::Windows::added_added))]
 pub fn put_array_head(a: &SafeArray<Scalar>, w: &mut Window, out: &mut [u8])
     ensures { Adds (array_head a.now) w.old w.new out.old out.new }
 {
+    // For the prover: an array has at most 16 bounds.
     let _cells = a.cells();
     let bounds = a.bounds();
     put_u16(ValueType::Array(a.elem()).vt(), w, out);

@@ -25,7 +25,7 @@ pub fn read_u8(r: &mut Ndr<'_>) -> Result<u8, Short>
     ensures { Gives (λ x. x) result r.old r.new (numbers.u8.read r.old) }
 {
     let b = read_bytes(1, r)?;
-    Ok(u8::from_le_bytes([b[0]]))
+    Ok(b[0])
 }
 
 /// A number of 2 bytes.
@@ -51,8 +51,10 @@ pub fn read_u32(r: &mut Ndr<'_>) -> Result<u32, Short>
 pub(crate) fn read_u64(r: &mut Ndr<'_>) -> Result<u64, Short>
     ensures { Gives (λ x. x) result r.old r.new (numbers.u64.read r.old) }
 {
-    let b = read_bytes(8, r)?;
-    Ok(u64::from_le_bytes([b[0], b[1], b[2], b[3], b[4], b[5], b[6], b[7]]))
+    match read_bytes(8, r)?.first_chunk::<8>() {
+        Some(bytes) => Ok(u64::from_le_bytes(*bytes)),
+        None => Err(Short),
+    }
 }
 
 /// A signed number of one byte.
@@ -92,11 +94,10 @@ pub(crate) fn read_i64(r: &mut Ndr<'_>) -> Result<i64, Short>
 pub fn read_guid(r: &mut Ndr<'_>) -> Result<Uuid, Short>
     ensures { Gives (λ x. x) result r.old r.new (numbers.guid.read r.old) }
 {
-    let b = read_bytes(16, r)?;
-    Ok(guid_from_wire([
-        b[0], b[1], b[2], b[3], b[4], b[5], b[6], b[7], b[8], b[9], b[10], b[11], b[12], b[13],
-        b[14], b[15],
-    ]))
+    match read_bytes(16, r)?.first_chunk::<16>() {
+        Some(bytes) => Ok(guid_from_wire(*bytes)),
+        None => Err(Short),
+    }
 }
 
 /// A truth value: one byte, 0 or 1.

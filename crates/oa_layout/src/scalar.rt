@@ -77,10 +77,7 @@ fn read_decimal(r: &mut Ndr<'_>) -> Result<Decimal, ReadFault>
 fn read_vt(r: &mut Ndr<'_>) -> Result<VarType, ReadFault>
     ensures { ReadsImage result r.new (values.vt.read r.old) }
 {
-    match VarType::from_vt(read_u16(r)?) {
-        Some(var_type) => Ok(var_type),
-        None => Err(ReadFault::Broken),
-    }
+    VarType::from_vt(read_u16(r)?).ok_or(ReadFault::Broken)
 }
 
 /// What stands behind the number of the type.

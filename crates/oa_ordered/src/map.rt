@@ -19,8 +19,8 @@ const MOST: usize = usize::MAX / 2;
 
 /// A map that is kept in the order of its keys.
 ///
-/// Its entries lie in rows of up to 64, each an allocation of its own with few places to spare. A look-up halves the rows and then one of
-/// them; a new entry moves those behind it in its row.
+/// Its entries lie in rows of up to 64, each an allocation of its own with few places to spare; a row that finds no memory to be split
+/// gets longer. A look-up halves the rows and then one of them; a new entry moves those behind it in its row.
 #[derive(Drop)]
 pub struct OrderedMap<K: Ord, V> {
     alloc: Global,

@@ -4,3 +4,4 @@ pub mod Ordered
 pub mod Unlocked
 pub mod Entries
 pub mod Sums
+pub mod Starved

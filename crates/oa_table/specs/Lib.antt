@@ -8,3 +8,4 @@ pub mod Events
 pub mod Locks
 pub mod Parts
 pub mod Sizes
+pub mod Memory

@@ -81,6 +81,7 @@ fn array_resized(array: &SafeArray<Scalar>, bound: Bound) -> Difference
         size_due value_size (redimensioned_value bound value) value + result.gone ≡ value_size value + result.come }
     ensures small { result.come ≤ largest_value }
 {
+    // For the prover: an array has a bound, which is what the other one replaces.
     let _cells = array.cells();
     if array.locks() > 0 {
         return no_difference();

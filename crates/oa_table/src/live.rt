@@ -1,5 +1,5 @@
 //! The objects of a table.
-ghost use Rattle.std.specs.Prelude.{◌≡◌, ◌≤◌, ◌+◌, [], None, IfOk};
+ghost use Rattle.std.specs.Prelude.{◌≡◌, ◌≤◌, ◌+◌, [], None, IfOk, IfErr};
 ghost use Rattle.std.specs.List.Sorted.{IsStrictlySortedBy};
 ghost use Rattle.std.specs.Map.{keys_of};
 ghost use Rattle.std.specs.Option.{option_map};
@@ -79,6 +79,7 @@ impl LiveObject {
     pub fn places_rise(&self)
         ensures { IsStrictlySortedBy place_cmp (keys_of self.now.cells) }
     {
+        // For the prover: the clause `ordered` of `len`.
         let _count = self.cells.len();
     }
 
@@ -88,6 +89,7 @@ impl LiveObject {
         ensures value { result ≡ object_size self.now }
         ensures small { result ≤ largest_object }
     {
+        // For the prover: its clause `small` bounds how many cells there are, and so the size.
         let _count = self.cells.len();
         let mut size = 24;
         'cells: for (place, value) in &self.cells {
@@ -170,6 +172,7 @@ impl LiveObject {
         ensures does { Does (place, value) (with_put place value self.old) self.old self.new result }
         ensures size { IfOk result (λ change. object_size self.new + change.gone ≡ object_size self.old + change.come) }
         ensures small { IfOk result (λ change. change.come ≤ largest_cell) }
+        ensures starved { IfErr result (λ e. e.1 ≡ TableFault.Memory → cell_at place self.old.cells ≡ None) }
     {
         self.places_rise();
         let Some(old) = self.cells.get_mut(&place) else {
@@ -188,6 +191,7 @@ impl LiveObject {
         ensures does { Does (place, value) (with_put place value self.old) self.old self.new result }
         ensures size { IfOk result (λ change. object_size self.new + change.gone ≡ object_size self.old + change.come) }
         ensures small { IfOk result (λ change. change.come ≤ largest_cell) }
+        ensures starved { IfErr result (λ e. e.1 ≡ TableFault.Memory → cell_at place self.old.cells ≡ None) }
     {
         let come = place_size(&place) + value_size(&value);
         match self.cells.insert(place, value) {
@@ -203,7 +207,8 @@ impl LiveObject {
         index: &[i32],
         element: Scalar,
     ) -> Result<(), (Scalar, TableFault)>
-        ensures { Does element (with_change place.now (with_element_put index.now element) self.old) self.old self.new result }
+        ensures does { Does element (with_change place.now (with_element_put index.now element) self.old) self.old self.new result }
+        ensures starved { IfErr result (λ e. e.1 ≡ TableFault.Memory → ⊥) }
     {
         let Some(value) = self.cells.get_mut(place) else {
             return Err((element, TableFault::NotArray));

@@ -1,11 +1,12 @@
 //! The objects of a table, and their changes.
-ghost use Rattle.std.specs.Prelude.{◌≡◌, ◌≤◌, ◌+◌, length, IfOk};
+ghost use Rattle.std.specs.Prelude.{◌≡◌, ◌≤◌, ◌+◌, length, IfOk, IfErr};
 ghost use Rattle.std.specs.List.Sorted.{IsStrictlySortedBy};
 ghost use Rattle.std.specs.Map.{keys_of};
 ghost use Rattle.std.specs.Option.{option_map};
 ghost use Rattle.std.specs.Ordering.{nat_cmp};
 ghost use Rattle.oa_table.specs.Events.{BringsNoLocks, applied};
 ghost use Rattle.oa_table.specs.Locks.{locked_in, locks_at, with_lock, without_lock};
+ghost use Rattle.oa_table.specs.Memory.{MayWantMemory};
 ghost use Rattle.oa_table.specs.Outcomes.{CountsLocks, Does};
 ghost use Rattle.oa_table.specs.Parts.{table_of};
 ghost use Rattle.oa_table.specs.Sizes.{largest_cell, table_size};
@@ -96,6 +97,7 @@ impl Objects {
     pub(crate) fn numbers_rise(&self)
         ensures { IsStrictlySortedBy nat_cmp (keys_of self.now.objects) }
     {
+        // For the prover: the clause `ordered` of `len`.
         let _count = self.objects.len();
     }
 
@@ -120,7 +122,8 @@ impl Objects {
     /// back with the reason, and nothing changes. A value that is put has no locks.
     pub(crate) fn apply(&mut self, event: Event) -> Result<(), (Event, TableFault)>
         requires { BringsNoLocks event }
-        ensures { Does event (applied event self.old) self.old self.new result }
+        ensures does { Does event (applied event self.old) self.old self.new result }
+        ensures starved { IfErr result (λ e. e.1 ≡ TableFault.Memory → MayWantMemory event self.old) }
     {
         match event {
             Event::Create { number, class } => self.create(number, class),
@@ -174,7 +177,8 @@ impl Objects {
     }
 
     fn release(&mut self, number: u32) -> Result<(), (Event, TableFault)>
-        ensures { let event = Event.Release number in Does event (applied event self.old) self.old self.new result }
+        ensures does { let event = Event.Release number in Does event (applied event self.old) self.old self.new result }
+        ensures starved { IfErr result (λ e. e.1 ≡ TableFault.Memory → MayWantMemory (Event.Release number) self.old) }
     {
         if self.locked(number) {
             return Err((
@@ -198,6 +202,7 @@ impl Objects {
         ensures does { let event = Event.Put name value in Does event (applied event self.old) self.old self.new result }
         ensures size { IfOk result (λ change. table_size self.new + change.gone ≡ table_size self.old + change.come) }
         ensures small { IfOk result (λ change. change.come ≤ largest_cell) }
+        ensures starved { IfErr result (λ e. e.1 ≡ TableFault.Memory → MayWantMemory (Event.Put name value) self.old) }
     {
         let CellName { object, place } = name;
         let Some(found) = self.objects.get_mut_near(&object, near(object)) else {
@@ -220,7 +225,8 @@ impl Objects {
         index: Indices,
         value: Scalar,
     ) -> Result<(), (Event, TableFault)>
-        ensures { let event = Event.PutElement name index value in Does event (applied event self.old) self.old self.new result }
+        ensures does { let event = Event.PutElement name index value in Does event (applied event self.old) self.old self.new result }
+        ensures starved { IfErr result (λ e. e.1 ≡ TableFault.Memory → MayWantMemory (Event.PutElement name index value) self.old) }
     {
         let Some(found) = self.objects.get_mut_near(&name.object, near(name.object)) else {
             return Err((

@@ -37,6 +37,7 @@ impl Place {
         requires { length key.items ≤ max_key_scalars }
         ensures { result ≡ record { interface = interface; dispid = dispid; key = key.items } }
     {
+        // For the prover: a GUID has 16 bytes, as the invariant wants.
         let _ = interface.as_bytes();
         Place {
             interface,

@@ -1,5 +1,5 @@
 //! The table of objects.
-ghost use Rattle.std.specs.Prelude.{◌≡◌, ◌<◌, ◌≤◌, ℕ, List, length, IfOk, MatchOption};
+ghost use Rattle.std.specs.Prelude.{◌≡◌, ◌<◌, ◌≤◌, ℕ, List, length, IfOk, IfErr, MatchOption};
 ghost use Rattle.std.specs.List.Sorted.{IsStrictlySortedBy};
 ghost use Rattle.std.specs.Map.{keys_of};
 ghost use Rattle.std.specs.Option.{option_map};
@@ -7,6 +7,7 @@ ghost use Rattle.std.specs.Ordering.{nat_cmp};
 ghost use Rattle.oa_table.specs.Elements.{locks_of};
 ghost use Rattle.oa_table.specs.Events.{BringsNoLocks, applied};
 ghost use Rattle.oa_table.specs.Locks.{locked_in, locks_at, with_lock, without_lock};
+ghost use Rattle.oa_table.specs.Memory.{MayWantMemory};
 ghost use Rattle.oa_table.specs.Outcomes.{CountsLocks, Does};
 ghost use Rattle.oa_table.specs.Parts.{AreParts, table_of};
 ghost use Rattle.oa_table.specs.Sizes as sizes;
@@ -245,11 +246,13 @@ impl Table {
     }
 
     /// Makes a change: the table is the one after the event. An event that does not apply, or for which no memory is found, is handed
-    /// back with the reason, and nothing changes. A value that is put has no locks.
+    /// back with the reason, and nothing changes. A value that is put has no locks. Memory is taken by a `Create`, by a `Put` into a cell
+    /// that was never put and by a `Redim`, and refused where the image would have 2^63 bytes or more: never to a `Release`.
     #[inline(always)]
     pub fn apply(&mut self, event: Event) -> Result<(), (Event, TableFault)>
         requires { BringsNoLocks event }
-        ensures { Does event (applied event self.old) self.old self.new result }
+        ensures does { Does event (applied event self.old) self.old self.new result }
+        ensures starved { IfErr result (λ e. e.1 ≡ TableFault.Memory → MayWantMemory event self.old) }
     {
         match event {
             Event::Put { name, value } => self.put(name, value),
@@ -264,9 +267,10 @@ impl Table {
         self.apply(Event::Create { number, class })
     }
 
-    /// `apply` of the event that takes an object away.
+    /// `apply` of the event that takes an object away. It is never refused for want of memory.
     pub fn release(&mut self, number: u32) -> Result<(), (Event, TableFault)>
-        ensures { let event = Event.Release number in Does event (applied event self.old) self.old self.new result }
+        ensures does { let event = Event.Release number in Does event (applied event self.old) self.old self.new result }
+        ensures starved { IfErr result (λ e. e.1 ≡ TableFault.Memory → ⊥) }
     {
         self.apply(Event::Release { number })
     }
@@ -275,7 +279,8 @@ impl Table {
     #[inline(always)]
     pub fn put(&mut self, name: CellName, value: Variant) -> Result<(), (Event, TableFault)>
         requires { locks_of value ≡ 0 }
-        ensures { let event = Event.Put name value in Does event (applied event self.old) self.old self.new result }
+        ensures does { let event = Event.Put name value in Does event (applied event self.old) self.old self.new result }
+        ensures starved { IfErr result (λ e. e.1 ≡ TableFault.Memory → MayWantMemory (Event.Put name value) self.old) }
     {
         if self.size > ROOM_FOR_ANY_PUT {
             return self.change(Event::Put { name, value });
@@ -297,7 +302,8 @@ impl Table {
         index: Indices,
         value: Scalar,
     ) -> Result<(), (Event, TableFault)>
-        ensures { let event = Event.PutElement name index value in Does event (applied event self.old) self.old self.new result }
+        ensures does { let event = Event.PutElement name index value in Does event (applied event self.old) self.old self.new result }
+        ensures starved { IfErr result (λ e. e.1 ≡ TableFault.Memory → MayWantMemory (Event.PutElement name index value) self.old) }
     {
         self.apply(Event::PutElement { name, index, value })
     }
@@ -312,7 +318,8 @@ impl Table {
     /// Makes a change whose size is counted before.
     fn change(&mut self, event: Event) -> Result<(), (Event, TableFault)>
         requires { BringsNoLocks event }
-        ensures { Does event (applied event self.old) self.old self.new result }
+        ensures does { Does event (applied event self.old) self.old self.new result }
+        ensures starved { IfErr result (λ e. e.1 ≡ TableFault.Memory → MayWantMemory event self.old) }
     {
         let size = self.size_after(&event);
         if size > LARGEST_IMAGE {

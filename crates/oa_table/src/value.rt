@@ -1,5 +1,5 @@
 //! Changes of the value in a cell.
-ghost use Rattle.std.specs.Prelude.{◌≡◌, ◌≤◌, IfOk};
+ghost use Rattle.std.specs.Prelude.{◌≡◌, ◌≤◌, IfOk, IfErr};
 ghost use Rattle.oa_variant.specs.declared.variant.Variant.TheVariants as variants;
 ghost use Rattle.oa_table.specs.Elements.{with_element_put, locked_value, locks_of, of_array, redimensioned_value, released_value};
 ghost use Rattle.oa_table.specs.Elements.{replaced_value};
@@ -33,6 +33,7 @@ pub(crate) fn replace(
     ensures gone { IfOk result (λ change. change.gone ≡ value_size old.old) }
     ensures come { IfOk result (λ change. change.come ≡ value_size old.new) }
     ensures small { IfOk result (λ change. change.come ≤ largest_value) }
+    ensures starved { IfErr result (λ e. e.1 ≡ TableFault.Memory → ⊥) }
 {
     if locks_of(old) != 0 {
         return Err((value, TableFault::Array(ArrayFault::IsLocked)));
@@ -49,7 +50,8 @@ pub(crate) fn put_element(
     index: &[i32],
     element: Scalar,
 ) -> Result<(), (Scalar, TableFault)>
-    ensures { Does element (with_element_put index.now element value.old) value.old value.new result }
+    ensures does { Does element (with_element_put index.now element value.old) value.old value.new result }
+    ensures starved { IfErr result (λ e. e.1 ≡ TableFault.Memory → ⊥) }
 {
     match value {
         Variant::One(_) => Err((element, TableFault::NotArray)),
@@ -62,9 +64,11 @@ fn put_into(
     index: &[i32],
     element: Scalar,
 ) -> Result<(), (Scalar, TableFault)>
-    ensures { Does element (with_element_put index.now element (variants.Array array.old))
+    ensures does { Does element (with_element_put index.now element (variants.Array array.old))
         (variants.Array array.old) (variants.Array array.new) result }
+    ensures starved { IfErr result (λ e. e.1 ≡ TableFault.Memory → ⊥) }
 {
+    // For the prover: what `fits` answers is what the definition `fits_type` says.
     let _fits = element.fits(array.elem());
     match array.put_element(index, element) {
         Ok(_) => Ok(()),

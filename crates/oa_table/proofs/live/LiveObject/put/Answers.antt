@@ -3,6 +3,7 @@ use Rattle.oa_table.specs.declared.difference.Difference.{Difference}
 use Rattle.oa_table.specs.declared.fault.TableFault.{TableFault}
 use Rattle.oa_table.specs.Elements.{replaced_value}
 use Rattle.oa_table.proofs.Sums.{put_is_change, set_sum}
+use Rattle.oa_table.proofs.Starved.{never, starved_told}
 use Rattle.oa_table.proofs.Through.{does_in_cell, does_told, told_by, told_where_made}
 use Rattle.oa_table.proofs.live.LiveObject.put.Goals as goal
 
@@ -27,3 +28,8 @@ returns-clause-size c =
     let sum = set_sum c.args.place c.self.inside.class c.self.inside.cells _ c.in-Some.old.now c.replace.new.old (sym c.in-Some.ensures.value) (c.get_mut.follows.holds c.replace.new.old) in
     let told = told_where_made (λ v. (c.args.place, v)) _ c.replace.result c.map_err.result c.map_err.ensures.cases (λ e f h. search rules) in
     rw (← c.self.view_is, told) (sizes (λ v. (c.args.place, v)) _ _ _ _ c.replace.result c.replace.ensures.gone c.replace.ensures.come (omega (arith, sum)))
+
+pub returns-clause-starved : goal.returns-clause-starved
+returns-clause-starved c =
+    let told = told_where_made (λ v. (c.args.place, v)) _ c.replace.result c.map_err.result c.map_err.ensures.cases (λ e f h. search rules) in
+    rw told (starved_told (λ v. (c.args.place, v)) _ c.replace.result (never _ c.replace.result c.replace.ensures.starved))

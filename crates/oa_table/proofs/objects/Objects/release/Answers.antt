@@ -4,8 +4,8 @@ use Rattle.oa_table.proofs.Through.{object_goes, object_lacks}
 use Rattle.oa_table.proofs.objects.Objects.release.Goals as goal
 use Rattle.oa_table.proofs.objects.Objects.release.Goals.{in-Some, in-None}
 
-pub returns : goal.returns
-returns c =
+pub returns-clause-does : goal.returns-clause-does
+returns-clause-does c =
     let number = c.args.number in
     let free = rw (← c.self.view_is) at c.if-locked.ensures in
     rw (← c.self.view_is) (elim c.match-remove.branch [

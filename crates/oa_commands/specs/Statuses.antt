@@ -1,5 +1,6 @@
--- The status that a fault ends the program with. (This project's choice.)
-use Rattle.std.specs.Prelude.{◌≡◌, ◌⊎◌, ℕ, ◌||◌, nat_lt, IsTrue}
+-- The status that a fault ends the program with, and which faults each function tells. (This project's choice.)
+use Rattle.std.specs.Prelude.{◌≡◌, ◌⊎◌, ℕ, ⊤}
+use Rattle.oa_idl.specs.declared.stop.Limit.TheVariants as limits
 use Rattle.oa_idl.specs.declared.stop.ParseError.{ParseError}
 use Rattle.oa_idl.specs.declared.stop.ParseError.TheVariants as parsing
 use Rattle.oa_checks.specs.declared.fault.CheckError.{CheckError}
@@ -49,10 +50,6 @@ status_of faults.Read = 1
 status_of faults.Write = 1
 status_of faults.Memory = 5
 
--- a fault that says nothing of what a store or a record holds: of a file or its device, of a library, or want of memory
-abbrev pub IsBeforeStores : Fault → Type 0
-IsBeforeStores fault = IsTrue (nat_lt (status_of fault) 3 || nat_lt 4 (status_of fault))
-
 -- the faults that a disk and a store tell, as the program tells them
 abbrev pub of_device : DeviceFault → Fault
 of_device devices.Write = faults.DeviceWrite
@@ -79,18 +76,103 @@ of_upgrade (upgrades.Damaged place) = faults.Damaged place
 of_upgrade (upgrades.Device fault) = of_device fault
 of_upgrade upgrades.Memory = faults.Memory
 
--- all that `format` tells: of a store that is there, that it is too small
-abbrev pub IsOfFormat : Fault → Type 0
-IsOfFormat fault = IsBeforeStores fault ⊎ (fault ≡ faults.TooSmall)
+-- ---- of files
 
--- all that is told where lines are made and written
+-- of a file that is read: it cannot be
+abbrev pub IsOfReading : Fault → Type 0
+IsOfReading (faults.CannotRead name) = ⊤
+IsOfReading faults.Memory = ⊤
+IsOfReading other = ⊥
+
+-- of a file that another process has
+abbrev pub IsOfUse : Fault → Type 0
+IsOfUse (faults.InUse name) = ⊤
+IsOfUse faults.Memory = ⊤
+IsOfUse other = ⊥
+
+-- of a file that is opened as a store's
+abbrev pub IsOfOpening : Fault → Type 0
+IsOfOpening fault = IsOfReading fault ⊎ IsOfUse fault
+
+-- of a file that is made or lengthened: it cannot be
+abbrev pub IsOfMaking : Fault → Type 0
+IsOfMaking (faults.CannotWrite name) = ⊤
+IsOfMaking faults.Memory = ⊤
+IsOfMaking other = ⊥
+
+-- ---- of a library
+
+-- of bytes that are too many for a text, or none
+abbrev pub IsOfBytes : Fault → Type 0
+IsOfBytes fault = (fault ≡ faults.NotUtf8) ⊎ (fault ≡ faults.Parse (parsing.Limit limits.Text))
+
+-- of a text that is read
+abbrev pub IsOfText : Fault → Type 0
+IsOfText fault = IsOfReading fault ⊎ IsOfBytes fault
+
+-- of a text that stands for no library
+abbrev pub IsOfTree : Fault → Type 0
+IsOfTree (faults.Parse error) = ⊤
+IsOfTree (faults.Check error) = ⊤
+IsOfTree other = ⊥
+
+-- of a library that is read
+abbrev pub IsOfLibrary : Fault → Type 0
+IsOfLibrary fault = IsOfText fault ⊎ IsOfTree fault
+
+-- the same, where a place in the text is shown: that of a token that cannot stand there
+abbrev pub IsOfPlace : Fault → Type 0
+IsOfPlace (faults.At (parsing.Syntax byte) place) = ⊤
+IsOfPlace other = ⊥
+
+abbrev pub IsOfPlacedLibrary : Fault → Type 0
+IsOfPlacedLibrary fault = IsOfLibrary fault ⊎ IsOfPlace fault
+
+-- ---- of the commands
+
+-- of lines that are made and written
 abbrev pub IsOfWriting : Fault → Type 0
 IsOfWriting fault = (fault ≡ faults.Write) ⊎ (fault ≡ faults.Memory)
 
--- all that `dump` tells: of a store, that it is none or that it is damaged
+-- all that `check` tells
+abbrev pub IsOfCheck : Fault → Type 0
+IsOfCheck fault = IsOfPlacedLibrary fault ⊎ (fault ≡ faults.Write)
+
+-- of a disk that is made a store: no call of that reads
+abbrev pub IsOfFormatting : Fault → Type 0
+IsOfFormatting faults.TooSmall = ⊤
+IsOfFormatting faults.DeviceWrite = ⊤
+IsOfFormatting faults.Memory = ⊤
+IsOfFormatting other = ⊥
+
+-- all that `format` tells
+abbrev pub IsOfFormat : Fault → Type 0
+IsOfFormat fault = IsOfLibrary fault ⊎ (IsOfOpening fault ⊎ (IsOfMaking fault ⊎ IsOfFormatting fault))
+
+-- of a disk whose store is read, whichever its library and its format are
+abbrev pub IsOfInspection : Fault → Type 0
+IsOfInspection faults.NotAStore = ⊤
+IsOfInspection (faults.Damaged place) = ⊤
+IsOfInspection faults.DeviceRead = ⊤
+IsOfInspection faults.DeviceWrite = ⊤
+IsOfInspection faults.Memory = ⊤
+IsOfInspection other = ⊥
+
+-- all that `dump` tells
 abbrev pub IsOfDump : Fault → Type 0
-IsOfDump fault = IsBeforeStores fault ⊎ ((fault ≡ faults.NotAStore) ⊎ ((place : ℕ) × (fault ≡ faults.Damaged place)))
+IsOfDump fault = IsOfOpening fault ⊎ (IsOfInspection fault ⊎ IsOfWriting fault)
+
+-- of a disk whose store is brought to format 2
+abbrev pub IsOfUpgrading : Fault → Type 0
+IsOfUpgrading faults.TooSmall = ⊤
+IsOfUpgrading faults.NotAStore = ⊤
+IsOfUpgrading faults.AlreadyNew = ⊤
+IsOfUpgrading (faults.Damaged place) = ⊤
+IsOfUpgrading faults.DeviceRead = ⊤
+IsOfUpgrading faults.DeviceWrite = ⊤
+IsOfUpgrading faults.Memory = ⊤
+IsOfUpgrading other = ⊥
 
 -- all that `upgrade` tells
 abbrev pub IsOfUpgrade : Fault → Type 0
-IsOfUpgrade fault = IsOfDump fault ⊎ ((fault ≡ faults.TooSmall) ⊎ (fault ≡ faults.AlreadyNew))
+IsOfUpgrade fault = IsOfOpening fault ⊎ (IsOfMaking fault ⊎ IsOfUpgrading fault)

@@ -21,8 +21,11 @@ use oa_variant::{Scalar, Variant};
 use std::alloc::{AllocError, Global};
 use uuid::Uuid;
 
-/// Writes the objects of a store and their cells, a line each, or the bytes of its library in their place, and hands them on. The file is
-/// let go before the first line, and of one that is not opened or holds no whole store nothing is written.
+/// Writes the objects of the store in the file `path` and their cells, a line each, or the bytes of its library in their place, and hands
+/// them on. The file is let go before the first line, and of one that is not opened or holds no whole store nothing is written.
+///
+/// `CannotRead` and `InUse` as `open_store_file` tells them; `NotAStore`; `Damaged` with the place in bytes; `DeviceRead` and `DeviceWrite`
+/// where a read or the sync before them failed; `Write` where the writer fails. `Memory` may come at each.
 pub fn write_dump<W: Sink>(
     rt: &HostRuntime,
     streams: &StandardStreams,

@@ -2,7 +2,7 @@
 ghost use Rattle.std.specs.Prelude.{◌≤◌, length, IfSome};
 ghost use Rattle.std.specs.Prelude.{ℕ, List, IfErr, IfOk};
 ghost use Rattle.oa_checks.specs.IsLibrary.{IsLibrary};
-ghost use Rattle.oa_commands.specs.Statuses.{IsBeforeStores};
+ghost use Rattle.oa_commands.specs.Statuses.{IsOfLibrary, IsOfReading, IsOfText, IsOfTree};
 
 use crate::fault::Fault;
 use crate::shown::shown_name;
@@ -23,7 +23,7 @@ const PIECE: u64 = 65_536;
 /// The text of a library, from a file or from standard input. Of a text above the limit one piece at a time is kept, and it is read on only
 /// as long as it is UTF-8: that fault goes before the limit, wherever it stands.
 pub(crate) fn read_text(rt: &HostRuntime, alloc: Global, path: &str) -> Result<String, Fault>
-    ensures { IfErr result IsBeforeStores }
+    ensures { IfErr result IsOfText }
 {
     if path == STANDARD_INPUT {
         return text_of(alloc, &mut rt.reader(), path);
@@ -34,10 +34,14 @@ pub(crate) fn read_text(rt: &HostRuntime, alloc: Global, path: &str) -> Result<S
     }
 }
 
-/// The library of a file or of standard input.
+/// The library of the file `path`, or of standard input where that is `STANDARD_INPUT`.
+///
+/// `CannotRead` where it cannot be opened or read; `NotUtf8` of bytes that are no UTF-8, however many they are; `Parse` of a text that has
+/// more than 262,144 bytes, breaks another limit of the grammar, or is not of it; `Check` with the first breach of the checks; `Memory`,
+/// also as that of `Parse` and of `Check`.
 pub fn read_library(rt: &HostRuntime, alloc: Global, path: &str) -> Result<Library, Fault>
     ensures read { IfOk result (λ library. (text : List ℕ) × IsLibrary text library) }
-    ensures refused { IfErr result IsBeforeStores }
+    ensures refused { IfErr result IsOfLibrary }
 {
     library_of(alloc, &read_text(rt, alloc, path)?)
 }
@@ -45,14 +49,14 @@ pub fn read_library(rt: &HostRuntime, alloc: Global, path: &str) -> Result<Libra
 /// The library that a text stands for.
 pub(crate) fn library_of(alloc: Global, text: &str) -> Result<Library, Fault>
     ensures read { IfOk result (λ library. IsLibrary text.now library) }
-    ensures refused { IfErr result IsBeforeStores }
+    ensures refused { IfErr result IsOfTree }
 {
     Ok(check(alloc, parse(alloc, text)?)?)
 }
 
 /// Why a file cannot be read.
 pub(crate) fn unread(alloc: Global, error: &io::Error, path: &str) -> Fault
-    ensures { IsBeforeStores result }
+    ensures { IsOfReading result }
 {
     if error.kind() == ErrorKind::OutOfMemory {
         return Fault::Memory;
@@ -65,7 +69,7 @@ pub(crate) fn unread(alloc: Global, error: &io::Error, path: &str) -> Fault
 
 /// What a reader gives, up to its end, as a text. One byte above the limit tells that the text breaks it.
 fn text_of<R: Read>(alloc: Global, reader: &mut R, path: &str) -> Result<String, Fault>
-    ensures { IfErr result IsBeforeStores }
+    ensures { IfErr result IsOfText }
 {
     let mut bytes = Vec::new(alloc);
     if let Err(error) = reader
@@ -83,7 +87,7 @@ fn text_of<R: Read>(alloc: Global, reader: &mut R, path: &str) -> Result<String,
 
 /// Why a text is refused that begins with these bytes, more than a text may have: it is not UTF-8, or it breaks the limit.
 fn refusal_of_long<R: Read>(alloc: Global, reader: &mut R, mut bytes: Vec<u8>, path: &str) -> Fault
-    ensures { IsBeforeStores result }
+    ensures { IsOfText result }
 {
     for _ in 0..u64::MAX {
         let Some(whole) = whole_characters(&bytes) else {

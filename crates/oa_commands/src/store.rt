@@ -1,6 +1,6 @@
 //! Files that hold a store.
-ghost use Rattle.std.specs.Prelude.{◌≤◌, IfErr, IfOk};
-ghost use Rattle.oa_commands.specs.Statuses.{IsBeforeStores, IsOfFormat};
+ghost use Rattle.std.specs.Prelude.{◌⊎◌, ◌≤◌, IfErr, IfOk};
+ghost use Rattle.oa_commands.specs.Statuses.{IsOfFormat, IsOfMaking, IsOfOpening, IsOfUse};
 ghost use Rattle.oa_commands.specs.Stores.{IsNewlyFormatted, bank_near};
 ghost use Rattle.oa_disk.specs.After.{BeginsHonest};
 ghost use Rattle.oa_journal.specs.Shapes.{least_bank_bytes, most_bank_bytes};
@@ -16,8 +16,12 @@ use std::fs::OpenOptions;
 use std::io;
 use std::io::ErrorKind;
 
-/// Makes a file the store of a library, without objects, with banks of so many bytes, and answers it. A file that is not there is made; one
-/// that is there is used in its own length, and what it held is gone.
+/// Makes the file `path` the store of a library, without objects, with banks of so many bytes, the nearest from 20 MiB to 1 GiB, and
+/// answers it, locked. A file that is not there is made; one that is there is used in its own length, and what it held is gone.
+///
+/// The faults of `read_library`, before the file is opened; `CannotRead` and `InUse` of one that is there, as `open_store_file` tells them;
+/// `CannotWrite` of one that is not there and cannot be made; `TooSmall` of one that has no room for two banks, and is left as it was;
+/// `DeviceWrite` where a write or a sync failed. `Memory` may come at each.
 pub fn format_store(
     rt: &HostRuntime,
     streams: &StandardStreams,
@@ -58,7 +62,10 @@ fn made_store(
     Ok(disk)
 }
 
-/// The file of a store that is there. No other process has it from then on, until the disk goes.
+/// The file `path` of a store, which is there, as a disk. No other process has it from then on, until the disk goes.
+///
+/// `CannotRead` where it cannot be opened to be read and written, or is no regular file; `InUse` where another process has it locked;
+/// `Memory`.
 pub fn open_store_file(
     rt: &HostRuntime,
     streams: &StandardStreams,
@@ -66,7 +73,7 @@ pub fn open_store_file(
     path: &str,
 ) -> Result<FileDisk, Fault>
     ensures begins { IfOk result (BeginsHonest ⟦<FileDisk as Disk>⟧) }
-    ensures refused { IfErr result IsBeforeStores }
+    ensures refused { IfErr result IsOfOpening }
 {
     opened(rt, streams, path).map_err(|error| unopened(alloc, &error, path))
 }
@@ -87,7 +94,7 @@ fn found_or_made(
     size: u64,
 ) -> Result<FileDisk, Fault>
     ensures begins { IfOk result (BeginsHonest ⟦<FileDisk as Disk>⟧) }
-    ensures refused { IfErr result IsBeforeStores }
+    ensures refused { IfErr result (λ fault. IsOfOpening fault ⊎ IsOfMaking fault) }
 {
     match opened(rt, streams, path) {
         Err(error) if error.kind() == ErrorKind::NotFound => made(rt, streams, alloc, path, size),
@@ -104,14 +111,14 @@ fn made(
     size: u64,
 ) -> Result<FileDisk, Fault>
     ensures begins { IfOk result (BeginsHonest ⟦<FileDisk as Disk>⟧) }
-    ensures refused { IfErr result IsBeforeStores }
+    ensures refused { IfErr result IsOfMaking }
 {
     FileDisk::create(rt, path, size).map_err(|error| unwritten(alloc, &error, path))
 }
 
 /// Why the file of a store was not opened.
 pub(crate) fn unopened(alloc: Global, error: &io::Error, path: &str) -> Fault
-    ensures { IsBeforeStores result }
+    ensures { IsOfOpening result }
 {
     if error.kind() == ErrorKind::WouldBlock {
         return in_use(alloc, path);
@@ -120,8 +127,8 @@ pub(crate) fn unopened(alloc: Global, error: &io::Error, path: &str) -> Fault
 }
 
 /// A file that another process has.
-pub(crate) fn in_use(alloc: Global, path: &str) -> Fault
-    ensures { IsBeforeStores result }
+fn in_use(alloc: Global, path: &str) -> Fault
+    ensures { IsOfUse result }
 {
     match shown_name(alloc, path) {
         Ok(path) => Fault::InUse(path),
@@ -131,7 +138,7 @@ pub(crate) fn in_use(alloc: Global, path: &str) -> Fault
 
 /// Why the file of a store was not made, or not lengthened.
 pub(crate) fn unwritten(alloc: Global, error: &io::Error, path: &str) -> Fault
-    ensures { IsBeforeStores result }
+    ensures { IsOfMaking result }
 {
     if error.kind() == ErrorKind::OutOfMemory {
         return Fault::Memory;

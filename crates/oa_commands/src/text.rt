@@ -1,7 +1,7 @@
 //! The canonical text of a library.
 ghost use Rattle.std.specs.Prelude.{◌≡◌, ◌⊎◌, ℕ, List, false, IfErr, IfOk, OnOk};
 ghost use Rattle.oa_checks.specs.IsLibrary.{IsLibrary};
-ghost use Rattle.oa_commands.specs.Statuses.{IsBeforeStores};
+ghost use Rattle.oa_commands.specs.Statuses.{IsOfCheck, IsOfPlace, IsOfPlacedLibrary, IsOfTree};
 ghost use Rattle.oa_commands.specs.Texts.{IsPrinted};
 ghost use Rattle.oa_commands.specs.declared.fault.Fault.TheVariants as faults;
 ghost use Rattle.oa_stream.specs.Sink.{Breaks, IsHandedOn, Writes};
@@ -14,7 +14,11 @@ use oa_stream::Sink;
 use oa_typelib::Library;
 use std::alloc::Global;
 
-/// Writes the canonical text of a library's file, and hands it on. Nothing is written of a library that is refused.
+/// Writes the canonical text of the library of the file `path`, or of standard input, and hands it on. Nothing is written of a library
+/// that is refused.
+///
+/// The faults of `read_library`, but `At` in the place of `Parse(Syntax)` where `shows_place` is set and there is memory for the place;
+/// `Write` where the writer fails.
 pub fn write_text<W: Sink>(
     rt: &HostRuntime,
     path: &str,
@@ -24,7 +28,7 @@ pub fn write_text<W: Sink>(
     requires unbroken { (W.out writer.old).broken ≡ false }
     ensures written { OnOk result (IsPrinted (Writes (W.out writer.old) (W.out writer.new))) }
     ensures handed_on { OnOk result (IsHandedOn (W.out writer.new)) }
-    ensures refused { IfErr result IsBeforeStores }
+    ensures refused { IfErr result IsOfCheck }
     // Where it fails the writer is as it was, or it took a first part of the text, and failed.
     ensures broken { IfErr result (λ fault. (W.out writer.new ≡ W.out writer.old)
         ⊎ ((fault ≡ faults.Write) × IsPrinted (Breaks (W.out writer.old) (W.out writer.new)))) }
@@ -41,7 +45,7 @@ fn library_at(
     shows_place: bool,
 ) -> Result<Library, Fault>
     ensures read { IfOk result (λ library. (text : List ℕ) × IsLibrary text library) }
-    ensures refused { IfErr result IsBeforeStores }
+    ensures refused { IfErr result IsOfPlacedLibrary }
 {
     let text = read_text(rt, alloc, path)?;
     match library_of(alloc, &text) {
@@ -64,8 +68,8 @@ fn put_text<W: Sink>(text: &[u8], writer: &mut W) -> Result<(), Fault>
 
 /// A fault with its place in the text, where it has one and memory is found for it.
 fn placed(alloc: Global, path: &str, text: &str, fault: Fault) -> Fault
-    requires { IsBeforeStores fault }
-    ensures { IsBeforeStores result }
+    requires { IsOfTree fault }
+    ensures { IsOfTree result ⊎ IsOfPlace result }
 {
     match fault {
         Fault::Parse(error @ ParseError::Syntax(at)) => match Place::of(alloc, path, text, at) {

@@ -1,6 +1,6 @@
 //! Bringing the file of a store to format 2.
-ghost use Rattle.std.specs.Prelude.{◌≤◌, IfErr, IfOk};
-ghost use Rattle.oa_commands.specs.Statuses.{IsBeforeStores, IsOfUpgrade};
+ghost use Rattle.std.specs.Prelude.{◌⊎◌, ◌≤◌, IfErr, IfOk};
+ghost use Rattle.oa_commands.specs.Statuses.{IsOfMaking, IsOfOpening, IsOfUpgrade};
 ghost use Rattle.oa_commands.specs.Stores.{IsUpgraded, bank_near};
 ghost use Rattle.oa_journal.specs.Shapes.{least_bank_bytes, most_bank_bytes};
 
@@ -18,7 +18,13 @@ use std::os::unix::fs::FileExt;
 /// How many zeros are written in one call.
 const PIECE: usize = 65_536;
 
-/// Brings a store of format 1 to format 2, with banks of so many bytes, and answers its file. One that is too short for it is lengthened.
+/// Brings the store of format 1 in the file `path` to format 2, with banks of so many bytes, the nearest from 20 MiB to 1 GiB, and answers
+/// its file, locked. One that is too short for it is lengthened.
+///
+/// `CannotRead` and `InUse` as `open_store_file` tells them; `NotAStore`; `AlreadyNew` of one of format 2; `Damaged` with the place in
+/// bytes, 0 where a bank of that size has no room for what the store holds: these before anything is written. `CannotWrite` where it
+/// cannot be lengthened, `TooSmall` where it became shorter since, `DeviceRead` and `DeviceWrite` where a call of the device failed.
+/// `Memory` may come at each.
 pub fn upgrade_store(
     rt: &HostRuntime,
     streams: &StandardStreams,
@@ -65,7 +71,7 @@ fn lengthen(
     path: &str,
     size: u64,
 ) -> Result<(), Fault>
-    ensures { IfErr result IsBeforeStores }
+    ensures { IfErr result (λ fault. IsOfOpening fault ⊎ IsOfMaking fault) }
 {
     let file = OpenOptions::new()
         .read(true)

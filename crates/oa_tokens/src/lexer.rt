@@ -101,7 +101,7 @@ fn front(bytes: &[u8]) -> Piece
     Piece::Broken
 }
 
-/// The tokens of a text, in order. Bytes that form no token make one last token, to the text's end.
+/// The tokens of a text, in order. Bytes that form no token make one last token, to the text's end. Err where memory is refused.
 pub fn tokens(alloc: Global, text: &str) -> Result<Vec<Token>, AllocError>
     ensures { IfOk result (λ found. AreTokens 0 text.now found.items) }
 {

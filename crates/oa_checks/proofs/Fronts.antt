@@ -1,5 +1,5 @@
 -- The first place that passes a test, by a search from the front.
-use Rattle.std.proofs.Common.{◌≡◌, ◌+◌, ◌≤◌, ◌<◌, ℕ, zero, suc, Bool, true, false, cond, not, List, [], ◌∷◌, length, position, Some, refl, sym, ap, ◌∙◌, arith, nat_lt, get_or}
+use Rattle.std.proofs.Common.{◌≡◌, ◌+◌, ◌≤◌, ◌<◌, ℕ, zero, suc, min, Bool, true, false, cond, not, List, [], ◌∷◌, length, take, position, None, Some, refl, sym, ap, ◌∙◌, arith, nat_lt, get_or}
 use Rattle.std.proofs.lemmas.Bool.Decides.{nat_tests}
 use Rattle.std.specs.List.{position_or_len}
 
@@ -29,3 +29,19 @@ module _ {X : Type 0} (p : X → Bool) where
       by : (b : Bool) → (n ≤ position_or_len p ys → n + 1 ≤ position_or_len p ys) → suc n ≤ cond (not b) (1 + position_or_len p ys) 0 → suc n + 1 ≤ cond (not b) (1 + position_or_len p ys) 0
       by true rest h = absurd (omega (arith, h))
       by false rest h = let later = rest (omega (arith, h)) in omega (arith, later)
+
+  passed_over : (xs : List X) (n : ℕ) → min (length xs) n ≤ position_or_len p xs → length (take n xs) ≤ position_or_len p (take n xs)
+  passed_over xs zero h = omega arith
+  passed_over [] (suc n) h = omega arith
+  passed_over (y ∷ ys) (suc n) h = by (p y) (λ g. passed_over ys n g) h
+    where
+      by : (b : Bool) → (min (length ys) n ≤ position_or_len p ys → length (take n ys) ≤ position_or_len p (take n ys)) → min (suc (length ys)) (suc n) ≤ cond (not b) (1 + position_or_len p ys) 0 → suc (length (take n ys)) ≤ cond (not b) (1 + position_or_len p (take n ys)) 0
+      by true rest h = absurd (omega (arith, h))
+      by false rest h = let it = rest (omega (arith, h)) in omega (arith, it)
+
+  -- it is none of those that were looked at
+  pub not_in_front : (xs : List X) (n : ℕ) → min (length xs) n ≤ position_or_len p xs → position p (take n xs) ≡ None
+  not_in_front xs n so_far =
+      let over = passed_over xs n so_far in
+      let test : nat_lt (position_or_len p (take n xs)) (length (take n xs)) ≡ false = grind (arith, nat_tests, over) in
+      rw test refl

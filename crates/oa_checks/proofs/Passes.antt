@@ -1,10 +1,10 @@
 -- Passes over a list that stop at the first breach.
-use Rattle.std.proofs.Common.{◌≡◌, ◌<◌, ◌≤◌, ◌+◌, ℕ, Bool, true, false, List, [], ◌∷◌, ◌++◌, length, map, take, drop}
+use Rattle.std.proofs.Common.{◌≡◌, ◌<◌, ◌≤◌, ◌+◌, ◌-◌, ℕ, zero, suc, Bool, true, false, List, [], ◌∷◌, ◌++◌, length, map, take, drop}
 use Rattle.std.proofs.Common.{get_or, slice_get, position, Option, None, Some, Bor, Vec, Global, Result, Ok, Err, refl, sym}
 use Rattle.std.proofs.Common.{ap, subst, ◌∙◌, arith, add-one, is_some, if◌then◌else◌, IsErr, true≢false, option_copied}
 use Rattle.std.proofs.Math.Seq.{drop-cons}
 use Rattle.std.proofs.Math.ListN.{drop_of_length-le}
-use Rattle.std.proofs.lemmas.List.{take_more, take_all, map-append}
+use Rattle.std.proofs.lemmas.List.{get_or-map, take_more, take_all, map-append}
 use Rattle.std.proofs.lemmas.Option.{slice_get-map, slice_get_read}
 use Rattle.std.specs.Option.{option_map, option_and_then, option_or}
 use Rattle.std.specs.Result.{IsErrAnd}
@@ -112,6 +112,24 @@ module _ {K : Type 0} (eq : K → K → Bool) (keys : List K) where
   pub told_some : (d : Distinct K) (place : ℕ) → TellsDistinct eq keys d → repeat_of d ≡ Some place → (repeat_at eq [] keys ≡ Some place) × (place < length keys)
   told_some (All seen) place h is = absurd (cc)
   told_some (Repeat n) place h is = let e : n ≡ place = cc in (h.0 ∙ ap (λ m. Some m) e, rw (← e) h.1)
+
+-- the first key repeats none
+pub repeats_later : {K : Type 0} (eq : K → K → Bool) (keys : List K) (place : ℕ) → repeat_at eq [] keys ≡ Some place → 1 ≤ place
+unfolding repeat_at
+repeats_later eq [] place is = absurd (cc)
+repeats_later eq (k ∷ ks) place is = by (repeat_at eq (k ∷ []) ks) is
+  where
+    by : (o : Option ℕ) → option_map (λ n. suc n) o ≡ Some place → 1 ≤ place
+    by None is = absurd (cc)
+    by (Some n) is = let e : suc n ≡ place = cc in omega (arith, e)
+
+-- a member behind the first one
+pub behind_first : {X Y : Type 0} (f : X → Y) (y : Y) (xs : List X) (place : ℕ) (x : X) → 1 ≤ place → place - 1 < length xs → x ≡ get_or xs (place - 1) x → f x ≡ get_or (y ∷ map f xs) place (f x)
+behind_first f y xs zero x some within is = absurd (omega (arith, some))
+behind_first f y xs (suc n) x some within is =
+    let e : suc n - 1 ≡ n = omega arith in
+    let here : x ≡ get_or xs n x = rw e at is in
+    ap f here ∙ sym (get_or-map f xs n x (f x) (omega (arith, within)))
 
 -- ---- the first member that repeats the key of one before it, by the repeated key's place
 module _ {X K : Type 0} (eq : K → K → Bool) (key : X → K) (xs : List X) (keys : List K) (same_keys : keys ≡ map key xs) where

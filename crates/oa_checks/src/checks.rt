@@ -45,7 +45,7 @@ pub(crate) fn item_guid(item: &Item) -> Uuid
     }
 }
 
-/// The names of interfaces that a coclass's entries give, in their order.
+/// The names of interfaces that a coclass's entries give, in their order. Err where memory is refused.
 pub fn entry_names(alloc: Global, entries: &[Entry]) -> Result<Vec<&Name>, AllocError>
     ensures { IfOk result (λ v. map (λ n. n.now) v.items ≡ map (λ e. e.interface) entries.now) }
 {
@@ -160,7 +160,7 @@ fn admit(alloc: Global, seen: &mut FoldedNames, item: &Item) -> Result<(), Check
 }
 
 /// The items' names, which differ, as do the names inside each.
-pub(crate) fn check_names(alloc: Global, items: &[Item]) -> Result<FoldedNames, CheckError>
+fn check_names(alloc: Global, items: &[Item]) -> Result<FoldedNames, CheckError>
     ensures { RefusesBreach (option_map DuplicateName (name_breach items.now)) (λ names. names ≡ folded_names items.now) result }
 {
     let mut seen = FoldedNames::new(alloc);
@@ -171,7 +171,7 @@ pub(crate) fn check_names(alloc: Global, items: &[Item]) -> Result<FoldedNames, 
 }
 
 /// No two members of an interface have one DISPID.
-pub(crate) fn check_ids(alloc: Global, items: &[Item]) -> Result<(), CheckError>
+fn check_ids(alloc: Global, items: &[Item]) -> Result<(), CheckError>
     ensures { RefusesBreach (option_map DuplicateId (id_breach items.now)) (λ _. Unit {0}) result }
 {
     match check_members(alloc, MemberCheck::Ids, items)? {
@@ -192,16 +192,16 @@ fn all_guids(alloc: Global, library: Uuid, items: &[Item]) -> Result<Vec<Uuid>, 
 }
 
 /// The items' GUIDs, which differ from each other and from the library's.
-pub(crate) fn check_guids(alloc: Global, library: Uuid, items: &[Item]) -> Result<Guids, CheckError>
+fn check_guids(alloc: Global, library: Uuid, items: &[Item]) -> Result<Guids, CheckError>
     ensures { RefusesBreach (option_map DuplicateGuid (guid_breach library items.now)) (λ guids. guids ≡ map item_guid items.now) result }
 {
-    let guids = all_guids(alloc, library, items)?;
     match told_apart(alloc, all_guids(alloc, library, items)?)? {
         Distinct::All(mut set) => {
             let _ = set.shift_remove_index(0);
             Ok(Guids::from_set(set))
         }
-        Distinct::Repeat(place) => Err(CheckError::DuplicateGuid(guids[place])),
+        // The library's stands first, and repeats none.
+        Distinct::Repeat(place) => Err(CheckError::DuplicateGuid(item_guid(&items[place - 1]))),
     }
 }
 
@@ -254,11 +254,7 @@ fn check_item(
 }
 
 /// Each entry of a coclass names an interface.
-pub(crate) fn check_interfaces(
-    alloc: Global,
-    names: &FoldedNames,
-    items: &[Item],
-) -> Result<(), CheckError>
+fn check_interfaces(alloc: Global, names: &FoldedNames, items: &[Item]) -> Result<(), CheckError>
     requires { names.now ≡ folded_names items.now }
     ensures { RefusesBreach (option_map UnknownInterface (interface_breach items.now)) (λ _. Unit {0}) result }
 {
@@ -269,7 +265,7 @@ pub(crate) fn check_interfaces(
 }
 
 /// The get and the put of each property agree.
-pub(crate) fn check_forms(alloc: Global, items: &[Item]) -> Result<(), CheckError>
+fn check_forms(alloc: Global, items: &[Item]) -> Result<(), CheckError>
     ensures { RefusesBreach (option_map GetPutDisagree (form_breach items.now)) (λ _. Unit {0}) result }
 {
     match check_members(alloc, MemberCheck::Forms, items)? {
@@ -279,7 +275,7 @@ pub(crate) fn check_forms(alloc: Global, items: &[Item]) -> Result<(), CheckErro
 }
 
 /// No parameter of a property is an array.
-pub(crate) fn check_arrays(alloc: Global, items: &[Item]) -> Result<(), CheckError>
+fn check_arrays(alloc: Global, items: &[Item]) -> Result<(), CheckError>
     ensures { RefusesBreach (option_map ArrayParameter (array_breach items.now)) (λ _. Unit {0}) result }
 {
     match check_members(alloc, MemberCheck::Arrays, items)? {
@@ -289,7 +285,7 @@ pub(crate) fn check_arrays(alloc: Global, items: &[Item]) -> Result<(), CheckErr
 }
 
 /// Each default has a value of its parameter's type, and no new value has one.
-pub(crate) fn check_defaults(alloc: Global, items: &[Item]) -> Result<(), CheckError>
+fn check_defaults(alloc: Global, items: &[Item]) -> Result<(), CheckError>
     ensures { RefusesBreach (option_map BadDefault (default_breach items.now)) (λ _. Unit {0}) result }
 {
     match check_members(alloc, MemberCheck::Defaults, items)? {
@@ -340,7 +336,7 @@ fn check_contents(alloc: Global, tree: &Tree, names: &FoldedNames) -> Result<(),
     check_form_kinds(alloc, items)
 }
 
-/// All checks of a tree but that of its text's length, in their order.
+/// All checks of a tree but that of its text's length, in their order. Err names the first breach, never `TextTooLong`, or is `Memory`.
 pub fn check_tree(alloc: Global, tree: &Tree) -> Result<Checked, CheckError>
     ensures { RefusesBreach (tree_breach tree.now)
         (λ c. (c.names ≡ folded_names tree.now.items) × (c.guids ≡ map item_guid tree.now.items)) result }

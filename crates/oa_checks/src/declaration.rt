@@ -180,7 +180,7 @@ fn add_methods<'a>(all: &mut Vec<Declaration<'a>>, methods: &'a [Method]) -> Res
     Ok(())
 }
 
-/// The declarations of an interface: its properties and then its methods, each in the text's order.
+/// The declarations of an interface: its properties and then its methods, each in the text's order. Err where memory is refused.
 pub fn declarations(
     alloc: Global,
     interface: &Interface,

@@ -132,7 +132,7 @@ pub(crate) fn default_value(
     }
 }
 
-/// The value of a parameter's default. None where it has no default, or none of its type.
+/// The value of a parameter's default. None where it has no default, or none of its type. Err where memory is refused.
 pub fn value_of_default(alloc: Global, parameter: &Parameter) -> Result<Option<Scalar>, AllocError>
     ensures { IfOk result (λ value. value ≡ default_value parameter.now) }
 {

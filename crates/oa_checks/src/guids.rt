@@ -1,5 +1,5 @@
 //! GUIDs as pairs of numbers: two are compared without a look at each byte.
-ghost use Rattle.std.specs.Prelude.{◌≡◌, length, take, drop, position, IfSome, Some};
+ghost use Rattle.std.specs.Prelude.{◌≡◌, length, take, drop, position, IfNone, IfSome, None, Some};
 ghost use Rattle.std.specs.Int.{from_le_bytes, to_le_bytes, w64};
 ghost use Rattle.oa_checks.specs.Libraries.{item_guid, same};
 ghost use Rattle.uuid.specs.Parts.{is_nil_bytes};
@@ -48,9 +48,10 @@ pub fn is_zero_guid(guid: &Uuid) -> bool
     is_same(guid, &Uuid::nil())
 }
 
-/// The place of the item with a GUID, where it is one of the first. So an item of a small library is found without hashing.
+/// The place, from 0, of the item with a GUID, where it is one of the first eight. So an item of a small library is found without hashing.
 pub fn place_in_front(items: &[Item], guid: &Uuid) -> Option<usize>
-    ensures { IfSome result (λ place. position (λ i. same guid.now (item_guid i)) items.now ≡ Some place) }
+    ensures found { IfSome result (λ place. position (λ i. same guid.now (item_guid i)) items.now ≡ Some place) }
+    ensures none { IfNone result (position (λ i. same guid.now (item_guid i)) (take 8 items.now) ≡ None) }
 {
     'items: for place in 0..items.len().min(FRONT) {
         if is_same(guid, &item_guid(&items[place])) {

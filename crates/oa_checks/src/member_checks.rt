@@ -69,8 +69,7 @@ fn same_ids_before(alloc: Global, all: &[Declaration<'_>]) -> Result<Vec<Option<
     ensures { IfOk result (λ v. v.items ≡ places_before (alike OneMember) [] all.now) }
 {
     let keys = ids(alloc, all)?;
-    let places = earlier(alloc, keys)?;
-    Ok(places)
+    earlier(alloc, keys)
 }
 
 /// For each declaration the last one before it with the same name.
@@ -81,8 +80,7 @@ fn same_names_before(
     ensures { IfOk result (λ v. v.items ≡ places_before (alike Agreement) [] all.now) }
 {
     let keys = folded_names(alloc, all)?;
-    let places = earlier(alloc, keys)?;
-    Ok(places)
+    earlier(alloc, keys)
 }
 
 /// For each declaration the last one before it that a rule compares with it.

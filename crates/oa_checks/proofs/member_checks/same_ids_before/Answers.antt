@@ -1,4 +1,4 @@
-use Rattle.std.proofs.Common.{[], ap, ◌∙◌}
+use Rattle.std.proofs.Common.{◌≡◌, ℕ, List, [], Option, IfOk, subst, ap, ◌∙◌}
 use Rattle.std.specs.Ordering.{int_eq}
 use Rattle.oa_checks.specs.DeclarationValues.{DeclarationValue}
 use Rattle.oa_checks.specs.Repeats.{places_before}
@@ -6,4 +6,7 @@ use Rattle.oa_checks.proofs.Walks.{places-map}
 use Rattle.oa_checks.proofs.member_checks.same_ids_before.Goals as goal
 
 pub returns : goal.returns
-returns c = c.in_ok-places.ensures ∙ ap (places_before int_eq []) c.in_ok-keys.ensures ∙ places-map (λ (d : DeclarationValue). d.id) int_eq [] c.args.all.now
+returns c =
+    subst (λ (places : List (Option ℕ)). IfOk c.earlier.result (λ v. v.items ≡ places))
+    (ap (places_before int_eq []) c.in_ok-keys.ensures ∙ places-map (λ (d : DeclarationValue). d.id) int_eq [] c.args.all.now)
+    c.earlier.ensures

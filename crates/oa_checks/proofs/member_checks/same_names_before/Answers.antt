@@ -1,4 +1,4 @@
-use Rattle.std.proofs.Common.{[], ℕ, sym, ap, ◌∙◌, Vec, Global}
+use Rattle.std.proofs.Common.{◌≡◌, ℕ, List, [], Option, IfOk, subst, sym, ap, ◌∙◌, Vec, Global}
 use Rattle.oa_model.specs.Folding.{folded_name}
 use Rattle.oa_checks.specs.DeclarationValues.{DeclarationValue}
 use Rattle.oa_checks.specs.Libraries.{same}
@@ -8,5 +8,7 @@ use Rattle.oa_checks.proofs.member_checks.same_names_before.Goals as goal
 
 pub returns : goal.returns
 returns c =
-    c.in_ok-places.ensures ∙ sym (places-map (λ (k : Vec ℕ Global). k.items) same [] c.in_ok-keys.keys.items) ∙ ap (places_before same []) c.in_ok-keys.ensures
-    ∙ places-map (λ (d : DeclarationValue). folded_name d.name) same [] c.args.all.now
+    subst (λ (places : List (Option ℕ)). IfOk c.earlier.result (λ v. v.items ≡ places))
+    (sym (places-map (λ (k : Vec ℕ Global). k.items) same [] c.in_ok-keys.keys.items) ∙ ap (places_before same []) c.in_ok-keys.ensures
+    ∙ places-map (λ (d : DeclarationValue). folded_name d.name) same [] c.args.all.now)
+    c.earlier.ensures

@@ -32,7 +32,7 @@ impl Model for DispIds {
 fn fold_unit(unit: u16) -> u16
     ensures { result ≡ folded unit }
 {
-    if unit >= 65 && unit <= 90 {
+    if unit >= u16::from(b'A') && unit <= u16::from(b'Z') {
         unit + 32
     } else {
         unit
@@ -148,7 +148,7 @@ pub(crate) fn told(alloc: Global, ids: &[Option<i32>]) -> Result<DispIds, AllocE
     let mut all_known = true;
     'ids: for id in ids {
         answered.push(or_unknown(*id))?;
-        all_known = all_known & id.is_some();
+        all_known &= id.is_some();
     }
     Ok(DispIds {
         ids: answered,

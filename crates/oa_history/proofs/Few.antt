@@ -1,9 +1,9 @@
 -- A call of few bodies is one group.
 use Rattle.std.proofs.Common.{rules, ◌≡◌, ℕ, suc, ◌+◌, ◌<◌, ◌≤◌, nat_le, ◌||◌, if◌then◌else◌, Bool, true, false, List, [], ◌∷◌, ◌++◌, map, length, refl, sym, ◌∙◌, ap, subst, arith, length-append}
 use Rattle.oa_model.specs.Limits.{group_bytes}
-use Rattle.oa_groups.specs.Groups.{cut, events_in, fills, is_full, joined, rest_of}
+use Rattle.oa_groups.specs.Groups.{NoneAlone, cut, events_in, fills, is_full, joined, rest_of}
 use Rattle.oa_groups.specs.Turns.{Exchange, Turns, body_of}
-use Rattle.oa_history.specs.OneGroup.{FewAreOneGroup, NoneAlone}
+use Rattle.oa_history.specs.OneGroup.{FewAreOneGroup}
 
 rest_few : {R : Type 0} (held : List (Exchange R)) → length (rest_of held) ≤ 1
 rest_few [] = omega arith

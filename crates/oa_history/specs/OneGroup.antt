@@ -1,14 +1,9 @@
 -- When a call is one group.
-use Rattle.std.specs.Prelude.{◌≡◌, ◌<◌, ◌≤◌, ℕ, Bool, false, List, [], ◌∷◌, length}
+use Rattle.std.specs.Prelude.{◌<◌, ◌≤◌, ℕ, Bool, List, length}
 use Rattle.oa_model.specs.Limits.{group_bytes}
-use Rattle.oa_groups.specs.Groups.{events_in, joined}
+use Rattle.oa_groups.specs.Groups.{NoneAlone, events_in, joined}
 use Rattle.oa_groups.specs.Sessions.{AnsweredCall, IsCalled}
 use Rattle.oa_groups.specs.Turns.{Exchange, Turns}
-
--- none of these bodies is a group of its own
-abbrev pub NoneAlone : (List ℕ → Bool) → List (List ℕ) → Type 0
-NoneAlone alone [] = Unit {0}
-NoneAlone alone (body ∷ bodies) = (alone body ≡ false) × NoneAlone alone bodies
 
 -- A call of no more bodies than a group has, none of which is a group of its own, is one group, unless its events fill one before its end.
 abbrev pub FewAreOneGroup : {S R : Type 0} → Turns S R → Type 0

@@ -25,8 +25,8 @@ use Rattle.oa_journal.specs.declared.shape.Shape.TheVariants.{Two}
 use Rattle.oa_store.specs.Stores.{IsStoreIn}
 use Rattle.oa_store.specs.declared.store.Store.{Store}
 use Rattle.oa_table.specs.Tables.{TableValue}
-use Rattle.oa_server.specs.Answers.{IsAnswered, MakesNoEvent}
-use Rattle.oa_server.specs.OpenGroups.{CallsWhereDue, IsDueFor, grouping}
+use Rattle.oa_server.specs.Answers.{CallsForOne, IsAnswered, MakesNoEvent}
+use Rattle.oa_server.specs.OpenGroups.{CallsForCheckpoint, CallsWhereDue, IsDueFor, grouping}
 use Rattle.oa_server.specs.Requests.{HasTurn, IsHeldBack, faulted, requests, text_of_library}
 use Rattle.oa_turn.specs.Events.{held_of}
 use Rattle.oa_decision.specs.States.{State}
@@ -40,7 +40,7 @@ unfolding fills
 full_one bytes = refl
 
 module _ {D : Type 0} {g : Ghosts D} (only : (d : D) (c : List ℕ) → IsTrue (g.is_honest d) → g.image_since d (g.moment d) c → g.image d c) (old mid : Store D g) (was : old.stopped ≡ false) (before after : State) (body start : List ℕ) (empty : start ≡ []) (first : Goes old mid) (stays : mid.library.items ≡ old.library.items) (plain : is_replacement body ≡ false)
-    (leaves : (committed : TableValue) → (length start ≡ 0 → held_of before ≡ committed) → AllHold old committed → LeavesTable old mid committed) where
+    (once : CallsForCheckpoint old mid before.table) (leaves : (committed : TableValue) → (length start ≡ 0 → held_of before ≡ committed) → AllHold old committed → LeavesTable old mid committed) where
   abbrev at_first : Grouping State ReplyValue D g
   at_first = grouping old before [] start
 
@@ -67,6 +67,11 @@ module _ {D : Type 0} {g : Ghosts D} (only : (d : D) (c : List ℕ) → IsTrue (
     has_state : (new : Store D g) → new.bank.shape ≡ old.bank.shape → new.library.items ≡ old.library.items → AllHold new (held_of after) → AllHoldState requests new after
     has_state new shape kept holds = record { shape = shape ∙ all.shape ∙ ap (λ (n : ℕ). Two n) (sym same_bank); has = kept ∙ all.has ∙ sym same_text; all = holds }
 
+  -- how often the device was called
+  spent : (new : Store D g) → CallsWhereDue old mid before start body → (IsTrue (g.is_honest mid.disk) → g.moment new.disk ≤ g.moment mid.disk + 8) → IsTrue (g.is_honest old.disk) → CallsForOne old new before body
+  spent new (inl same) four honest = inl (subst (λ (d : D). g.moment new.disk ≤ g.moment d + 8) same (four (first.honest ∙ honest)))
+  spent new (inr due) four honest = inr (subst (λ (l : List ℕ). IsDueFor old before l body) empty due, let last = four (first.honest ∙ honest) in let one = once honest in omega (arith, last, one))
+
   -- its checkpoint failed
   pub checkpoint_failed : (reply : ReplyValue) → reply ≡ faulted body → HasTurn body before after → IsDueFor old before start body → mid.stopped ≡ true → IsAnswered old mid before after body reply
   checkpoint_failed reply told some due stopped = record {
@@ -81,6 +86,8 @@ module _ {D : Type 0} {g : Ghosts D} (only : (d : D) (c : List ℕ) → IsTrue (
     goes = first;
     quiet = λ no kind none. absurd (no_event_of before body plain none due.makes);
     refused = λ no going. absurd (true≢false (sym stopped ∙ going));
+    calls = λ no kind honest. spent mid (inr due) (λ h. omega arith) honest;
+    library_calls = λ no kind. absurd (true≢false (sym kind ∙ plain));
     served = λ no. alone mid reply start (inr (inr (inl (record {
       was = was;
       failed = record { reply = some.reply; event = []; turn = some.asked; plain = plain; due = due; none = refl; same = some.same; told_are = ap (λ (r : ReplyValue). r ∷ []) told; stopped = stopped; any_moment = leaves; goes = first };
@@ -144,6 +151,8 @@ module _ {D : Type 0} {g : Ghosts D} (only : (d : D) (c : List ℕ) → IsTrue (
       goes = goes_on old mid new first then;
       quiet = λ no kind none. silent none;
       refused = λ no going. absurd (true≢false (sym stopped ∙ going));
+      calls = λ no kind honest. spent new calls four honest;
+      library_calls = λ no kind. absurd (true≢false (sym kind ∙ plain));
       served = λ no. filled reply (record {
         state = refl;
         well = λ going. absurd (true≢false (sym stopped ∙ going));
@@ -168,6 +177,8 @@ module _ {D : Type 0} {g : Ghosts D} (only : (d : D) (c : List ℕ) → IsTrue (
       goes = goes_on old mid new first then;
       quiet = λ no kind none. silent none;
       refused = λ no yes kind. absurd (true≢false (sym kind ∙ plain));
+      calls = λ no kind honest. spent new calls four honest;
+      library_calls = λ no kind. absurd (true≢false (sym kind ∙ plain));
       served = λ no. filled due (record {
         state = refl;
         well = λ yes. (refl, refl, refl);

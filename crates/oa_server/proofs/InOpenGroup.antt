@@ -4,10 +4,11 @@ use Rattle.std.proofs.Common.{◌∙◌, subst}
 use Rattle.std.proofs.lemmas.List.{append-nil, length-map, map_push, nil_from_length, same_from_push}
 use Rattle.oa_disk.specs.declared.disk.Disk.{Ghosts}
 use Rattle.oa_groups.specs.Groupings.{Grouping, IsEnded, IsHeld, IsSettled}
-use Rattle.oa_groups.specs.Groups.{events_in, fills, is_full}
+use Rattle.oa_groups.specs.Groups.{NoneAlone, events_in, fills, is_full}
 use Rattle.oa_groups.specs.Runs.{TurnsOver}
 use Rattle.oa_groups.specs.Turns.{Exchange, body_of, exchange, reply_of}
 use Rattle.oa_groups.proofs.Entries.{events_push, run_append}
+use Rattle.oa_record.specs.Replacement.{is_replacement}
 use Rattle.oa_record.specs.Replies.{ReplyValue}
 use Rattle.oa_store.specs.declared.store.Store.{Store}
 use Rattle.oa_server.specs.OpenGroups.{IsDueFor, grouping}
@@ -19,11 +20,16 @@ use Rattle.oa_server.specs.Talks.{IsWholeGroup, IsNoGroupYet}
 pub record Holding {D : Type 0} {g : Ghosts D} (size : ℕ) (first : State) (now : Store D g) (state : State) (pending : List ReplyValue) (events : List ℕ) (bodies : List (List ℕ)) : Type 0 where
   pub held : List (Exchange ReplyValue)
   pub bodies_are : bodies ≡ map body_of held
+  pub plain : NoneAlone is_replacement bodies
   pub run : TurnsOver requests first held state
   pub pending_are : pending ≡ map reply_of held
   pub events_are : events ≡ events_in held
   pub short : is_full size held ≡ false
   pub going : now.stopped ≡ false
+
+plain_more : (bodies : List (List ℕ)) (body : List ℕ) → NoneAlone is_replacement bodies → is_replacement body ≡ false → NoneAlone is_replacement (bodies ++ body ∷ [])
+plain_more [] body none plain = (plain, tt)
+plain_more (first ∷ bodies) body none plain = (none.0, plain_more bodies body none.1 plain)
 
 fills_none : (size : ℕ) → 1 ≤ size → fills size 0 0 ≡ false
 unfolding fills
@@ -37,7 +43,7 @@ full_is size pending events held replies bytes =
 
 module _ {D : Type 0} {g : Ghosts D} (size : ℕ) where
   pub holds_none : (now : Store D g) (state : State) → 1 ≤ size → now.stopped ≡ false → Holding size state now state [] [] []
-  holds_none now state some going = record { held = []; bodies_are = refl; run = refl; pending_are = refl; events_are = refl; short = fills_none size some; going = going }
+  holds_none now state some going = record { held = []; bodies_are = refl; plain = tt; run = refl; pending_are = refl; events_are = refl; short = fills_none size some; going = going }
 
   module _ (first : State) (old : Store D g) (before : State) (pending : List ReplyValue) (events : List ℕ) (bodies : List (List ℕ)) (was : Holding size first old before pending events bodies) where
     module _ (body : List ℕ) (reply : ReplyValue) (event : List ℕ) where
@@ -65,6 +71,7 @@ module _ {D : Type 0} {g : Ghosts D} (size : ℕ) where
       holds_more now one small = record {
         held = more;
         bodies_are = more_bodies;
+        plain = plain_more bodies body was.plain one.plain;
         run = more_run now.state one.turn;
         pending_are = more_pending now one;
         events_are = more_events now one;
@@ -82,6 +89,7 @@ module _ {D : Type 0} {g : Ghosts D} (size : ℕ) where
       group_filled mid new told one full settled = record {
         group = more;
         bodies_are = more_bodies;
+        plain = plain_more bodies body was.plain one.plain;
         run = subst (λ (s : State). TurnsOver requests first more s) (sym settled.state) (more_run mid.state one.turn);
         short = not_before;
         ends = inl (sym (full_is size mid.pending mid.events more (more_pending mid one) (more_events mid one)) ∙ full);
@@ -89,11 +97,12 @@ module _ {D : Type 0} {g : Ghosts D} (size : ℕ) where
       }
 
       -- the checkpoint before it fails
-      pub group_faulted : (new : Grouping State ReplyValue D g) (told : List ReplyValue) → requests.Turn asked before new.state → IsDueFor old before events body → event ≡ [] → new.store.stopped ≡ true
+      pub group_faulted : (new : Grouping State ReplyValue D g) (told : List ReplyValue) → requests.Turn asked before new.state → is_replacement body ≡ false → IsDueFor old before events body → event ≡ [] → new.store.stopped ≡ true
           → IsWholeGroup size new.store first (bodies ++ body ∷ []) told new.state
-      group_faulted new told turn due none stopped = record {
+      group_faulted new told turn plain due none stopped = record {
         group = more;
         bodies_are = more_bodies;
+        plain = plain_more bodies body was.plain plain;
         run = more_run new.state turn;
         short = not_before;
         ends = inr (inl (record {
@@ -113,6 +122,7 @@ module _ {D : Type 0} {g : Ghosts D} (size : ℕ) where
     rest_ends new told (inl idle) = record {
       held = was.held;
       bodies_are = was.bodies_are;
+      plain = was.plain;
       run = subst (λ (s : State). TurnsOver requests first was.held s) (sym idle.state) was.run;
       short = was.short;
       told_are = λ going. idle.nothing ∙ sym idle.none ∙ was.pending_are;
@@ -120,6 +130,7 @@ module _ {D : Type 0} {g : Ghosts D} (size : ℕ) where
     rest_ends new told (inr (inl last)) = record {
       held = was.held;
       bodies_are = was.bodies_are;
+      plain = was.plain;
       run = subst (λ (s : State). TurnsOver requests first was.held s) (sym last.settled.state) was.run;
       short = was.short;
       told_are = λ going. (last.settled.well going).0 ∙ was.pending_are;

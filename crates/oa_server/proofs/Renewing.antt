@@ -1,5 +1,5 @@
 -- A body that asks for another library.
-use Rattle.std.proofs.Common.{◌≡◌, ◌⊎◌, inl, inr, ⊎_elim, ℕ, ◌-◌, true, false, true≢false, IsTrue, List, [], ◌∷◌, ◌++◌, refl, sym, ap, ◌∙◌, subst}
+use Rattle.std.proofs.Common.{◌≡◌, ◌⊎◌, inl, inr, ⊎_elim, ℕ, ◌+◌, ◌*◌, ◌-◌, ◌≤◌, true, false, true≢false, IsTrue, List, [], ◌∷◌, ◌++◌, refl, sym, ap, ◌∙◌, subst}
 use Rattle.oa_disk.specs.Disk.{LeavesOnly, LeavesStep}
 use Rattle.oa_disk.specs.Moments.{weakened}
 use Rattle.oa_disk.specs.declared.disk.Disk.{Ghosts}
@@ -16,6 +16,7 @@ use Rattle.oa_groups.specs.Turns.{exchange}
 use Rattle.oa_keeper.proofs.Committed.{nothing_called}
 use Rattle.oa_record.specs.Replacement.{is_replacement}
 use Rattle.oa_record.specs.Replies.{ReplyValue}
+use Rattle.oa_store.specs.Calls.{checkpoint_calls}
 use Rattle.oa_store.specs.Changes.{IsReplacement, IsReplaced as HasReplaced}
 use Rattle.oa_journal.specs.declared.shape.Shape.{Shape}
 use Rattle.oa_journal.specs.declared.shape.Shape.TheVariants.{Two}
@@ -24,7 +25,7 @@ use Rattle.oa_store.specs.declared.store.Store.{Store}
 use Rattle.oa_table.specs.Tables.{TableValue}
 use Rattle.oa_server.specs.OpenGroups.{grouping}
 use Rattle.oa_turn.specs.Replacing.{Replacement}
-use Rattle.oa_server.specs.Answers.{IsAnswered, IsRenewed, IsRenewedOrLate}
+use Rattle.oa_server.specs.Answers.{CallsForLibrary, IsAnswered, IsRenewed, IsRenewedOrLate}
 use Rattle.oa_server.specs.Requests.{IsAsked, faulted, requests, text_of_library}
 use Rattle.oa_turn.specs.Events.{held_of, is_done}
 use Rattle.oa_decision.specs.States.{State}
@@ -82,9 +83,14 @@ module _ {D : Type 0} {g : Ghosts D} (old new : Store D g) (before after : State
     );
   }
 
+-- a checkpoint of this text and this table makes as many calls
+pub as_many_calls : (text other : List ℕ) (table now : TableValue) (from to : ℕ) → text ≡ other → table ≡ now → from ≤ to + 2 * checkpoint_calls text table → from ≤ to + 2 * checkpoint_calls other now
+as_many_calls text other table now from to one two le =
+    subst (λ (t : TableValue). from ≤ to + 2 * checkpoint_calls other t) two (subst (λ (l : List ℕ). from ≤ to + 2 * checkpoint_calls l table) one le)
+
 -- ---- as a group of its own
 module _ {D : Type 0} {g : Ghosts D} (old new : Store D g) (before after : State) (body : List ℕ) (kind : is_replacement body ≡ true) (same : held_of after ≡ held_of before)
-    (moment : AllHoldState requests old before → LeavesState old new (λ c. HoldsState requests before c ⊎ HoldsState requests after c)) (each : new.stopped ≡ false → AllHoldState requests old before → AllHoldState requests new after) (goes : Goes old new) where
+    (moment : AllHoldState requests old before → LeavesState old new (λ c. HoldsState requests before c ⊎ HoldsState requests after c)) (each : new.stopped ≡ false → AllHoldState requests old before → AllHoldState requests new after) (calls : CallsForLibrary old new after) (goes : Goes old new) where
   asked : (due : ReplyValue) → Replacement before body due after → IsAsked (exchange body due []) before after
   asked due turn = record {
     turn = inr (record { kind = kind; turn = turn });
@@ -109,6 +115,7 @@ module _ {D : Type 0} {g : Ghosts D} (old new : Store D g) (before after : State
       each = each;
       goes = goes;
     };
+    calls = calls;
   }
 
   -- a call of the device failed in it
@@ -129,6 +136,7 @@ module _ {D : Type 0} {g : Ghosts D} (old new : Store D g) (before after : State
       each = each;
       goes = goes;
     };
+    calls = calls;
   }
 
 one_reply : (a b : ReplyValue) → a ∷ [] ≡ b ∷ [] → a ≡ b
@@ -168,6 +176,8 @@ module _ {D : Type 0} {g : Ghosts D} (only : (d : D) (c : List ℕ) → IsTrue (
     goes = is.replaced.goes;
     quiet = λ no plain. absurd (true≢false (sym kind ∙ plain));
     refused = λ no going asks undone. is.replaced.quiet (ap is_done (sym (is_due going)) ∙ undone);
+    calls = λ no plain. absurd (true≢false (sym kind ∙ plain));
+    library_calls = λ no asks. is.calls;
     served = λ no. served_apart;
   }
 

@@ -254,7 +254,7 @@ module _ {D : Type 0} {g : Ghosts D} (only : (d : D) (c : List ℕ) → IsTrue (
         alone : start.stopped ≡ true → length (bodies ++ body ∷ []) ≡ 1
         alone stopped = length_push bodies body ∙ ap (λ (l : List (List ℕ)). length l + 1) (was.short.1 stopped)
 
-        ends : open_group'.replies.items ≡ [] → (new.stopped ≡ false → open_group'.batch ≡ []) → (start.stopped ≡ false → IsWholeGroup size new first (bodies ++ body ∷ []) is.told after ⊎ EndsApart (bodies ++ body ∷ [])) → Steps (Disk start) first (Disk new) after open_group' (bodies ++ body ∷ []) replies
+        ends : open_group'.replies.items ≡ [] → (new.stopped ≡ false → open_group'.batch ≡ []) → (start.stopped ≡ false → IsWholeGroup size new first (bodies ++ body ∷ []) is.told after ⊎ EndsApart size first (bodies ++ body ∷ [])) → Steps (Disk start) first (Disk new) after open_group' (bodies ++ body ∷ []) replies
         ends none empty group = inr (record {
           told = is.told;
           are = is.are;
@@ -293,9 +293,25 @@ module _ {D : Type 0} {g : Ghosts D} (only : (d : D) (c : List ℕ) → IsTrue (
             none (inl going) = (filled.settled.well going).1
             none (inr stopped) = is.ready.late stopped
         by (inr (inr (inl faulted))) = ends (is.ready.late faulted.failed.stopped) (λ going. absurd (true≢false (sym faulted.failed.stopped ∙ going)))
-            (λ going. inl (group_faulted size first old before open_group.replies.items open_group.batch bodies (was.short.0 going) body faulted.failed.reply faulted.failed.event now is.told faulted.failed.turn faulted.failed.due faulted.failed.none faulted.failed.stopped))
-        by (inr (inr (inr (inr apart)))) = ends (on (either apart.mid.store.stopped)).0 (λ going. (on (either apart.mid.store.stopped)).1 going) (λ going. inr (record { front = bodies; last = body; are = refl; alone = apart.alone }))
+            (λ going. inl (group_faulted size first old before open_group.replies.items open_group.batch bodies (was.short.0 going) body faulted.failed.reply faulted.failed.event now is.told faulted.failed.turn faulted.failed.plain faulted.failed.due faulted.failed.none faulted.failed.stopped))
+        by (inr (inr (inr (inr apart)))) = ends (on (either apart.mid.store.stopped)).0 (λ going. (on (either apart.mid.store.stopped)).1 going) (λ going. inr (apart_of going))
           where
+            apart_of : start.stopped ≡ false → EndsApart size first (bodies ++ body ∷ [])
+            apart_of going =
+                let held = was.short.0 going in
+                record {
+                  front = bodies;
+                  last = body;
+                  are = refl;
+                  alone = apart.alone;
+                  plain = held.plain;
+                  group = held.held;
+                  front_is = held.bodies_are;
+                  state = before;
+                  run = held.run;
+                  short = held.short;
+                }
+
             on : (apart.mid.store.stopped ≡ false) ⊎ (apart.mid.store.stopped ≡ true) → (open_group'.replies.items ≡ []) × (new.stopped ≡ false → open_group'.batch ≡ [])
             on (inl going) = let one = (apart.going going).1 in (one.idle_still.0, λ here. one.idle_still.1)
             on (inr stopped) = let over = (apart.late stopped).1 in (is.ready.late over.is, λ here. absurd (true≢false (sym over.is ∙ here)))

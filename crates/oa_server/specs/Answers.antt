@@ -1,16 +1,18 @@
 -- What one body is answered over a store, and what a stop at any moment of that leaves. (This project's choice.)
-use Rattle.std.specs.Prelude.{◌≡◌, ◌⊎◌, ℕ, true, false, List, [], ◌∷◌, map}
+use Rattle.std.specs.Prelude.{◌≡◌, ◌⊎◌, ℕ, ◌+◌, ◌*◌, ◌≤◌, IsTrue, true, false, List, [], ◌∷◌, map}
+use Rattle.oa_canonical.specs.Canonical.{canonical}
 use Rattle.oa_disk.specs.declared.disk.Disk.{Ghosts}
 use Rattle.oa_groups.specs.Served.{IsServed}
 use Rattle.oa_store.specs.Writing.{Goes}
 use Rattle.oa_groups.specs.Groupings.{IsAnsweredAlone, LeavesState}
 use Rattle.oa_groups.specs.Runs.{AllHoldState, HoldsState}
 use Rattle.oa_groups.specs.Turns.{exchange}
-use Rattle.oa_server.specs.OpenGroups.{grouping}
+use Rattle.oa_server.specs.OpenGroups.{IsDueFor, grouping}
 use Rattle.oa_record.specs.Asks.{Asks}
 use Rattle.oa_record.specs.Replacement.{is_replacement}
 use Rattle.oa_record.specs.Replies.{ReplyValue}
 use Rattle.oa_record.specs.declared.request.Request.{Request}
+use Rattle.oa_store.specs.Calls.{checkpoint_calls}
 use Rattle.oa_store.specs.declared.store.Store.{Store}
 use Rattle.oa_turn.specs.Events.{change_bytes, is_done}
 use Rattle.oa_server.specs.Requests.{failed, faulted, requests}
@@ -22,6 +24,19 @@ use Rattle.oa_turn.specs.Turns.{Turn}
 -- whatever the body asks, no event comes of it
 abbrev pub MakesNoEvent : State → List ℕ → Type 0
 MakesNoEvent state body = (request : Request) → Asks body request → change_bytes (outcome state request).event ≡ []
+
+-- A body that keeps the library makes four calls of the device at most, and where a checkpoint is due before its event those of one beside
+-- them.
+abbrev pub CallsForOne : {D : Type 0} {g : Ghosts D} → Store D g → Store D g → State → List ℕ → Type 0
+CallsForOne {D} {g} old new before body =
+    (g.moment new.disk ≤ g.moment old.disk + 8)
+    ⊎ (IsDueFor old before [] body
+    × (g.moment new.disk ≤ g.moment old.disk + (2 * checkpoint_calls old.library.items before.table + 8)))
+
+-- One that asks for another library makes those of a checkpoint of it at most.
+abbrev pub CallsForLibrary : {D : Type 0} {g : Ghosts D} → Store D g → Store D g → State → Type 0
+CallsForLibrary {D} {g} old new after =
+    IsTrue (g.is_honest old.disk) → g.moment new.disk ≤ g.moment old.disk + 2 * checkpoint_calls (canonical after.library) after.table
 
 -- After a fault of the device a body is answered that the store has failed, and nothing is done. Before one it is answered by a turn,
 -- or a call of the device fails in it: then the reply says that, and the state is the one after some turn of the body.
@@ -42,6 +57,8 @@ pub record IsAnswered {D : Type 0} {g : Ghosts D} (old new : Store D g) (before 
   -- A body that makes no event makes no call of the device, and so none fails; nor does one of which no other library comes.
   pub quiet : old.stopped ≡ false → is_replacement body ≡ false → MakesNoEvent before body → (new.disk ≡ old.disk) × (new.stopped ≡ false)
   pub refused : old.stopped ≡ false → new.stopped ≡ false → is_replacement body ≡ true → is_done reply ≡ false → new.disk ≡ old.disk
+  pub calls : old.stopped ≡ false → is_replacement body ≡ false → IsTrue (g.is_honest old.disk) → CallsForOne old new before body
+  pub library_calls : old.stopped ≡ false → is_replacement body ≡ true → CallsForLibrary old new after
   -- it is a group of one, with its moments
   pub served : old.stopped ≡ false → IsServed requests 1 old new before after (body ∷ []) (reply ∷ [])
 
@@ -51,12 +68,14 @@ pub record RenewsStore {D : Type 0} {g : Ghosts D} (old new : Store D g) (before
   -- A stop at any moment leaves the old library or the new, with the table.
   pub any_moment : AllHoldState requests old before → LeavesState old new (λ c. HoldsState requests before c ⊎ HoldsState requests after c)
   pub each : new.stopped ≡ false → AllHoldState requests old before → AllHoldState requests new after
+  pub calls : CallsForLibrary old new after
   pub goes : Goes old new
 
 -- A body that asks for another library is answered, where no group is open: as a group of its own.
 pub record IsRenewed {D : Type 0} {g : Ghosts D} (old new : Store D g) (before after : State) (body : List ℕ) (reply : ReplyValue) : Type 0 where
   pub due : ReplyValue
   pub replaced : IsAnsweredAlone requests (exchange body due []) (reply ∷ []) (grouping old before [] []) (grouping new after [] [])
+  pub calls : CallsForLibrary old new after
 
 abbrev pub IsRenewedOrLate : {D : Type 0} {g : Ghosts D} → Store D g → Store D g → State → State → List ℕ → ReplyValue → Type 0
 IsRenewedOrLate old new before after body reply =

@@ -1,5 +1,5 @@
 -- A server at work over a store, and the open group. (This project's choice.)
-use Rattle.std.specs.Prelude.{◌≡◌, ◌⊎◌, ◌-◌, ◌<◌, ◌≤◌, ◌++◌, ℕ, true, false, List, [], length, vec_capacity, Result, IsOk, IsErrOf, OnOk, OnErr, ⊥}
+use Rattle.std.specs.Prelude.{◌≡◌, ◌⊎◌, ◌-◌, ◌<◌, ◌≤◌, ◌++◌, ◌+◌, ◌*◌, ℕ, IsTrue, true, false, List, [], length, vec_capacity, Result, IsOk, IsErrOf, OnOk, OnErr}
 use Rattle.oa_disk.specs.Disk.{HasCounted}
 use Rattle.oa_disk.specs.declared.disk.Disk.{Ghosts}
 use Rattle.oa_groups.specs.Groupings.{Grouping, IsDue}
@@ -10,6 +10,7 @@ use Rattle.oa_keeper.specs.Holding.{Carries}
 use Rattle.oa_keeper.specs.Kept.{HasRoom}
 use Rattle.oa_model.specs.Limits.{group_bytes, max_event_bytes}
 use Rattle.oa_record.specs.Replies.{ReplyValue}
+use Rattle.oa_store.specs.Calls.{checkpoint_calls}
 use Rattle.oa_store.specs.Writing.{Goes}
 use Rattle.oa_store.specs.declared.store.Store.{Store}
 use Rattle.oa_table.specs.Events.{BringsNoLocks}
@@ -63,6 +64,11 @@ IsDueFor store state events body = IsDue requests store state events body
 -- The device is called for a checkpoint alone, where one is due.
 abbrev pub CallsWhereDue : {D : Type 0} {g : Ghosts D} → Store D g → Store D g → State → List ℕ → List ℕ → Type 0
 CallsWhereDue old new state events body = (new.disk ≡ old.disk) ⊎ IsDueFor old state events body
+
+-- with the calls of one at most
+abbrev pub CallsForCheckpoint : {D : Type 0} {g : Ghosts D} → Store D g → Store D g → TableValue → Type 0
+CallsForCheckpoint {D} {g} old new table =
+    IsTrue (g.is_honest old.disk) → g.moment new.disk ≤ g.moment old.disk + 2 * checkpoint_calls old.library.items table
 
 -- What a turn over a store leaves of it. What was committed stands; no checkpoint is made that is not due; the store has stopped exactly
 -- where that failed.

@@ -1,5 +1,5 @@
 -- What opening a disk answers. (This project's choice.)
-use Rattle.std.specs.Prelude.{◌≡◌, ◌≢◌, ◌⊎◌, ℕ, List, Some, IsTrue, false, true}
+use Rattle.std.specs.Prelude.{◌≡◌, ◌≢◌, ◌⊎◌, ◌+◌, ◌≤◌, ℕ, List, length, Some, IsTrue, false, true}
 use Rattle.oa_disk.specs.declared.disk.Disk.{Ghosts}
 use Rattle.oa_groups.specs.Runs.{HoldsState}
 use Rattle.oa_canonical.specs.Canonical.{canonical}
@@ -78,6 +78,8 @@ pub record IsOpened {D : Type 0} (g : Ghosts D) (disk : D) (library : TreeValue)
   pub goes_on : store.stopped ≡ false
   pub size : g.size_of store.disk ≡ g.size_of disk
   pub unfailed : g.failures_of store.disk ≡ g.failures_of disk
+  -- at most ten calls, and one for two bytes of snapshot and groups
+  pub calls : IsTrue (g.is_honest store.disk) → g.moment store.disk + length (canonical library) ≤ g.moment disk + (20 + store.bank.gate)
   pub found : IsTrue (g.is_honest store.disk) → IsFound g disk library store table
 
 -- What a refusal says of an honest disk: it is true of the contents at the start, and nothing was written.

@@ -6,7 +6,7 @@ use Rattle.oa_frame.specs.Sessions.{Session, joined}
 use Rattle.oa_frame.specs.declared.session.Served.{Served}
 use Rattle.oa_groups.specs.Groupings.{IsEnded, IsTaken}
 use Rattle.oa_groups.specs.Faults.{IsWhole}
-use Rattle.oa_groups.specs.Groups.{is_full}
+use Rattle.oa_groups.specs.Groups.{NoneAlone, is_full}
 use Rattle.oa_groups.specs.Runs.{TurnsOver}
 use Rattle.oa_groups.specs.Sessions.{AnsweredCall}
 use Rattle.oa_groups.specs.Turns.{Exchange, body_of, reply_of}
@@ -111,37 +111,46 @@ handed_of [] = []
 handed_of (part ∷ parts) = at_last part.bodies (map reply_record part.told) ++ handed_of parts
 
 -- The last of these bodies ends a group: it fills it, or the checkpoint before its event, the group's first, has failed. Before it no
--- group is whole.
+-- group is whole, and none of them is a group of its own.
 pub record IsWholeGroup {D : Type 0} {g : Ghosts D} (size : ℕ) (new : Store D g) (before : State) (bodies : List (List ℕ))
     (told : List ReplyValue) (after : State) : Type 0 where
   pub group : List (Exchange ReplyValue)
   pub bodies_are : bodies ≡ map body_of group
+  pub plain : NoneAlone is_replacement bodies
   pub run : TurnsOver requests before group after
   pub short : (front : List (Exchange ReplyValue)) (last : Exchange ReplyValue) → group ≡ front ++ last ∷ [] → is_full size front ≡ false
   pub ends : IsWhole requests size before group
   pub whole : new.stopped ≡ false → (is_full size group ≡ true) × (told ≡ map reply_of group)
 
--- These bodies are no group yet: another request could have come to them.
+-- These bodies are no group yet: another request could have come to them. None of them is a group of its own.
 pub record IsNoGroupYet {D : Type 0} {g : Ghosts D} (size : ℕ) (new : Store D g) (before : State) (bodies : List (List ℕ))
     (told : List ReplyValue) (after : State) : Type 0 where
   pub held : List (Exchange ReplyValue)
   pub bodies_are : bodies ≡ map body_of held
+  pub plain : NoneAlone is_replacement bodies
   pub run : TurnsOver requests before held after
   pub short : is_full size held ≡ false
   pub told_are : new.stopped ≡ false → told ≡ map reply_of held
 
--- The last of these bodies is a group of its own, and ends the group before it, whose replies are handed out at it too.
-pub record EndsApart (bodies : List (List ℕ)) : Type 0 where
+-- The last of these bodies is a group of its own, and ends the group before it, whose replies are handed out at it too: that was not
+-- whole yet, and none of its bodies is a group of its own.
+pub record EndsApart (size : ℕ) (before : State) (bodies : List (List ℕ)) : Type 0 where
   pub front : List (List ℕ)
   pub last : List ℕ
   pub are : bodies ≡ front ++ last ∷ []
   pub alone : is_replacement last ≡ true
+  pub plain : NoneAlone is_replacement front
+  pub group : List (Exchange ReplyValue)
+  pub front_is : front ≡ map body_of group
+  pub state : State
+  pub run : TurnsOver requests before group state
+  pub short : is_full size group ≡ false
 
--- So one group over a store; in memory, and after a fault of the device, one body.
+-- So one group over a store, or the open one and the body that ends it; in memory, and after a fault of the device, one body.
 abbrev pub EndsGroup : {D : Type 0} {g : Ghosts D} → ℕ → Storage D g → Storage D g → State → List (List ℕ) → List ReplyValue
     → State → Type 0
 EndsGroup size (Disk old) (Disk new) before bodies told after =
-    (old.stopped ≡ false → IsWholeGroup size new before bodies told after ⊎ EndsApart bodies) × (old.stopped ≡ true → length bodies ≡ 1)
+    (old.stopped ≡ false → IsWholeGroup size new before bodies told after ⊎ EndsApart size before bodies) × (old.stopped ≡ true → length bodies ≡ 1)
 EndsGroup size (Disk old) (Memory new) before bodies told after = ⊥
 EndsGroup size (Memory old) new before bodies told after = length bodies ≡ 1
 
@@ -153,7 +162,7 @@ EndsBefore size (Disk old) (Disk new) before bodies told after =
 EndsBefore size (Disk old) (Memory new) before bodies told after = ⊥
 EndsBefore size (Memory old) new before bodies told after = bodies ≡ []
 
--- A part is a call of its own, of so many bodies at most, and one group.
+-- A part is a call of its own, of so many bodies at most, and one group, or two where its last body is a group of its own.
 pub record IsPart {D : Type 0} {g : Ghosts D} (size : ℕ) (old new : Storage D g) (before : State) (part : Part)
     (after : State) : Type 0 where
   pub few : length part.bodies ≤ size
@@ -171,9 +180,9 @@ abbrev pub calls_of : ℕ → List Part → List (AnsweredCall ReplyValue)
 calls_of size [] = []
 calls_of size (part ∷ parts) = record { size = size; bodies = part.bodies; replies = part.told } ∷ calls_of size parts
 
--- The bodies of a session part by part: the replies of each, one group, are handed out at its last body, that is, before the next one
--- is read, and are those of a call that is over by then. What the open group holds at the end is no group yet; it is a call too, whose replies are
--- handed out then.
+-- The bodies of a session part by part: the replies of each are handed out at its last body, that is, before the next one is read, and are
+-- those of a call that is over by then. What the open group holds at the end is no group yet; it is a call too, whose replies are handed
+-- out then.
 pub record InParts {D : Type 0} {g : Ghosts D} (size : ℕ) (old new : Storage D g) (before after : State) (bodies : List (List ℕ))
     (handed : List (List (List ℕ))) (held : List (List ℕ)) : Type 0 where
   pub parts : List Part

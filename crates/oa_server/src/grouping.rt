@@ -171,7 +171,12 @@ fn take_apart<D: Disk>(
 }
 
 /// The input has ended: the open group has ended, whose replies are to be handed out.
-pub(crate) fn finish<D: Disk>(alloc: Global, host: &Host, store: &mut Store<D>, open_group: &mut OpenGroup)
+pub(crate) fn finish<D: Disk>(
+    alloc: Global,
+    host: &Host,
+    store: &mut Store<D>,
+    open_group: &mut OpenGroup,
+)
     requires ready { CanTake store.old open_group.old }
     ensures ended { IsEnded requests open_group.new.replies.items (grouping_of store.old host.now open_group.old)
         (cleared_grouping store.new host.now open_group.new) }

@@ -3,7 +3,7 @@ ghost use Rattle.std.specs.Prelude.{◌≡◌, ◌++◌, List, ℕ, false, IfOk,
 ghost use Rattle.oa_image.specs.Events.{event_image};
 ghost use Rattle.oa_keeper.specs.Holding.{IsOpenFor};
 ghost use Rattle.oa_record.specs.Replacement.{is_replacement};
-ghost use Rattle.oa_server.specs.OpenGroups.{CallsForRoom, CallsWhereDue, CanBeMade, HasBanks, HoldsOn, IsAdded, IsCutOff, MakesWay};
+ghost use Rattle.oa_server.specs.OpenGroups.{CallsForCheckpoint, CallsForRoom, CallsWhereDue, CanBeMade, HasBanks, HoldsOn, IsAdded, IsCutOff, MakesWay};
 ghost use Rattle.oa_server.specs.Requests.{IsHeldBack};
 ghost use Rattle.oa_server.specs.declared.fault.HoldFault.{HoldFault};
 ghost use Rattle.oa_turn.specs.Changes.{MakesChange};
@@ -38,6 +38,7 @@ pub(crate) fn turn_held<D: Disk>(
     ensures failed { OnErr result (IsCutOff store.old body.now batch.old batch.new host.old host.new) }
     // The device is called for a checkpoint alone, where one is due before an event of the body.
     ensures calls { CallsWhereDue store.old store.new host.old batch.old body.now }
+    ensures once { CallsForCheckpoint store.old store.new host.old.table }
     ensures holds { HoldsOn batch.old batch.new (held_of host.old) store.old store.new result }
     ensures banks { HasBanks store.new host.new }
 {
@@ -65,6 +66,7 @@ fn hold<D: Disk>(
     // The device is called for a checkpoint alone, where one is due before the event.
     ensures calls { (body : List ℕ) → is_replacement body ≡ false → IsPlanned host.old body planned
         → CallsWhereDue store.old store.new host.old batch.old body }
+    ensures once { CallsForCheckpoint store.old store.new host.old.table }
     ensures holds { HoldsOn batch.old batch.new (held_of host.old) store.old store.new result }
     ensures banks { HasBanks store.new host.new }
 {
@@ -94,6 +96,7 @@ fn hold_change<D: Disk>(
     ensures same { OnErr result (batch.new ≡ batch.old) }
     // It is the first event of a group before which the device is called, and no checkpoint is made that is not due.
     ensures calls { CallsForRoom batch.old batch.new store.old store.new result }
+    ensures once { CallsForCheckpoint store.old store.new host.old.table }
     ensures way { MakesWay batch.old (held_of host.old) store.old store.new result }
 {
     is_event(&event);

@@ -53,7 +53,13 @@ impl<D: Disk> Responder for Engine<D> {
                 put_reply(framing, writer, &reply.head(), reply.body())
             }
             Storage::Disk(store) => {
-                if !take(self.alloc, &mut self.host, store, &mut self.open_group, body) {
+                if !take(
+                    self.alloc,
+                    &mut self.host,
+                    store,
+                    &mut self.open_group,
+                    body,
+                ) {
                     return Ok(());
                 }
                 put_held(framing, writer, &mut self.open_group.replies)
@@ -115,10 +121,12 @@ fn put_replies<W: Sink>(
 }
 
 impl<D: Disk> Server<D> {
-    /// Answers the bodies of a reader, a line of hexadecimal digits each, by lines on a writer. `group` is from 1 to 1,024: over a store
-    /// the changes of so many requests are committed together, and their replies are written behind that; in memory each reply is written
-    /// before the next line is read. At the end the open group is committed and its replies are written. All replies that are written are
-    /// handed on before each wait for more input. Err only where memory is refused before anything was read.
+    /// Answers the bodies of a reader, a line of hexadecimal digits each, by lines on a writer. An empty line ends the session; a line has
+    /// at most 8,388,608 characters, and a longer one ends it as TooLong. `group` is from 1 to 1,024: over a store the changes of so many
+    /// requests are committed together, and their replies are written behind that; REPLACE LIBRARY ends the open group, and is one of its
+    /// own. In memory each reply is written before the next line is read. At the end the open group is committed and its replies are
+    /// written. All replies that are written are handed on before each wait for more input. Err only where memory is refused before anything
+    /// was read.
     pub fn serve_hex<R: Source + Drop, W: Sink>(
         &mut self,
         reader: &mut Ahead<R>,
@@ -139,7 +147,8 @@ impl<D: Disk> Server<D> {
         session_with(&mut self.engine, Framing::HexLines, reader, writer, group)
     }
 
-    /// The same of records: each body and each reply stands behind its length, a u32. A length of 0 ends the session.
+    /// The same of records: each body and each reply stands behind its length in bytes, a u32, little-endian. That of a body is at most
+    /// 4,194,304; a longer one ends the session as TooLong, and a length of 0 as Closed.
     pub fn serve<R: Source + Drop, W: Sink>(
         &mut self,
         reader: &mut Ahead<R>,

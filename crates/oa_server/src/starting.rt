@@ -44,7 +44,7 @@ fn can_serve(bank: u32, library: &Library, table: &Table) -> bool
 
 /// Opens the store of this library that is on the disk. It writes nothing, and begins with a sync. A refusal hands the disk back; it is
 /// Damaged(0) also where no server of the library can begin with the table over banks of that size.
-pub(crate) fn open_store<D: Disk>(
+fn open_store<D: Disk>(
     alloc: Global,
     disk: D,
     library: &Library,
@@ -64,9 +64,13 @@ pub(crate) fn open_store<D: Disk>(
 }
 
 impl<D: Disk> Server<D> {
-    /// Opens the store of this library that is on the disk, and serves its table. It writes nothing, and begins with a sync. A refusal
-    /// hands the disk back; it is Damaged(0) also where the library cannot have the table, or a bank has no room for its image. Locks end
-    /// with a session: the table has none.
+    /// Opens the store of this library that is on the disk, and serves its table. It writes nothing, and begins with a sync. Locks end with
+    /// a session: the table has none.
+    ///
+    /// A refusal hands the disk back. It is that of `Store::open`, which looks at the size and the first byte (NotAStore), the head of the
+    /// bank (Damaged), its format (OldFormat), its library (LibraryDiffers), its snapshot and its groups (Damaged), and is Device or Memory
+    /// wherever a call of the device fails or memory is refused; and then Damaged(0) where the library cannot have the table, or a bank has
+    /// no room for its image.
     pub fn open(alloc: Global, disk: D, library: Library) -> Result<Server<D>, (D, OpenFault)>
         ensures library { IfOk result (λ server. server.engine.host.library ≡ library) }
         ensures bank { IfOk result (λ server. server.engine.host.bank ≡ bank_of server.engine.storage) }

@@ -1,4 +1,4 @@
-use Rattle.std.proofs.Common.{ap, rules, sym, ◌∙◌}
+use Rattle.std.proofs.Common.{ap, arith, rules, sym, ◌∙◌}
 use Rattle.oa_keeper.proofs.Committed.{still_carried}
 use Rattle.oa_turn.specs.Events.{held_of}
 use Rattle.oa_turn.proofs.SameLibrary.{ordinary_bank}
@@ -31,3 +31,9 @@ returns-in-Change-clause-holds g c =
 
 pub returns-in-Answered-clause-banks : goal.returns-in-Answered-clause-banks
 returns-in-Answered-clause-banks g c = c.requires.banks ∙ sym (ordinary_bank c.args.host.now c.plan.new.self c.args.body.now c.in-Answered.reply c.in-Answered.ensures.plans.0)
+
+pub returns-in-Answered-clause-once : goal.returns-in-Answered-clause-once
+returns-in-Answered-clause-once g c honest = omega arith
+
+pub returns-in-Change-clause-once : goal.returns-in-Change-clause-once
+returns-in-Change-clause-once g c = rw c.in-Change.ensures.plans.2 at c.hold.ensures.once

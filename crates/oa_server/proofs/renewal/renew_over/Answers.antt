@@ -1,11 +1,12 @@
-use Rattle.std.proofs.Common.{rules, ap, refl, sym, ◌∙◌, true≢false, None}
+use Rattle.std.proofs.Common.{rules, arith, ap, refl, sym, ◌∙◌, true≢false, None}
 use Rattle.oa_journal.specs.Banks.{first_gate}
 use Rattle.oa_model.specs.Codes.{s_ok}
 use Rattle.oa_record.specs.Asks.{tag_at}
 use Rattle.oa_table.specs.Tables.{unlocked_table}
 use Rattle.oa_decision.specs.States.{state_of}
 use Rattle.oa_decision.specs.Decided.{refusal}
-use Rattle.oa_server.proofs.Renewing.{at_last, meanwhile, still}
+use Rattle.oa_canonical.specs.Canonical.{canonical}
+use Rattle.oa_server.proofs.Renewing.{as_many_calls, at_last, meanwhile, still}
 use Rattle.oa_turn.proofs.Renewing.{replaces}
 use Rattle.oa_server.proofs.renewal.renew_over.Goals as goal
 
@@ -14,6 +15,7 @@ returns-in-Answered-clause-renews g c = record {
   same = search rules;
   any_moment = still {g = g.D.Disk} (λ d f honest since. g.met.D.Disk.only_now d f honest since) c.args.store.now c.args.host.now c.args.host.now c.args.store.now.disk refl;
   each = λ going all. all;
+  calls = λ honest. omega arith;
   goes = search rules;
 }
 
@@ -29,6 +31,7 @@ returns-in-Ok-clause-renews g c =
       any_moment = meanwhile {g = g.D.Disk} c.args.store.now c.checkpoint_with.new.self before after text (first_gate text table) (unlocked_table table) c.text_of.ensures.text held held refl c.checkpoint_with.ensures.leaves.any_moment;
       each = λ going. at_last {g = g.D.Disk} c.args.store.now c.checkpoint_with.new.self before after text (first_gate text table) (unlocked_table table) c.text_of.ensures.text held held refl
           c.checkpoint_with.ensures.goes.shape c.in-Ok.ensures.switches.chosen c.in-Ok.ensures.switches.gate c.in-Ok.ensures.switches.library c.checkpoint_with.ensures.goes.honest c.in-Ok.ensures.leaves.done;
+      calls = λ honest. as_many_calls text (canonical c.in-Renewed.library) table before.table (g.D.Disk.moment c.checkpoint_with.new.self.disk) (g.D.Disk.moment c.args.store.now.disk) c.text_of.ensures.text c.table.ensures.table (c.checkpoint_with.ensures.calls honest);
       goes = c.checkpoint_with.ensures.goes;
     })
 
@@ -47,6 +50,7 @@ returns-in-Err-Device g c =
         same = rw c.replace_library-in-Err-Device.ensures refl;
         any_moment = rw c.replace_library-in-Err-Device.ensures (meanwhile {g = g.D.Disk} c.args.store.now c.checkpoint_with.new.self before after text (first_gate text table) (unlocked_table table) c.text_of.ensures.text held held refl c.checkpoint_with.ensures.leaves.any_moment);
         each = λ going. absurd (true≢false (sym stopped ∙ going));
+        calls = rw c.replace_library-in-Err-Device.ensures (λ honest. as_many_calls text (canonical c.in-Renewed.library) table before.table (g.D.Disk.moment c.checkpoint_with.new.self.disk) (g.D.Disk.moment c.args.store.now.disk) c.text_of.ensures.text c.table.ensures.table (c.checkpoint_with.ensures.calls honest));
         goes = c.checkpoint_with.ensures.goes;
       };
       quiet = tt;

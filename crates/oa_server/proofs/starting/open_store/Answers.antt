@@ -1,4 +1,4 @@
-use Rattle.std.proofs.Common.{rules, List, ℕ, inl, inr, refl, subst, sym, true≢false}
+use Rattle.std.proofs.Common.{rules, ◌+◌, ◌≤◌, List, length, ℕ, inl, inr, refl, subst, sym, true≢false}
 use Rattle.std.proofs.lemmas.Result.{err_from_is_err_and}
 use Rattle.oa_canonical.specs.Canonical.{canonical}
 use Rattle.oa_journal.specs.Shapes.{body_bytes}
@@ -28,6 +28,7 @@ returns-then-can_serve-clause-opened g c =
       goes_on = search rules;
       size = c.in_ok-store.ensures.after.size;
       unfailed = c.in_ok-store.ensures.after.unfailed;
+      calls = λ h. subst (λ (text : List ℕ). g.D.Disk.moment store.disk + length text ≤ g.D.Disk.moment disk + (20 + store.bank.gate)) c.text_of.ensures.text (c.in_ok-store.ensures.found.calls h);
       found = λ h.
           let honest = c.in_ok-store.ensures.after.honest h in
           let there = of_text library c.text_of.result.now contents c.text_of.ensures.text shape table (store.chosen, store.bank.gate, c.in_ok-store.ensures.found.contents h) in

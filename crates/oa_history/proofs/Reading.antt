@@ -1,5 +1,5 @@
 -- What a store shows of a state that its disk holds.
-use Rattle.std.proofs.Common.{◌≡◌, ⊎_elim, inl, inr, ℕ, Bool, true, false, List, [], ◌∷◌, Option, None, Some, length, map, refl, sym, ◌∙◌, ap, subst, arith}
+use Rattle.std.proofs.Common.{Err, ◌≡◌, ⊎_elim, inl, inr, ℕ, Bool, true, false, List, [], ◌∷◌, Option, None, Some, length, map, refl, sym, ◌∙◌, ap, subst, arith}
 use Rattle.std.specs.List.{list_any}
 use Rattle.std.specs.Prelude.{if◌then◌else◌}
 use Rattle.oa_canonical.specs.Canonical.{canonical}
@@ -9,6 +9,9 @@ use Rattle.oa_idl.specs.Trees.{TreeValue}
 use Rattle.oa_idl.specs.declared.items.Item.{Item}
 use Rattle.oa_idl.specs.declared.items.Item.TheVariants.{Interface, Coclass}
 use Rattle.oa_idl.specs.declared.parts.Entry.{Entry}
+use Rattle.oa_keeps.specs.LibraryTexts.{IsTextOf, StandsFor}
+use Rattle.oa_keeps.specs.declared.library_text.TextError.{TextError}
+use Rattle.oa_keeps.specs.declared.library_text.TextError.TheVariants as texts
 use Rattle.oa_journal.specs.Bank.{HasHeader, from_place}
 use Rattle.oa_journal.proofs.Banks.{bank_header}
 use Rattle.oa_journal.specs.Damages.{IsDamagedBody}
@@ -23,6 +26,7 @@ use Rattle.oa_store.specs.declared.fault.OpenFault.TheVariants.{NotAStore, OldFo
 use Rattle.oa_table.specs.Tables.{TableValue}
 use Rattle.oa_typelib.specs.Checked.{IsChecked}
 use Rattle.oa_checks.specs.IsLibrary.{IsLibrary}
+use Rattle.oa_history.specs.Kept.{IsUnread}
 
 -- ---- a store is not refused by whoever wants any library
 
@@ -120,3 +124,8 @@ module _ (one_tree : (text : List ℕ) (s t : TreeValue) → IsTree text s → I
   library_again text library t checked same is =
       let tree : is.tree ≡ t = one_tree (canonical t) is.tree t (subst (λ (l : List ℕ). IsTree l is.tree) same is.stands) (read t checked) in
       is.says ∙ ap marked tree ∙ library_marked t checked
+
+-- the text of a library was not read
+pub unread : (text : List ℕ) (library : TreeValue) (fault : TextError) → IsChecked library → text ≡ canonical library → IsTextOf text (Err fault) → IsUnread fault
+unread text library texts.NoLibrary checked same none = (library, checked, λ stands. none library (subst (λ (l : List ℕ). StandsFor l library) (sym same) stands))
+unread text library texts.Memory checked same none = tt

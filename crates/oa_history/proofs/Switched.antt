@@ -1,5 +1,5 @@
 -- What a checkpoint and its stop leave of a state.
-use Rattle.std.proofs.Common.{◌≡◌, ⊎_elim, ℕ, ◌+◌, ◌-◌, ◌≤◌, List, length, sym, ◌∙◌, ap, subst}
+use Rattle.std.proofs.Common.{◌≡◌, ⊎_elim, ℕ, ◌+◌, ◌*◌, ◌-◌, ◌≤◌, List, length, sym, ◌∙◌, ap, subst, arith}
 use Rattle.oa_disk.specs.Disk.{Follows, LeavesStep, NothingPending}
 use Rattle.oa_disk.specs.declared.disk.Disk.{Ghosts}
 use Rattle.oa_groups.specs.Runs.{HoldsState}
@@ -13,6 +13,7 @@ use Rattle.oa_turn.specs.Beginnings.{CanBegin}
 use Rattle.oa_turn.specs.Events.{held_of}
 use Rattle.oa_server.specs.Requests.{opened, requests}
 use Rattle.oa_decision.specs.States.{State}
+use Rattle.oa_store.specs.Calls.{checkpoint_calls}
 use Rattle.oa_store.specs.Changes.{IsSwitch, IsSwitched}
 use Rattle.oa_store.specs.OneStore.{AreSameStores}
 use Rattle.oa_store.proofs.OneStore.{one_store}
@@ -20,6 +21,10 @@ use Rattle.oa_store.specs.Reads.{WritesNothing}
 use Rattle.oa_store.specs.Stores.{IsStoreAt}
 use Rattle.oa_store.specs.declared.store.Store.{Store}
 use Rattle.oa_table.specs.Tables.{TableValue, unlocked_table}
+
+-- the calls of an opening, and of a checkpoint behind it
+pub within : (start mid end short gate one other : ℕ) → start ≡ 0 → mid + short ≤ start + (20 + gate) → end ≤ mid + 2 * one → one ≡ other → end + short ≤ 20 + gate + 2 * other
+within start mid end short gate one other begins opens makes same = omega (arith, begins, opens, makes, same)
 
 -- a store was opened on a disk that holds the state
 module _ {D : Type 0} (g : Ghosts D) (disk : D) (state : State) (holds : HoldsState requests state (g.contents disk)) (store : Store D g) (text : List ℕ) (table : TableValue)
@@ -41,6 +46,12 @@ module _ {D : Type 0} (g : Ghosts D) (disk : D) (state : State) (holds : HoldsSt
 
   pub next_is : first_gate text table ≡ first_gate (canonical state.library) (held_of state)
   next_is = ap (λ (l : List ℕ). first_gate l table) same.library_same ∙ ap (λ (t : TableValue). first_gate (canonical state.library) t) same.table_same
+
+  pub text_is : text ≡ canonical state.library
+  text_is = same.library_same
+
+  pub as_many_calls : checkpoint_calls text table ≡ checkpoint_calls (canonical state.library) (held_of state)
+  as_many_calls = ap (λ (l : List ℕ). checkpoint_calls l table) same.library_same ∙ ap (λ (t : TableValue). checkpoint_calls (canonical state.library) t) same.table_same
 
   -- a checkpoint was made of it
   module _ (found : (c : List ℕ) → g.image store.disk c → IsStoreAt store.bank.shape store.chosen store.bank.gate text table c) (locks : unlocked_table table ≡ table) (new : Store D g) (next : ℕ) where

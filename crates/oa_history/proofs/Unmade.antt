@@ -20,7 +20,7 @@ pub unmade : (size : ℕ) (fault : HistoryFault) → IsWanting fault → IsUnmad
 unmade size (histories.Format fault) wanting = absurd wanting
 unmade size (histories.Open fault) wanting = wanting
 unmade size (histories.Checkpoint fault) wanting = wanting
-unmade size (histories.Text fault) wanting = tt
+unmade size (histories.Text fault) wanting = wanting
 unmade size histories.Memory wanting = tt
 
 -- a checkpoint of a store that goes on fails by a write

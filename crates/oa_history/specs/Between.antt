@@ -1,5 +1,5 @@
 -- What stands beside sessions: a new store, and a checkpoint.
-use Rattle.std.specs.Prelude.{◌≡◌, ◌⊎◌, ℕ, ◌-◌, true, min, List}
+use Rattle.std.specs.Prelude.{◌≡◌, ◌⊎◌, ℕ, ◌+◌, ◌*◌, ◌-◌, ◌≤◌, IsTrue, true, min, List, length}
 use Rattle.oa_disk.specs.Disk.{Torn}
 use Rattle.oa_disk.specs.Memory.{IsTornAt, image_of, moments_of}
 use Rattle.oa_disk.specs.declared.crash.Tear.{Tear}
@@ -15,6 +15,7 @@ use Rattle.oa_journal.specs.declared.shape.Shape.TheVariants.{Two}
 use Rattle.oa_turn.specs.Events.{held_of}
 use Rattle.oa_decision.specs.States.{State}
 use Rattle.oa_server.specs.Requests.{requests}
+use Rattle.oa_store.specs.Calls.{checkpoint_calls, format_calls}
 use Rattle.oa_store.specs.Changes.{IsNoneOrFirst}
 use Rattle.oa_store.specs.Reads.{WritesNothing}
 use Rattle.oa_store.specs.Stores.{IsStoreAt}
@@ -23,11 +24,12 @@ use Rattle.oa_table.specs.Tables.{TableValue, unlocked_table}
 use Rattle.oa_history.specs.declared.session.Stop.{Stop}
 
 -- A disk that held this was formatted with the library, and stopped: it holds the same but for the first byte, or no store, or the new
--- one; and that is what a crash of the disk at the moment of the stop leaves, as the tear says.
+-- one; and that is what a crash of the disk at the moment of the stop leaves, as the tear says. It made the calls of one format at most.
 pub record IsStoppedFormatting (found : List ℕ) (library : TreeValue) (moment : ℕ) (tear : Tear) (disk : MemoryDisk)
     (left : List ℕ) : Type 0 where
   pub either : Torn 0 1 found left ⊎ IsNoneOrFirst default_bank_bytes (canonical library) left
   pub torn : IsTornAt disk tear (min moment (moments_of disk)) left
+  pub calls : moments_of disk ≤ 2 * format_calls (canonical library)
 
 -- A store was opened on the disk: what is read is that store, and each image is, once it was opened, which wrote nothing.
 pub record IsFoundStore {D : Type 0} {g : Ghosts D} (disk : D) (store : Store D g) (table : TableValue) : Type 0 where
@@ -36,9 +38,11 @@ pub record IsFoundStore {D : Type 0} {g : Ghosts D} (disk : D) (store : Store D 
   pub unlocked : unlocked_table table ≡ table
   pub numbered : is_numbered table ≡ true
   pub reads : WritesNothing g.image g.moment g.image_since disk store.disk
+  pub calls : IsTrue (g.is_honest store.disk) → g.moment store.disk + length store.library.items ≤ g.moment disk + (20 + store.bank.gate)
 
 -- The store of the state that was found in one bank stands in the other one, without groups, once the last call of the disk has ended. What
--- is left is what a crash of the disk at the moment of the stop leaves, as the tear says, and holds the state, wherever that is.
+-- is left is what a crash of the disk at the moment of the stop leaves, as the tear says, and holds the state, wherever that is. It made the
+-- calls of one opening and of one checkpoint at most.
 pub record IsCheckpointed (found : List ℕ) (stop : Stop) (disk : MemoryDisk) (left : List ℕ) (state : State) : Type 0 where
   pub chosen : ℕ
   pub gate : ℕ
@@ -46,4 +50,5 @@ pub record IsCheckpointed (found : List ℕ) (stop : Stop) (disk : MemoryDisk) (
   pub is : (c : List ℕ) → image_of disk c
       → IsStoreAt (Two state.bank) (1 - chosen) (first_gate (canonical state.library) (held_of state)) (canonical state.library) (held_of state) c
   pub torn : IsTornAt disk stop.tear (min stop.moment (moments_of disk)) left
+  pub calls : moments_of disk + length (canonical state.library) ≤ 20 + gate + 2 * checkpoint_calls (canonical state.library) (held_of state)
   pub holds : HoldsState requests state left

@@ -5,8 +5,13 @@ use Rattle.oa_disk.specs.Memory.{contents_of, image_of, moments_of}
 use Rattle.oa_disk.specs.declared.disk.DeviceFault.TheVariants as devices
 use Rattle.oa_disk.specs.declared.disk.Disk.{Ghosts}
 use Rattle.oa_disk.specs.declared.memory.MemoryDisk.{MemoryDisk}
+use Rattle.oa_canonical.specs.Canonical.{canonical}
 use Rattle.oa_groups.specs.Runs.{HoldsState}
 use Rattle.oa_groups.specs.Sessions.{Sitting}
+use Rattle.oa_idl.specs.Trees.{TreeValue}
+use Rattle.oa_keeps.specs.LibraryTexts.{StandsFor}
+use Rattle.oa_keeps.specs.declared.library_text.TextError.{TextError}
+use Rattle.oa_keeps.specs.declared.library_text.TextError.TheVariants as texts
 use Rattle.oa_turn.specs.Beginnings.{CanBegin}
 use Rattle.oa_server.specs.Requests.{opened, requests}
 use Rattle.oa_decision.specs.States.{State}
@@ -17,6 +22,7 @@ use Rattle.oa_store.specs.declared.fault.FormatFault.{FormatFault}
 use Rattle.oa_store.specs.declared.fault.FormatFault.TheVariants as formats
 use Rattle.oa_store.specs.declared.fault.WriteFault.TheVariants as writes
 use Rattle.oa_store.specs.declared.store.Store.{Store}
+use Rattle.oa_typelib.specs.Checked.{IsChecked}
 use Rattle.oa_history.specs.declared.fault.HistoryFault.{HistoryFault}
 use Rattle.oa_history.specs.declared.fault.HistoryFault.TheVariants.{Format, Open, Checkpoint, Text, Memory}
 
@@ -40,12 +46,17 @@ pub record BeginsServing {D : Type 0} {g : Ghosts D} (disk : D) (server : Server
   pub host : server.engine.host ≡ state
   pub over : OverStore server.engine.storage (λ store. Sits disk store state)
 
+-- Why the canonical text of a library was not read: it is that of none, or memory was refused.
+abbrev pub IsUnread : TextError → Type 0
+IsUnread texts.NoLibrary = (library : TreeValue) × IsChecked library × (StandsFor (canonical library) library → ⊥)
+IsUnread texts.Memory = ⊤
+
 -- Why a store that stands has no history: memory is wanting, or room on the disk, or a call of it has failed. No opening was refused.
 abbrev pub IsWanting : HistoryFault → Type 0
 IsWanting (Format fault) = ⊥
 IsWanting (Open fault) = SpeaksOfContents fault → ⊥
 IsWanting (Checkpoint fault) = fault ≡ writes.Device devices.Write
-IsWanting (Text fault) = ⊤
+IsWanting (Text fault) = IsUnread fault
 IsWanting Memory = ⊤
 
 -- it says no more than that of a disk of this size: one is too small where it has no room for a store
@@ -59,5 +70,5 @@ abbrev pub IsUnmade : ℕ → HistoryFault → Type 0
 IsUnmade size (Format fault) = IsUnformatted size fault
 IsUnmade size (Open fault) = SpeaksOfContents fault → ⊥
 IsUnmade size (Checkpoint fault) = fault ≡ writes.Device devices.Write
-IsUnmade size (Text fault) = ⊤
+IsUnmade size (Text fault) = IsUnread fault
 IsUnmade size Memory = ⊤

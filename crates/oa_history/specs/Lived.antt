@@ -98,10 +98,11 @@ Lives found before (step ∷ steps) (heard ∷ others) left after =
 Lives found before [] (heard ∷ others) left after = ⊥
 Lives found before (step ∷ steps) [] left after = ⊥
 
--- What is played on a new store of a state, and told at last: a server that was opened on what is left, and serves the state that this is a
--- store of; the store's library, and its table.
-pub record IsLived (state : State) (steps : List Step) (lived : Lived) : Type 0 where
+-- What is played on a new store of a state, on a disk of so many bytes, and told at last: a server that was opened on what is left, and
+-- serves the state that this is a store of; the store's library, and its table.
+pub record IsLived (bytes : ℕ) (state : State) (steps : List Step) (lived : Lived) : Type 0 where
   pub new : List ℕ
+  pub size : length new ≡ bytes
   pub holds : HoldsState requests state new
   pub left : List ℕ
   pub last : State

@@ -14,7 +14,7 @@ use Rattle.oa_history.specs.Stops.{Done}
 use Rattle.oa_history.specs.declared.session.Input.{Input}
 use Rattle.oa_history.specs.declared.session.Written.{Written}
 
--- The parts of a session over a stream as calls: each is one group, and over at the moment at which its replies are handed out.
+-- The parts of a session over a stream as calls: each is over at the moment at which its replies are handed out.
 abbrev pub parts_of : {D : Type 0} {g : Ghosts D} (size : ℕ) (old new : Storage D g) (before after : State) (parts : List Part)
     → Parts size old new before parts after → List Done
 parts_of size old new before after [] is = []

@@ -102,10 +102,11 @@ pub record IsTakenUp {D : Type 0} {g : Ghosts D} (disk : D) (server : Server D g
   pub found : OverStore server.engine.storage (λ store. IsOpened g disk state.library store state.table)
   pub over : OverStore server.engine.storage (λ store. AllHoldState requests store state)
 
--- Calls over a new store of a state, on a disk that fails from some call on; then the disk is opened as it was handed back, by way of
--- nothing that fails.
-pub record IsSurvived (state : State) (calls : List ServerCall) (first_failing : ℕ) (survived : Survived) : Type 0 where
+-- Calls over a new store of a state, on a disk of so many bytes that fails from some call on; then the disk is opened as it was handed
+-- back, by way of nothing that fails.
+pub record IsSurvived (bytes : ℕ) (state : State) (calls : List ServerCall) (first_failing : ℕ) (survived : Survived) : Type 0 where
   pub new : MemoryDisk
+  pub size : new.first.size ≡ bytes
   pub holds : HoldsAlone new state
   pub back : MemoryDisk
   pub withstood : IsWithstood new first_failing calls survived.told state back

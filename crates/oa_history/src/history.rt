@@ -64,7 +64,7 @@ pub fn relive(
     disk: MemoryDisk,
     steps: &[Step],
 ) -> Result<Lived, HistoryFault>
-    ensures lived { IfOk result (IsLived (state_of default_bank_bytes library.now first_table) steps.now) }
+    ensures lived { IfOk result (IsLived disk.first.size (state_of default_bank_bytes library.now first_table) steps.now) }
     ensures wanting { IfErr result (IsUnmade disk.first.size) }
 {
     let mut disk = begun(alloc, disk, library)?;

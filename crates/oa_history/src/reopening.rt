@@ -31,6 +31,7 @@ pub(crate) fn begun(
     library: &Library,
 ) -> Result<MemoryDisk, HistoryFault>
     ensures settled { IfOk result IsFreshDisk }
+    ensures size { IfOk result (λ made. made.first.size ≡ disk.first.size) }
     ensures kept { IfOk result (λ disk. IsKept disk (state_of default_bank_bytes library.now first_table)) }
     ensures wanting { IfErr result (IsUnmade disk.first.size) }
 {
@@ -67,7 +68,8 @@ pub(crate) fn shown(alloc: Global, disk: &MemoryDisk) -> Result<(Vec<u8>, Table)
 pub(crate) fn library_on(alloc: Global, disk: &MemoryDisk) -> Result<Library, HistoryFault>
     ensures kept { IfOk result (λ library. (state : State) → HoldsState requests state (contents_of disk.now)
         → IsChecked state.library → library ≡ state.library) }
-    ensures wanting { IfErr result (λ fault. (state : State) → HoldsState requests state (contents_of disk.now) → IsWanting fault) }
+    ensures wanting { IfErr result (λ fault. (state : State) → HoldsState requests state (contents_of disk.now)
+        → IsChecked state.library → IsWanting fault) }
 {
     one_tree();
     marked_is_read();

@@ -35,7 +35,7 @@ pub struct Survived {
 }
 
 /// Opens the store that the disk holds, whatever is pending on it, with its own library.
-pub(crate) fn taken_up(alloc: Global, disk: MemoryDisk) -> Result<Opened, HistoryFault>
+fn taken_up(alloc: Global, disk: MemoryDisk) -> Result<Opened, HistoryFault>
     ensures taken { IfOk result (λ r. (state : State) → HoldsState requests state (contents_of disk) → CanBegin state
         → IsTakenUp disk r.server (opened state)) }
     ensures wanting { IfErr result (λ fault. (state : State) → HoldsState requests state (contents_of disk) → CanBegin state
@@ -67,7 +67,7 @@ pub fn survive(
     calls: &[ServerCall],
     first_failing: u64,
 ) -> Result<Survived, HistoryFault>
-    ensures survived { IfOk result (IsSurvived (state_of default_bank_bytes library.now first_table) calls.now first_failing) }
+    ensures survived { IfOk result (IsSurvived disk.first.size (state_of default_bank_bytes library.now first_table) calls.now first_failing) }
     ensures wanting { IfErr result (IsUnmade disk.first.size) }
 {
     what_was_served_is_served_again();

@@ -1,4 +1,4 @@
-use Rattle.std.proofs.Common.{ℕ, ◌≤◌, ◌-◌, min, Err, subst, arith, refl}
+use Rattle.std.proofs.Common.{ℕ, ◌+◌, ◌*◌, ◌≤◌, ◌-◌, List, length, min, Err, sym, subst, arith, refl}
 use Rattle.std.proofs.lemmas.Result.{err_from_is_err_and}
 use Rattle.oa_disk.specs.Memory.{IsTornAt, contents_of, history_of, image_of, image_since_of, moments_of}
 use Rattle.oa_disk.specs.Replaying.{since_falls}
@@ -7,8 +7,9 @@ use Rattle.oa_canonical.specs.Canonical.{canonical}
 use Rattle.oa_journal.specs.Banks.{first_gate}
 use Rattle.oa_journal.specs.declared.shape.Shape.TheVariants.{Two}
 use Rattle.oa_turn.specs.Events.{held_of}
+use Rattle.oa_store.specs.Calls.{checkpoint_calls}
 use Rattle.oa_store.specs.Stores.{IsStoreAt}
-use Rattle.oa_history.proofs.Switched.{moved, next_is, state_at, still_holds}
+use Rattle.oa_history.proofs.Switched.{as_many_calls, moved, next_is, state_at, still_holds, text_is, within}
 use Rattle.oa_history.proofs.Unmade.{write_failed}
 use Rattle.oa_history.proofs.checkpointing.checkpointed.Goals as goal
 
@@ -35,6 +36,10 @@ returns-clause-checkpointed c state kept =
         is = λ l here. subst (λ (n : ℕ). IsStoreAt (Two state.bank) (1 - store.chosen) n (canonical state.library) (held_of state) l) (next_is _ disk state kept.holds store text table opened.contents)
             (moved _ disk state kept.holds store text table opened.contents opened.found opened.unlocked new next (c.in_default.ensures.leaves.done refl) l (subst (λ (d : MemoryDisk). image_of d l) c.into_disk-disk.ensures here));
         torn = torn;
+        calls = subst (λ (l : List ℕ). moments_of end + length l ≤ 20 + store.bank.gate + 2 * checkpoint_calls (canonical state.library) (held_of state)) (text_is _ disk state kept.holds store text table opened.contents)
+            (subst (λ (d : MemoryDisk). moments_of d + length text ≤ 20 + store.bank.gate + 2 * checkpoint_calls (canonical state.library) (held_of state)) (sym c.into_disk-disk.ensures)
+            (within (moments_of disk) (moments_of store.disk) (moments_of new.disk) (length text) store.bank.gate (checkpoint_calls text table) (checkpoint_calls (canonical state.library) (held_of state))
+            c.requires.start (opened.calls refl) (c.in_default.ensures.calls refl) (as_many_calls _ disk state kept.holds store text table opened.contents)));
         holds = holds;
       },
       record { holds = holds; begins = kept.begins; unlocked = kept.unlocked },

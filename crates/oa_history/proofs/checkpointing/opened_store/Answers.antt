@@ -1,6 +1,6 @@
-use Rattle.std.proofs.Common.{List, ℕ, true≢false, refl, sym, ◌∙◌, ap, subst}
+use Rattle.std.proofs.Common.{List, ℕ, ◌+◌, ◌≤◌, length, true≢false, refl, sym, ◌∙◌, ap, subst}
 use Rattle.std.proofs.lemmas.Result.{err_from_is_err_and}
-use Rattle.oa_disk.specs.Memory.{contents_of}
+use Rattle.oa_disk.specs.Memory.{contents_of, moments_of}
 use Rattle.oa_canonical.specs.Canonical.{canonical}
 use Rattle.oa_journal.specs.declared.shape.Shape.TheVariants.{Two}
 use Rattle.oa_turn.specs.Events.{held_of}
@@ -9,7 +9,7 @@ use Rattle.oa_history.proofs.Switched.{fits}
 use Rattle.oa_history.proofs.checkpointing.opened_store.Goals as goal
 
 pub returns-in_err-library-clause-wanting : goal.returns-in_err-library-clause-wanting
-returns-in_err-library-clause-wanting c = let p = err_from_is_err_and c.from_residual.result c.from_residual.ensures.1 in rw (p.1, p.2) (λ state kept. c.in_err-library.ensures.wanting state kept.holds)
+returns-in_err-library-clause-wanting c = let p = err_from_is_err_and c.from_residual.result c.from_residual.ensures.1 in rw (p.1, p.2) (λ state kept. c.in_err-library.ensures.wanting state kept.holds kept.begins.checked)
 
 pub returns-in-Err-clause-wanting : goal.returns-in-Err-clause-wanting
 returns-in-Err-clause-wanting c state kept r =
@@ -34,4 +34,5 @@ returns-clause-opened c =
       unlocked = starts.unlocked;
       numbered = starts.numbered;
       reads = c.in-Ok.ensures.reads refl;
+      calls = λ honest. subst (λ (l : List ℕ). moments_of store.disk + length l ≤ moments_of c.args.disk + (20 + store.bank.gate)) (sym starts.has) (c.in-Ok.ensures.found.calls honest);
     }

@@ -45,4 +45,4 @@ returns-in_default c = record {
 }
 
 pub returns-in_err-library-clause-wanting : goal.returns-in_err-library-clause-wanting
-returns-in_err-library-clause-wanting c = let p = err_from_is_err_and c.from_residual.result c.from_residual.ensures.1 in rw (p.1, p.2) (λ state kept. c.in_err-library.ensures.wanting state kept.holds)
+returns-in_err-library-clause-wanting c = let p = err_from_is_err_and c.from_residual.result c.from_residual.ensures.1 in rw (p.1, p.2) (λ state kept. c.in_err-library.ensures.wanting state kept.holds kept.begins.checked)

@@ -1,8 +1,9 @@
-use Rattle.std.proofs.Common.{◌≡◌, ◌≤◌, ⊎_elim, inl, inr, ℕ, List, min, refl, subst, arith}
+use Rattle.std.proofs.Common.{◌≡◌, ◌*◌, ◌≤◌, ⊎_elim, inl, inr, ℕ, List, min, refl, subst, arith}
 use Rattle.oa_disk.specs.Disk.{Torn}
 use Rattle.oa_disk.specs.Memory.{IsTornAt, contents_of, history_of, image_since_of, moments_of}
 use Rattle.oa_disk.specs.Replaying.{only_now, since_falls}
 use Rattle.oa_journal.specs.declared.shape.Shape.TheVariants.{Two}
+use Rattle.oa_store.specs.Calls.{format_calls}
 use Rattle.oa_store.specs.Changes.{IsFormatting}
 use Rattle.oa_store.specs.Stores.{IsStoreIn}
 use Rattle.oa_table.specs.Tables.{first_table}
@@ -24,6 +25,7 @@ returns-clause-formatted c =
           either);
       torn = subst (λ (n : ℕ). IsTornAt disk c.args.tear (min c.args.moment n) image) c.moments.ensures
           (subst (λ (n : ℕ). IsTornAt disk c.args.tear n image) c.min.ensures c.in_ok-left.ensures.torn);
+      calls = subst (λ (text : List ℕ). moments_of disk ≤ 2 * format_calls text) c.text.ensures.text (let made = c.in_default.ensures.after.calls refl in omega (arith, c.requires.start, made));
     }
 
 pub returns-clause-kept : goal.returns-clause-kept

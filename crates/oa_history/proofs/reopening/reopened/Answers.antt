@@ -19,4 +19,4 @@ returns-clause-wanting c state kept r =
     never_refused c.args.disk c.in_ok-library.library state c.requires.alone (λ d. refl) kept.holds kept.unlocked (c.in_ok-library.ensures.kept state kept.holds kept.begins.checked) kept.begins _ c.in-Err.fault c.in-Err.ensures.refused r
 
 pub returns-in_err-library-clause-wanting : goal.returns-in_err-library-clause-wanting
-returns-in_err-library-clause-wanting c = let p = err_from_is_err_and c.from_residual.result c.from_residual.ensures.1 in rw (p.1, p.2) (λ state kept. c.in_err-library.ensures.wanting state kept.holds)
+returns-in_err-library-clause-wanting c = let p = err_from_is_err_and c.from_residual.result c.from_residual.ensures.1 in rw (p.1, p.2) (λ state kept. c.in_err-library.ensures.wanting state kept.holds kept.begins.checked)

@@ -23,6 +23,7 @@ returns-clause-survived c =
     let begins = c.what_was_served_is_served_again.ensures.groups state kept.state (joined kept.done) new.begins kept.run in
     record {
       new = disk;
+      size = c.in_ok-disk.ensures.size;
       holds = λ image is. subst (λ (l : List ℕ). HoldsState requests state l) (sym (c.in_ok-disk.ensures.settled.alone image is)) new.holds;
       back = back;
       withstood = withstood;

@@ -27,4 +27,4 @@ returns-clause-wanting c state holds begins r =
     c.one_tree.ensures (is_read c.marked_is_read.ensures) (contents_size disk.first.size (history_of disk) disk.whole) _ c.in-Err.fault c.in-Err.ensures.refused r
 
 pub returns-in_err-library-clause-wanting : goal.returns-in_err-library-clause-wanting
-returns-in_err-library-clause-wanting c = let p = err_from_is_err_and c.from_residual.result c.from_residual.ensures.1 in rw (p.1, p.2) (λ state holds begins. c.in_err-library.ensures.wanting state holds)
+returns-in_err-library-clause-wanting c = let p = err_from_is_err_and c.from_residual.result c.from_residual.ensures.1 in rw (p.1, p.2) (λ state holds begins. c.in_err-library.ensures.wanting state holds begins.checked)

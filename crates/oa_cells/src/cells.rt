@@ -68,7 +68,7 @@ impl<T: Drop> Cells<T> {
     /// An array of `len` cells, filled by what `fill` answers at each index below `len` in turn.
     ///
     /// At the first error of `fill` the cells made so far are dropped, the block is freed and the error is returned.
-    /// Where there is no block for the cells, the error is made of an `AllocError`, and `fill` was not called.
+    /// Where there is no block for the cells, the error is made of an `AllocError`.
     pub fn filled_by<E: From<AllocError>, F: FnMut(usize) -> Result<T, E>>(
         alloc: Global,
         len: usize,

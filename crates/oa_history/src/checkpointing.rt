@@ -10,19 +10,10 @@ ghost use Rattle.oa_history.specs.Between.{IsCheckpointed, IsFoundStore};
 use crate::reopening::library_on;
 use crate::{HistoryFault, Stop};
 use oa_disk::MemoryDisk;
-use oa_image::RESERVED_BYTES;
-use oa_image::laws::images_are_counted;
+use oa_image::fits_bank;
 use oa_store::{OpenFault, Store};
 use oa_table::Table;
 use std::alloc::Global;
-
-/// Whether the table's image leaves what has to be free of the store's banks.
-fn has_room(store: &Store<MemoryDisk>, table: &Table) -> bool
-    ensures { IsTrue result ↔ FitsBank (body_bytes store.now.bank.shape) table.now }
-{
-    images_are_counted();
-    table.image_size().saturating_add(u64::from(RESERVED_BYTES)) <= u64::from(store.bank_size())
-}
 
 /// Opens the store on the disk with its own library. As by a server it is refused where its table leaves too little room in a bank.
 fn opened_store(alloc: Global, disk: MemoryDisk) -> Result<(Store<MemoryDisk>, Table), HistoryFault>
@@ -37,7 +28,7 @@ fn opened_store(alloc: Global, disk: MemoryDisk) -> Result<(Store<MemoryDisk>, T
         Ok(found) => found,
         Err((_, fault)) => return Err(HistoryFault::Open(fault)),
     };
-    if !has_room(&store, &table) {
+    if !fits_bank(store.bank_size(), &table) {
         return Err(HistoryFault::Open(OpenFault::Damaged(0)));
     }
     Ok((store, table))

@@ -2,7 +2,6 @@
 ghost use Rattle.std.specs.Prelude.{◌≡◌, ◌↔◌, ◌≤◌, IsTrue, length, IfOk, IfErr};
 ghost use Rattle.oa_model.specs.Limits.{max_library_bytes};
 ghost use Rattle.oa_canonical.specs.Canonical.{canonical};
-ghost use Rattle.oa_image.specs.Tables.{FitsBank};
 ghost use Rattle.oa_turn.specs.Beginnings.{CanServe};
 ghost use Rattle.oa_server.specs.Openings.{IsNotOpened, IsOpened};
 ghost use Rattle.oa_server.specs.Storages.{OverStore, bank_of};
@@ -12,8 +11,7 @@ use oa_canonical::laws::marked_is_read;
 use oa_disk::Disk;
 use oa_fits::fits;
 use oa_idl::laws::one_tree;
-use oa_image::RESERVED_BYTES;
-use oa_image::laws::images_are_counted;
+use oa_image::fits_bank;
 use oa_store::{OpenFault, Store};
 use oa_table::Table;
 use oa_typelib::Library;
@@ -27,19 +25,11 @@ pub(crate) fn text_of(library: &Library) -> &[u8]
     library.text()
 }
 
-/// Whether the table's image leaves what has to be free of a bank of this size.
-fn is_small(bank: u32, table: &Table) -> bool
-    ensures { IsTrue result ↔ FitsBank bank table.now }
-{
-    images_are_counted();
-    table.image_size().saturating_add(u64::from(RESERVED_BYTES)) <= u64::from(bank)
-}
-
 /// Whether a server of this library can begin with this table over banks of this size.
 fn can_serve(bank: u32, library: &Library, table: &Table) -> bool
     ensures { IsTrue result ↔ CanServe bank library.now table.now }
 {
-    fits(library, table) && is_small(bank, table)
+    fits(library, table) && fits_bank(bank, table)
 }
 
 /// Opens the store of this library that is on the disk. It writes nothing, and begins with a sync. A refusal hands the disk back; it is

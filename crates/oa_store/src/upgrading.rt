@@ -21,8 +21,7 @@ use crate::head::{buffer, find_head};
 use crate::reading::look;
 use crate::switching::switch_to;
 use oa_disk::Disk;
-use oa_image::RESERVED_BYTES;
-use oa_image::laws::images_are_counted;
+use oa_image::fits_bank;
 use oa_journal::Shape;
 use oa_model::MAX_LIBRARY_BYTES;
 use oa_table::Table;
@@ -89,11 +88,10 @@ fn find_fitting<D: Disk>(alloc: Global, disk: &mut D, size: u32) -> Result<Old, 
     ensures after { AfterCalls D.Disk disk.old disk.new result }
 {
     let old = find_old(alloc, disk)?;
-    images_are_counted();
     if old.library.len() > MAX_LIBRARY_BYTES {
         return Err(UpgradeFault::Damaged(0));
     }
-    if old.table.image_size() > u64::from(size - RESERVED_BYTES) {
+    if !fits_bank(size, &old.table) {
         return Err(UpgradeFault::Damaged(0));
     }
     Ok(old)

@@ -2,6 +2,7 @@ use Rattle.std.proofs.Common.{List, ℕ, ◌+◌, ◌≤◌, length, true≢fals
 use Rattle.std.proofs.lemmas.Result.{err_from_is_err_and}
 use Rattle.oa_disk.specs.Memory.{contents_of, moments_of}
 use Rattle.oa_canonical.specs.Canonical.{canonical}
+use Rattle.oa_image.specs.Tables.{FitsBank}
 use Rattle.oa_journal.specs.declared.shape.Shape.TheVariants.{Two}
 use Rattle.oa_turn.specs.Events.{held_of}
 use Rattle.oa_store.specs.Stores.{IsStoreAt, IsStoreIn}
@@ -16,12 +17,12 @@ returns-in-Err-clause-wanting c state kept r =
     let text = c.text.ensures.text ∙ ap canonical (c.in_ok-library.ensures.kept state kept.holds kept.begins.checked) in
     c.in-Err.ensures.refused.refused r refl (held_of state) (state.bank, subst (λ (l : List ℕ). IsStoreIn (Two state.bank) (contents_of c.args.disk) l (held_of state)) (sym text) kept.holds)
 
-pub returns-then-not-has_room-clause-wanting : goal.returns-then-not-has_room-clause-wanting
-returns-then-not-has_room-clause-wanting c state kept r =
+pub returns-then-not-fits_bank-clause-wanting : goal.returns-then-not-fits_bank-clause-wanting
+returns-then-not-fits_bank-clause-wanting c state kept r =
     let store = c.in-Ok.found.0 in
     let table = c.in-Ok.found.1 in
     let room = fits _ c.args.disk state kept.holds store c.text.result.now table (c.in-Ok.ensures.found.contents refl) kept.unlocked kept.begins in
-    absurd (true≢false (sym (c.has_room.ensures.1 room) ∙ c.if-not-has_room.true))
+    absurd (true≢false (sym (c.fits_bank.ensures.1 (subst (λ (n : ℕ). FitsBank n table) (sym c.bank_size.ensures) room)) ∙ c.if-not-fits_bank.true))
 
 pub returns-clause-opened : goal.returns-clause-opened
 returns-clause-opened c =

@@ -3,7 +3,8 @@ ghost use Rattle.std.specs.Prelude.{◌≡◌, ◌++◌, List, ℕ, false, IfOk,
 ghost use Rattle.oa_image.specs.Events.{event_image};
 ghost use Rattle.oa_keeper.specs.Holding.{IsOpenFor};
 ghost use Rattle.oa_record.specs.Replacement.{is_replacement};
-ghost use Rattle.oa_server.specs.OpenGroups.{CallsForCheckpoint, CallsForRoom, CallsWhereDue, CanBeMade, HasBanks, HoldsOn, IsAdded, IsCutOff, MakesWay};
+ghost use Rattle.oa_server.specs.OpenGroups.{CallsForCheckpoint, CallsForRoom, CallsWhereDue, CanBeMade, HasBanks, HoldsOn, IsAdded};
+ghost use Rattle.oa_server.specs.OpenGroups.{IsCutOff, MakesWay};
 ghost use Rattle.oa_server.specs.Requests.{IsHeldBack};
 ghost use Rattle.oa_server.specs.declared.fault.HoldFault.{HoldFault};
 ghost use Rattle.oa_turn.specs.Changes.{MakesChange};

@@ -161,6 +161,13 @@ fn is_text(text: &[u8]) -> bool
 }
 
 impl Library {
+    /// The tree, with one default interface marked in each coclass.
+    pub fn tree(&self) -> &Tree
+        ensures { result.now ≡ self.now }
+    {
+        &self.tree
+    }
+
     /// The canonical text of the tree (docs/idl.md), of which the tree is read again.
     pub fn text(&self) -> &[u8]
         ensures text { result.now ≡ canonical self.now }

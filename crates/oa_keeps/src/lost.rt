@@ -1,20 +1,17 @@
 //! What is lost where a library stands in the place of another.
 ghost use Rattle.std.specs.Prelude.{◌≡◌, ◌↔◌, true, Some, None, slice_get};
 ghost use Rattle.std.specs.List.{filter_map, list_any};
-ghost use Rattle.std.specs.Option.{option_and_then, option_eq, option_map, option_map_or};
+ghost use Rattle.std.specs.Option.{option_and_then, option_map, option_map_or};
 ghost use Rattle.oa_idl.specs.declared.items.Item.TheVariants.{Coclass as AClass};
 ghost use Rattle.oa_checks.specs.Declarations.{declarations};
 ghost use Rattle.oa_typelib.specs.Descriptions.{classes_of, interfaces_of, put_last};
 ghost use Rattle.oa_keeps.specs.Keeps.{KeepsLibrary, default_guid, dispid_lost, first_lost};
 ghost use Rattle.oa_keeps.specs.Keeps.{guid_lost, is_kept_by, keeps_class, keeps_default};
 ghost use Rattle.oa_keeps.specs.Keeps.{keeps_entries, keeps_entry, lost_class, lost_declaration, lost_form, lost_interface, lost_member};
-ghost use Rattle.oa_keeps.specs.Keeps.{same_declaration_kind};
-ghost use Rattle.oa_checks.specs.Libraries.{as_class, as_interface, class_of, same};
+ghost use Rattle.oa_checks.specs.Libraries.{as_class, as_interface, class_of};
 ghost use Rattle.oa_checks.specs.Repeats.{first_answer};
 
-use oa_checks::{
-    Declaration, DeclarationKind, class_at, is_same_name, same_parameters, same_result,
-};
+use oa_checks::{Declaration, class_at, is_same_name, same_parameters, same_result};
 use oa_idl::Coclass;
 use oa_typelib::{Dispinterface, Library, form_at};
 use uuid::Uuid;
@@ -51,26 +48,13 @@ impl Lost {
     }
 }
 
-fn same_kind(a: DeclarationKind, b: DeclarationKind) -> bool
-    ensures { result ≡ same_declaration_kind a b }
-{
-    match (a, b) {
-        (DeclarationKind::Property, DeclarationKind::Property) => true,
-        (DeclarationKind::ReadonlyProperty, DeclarationKind::ReadonlyProperty) => true,
-        (DeclarationKind::Method, DeclarationKind::Method) => true,
-        (DeclarationKind::Get, DeclarationKind::Get) => true,
-        (DeclarationKind::Put, DeclarationKind::Put) => true,
-        _ => false,
-    }
-}
-
 /// Whether a declaration stands for another one.
 #[tactic(auto, unfolding(crate::specs::Keeps::is_kept_by))]
 fn is_kept_by(was: &Declaration<'_>, now: &Declaration<'_>) -> bool
     ensures { result ≡ is_kept_by was.now now.now }
 {
     was.id == now.id
-        && same_kind(was.kind, now.kind)
+        && was.kind == now.kind
         && is_same_name(was.name, now.name)
         && same_result(was.value_type, now.value_type)
         && same_parameters(was.parameters, now.parameters)
@@ -188,16 +172,6 @@ fn first_interface(new: &Library, old: &Library) -> Option<Lost>
     None
 }
 
-fn same_guid(a: Option<Uuid>, b: Option<Uuid>) -> bool
-    ensures { result ≡ option_eq same a b }
-{
-    match (a, b) {
-        (None, None) => true,
-        (Some(a), Some(b)) => a == b,
-        _ => false,
-    }
-}
-
 fn guid_of(interface: Option<Dispinterface<'_>>) -> Option<Uuid>
     ensures { result ≡ option_map (λ i. i.guid) interface.entry }
 {
@@ -255,7 +229,7 @@ fn keeps_default(new: &Library, old: &Library, place: usize, was: &Coclass, now:
     ensures { result ≡ keeps_default new.now old.now now.now was.now }
 {
     let after = guid_of(new.default_interface(&was.guid));
-    same_guid(default_before(old, place), after)
+    default_before(old, place) == after
 }
 
 fn keeps_class(new: &Library, old: &Library, place: usize, was: &Coclass) -> bool

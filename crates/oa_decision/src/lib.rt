@@ -2,8 +2,8 @@
 //! its locks, which are only read.
 //!
 //! Its contract: `Decider::decide` decides what is defined (`decided`), or tells that memory was wanted where it may be (`Decides`);
-//! `Decider::plan_value` plans a call without a list (`PlansValue`); `disallowed` tells why an event is not allowed (`allowed`), and
-//! `is_surely_within` is true only within the limits.
+//! `Decider::plan_value` plans a call that brings no more than a new value (`PlansValue`); `disallowed` tells why an event is not allowed
+//! (`allowed`), and `is_surely_within` is true only within the limits.
 //!
 //! What stands on it: oa_turn, which makes the changes.
 #![tactic(auto)]

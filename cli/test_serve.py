@@ -47,7 +47,7 @@ class Sessions(Served):
         BAD = wire.put(5, 1, 1, wire.scalar(wire.NULL))
         self.serves("a refused put leaves no trace", BAD + get(6), 0, wire.reply(5, 0x8002_0005, 0) + got(6, 7), b"", TWO, TWO, "--hex")
 
-    def test_the_group_in_hand_is_committed(self):
+    def test_the_open_group_is_committed(self):
         for group in map(str, GROUPS):
             cut = put(1, 8) + get(2) + b"0"
             self.serves(f"the open group is committed before bad hex ends the session, groups of {group}", cut, 4, wire.reply(1) + got(2, 8), fault("bad hex on line 3"), TWO, store.add(bytearray(TWO), put_of(8)), "--hex", "--group", group)

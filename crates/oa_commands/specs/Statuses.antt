@@ -102,13 +102,13 @@ IsOfMaking other = ⊥
 
 -- ---- of a library
 
--- of bytes that are too many for a text, or none
+-- of bytes that are no UTF-8, or more than a text may have
 abbrev pub IsOfBytes : Fault → Type 0
 IsOfBytes fault = (fault ≡ faults.NotUtf8) ⊎ (fault ≡ faults.Parse (parsing.Limit limits.Text))
 
--- of a text that is read
-abbrev pub IsOfText : Fault → Type 0
-IsOfText fault = IsOfReading fault ⊎ IsOfBytes fault
+-- of a library's text that is read
+abbrev pub IsOfLibraryText : Fault → Type 0
+IsOfLibraryText fault = IsOfReading fault ⊎ IsOfBytes fault
 
 -- of a text that stands for no library
 abbrev pub IsOfTree : Fault → Type 0
@@ -118,7 +118,7 @@ IsOfTree other = ⊥
 
 -- of a library that is read
 abbrev pub IsOfLibrary : Fault → Type 0
-IsOfLibrary fault = IsOfText fault ⊎ IsOfTree fault
+IsOfLibrary fault = IsOfLibraryText fault ⊎ IsOfTree fault
 
 -- the same, where a place in the text is shown: that of a token that cannot stand there
 abbrev pub IsOfPlace : Fault → Type 0

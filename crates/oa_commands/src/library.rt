@@ -2,7 +2,7 @@
 ghost use Rattle.std.specs.Prelude.{◌≤◌, length, IfSome};
 ghost use Rattle.std.specs.Prelude.{ℕ, List, IfErr, IfOk};
 ghost use Rattle.oa_checks.specs.IsLibrary.{IsLibrary};
-ghost use Rattle.oa_commands.specs.Statuses.{IsOfLibrary, IsOfReading, IsOfText, IsOfTree};
+ghost use Rattle.oa_commands.specs.Statuses.{IsOfLibrary, IsOfReading, IsOfLibraryText, IsOfTree};
 
 use crate::fault::Fault;
 use crate::shown::shown_name;
@@ -23,7 +23,7 @@ const PIECE: u64 = 65_536;
 /// The text of a library, from a file or from standard input. Of a text above the limit one piece at a time is kept, and it is read on only
 /// as long as it is UTF-8: that fault goes before the limit, wherever it stands.
 pub(crate) fn read_text(rt: &HostRuntime, alloc: Global, path: &str) -> Result<String, Fault>
-    ensures { IfErr result IsOfText }
+    ensures { IfErr result IsOfLibraryText }
 {
     if path == STANDARD_INPUT {
         return text_of(alloc, &mut rt.reader(), path);
@@ -69,7 +69,7 @@ pub(crate) fn unread(alloc: Global, error: &io::Error, path: &str) -> Fault
 
 /// What a reader gives, up to its end, as a text. One byte above the limit tells that the text breaks it.
 fn text_of<R: Read>(alloc: Global, reader: &mut R, path: &str) -> Result<String, Fault>
-    ensures { IfErr result IsOfText }
+    ensures { IfErr result IsOfLibraryText }
 {
     let mut bytes = Vec::new(alloc);
     if let Err(error) = reader
@@ -87,7 +87,7 @@ fn text_of<R: Read>(alloc: Global, reader: &mut R, path: &str) -> Result<String,
 
 /// Why a text is refused that begins with these bytes, more than a text may have: it is not UTF-8, or it breaks the limit.
 fn refusal_of_long<R: Read>(alloc: Global, reader: &mut R, mut bytes: Vec<u8>, path: &str) -> Fault
-    ensures { IsOfText result }
+    ensures { IsOfLibraryText result }
 {
     for _ in 0..u64::MAX {
         let Some(whole) = whole_characters(&bytes) else {

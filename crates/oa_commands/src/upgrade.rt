@@ -22,7 +22,8 @@ const PIECE: usize = 65_536;
 /// its file, locked. One that is too short for it is lengthened.
 ///
 /// `CannotRead` and `InUse` as `open_store_file` tells them; `NotAStore`; `AlreadyNew` of one of format 2; `Damaged` with the place in
-/// bytes, 0 where a bank of that size has no room for what the store holds: these before anything is written. `CannotWrite` where it
+/// bytes, 0 where a bank of that size has no room for what the store holds: these are looked for before anything is written, and once more
+/// where another process may have had the file since. `CannotWrite` where it
 /// cannot be lengthened, `TooSmall` where it became shorter since, `DeviceRead` and `DeviceWrite` where a call of the device failed.
 /// `Memory` may come at each.
 pub fn upgrade_store(

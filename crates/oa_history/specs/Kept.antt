@@ -46,12 +46,13 @@ pub record BeginsServing {D : Type 0} {g : Ghosts D} (disk : D) (server : Server
   pub host : server.engine.host ≡ state
   pub over : OverStore server.engine.storage (λ store. Sits disk store state)
 
--- Why the canonical text of a library was not read: it is that of none, or memory was refused.
+-- Why the canonical text of a checked library was not read: it does not stand for that one, or memory was refused.
 abbrev pub IsUnread : TextError → Type 0
 IsUnread texts.NoLibrary = (library : TreeValue) × IsChecked library × (StandsFor (canonical library) library → ⊥)
 IsUnread texts.Memory = ⊤
 
--- Why a store that stands has no history: memory is wanting, or room on the disk, or a call of it has failed. No opening was refused.
+-- Why a store that stands has no history: memory is wanting, or room on the disk, or a call of it has failed, or a text
+-- was not read. No opening was refused.
 abbrev pub IsWanting : HistoryFault → Type 0
 IsWanting (Format fault) = ⊥
 IsWanting (Open fault) = SpeaksOfContents fault → ⊥

@@ -162,7 +162,7 @@ EndsBefore size (Disk old) (Disk new) before bodies told after =
 EndsBefore size (Disk old) (Memory new) before bodies told after = ⊥
 EndsBefore size (Memory old) new before bodies told after = bodies ≡ []
 
--- A part is a call of its own, of so many bodies at most, and one group, or two where its last body is a group of its own.
+-- A part is a call of its own, of so many bodies at most, and one group, or the open one and its last body, which is a group of its own.
 pub record IsPart {D : Type 0} {g : Ghosts D} (size : ℕ) (old new : Storage D g) (before : State) (part : Part)
     (after : State) : Type 0 where
   pub few : length part.bodies ≤ size

@@ -6,7 +6,7 @@ use oa_keeper::DeviceFailed;
 use std::alloc::AllocError;
 use thiserror::Error;
 
-/// Why a change was not made. The table and the open group are as they were, and images hold the table that they held before.
+/// Why a change was not made. The table and the batch are as they were, and images hold the table that they held before.
 #[derive(Clone, Copy, Debug, PartialEq, Eq, Error)]
 pub(crate) enum HoldFault {
     /// No memory was found.

@@ -23,7 +23,7 @@ use oa_table::Event;
 use oa_turn::{Host, Plan, Planned};
 use std::alloc::Global;
 
-/// One turn over a store. Its event is added to the open group's; before the first of them a checkpoint is made, where one is due. At
+/// One turn over a store. Its event is added to the batch; before the first one there a checkpoint is made, where one is due. At
 /// `Err` the checkpoint failed.
 pub(crate) fn turn_held<D: Disk>(
     alloc: Global,
@@ -106,7 +106,7 @@ fn hold_change<D: Disk>(
     Ok(())
 }
 
-/// Makes a change that is allowed, and adds its event to the open group's. The growths come in this order: the event's bytes, the table's.
+/// Makes a change that is allowed, and adds its event to the batch. The growths come in this order: the event's bytes, the table's.
 fn add_change(host: &mut Host, batch: &mut Batch, event: Event) -> Result<(), HoldFault>
     requires { CanBeMade host.old event }
     ensures change { MakesChange event host.old host.new result }

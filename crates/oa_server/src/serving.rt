@@ -170,8 +170,8 @@ impl<D: Disk> Server<D> {
     }
 }
 
-/// A session in either framing, with a group of its own and room for the longest line and the longest body. What memory these take is given
-/// back at the end.
+/// A session in either framing, with an open group that has no request yet, and room for the longest line and the longest body. What memory
+/// these take is given back at the end.
 fn session_with<D: Disk, R: Source + Drop, W: Sink>(
     engine: &mut Engine<D>,
     framing: Framing,

@@ -305,7 +305,8 @@ impl Library {
 
     /// The description at an index: the interfaces come first, in the text's order, and then the coclasses. The members of an interface
     /// stand in the order in which their names first stand, a get before its put, each declaration as it is written; defaults are values of
-    /// their parameters' types. BadIndex where there are not so many interfaces and coclasses, Memory where memory is refused.
+    /// their parameters' types. BadIndex where there are not so many interfaces and coclasses; Memory, never in place of that, where memory
+    /// is refused.
     pub fn describe(&self, index: u32) -> Result<Description<'_>, DescribeError>
         ensures { Describes (description_at self.now index) result }
     {

@@ -5,6 +5,7 @@ use Rattle.std.proofs.lemmas.Bool.Decides.{nat_tests}
 use Rattle.std.specs.List.{AllByRecursion, list_any, position_or_len}
 use Rattle.std.specs.Option.{option_and_then}
 use Rattle.oa_model.specs.Folding.{folded_name}
+use Rattle.oa_model.specs.Limits.{max_interfaces}
 use Rattle.oa_idl.specs.Limits.{one_interface, how_many}
 use Rattle.oa_idl.specs.Trees.{TreeValue}
 use Rattle.oa_idl.specs.Values.{InterfaceValue}
@@ -101,19 +102,19 @@ some_position ys name h =
     ∙ list_any-map key (same (folded_name name)) (interfaces_of ys)
     ∙ as_named ys name h
 
-at_some : (is_default : Bool) (m n : ℕ) → n ≤ 256 → IsSome (cond (nat_lt m n) (Some m) None) → IsSome (option_and_then (described_entry is_default) (cond (nat_lt m n) (Some m) None))
+at_some : (is_default : Bool) (m n : ℕ) → n ≤ max_interfaces → IsSome (cond (nat_lt m n) (Some m) None) → IsSome (option_and_then (described_entry is_default) (cond (nat_lt m n) (Some m) None))
 at_some is_default m n few = by (nat_lt m n) refl
   where
     by : (b : Bool) → nat_lt m n ≡ b → IsSome (cond b (Some m) None) → IsSome (option_and_then (described_entry is_default) (cond b (Some m) None))
     by true h some = let small : nat_lt m 4294967296 ≡ true = grind (arith, nat_tests) in rw small refl
     by false h some = absurd (true≢false (sym some))
 
-described : (ys : List Item) (e : Entry) → length (interfaces_of ys) ≤ 256 → Known ys e → IsSome (entry_description (interfaces_of ys) e)
+described : (ys : List Item) (e : Entry) → length (interfaces_of ys) ≤ max_interfaces → Known ys e → IsSome (entry_description (interfaces_of ys) e)
 unfolding Known
 described ys e few known =
     at_some e.is_default (position_or_len (λ (i : InterfaceValue). same_name e.interface i.name) (interfaces_of ys)) (length (interfaces_of ys)) few (some_position ys e.interface known)
 
-all_described : (ys : List Item) (es : List Entry) → length (interfaces_of ys) ≤ 256 → AllByRecursion (Known ys) es → AllByRecursion (λ (e : Entry). IsSome (entry_description (interfaces_of ys) e)) es
+all_described : (ys : List Item) (es : List Entry) → length (interfaces_of ys) ≤ max_interfaces → AllByRecursion (Known ys) es → AllByRecursion (λ (e : Entry). IsSome (entry_description (interfaces_of ys) e)) es
 all_described ys [] few all = tt
 all_described ys (e ∷ es) few all = (described ys e few all.0, all_described ys es few all.1)
 
@@ -124,7 +125,7 @@ marked_interfaces (Interface i ∷ xs) = omega (arith, marked_interfaces xs)
 marked_interfaces (Coclass c ∷ xs) = omega (arith, marked_interfaces xs)
 
 -- ---- one coclass, and all of them
-class_of_item : (xs : List Item) (x : Item) → length (interfaces_of (map marked_item xs)) ≤ 256 → HasEntry x → entry_breach xs x ≡ None → HasClass (map marked_item xs) (marked_item x)
+class_of_item : (xs : List Item) (x : Item) → length (interfaces_of (map marked_item xs)) ≤ max_interfaces → HasEntry x → entry_breach xs x ≡ None → HasClass (map marked_item xs) (marked_item x)
 class_of_item xs (Interface i) few some none = tt
 class_of_item xs (Coclass c) few some none =
     let ys = map marked_item xs in
@@ -134,14 +135,14 @@ class_of_item xs (Coclass c) few some none =
       entries = all_described ys (marked_entries c.entries) few known;
     }
 
-all_classes : (ws xs : List Item) → length (interfaces_of (map marked_item ws)) ≤ 256 → AllByRecursion HasEntry xs → AllByRecursion (λ x. entry_breach ws x ≡ None) xs → AllByRecursion (HasClass (map marked_item ws)) (map marked_item xs)
+all_classes : (ws xs : List Item) → length (interfaces_of (map marked_item ws)) ≤ max_interfaces → AllByRecursion HasEntry xs → AllByRecursion (λ x. entry_breach ws x ≡ None) xs → AllByRecursion (HasClass (map marked_item ws)) (map marked_item xs)
 all_classes ws [] few some none = tt
 all_classes ws (x ∷ xs) few some none = (class_of_item ws x few some.0 none.0, all_classes ws xs few some.1 none.1)
 
 pub tree_whole : (t : TreeValue) → IsChecked t → HasSoundItems t
 tree_whole t is =
     let w = is.1.tree in
-    let few : length (interfaces_of (map marked_item w.items)) ≤ 256 = omega (arith, marked_interfaces w.items, is.1.stands.kept limits.Interfaces) in
+    let few : length (interfaces_of (map marked_item w.items)) ≤ max_interfaces = omega (arith, marked_interfaces w.items, is.1.stands.kept limits.Interfaces) in
     record {
       sound = tree_sound t is;
       classes = subst (λ (u : TreeValue). AllByRecursion (HasClass u.items) u.items) (sym is.1.says)

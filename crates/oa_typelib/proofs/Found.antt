@@ -6,7 +6,7 @@ use Rattle.std.specs.List.{AllByRecursion, filter}
 use Rattle.std.specs.Option.{option_map, option_and_then, option_or}
 use Rattle.std.specs.Ordering.{int_eq}
 use Rattle.oa_model.specs.declared.var_type.ValueType.{ValueType}
-use Rattle.oa_model.specs.declared.var_type.ValueType.TheVariants.{One, Array}
+use Rattle.oa_model.specs.Limits.{max_parameters}
 use Rattle.oa_variant.specs.Variants.{HasZero}
 use Rattle.oa_idl.specs.Values.{InterfaceValue}
 use Rattle.oa_idl.specs.declared.parts.Parameter.{Parameter}
@@ -19,7 +19,7 @@ use Rattle.oa_checks.specs.Libraries.{as_interface}
 use Rattle.oa_typelib.specs.Members.{forms_with, form_for, main_form, property_of, kind_asked, has_form, is_method, method_fault}
 use Rattle.oa_typelib.specs.Members.{if_formed, property_answer, answer, lets, member_in, property_in, property_with}
 use Rattle.oa_typelib.specs.MemberValues.{MemberValue}
-use Rattle.oa_typelib.specs.Typed.{IsDeclarable, IsTypedDeclaration}
+use Rattle.oa_typelib.specs.Typed.{IsTypedDeclaration}
 use Rattle.oa_typelib.specs.declared.access.Access.{Access}
 use Rattle.oa_typelib.specs.declared.access.Kind.{Kind}
 use Rattle.oa_typelib.specs.declared.access.Kind.TheVariants as kinds
@@ -51,23 +51,23 @@ filter_all P test (y ∷ ys) all = kept_all P (test y) y (filter test ys) all.0 
 
 -- ---- what a declaration holds
 
-mapped_type : (o : Option Parameter) → IfSome o (λ (p : Parameter). IsDeclarable p.value_type) → IfSome (option_map (λ (p : Parameter). p.value_type) o) IsDeclarable
+mapped_type : (o : Option Parameter) → IfSome o (λ (p : Parameter). HasZero p.value_type) → IfSome (option_map (λ (p : Parameter). p.value_type) o) HasZero
 mapped_type None h = tt
 mapped_type (Some p) h = h
 
-pub holds_typed : (d : DeclarationValue) → IsTypedDeclaration d → IfSome (type_of_value d) IsDeclarable
+pub holds_typed : (d : DeclarationValue) → IsTypedDeclaration d → IfSome (type_of_value d) HasZero
 holds_typed d h = by (is_put d.kind)
   where
-    by : (b : Bool) → IfSome (if b then option_map (λ (p : Parameter). p.value_type) (if b then slice_get d.parameters (length d.parameters - 1) else None) else d.value_type) IsDeclarable
-    by true = mapped_type (slice_get d.parameters (length d.parameters - 1)) (get_all (λ (p : Parameter). IsDeclarable p.value_type) d.parameters (length d.parameters - 1) h.1)
+    by : (b : Bool) → IfSome (if b then option_map (λ (p : Parameter). p.value_type) (if b then slice_get d.parameters (length d.parameters - 1) else None) else d.value_type) HasZero
+    by true = mapped_type (slice_get d.parameters (length d.parameters - 1)) (get_all (λ (p : Parameter). HasZero p.value_type) d.parameters (length d.parameters - 1) h.1)
     by false = h.0
 
 -- ---- a property that is found
 
-few_own : (d : DeclarationValue) → length d.parameters ≤ 16 → length (own_parameters d) ≤ 16
+few_own : (d : DeclarationValue) → length d.parameters ≤ max_parameters → length (own_parameters d) ≤ max_parameters
 few_own d h = by (is_put d.kind)
   where
-    by : (b : Bool) → length (if b then take (length d.parameters - 1) d.parameters else d.parameters) ≤ 16
+    by : (b : Bool) → length (if b then take (length d.parameters - 1) d.parameters else d.parameters) ≤ max_parameters
     by true = omega (arith, length-take (length d.parameters - 1) d.parameters, h)
     by false = h
 
@@ -122,14 +122,6 @@ member_bindable i id access all = answer_bindable (main_form (forms_with id i)) 
 
 pub property_is_bindable : (i : InterfaceValue) (id : ℤ) → AreSound (declarations i) → IfSome (property_in i id) IsBindable
 property_is_bindable i id all = with_bindable (main_form (forms_with id i)) (forms_with id i) (main_sound (forms_with id i) (with_sound i id all))
-
-is_declarable : (t : ValueType) → HasZero t → IsDeclarable t
-is_declarable (One t) h = h
-is_declarable (Array t) h = h
-
-pub found_typed : (r : Result (MemberValue × Kind) MemberFault) → Found r → IfOk r (λ found. IsDeclarable found.0.value_type)
-found_typed (Ok found) h = is_declarable found.0.value_type h.zero
-found_typed (Err fault) h = tt
 
 -- its form is there
 abbrev HasForm : Result (MemberValue × Kind) MemberFault → Type 0

@@ -12,6 +12,7 @@ use Rattle.std.specs.List.{AllByRecursion, filter, list_any, position_or_len}
 use Rattle.std.specs.Option.{option_map, option_and_then, option_or}
 use Rattle.std.specs.Ordering.{int_eq}
 use Rattle.oa_model.specs.Folding.{folded_name}
+use Rattle.oa_model.specs.Limits.{max_parameters}
 use Rattle.oa_idl.specs.Trees.{TreeValue}
 use Rattle.oa_idl.specs.Values.{InterfaceValue}
 use Rattle.oa_idl.specs.declared.parts.Parameter.{Parameter}
@@ -346,7 +347,7 @@ parameter_found i well n d at name k p there is =
     let first = has_position (λ (p : Parameter). same_name name p.name) (own_parameters d) k p there is in
     let one = position_in (λ (p : Parameter). same_name name p.name) (own_parameters d) first.0 first.1 in
     let place = one_place [] (map name_of_parameter d.parameters) (well.once n d at) first.0 k one.0.name p.name (named_at d.parameters first.0 one.0 (own_at d first.0 one.0 one.1)) (named_at d.parameters k p (own_at d k p there)) (name_both name one.0.name p.name one.2 is) in
-    let few : length d.parameters ≤ 16 = (all_at IsSoundDeclaration (declarations i) well.sound n d at).few in
+    let few : length d.parameters ≤ max_parameters = (all_at IsSoundDeclaration (declarations i) well.sound n d at).few in
     let within : k < length d.parameters = slice_get_within d.parameters k p (own_at d k p there) in
     ap (option_and_then place_as_id) first.1 ∙ ap place_as_id place ∙ as_id k (omega (arith, few, within))
 

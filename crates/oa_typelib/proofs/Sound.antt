@@ -4,9 +4,9 @@ use Rattle.std.proofs.Common.{find, length, List, [], ◌∷◌, map, Option, So
 use Rattle.std.proofs.lemmas.Option.{none-some}
 use Rattle.std.specs.List.{AllByRecursion}
 use Rattle.std.specs.Option.{option_map, option_and_then, option_or}
+use Rattle.oa_model.specs.Limits.{max_parameters}
 use Rattle.oa_model.specs.declared.var_type.ValueType.{ValueType}
 use Rattle.oa_model.specs.declared.var_type.ValueType.TheVariants.{One, Array}
-use Rattle.oa_variant.specs.Variants.{HasZero}
 use Rattle.oa_idl.specs.Limits.{HasFewParameters}
 use Rattle.oa_idl.specs.MethodValues.{MethodValue}
 use Rattle.oa_idl.specs.Trees.{TreeValue}
@@ -25,12 +25,12 @@ use Rattle.oa_checks.specs.Breaches.{array_in, named_first, is_array, is_bad, ba
 use Rattle.oa_typelib.specs.Checked.{IsChecked}
 use Rattle.oa_checks.specs.DeclarationValues.{DeclarationValue}
 use Rattle.oa_checks.specs.Declarations.{declarations, of_property, of_method, kind_of_method}
-use Rattle.oa_checks.specs.Declarations.{is_form, own_parameters, new_value, type_of_value}
+use Rattle.oa_checks.specs.Declarations.{is_form, own_parameters, new_value}
 use Rattle.oa_checks.specs.Defaults.{default_of}
 use Rattle.oa_checks.specs.Libraries.{marked_item}
 use Rattle.oa_typelib.specs.Members.{is_method}
 use Rattle.oa_checks.specs.Repeats.{first_answer}
-use Rattle.oa_typelib.specs.Typed.{IsDeclarable, IsTypedDeclaration, IsTypedItem}
+use Rattle.oa_typelib.specs.Typed.{IsTypedDeclaration, IsTypedItem}
 use Rattle.oa_checks.specs.declared.fault.CheckError.TheVariants.{UnknownInterface, GetPutDisagree, ArrayParameter, BadDefault}
 use Rattle.oa_typelib.proofs.Found.{holds_typed}
 use Rattle.oa_typelib.proofs.TypedTrees.{marked_typed}
@@ -83,14 +83,6 @@ good : (t : ValueType) (o : Option Literal) → is_bad t o ≡ false → IfSome 
 good t None e = tt
 good t (Some l) e = has_some (default_of t l) e
 
-has_zero : (t : ValueType) → IsDeclarable t → HasZero t
-has_zero (One t) h = h
-has_zero (Array t) h = h
-
-some_zero : (o : Option ValueType) → IfSome o IsDeclarable → IfSome o HasZero
-some_zero None h = tt
-some_zero (Some t) h = has_zero t h
-
 abbrev named_bad : DeclarationValue → Option (List ℕ)
 named_bad d = named_first (λ (p : Parameter). is_bad p.value_type p.default) (own_parameters d)
 
@@ -118,15 +110,15 @@ method_scalars m forms.Put e n h = scalars_of (of_method m) (ap (λ (j : MethodK
 
 property_sound : (p : Property) → IsTypedDeclaration (of_property p) → bad_default_in (of_property p) ≡ None → IsSoundDeclaration (of_property p)
 property_sound p typed good = record {
-  zero = some_zero (type_of_value (of_property p)) (holds_typed (of_property p) typed);
+  zero = holds_typed (of_property p) typed;
   few = omega arith;
   scalars = λ _. property_scalars p p.readonly refl;
   defaults = good_defaults (of_property p) good;
 }
 
-method_sound : (m : MethodValue) → IsTypedDeclaration (of_method m) → length m.parameters ≤ 16 → array_in (of_method m) ≡ None → bad_default_in (of_method m) ≡ None → IsSoundDeclaration (of_method m)
+method_sound : (m : MethodValue) → IsTypedDeclaration (of_method m) → length m.parameters ≤ max_parameters → array_in (of_method m) ≡ None → bad_default_in (of_method m) ≡ None → IsSoundDeclaration (of_method m)
 method_sound m typed few arrays good = record {
-  zero = some_zero (type_of_value (of_method m)) (holds_typed (of_method m) typed);
+  zero = holds_typed (of_method m) typed;
   few = few;
   scalars = method_scalars m m.kind refl arrays;
   defaults = good_defaults (of_method m) good;
@@ -134,7 +126,7 @@ method_sound m typed few arrays good = record {
 
 -- ---- all of them
 
-declared_sound : (ps : List Property) (ms : List MethodValue) → AllByRecursion IsTypedDeclaration (map of_property ps ++ map of_method ms) → AllByRecursion (λ (m : MethodValue). length m.parameters ≤ 16) ms
+declared_sound : (ps : List Property) (ms : List MethodValue) → AllByRecursion IsTypedDeclaration (map of_property ps ++ map of_method ms) → AllByRecursion (λ (m : MethodValue). length m.parameters ≤ max_parameters) ms
     → AllByRecursion (λ d. array_in d ≡ None) (map of_property ps ++ map of_method ms) → AllByRecursion (λ d. bad_default_in d ≡ None) (map of_property ps ++ map of_method ms) → AreSound (map of_property ps ++ map of_method ms)
 declared_sound (p ∷ ps) ms typed few arrays good = (property_sound p typed.0 good.0, declared_sound ps ms typed.1 few arrays.1 good.1)
 declared_sound [] [] typed few arrays good = tt

@@ -7,6 +7,7 @@ use Rattle.oa_model.specs.Types.{sf_type_of}
 use Rattle.oa_model.specs.declared.var_type.VarType.{VarType}
 use Rattle.oa_model.specs.declared.var_type.ValueType.{ValueType}
 use Rattle.oa_model.specs.declared.var_type.ValueType.TheVariants.{One, Array}
+use Rattle.oa_variant.specs.Variants.{HasZero}
 use Rattle.oa_idl.specs.Forms.{Word, Form, listed, nowhere}
 use Rattle.oa_idl.specs.Words.{word_type, type_named, if_cell}
 use Rattle.oa_idl.specs.Grammar.{value_type, property, result_type, parameter, separated, method, methods, members, entry}
@@ -22,7 +23,7 @@ use Rattle.oa_idl.specs.declared.items.Item.{Item}
 use Rattle.oa_idl.specs.declared.items.Item.TheVariants.{Interface, Coclass}
 use Rattle.oa_checks.specs.Declarations.{of_property, of_method}
 use Rattle.oa_checks.specs.Libraries.{marked, marked_item}
-use Rattle.oa_typelib.specs.Typed.{IsDeclarable, IsTypedDeclaration, IsTypedItem, IsTyped, IsOfText}
+use Rattle.oa_typelib.specs.Typed.{IsTypedDeclaration, IsTypedItem, IsTyped, IsOfText}
 
 -- a word that names the type of cells
 guarded : (b : Bool) (o : Option VarType) (t : VarType) → (if b then o else None) ≡ Some t → o ≡ Some t
@@ -44,7 +45,7 @@ word_typed : (unsigned : Bool) (t : VarType) (w : Word) → word_type true unsig
 unfolding word_type
 word_typed unsigned t w e = cell_typed (type_named unsigned w.text) t (guarded _ (if_cell true (type_named unsigned w.text)) t e)
 
-type_typed : (v : ValueType) (ws : List Word) → value_type v ws → IsDeclarable v
+type_typed : (v : ValueType) (ws : List Word) → value_type v ws → HasZero v
 unfolding value_type
 type_typed (One t) ws f = tt
 type_typed (Array t) ws f = ⊎_elim (λ u. word_typed true t u.second.word u.second.is) (λ o. word_typed false t o.word o.is) f.second.second.first
@@ -64,16 +65,16 @@ listed_end F grow apart E P each s (x ∷ xs) b ws l = listed_end F grow apart E
 property_typed : (p : Property) (ws : List Word) → property p ws → IsTypedDeclaration (of_property p)
 property_typed p ws f = (type_typed p.value_type f.second.front f.second.first, tt)
 
-result_typed : (k : MethodKind) (t : Option ValueType) (ws : List Word) → result_type k t ws → IfSome t IsDeclarable
+result_typed : (k : MethodKind) (t : Option ValueType) (ws : List Word) → result_type k t ws → IfSome t HasZero
 unfolding result_type
 result_typed k None ws f = tt
 result_typed k (Some t) ws f = type_typed t ws f.1
 
-parameter_typed : (p : Parameter) (ws : List Word) → parameter p ws → IsDeclarable p.value_type
+parameter_typed : (p : Parameter) (ws : List Word) → parameter p ws → HasZero p.value_type
 unfolding parameter
 parameter_typed p ws f = ⊎_elim (λ l. type_typed p.value_type l.second.front l.second.first) (λ r. type_typed p.value_type r.1.front r.1.first) f
 
-separated_typed : (b : Bool) (p : Parameter) (ws : List Word) → separated b p ws → IsDeclarable p.value_type
+separated_typed : (b : Bool) (p : Parameter) (ws : List Word) → separated b p ws → HasZero p.value_type
 separated_typed true p ws f = parameter_typed p ws f
 separated_typed false p ws f = parameter_typed p f.back f.second
 
@@ -81,7 +82,7 @@ method_typed : (m : MethodValue) (ws : List Word) → method m ws → IsTypedDec
 unfolding method
 method_typed m ws f = let b = f.second in let l = b.second.second.second in (
   result_typed m.kind m.value_type b.front b.first,
-  listed_all _ _ _ _ (λ (p : Parameter). IsDeclarable p.value_type) (λ n. separated_typed (n == 0)) 0 m.parameters tt l.front l.first,
+  listed_all _ _ _ _ (λ (p : Parameter). HasZero p.value_type) (λ n. separated_typed (n == 0)) 0 m.parameters tt l.front l.first,
 )
 
 methods_typed : (n : ℕ) (ms : List MethodValue) (ws : List Word) → methods n ms ws → AllByRecursion (λ m. IsTypedDeclaration (of_method m)) ms

@@ -1,14 +1,12 @@
 -- The types that a library declares.
-use Rattle.std.specs.Prelude.{List, ℕ, IsSome, IfSome}
+use Rattle.std.specs.Prelude.{List, ℕ, IfSome}
 use Rattle.std.specs.List.{AllByRecursion}
-use Rattle.oa_model.specs.Types.{sf_type_of}
-use Rattle.oa_model.specs.declared.var_type.ValueType.{ValueType}
-use Rattle.oa_model.specs.declared.var_type.ValueType.TheVariants.{One, Array}
 use Rattle.oa_idl.specs.IsTree.{IsTree}
 use Rattle.oa_idl.specs.Trees.{TreeValue}
 use Rattle.oa_idl.specs.declared.parts.Parameter.{Parameter}
 use Rattle.oa_idl.specs.declared.items.Item.{Item}
 use Rattle.oa_idl.specs.declared.items.Item.TheVariants.{Interface, Coclass}
+use Rattle.oa_variant.specs.Variants.{HasZero}
 use Rattle.oa_checks.specs.DeclarationValues.{DeclarationValue}
 use Rattle.oa_checks.specs.Declarations.{declarations}
 
@@ -16,14 +14,10 @@ use Rattle.oa_checks.specs.Declarations.{declarations}
 abbrev pub IsOfText : TreeValue → Type 0
 IsOfText tree = (text : List ℕ) × IsTree text tree
 
--- a scalar type, or an array with cells of a type that has an sfType (MS-OAUT section 2.2.8)
-abbrev pub IsDeclarable : ValueType → Type 0
-IsDeclarable (One t) = Unit {0}
-IsDeclarable (Array t) = IsSome (sf_type_of t)
-
--- what it declares has such a type or is void, and each parameter has such a type
+-- what it declares has a type with a zero (MS-OAUT section 2.2.8: cells of an array have an sfType) or is void, and each parameter has
+-- such a type
 abbrev pub IsTypedDeclaration : DeclarationValue → Type 0
-IsTypedDeclaration d = IfSome d.value_type IsDeclarable × AllByRecursion (λ (p : Parameter). IsDeclarable p.value_type) d.parameters
+IsTypedDeclaration d = IfSome d.value_type HasZero × AllByRecursion (λ (p : Parameter). HasZero p.value_type) d.parameters
 
 abbrev pub IsTypedItem : Item → Type 0
 IsTypedItem (Interface i) = AllByRecursion IsTypedDeclaration (declarations i)

@@ -9,7 +9,6 @@ ghost use Rattle.oa_typelib.specs.Bindable.{AreSound, IsBindable};
 ghost use Rattle.oa_typelib.specs.Indexes.{grouped};
 ghost use Rattle.oa_typelib.specs.Members.{forms_with, has_form, member_in, property_in};
 ghost use Rattle.oa_typelib.specs.Names.{names_told};
-ghost use Rattle.oa_typelib.specs.Typed.{IsDeclarable};
 
 use crate::access::{Access, Kind, MemberFault};
 use crate::forms::{Form, Forms, declaration_at};
@@ -142,7 +141,6 @@ impl<'a> Dispinterface<'a> {
     /// scalars, whose defaults are values of their types, and its type is a scalar type or that of an array which there is.
     pub fn member(&self, id: i32, access: Access) -> Result<(Member<'a>, Kind), MemberFault>
         ensures found { result ≡ member_in self.now id access }
-        ensures typed { IfOk result (λ found. IsDeclarable found.0.value_type) }
         ensures bindable { IfOk result (λ found. IsBindable found.0) }
         ensures formed { IfOk result (λ found. has_form found.0 found.1 ≡ true) }
     {

@@ -1,6 +1,7 @@
 -- What reading the text of a library answers.
 use Rattle.std.specs.Prelude.{◌≡◌, ℕ, List, None, Result, Ok, Err}
 use Rattle.std.specs.Str.{IsUtf8}
+use Rattle.oa_idl.specs.IsTree.{MayBeText}
 use Rattle.oa_idl.specs.Trees.{TreeValue}
 use Rattle.oa_idl.specs.declared.stop.ParseError.{ParseError}
 use Rattle.oa_idl.specs.declared.stop.ParseError.TheVariants as parses
@@ -16,11 +17,15 @@ use Rattle.oa_keeps.specs.declared.library_text.TextError.TheVariants.{NoLibrary
 abbrev pub StandsFor : List ℕ → TreeValue → Type 0
 StandsFor bytes library = IsUtf8 bytes × IsLibrary bytes library
 
--- want of memory says nothing
+-- bytes are a text, and not too long for one of a library: only such are read, which takes memory
+abbrev pub MayBeLibrary : List ℕ → Type 0
+MayBeLibrary bytes = IsUtf8 bytes × MayBeText bytes
+
+-- want of memory says no more than that there is a text to be read
 abbrev pub IsTextOf : List ℕ → Result TreeValue TextError → Type 0
 IsTextOf bytes (Ok library) = StandsFor bytes library
 IsTextOf bytes (Err NoLibrary) = (library : TreeValue) → StandsFor bytes library → ⊥
-IsTextOf bytes (Err Memory) = Unit {0}
+IsTextOf bytes (Err Memory) = MayBeLibrary bytes
 
 -- the same of the tree of a text
 abbrev pub IsMade : TreeValue → Result TreeValue TextError → Type 0

@@ -60,7 +60,8 @@ fn made(alloc: Global, tree: Tree) -> Result<Library, TextError>
 }
 
 /// The library of a text in UTF-8. `NoLibrary` where there is none: the bytes are no UTF-8, the text breaks the grammar or a limit, or `check`
-/// refuses its tree. `Memory` where memory was refused, which may come in place of any answer.
+/// refuses its tree. `Memory` where memory was refused, which may come in place of any answer but of one to bytes that are no UTF-8 or more
+/// than a library text has: these take none.
 pub fn read_library(alloc: Global, bytes: &[u8]) -> Result<Library, TextError>
     ensures { IsTextOf bytes.now result }
 {

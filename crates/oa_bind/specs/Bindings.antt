@@ -1,5 +1,5 @@
 -- The call that the arguments make of a property (MS-OAUT section 3.1.4.4), or its first refusal (the order is this project's choice).
-use Rattle.std.specs.Prelude.{ℕ, if◌then◌else◌, List, length, Option, Some, None, Result, Ok, Err}
+use Rattle.std.specs.Prelude.{◌≡◌, ℕ, if◌then◌else◌, List, length, Option, Some, None, Result, Ok, Err}
 use Rattle.std.specs.Option.{unwrap_or}
 use Rattle.oa_model.specs.Codes.{e_invalidarg, disp_e_paramnotfound, disp_e_typemismatch}
 use Rattle.oa_model.specs.declared.var_type.VarType.{VarType}
@@ -74,6 +74,11 @@ bound_call parameters declared kind call = do
   key ← each_at (parameter_value call) 0 parameters
   value ← given_new_value call declared kind
   Ok (record { key = key; value = value })
+
+-- Memory is taken for the key and for the new value: only where neither the names nor their number nor a missing argument is refused.
+pub record TakesMemory (parameters : List Parameter) (kind : Kind) (call : Given) : Type 0 where
+  pub named : well_named parameters kind call.named (length call.arguments) ≡ Ok tt
+  pub full : complete parameters call ≡ Ok tt
 
 abbrev pub bound_to : MemberValue → Kind → Given → Result BoundCallValue BindFault
 bound_to member kind call = bound_call member.parameters member.value_type kind call

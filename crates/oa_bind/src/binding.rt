@@ -1,12 +1,12 @@
 //! Binding a call.
-ghost use Rattle.std.specs.Prelude.{◌≡◌, ◌≤◌, length, map};
+ghost use Rattle.std.specs.Prelude.{◌≡◌, ◌≤◌, length, map, IfErr};
 ghost use Rattle.oa_model.specs.Limits.{max_arguments, max_parameters};
 ghost use Rattle.oa_typelib.specs.Bindable.{IsBindable};
 ghost use Rattle.oa_checks.specs.Defaults.{default_value};
 ghost use Rattle.oa_variant.specs.Variants.{HasZero};
-ghost use Rattle.oa_bind.specs.Bindings.{bound_call, bound_to};
+ghost use Rattle.oa_bind.specs.Bindings.{TakesMemory, bound_call, bound_to};
 ghost use Rattle.oa_bind.specs.Given.{given_call};
-ghost use Rattle.oa_bind.specs.Refusals.{BindsAs};
+ghost use Rattle.oa_bind.specs.Refusals.{BindsAs, lacks_memory};
 
 use crate::names::{check_complete, check_names};
 use crate::values::{key, new_value};
@@ -26,7 +26,7 @@ use std::alloc::Global;
 /// index whose name is that of no parameter, or of one that is given by position too; DISP_E_PARAMNOTOPTIONAL where a parameter that may
 /// not be left out has no argument, or one that says that it is missing (ERROR DISP_E_PARAMNOTFOUND); and then by the parameters' places,
 /// the new value last, DISP_E_TYPEMISMATCH or DISP_E_OVERFLOW with the index of an argument that can't be coerced. E_OUTOFMEMORY without
-/// an index where a growth was refused.
+/// an index where a growth was refused, never in place of one of the first four.
 pub fn bind(
     alloc: Global,
     member: &Member<'_>,
@@ -36,7 +36,9 @@ pub fn bind(
 ) -> Result<BoundCall, BindFault>
     requires bindable { IsBindable member.now }
     requires named { length named.now ≤ max_arguments }
-    ensures { BindsAs (λ c. c) (bound_to member.now kind (record { named = named.now; arguments = arguments.items })) result }
+    ensures call { BindsAs (λ c. c) (bound_to member.now kind (record { named = named.now; arguments = arguments.items })) result }
+    ensures memory { IfErr result (λ fault. fault ≡ lacks_memory
+        → TakesMemory member.now.parameters kind (record { named = named.now; arguments = arguments.items })) }
 {
     bind_parts(
         alloc,
@@ -64,7 +66,8 @@ fn bind_parts(
     requires few { length parameters.now ≤ max_parameters }
     requires zero { HasZero declared }
     requires named { length named.now ≤ max_arguments }
-    ensures { BindsAs (λ c. c) (bound_call parameters.now declared kind (given_call named.now arguments.items)) result }
+    ensures call { BindsAs (λ c. c) (bound_call parameters.now declared kind (given_call named.now arguments.items)) result }
+    ensures memory { IfErr result (λ fault. fault ≡ lacks_memory → TakesMemory parameters.now kind (given_call named.now arguments.items)) }
 {
     check_names(parameters, kind, named, arguments.len())?;
     check_complete(parameters, named, arguments.as_slice())?;

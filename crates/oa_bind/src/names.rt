@@ -1,10 +1,10 @@
 //! What is refused before any value is looked at. None of it takes memory.
-ghost use Rattle.std.specs.Prelude.{◌≡◌, ◌≤◌, ◌<◌, ◌+◌, length, true, IfSome, OnOk};
+ghost use Rattle.std.specs.Prelude.{◌≡◌, ◌≢◌, ◌≤◌, ◌<◌, ◌+◌, length, true, IfErr, IfSome, OnOk};
 ghost use Rattle.std.specs.List.{position_from};
 ghost use Rattle.oa_model.specs.Limits.{max_arguments, max_parameters};
 ghost use Rattle.oa_bind.specs.Given.{given_call};
 ghost use Rattle.oa_bind.specs.Names.{complete, is_consistent, lacks, most, names_none, repeats, well_named};
-ghost use Rattle.oa_bind.specs.Refusals.{any_at};
+ghost use Rattle.oa_bind.specs.Refusals.{any_at, lacks_memory};
 
 use crate::BindFault;
 use crate::given::{index_of, is_parameter, says_missing};
@@ -117,6 +117,7 @@ pub(crate) fn check_names(
     ensures value { result ≡ well_named parameters.now kind named.now count }
     ensures named { OnOk result (length named.now ≤ count) }
     ensures few { OnOk result (count ≤ max_parameters + 1) }
+    ensures memory { IfErr result (λ fault. fault ≢ lacks_memory) }
 {
     if !is_consistent(kind, named, count) {
         return Err(BindFault::of(HResult::E_INVALIDARG));
@@ -139,7 +140,8 @@ pub(crate) fn check_complete(
 ) -> Result<(), BindFault>
     requires few { length parameters.now ≤ max_parameters }
     requires named { length named.now ≤ length arguments.now }
-    ensures { result ≡ complete parameters.now (given_call named.now arguments.now) }
+    ensures value { result ≡ complete parameters.now (given_call named.now arguments.now) }
+    ensures memory { IfErr result (λ fault. fault ≢ lacks_memory) }
 {
     if any_lacks(parameters, named, arguments) {
         return Err(BindFault::of(HResult::DISP_E_PARAMNOTOPTIONAL));

@@ -1,11 +1,11 @@
 -- How many bytes are there where memory is taken: those of a head and its counts.
-use Rattle.std.proofs.Common.{◌≡◌, ℕ, ℤ, ◌+◌, ◌≤◌, true, List, length, Some, ap, arith}
+use Rattle.std.proofs.Common.{◌≡◌, ℕ, ℤ, ◌+◌, ◌≤◌, List, length, Some, ap, arith}
 use Rattle.std.proofs.lemmas.List.{length-append}
 use Rattle.oa_ndr.specs.Reading.{Cursor, at, unit_at}
 use Rattle.oa_ndr.proofs.Laws.{unit_reads}
 use Rattle.oa_record.specs.CallParts.{CallParts}
 use Rattle.oa_record.specs.Layouts.{Layout, opcode_of, guid, dispid, call_head, call_parts, get_ids, fields, layout}
-use Rattle.oa_record.specs.Opcodes.{takes_memory}
+use Rattle.oa_record.specs.Opcodes.{before_memory}
 use Rattle.oa_record.specs.Reading.{guid_at, call_head_at, FaultReaches}
 use Rattle.oa_record.specs.declared.request.CallHead.{CallHead}
 use Rattle.oa_record.specs.declared.request.GetIds.{GetIds}
@@ -56,8 +56,22 @@ head_length h p bytes a =
       g.first,
     )
 
-call_length : (c : CallParts) (p : ℕ) (bytes : List ℕ) → call_parts c p bytes → 48 ≤ length bytes
-call_length c p bytes a = omega (arith, ap length a.parts, length-append a.front a.back, head_length c.head p a.front a.first)
+call_length : (c : CallParts) (p : ℕ) (bytes : List ℕ) → call_parts c p bytes → 56 ≤ length bytes
+call_length c p bytes a =
+    let b = a.second in
+    let d = b.second in
+    omega (
+      arith,
+      ap length a.parts,
+      length-append a.front a.back,
+      head_length c.head p a.front a.first,
+      ap length b.parts,
+      length-append b.front b.back,
+      b.first.len,
+      ap length d.parts,
+      length-append d.front d.back,
+      d.first.len,
+    )
 
 get_ids_length : (q : GetIds) (p : ℕ) (bytes : List ℕ) → get_ids q p bytes → 48 ≤ length bytes
 get_ids_length q p bytes a =
@@ -88,25 +102,25 @@ get_ids_length q p bytes a =
       f.first.len,
     )
 
-fields_length : (parts : Layout) (p : ℕ) (bytes : List ℕ) → takes_memory (opcode_of parts) ≡ true → fields parts p bytes → 48 ≤ length bytes
-fields_length (Layout.CreateBody class) p bytes takes form = absurd cc
-fields_length (Layout.ReleaseBody object) p bytes takes form = absurd cc
-fields_length (Layout.GetIdsBody call) p bytes takes form = get_ids_length call p bytes form
-fields_length (Layout.InvokeBody call) p bytes takes form = call_length call p bytes form
-fields_length (Layout.GetElementBody element) p bytes takes form =
+fields_length : (parts : Layout) (p : ℕ) (bytes : List ℕ) → fields parts p bytes → before_memory (opcode_of parts) ≤ length bytes
+fields_length (Layout.CreateBody class) p bytes form = omega arith
+fields_length (Layout.ReleaseBody object) p bytes form = omega arith
+fields_length (Layout.GetIdsBody call) p bytes form = get_ids_length call p bytes form
+fields_length (Layout.InvokeBody call) p bytes form = call_length call p bytes form
+fields_length (Layout.GetElementBody element) p bytes form =
     omega (arith, ap length form.parts, length-append form.front form.back, call_length element.call p form.front form.first)
-fields_length (Layout.PutElementBody put) p bytes takes form =
+fields_length (Layout.PutElementBody put) p bytes form =
     let a = form.first in
     omega (arith, ap length form.parts, length-append form.front form.back, ap length a.parts, length-append a.front a.back, call_length put.element.call p a.front a.first)
-fields_length (Layout.RedimensionBody redim) p bytes takes form =
+fields_length (Layout.RedimensionBody redim) p bytes form =
     omega (arith, ap length form.parts, length-append form.front form.back, call_length redim.call p form.front form.first)
-fields_length (Layout.LockBody call) p bytes takes form = call_length call p bytes form
-fields_length (Layout.UnlockBody call) p bytes takes form = call_length call p bytes form
-fields_length (Layout.TypeInfoBody index) p bytes takes form = absurd cc
-fields_length Layout.ObjectsBody p bytes takes form = absurd cc
+fields_length (Layout.LockBody call) p bytes form = call_length call p bytes form
+fields_length (Layout.UnlockBody call) p bytes form = call_length call p bytes form
+fields_length (Layout.TypeInfoBody index) p bytes form = omega arith
+fields_length Layout.ObjectsBody p bytes form = omega arith
 
-pub layout_length : (parts : Layout) (body : List ℕ) → takes_memory (opcode_of parts) ≡ true → layout parts 0 body → 56 ≤ length body
-layout_length parts body takes a =
+pub layout_length : (parts : Layout) (body : List ℕ) → layout parts 0 body → 8 + before_memory (opcode_of parts) ≤ length body
+layout_length parts body a =
     let b = a.second in
     let c = b.second in
     omega (
@@ -120,7 +134,7 @@ layout_length parts body takes a =
       ap length c.parts,
       length-append c.front c.back,
       c.first,
-      fields_length parts _ c.back takes c.second,
+      fields_length parts _ c.back c.second,
     )
 
 -- what is read is there

@@ -1,12 +1,12 @@
 -- The opcode of a body stands at the offset 4.
-use Rattle.std.proofs.Common.{◌≡◌, ℕ, ◌+◌, ◌≤◌, List, [], ◌∷◌, ◌++◌, length, drop, Some, ap, subst, ◌∙◌, arith}
+use Rattle.std.proofs.Common.{◌≡◌, ℕ, ◌+◌, ◌<◌, ◌≤◌, List, [], ◌∷◌, ◌++◌, length, drop, Some, ap, subst, sym, ◌∙◌, arith}
 use Rattle.std.proofs.lemmas.List.{drop_at, length-append}
 use Rattle.byteorder.specs.Endian.{little_number}
 use Rattle.oa_ndr.specs.Forms.{padding, unit}
 use Rattle.oa_ndr.specs.Reading.{Cursor, at, unit_at}
 use Rattle.oa_ndr.proofs.Laws.{unit_reads}
 use Rattle.oa_record.specs.Layouts.{Layout, opcode_of, layout}
-use Rattle.oa_record.specs.Opcodes.{opcode_number, opcode_named, opcode_at, opcode_takes_memory, some_takes_memory}
+use Rattle.oa_record.specs.Opcodes.{opcode_number, opcode_named, opcode_at, before_memory, some_before_memory, opcode_before_memory}
 use Rattle.oa_record.specs.declared.opcode.Opcode.{Opcode}
 use Rattle.oa_record.specs.Reading.{IsStarved, IsStarvedBody}
 use Rattle.oa_record.specs.declared.fault.RecordFault.{RecordFault}
@@ -59,4 +59,6 @@ opcode_read body x n y s t u e f g =
 pub starves : (e : RecordFault) (body : List ℕ) (n : ℕ) (opcode : Opcode) (s : Cursor) → 8 + length s.rest ≤ length body → opcode_at body ≡ n → opcode_named n ≡ Some opcode → IsStarved e opcode s → IsStarvedBody e body
 starves Stub body n opcode s long at is h = tt
 starves (BadVarType i) body n opcode s long at is h = tt
-starves Memory body n opcode s long at is h = (omega (arith, long, h.1), ap opcode_takes_memory at ∙ ap some_takes_memory is ∙ h.0)
+starves Memory body n opcode s long at is h =
+    let same : opcode_before_memory (opcode_at body) ≡ before_memory opcode = ap opcode_before_memory at ∙ ap some_before_memory is in
+    (subst (λ (k : ℕ). 0 < k) (sym same) h.0, subst (λ (k : ℕ). 8 + k ≤ length body) (sym same) (omega (arith, long, h.1)))

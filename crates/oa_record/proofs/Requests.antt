@@ -1,6 +1,6 @@
 -- A body asks one request, or is refused.
-use Rattle.std.proofs.Common.{◌≡◌, inl, inr, ℕ, ℤ, ◌≤◌, true, List, [], ◌∷◌, ◌++◌, length, Option, Some, None, Result, Ok, Err, refl, sym}
-use Rattle.std.proofs.Common.{ap, subst, ◌∙◌}
+use Rattle.std.proofs.Common.{◌≡◌, inl, inr, ℕ, ℤ, ◌+◌, ◌<◌, ◌≤◌, List, [], ◌∷◌, ◌++◌, length, Option, Some, None, Result, Ok, Err, refl, sym}
+use Rattle.std.proofs.Common.{ap, subst, ◌∙◌, arith}
 use Rattle.oa_model.specs.Limits.{max_request_bytes}
 use Rattle.oa_ndr.specs.Reading.{whole}
 use Rattle.oa_ndr.proofs.Laws.{one_value, whole_takes, whole_again}
@@ -9,7 +9,7 @@ use Rattle.oa_wire_variant.specs.Variants.{Spells}
 use Rattle.oa_wire_array.specs.declared.fault.WireFault.{WireFault}
 use Rattle.oa_record.specs.CallParts.{CallParts}
 use Rattle.oa_record.specs.Layouts.{Layout, opcode_of, variant_fields}
-use Rattle.oa_record.specs.Opcodes.{opcode_number, opcode_at, opcode_takes_memory, some_takes_memory, takes_memory}
+use Rattle.oa_record.specs.Opcodes.{opcode_number, opcode_at, before_memory, some_before_memory, opcode_before_memory}
 use Rattle.oa_record.specs.Reading.{parts_of_element, put_of, layout_at, ReadingFails, IsStarvedBody}
 use Rattle.oa_record.specs.Judging.{Requests, RefusesFields, TakesRequest, put_fault, put_index}
 use Rattle.oa_record.specs.declared.opcode.Opcode.TheVariants as opcodes
@@ -115,7 +115,7 @@ pub no_parts : (body : List ℕ) (e : RecordFault) → length body ≤ max_reque
     → IsRequest body (Err e)
 no_parts body Stub short none s = inl (no_layout body none)
 no_parts body (BadVarType i) short none s = absurd none
-no_parts body Memory short none s = record { long = s.0; short = short; opcode = s.1 }
+no_parts body Memory short none s = record { opcode = s.0; long = s.1; short = short }
 
 -- what the values of a layout answer is the answer
 pub asks : (body : List ℕ) (parts : Layout) (q : Request) → length body ≤ max_request_bytes → whole layout_at body ≡ Some parts → TakesRequest parts q
@@ -129,7 +129,8 @@ refuses body parts (BadVarType index) short read h = record { parts = parts; lie
 refuses body parts Memory short read h =
     let lies = lies_so body parts short read in
     let at = opcode_lies parts body lies.form in
-    record { long = layout_length parts body h lies.form; short = short; opcode = ap opcode_takes_memory at.1 ∙ ap some_takes_memory (named_back (opcode_of parts)) ∙ h }
+    let same : opcode_before_memory (opcode_at body) ≡ before_memory (opcode_of parts) = ap opcode_before_memory at.1 ∙ ap some_before_memory (named_back (opcode_of parts)) in
+    record { opcode = subst (λ (k : ℕ). 0 < k) (sym same) h; long = subst (λ (k : ℕ). 8 + k ≤ length body) (sym same) (layout_length parts body lies.form); short = short }
 
 pub answered : (body : List ℕ) (parts : Layout) (r : Result Request RecordFault) → length body ≤ max_request_bytes
     → whole layout_at body ≡ Some parts → Requests parts r → IsRequest body r
@@ -139,7 +140,7 @@ answered body parts (Err e) short read h = refuses body parts e short read h
 -- ---- the values of a layout
 
 -- where the arguments are all values that there are
-pub refuses_call : (parts : Layout) (c : CallParts) (e : RecordFault) → variant_fields parts ≡ c.fields → ((place : ℕ) → field_index parts place ≡ Some place) → takes_memory (opcode_of parts) ≡ true → RefusesFields c.fields e → Requests parts (Err e)
+pub refuses_call : (parts : Layout) (c : CallParts) (e : RecordFault) → variant_fields parts ≡ c.fields → ((place : ℕ) → field_index parts place ≡ Some place) → 0 < before_memory (opcode_of parts) → RefusesFields c.fields e → Requests parts (Err e)
 refuses_call parts c Stub fields place memory h = subst HasBroken (sym fields) h
 refuses_call parts c (BadVarType index) fields place memory h = record { place = h.0; bad = subst (λ (fs : List (List ℕ)). HasBadType fs h.0) (sym fields) h.2; named = h.1 ∙ sym (place h.0) }
 refuses_call parts c Memory fields place memory h = memory
@@ -164,4 +165,4 @@ takes_put call indices value all values last q spelled parts is = record {
 pub refuses_put : (call : CallParts) (indices : List ℤ) (value : List ℕ) (e : RecordFault) → RefusesFields (call.fields ++ value ∷ []) e → Requests (put_body call indices value) (Err (put_fault (length call.fields) e))
 refuses_put call indices value Stub h = h
 refuses_put call indices value (BadVarType index) h = record { place = h.0; bad = h.2; named = ap (put_index (length call.fields)) h.1 }
-refuses_put call indices value Memory h = refl
+refuses_put call indices value Memory h = omega arith

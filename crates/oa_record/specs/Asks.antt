@@ -1,5 +1,5 @@
 -- Which body asks which request, and the refusal of a body that asks none (this project's choice).
-use Rattle.std.specs.Prelude.{◌≡◌, ◌⊎◌, ℕ, ◌≤◌, ◌==◌, nat_lt, if◌then◌else◌, true, List, [], ◌∷◌, ◌++◌, length, Option, Some, None, Result}
+use Rattle.std.specs.Prelude.{◌≡◌, ◌⊎◌, ℕ, ◌+◌, ◌<◌, ◌≤◌, ◌==◌, nat_lt, if◌then◌else◌, List, [], ◌∷◌, ◌++◌, length, Option, Some, None, Result}
 use Rattle.std.specs.Prelude.{Ok, Err}
 use Rattle.std.specs.List.{AllByRecursion}
 use Rattle.byteorder.specs.Endian.{little_number}
@@ -10,7 +10,7 @@ use Rattle.oa_wire_array.specs.declared.fault.WireFault.{WireFault}
 use Rattle.oa_wire_array.specs.declared.fault.WireFault.TheVariants as faults
 use Rattle.oa_record.specs.CallParts.{CallParts}
 use Rattle.oa_record.specs.Layouts.{Layout, layout, variant_fields}
-use Rattle.oa_record.specs.Opcodes.{opcode_at, opcode_takes_memory}
+use Rattle.oa_record.specs.Opcodes.{opcode_at, opcode_before_memory}
 use Rattle.oa_record.specs.declared.opcode.Opcode.{Opcode}
 use Rattle.oa_record.specs.declared.opcode.Opcode.TheVariants as opcodes
 use Rattle.oa_record.specs.declared.request.Call.{Call}
@@ -150,12 +150,12 @@ pub record IsBadVarType (body : List ℕ) (index : Option ℕ) : Type 0 where
 abbrev pub tag_at : List ℕ → ℕ
 tag_at body = if nat_lt (length body) 8 then 0 else little_number 4 body
 
--- The body is of an opcode whose bodies take memory to be read, and has the 8 bytes before the fields and at least 48 of a head and its
--- counts, behind which memory is taken. No other body is answered with want of memory.
+-- The body is of an opcode whose bodies take memory to be read, and has the 8 bytes before the fields and those of the fields behind which
+-- memory is taken: 56 in all of a look-up, 64 of a call. No other body is answered with want of memory.
 pub record MayStarve (body : List ℕ) : Type 0 where
-  pub long : 56 ≤ length body
+  pub opcode : 0 < opcode_before_memory (opcode_at body)
+  pub long : 8 + opcode_before_memory (opcode_at body) ≤ length body
   pub short : length body ≤ max_request_bytes
-  pub opcode : opcode_takes_memory (opcode_at body) ≡ true
 
 -- what reading a body answers
 abbrev pub IsRequest : List ℕ → Result Request RecordFault → Type 0

@@ -1,10 +1,10 @@
 -- What the values of some fields are, or the first fault. (This project's choice.)
-use Rattle.std.specs.Prelude.{◌≡◌, ℕ, ◌==◌, if◌then◌else◌, true, List, Option, Some, None, Result, Ok, Err}
+use Rattle.std.specs.Prelude.{◌≡◌, ℕ, ◌<◌, ◌==◌, if◌then◌else◌, List, Option, Some, None, Result, Ok, Err}
 use Rattle.std.specs.List.{AllByRecursion}
 use Rattle.oa_variant.specs.declared.variant.Variant.{Variant}
 use Rattle.oa_wire_array.specs.declared.fault.WireFault.TheVariants as faults
 use Rattle.oa_record.specs.Layouts.{Layout, opcode_of, variant_fields}
-use Rattle.oa_record.specs.Opcodes.{takes_memory}
+use Rattle.oa_record.specs.Opcodes.{before_memory}
 use Rattle.oa_record.specs.Asks.{AllSpell, IsUnbroken, SpellsNothing, HasBroken, HasBadType, field_index, request_of}
 use Rattle.oa_record.specs.declared.request.Request.{Request}
 use Rattle.oa_record.specs.declared.fault.RecordFault.{RecordFault}
@@ -52,7 +52,7 @@ abbrev pub Requests : Layout → Result Request RecordFault → Type 0
 Requests parts (Ok request) = TakesRequest parts request
 Requests parts (Err Stub) = HasBroken (variant_fields parts)
 Requests parts (Err (BadVarType index)) = MissesType parts index
-Requests parts (Err Memory) = takes_memory (opcode_of parts) ≡ true
+Requests parts (Err Memory) = 0 < before_memory (opcode_of parts)
 
 -- the index of a place where the first so many values are arguments, and the next one is none
 abbrev pub put_index : ℕ → Option ℕ → Option ℕ

@@ -1,5 +1,5 @@
 -- The opcodes and their numbers (this project's choice).
-use Rattle.std.specs.Prelude.{ℕ, Bool, true, false, ◌==◌, nat_lt, if◌then◌else◌, List, length, drop, Option, Some, None}
+use Rattle.std.specs.Prelude.{ℕ, ◌==◌, nat_lt, if◌then◌else◌, List, length, drop, Option, Some, None}
 use Rattle.byteorder.specs.Endian.{little_number}
 use Rattle.oa_record.specs.declared.opcode.Opcode.{Opcode}
 use Rattle.oa_record.specs.declared.opcode.Opcode.TheVariants as opcodes
@@ -44,25 +44,25 @@ opcode_at body = little_number 2 (drop 4 body)
 abbrev pub opcode_in : List ℕ → Option Opcode
 opcode_in body = if nat_lt (length body) 8 then None else opcode_named (opcode_at body)
 
--- The opcodes whose bodies take memory to be read: for names, for the lists of a call, for indices. The others have fields of a fixed
--- length.
-abbrev pub takes_memory : Opcode → Bool
-takes_memory opcodes.Create = false
-takes_memory opcodes.Release = false
-takes_memory opcodes.GetIds = true
-takes_memory opcodes.Invoke = true
-takes_memory opcodes.GetElement = true
-takes_memory opcodes.PutElement = true
-takes_memory opcodes.Redimension = true
-takes_memory opcodes.Lock = true
-takes_memory opcodes.Unlock = true
-takes_memory opcodes.TypeInfo = false
-takes_memory opcodes.Objects = false
+-- How many bytes of its fields a body has before memory is taken to read it: those before the names of a look-up, and before the lists of a
+-- call; 0 of an opcode whose fields have a fixed length.
+abbrev pub before_memory : Opcode → ℕ
+before_memory opcodes.Create = 0
+before_memory opcodes.Release = 0
+before_memory opcodes.GetIds = 48
+before_memory opcodes.Invoke = 56
+before_memory opcodes.GetElement = 56
+before_memory opcodes.PutElement = 56
+before_memory opcodes.Redimension = 56
+before_memory opcodes.Lock = 56
+before_memory opcodes.Unlock = 56
+before_memory opcodes.TypeInfo = 0
+before_memory opcodes.Objects = 0
 
-abbrev pub some_takes_memory : Option Opcode → Bool
-some_takes_memory None = false
-some_takes_memory (Some opcode) = takes_memory opcode
+abbrev pub some_before_memory : Option Opcode → ℕ
+some_before_memory None = 0
+some_before_memory (Some opcode) = before_memory opcode
 
--- the numbers of opcodes whose bodies take memory to be read
-abbrev pub opcode_takes_memory : ℕ → Bool
-opcode_takes_memory n = some_takes_memory (opcode_named n)
+-- the same of an opcode's number
+abbrev pub opcode_before_memory : ℕ → ℕ
+opcode_before_memory n = some_before_memory (opcode_named n)

@@ -1,5 +1,5 @@
 -- Reading a layout as a function on lists, which says the same as the forms (proofs/LayoutLaws has the laws). (This project's choice.)
-use Rattle.std.specs.Prelude.{◌≡◌, ℕ, ℤ, ◌≤◌, ◌&&◌, nat_le, true, List, length, Option, Some, None, Result, Ok, Err}
+use Rattle.std.specs.Prelude.{◌≡◌, ℕ, ℤ, ◌+◌, ◌<◌, ◌≤◌, ◌&&◌, nat_le, List, length, Option, Some, None, Result, Ok, Err}
 use Rattle.std.specs.Int.{w32, cast_signed}
 use Rattle.oa_model.specs.Limits.{max_arguments, max_dimensions, max_names}
 use Rattle.oa_ndr.specs.Reading.{Cursor, Reading, ◌>>=◌, give, fail, choose, unit_at, bytes_at, align_at, many}
@@ -8,7 +8,7 @@ use Rattle.oa_model.specs.declared.bound.Bound.{Bound}
 use Rattle.oa_wire_array.specs.ArrayReading.{bound_at}
 use Rattle.oa_record.specs.CallParts.{CallParts, ElementParts, PutParts, RedimParts}
 use Rattle.oa_record.specs.Layouts.{Layout}
-use Rattle.oa_record.specs.Opcodes.{opcode_named, opcode_at, opcode_takes_memory, takes_memory}
+use Rattle.oa_record.specs.Opcodes.{opcode_named, opcode_at, opcode_before_memory, before_memory}
 use Rattle.oa_record.specs.declared.opcode.Opcode.{Opcode}
 use Rattle.oa_record.specs.declared.opcode.Opcode.TheVariants as opcodes
 use Rattle.oa_record.specs.declared.request.CallHead.{CallHead}
@@ -47,11 +47,11 @@ abbrev pub Reaches : {X : Type 0} → ℕ → Result X RecordFault → Cursor �
 Reaches n (Ok x) s = n ≤ length s.rest
 Reaches n (Err e) s = FaultReaches n e s
 
--- want of memory comes only where the opcode takes some, behind the 48 bytes of a look-up's head and count, or the 56 of a call's
+-- want of memory comes only where the opcode takes some, and behind the bytes before it
 abbrev pub IsStarved : RecordFault → Opcode → Cursor → Type 0
 IsStarved Stub opcode s = Unit {0}
 IsStarved (BadVarType i) opcode s = Unit {0}
-IsStarved Memory opcode s = (takes_memory opcode ≡ true) × (48 ≤ length s.rest)
+IsStarved Memory opcode s = (0 < before_memory opcode) × (before_memory opcode ≤ length s.rest)
 
 abbrev pub StarvesAt : {X : Type 0} → Result X RecordFault → Opcode → Cursor → Type 0
 StarvesAt (Ok x) opcode s = Unit {0}
@@ -61,7 +61,7 @@ StarvesAt (Err e) opcode s = IsStarved e opcode s
 abbrev pub IsStarvedBody : RecordFault → List ℕ → Type 0
 IsStarvedBody Stub body = Unit {0}
 IsStarvedBody (BadVarType i) body = Unit {0}
-IsStarvedBody Memory body = (56 ≤ length body) × (opcode_takes_memory (opcode_at body) ≡ true)
+IsStarvedBody Memory body = (0 < opcode_before_memory (opcode_at body)) × (8 + opcode_before_memory (opcode_at body) ≤ length body)
 
 abbrev pub Starves : {X : Type 0} → Result X RecordFault → List ℕ → Type 0
 Starves (Ok x) body = Unit {0}

@@ -126,7 +126,7 @@ fn call_head(r: &mut Ndr<'_>) -> Result<CallHead, Short>
 #[tactic(auto, unfolding(oa_ndr::specs::Reading::steps, crate::specs::Reading::call_at, crate::specs::Reading::lists_at))]
 fn call<'a>(alloc: Global, r: &mut Ndr<'a>) -> Result<RawCall<'a>, RecordFault>
     ensures answers { ReadsBody (λ x. x) result r.new (call_at r.old) }
-    ensures long { Reaches 48 result r.old }
+    ensures long { Reaches 56 result r.old }
 {
     let head = call_head(r)?;
     let count = r.u32()?;
@@ -221,7 +221,7 @@ fn indices(alloc: Global, r: &mut Ndr<'_>) -> Result<Indices, RecordFault>
 #[tactic(auto, unfolding(oa_ndr::specs::Reading::steps, crate::specs::Reading::element_at))]
 fn element<'a>(alloc: Global, r: &mut Ndr<'a>) -> Result<(RawCall<'a>, Indices), RecordFault>
     ensures answers { ReadsBody (λ x. parts_of_element x.0 x.1) result r.new (element_at r.old) }
-    ensures long { Reaches 48 result r.old }
+    ensures long { Reaches 56 result r.old }
 {
     let call = call(alloc, r)?;
     let indices = indices(alloc, r)?;
@@ -316,7 +316,7 @@ fn number(r: &mut Ndr<'_>) -> Result<u32, Short>
 #[tactic(auto, unfolding(oa_ndr::specs::Reading::bind, oa_ndr::specs::Reading::give, crate::specs::Reading::fields_at))]
 fn get_element<'a>(alloc: Global, r: &mut Ndr<'a>) -> Result<Parts<'a>, RecordFault>
     ensures answers { ReadsBody shown result r.new (fields_at opcodes.GetElement r.old) }
-    ensures long { Reaches 48 result r.old }
+    ensures long { Reaches 56 result r.old }
 {
     let (call, indices) = element(alloc, r)?;
     Ok(Parts::GetElement(call, indices))
@@ -326,7 +326,7 @@ fn get_element<'a>(alloc: Global, r: &mut Ndr<'a>) -> Result<Parts<'a>, RecordFa
 #[tactic(auto, unfolding(oa_ndr::specs::Reading::steps, crate::specs::Reading::fields_at, crate::specs::Reading::put_at))]
 fn put_element<'a>(alloc: Global, r: &mut Ndr<'a>) -> Result<Parts<'a>, RecordFault>
     ensures answers { ReadsBody shown result r.new (fields_at opcodes.PutElement r.old) }
-    ensures long { Reaches 48 result r.old }
+    ensures long { Reaches 56 result r.old }
 {
     let (call, indices) = element(alloc, r)?;
     Ok(Parts::PutElement(call, indices, field(r)?))
@@ -336,7 +336,7 @@ fn put_element<'a>(alloc: Global, r: &mut Ndr<'a>) -> Result<Parts<'a>, RecordFa
 #[tactic(auto, unfolding(oa_ndr::specs::Reading::steps, crate::specs::Reading::fields_at, crate::specs::Reading::redim_at))]
 fn redimension<'a>(alloc: Global, r: &mut Ndr<'a>) -> Result<Parts<'a>, RecordFault>
     ensures answers { ReadsBody shown result r.new (fields_at opcodes.Redimension r.old) }
-    ensures long { Reaches 48 result r.old }
+    ensures long { Reaches 56 result r.old }
 {
     let call = call(alloc, r)?;
     let bound = bound(r)?;
@@ -364,7 +364,7 @@ fn fields_of<'a>(alloc: Global, opcode: Opcode, r: &mut Ndr<'a>) -> Result<Parts
     }
 }
 
-/// The parts of a whole body. Want of memory comes only where the opcode's body takes some, behind the head and the counts.
+/// The parts of a whole body. Want of memory comes only where the opcode's body takes some, behind the bytes before it.
 #[tactic(auto, unfolding(oa_ndr::specs::Reading::steps, crate::specs::Reading::layout_at, crate::specs::Reading::named_at))]
 pub(crate) fn read_parts(alloc: Global, body: &[u8]) -> Result<Parts<'_>, RecordFault>
     ensures all { ReadsBodyToItsEnd shown result (whole layout_at body.now) }

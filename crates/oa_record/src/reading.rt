@@ -168,7 +168,7 @@ fn request(alloc: Global, parts: Parts<'_>) -> Result<Request, RecordFault>
 /// `Stub` where the body is laid out as no request, has more than `MAX_REQUEST_BYTES`, more than 32 arguments or named ones,
 /// no name or more than 17, or more than 16 indices, and where the field of a value is broken; else `BadVarType` for the first value with a
 /// type outside the profile: with its index in rgvarg, or None for the new value of an element. `Memory` only for an opcode whose bodies
-/// take memory to be read, in a body of 56 to `MAX_REQUEST_BYTES`.
+/// take memory to be read, in a body of `MAX_REQUEST_BYTES` at most and of 64 at least, or 56 for a look-up of names.
 pub fn read_request(alloc: Global, body: &[u8]) -> Result<Request, RecordFault>
     ensures { IsRequest body.now result }
 {

@@ -29,16 +29,6 @@ pub field_is : (old head bytes : List ℕ) (n : ℕ) → length bytes ≡ n → 
 field_is old head bytes n is =
     rw (← is) (append_assoc (old ++ head) bytes (replicate (padding 8 (length bytes)) 0) ∙ append_assoc old head (padded bytes))
 
-few_zeros : (b : Bool) (x : ℕ) → (if b then 0 else 8 - x) ≤ 8
-few_zeros true x = omega arith
-few_zeros false x = omega arith
-
-pub small_field : (n : ℕ) (ids : List ℤ) → length ids ≤ max_names → length (number_field n ++ padded (flat_map signed_word ids)) ≤ max_fields_bytes
-small_field n ids few =
-    let bytes = flat_map signed_word ids in
-    let zeros = few_zeros (eqb (length bytes % 8) 0) (length bytes % 8) in
-    omega (arith, number_length n, signed_length ids, zeros, length-append (number_field n) (padded bytes), length-append bytes (replicate (padding 8 (length bytes)) 0), length-replicate {A = ℕ} (padding 8 (length bytes)) 0)
-
 positive : (x : ℕ) → (x ≡ 0 → ⊥) → 1 ≤ x
 positive zero n = absurd (n refl)
 positive (suc x) n = omega arith
@@ -54,6 +44,10 @@ zeros_below x = by_test (eqb x 0) refl
 pub value_small : (n : ℕ) (bytes : List ℕ) → length bytes ≤ max_value_bytes → length (number_field n ++ padded bytes) ≤ max_fields_bytes
 value_small n bytes few =
     omega (arith, few, number_length n, zeros_below (length bytes % 8), length-append (number_field n) (padded bytes), length-append bytes (replicate (padding 8 (length bytes)) 0), length-replicate {A = ℕ} (padding 8 (length bytes)) 0)
+
+-- and that of DISPIDs
+pub small_field : (n : ℕ) (ids : List ℤ) → length ids ≤ max_names → length (number_field n ++ padded (flat_map signed_word ids)) ≤ max_fields_bytes
+small_field n ids few = value_small n (flat_map signed_word ids) (omega (arith, few, signed_length ids))
 
 -- a field that was written at the end of a vector
 pub field_added : {E : Type 0} (r : Result (Unit {0}) E) (old whole : List ℕ) (new : FieldOutput) (put : List ℕ → List ℕ) → whole ≡ new.before ++ new.field → OnOk r (new ≡ in_field put (field_after old)) → OnOk r (whole ≡ old ++ put [])

@@ -19,7 +19,7 @@ pub enum RecordFault {
     /// argument.
     #[error("bad variable type")]
     BadVarType(Option<u32>),
-    /// The allocator had no block for the values.
+    /// The allocator had no block for a value, a name or a list of the request.
     #[error("out of memory")]
     Memory,
 }

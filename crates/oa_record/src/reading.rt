@@ -196,8 +196,8 @@ fn value_call(alloc: Global, parts: ValueParts<'_>) -> Option<ValueCall>
     }
 }
 
-/// The call of an INVOKE that brings no more than a put's new value, read without a list. None of any other body, and of one that
-/// `read_request` refuses.
+/// The call of an INVOKE that brings no more than a put's new value, read without a list. None of any other body, of one that
+/// `read_request` refuses, and where the value gets no block.
 pub fn read_value_call(alloc: Global, body: &[u8]) -> Option<ValueCall>
     ensures { IfSome result (λ call. Asks body.now (Invoke (bringing call.head call.value))) }
 {

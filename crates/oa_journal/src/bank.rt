@@ -210,6 +210,8 @@ impl Bank {
             self.new disk.old disk.new result }
         ensures reads { IsTrue (D.is_honest disk.new) → OnlyReads D.contents D.image D.moment D.image_since disk.old disk.new }
         ensures after { AfterCalls D.Disk disk.old disk.new result }
+        // at most six calls, and one for two bytes of the body, whatever is answered
+        ensures most { IsTrue (D.is_honest disk.new) → D.moment disk.new ≤ D.moment disk.old + (12 + body_bytes self.old.shape) }
     {
         match bank_at(alloc, disk, self.shape, self.head, self.body, buffer) {
             Ok((library, table, gate, buffer)) => {

@@ -352,6 +352,7 @@ fn read_groups<D: Disk>(
     ensures after { AfterCalls D.Disk disk.old disk.new result }
     ensures cause { IfErr result (IsCaused (D.failures_of disk.old) (D.failures_of disk.new)) }
     // two calls a group, and one more for each gate: no group has fewer than six bytes with its gate
+    ensures most { IsTrue (D.is_honest disk.new) → D.moment disk.new + from ≤ D.moment disk.old + (6 + size) }
     ensures calls { IfOk result (λ r. IsTrue (D.is_honest disk.new) → D.moment disk.new + from ≤ D.moment disk.old + (2 + r.1)) }
 {
     let end = body + u64::from(size);
@@ -395,6 +396,7 @@ pub(crate) fn bank_at<D: Disk>(
     ensures after { AfterCalls D.Disk disk.old disk.new result }
     ensures cause { IfErr result (IsCaused (D.failures_of disk.old) (D.failures_of disk.new)) }
     ensures calls { IfOk result (λ r. IsTrue (D.is_honest disk.new) → D.moment disk.new + length r.0.items ≤ D.moment disk.old + (8 + r.2)) }
+    ensures most { IsTrue (D.is_honest disk.new) → D.moment disk.new ≤ D.moment disk.old + (12 + body_bytes shape) }
 {
     let (told, first) = first_at(alloc, disk, shape, head, body)?;
     let library = read_part(alloc, disk, body, told.library as usize)?;

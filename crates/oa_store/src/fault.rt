@@ -15,7 +15,7 @@ pub enum FormatFault {
     /// It has fewer bytes than those of format 1 and two bodies of the size that is asked for.
     #[error("disk too small")]
     TooSmall,
-    /// A call of the device failed. The disk holds no store now, or one that is whole.
+    /// A call of the device failed. The disk holds what it held but for its first byte, or no store, or the new one.
     #[error("device: {0}")]
     Device(DeviceFault),
     /// There is no memory to write a bank's bytes from. Nothing was done.

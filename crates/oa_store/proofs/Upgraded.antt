@@ -16,8 +16,10 @@ use Rattle.oa_journal.specs.declared.bank.BankFault.TheVariants as banks
 use Rattle.oa_journal.specs.Replies.{IsCaused as IsBankCaused}
 use Rattle.oa_store.specs.declared.fault.FindFault.{FindFault}
 use Rattle.oa_store.specs.declared.fault.FindFault.TheVariants as finds
+use Rattle.oa_store.specs.declared.fault.UpgradeFault.{UpgradeFault}
+use Rattle.oa_store.specs.declared.fault.UpgradeFault.TheVariants as upgrades
 use Rattle.oa_store.specs.Changes.{IsMove, IsMoved, IsUpgrade}
-use Rattle.oa_store.specs.Faults.{HeadSays, HasOldShape, IsBeheaded, IsSpoilt, IsOld, IsCaused, IsCausedUpgrade, IsFailed, IsFailedUpgrade, UpgradeSays, DeviceTells, UpgradeDeviceTells, of_finding, upgrade_of_bank, upgrade_of_finding}
+use Rattle.oa_store.specs.Faults.{HeadSays, HasOldShape, IsBeheaded, IsSpoilt, IsOld, IsCaused, IsCausedUpgrade, CanBeBrought, IsFailed, IsFailedUpgrade, ReadingTells, UpgradeSays, DeviceTells, UpgradeDeviceTells, of_finding, upgrade_of_bank, upgrade_of_finding}
 use Rattle.oa_store.proofs.OneStore.{one_store_at}
 use Rattle.oa_store.specs.Stores.{body_place, head_place, IsStoreAt, IsStoreIn}
 
@@ -35,16 +37,26 @@ caused_early before now (finds.Damaged place) is = is
 caused_early before now (finds.Device fault) is = is
 caused_early before now finds.Memory is = is
 
-failed_upgrade : (contents : List ℕ) (before after : List ℕ → Type 0) (fault : DeviceFault) → IsFailed contents before after fault
-    → IsFailedUpgrade contents before after fault
-failed_upgrade contents before after devices.Read is = is
-failed_upgrade contents before after devices.Write is = inl is
+failed_upgrade : (bank : ℕ) (contents : List ℕ) (before after : List ℕ → Type 0) (fault : DeviceFault) → IsFailed contents before after fault
+    → IsFailedUpgrade bank contents before after fault
+failed_upgrade bank contents before after devices.Read is = is
+failed_upgrade bank contents before after devices.Write is = inl is
+
+-- what is told before the first write
+pub upgrade_tells : (bank : ℕ) (contents : List ℕ) (before after : List ℕ → Type 0) (e : UpgradeFault) → ReadingTells contents before after e
+    → UpgradeDeviceTells bank contents before after e
+upgrade_tells bank contents before after upgrades.TooSmall is = tt
+upgrade_tells bank contents before after upgrades.NotAStore is = tt
+upgrade_tells bank contents before after upgrades.AlreadyNew is = tt
+upgrade_tells bank contents before after (upgrades.Damaged place) is = tt
+upgrade_tells bank contents before after (upgrades.Device fault) is = failed_upgrade bank contents before after fault is
+upgrade_tells bank contents before after upgrades.Memory is = tt
 
 pub tells_early : (contents : List ℕ) (before after : List ℕ → Type 0) (e : FindFault) → DeviceTells contents before after (of_finding e)
-    → UpgradeDeviceTells contents before after (upgrade_of_finding e)
+    → ReadingTells contents before after (upgrade_of_finding e)
 tells_early contents before after finds.NotAStore is = tt
 tells_early contents before after (finds.Damaged place) is = tt
-tells_early contents before after (finds.Device fault) is = failed_upgrade contents before after fault is
+tells_early contents before after (finds.Device fault) is = is
 tells_early contents before after finds.Memory is = tt
 
 -- and one once it is looked at
@@ -62,16 +74,17 @@ caused_late before now banks.Memory is = is
 
 pub read_tells : (contents : List ℕ) (before after : List ℕ → Type 0) (e : BankFault)
     → ((fault : DeviceFault) → e ≡ banks.Device fault → fault ≡ devices.Read) → Only contents after
-    → UpgradeDeviceTells contents before after (upgrade_of_bank e)
+    → ReadingTells contents before after (upgrade_of_bank e)
 read_tells contents before after (banks.Damaged place) read only = tt
 read_tells contents before after (banks.Device fault) read only =
-    subst (λ (f : DeviceFault). IsFailedUpgrade contents before after f) (sym (read fault refl)) only
+    subst (λ (f : DeviceFault). IsFailed contents before after f) (sym (read fault refl)) only
 read_tells contents before after banks.Memory read only = tt
 
 -- a write fails once a store is found
-pub write_failed : (contents : List ℕ) (before after : List ℕ → Type 0) (fault : DeviceFault) → fault ≡ devices.Write
-    → (library : List ℕ) × (table : TableValue) × IsStoreIn One contents library table → IsFailedUpgrade contents before after fault
-write_failed contents before after fault is store = subst (λ (f : DeviceFault). IsFailedUpgrade contents before after f) (sym is) (inr store)
+pub write_failed : (bank : ℕ) (contents : List ℕ) (before after : List ℕ → Type 0) (fault : DeviceFault) → fault ≡ devices.Write
+    → CanBeBrought bank contents → IsFailedUpgrade bank contents before after fault
+write_failed bank contents before after fault is store =
+    subst (λ (f : DeviceFault). IsFailedUpgrade bank contents before after f) (sym is) (inr store)
 
 -- what a call does that succeeds was done where it has succeeded
 pub was_done : (T E P : Type 0) (result : Result T E) → is_ok result ≡ true → OnOk result P → P

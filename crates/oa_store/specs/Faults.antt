@@ -186,6 +186,14 @@ pub record IsTooLarge (bank : ℕ) (contents : List ℕ) : Type 0 where
   pub store : IsStoreIn One contents library table
   pub large : (max_library_bytes < length library) ⊎ (bank < length (table_image table) + reserved_bytes)
 
+-- a store of format 1 of a library that a server takes, and a table that a body of that size takes
+pub record CanBeBrought (bank : ℕ) (contents : List ℕ) : Type 0 where
+  pub library : List ℕ
+  pub table : TableValue
+  pub store : IsStoreIn One contents library table
+  pub short : length library ≤ max_library_bytes
+  pub fits : FitsBank bank table
+
 -- The contents were a store of format 1, and each image is one of format 2 with what it held, none of it too large for a server.
 pub record IsBrought (bank : ℕ) (contents : List ℕ) (image : List ℕ → Type 0) : Type 0 where
   pub library : List ℕ
@@ -224,16 +232,25 @@ IsCausedUpgrade before now (upgrades.Damaged place) = now ≡ before
 IsCausedUpgrade before now (upgrades.Device fault) = HasCounted before now
 IsCausedUpgrade before now upgrades.Memory = now ≡ before
 
--- Which kind of call of an upgrade failed: a write or a sync, but for the one at the start, fails only once a store of format 1 is found.
-abbrev pub IsFailedUpgrade : List ℕ → (List ℕ → Type 0) → (List ℕ → Type 0) → DeviceFault → Type 0
-IsFailedUpgrade contents before after devices.Read = Only contents after
-IsFailedUpgrade contents before after devices.Write = ((c : List ℕ) → before c → after c)
-    ⊎ ((library : List ℕ) × (table : TableValue) × IsStoreIn One contents library table)
+-- what a fault of the device tells of an upgrade that has not written yet
+abbrev pub ReadingTells : List ℕ → (List ℕ → Type 0) → (List ℕ → Type 0) → UpgradeFault → Type 0
+ReadingTells contents before after upgrades.TooSmall = ⊤
+ReadingTells contents before after upgrades.NotAStore = ⊤
+ReadingTells contents before after upgrades.AlreadyNew = ⊤
+ReadingTells contents before after (upgrades.Damaged place) = ⊤
+ReadingTells contents before after (upgrades.Device fault) = IsFailed contents before after fault
+ReadingTells contents before after upgrades.Memory = ⊤
 
-abbrev pub UpgradeDeviceTells : List ℕ → (List ℕ → Type 0) → (List ℕ → Type 0) → UpgradeFault → Type 0
-UpgradeDeviceTells contents before after upgrades.TooSmall = ⊤
-UpgradeDeviceTells contents before after upgrades.NotAStore = ⊤
-UpgradeDeviceTells contents before after upgrades.AlreadyNew = ⊤
-UpgradeDeviceTells contents before after (upgrades.Damaged place) = ⊤
-UpgradeDeviceTells contents before after (upgrades.Device fault) = IsFailedUpgrade contents before after fault
-UpgradeDeviceTells contents before after upgrades.Memory = ⊤
+-- Which kind of call of an upgrade to bodies of a size failed: a write or a sync, but for the one at the start, fails only once a store of
+-- format 1 is found that such a body takes.
+abbrev pub IsFailedUpgrade : ℕ → List ℕ → (List ℕ → Type 0) → (List ℕ → Type 0) → DeviceFault → Type 0
+IsFailedUpgrade bank contents before after devices.Read = Only contents after
+IsFailedUpgrade bank contents before after devices.Write = ((c : List ℕ) → before c → after c) ⊎ CanBeBrought bank contents
+
+abbrev pub UpgradeDeviceTells : ℕ → List ℕ → (List ℕ → Type 0) → (List ℕ → Type 0) → UpgradeFault → Type 0
+UpgradeDeviceTells bank contents before after upgrades.TooSmall = ⊤
+UpgradeDeviceTells bank contents before after upgrades.NotAStore = ⊤
+UpgradeDeviceTells bank contents before after upgrades.AlreadyNew = ⊤
+UpgradeDeviceTells bank contents before after (upgrades.Damaged place) = ⊤
+UpgradeDeviceTells bank contents before after (upgrades.Device fault) = IsFailedUpgrade bank contents before after fault
+UpgradeDeviceTells bank contents before after upgrades.Memory = ⊤

@@ -1,5 +1,5 @@
 -- What refusals of a format and of an upgrade say. (This project's choice.)
-use Rattle.std.specs.Prelude.{◌≡◌, ◌↔◌, ℕ, ◌<◌, IsTrue, Result, IsErrOf}
+use Rattle.std.specs.Prelude.{◌≡◌, ◌↔◌, ℕ, ◌+◌, ◌<◌, ◌≤◌, IsTrue, Result, IsErrOf}
 use Rattle.oa_disk.specs.declared.disk.Disk.{Ghosts}
 use Rattle.oa_journal.specs.declared.shape.Shape.TheVariants.{Two}
 use Rattle.oa_journal.specs.Shapes.{disk_bytes}
@@ -19,4 +19,6 @@ pub record RefusesUpgrade {D : Type 0} (g : Ghosts D) (size : ℕ) (old new : D)
   -- But for a write or a sync that failed, it comes before the first write.
   pub refused : IsRefusedUpgrade fault → IsTrue (g.is_honest new) → WritesNothing g.image g.moment g.image_since old new
   pub cause : IsCausedUpgrade (g.failures_of old) (g.failures_of new) fault
-  pub tells : IsTrue (g.is_honest new) → UpgradeDeviceTells (g.contents old) (g.image old) (g.image new) fault
+  pub tells : IsTrue (g.is_honest new) → UpgradeDeviceTells size (g.contents old) (g.image old) (g.image new) fault
+  -- Then at most ten calls were made, and one for two bytes of the disk.
+  pub calls : IsRefusedUpgrade fault → IsTrue (g.is_honest new) → g.moment new ≤ g.moment old + (20 + g.size_of old)

@@ -58,6 +58,7 @@ pub record Refuses {D : Type 0} (g : Ghosts D) (wanted : Option (List ℕ)) (old
   pub early : IsTrue (g.is_honest new) → IsForeign (g.size_of old) (g.contents old) → ComesOfForeign fault
   pub cause : IsCaused (g.failures_of old) (g.failures_of new) fault
   pub tells : IsTrue (g.is_honest new) → DeviceTells (g.contents old) (g.image old) (g.image new) fault
+  pub calls : IsTrue (g.is_honest new) → g.moment new ≤ g.moment old + (24 + g.size_of old)
 
 -- A store of this library was opened on the disk, with its table.
 pub record FindsStore {D : Type 0} (g : Ghosts D) (library : List ℕ) (disk : D) (store : Store D g) (table : TableValue) : Type 0 where
@@ -87,6 +88,8 @@ pub record RefusesDisk {D : Type 0} (g : Ghosts D) (library : List ℕ) (disk ba
   pub cause : IsCaused (g.failures_of disk) (g.failures_of back) fault
   -- Read is told once all that was written is on the device, and Write where the sync at the start failed.
   pub tells : IsTrue (g.is_honest back) → DeviceTells (g.contents disk) (g.image disk) (g.image back) fault
+  -- at most twelve calls, and one for two bytes of the disk
+  pub calls : IsTrue (g.is_honest back) → g.moment back ≤ g.moment disk + (24 + g.size_of disk)
 
 -- A store of some library was found in some format, with its table.
 pub record FindsAny {D : Type 0} (g : Ghosts D) (disk new : D) (library : List ℕ) (table : TableValue) : Type 0 where
@@ -106,3 +109,5 @@ pub record RefusesAny {D : Type 0} (g : Ghosts D) (disk new : D) (fault : OpenFa
   pub any_format : fault ≡ OldFormat → ⊥
   pub cause : IsCaused (g.failures_of disk) (g.failures_of new) fault
   pub tells : IsTrue (g.is_honest new) → DeviceTells (g.contents disk) (g.image disk) (g.image new) fault
+  -- at most ten calls, and one for two bytes of the disk
+  pub calls : IsTrue (g.is_honest new) → g.moment new ≤ g.moment disk + (20 + g.size_of disk)

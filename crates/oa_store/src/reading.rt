@@ -85,6 +85,7 @@ fn read_all<D: Disk>(
     ensures after { AfterCalls D.Disk disk.old disk.new result }
     ensures calls { IfOk result (λ r. IsTrue (D.is_honest disk.new)
         → D.moment disk.new + length r.0.items ≤ D.moment disk.old + (8 + bank.new.gate)) }
+    ensures most { IsTrue (D.is_honest disk.new) → D.moment disk.new ≤ D.moment disk.old + (12 + D.size_of disk.old) }
 {
     bank.read_all(alloc, disk, buffer)
 }
@@ -167,6 +168,7 @@ pub(crate) fn look<D: Disk>(
     ensures after { AfterCalls D.Disk disk.old disk.new result }
     ensures calls { IfOk result (λ r. IsTrue (D.is_honest disk.new)
         → D.moment disk.new + length r.0.items ≤ D.moment disk.old + (8 + r.2.gate)) }
+    ensures most { IsTrue (D.is_honest disk.new) → D.moment disk.new ≤ D.moment disk.old + (12 + D.size_of disk.old) }
 {
     let mut bank = bank_of(shape, chosen);
     let (library, table, buffer) = read_all(alloc, disk, &mut bank, buffer)?;

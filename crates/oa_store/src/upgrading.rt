@@ -11,7 +11,7 @@ ghost use Rattle.oa_journal.specs.declared.shape.Shape.TheVariants.{One, Two};
 ghost use Rattle.oa_store.specs.declared.fault.UpgradeFault.{UpgradeFault};
 ghost use Rattle.oa_store.specs.Calls.{piece_bytes, checkpoint_calls};
 ghost use Rattle.oa_store.specs.Changes.{IsUpgrade};
-ghost use Rattle.oa_store.specs.Faults.{IsBrought, IsCausedUpgrade, UpgradeSays, UpgradeDeviceTells};
+ghost use Rattle.oa_store.specs.Faults.{CanBeBrought, IsBrought, IsCausedUpgrade, ReadingTells, UpgradeSays};
 ghost use Rattle.oa_store.specs.Making.{RefusesSmall, RefusesUpgrade};
 ghost use Rattle.oa_store.specs.Reads.{WritesNothing};
 ghost use Rattle.oa_store.specs.Stores.{IsStoreAt, IsStoreIn};
@@ -49,10 +49,11 @@ fn find_old<D: Disk>(alloc: Global, disk: &mut D) -> Result<Old, UpgradeFault>
     ensures says { IfErr result (λ e. IsTrue (D.is_honest disk.new) → (bank : ℕ) → UpgradeSays bank (D.size_of disk.old) (D.contents disk.old) e) }
     ensures cause { IfErr result (IsCausedUpgrade (D.failures_of disk.old) (D.failures_of disk.new)) }
     ensures tells { IfErr result (λ e. IsTrue (D.is_honest disk.new)
-        → UpgradeDeviceTells (D.contents disk.old) (D.image disk.old) (D.image disk.new) e) }
+        → ReadingTells (D.contents disk.old) (D.image disk.old) (D.image disk.new) e) }
     ensures small { IsErrOf result UpgradeFault.TooSmall → ⊥ }
     ensures reads { IsTrue (D.is_honest disk.new) → WritesNothing D.image D.moment D.image_since disk.old disk.new }
     ensures after { AfterCalls D.Disk disk.old disk.new result }
+    ensures most { IsTrue (D.is_honest disk.new) → D.moment disk.new ≤ D.moment disk.old + (20 + D.size_of disk.old) }
 {
     let (chosen, head) = find_head(disk)?;
     if let Shape::Two(_) = head.shape {
@@ -83,6 +84,8 @@ fn find_fitting<D: Disk>(alloc: Global, disk: &mut D, size: u32) -> Result<Old, 
     ensures buffer { IfOk result (λ o. length o.buffer.items ≡ piece_bytes) }
     ensures synced { OnOk result (IsTrue (D.is_honest disk.new) → Only (D.contents disk.old) (D.image disk.new)) }
     ensures refused { IfErr result (λ e. RefusesUpgrade D.Disk size disk.old disk.new e) }
+    ensures tells { IfErr result (λ e. IsTrue (D.is_honest disk.new)
+        → ReadingTells (D.contents disk.old) (D.image disk.old) (D.image disk.new) e) }
     ensures small { IsErrOf result UpgradeFault.TooSmall → ⊥ }
     ensures reads { IsTrue (D.is_honest disk.new) → WritesNothing D.image D.moment D.image_since disk.old disk.new }
     ensures after { AfterCalls D.Disk disk.old disk.new result }
@@ -103,11 +106,13 @@ pub fn check_upgrade<D: Disk>(alloc: Global, disk: &mut D, size: u32) -> Result<
     requires { least_bank_bytes ≤ size }
 
     // At `Ok` it is a store of format 1, of a library that a server takes and a table that such a body has room for.
-    ensures found { OnOk result (IsTrue (D.is_honest disk.new) → (library : List ℕ) × (table : TableValue)
-        × IsStoreIn One (D.contents disk.old) library table × (length library ≤ max_library_bytes) × FitsBank size table) }
+    ensures found { OnOk result (IsTrue (D.is_honest disk.new) → CanBeBrought size (D.contents disk.old)) }
     // So it is a store in each image, and that one alone.
     ensures synced { OnOk result (IsTrue (D.is_honest disk.new) → Only (D.contents disk.old) (D.image disk.new)) }
     ensures refused { IfErr result (λ e. RefusesUpgrade D.Disk size disk.old disk.new e) }
+    // A fault of a write is that of the sync at the start.
+    ensures tells { IfErr result (λ e. IsTrue (D.is_honest disk.new)
+        → ReadingTells (D.contents disk.old) (D.image disk.old) (D.image disk.new) e) }
     // That the disk has no room for format 2 is no reason.
     ensures any_size { IsErrOf result UpgradeFault.TooSmall → ⊥ }
     // at most the calls of a reading, as `inspect` makes them

@@ -22,6 +22,7 @@ returns-in_err-found-clause-refused g c =
       early = search rules;
       cause = search rules;
       tells = search rules;
+      calls = λ h. omega (arith, c.find_room.ensures.calls h);
     })
 
 pub returns-in_err-text-clause-refused : goal.returns-in_err-text-clause-refused
@@ -30,6 +31,7 @@ returns-in_err-text-clause-refused g c =
     let fault = c.in_err-text.field-0.0 in
     rw (p.1, p.2) (record {
       early = search rules;
+      calls = λ h. omega (arith, c.find_room.ensures.calls (c.read_library.ensures.after.honest h), c.read_library.ensures.calls h);
       cause = subst (λ (n : ℕ). IsCaused n (g.D.Disk.failures_of c.read_library.new.disk) (of_bank fault)) c.in_ok-found.ensures.after.unfailed (bank_caused _ _ fault c.in_err-text.ensures.cause);
       tells = λ h.
           let h1 = c.read_library.ensures.after.honest h in
@@ -53,6 +55,10 @@ returns-in_err-table-clause-refused g c =
     let fault = c.in_err-table.field-0.0 in
     rw (p.1, p.2) (record {
       early = search rules;
+      calls = λ h.
+          let h2 = c.read_all.ensures.after.honest h in
+          let sizes : g.D.Disk.size_of c.read_library.new.disk ≡ g.D.Disk.size_of c.args.disk.now = c.read_library.ensures.after.size ∙ c.find_room.ensures.after.size in
+          omega (arith, sizes, c.find_room.ensures.calls (c.read_library.ensures.after.honest h2), c.read_library.ensures.calls h2, c.read_all.ensures.most h);
       cause = subst (λ (n : ℕ). IsCaused n (g.D.Disk.failures_of c.read_all.new.disk) (of_bank fault)) (c.in_ok-text.ensures.after.unfailed ∙ c.in_ok-found.ensures.after.unfailed) (bank_caused _ _ fault c.in_err-table.ensures.cause);
       tells = λ h.
           let h2 = c.read_all.ensures.after.honest h in

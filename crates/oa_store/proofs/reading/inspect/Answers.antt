@@ -18,6 +18,7 @@ returns-in_err-chosen-clause-refused g c =
       any_format = search rules;
       cause = search rules;
       tells = search rules;
+      calls = λ h. omega (arith, c.find_head.ensures.calls h);
     })
 
 pub returns-in_err-library-clause-refused : goal.returns-in_err-library-clause-refused
@@ -28,6 +29,7 @@ returns-in_err-library-clause-refused g c =
       early = search rules;
       any_library = search rules;
       any_format = search rules;
+      calls = λ h. omega (arith, c.find_head.ensures.calls (c.look.ensures.after.honest h), c.find_head.ensures.after.size, c.look.ensures.most h);
       cause = subst (λ (n : ℕ). IsCaused n (g.D.Disk.failures_of c.look.new.disk) (of_bank fault)) c.in_ok-chosen.ensures.after.unfailed (bank_caused _ _ fault c.in_err-library.ensures.cause);
       tells = λ h.
           let h1 = c.look.ensures.after.honest h in

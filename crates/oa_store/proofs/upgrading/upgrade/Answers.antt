@@ -97,4 +97,5 @@ returns-in_err-map_err-clause-refused g c =
       refused = search rules;
       cause = search rules;
       tells = search rules;
+      calls = search rules;
     })

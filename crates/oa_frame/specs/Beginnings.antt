@@ -1,4 +1,4 @@
--- What a session begins with. (This project's choice.)
+-- What a session begins with, and keeps of it. (This project's choice.)
 use Rattle.std.specs.Prelude.{◌≡◌, ◌+◌, ◌≤◌, ℕ, false}
 use Rattle.oa_model.specs.Limits.{max_line_characters, max_request_bytes}
 use Rattle.oa_stream.specs.Sink.{Output}
@@ -13,3 +13,8 @@ pub record AreUnbroken (input : Input) (out : Output) : Type 0 where
 pub record HoldLongest (line body : ℕ) : Type 0 where
   pub line_places : max_line_characters + 1 ≤ line
   pub body_places : max_request_bytes ≤ body
+
+-- two buffers have no fewer places than they had
+pub record KeepPlaces (line line' body body' : ℕ) : Type 0 where
+  pub line_places : line ≤ line'
+  pub body_places : body ≤ body'

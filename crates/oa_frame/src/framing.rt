@@ -1,7 +1,7 @@
 //! How bodies stand in bytes.
-ghost use Rattle.std.specs.Prelude.{◌≤◌, length, vec_capacity};
+ghost use Rattle.std.specs.Prelude.{length, vec_capacity};
 ghost use Rattle.oa_stream.specs.Ahead.{ahead};
-ghost use Rattle.oa_frame.specs.Beginnings.{AreUnbroken, HoldLongest};
+ghost use Rattle.oa_frame.specs.Beginnings.{AreUnbroken, HoldLongest, KeepPlaces};
 ghost use Rattle.oa_frame.specs.Framings.{GrowsTo, Hands, Inputs, FitsBuffer, frames, ends_in_read_fault};
 ghost use Rattle.oa_frame.specs.Paces.{Paced};
 
@@ -45,8 +45,7 @@ pub fn read_body<R: Source + Drop, W: Sink>(
 ) -> Read
     requires buffers { HoldLongest (vec_capacity line.now) (vec_capacity body.now) }
     requires unbroken { AreUnbroken (ahead R.input reader.old) (W.out writer.old) }
-    ensures capacity { vec_capacity line.old ≤ vec_capacity line.new }
-    ensures buffer { vec_capacity body.old ≤ vec_capacity body.new }
+    ensures places { KeepPlaces (vec_capacity line.old) (vec_capacity line.new) (vec_capacity body.old) (vec_capacity body.new) }
     ensures within { FitsBuffer result body.new.items }
     ensures longest { GrowsTo result (length body.old.items) (length body.new.items) }
     ensures input { Inputs (frames framing) result number body.new.items (ahead R.input reader.old).left (ahead R.input reader.new).left }

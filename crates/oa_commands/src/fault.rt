@@ -66,7 +66,7 @@ pub enum Fault {
     /// A read of a store's file failed.
     #[error("device fault 0x8003001e")]
     DeviceRead,
-    /// The requests end within a record or a line.
+    /// The requests end within a record.
     #[error("record cut")]
     Cut,
     /// A record or a line is too long.

@@ -1,5 +1,5 @@
 //! A checkpoint between two sessions, and its stop.
-ghost use Rattle.std.specs.Prelude.{◌≡◌, ◌↔◌, false, IsTrue, IfOk, IfErr};
+ghost use Rattle.std.specs.Prelude.{◌≡◌, false, IfOk, IfErr};
 ghost use Rattle.oa_disk.specs.Memory.{contents_of};
 ghost use Rattle.oa_journal.specs.Shapes.{body_bytes};
 ghost use Rattle.oa_image.specs.Tables.{FitsBank};

@@ -56,8 +56,8 @@ fn stepped(
 /// replies had been handed out. A checkpoint keeps the state. The state that is told at last is the one that the last stop has kept. A request
 /// that was not answered with S_OK leaves no trace in it.
 ///
-/// Memory is taken for each disk's calls and for what they write. An Err says that it was refused, or that a disk has no room for a store or
-/// for a call more: no opening is refused.
+/// Memory is taken for each disk's calls and for what they write. An Err says that it was refused, that a disk has no room for a store or
+/// for a call more, or that the canonical text of some checked library does not stand for it: no opening is refused.
 pub fn relive(
     alloc: Global,
     library: &Library,

@@ -2,6 +2,7 @@
 sources with a planted fault. What is not installed leaves its tests out, each by its name."""
 import concurrent.futures
 import contextlib
+import fcntl
 import functools
 import glob
 import os
@@ -13,6 +14,7 @@ import socket
 import struct
 import subprocess
 import tempfile
+import termios
 import threading
 import time
 import unittest
@@ -78,7 +80,7 @@ class Server:
         self.words, self.looks, self.spoils, self.requests = None, False, 0, []
         self.types_left, self.is_last = 0, False
         self.chance = random.Random(20261126)
-        self.child = None
+        self.child = self.client = None
         self.port = 0
         self.listen()
 
@@ -97,6 +99,7 @@ class Server:
                 client, _ = listening.accept()
             except OSError:
                 return
+            self.client = client
             with client:
                 client.setsockopt(socket.IPPROTO_TCP, socket.TCP_NODELAY, 1)
                 if self.looks:
@@ -147,6 +150,13 @@ class Server:
             place = self.chance.randrange(4 if self.chance.random() < 0.97 else 0, len(whole))
             changed[place] = self.chance.choice((0, 1, 2, 0x20, 0x7F, 0x80, 0xFF, self.chance.randrange(256)))
         return bytes(changed)
+
+    def kill_at_request(self, child, seconds=TIMEOUT / 2):
+        """Kills a client's program, which is stopped, once bytes of that client wait unread."""
+        until = time.monotonic() + seconds
+        while time.monotonic() < until and not struct.unpack("i", fcntl.ioctl(self.client, termios.FIONREAD, bytes(4)))[0]:
+            time.sleep(0.05)
+        child.kill()
 
     def ends(self, child, seconds=20):
         """Waits until a client's program has ended, since the client has hung up."""
@@ -360,11 +370,11 @@ class UnderWine(Told):
         return f"{'ok   ' if ended else 'BAD  '}its server ends\n{plain(told)}"
 
     def lost(self):
-        """What a script tells whose server is killed while it has a put."""
+        """What a script tells whose server is killed while it has a put: once that waits unread in front of it."""
         held = self.held("lost.vbs")
         child = self.server.child
         child.send_signal(signal.SIGSTOP)
-        threading.Timer(1.5, child.kill).start()
+        threading.Thread(target=self.server.kill_at_request, args=(child,), daemon=True).start()
         return self.finish(held)
 
 

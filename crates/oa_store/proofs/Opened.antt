@@ -1,5 +1,5 @@
 -- What an opening finds.
-use Rattle.std.proofs.Common.{◌≡◌, ◌⊎◌, inl, inr, ⊎_elim, ◌∙◌, ℕ, List, Bool, Option, Some, length, refl, sym, subst, arith}
+use Rattle.std.proofs.Common.{◌≡◌, ◌⊎◌, inl, inr, ⊎_elim, ◌∙◌, ℕ, ◌+◌, ◌≤◌, List, Bool, Option, Some, length, refl, sym, subst, arith}
 use Rattle.oa_disk.specs.Disk.{Only}
 use Rattle.oa_disk.specs.declared.disk.DeviceFault.{DeviceFault}
 use Rattle.oa_disk.specs.declared.disk.DeviceFault.TheVariants as devices
@@ -20,7 +20,7 @@ use Rattle.oa_store.specs.declared.fault.FindFault.{FindFault}
 use Rattle.oa_store.specs.declared.fault.FindFault.TheVariants as finds
 use Rattle.oa_store.specs.declared.fault.OpenFault.{OpenFault}
 use Rattle.oa_store.specs.declared.fault.OpenFault.TheVariants.{NotAStore, OldFormat, LibraryDiffers, Damaged, Device, Memory}
-use Rattle.oa_store.specs.Faults.{SpeaksOfContents, HeadSays, IsBeheaded, IsCaused, IsDamaged, IsFailed, IsSpoilt, HasWanted, RefusalSays, DeviceTells, finding_of_bank, of_bank, of_finding}
+use Rattle.oa_store.specs.Faults.{SpeaksOfContents, HeadSays, IsBeheaded, IsCaused, IsDamaged, IsFailed, IsSpoilt, HasWanted, RefusalSays, DeviceTells, moments_until, finding_of_bank, of_bank, of_finding}
 use Rattle.oa_store.specs.Stores.{body_place, head_place, IsFormatted, IsStoreAt, IsNewStore}
 
 -- what holds of the bytes where a bank stands holds of them under other names
@@ -68,6 +68,30 @@ pub bank_caused : (before now : ℕ) (e : BankFault) → IsBankCaused before now
 bank_caused before now (banks.Damaged place) is = is
 bank_caused before now (banks.Device fault) is = is
 bank_caused before now banks.Memory is = is
+
+-- how far the clock rises until a refusal: of a search for a bank, of one for its head, and once the bank is looked at
+pub until_bank : (before now : ℕ) (e : FindFault) → now ≤ before + 6 → now ≤ before + moments_until 8 (of_finding e)
+until_bank before now finds.NotAStore is = is
+until_bank before now (finds.Damaged place) is = omega (arith, is)
+until_bank before now (finds.Device fault) is = omega (arith, is)
+until_bank before now finds.Memory is = omega (arith, is)
+
+pub until_head : (before now : ℕ) (e : BankFault) → now ≤ before + 8 → now ≤ before + moments_until 8 (of_finding (finding_of_bank e))
+until_head before now (banks.Damaged place) is = is
+until_head before now (banks.Device fault) is = is
+until_head before now banks.Memory is = is
+
+pub until_body : (most before now : ℕ) (e : FindFault) → 8 ≤ most → now ≤ before + moments_until 8 (of_finding e)
+    → now ≤ before + moments_until most (of_finding e)
+until_body most before now finds.NotAStore more is = is
+until_body most before now (finds.Damaged place) more is = omega (arith, more, is)
+until_body most before now (finds.Device fault) more is = omega (arith, more, is)
+until_body most before now finds.Memory more is = omega (arith, more, is)
+
+pub until_late : (most before now : ℕ) (e : BankFault) → now ≤ before + most → now ≤ before + moments_until most (of_bank e)
+until_late most before now (banks.Damaged place) is = is
+until_late most before now (banks.Device fault) is = is
+until_late most before now banks.Memory is = is
 
 -- which call has failed
 pub read_failed : (contents : List ℕ) (before after : List ℕ → Type 0) (fault : DeviceFault) → fault ≡ devices.Read → Only contents after

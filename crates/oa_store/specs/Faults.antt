@@ -71,6 +71,15 @@ ComesOfForeign (Damaged place) = ⊥
 ComesOfForeign (Device fault) = ⊤
 ComesOfForeign Memory = ⊥
 
+-- How far the clock rises at most until a refusal, two moments a call: one that comes before a body is looked at comes after few calls.
+abbrev pub moments_until : ℕ → OpenFault → ℕ
+moments_until most NotAStore = 6
+moments_until most OldFormat = 8
+moments_until most LibraryDiffers = 12
+moments_until most (Damaged place) = most
+moments_until most (Device fault) = most
+moments_until most Memory = most
+
 -- one that speaks of the device is given only where a call has failed, and any other where none has
 abbrev pub IsCaused : ℕ → ℕ → OpenFault → Type 0
 IsCaused before now NotAStore = now ≡ before

@@ -15,7 +15,7 @@ use Rattle.oa_store.specs.declared.fault.OpenFault.{OpenFault}
 use Rattle.oa_store.specs.declared.fault.OpenFault.TheVariants.{LibraryDiffers, OldFormat}
 use Rattle.oa_store.specs.declared.reading.Found.{Found}
 use Rattle.oa_store.specs.declared.store.Store.{Store}
-use Rattle.oa_store.specs.Faults.{of_finding, IsCaused, ComesOfForeign, SpeaksOfContents, HeadSays, RefusalSays, DeviceTells}
+use Rattle.oa_store.specs.Faults.{of_finding, IsCaused, ComesOfForeign, SpeaksOfContents, HeadSays, RefusalSays, DeviceTells, moments_until}
 use Rattle.oa_store.specs.Stores.{body_place, head_place, store_bytes, IsFormatted, IsForeign, IsNewStore, IsStore, IsStoreAt}
 use Rattle.oa_table.specs.Tables.{TableValue, unlocked_table}
 
@@ -58,7 +58,7 @@ pub record Refuses {D : Type 0} (g : Ghosts D) (wanted : Option (List ℕ)) (old
   pub early : IsTrue (g.is_honest new) → IsForeign (g.size_of old) (g.contents old) → ComesOfForeign fault
   pub cause : IsCaused (g.failures_of old) (g.failures_of new) fault
   pub tells : IsTrue (g.is_honest new) → DeviceTells (g.contents old) (g.image old) (g.image new) fault
-  pub calls : IsTrue (g.is_honest new) → g.moment new ≤ g.moment old + (24 + g.size_of old)
+  pub calls : IsTrue (g.is_honest new) → g.moment new ≤ g.moment old + moments_until (24 + g.size_of old) fault
 
 -- A store of this library was opened on the disk, with its table.
 pub record FindsStore {D : Type 0} (g : Ghosts D) (library : List ℕ) (disk : D) (store : Store D g) (table : TableValue) : Type 0 where
@@ -88,8 +88,8 @@ pub record RefusesDisk {D : Type 0} (g : Ghosts D) (library : List ℕ) (disk ba
   pub cause : IsCaused (g.failures_of disk) (g.failures_of back) fault
   -- Read is told once all that was written is on the device, and Write where the sync at the start failed.
   pub tells : IsTrue (g.is_honest back) → DeviceTells (g.contents disk) (g.image disk) (g.image back) fault
-  -- at most twelve calls, and one for two bytes of the disk
-  pub calls : IsTrue (g.is_honest back) → g.moment back ≤ g.moment disk + (24 + g.size_of disk)
+  -- at most twelve calls, and one for two bytes of the disk; three where it is no store, four for its format, six for its library
+  pub calls : IsTrue (g.is_honest back) → g.moment back ≤ g.moment disk + moments_until (24 + g.size_of disk) fault
 
 -- A store of some library was found in some format, with its table.
 pub record FindsAny {D : Type 0} (g : Ghosts D) (disk new : D) (library : List ℕ) (table : TableValue) : Type 0 where
@@ -109,5 +109,5 @@ pub record RefusesAny {D : Type 0} (g : Ghosts D) (disk new : D) (fault : OpenFa
   pub any_format : fault ≡ OldFormat → ⊥
   pub cause : IsCaused (g.failures_of disk) (g.failures_of new) fault
   pub tells : IsTrue (g.is_honest new) → DeviceTells (g.contents disk) (g.image disk) (g.image new) fault
-  -- at most ten calls, and one for two bytes of the disk
-  pub calls : IsTrue (g.is_honest new) → g.moment new ≤ g.moment disk + (20 + g.size_of disk)
+  -- at most ten calls, and one for two bytes of the disk; three where it is no store
+  pub calls : IsTrue (g.is_honest new) → g.moment new ≤ g.moment disk + moments_until (20 + g.size_of disk) fault

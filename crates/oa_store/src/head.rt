@@ -6,7 +6,7 @@ ghost use Rattle.oa_disk.specs.declared.disk.DeviceFault.{DeviceFault};
 ghost use Rattle.oa_model.specs.Limits.{max_library_bytes};
 ghost use Rattle.oa_store.specs.declared.fault.FindFault.{FindFault};
 ghost use Rattle.oa_store.specs.Calls.{piece_bytes};
-ghost use Rattle.oa_store.specs.Faults.{of_finding, ComesOfForeign, DeviceTells, IsCaused};
+ghost use Rattle.oa_store.specs.Faults.{of_finding, moments_until, ComesOfForeign, DeviceTells, IsCaused};
 ghost use Rattle.oa_store.specs.Openings.{FindsChosen, RefusesChosen};
 ghost use Rattle.oa_store.specs.Reads.{WritesNothing};
 ghost use Rattle.oa_journal.specs.Shapes.{body_bytes, disk_bytes, IsShape};
@@ -124,6 +124,7 @@ pub(crate) fn find_head<D: Disk>(disk: &mut D) -> Result<(u8, Head), FindFault>
     ensures reads { IsTrue (D.is_honest disk.new) → WritesNothing D.image D.moment D.image_since disk.old disk.new }
     ensures after { AfterCalls D.Disk disk.old disk.new result }
     ensures calls { IsTrue (D.is_honest disk.new) → D.moment disk.new ≤ D.moment disk.old + 8 }
+    ensures until { IfErr result (λ e. IsTrue (D.is_honest disk.new) → D.moment disk.new ≤ D.moment disk.old + moments_until 8 (of_finding e)) }
 {
     let chosen = find_bank(disk)?;
     let head = read_head(disk, head_place(chosen))?;
@@ -151,6 +152,7 @@ pub(crate) fn find_room<D: Disk>(alloc: Global, disk: &mut D) -> Result<Room, Fi
     ensures reads { IsTrue (D.is_honest disk.new) → WritesNothing D.image D.moment D.image_since disk.old disk.new }
     ensures after { AfterCalls D.Disk disk.old disk.new result }
     ensures calls { IsTrue (D.is_honest disk.new) → D.moment disk.new ≤ D.moment disk.old + 8 }
+    ensures until { IfErr result (λ e. IsTrue (D.is_honest disk.new) → D.moment disk.new ≤ D.moment disk.old + moments_until 8 (of_finding e)) }
 {
     let chosen = find_bank(disk)?;
     let buffer = buffer(alloc)?;

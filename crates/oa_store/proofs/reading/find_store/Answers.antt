@@ -1,4 +1,4 @@
-use Rattle.std.proofs.Common.{rules, ◌≡◌, ◌∙◌, ◌-◌, ℕ, List, length, Some, Err, false, refl, subst, sym, ap, arith}
+use Rattle.std.proofs.Common.{rules, ◌≡◌, ◌∙◌, ◌+◌, ◌-◌, ℕ, List, length, Some, Err, false, refl, subst, sym, ap, arith}
 use Rattle.std.proofs.lemmas.Result.{err_from_is_err_and}
 use Rattle.oa_journal.specs.declared.bank.Bank.{Bank}
 use Rattle.oa_journal.specs.declared.bank.BankFault.{BankFault}
@@ -11,7 +11,7 @@ use Rattle.oa_journal.proofs.Damages.{bank_library, one_library}
 use Rattle.oa_journal.specs.Shapes.{body_bytes}
 use Rattle.oa_store.specs.Faults.{of_bank, HasWanted, IsCaused}
 use Rattle.oa_store.specs.Stores.{body_place, head_place, IsStoreAt}
-use Rattle.oa_store.proofs.Opened.{bank_caused, carried, of_library, says_first, says_late, spoilt, tells_late, wanted_in}
+use Rattle.oa_store.proofs.Opened.{bank_caused, carried, of_library, says_first, says_late, spoilt, tells_late, until_body, until_late, wanted_in}
 use Rattle.oa_store.proofs.reading.find_store.Goals as goal
 
 pub returns-in_err-found-clause-refused : goal.returns-in_err-found-clause-refused
@@ -22,7 +22,7 @@ returns-in_err-found-clause-refused g c =
       early = search rules;
       cause = search rules;
       tells = search rules;
-      calls = λ h. omega (arith, c.find_room.ensures.calls h);
+      calls = λ h. until_body (24 + g.D.Disk.size_of c.args.disk.now) _ _ c.in_err-found.field-0.0 (omega arith) (c.in_err-found.ensures.until h);
     })
 
 pub returns-in_err-text-clause-refused : goal.returns-in_err-text-clause-refused
@@ -31,7 +31,7 @@ returns-in_err-text-clause-refused g c =
     let fault = c.in_err-text.field-0.0 in
     rw (p.1, p.2) (record {
       early = search rules;
-      calls = λ h. omega (arith, c.find_room.ensures.calls (c.read_library.ensures.after.honest h), c.read_library.ensures.calls h);
+      calls = λ h. until_late (24 + g.D.Disk.size_of c.args.disk.now) _ _ fault (omega (arith, c.find_room.ensures.calls (c.read_library.ensures.after.honest h), c.read_library.ensures.calls h));
       cause = subst (λ (n : ℕ). IsCaused n (g.D.Disk.failures_of c.read_library.new.disk) (of_bank fault)) c.in_ok-found.ensures.after.unfailed (bank_caused _ _ fault c.in_err-text.ensures.cause);
       tells = λ h.
           let h1 = c.read_library.ensures.after.honest h in
@@ -58,7 +58,7 @@ returns-in_err-table-clause-refused g c =
       calls = λ h.
           let h2 = c.read_all.ensures.after.honest h in
           let sizes : g.D.Disk.size_of c.read_library.new.disk ≡ g.D.Disk.size_of c.args.disk.now = c.read_library.ensures.after.size ∙ c.find_room.ensures.after.size in
-          omega (arith, sizes, c.find_room.ensures.calls (c.read_library.ensures.after.honest h2), c.read_library.ensures.calls h2, c.read_all.ensures.most h);
+          until_late (24 + g.D.Disk.size_of c.args.disk.now) _ _ fault (omega (arith, sizes, c.find_room.ensures.calls (c.read_library.ensures.after.honest h2), c.read_library.ensures.calls h2, c.read_all.ensures.most h));
       cause = subst (λ (n : ℕ). IsCaused n (g.D.Disk.failures_of c.read_all.new.disk) (of_bank fault)) (c.in_ok-text.ensures.after.unfailed ∙ c.in_ok-found.ensures.after.unfailed) (bank_caused _ _ fault c.in_err-table.ensures.cause);
       tells = λ h.
           let h2 = c.read_all.ensures.after.honest h in

@@ -1,11 +1,11 @@
-use Rattle.std.proofs.Common.{None, List, ℕ, Err, ap, subst, arith, rules}
+use Rattle.std.proofs.Common.{None, ◌+◌, List, ℕ, Err, ap, subst, arith, rules}
 use Rattle.std.proofs.lemmas.Result.{err_from_is_err_and}
 use Rattle.oa_journal.specs.Bank.{from_place, IsBank}
 use Rattle.oa_journal.specs.Damages.{IsDamagedBank}
 use Rattle.oa_journal.specs.declared.bank.BankFault.{BankFault}
 use Rattle.oa_store.specs.Faults.{of_bank, HasWanted, IsCaused}
 use Rattle.oa_store.specs.Stores.{body_place, head_place}
-use Rattle.oa_store.proofs.Opened.{bank_caused, says_first, says_late, spoilt, tells_late}
+use Rattle.oa_store.proofs.Opened.{bank_caused, says_first, says_late, spoilt, tells_late, until_body, until_late}
 use Rattle.oa_store.proofs.reading.inspect.Goals as goal
 
 pub returns-in_err-chosen-clause-refused : goal.returns-in_err-chosen-clause-refused
@@ -18,7 +18,7 @@ returns-in_err-chosen-clause-refused g c =
       any_format = search rules;
       cause = search rules;
       tells = search rules;
-      calls = λ h. omega (arith, c.find_head.ensures.calls h);
+      calls = λ h. until_body (20 + g.D.Disk.size_of c.args.disk.now) _ _ c.in_err-chosen.field-0.0 (omega arith) (c.in_err-chosen.ensures.until h);
     })
 
 pub returns-in_err-library-clause-refused : goal.returns-in_err-library-clause-refused
@@ -29,7 +29,7 @@ returns-in_err-library-clause-refused g c =
       early = search rules;
       any_library = search rules;
       any_format = search rules;
-      calls = λ h. omega (arith, c.find_head.ensures.calls (c.look.ensures.after.honest h), c.find_head.ensures.after.size, c.look.ensures.most h);
+      calls = λ h. until_late (20 + g.D.Disk.size_of c.args.disk.now) _ _ fault (omega (arith, c.find_head.ensures.calls (c.look.ensures.after.honest h), c.find_head.ensures.after.size, c.look.ensures.most h));
       cause = subst (λ (n : ℕ). IsCaused n (g.D.Disk.failures_of c.look.new.disk) (of_bank fault)) c.in_ok-chosen.ensures.after.unfailed (bank_caused _ _ fault c.in_err-library.ensures.cause);
       tells = λ h.
           let h1 = c.look.ensures.after.honest h in

@@ -1,5 +1,6 @@
 -- What an opening finds.
-use Rattle.std.proofs.Common.{◌≡◌, ◌⊎◌, inl, inr, ⊎_elim, ◌∙◌, ℕ, ◌+◌, ◌≤◌, List, Bool, Option, Some, length, refl, sym, subst, arith}
+use Rattle.std.proofs.Common.{◌≡◌, ◌⊎◌, inl, inr, ⊎_elim, ◌∙◌, ℕ, zero, suc, ◌+◌, ◌*◌, ◌<◌, ◌≤◌, List, Bool, Option, Some, length, length-drop, take, drop, slice_index, refl, sym, ap, subst, arith}
+use Rattle.std.proofs.lemmas.List.{get_or-drop, get_or-take, length-take-le}
 use Rattle.oa_disk.specs.Disk.{Only}
 use Rattle.oa_disk.specs.declared.disk.DeviceFault.{DeviceFault}
 use Rattle.oa_disk.specs.declared.disk.DeviceFault.TheVariants as devices
@@ -8,7 +9,7 @@ use Rattle.oa_journal.specs.declared.shape.Shape.{Shape}
 use Rattle.oa_journal.specs.declared.shape.Shape.TheVariants.{One, Two}
 use Rattle.oa_journal.proofs.Banks.{bank_header}
 use Rattle.oa_journal.proofs.Unique.{one_head}
-use Rattle.oa_journal.specs.Bank.{from_place, IsBank, HasHead, HasHeader, HasLibrary}
+use Rattle.oa_journal.specs.Bank.{from_place, Shows, IsBank, HasHead, HasHeader, HasLibrary}
 use Rattle.oa_journal.specs.declared.bank.Bank.{Bank}
 use Rattle.oa_journal.specs.declared.bank.BankFault.{BankFault}
 use Rattle.oa_journal.specs.declared.bank.BankFault.TheVariants as banks
@@ -20,7 +21,7 @@ use Rattle.oa_store.specs.declared.fault.FindFault.{FindFault}
 use Rattle.oa_store.specs.declared.fault.FindFault.TheVariants as finds
 use Rattle.oa_store.specs.declared.fault.OpenFault.{OpenFault}
 use Rattle.oa_store.specs.declared.fault.OpenFault.TheVariants.{NotAStore, OldFormat, LibraryDiffers, Damaged, Device, Memory}
-use Rattle.oa_store.specs.Faults.{SpeaksOfContents, HeadSays, IsBeheaded, IsCaused, IsDamaged, IsFailed, IsSpoilt, HasWanted, RefusalSays, DeviceTells, moments_until, finding_of_bank, of_bank, of_finding}
+use Rattle.oa_store.specs.Faults.{SpeaksOfContents, HeadSays, IsBeheaded, IsCaused, IsDamaged, IsFailed, IsSpoilt, HasWanted, IsOther, RefusalSays, DeviceTells, moments_until, finding_of_bank, of_bank, of_finding}
 use Rattle.oa_store.specs.Stores.{body_place, head_place, IsFormatted, IsStoreAt, IsNewStore}
 
 -- what holds of the bytes where a bank stands holds of them under other names
@@ -135,6 +136,37 @@ spoilt Begins contents chosen shape l s at head has begins (inr body) = inr (rec
   damaged = body.2;
   begins = begins;
 })
+
+-- a library of a bank lies on the disk
+within : (chosen l s size n : ℕ) → chosen < 2 → 33562624 + 2 * size ≤ n → l + s < size → 33562624 + chosen * size + l ≤ n
+within zero l s size n two room inside = omega arith
+within (suc zero) l s size n two room inside = omega arith
+within (suc (suc chosen)) l s size n two room inside = absurd (omega arith)
+
+-- a library that has another length is another one
+pub other_long : (contents library : List ℕ) (chosen l s size : ℕ) → chosen < 2 → IsFormatted chosen contents
+    → HasHead (Two size) (head_place chosen) contents l s → (l ≡ length library → ⊥) → IsOther contents library
+other_long contents library chosen l s size two head has differs =
+    let body = body_place (Two size) chosen in
+    let inside : body + l ≤ length contents = within chosen l s size (length contents) two has.room has.has.inside in
+    let text : List ℕ = take l (drop body contents) in
+    let long : length text ≡ l = length-take-le l (drop body contents) (omega (arith, length-drop body contents, inside)) in
+    let shown : Shows (from_place body contents) 0 text = λ i lt.
+    let there : body + i ≡ body + (0 + i) = omega arith in
+    sym (get_or-take l (drop body contents) i 0 (omega (arith, lt, long)) ∙ get_or-drop body contents i 0 ∙ ap (λ (k : ℕ). slice_index contents k) there) in
+    record {
+      chosen = chosen;
+      head = head;
+      size = size;
+      room = has.room;
+      other = text;
+      has = record {
+        snapshot = s;
+        has = subst (λ (n : ℕ). HasHeader (Two size) (from_place (head_place chosen) contents) n s) (sym long) has.has;
+        text = shown;
+      };
+      differs = λ same. differs (sym long ∙ ap length same);
+    }
 
 -- a store's bank is the one that the selector names
 its_bank : (shape : Shape) (contents : List ℕ) (chosen number gate : ℕ) (library : List ℕ) (table : TableValue)

@@ -119,6 +119,10 @@ pub(crate) fn find_store<D: Disk>(
     if let Shape::One = found.head.shape {
         return Err(OpenFault::OldFormat);
     }
+    // (a head may claim a library of any length, which is not read then)
+    if found.head.library as usize != library.len() {
+        return Err(OpenFault::LibraryDiffers);
+    }
     let Room {
         chosen,
         head,

@@ -5,13 +5,13 @@ use Rattle.oa_journal.specs.declared.bank.BankFault.{BankFault}
 use Rattle.oa_journal.specs.declared.shape.Shape.{Shape}
 use Rattle.oa_journal.specs.declared.shape.Shape.TheVariants.{Two}
 use Rattle.oa_journal.specs.Append.{IsAt}
-use Rattle.oa_journal.specs.Bank.{from_place, IsBank, HasLibrary}
+use Rattle.oa_journal.specs.Bank.{from_place, IsBank, HasHead, HasLibrary}
 use Rattle.oa_journal.specs.Damages.{HasNoHeader, IsDamagedBank}
 use Rattle.oa_journal.proofs.Damages.{bank_library, one_library}
 use Rattle.oa_journal.specs.Shapes.{body_bytes}
 use Rattle.oa_store.specs.Faults.{of_bank, HasWanted, IsCaused}
 use Rattle.oa_store.specs.Stores.{body_place, head_place, IsStoreAt}
-use Rattle.oa_store.proofs.Opened.{bank_caused, carried, of_library, says_first, says_late, spoilt, tells_late, until_body, until_late, wanted_in}
+use Rattle.oa_store.proofs.Opened.{bank_caused, carried, of_library, other_long, says_first, says_late, spoilt, tells_late, until_body, until_late, wanted_in}
 use Rattle.oa_store.proofs.reading.find_store.Goals as goal
 
 pub returns-in_err-found-clause-refused : goal.returns-in_err-found-clause-refused
@@ -24,6 +24,24 @@ returns-in_err-found-clause-refused g c =
       tells = search rules;
       calls = λ h. until_body (24 + g.D.Disk.size_of c.args.disk.now) _ _ c.in_err-found.field-0.0 (omega arith) (c.in_err-found.ensures.until h);
     })
+
+-- a library of another length is told before it is read
+pub returns-then-found-library-clause-refused : goal.returns-then-found-library-clause-refused
+returns-then-found-library-clause-refused g c = record {
+  says = λ h.
+      let contents = g.D.Disk.contents c.args.disk.now in
+      let found = c.in_ok-found.ensures.found.found h in
+      let chosen = c.in_ok-found.found.chosen in
+      let head = c.in_ok-found.found.head in
+      let two : (size : ℕ) × (head.shape ≡ Two size) = search rules in
+      other_long contents c.args.library.now chosen head.library head.snapshot two.0 c.in_ok-found.ensures.found.two found.0
+      (subst (λ (s : Shape). HasHead s (head_place chosen) contents head.library head.snapshot) two.1 found.1)
+      (λ same. omega (arith, same, c.if-found-library.true));
+  early = search rules;
+  cause = search rules;
+  tells = search rules;
+  calls = search rules;
+}
 
 pub returns-in_err-text-clause-refused : goal.returns-in_err-text-clause-refused
 returns-in_err-text-clause-refused g c =

@@ -37,7 +37,7 @@ pub struct StandardStreams {
 }
 
 impl StandardStreams {
-    /// Opens the root folder for each standard stream that is closed: it takes what is free of the first three numbers of files.
+    /// Opens the root folder three times: the first numbers of files that are free are those of the standard streams that are closed.
     pub fn fill_closed(rt: &HostRuntime) -> StandardStreams {
         StandardStreams {
             input: File::open(rt, "/").ok(),

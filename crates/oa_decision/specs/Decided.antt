@@ -39,7 +39,7 @@ decided state requests.Objects = listing state
 abbrev pub refusal : ℕ → HResult → Option ℕ → ReplyValue
 refusal tag code index = record { tag = tag; code = code; index = index; body = [] }
 
--- whether want of memory may be answered: not in place of a refused CREATE or RELEASE
+-- whether want of memory may be answered: not in place of a refused CREATE, RELEASE or TYPEINFO
 abbrev pub may_want_memory : State → Request → Bool
 may_want_memory state (requests.Create class) = is_ok (creation state class)
 may_want_memory state (requests.Release number) = is_ok (allowed state.bank (Release number) state.table)
@@ -50,5 +50,5 @@ may_want_memory state (requests.PutElement call indices value) = true
 may_want_memory state (requests.Redimension call bound) = true
 may_want_memory state (requests.Lock call) = true
 may_want_memory state (requests.Unlock call) = true
-may_want_memory state (requests.TypeInfo index) = true
+may_want_memory state (requests.TypeInfo index) = is_ok (information state index)
 may_want_memory state requests.Objects = true

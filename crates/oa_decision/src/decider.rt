@@ -57,7 +57,8 @@ impl<'a> Decider<'a> {
     }
 
     /// What becomes of a request: the answer and its fields, or the change that it calls for, which may still be refused. `Refused` with the
-    /// first refusal in the stated order; `OutOfMemory` where memory was wanted, never in place of a refused CREATE or RELEASE. Only reads.
+    /// first refusal in the stated order; `OutOfMemory` where memory was wanted, never in place of a refused CREATE, RELEASE or TYPEINFO. Only
+    /// reads.
     pub fn decide(&self, request: Request) -> Result<Decision, Undecided>
         ensures decided { Decides (decided self.now request) (may_want_memory self.now request) result }
         ensures unlocked { IfOk result ChangesNoLocks }

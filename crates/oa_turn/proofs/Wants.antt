@@ -29,5 +29,5 @@ wants state (requests.PutElement call indices value) event fields h ok = refl
 wants state (requests.Redimension call bound) event fields h ok = refl
 wants state (requests.Lock call) event fields h ok = refl
 wants state (requests.Unlock call) event fields h ok = refl
-wants state (requests.TypeInfo index) event fields h ok = refl
+wants state (requests.TypeInfo index) event fields h ok = ap is_ok h
 wants state requests.Objects event fields h ok = refl

@@ -30,7 +30,7 @@ pub record RefusesType (old : State) (body : List ℕ) (reply : ReplyValue) (new
   pub answers : reply ≡ refusal (tag_at body) disp_e_badvartype index
   pub leaves : new ≡ old
 
--- the body asks a request that takes memory to carry out: any but a CREATE or a RELEASE that is refused
+-- the body asks a request that takes memory to carry out: any but a CREATE, a RELEASE or a TYPEINFO that is refused
 pub record MayLack (old : State) (body : List ℕ) : Type 0 where
   pub request : Request
   pub asked : Asks body request

@@ -1,11 +1,10 @@
 -- A body that asks for another library.
 use Rattle.std.proofs.Common.{◌≡◌, ◌⊎◌, inl, inr, ℕ, false, List, Option, Some, None, Result, Ok, Err, refl, sym, ap, ◌∙◌, subst}
-use Rattle.std.specs.Prelude.{IsSome}
 use Rattle.std.specs.Result.{IsErrAnd, MatchResult}
 use Rattle.oa_idl.specs.Trees.{TreeValue}
 use Rattle.oa_keeps.specs.Keeps.{first_lost}
 use Rattle.oa_keeps.specs.declared.lost.Lost.{Lost}
-use Rattle.oa_keeps.specs.LibraryTexts.{IsTextOf, StandsFor}
+use Rattle.oa_keeps.specs.LibraryTexts.{IsTextOf, MayBeLibrary, StandsFor}
 use Rattle.oa_keeps.specs.declared.library_text.TextError.{TextError}
 use Rattle.oa_keeps.specs.declared.library_text.TextError.TheVariants.{NoLibrary, Memory}
 use Rattle.oa_model.specs.Codes.{bad_stub_data, e_outofmemory, s_ok}
@@ -15,7 +14,7 @@ use Rattle.oa_record.specs.Replacement.{text_in}
 use Rattle.oa_record.specs.Replies.{ReplyValue}
 use Rattle.oa_turn.specs.Events.{is_done}
 use Rattle.oa_turn.specs.Renewals.{IsLibraryOf, IsNext, RefusesLoss, text_code}
-use Rattle.oa_turn.specs.Replacing.{AsksLibrary, Replacement, after_replacement, replacement_reply}
+use Rattle.oa_turn.specs.Replacing.{AsksLibrary, BringsText, Replacement, after_replacement, replacement_reply}
 use Rattle.oa_decision.specs.States.{State}
 use Rattle.oa_decision.specs.Decided.{refusal}
 
@@ -31,13 +30,13 @@ module _ (body : List ℕ) where
       no_some a e = absurd cc
 
   module _ (text : List ℕ) (lies : text_in body ≡ Some text) where
-    pub has_text : IsSome (text_in body)
-    has_text = subst IsSome (sym lies) refl
+    pub has_text : MayBeLibrary text → BringsText body
+    has_text may = record { text = text; lies = lies; may = may }
 
     -- a text that gives no library, or one that memory was refused to
-    text_unread : (e : TextError) → IsTextOf text (Err e) → ((text_code e ≡ bad_stub_data) × ((library : TreeValue) → AsksLibrary body library → ⊥)) ⊎ ((text_code e ≡ e_outofmemory) × IsSome (text_in body))
+    text_unread : (e : TextError) → IsTextOf text (Err e) → ((text_code e ≡ bad_stub_data) × ((library : TreeValue) → AsksLibrary body library → ⊥)) ⊎ ((text_code e ≡ e_outofmemory) × BringsText body)
     text_unread NoLibrary none = inl (refl, λ library asks. none library (subst (λ (l : List ℕ). StandsFor l library) (one_text text asks.text (sym lies ∙ asks.lies)) asks.stands))
-    text_unread Memory any = inr (refl, has_text)
+    text_unread Memory may = inr (refl, has_text may)
 
     -- what was made of the answer for a text: its library, or the code where there is none
     pub text_told : (P : TextError → HResult → Type 0) (from : Result TreeValue TextError) (to : Result TreeValue HResult) → IsTextOf text from
@@ -48,7 +47,7 @@ module _ (body : List ℕ) where
 
 -- ---- what becomes of it
 module _ (state : State) (body : List ℕ) (reply : ReplyValue) where
-  pub text_refused : (code : HResult) → ((code ≡ bad_stub_data) × ((library : TreeValue) → AsksLibrary body library → ⊥)) ⊎ ((code ≡ e_outofmemory) × IsSome (text_in body))
+  pub text_refused : (code : HResult) → ((code ≡ bad_stub_data) × ((library : TreeValue) → AsksLibrary body library → ⊥)) ⊎ ((code ≡ e_outofmemory) × BringsText body)
       → reply ≡ refusal (tag_at body) code None → Replacement state body reply state × (is_done reply ≡ false)
   text_refused code (inl why) told = (inr (inl (record { why = why.1; answers = told ∙ ap (λ (c : HResult). refusal (tag_at body) c None) why.0; leaves = refl })), rw (told, why.0) refl)
   text_refused code (inr why) told = (inr (inr (record { may = why.1; answers = told ∙ ap (λ (c : HResult). refusal (tag_at body) c None) why.0; leaves = refl })), rw (told, why.0) refl)
@@ -64,7 +63,7 @@ module _ (state : State) (body : List ℕ) (reply : ReplyValue) where
     }),
     rw told refl,
   )
-  loss_refused library lost asks is (inr told) = (inr (inr (record { may = has_text body asks.text asks.lies; answers = told; leaves = refl })), rw told refl)
+  loss_refused library lost asks is (inr told) = (inr (inr (record { may = has_text body asks.text asks.lies (asks.stands.0, asks.stands.1.stands.short); answers = told; leaves = refl })), rw told refl)
 
   pub replaces : (library : TreeValue) (new : State) → IsNext state body library → reply ≡ refusal (tag_at body) s_ok None → new ≡ record state { library = library } → Replacement state body reply new
   replaces library new next told leaves = inl (record {

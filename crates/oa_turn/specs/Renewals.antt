@@ -1,5 +1,5 @@
 -- What becomes of a body that asks for another library, before anything is changed. (This project's choice.)
-use Rattle.std.specs.Prelude.{◌≡◌, ◌⊎◌, ℕ, false, List, IsSome, Some, None, Result, Ok, Err}
+use Rattle.std.specs.Prelude.{◌≡◌, ◌⊎◌, ℕ, false, List, Some, None, Result, Ok, Err}
 use Rattle.oa_idl.specs.Trees.{TreeValue}
 use Rattle.oa_model.specs.Codes.{bad_stub_data, e_outofmemory}
 use Rattle.oa_model.specs.declared.hresult.HResult.{HResult}
@@ -7,11 +7,10 @@ use Rattle.oa_keeps.specs.Keeps.{first_lost}
 use Rattle.oa_keeps.specs.declared.lost.Lost.{Lost}
 use Rattle.oa_keeps.specs.declared.library_text.TextError.{TextError}
 use Rattle.oa_keeps.specs.declared.library_text.TextError.TheVariants.{NoLibrary, Memory}
-use Rattle.oa_record.specs.Replacement.{text_in}
 use Rattle.oa_record.specs.Replies.{ReplyValue}
 use Rattle.oa_turn.specs.declared.host.renewal.Renewal.{Renewal}
 use Rattle.oa_turn.specs.declared.host.renewal.Renewal.TheVariants.{Answered, Renewed}
-use Rattle.oa_turn.specs.Replacing.{AsksLibrary, Replacement, replacement_reply}
+use Rattle.oa_turn.specs.Replacing.{AsksLibrary, BringsText, Replacement, replacement_reply}
 use Rattle.oa_turn.specs.Events.{is_done}
 use Rattle.oa_decision.specs.States.{State}
 use Rattle.oa_decision.specs.Decided.{refusal}
@@ -25,7 +24,7 @@ text_code Memory = e_outofmemory
 abbrev pub IsLibraryOf : List ℕ → Result TreeValue HResult → Type 0
 IsLibraryOf body (Ok library) = AsksLibrary body library
 IsLibraryOf body (Err code) =
-    ((code ≡ bad_stub_data) × ((library : TreeValue) → AsksLibrary body library → ⊥)) ⊎ ((code ≡ e_outofmemory) × IsSome (text_in body))
+    ((code ≡ bad_stub_data) × ((library : TreeValue) → AsksLibrary body library → ⊥)) ⊎ ((code ≡ e_outofmemory) × BringsText body)
 
 -- what is lost is told, or memory was refused to the reply
 abbrev pub RefusesLoss : ℕ → Lost → ReplyValue → Type 0

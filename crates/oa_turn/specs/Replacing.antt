@@ -1,12 +1,12 @@
 -- REPLACE LIBRARY: the library of the body's text takes the place of the one that the server has (this project's choice).
-use Rattle.std.specs.Prelude.{◌≡◌, ◌⊎◌, ℕ, IsSome, List, Option, Some, None}
+use Rattle.std.specs.Prelude.{◌≡◌, ◌⊎◌, ℕ, List, Option, Some, None}
 use Rattle.oa_idl.specs.Trees.{TreeValue}
 use Rattle.oa_model.specs.Codes.{bad_stub_data, e_invalidarg, e_outofmemory, s_ok}
 use Rattle.oa_record.specs.Asks.{tag_at}
 use Rattle.oa_record.specs.Replacement.{text_in}
 use Rattle.oa_record.specs.Replies.{ReplyValue, lost_field}
 use Rattle.oa_keeps.specs.Keeps.{dispid_lost, first_lost, guid_lost}
-use Rattle.oa_keeps.specs.LibraryTexts.{StandsFor}
+use Rattle.oa_keeps.specs.LibraryTexts.{MayBeLibrary, StandsFor}
 use Rattle.oa_keeps.specs.declared.lost.Lost.{Lost}
 use Rattle.oa_decision.specs.States.{State}
 use Rattle.oa_decision.specs.Decided.{refusal}
@@ -18,6 +18,12 @@ pub record AsksLibrary (body : List ℕ) (library : TreeValue) : Type 0 where
   pub text : List ℕ
   pub lies : text_in body ≡ Some text
   pub stands : StandsFor text library
+
+-- its fields have a text that is UTF-8 and not too long, which takes memory to be read
+pub record BringsText (body : List ℕ) : Type 0 where
+  pub text : List ℕ
+  pub lies : text_in body ≡ Some text
+  pub may : MayBeLibrary text
 
 -- ---- what becomes of it
 
@@ -46,7 +52,7 @@ pub record RefusesText (old : State) (body : List ℕ) (reply : ReplyValue) (new
 
 -- memory was refused to a text; nothing changes
 pub record LacksText (old : State) (body : List ℕ) (reply : ReplyValue) (new : State) : Type 0 where
-  pub may : IsSome (text_in body)
+  pub may : BringsText body
   pub answers : reply ≡ refusal (tag_at body) e_outofmemory None
   pub leaves : new ≡ old
 

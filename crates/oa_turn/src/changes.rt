@@ -1,10 +1,11 @@
 //! The ways in which a table changes.
-ghost use Rattle.std.specs.Prelude.{◌≡◌, ℕ, IsOk};
+ghost use Rattle.std.specs.Prelude.{◌≡◌, ℕ, IsOk, OnErr};
 ghost use Rattle.oa_turn.specs.Changes.{ChangesTable, MakesTable, RelocksTable};
 ghost use Rattle.oa_turn.specs.Limits.{IsSoundTable};
 ghost use Rattle.oa_decision.specs.Limits.{StaysWithin, allowed};
 ghost use Rattle.oa_decision.specs.declared.decision.LockChange.TheVariants.{Lock as ALock, Unlock as AnUnlock};
 ghost use Rattle.oa_table.specs.Events.{BringsNoLocks};
+ghost use Rattle.oa_table.specs.Memory.{MayWantMemory};
 ghost use Rattle.oa_table.specs.Tables.{unlocked_table};
 
 use oa_decision::{LockChange, disallowed, is_surely_within};
@@ -16,6 +17,7 @@ use std::alloc::AllocError;
 pub(crate) fn apply(table: &mut Table, event: Event) -> Result<(), AllocError>
     requires unlocked { BringsNoLocks event }
     ensures change { MakesTable event table.old table.new result }
+    ensures starved { (bank : ℕ) → IsOk (allowed bank event table.old) → OnErr result (MayWantMemory event table.old) }
     ensures sound { (bank : ℕ) → IsOk (allowed bank event table.old) → IsSoundTable bank table.old → IsSoundTable bank table.new }
 {
     if let Err(_) = table.apply(event) {

@@ -10,6 +10,7 @@ ghost use Rattle.oa_decision.specs.Decided.{decided, may_want_memory};
 ghost use Rattle.oa_turn.specs.Steps.{reply_with};
 ghost use Rattle.oa_turn.specs.Turns.{Ordinary, Run, Turn};
 ghost use Rattle.oa_table.specs.Events.{BringsNoLocks};
+ghost use Rattle.oa_table.specs.Memory.{MayWantMemory};
 ghost use Rattle.oa_table.specs.Tables.{first_table};
 
 use crate::changes::{apply, change, change_locks};
@@ -185,11 +186,13 @@ impl Host {
         Reply::new(tag, HResult::S_OK, None, fields.into_vec())
     }
 
-    /// Makes a change that was planned, or another that is allowed. Err only where memory is refused; then nothing changes.
+    /// Makes a change that was planned, or another that is allowed. Err only where memory is refused, so never for a `Release`; then nothing
+    /// changes.
     pub fn apply(&mut self, event: Event) -> Result<(), AllocError>
         requires unlocked { BringsNoLocks event }
         requires allowed { IsOk (allowed self.old.bank event self.old.table) }
-        ensures { MakesChange event self.old self.new result }
+        ensures change { MakesChange event self.old self.new result }
+        ensures starved { OnErr result (MayWantMemory event self.old.table) }
     {
         apply(&mut self.table, event)
     }

@@ -4,8 +4,8 @@ use Rattle.oa_decision.specs.States.{State, state_of}
 use Rattle.oa_turn.proofs.Changing.{made}
 use Rattle.oa_turn.proofs.host.Host.apply.Goals as goal
 
-pub returns : goal.returns
-returns c =
+pub returns-clause-change : goal.returns-clause-change
+returns-clause-change c =
     let inside = c.self.inside in
     let after = state_of inside.bank inside.library c.apply.new.table in
     subst (λ (old : State). MakesChange c.args.event old after c.apply.result) c.self.view_is

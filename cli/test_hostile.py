@@ -1,4 +1,5 @@
 """Bytes that are made to harm: records that are cut or lie about what they hold, and damaged stores; and what is as large as it may be."""
+import os
 import struct
 import tempfile
 
@@ -227,6 +228,18 @@ class Stores(Cases):
                     file.change(snapshot + 8, b"\1")
                     file.change(place, struct.pack("<I", count if what != "bytes of a bank" or count != bank else bank + 1))
                     self.refused(room, f"{count} {what}", file, f"damaged at {at}")
+
+    def test_a_library_that_a_head_claims(self):
+        """One of another length than the server's is not read: in little memory, of 2**29 bytes in a bank of twice as many."""
+        whole = store.formatted(TEXT)
+        head, (_, _, body, bank) = layout_of(whole)["image"]
+        front = bytearray(whole[:body])
+        front[head + 12 : head + 16], front[head + 20 : head + 24] = struct.pack("<I", 2**29), struct.pack("<I", 2**30)
+        with tempfile.TemporaryDirectory(dir=fast_folder()) as room:
+            fill(room, {"lib.idl": LIBRARY, "it.store": bytes(front)})
+            os.truncate(f"{room}/it.store", len(whole) + 2 * (2**30 - bank))
+            got = run_in(room, ["serve", "it.store", "lib.idl"], before=within(LITTLE))
+            self.tell("serve: a library of 536,870,912 bytes differs", got == (3, b"", fault("library differs")), got)
 
     def refused(self, room, name, file, text):
         """A store that both commands refuse with one text, in little memory, without a change of its file."""

@@ -218,7 +218,10 @@ def choices(root):
         tell(f"'{line}' is no line", chosen().whole == {*crates})
     tried_over(root, steps=head, above=head)
     of_part = lambda head: [it for it, part in parts_of(labels, {}).items() if part == int(head, 16) % PARTS]
-    for count in range(40):
+    for count in range(400):
+        # (of 250 times once, one of the parts is not among 40 commits')
+        if count >= 40 and len(seen) == len(labels):
+            break
         head = commit(root, f"{count}")
         choice = chosen()
         tried = [it for it in labels if choice.is_tried(it)]

@@ -219,7 +219,7 @@ def choices(root):
     tried_over(root, steps=head, above=head)
     of_part = lambda head: [it for it, part in parts_of(labels, {}).items() if part == int(head, 16) % PARTS]
     for count in range(400):
-        # (of 250 times once, one of the parts is not among 40 commits')
+        # (of 250 times once, one of the parts is not among 40 commits)
         if count >= 40 and len(seen) == len(labels):
             break
         head = commit(root, f"{count}")

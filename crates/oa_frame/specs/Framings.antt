@@ -4,7 +4,7 @@ use Rattle.std.specs.Io.KnownBytes as known
 use Rattle.std.specs.Int.{w32, from_le_bytes, to_le_bytes}
 use Rattle.hex.specs.Hex.{decode_of, encode_lower}
 use Rattle.oa_model.specs.Limits.{max_line_characters, max_request_bytes}
-use Rattle.oa_stream.specs.Sink.{Output, Writes, Breaks}
+use Rattle.oa_stream.specs.Sink.{Output, Writes, Breaks, IsHandedOn}
 use Rattle.oa_frame.specs.declared.ends.End.{End}
 use Rattle.oa_frame.specs.declared.ends.End.TheVariants as end
 use Rattle.oa_frame.specs.declared.framing.Framing.{Framing}
@@ -121,11 +121,16 @@ Inputs f (read.Body n) number body old new = Known (λ bytes rest. f.Next bytes 
 Inputs f (read.Ends why) number body old new = f.Can number why × Known (f.Stop why) old new
 Inputs f read.Unwritten number body old new = known.Keeps old new
 
--- all that was put before was put still, or the writer failed
-abbrev pub Hands : Read → Output → Output → Type 0
-Hands (read.Body n) old new = Writes old new []
-Hands (read.Ends why) old new = Writes old new []
-Hands read.Unwritten old new = Breaks old new []
+-- All that was put before is put still, and has left where the reader was called.
+pub record HandsOver (old new : Output) (calls calls' : ℕ) : Type 0 where
+  pub keeps : Writes old new []
+  pub first : (calls' ≡ calls) ⊎ IsHandedOn new
+
+-- so it is, or the writer failed, and the reader was not called
+abbrev pub Hands : Read → Output → Output → ℕ → ℕ → Type 0
+Hands (read.Body n) old new calls calls' = HandsOver old new calls calls'
+Hands (read.Ends why) old new calls calls' = HandsOver old new calls calls'
+Hands read.Unwritten old new calls calls' = Breaks old new [] × (calls' ≡ calls)
 
 -- the buffer holds the body
 abbrev pub FitsBuffer : Read → List ℕ → Type 0

@@ -50,7 +50,7 @@ pub fn read_body<R: Source + Drop, W: Sink>(
     ensures longest { GrowsTo result (length body.old.items) (length body.new.items) }
     ensures input { Inputs (frames framing) result number body.new.items (ahead R.input reader.old).left (ahead R.input reader.new).left }
     ensures paced { Paced (ends_in_read_fault result) (ahead R.input reader.old) (ahead R.input reader.new) }
-    ensures output { Hands result (W.out writer.old) (W.out writer.new) }
+    ensures output { Hands result (W.out writer.old) (W.out writer.new) (ahead R.input reader.old).calls (ahead R.input reader.new).calls }
 {
     match framing {
         Framing::HexLines => read_hex(reader, writer, line, body, number),

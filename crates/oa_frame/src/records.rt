@@ -43,7 +43,7 @@ pub(crate) fn read_record<R: Source + Drop, W: Sink>(
     ensures input { (number : ℕ)
         → Inputs records result number body.new.items (ahead R.input reader.old).left (ahead R.input reader.new).left }
     ensures paced { Paced (ends_in_read_fault result) (ahead R.input reader.old) (ahead R.input reader.new) }
-    ensures output { Hands result (W.out writer.old) (W.out writer.new) }
+    ensures output { Hands result (W.out writer.old) (W.out writer.new) (ahead R.input reader.old).calls (ahead R.input reader.new).calls }
 {
     if let Some(n) = whole_record(reader.buffered()) {
         copy_front(body, &reader.buffered()[4..4 + n]);

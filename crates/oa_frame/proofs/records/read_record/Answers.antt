@@ -1,4 +1,4 @@
-use Rattle.std.proofs.Common.{refl, ◌+◌, slice_range}
+use Rattle.std.proofs.Common.{refl, inl, ◌+◌, slice_range}
 use Rattle.oa_stream.specs.Ahead.{read_ahead}
 use Rattle.oa_frame.proofs.Judged.{paced_ahead}
 use Rattle.oa_frame.proofs.Sessions.{writes_none}
@@ -14,4 +14,4 @@ returns-in-Some-clause-input g c = λ number.
     (rw c.buffered-in-Some.ensures at c.copy_front.ensures.front) refl c.advance.ensures.taken.taken
 
 pub returns-in-Some-clause-output : goal.returns-in-Some-clause-output
-returns-in-Some-clause-output g c = writes_none _ c.requires.unbroken.writer
+returns-in-Some-clause-output g c = record { keeps = writes_none _ c.requires.unbroken.writer; first = inl c.advance.ensures.taken.clock }

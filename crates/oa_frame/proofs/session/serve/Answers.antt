@@ -21,25 +21,25 @@ pub returns-in-Err : goal.returns-in-Err
 returns-in-Err g c =
     let read = c.in-Body.ensures in
     let input = rw (← c.deref.ensures.value, ← c.front-bytes.ensures) at read.input in
-    going_undone (frames c.args.framing) _ _ _ c.args.last.now _ _ _ _ _ _ _ c.turns.requests c.turns.invariant.going _ _ _ _ _ c.in-Err.ensures.parts input read.paced read.output (g.met.W.Sink.keeps _)
+    going_undone (frames c.args.framing) _ _ _ c.args.last.now _ _ _ _ _ _ _ c.turns.requests c.turns.invariant.going _ _ _ _ _ c.in-Err.ensures.parts input read.paced read.output.keeps (g.met.W.Sink.keeps _)
 
 pub returns-in-Err-respond : goal.returns-in-Err-respond
 returns-in-Err-respond g c =
     let a = stepped (frames c.args.framing) g.S.Responder.alone g.S.Responder.turn g.S.Responder.ends _ _ _ _ _ _ _ _ _ g.met.S.Responder.one_reply c.in-Ok.ensures.parts c.in-Err-respond.ensures.answers in
     let read = c.in-Body.ensures in
     let input = rw (← c.deref.ensures.value, ← c.front-bytes.ensures) at read.input in
-    going_fails (frames c.args.framing) _ _ _ c.args.last.now _ _ _ _ _ _ _ c.turns.requests c.turns.invariant.going _ _ _ _ _ a.answers.replies _ input read.paced a.answers.turned read.output (g.met.W.Sink.keeps _) a.answers.put a.own c.abandon.ensures.ended
+    going_fails (frames c.args.framing) _ _ _ c.args.last.now _ _ _ _ _ _ _ c.turns.requests c.turns.invariant.going _ _ _ _ _ a.answers.replies _ input read.paced a.answers.turned read.output.keeps (g.met.W.Sink.keeps _) a.answers.put a.own c.abandon.ensures.ended
 
 pub returns-in-Ends : goal.returns-in-Ends
 returns-in-Ends g c =
     let read = c.in-Ends.ensures in
     going_closes (frames c.args.framing) _ _ _ c.args.last.now _ _ _ _ _ _ _ c.turns.requests c.turns.invariant.going _ _ _ c.close-why.result c.in-Ends.end read.paced.tries read.input.0 read.input.1 read.paced.most read.paced.clock (inl read.paced.cause)
-    (λ s. sound_end c.in-Ends.end c.turns.requests (read.paced.on (c.turns.invariant.steady s)).0) read.output (g.met.W.Sink.keeps _) c.close-why.ensures
+    (λ s. sound_end c.in-Ends.end c.turns.requests (read.paced.on (c.turns.invariant.steady s)).0) read.output.keeps (g.met.W.Sink.keeps _) c.close-why.ensures
 
 pub returns-in-Unwritten : goal.returns-in-Unwritten
 returns-in-Unwritten g c =
     let read = c.in-Unwritten.ensures in
-    going_waits (frames c.args.framing) _ _ _ c.args.last.now _ _ _ _ _ _ _ c.turns.requests c.turns.invariant.going _ _ _ read.input read.paced (g.met.W.Sink.keeps _) read.output c.abandon-in-Unwritten.ensures.ended
+    going_waits (frames c.args.framing) _ _ _ c.args.last.now _ _ _ _ _ _ _ c.turns.requests c.turns.invariant.going _ _ _ read.input read.paced (g.met.W.Sink.keeps _) read.output.0 c.abandon-in-Unwritten.ensures.ended
 
 pub turns-preserved : goal.turns-preserved
 turns-preserved g c =
@@ -54,7 +54,7 @@ turns-preserved g c =
       unbroken = read.paced.cause;
       unbroken_writer = a.answers.put.sound;
       steady = λ s. (read.paced.on (c.turns.invariant.steady s)).1;
-      going = going_on (frames c.args.framing) g.S.Responder.alone _ g.S.Responder.ends c.args.last.now _ _ _ _ _ _ _ c.turns.requests c.turns.invariant.going _ _ _ _ a.answers.replies input read.paced a.answers.turned read.output a.answers.put a.own;
+      going = going_on (frames c.args.framing) g.S.Responder.alone _ g.S.Responder.ends c.args.last.now _ _ _ _ _ _ _ c.turns.requests c.turns.invariant.going _ _ _ _ a.answers.replies input read.paced a.answers.turned read.output.keeps a.answers.put a.own;
     }
 
 pub returns : goal.returns

@@ -1,5 +1,5 @@
 -- The lines of a dump. (This project's choice.)
-use Rattle.std.specs.Prelude.{ℕ, ℤ, Bool, if◌then◌else◌, List, [], ◌∷◌, ◌++◌, codes}
+use Rattle.std.specs.Prelude.{◌≡◌, ℕ, ℤ, Bool, if◌then◌else◌, List, [], ◌∷◌, ◌++◌, codes}
 use Rattle.std.specs.Fmt.{decimal, signed_decimal}
 use Rattle.std.specs.List.{flat_map}
 use Rattle.hex.specs.Hex.{encode_lower}
@@ -10,6 +10,9 @@ use Rattle.oa_variant.specs.declared.scalar.Scalar.{Scalar}
 use Rattle.oa_variant.specs.declared.variant.Variant.{Variant}
 use Rattle.oa_table.specs.Places.{PlaceValue}
 use Rattle.oa_table.specs.Tables.{ObjectValue, TableValue}
+use Rattle.oa_stream.specs.Sink.{Breaks, Output, Writes}
+use Rattle.oa_commands.specs.declared.fault.Fault.{Fault}
+use Rattle.oa_commands.specs.declared.fault.Fault.TheVariants as faults
 
 -- the digits of a key, and a hyphen for that of no scalars
 unfoldable pub key_digits : List Scalar → List ℕ
@@ -47,3 +50,18 @@ table_lines table = next_line table.next ++ flat_map object_lines table.objects
 -- what is printed of a store: its objects, or its library in their place
 abbrev pub dump : Bool → List ℕ → TableValue → List ℕ
 dump library text table = if library then text else table_lines table
+
+-- ---- what is left where lines are broken off
+
+-- a first part of these bytes was put
+pub record PutsFront (old new : Output) (bytes : List ℕ) : Type 0 where
+  pub front : List ℕ
+  pub rest : List ℕ
+  pub parts : bytes ≡ front ++ rest
+  pub put : Writes old new front
+
+-- This fault is told of bytes that are made and put: the writer has failed in them, or memory was wanting behind a first part of them.
+abbrev pub BreaksOff : Output → Output → List ℕ → Fault → Type 0
+BreaksOff old new bytes faults.Write = Breaks old new bytes
+BreaksOff old new bytes faults.Memory = PutsFront old new bytes
+BreaksOff old new bytes other = ⊥

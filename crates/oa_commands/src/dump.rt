@@ -2,7 +2,8 @@
 ghost use Rattle.std.specs.Prelude.{◌≡◌, ◌⊎◌, ℕ, List, false, IfErr, IfOk, OnOk};
 ghost use Rattle.std.specs.List.{flat_map};
 ghost use Rattle.std.specs.String.{string_bytes};
-ghost use Rattle.oa_commands.specs.Dumps.{cell_line, cell_place, cell_start, dump, key_digits, next_line, object_line, table_lines, value_digits};
+ghost use Rattle.oa_commands.specs.Dumps.{BreaksOff, cell_line, cell_place, cell_start, dump, key_digits, next_line, object_line, table_lines};
+ghost use Rattle.oa_commands.specs.Dumps.{value_digits};
 ghost use Rattle.oa_commands.specs.Statuses.{IsOfDump, IsOfWriting};
 ghost use Rattle.oa_commands.specs.Stores.{WasRead};
 ghost use Rattle.oa_stream.specs.Sink.{IsHandedOn, Writes};
@@ -38,8 +39,10 @@ pub fn write_dump<W: Sink>(
         × Writes (W.out writer.old) (W.out writer.new) (dump library text table)) }
     ensures handed_on { OnOk result (IsHandedOn (W.out writer.new)) }
     ensures refused { IfErr result IsOfDump }
-    // Where it fails the writer is as it was, or the fault is one of making and writing lines.
-    ensures nothing { IfErr result (λ fault. (W.out writer.new ≡ W.out writer.old) ⊎ IsOfWriting fault) }
+    // Where it fails the writer is as it was, or failed in what was to be written, or took a first part of that before memory was wanting.
+    ensures broken { IfErr result (λ fault. (W.out writer.new ≡ W.out writer.old)
+        ⊎ ((text : List ℕ) × (table : TableValue) × WasRead ⟦<FileDisk as Disk>⟧ text table
+        × BreaksOff (W.out writer.old) (W.out writer.new) (dump library text table) fault)) }
 {
     let alloc = rt.alloc();
     let (text, table) = kept(rt, streams, alloc, path)?;
@@ -72,6 +75,7 @@ fn put_dump<W: Sink>(
     ensures written { OnOk result (Writes (W.out writer.old) (W.out writer.new) (dump library text.now table.now)) }
     ensures handed_on { OnOk result (IsHandedOn (W.out writer.new)) }
     ensures refused { IfErr result IsOfWriting }
+    ensures broken { IfErr result (BreaksOff (W.out writer.old) (W.out writer.new) (dump library text.now table.now)) }
 {
     put_either(alloc, text, table, library, writer)?;
     writer.deliver()?;
@@ -89,6 +93,7 @@ fn put_either<W: Sink>(
     requires unbroken { (W.out writer.old).broken ≡ false }
     ensures written { OnOk result (Writes (W.out writer.old) (W.out writer.new) (dump library text.now table.now)) }
     ensures refused { IfErr result IsOfWriting }
+    ensures broken { IfErr result (BreaksOff (W.out writer.old) (W.out writer.new) (dump library text.now table.now)) }
 {
     if library {
         writer.put(text)?;
@@ -102,6 +107,7 @@ fn put_table<W: Sink>(alloc: Global, table: &Table, writer: &mut W) -> Result<()
     requires unbroken { (W.out writer.old).broken ≡ false }
     ensures written { OnOk result (Writes (W.out writer.old) (W.out writer.new) (table_lines table.now)) }
     ensures refused { IfErr result IsOfWriting }
+    ensures broken { IfErr result (BreaksOff (W.out writer.old) (W.out writer.new) (table_lines table.now)) }
 {
     writer.put(next_line(alloc, table.next())?.as_bytes())?;
     let mut image = Vec::new(alloc);
@@ -131,6 +137,7 @@ fn put_object<W: Sink>(
     requires unbroken { (W.out writer.old).broken ≡ false }
     ensures written { OnOk result (Writes (W.out writer.old) (W.out writer.new) (object_line number object.now)) }
     ensures refused { IfErr result IsOfWriting }
+    ensures broken { IfErr result (BreaksOff (W.out writer.old) (W.out writer.new) (object_line number object.now)) }
 {
     let head = format!(in alloc; "object {number} {}\n", object.class())?;
     writer.put(head.as_bytes())?;
@@ -147,6 +154,7 @@ fn put_cells<W: Sink>(
     requires unbroken { (W.out writer.old).broken ≡ false }
     ensures written { OnOk result (Writes (W.out writer.old) (W.out writer.new) (flat_map cell_line object.now.cells)) }
     ensures refused { IfErr result IsOfWriting }
+    ensures broken { IfErr result (BreaksOff (W.out writer.old) (W.out writer.new) (flat_map cell_line object.now.cells)) }
 {
     'cells: for (place, value) in object.cells() {
         put_place(alloc, place, image, writer)?;
@@ -165,6 +173,7 @@ fn put_place<W: Sink>(
     requires unbroken { (W.out writer.old).broken ≡ false }
     ensures written { OnOk result (Writes (W.out writer.old) (W.out writer.new) (cell_place place.now)) }
     ensures refused { IfErr result IsOfWriting }
+    ensures broken { IfErr result (BreaksOff (W.out writer.old) (W.out writer.new) (cell_place place.now)) }
 {
     let start = cell_start(alloc, place.interface(), place.dispid())?;
     writer.put(start.as_bytes())?;
@@ -185,6 +194,7 @@ fn put_key<W: Sink>(key: &[Scalar], image: &mut Vec<u8>, writer: &mut W) -> Resu
     requires unbroken { (W.out writer.old).broken ≡ false }
     ensures written { OnOk result (Writes (W.out writer.old) (W.out writer.new) (key_digits key.now)) }
     ensures refused { IfErr result IsOfWriting }
+    ensures broken { IfErr result (BreaksOff (W.out writer.old) (W.out writer.new) (key_digits key.now)) }
 {
     if key.is_empty() {
         writer.put(b"-")?;
@@ -202,6 +212,7 @@ fn put_value<W: Sink>(value: &Variant, image: &mut Vec<u8>, writer: &mut W) -> R
     requires unbroken { (W.out writer.old).broken ≡ false }
     ensures written { OnOk result (Writes (W.out writer.old) (W.out writer.new) (value_digits value.now)) }
     ensures refused { IfErr result IsOfWriting }
+    ensures broken { IfErr result (BreaksOff (W.out writer.old) (W.out writer.new) (value_digits value.now)) }
 {
     image.clear();
     write_value(value, image)?;

@@ -1,5 +1,5 @@
 -- What an opening answers, where a stop has left one of two states.
-use Rattle.std.proofs.Common.{true, ◌≡◌, ◌≢◌, ◌⊎◌, ⊎_elim, ℕ, List, Some, length, inl, inr, refl, sym, ◌∙◌, subst, arith}
+use Rattle.std.proofs.Common.{true, ◌≤◌, ◌≡◌, ◌≢◌, ◌⊎◌, ⊎_elim, ℕ, List, Some, length, inl, inr, refl, sym, ◌∙◌, subst, arith}
 use Rattle.oa_fits.proofs.Kept.{unlocked_fits}
 use Rattle.oa_fits.specs.Fits.{fits}
 use Rattle.oa_groups.specs.Runs.{HoldsState}
@@ -32,6 +32,14 @@ use Rattle.oa_server.proofs.Kept.{one_size}
 pub is_two : (shape : Shape) → format_of shape ≡ 2 → shape ≡ Two (body_bytes shape)
 is_two One is = absurd cc
 is_two (Two size) is = refl
+
+-- its closed gate stands on the disk
+pub gate_within : (shape : Shape) (chosen gate : ℕ) (text contents : List ℕ) (table : TableValue) → format_of shape ≡ 2 → IsStoreAt shape chosen gate text table contents → gate ≤ length contents
+gate_within One chosen gate text contents table is store = absurd cc
+gate_within (Two size) chosen gate text contents table is store =
+    let inside = store.bank.parts.inside in
+    let room = store.room in
+    omega (arith, inside, room)
 
 -- what the contents are a store of is what they hold of a state
 found_state : (contents : List ℕ) (bank : ℕ) (library : TreeValue) (table : TableValue) (state : State) → IsStoreIn (Two bank) contents (canonical library) table → HoldsState requests state contents

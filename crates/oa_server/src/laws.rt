@@ -1,4 +1,4 @@
-//! Laws of the definitions that turns are stated by.
+//! Laws of groups and sessions over a store, each the contract of a function with an empty body.
 ghost use Rattle.std.specs.Prelude.{◌≡◌, ◌<◌, ◌≤◌, ℕ, false, List, ◌++◌, length};
 ghost use Rattle.oa_groups.specs.Laws.{CallCounts, CallGoesOn, EndCountsAll, HistoryKeepsAnswered, LateCallCounts, OneFault};
 ghost use Rattle.oa_groups.specs.Laws.{OpeningBegins, OthersAreRun, StopIsLink, StopKeepsAnswered};
@@ -25,6 +25,7 @@ use oa_disk::Disk;
 use oa_fits::laws::changes_that_fit;
 use oa_idl::laws::one_tree;
 use oa_record::laws::one_request;
+pub use oa_turn::laws::{kept_fits, no_trace};
 
 /// What was served can be served again, whatever its sessions were and wherever they stopped: from a state with which a server can begin,
 /// each turn leaves one, and so do those of groups; an opening, with which locks end, finds one; and a new store has one.

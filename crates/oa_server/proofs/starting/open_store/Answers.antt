@@ -1,4 +1,4 @@
-use Rattle.std.proofs.Common.{rules, ◌+◌, ◌≤◌, List, length, ℕ, inl, inr, refl, subst, sym, true≢false}
+use Rattle.std.proofs.Common.{rules, arith, ◌+◌, ◌≤◌, List, length, ℕ, inl, inr, refl, subst, sym, true≢false}
 use Rattle.std.proofs.lemmas.Result.{err_from_is_err_and}
 use Rattle.oa_canonical.specs.Canonical.{canonical}
 use Rattle.oa_journal.specs.Shapes.{body_bytes}
@@ -6,7 +6,7 @@ use Rattle.oa_journal.specs.declared.shape.Shape.{Shape}
 use Rattle.oa_store.specs.Stores.{IsStoreAt, IsStoreIn}
 use Rattle.oa_turn.specs.Beginnings.{CanServe}
 use Rattle.oa_server.proofs.Kept.{same_library}
-use Rattle.oa_server.proofs.Opened.{differs_told, differs_unfit, finds_one, is_two, of_library, of_text, refuses_one, refuses_unfit, says_library}
+use Rattle.oa_server.proofs.Opened.{differs_told, differs_unfit, finds_one, gate_within, is_two, of_library, of_text, refuses_one, refuses_unfit, says_library}
 use Rattle.oa_turn.proofs.Texts.{is_read}
 use Rattle.oa_server.proofs.starting.open_store.Goals as goal
 
@@ -55,6 +55,11 @@ returns-else-can_serve-clause-refused g c =
     rw c.into_disk.ensures (record {
       size = c.in_ok-store.ensures.after.size;
       cause = c.in_ok-store.ensures.after.unfailed;
+      calls = λ h.
+          let long = g.met.D.Disk.images_have_size disk contents (c.in_ok-store.ensures.after.honest h) (g.met.D.Disk.contents_is_image disk (c.in_ok-store.ensures.after.honest h)) in
+          let within = gate_within shape store.chosen store.bank.gate c.text_of.result.now contents table store.is_new (c.in_ok-store.ensures.found.contents h) in
+          let some = c.in_ok-store.ensures.found.calls h in
+          omega (arith, long, within, some);
       told = λ h.
           let honest = c.in_ok-store.ensures.after.honest h in
           let there = subst (λ (s : Shape). IsStoreIn s contents (canonical library) table) (is_two shape store.is_new)
@@ -83,6 +88,7 @@ returns-in_err-store-clause-refused g c =
     rw (p.1, p.2) (record {
       size = c.in_err-store.ensures.after_err.size;
       cause = refused.cause;
+      calls = refused.calls;
       told = λ h.
           let honest = c.in_err-store.ensures.after_err.honest h in
           let is = g.met.D.Disk.contents_is_image disk honest in

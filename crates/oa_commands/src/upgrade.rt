@@ -23,9 +23,8 @@ const PIECE: usize = 65_536;
 ///
 /// `CannotRead` and `InUse` as `open_store_file` tells them; `NotAStore`; `AlreadyNew` of one of format 2; `Damaged` with the place in
 /// bytes, 0 where a bank of that size has no room for what the store holds: these are looked for before anything is written, and once more
-/// where another process may have had the file since. `CannotWrite` where it
-/// cannot be lengthened, `TooSmall` where it became shorter since, `DeviceRead` and `DeviceWrite` where a call of the device failed.
-/// `Memory` may come at each.
+/// where another process may have had the file since. `CannotWrite` where it cannot be lengthened, `TooSmall` where it became shorter
+/// since, `DeviceRead` and `DeviceWrite` where a call of the device failed. `Memory` may come at each.
 pub fn upgrade_store(
     rt: &HostRuntime,
     streams: &StandardStreams,

@@ -47,8 +47,7 @@ pub fn checkpointed(
         → IsCheckpointed (contents_of disk) stop r.0 (contents_of r.1) state × IsKept r.1 state) }
     ensures wanting { IfErr result (λ fault. (state : State) → IsKept disk state → IsWanting fault) }
 {
-    let (store, table) = opened_store(alloc, disk)?;
-    let mut store = store;
+    let (mut store, table) = opened_store(alloc, disk)?;
     if let Err(fault) = store.checkpoint(&table) {
         return Err(HistoryFault::Checkpoint(fault));
     }

@@ -6,6 +6,7 @@
    INTERRUPTED           each read of standard input is interrupted (1), or each write to standard output (2)
    TIMES                 behind so many interruptions such a call is made, and then they begin anew; where nothing is said, none is made
    BLOCKED               the same calls would block
+   AFTER                 behind so many that are made
    LARGE                 how many bytes are many
    TOLD                  a file, which gets the number of calls of the allocator, of blocks that were not freed, of reads of standard input, of
                          writes to standard output, and of calls of the allocator that asked for LARGE bytes or more */
@@ -30,7 +31,7 @@ ssize_t __pread64(int file, void *into, size_t size, off64_t at);
 ssize_t __pwrite64(int file, const void *from, size_t size, off64_t at);
 
 static int counts;
-static long calls, blocks, reads, writes, larges, refused, refused_from, interrupted, times, in_a_row, blocked;
+static long calls, blocks, reads, writes, larges, refused, refused_from, interrupted, times, in_a_row, blocked, after;
 static size_t most = (size_t)-1, large = (size_t)-1;
 
 static long number(const char *name) {
@@ -90,6 +91,10 @@ static int kept_off(long stream) {
         in_a_row = 0;
         return 0;
     }
+    if (blocked == stream && after > 0) {
+        after--;
+        return 0;
+    }
     errno = interrupted == stream ? EINTR : EAGAIN;
     return interrupted == stream || blocked == stream;
 }
@@ -137,6 +142,7 @@ static int counted(int count, char **words, char **variables) {
     interrupted = number("INTERRUPTED");
     times = number("TIMES");
     blocked = number("BLOCKED");
+    after = number("AFTER");
     if (number("SHORT") > 0) most = number("SHORT");
     if (number("LARGE") > 0) large = number("LARGE");
     atexit(told);

@@ -103,6 +103,27 @@ class Bytewise(Cases):
             got = preloaded.run(words, "given", blocked=2)
             self.tell("a write would block", (got[:3], got.writes) == ((1, b"", fault("write fault")), 1), got)
 
+    def test_nothing_is_read_past_a_failed_write(self):
+        """A read brings half a line, and a write half a reply. Where one fails, no read is made any more, and nothing else is written."""
+        replies = b"".join(b"%s%02x%s\n" % (CREATED[:32], number, CREATED[34:]) for number in (1, 2, 3))
+        with Preloaded() as preloaded:
+            preloaded.fill("lib.idl", SMALL)
+            preloaded.fill("given", (CREATE + b"\r\n") * 3)
+            path, lib = preloaded.path("it.store"), preloaded.path("lib.idl")
+            preloaded.ample(["format", path, lib])
+            made = StoreFile(path)
+            for name, words, written, reads, left in (
+                ("the last of the first reply, in memory", ["play", lib], 1, 2, 25),
+                ("the first of the second reply, in memory", ["play", lib], 2, 4, 49),
+                ("the last of the first reply", ["serve", path, lib], 1, 2, 25),
+                ("the first of the second reply", ["serve", path, lib], 2, 4, 49),
+                ("the last of a group of 3", ["serve", "--group", "3", path, lib], 5, 6, 125),
+                ("the first of an open group, at the end of the input", ["serve", "--group", "1024", path, lib], 0, 7, 0),
+            ):
+                made.lay()
+                got = preloaded.run([*words, "--hex"], "given", short=25, blocked=2, after=written)
+                self.tell(f"a write fails: {name}", (got[:3], got.reads, got.writes) == ((1, replies[:left], fault("write fault")), reads, written + 1), got)
+
     def test_replies_a_byte_a_write(self):
         """However many writes a reply takes, it leaves whole."""
         with Preloaded() as preloaded:

@@ -1,5 +1,5 @@
 //! How often the disk is called for the script, and how many moments its clock has then: by the calls that docs/store.md counts.
-ghost use Rattle.std.specs.Prelude.{◌≡◌, ◌+◌, ◌*◌};
+ghost use Rattle.std.specs.Prelude.{◌≡◌, ◌+◌, ◌*◌, ◌<◌, ◌≤◌};
 
 /// The calls of an opening: a sync, and reads of the first byte, of the selector, of the head three times, of the library twice, of the
 /// snapshot, and of the first gate. With that one all groups of the script are read.
@@ -23,4 +23,12 @@ pub fn checkpoint_moments() -> u64
     ensures { result ≡ 31 }
 {
     1 + 2 * (OPENING + CHECKPOINT)
+}
+
+/// How many groups of a session, each with an event, are over at one of its moments: the last call of their commits has ended.
+pub fn groups_over(moment: u64) -> u64
+    ensures all { moment < 28 + 8 * result }
+    ensures no_more { 0 < result → 20 + 8 * result ≤ moment }
+{
+    moment.saturating_sub(2 * OPENING) / (2 * COMMIT)
 }

@@ -1,5 +1,4 @@
 //! A format answers wherever it is stopped. What its stop leaves is shown of the program (`cli/test_crashes.py`).
-use crate::histories::expect;
 use crate::script::{library, new_disk};
 use oa_disk::Tear;
 use oa_history::formatted;
@@ -17,5 +16,5 @@ fn answers(alloc: Global) -> Option<()> {
 
 #[test]
 fn a_format_answers_at_each_moment(rt: HostRuntime) {
-    expect(&rt, "17 moments", answers(rt.alloc()).is_some());
+    assert!(rt; answers(rt.alloc()).is_some(), "17 moments");
 }

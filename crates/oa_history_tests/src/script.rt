@@ -1,5 +1,5 @@
-//! One script in two sessions, with a checkpoint between them: what is asked, what is read after so many of its requests, and how
-//! the tests play it.
+//! One script in two sessions, with a checkpoint between them: what is asked, what is answered, what is read after so many of its
+//! requests, and how the tests play it.
 ghost use Rattle.std.specs.Prelude.{◌≤◌, IfSome};
 ghost use Rattle.oa_history.specs.Kept.{IsFreshDisk};
 
@@ -9,7 +9,8 @@ use oa_history::{
 };
 use oa_idl::parse;
 use oa_record::Reply;
-use oa_server::Server;
+use oa_server::{End, Server};
+use oa_table::Table;
 use oa_typelib::{Library, check};
 use std::alloc::Global;
 use std::process::Abort;
@@ -31,6 +32,17 @@ static FIRST: [&str; 5] = [
 static SECOND: [&str; 2] = [
     "06000000040000000100000001000000000000000000000000000000000000000000000000000000000000000000000000000000040000000100000001000000fdffffff000000001800000000000000030000000000000003000000000000000300000008000000",
     "07000000020000000100000000000000",
+];
+
+/// What both are answered, one behind the other.
+static REPLIES: [&str; 7] = [
+    "0100000000000000ffffffff000000000100000000000000",
+    "0200000000000000ffffffff00000000",
+    "0300000000000000ffffffff00000000",
+    "0400000000000000ffffffff00000000",
+    "0500000000000000ffffffff00000000",
+    "0600000000000000ffffffff00000000",
+    "0700000000000000ffffffff00000000",
 ];
 
 /// The count, the name and the grid are read.
@@ -90,6 +102,11 @@ pub(crate) fn reads() -> &'static [&'static str] {
     &READS
 }
 
+/// What the requests of both sessions are answered, from one of them to before another.
+pub(crate) fn replies(from: usize, to: usize) -> Option<&'static [&'static str]> {
+    REPLIES.get(from..to)
+}
+
 /// Behind the end of any session.
 pub(crate) const END: u64 = 0xffff_ffff;
 
@@ -104,17 +121,24 @@ pub(crate) const TEARS: [Tear; 7] = [
     Tear::Cut(1),
 ];
 
+/// The bodies that some lines spell.
+pub(crate) fn bodies_of(alloc: Global, lines: &[&str]) -> Option<Vec<Vec<u8>>> {
+    let mut bodies = Vec::new(alloc);
+    for line in lines {
+        bodies.push(hex::decode(alloc, *line).ok()?).ok()?;
+    }
+    Some(bodies)
+}
+
 /// The requests of these lines, so many in each call, which is one group.
 pub(crate) fn calls_of(alloc: Global, lines: &[&str], group: usize) -> Option<Vec<ServerCall>>
     requires { 1 ≤ group }
 {
     let mut calls = Vec::new(alloc);
     for part in lines.chunks(group) {
-        let mut bodies = Vec::new(alloc);
-        for line in part {
-            bodies.push(hex::decode(alloc, *line).ok()?).ok()?;
-        }
-        calls.push(ServerCall::new(bodies, 7)).ok()?;
+        calls
+            .push(ServerCall::new(bodies_of(alloc, part)?, 7))
+            .ok()?;
     }
     Some(calls)
 }
@@ -126,16 +150,41 @@ fn put_digits(alloc: Global, text: &mut String, bytes: &[u8]) {
 }
 
 /// A reply as a line.
-pub(crate) fn put_reply(alloc: Global, text: &mut String, reply: &Reply) {
+fn put_reply(alloc: Global, text: &mut String, reply: &Reply) {
     put_digits(alloc, text, &reply.head());
     put_digits(alloc, text, reply.body());
     let _ = text.push_str("\n");
 }
 
 /// Replies as lines.
-pub(crate) fn put_replies(alloc: Global, text: &mut String, replies: &[Reply]) {
+fn put_replies(alloc: Global, text: &mut String, replies: &[Reply]) {
     for reply in replies {
         put_reply(alloc, text, reply);
+    }
+}
+
+/// What calls were answered, as lines.
+fn lines_of(alloc: Global, answers: &[Answer]) -> String {
+    let mut text = String::new(alloc);
+    for answer in answers {
+        put_replies(alloc, &mut text, answer.replies.as_slice());
+    }
+    text
+}
+
+/// Whether a session was answered so: by lines, or by what was written over a stream, whose end it has met behind so many requests.
+pub(crate) fn is_answered(alloc: Global, heard: &Heard, requests: usize, due: &[u8]) -> bool {
+    match &heard.replies {
+        Replies::Calls(answers) => {
+            let text = lines_of(alloc, answers.as_slice());
+            text.as_str().as_bytes() == due
+        }
+        Replies::Stream(written) => {
+            let served = written.served;
+            written.output.bytes() == due
+                && served.requests == requests as u64
+                && served.why == End::Closed
+        }
     }
 }
 
@@ -151,6 +200,44 @@ fn place_of(text: &str, least: usize, most: usize) -> Option<usize> {
     None
 }
 
+/// How many of the requests were found by a session that has read the three properties.
+pub(crate) fn place_in(alloc: Global, heard: &Heard, least: usize, most: usize) -> Option<usize> {
+    match &heard.replies {
+        Replies::Calls(answers) => {
+            let text = lines_of(alloc, answers.as_slice());
+            place_of(text.as_str(), least, most)
+        }
+        Replies::Stream(_) => None,
+    }
+}
+
+/// What a server answers to each of these requests by itself, as lines.
+fn answered(alloc: Global, server: &mut Server<MemoryDisk>, bodies: &[Vec<u8>]) -> String {
+    let mut text = String::new(alloc);
+    for body in bodies {
+        put_reply(alloc, &mut text, &server.answer(body.as_slice()));
+    }
+    text
+}
+
+/// How many of the requests the server holds, as it is told by one call of three groups, and by a call for each request.
+pub(crate) fn read_by(
+    alloc: Global,
+    server: &mut Server<MemoryDisk>,
+    least: usize,
+    most: usize,
+) -> Option<usize> {
+    let bodies = bodies_of(alloc, reads())?;
+    let replies = server.run(bodies.as_slice(), 1).ok()?;
+    let mut text = String::new(alloc);
+    put_replies(alloc, &mut text, replies.as_slice());
+    let alone = answered(alloc, server, bodies.as_slice());
+    if alone.as_str() != text.as_str() {
+        return None;
+    }
+    place_of(text.as_str(), least, most)
+}
+
 /// A disk of zeros, with room for what is played on it.
 pub(crate) fn new_disk(alloc: Global) -> Option<MemoryDisk>
     ensures { IfSome result IsFreshDisk }
@@ -160,6 +247,12 @@ pub(crate) fn new_disk(alloc: Global) -> Option<MemoryDisk>
 
 pub(crate) fn library(alloc: Global) -> Option<Library> {
     check(alloc, parse(alloc, SMALL).ok()?).ok()
+}
+
+/// Whether the library and the table are told that a server behind so many of the requests has.
+pub(crate) fn are_told(library: &Library, text: &[u8], table: &Table, place: usize) -> bool {
+    let next = if place == 0 { 1 } else { 2 };
+    text == library.text() && table.next() == next
 }
 
 /// A new store of the library.
@@ -172,59 +265,33 @@ pub(crate) fn new_store(alloc: Global) -> Option<MemoryDisk>
     }
 }
 
-/// The disk once more, with what is read of it.
-pub(crate) fn again(disk: &MemoryDisk) -> Option<MemoryDisk>
+/// What a loss of power now with this tear leaves of a disk.
+pub(crate) fn left_by(disk: &MemoryDisk, tear: Tear) -> Option<MemoryDisk>
     ensures { IfSome result IsFreshDisk }
 {
-    disk.crash(disk.moments(), Tear::Kept).ok()
+    disk.crash(disk.moments(), tear).ok()
 }
 
-/// Plays a session that asks this on a copy of the disk: what was heard, and what the stop has left.
-pub(crate) fn asked(
-    alloc: Global,
-    disk: &MemoryDisk,
-    asked: Asked,
-    moment: u64,
-    tear: Tear,
-) -> Option<(Heard, MemoryDisk)>
+/// Plays a session of these calls to its end: what was heard, and what it has left.
+fn played(alloc: Global, disk: MemoryDisk, calls: Vec<ServerCall>) -> Option<(Heard, MemoryDisk)>
+    requires { IsFreshDisk disk }
     ensures { IfSome result (λ r. IsFreshDisk r.1) }
 {
     let session = Session {
-        asked,
-        moment,
-        tear,
+        asked: Asked::Calls(calls),
+        moment: END,
+        tear: Tear::Lost,
     };
-    stopped(alloc, again(disk)?, &session).ok()
-}
-
-/// The same of these calls.
-pub(crate) fn played(
-    alloc: Global,
-    disk: &MemoryDisk,
-    calls: Vec<ServerCall>,
-    moment: u64,
-    tear: Tear,
-) -> Option<(Heard, MemoryDisk)>
-    ensures { IfSome result (λ r. IsFreshDisk r.1) }
-{
-    asked(alloc, disk, Asked::Calls(calls), moment, tear)
-}
-
-/// The answers of a session by calls.
-fn answers_of(heard: &Heard) -> Option<&[Answer]> {
-    match &heard.replies {
-        Replies::Calls(answers) => Some(answers.as_slice()),
-        Replies::Stream(_) => None,
-    }
+    stopped(alloc, disk, &session).ok()
 }
 
 /// The store behind the first session and the checkpoint.
-pub(crate) fn next_store(alloc: Global, store: &MemoryDisk, group: usize) -> Option<MemoryDisk>
-    requires { 1 ≤ group }
+pub(crate) fn next_store(alloc: Global, store: MemoryDisk, group: usize) -> Option<MemoryDisk>
+    requires some { 1 ≤ group }
+    requires fresh { IsFreshDisk store }
     ensures { IfSome result IsFreshDisk }
 {
-    let calls = calls_of(alloc, first(), group)?;
-    let (_, store) = played(alloc, store, calls, END, Tear::Lost)?;
+    let (_, store) = played(alloc, store, calls_of(alloc, first(), group)?)?;
     let end = Stop {
         moment: END,
         tear: Tear::Lost,
@@ -235,93 +302,25 @@ pub(crate) fn next_store(alloc: Global, store: &MemoryDisk, group: usize) -> Opt
     }
 }
 
-/// How many of the requests the disk holds, by its three properties, and the moments of its opening.
-pub(crate) fn read_of(
-    alloc: Global,
-    disk: &MemoryDisk,
-    least: usize,
-    most: usize,
-) -> Option<(usize, u64)> {
-    let (heard, _) = played(alloc, disk, calls_of(alloc, reads(), 3)?, END, Tear::Kept)?;
-    Some((place_in(alloc, &heard, least, most)?, heard.disk.moments()))
+/// How many of the requests a store holds, by its three properties.
+pub(crate) fn read_of(alloc: Global, store: MemoryDisk, least: usize, most: usize) -> Option<usize>
+    requires { IsFreshDisk store }
+{
+    let (heard, _) = played(alloc, store, calls_of(alloc, reads(), 3)?)?;
+    place_in(alloc, &heard, least, most)
 }
 
-/// How many of the requests were found by a session that has read the three properties.
-pub(crate) fn place_in(alloc: Global, heard: &Heard, least: usize, most: usize) -> Option<usize> {
-    let mut text = String::new(alloc);
-    for answer in answers_of(heard)? {
-        put_replies(alloc, &mut text, answer.replies.as_slice());
-    }
-    place_of(text.as_str(), least, most)
-}
-
-/// How many of the requests were answered by the moment, after `first` of them.
-pub(crate) fn answered_by(heard: &Heard, first: usize, moment: u64) -> Option<usize> {
-    let mut count = first;
-    for answer in answers_of(heard)? {
-        if answer.moment <= moment {
-            count = count.saturating_add(answer.replies.len());
-        }
-    }
-    Some(count)
-}
-
-/// How many of the requests the server holds.
-pub(crate) fn read_by(
-    alloc: Global,
-    server: &mut Server<MemoryDisk>,
-    least: usize,
-    most: usize,
-) -> Option<usize> {
-    let mut bodies = Vec::new(alloc);
-    for line in reads() {
-        bodies.push(hex::decode(alloc, *line).ok()?).ok()?;
-    }
-    let replies = server.run(bodies.as_slice(), 3).ok()?;
-    let mut text = String::new(alloc);
-    put_replies(alloc, &mut text, replies.as_slice());
-    place_of(text.as_str(), least, most)
-}
-
-/// What was tried: moments at which something was stopped, and openings of what these stops have left.
-#[derive(Clone, Copy, PartialEq, Eq)]
-pub(crate) struct Tried {
-    pub stops: u64,
-    pub openings: u64,
-}
-
-pub(crate) const NOTHING: Tried = Tried {
-    stops: 0,
-    openings: 0,
-};
-
-/// One more stop, with so many openings behind it.
-pub(crate) fn one_more(tried: Tried, openings: u64) -> Tried {
-    Tried {
-        stops: tried.stops.saturating_add(1),
-        openings: tried.openings.saturating_add(openings),
-    }
-}
-
-/// What was tried here and there.
-pub(crate) fn both(one: Tried, other: Tried) -> Tried {
-    Tried {
-        stops: one.stops.saturating_add(other.stops),
-        openings: one.openings.saturating_add(other.openings),
-    }
-}
-
-/// Prints what was tried, and ends the test where something of the script was lost, or another number was tried than is due.
-pub(crate) fn expect(rt: &(impl Abort + Print), tried: Option<Tried>, due: Tried) {
-    match tried {
-        Some(tried) => {
-            let _ = println!(rt; "{} stops, {} openings", tried.stops, tried.openings);
-            assert!(rt;
-                tried == due,
-                "due are {} stops, {} openings",
-                due.stops,
-                due.openings
-            );
+/// Prints what was counted, and ends the test where something of the script was lost, or where other numbers are due.
+pub(crate) fn expect(
+    rt: &(impl Abort + Print),
+    counts: &str,
+    found: Option<[u64; 4]>,
+    due: [u64; 4],
+) {
+    match found {
+        Some(found) => {
+            let _ = println!(rt; "{counts}: {found:?}");
+            assert!(rt; found == due, "due are {due:?}");
         }
         None => assert!(rt; false, "lost"),
     }

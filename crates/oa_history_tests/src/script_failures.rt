@@ -3,17 +3,15 @@ ghost use Rattle.std.specs.Prelude.{◌≤◌};
 
 use crate::counts::{COMMIT, OPENING};
 use crate::script::{
-    TEARS, again, calls_of, first, library, new_disk, new_store, next_store, read_by, read_of,
-    second,
+    TEARS, are_told, calls_of, expect, first, left_by, library, new_disk, new_store, next_store,
+    read_by, read_of, second,
 };
 use oa_disk::{DeviceFault, MemoryDisk, Tear};
-use oa_history::{Survived, Told, survive, withstood};
+use oa_history::{ServerCall, Survived, Told, survive, withstood};
 use oa_model::HResult;
 use oa_server::Server;
-use oa_table::Table;
 use oa_typelib::Library;
 use std::alloc::Global;
-use std::process::Abort;
 use std::rt::HostRuntime;
 
 /// What is due behind a session over a disk that fails: so many of the requests were done, or the group in which it has failed too; and
@@ -84,18 +82,12 @@ fn read_as_it_is(alloc: Global, disk: MemoryDisk, least: usize, most: usize) -> 
     }
 }
 
-/// How many of the requests a loss of power now with this tear leaves, and the moments of the opening behind it.
-fn left_by(alloc: Global, disk: &MemoryDisk, due: Due, tear: Tear) -> Option<(usize, u64)> {
-    let left = disk.crash(disk.moments(), tear).ok()?;
-    read_of(alloc, &left, due.least, due.most)
-}
-
 /// A loss of power now with each tear: how many there were, if each leaves the requests that are due, with the group that is in doubt or
 /// without it.
 fn losses_of(alloc: Global, disk: &MemoryDisk, due: Due) -> Option<u64> {
     let mut count = 0u64;
     for tear in TEARS {
-        let (place, _) = left_by(alloc, disk, due, tear)?;
+        let place = read_of(alloc, left_by(disk, tear)?, due.least, due.most)?;
         if place != due.least && place != due.most {
             return None;
         }
@@ -104,68 +96,68 @@ fn losses_of(alloc: Global, disk: &MemoryDisk, due: Due) -> Option<u64> {
     Some(count)
 }
 
-/// What was found behind calls over disks that fail: how often an opening has met the fault, and how often a group that was then found whole,
-/// or not at all; and how many losses of power were tried then.
-#[derive(Clone, Copy, PartialEq, Eq)]
-struct Found {
-    openings: u64,
-    whole: u64,
-    none: u64,
-    losses: u64,
-}
-
-const NOTHING: Found = Found {
-    openings: 0,
-    whole: 0,
-    none: 0,
-    losses: 0,
-};
-
-/// One more, where so many of the requests were found.
-fn counted(found: Found, due: Due, place: usize) -> Option<Found> {
-    let mut found = found;
+/// Which of these was found, where so many of the requests are: that an opening has met the fault, that the group that is in doubt is there whole, or that
+/// it is not there.
+fn kind_of(due: Due, place: usize) -> Option<usize> {
     if !due.opened {
-        found.openings = found.openings.saturating_add(1);
+        Some(0)
     } else if place == due.most {
-        found.whole = found.whole.saturating_add(1);
+        Some(1)
     } else if place == due.least {
-        found.none = found.none.saturating_add(1);
+        Some(2)
     } else {
-        return None;
+        None
     }
-    Some(found)
 }
 
-/// Plays the session of these requests over disks that fail from each call on, up to one that does not fail.
+/// What is due behind calls over a disk, how many of the requests were found on the one that was handed back, and how many losses of power were tried.
+fn found_behind(
+    alloc: Global,
+    told: &Result<Vec<Told>, DeviceFault>,
+    back: MemoryDisk,
+    first: usize,
+    first_failing: u64,
+) -> Option<(Due, usize, u64)> {
+    let due = due_of(told, first, first_failing)?;
+    let losses = losses_of(alloc, &back, due)?;
+    let place = read_as_it_is(alloc, back, due.least, due.most)?;
+    Some((due, place, losses))
+}
+
+/// Plays the session of these requests over a disk that fails from a call on.
+fn failed(
+    alloc: Global,
+    disk: &MemoryDisk,
+    calls: &[ServerCall],
+    first: usize,
+    first_failing: u64,
+) -> Option<(Due, usize, u64)> {
+    let disk = left_by(disk, Tear::Kept)?;
+    let (told, back) = withstood(alloc, disk, calls, first_failing).ok()?;
+    found_behind(alloc, &told, back, first, first_failing)
+}
+
+/// Plays these calls, before which so many of the requests were made, over disks that fail from each call on, up to one that does not fail. Answers how
+/// often an opening has met the fault, how often the group in doubt was found whole, and how often not at all; and how many losses of power were tried.
 fn failures(
     alloc: Global,
     disk: &MemoryDisk,
-    lines: &[&str],
+    calls: &[ServerCall],
     first: usize,
-    group: usize,
-) -> Option<Found>
-    requires { 1 ≤ group }
-{
-    let mut found = NOTHING;
+) -> Option<[u64; 4]> {
+    let mut found = [0u64; 4];
     for first_failing in 1..300u64 {
-        let calls = calls_of(alloc, lines, group)?;
-        let (told, back) = withstood(alloc, again(disk)?, calls.as_slice(), first_failing).ok()?;
-        let due = due_of(&told, first, first_failing)?;
-        let losses = losses_of(alloc, &back, due)?;
-        let place = read_as_it_is(alloc, back, due.least, due.most)?;
+        let (due, place, losses) = failed(alloc, disk, calls, first, first_failing)?;
         if !due.failed {
             return Some(found);
         }
-        found = counted(found, due, place)?;
-        found.losses = found.losses.saturating_add(losses);
+        let kind = kind_of(due, place)?;
+        if let Some(count) = found.get_mut(kind) {
+            *count = count.saturating_add(1);
+        }
+        found[3] = found[3].saturating_add(losses);
     }
     None
-}
-
-/// Whether the library and the table are told that a server behind so many of the requests has.
-fn are_told(library: &Library, text: &[u8], table: &Table, place: usize) -> bool {
-    let next = if place == 0 { 1 } else { 2 };
-    text == library.text() && table.next() == next
 }
 
 /// What is due of calls that have survived, and how many of the requests were found.
@@ -184,103 +176,83 @@ fn found_by(
     }
 }
 
-/// What `survive` comes to: the same of a new store, and the library and the table that it tells.
-fn survived(alloc: Global, group: usize, first_failing: u64) -> Option<(Due, usize)>
-    requires { 1 ≤ group }
-{
+/// Plays these calls over a new store by `survive`, on a disk that fails from a call on.
+fn survived(alloc: Global, calls: &[ServerCall], first_failing: u64) -> Option<(Due, usize)> {
     let library = library(alloc)?;
-    let calls = calls_of(alloc, first(), group)?;
-    let disk = new_disk(alloc)?;
-    match survive(alloc, &library, disk, calls.as_slice(), first_failing) {
+    match survive(alloc, &library, new_disk(alloc)?, calls, first_failing) {
         Ok(mut survived) => found_by(alloc, &library, &mut survived, first_failing),
         Err(_) => None,
     }
 }
 
-/// Plays the first session by `survive`, over disks that fail from each call on, up to one that does not fail.
-fn survivals(alloc: Global, group: usize) -> Option<Found>
+/// The same of the first session by `survive`, and what it tells of the library and the table, without losses of power.
+fn survivals(alloc: Global, group: usize) -> Option<[u64; 4]>
     requires { 1 ≤ group }
 {
-    let mut found = NOTHING;
+    let calls = calls_of(alloc, first(), group)?;
+    let mut found = [0u64; 4];
     for first_failing in 1..300u64 {
-        let (due, place) = survived(alloc, group, first_failing)?;
+        let (due, place) = survived(alloc, calls.as_slice(), first_failing)?;
         if !due.failed {
             return if place == 5 { Some(found) } else { None };
         }
-        found = counted(found, due, place)?;
+        let kind = kind_of(due, place)?;
+        if let Some(count) = found.get_mut(kind) {
+            *count = count.saturating_add(1);
+        }
     }
     None
 }
 
-/// The first session, and the second one behind a checkpoint, in groups of so many.
-fn failing_script(alloc: Global, group: usize) -> Option<Found>
+/// The first session, in groups of so many.
+fn first_failures(alloc: Global, group: usize) -> Option<[u64; 4]>
     requires { 1 ≤ group }
 {
-    let store = new_store(alloc)?;
-    let one = failures(alloc, &store, first(), 0, group)?;
-    let next = next_store(alloc, &store, group)?;
-    let two = failures(alloc, &next, second(), 5, group)?;
-    Some(Found {
-        openings: one.openings.saturating_add(two.openings),
-        whole: one.whole.saturating_add(two.whole),
-        none: one.none.saturating_add(two.none),
-        losses: one.losses.saturating_add(two.losses),
-    })
+    let calls = calls_of(alloc, first(), group)?;
+    failures(alloc, &new_store(alloc)?, calls.as_slice(), 0)
 }
 
-/// What is due of sessions that have so many openings and groups, with so many losses of power behind each failure. Each call of the disk has
-/// failed once. A group whose bytes, sync or gate has failed is not there: a call that fails is not made. Where the sync behind its gate has
-/// failed, the gate was written, and is read.
-fn due_by(sessions: u16, groups: u16, losses: u16) -> Found {
-    let openings = u64::from(sessions) * OPENING;
-    let commits = u64::from(groups) * COMMIT;
-    Found {
-        openings,
-        whole: u64::from(groups),
-        none: commits - u64::from(groups),
-        losses: (openings + commits) * u64::from(losses),
-    }
+/// The second one, behind a checkpoint.
+fn second_failures(alloc: Global, group: usize) -> Option<[u64; 4]>
+    requires { 1 ≤ group }
+{
+    let calls = calls_of(alloc, second(), group)?;
+    let store = next_store(alloc, new_store(alloc)?, group)?;
+    failures(alloc, &store, calls.as_slice(), 5)
 }
 
-/// Prints what was found, and ends the test where something else was.
-fn expect(rt: &(impl Abort + Print), found: Option<Found>, due: Found) {
-    match found {
-        Some(found) => {
-            let _ = println!(rt;
-                "{} openings, {} groups found, {} not, {} losses of power",
-                found.openings, found.whole, found.none, found.losses
-            );
-            assert!(rt;
-                found == due,
-                "due are {} openings, {} groups, {} not, {} losses of power",
-                due.openings,
-                due.whole,
-                due.none,
-                due.losses
-            );
-        }
-        None => assert!(rt; false, "lost"),
-    }
+/// What is due of a session of so many groups, with so many losses of power behind each failure. Each call of the disk has failed once. A group whose
+/// bytes, sync or gate has failed is not there: a call that fails is not made. Where the sync behind its gate has failed, the gate was written, and is
+/// read.
+fn due_by(groups: u16, losses: u16) -> [u64; 4] {
+    let whole = u64::from(groups);
+    let calls = OPENING + COMMIT * whole;
+    [
+        OPENING,
+        whole,
+        (COMMIT - 1) * whole,
+        calls * u64::from(losses),
+    ]
 }
+
+const COUNTS: &str = "openings that fail, groups found, groups not found, and losses of power";
 
 #[test]
 fn fails_in_groups_of_1(rt: HostRuntime) {
     // seven groups in two sessions, and seven tears
-    expect(&rt, failing_script(rt.alloc(), 1), due_by(2, 7, 7));
-}
-
-#[test]
-fn survives_in_groups_of_1(rt: HostRuntime) {
-    // the five groups of the first session
-    expect(&rt, survivals(rt.alloc(), 1), due_by(1, 5, 0));
+    expect(&rt, COUNTS, first_failures(rt.alloc(), 1), due_by(5, 7));
+    expect(&rt, COUNTS, second_failures(rt.alloc(), 1), due_by(2, 7));
 }
 
 #[test]
 fn fails_in_groups_of_3(rt: HostRuntime) {
-    expect(&rt, failing_script(rt.alloc(), 3), due_by(2, 3, 7));
+    expect(&rt, COUNTS, first_failures(rt.alloc(), 3), due_by(2, 7));
+    expect(&rt, COUNTS, second_failures(rt.alloc(), 3), due_by(1, 7));
 }
 
+/// The groups of the first session.
 #[test]
-fn survives_in_groups_of_3(rt: HostRuntime) {
-    expect(&rt, survivals(rt.alloc(), 3), due_by(1, 2, 0));
+fn survives_in_groups_of_1_and_3(rt: HostRuntime) {
+    expect(&rt, COUNTS, survivals(rt.alloc(), 1), due_by(5, 0));
+    expect(&rt, COUNTS, survivals(rt.alloc(), 3), due_by(2, 0));
 }

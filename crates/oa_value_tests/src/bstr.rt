@@ -80,19 +80,26 @@ fn is_before_empty(alloc: Global) -> bool {
     }
 }
 
-/// Whether a text of five bytes is printed by them, and has little-endian units, the last one with a byte of 0.
-fn is_told(alloc: Global, text: &Bstr) -> bool {
-    is_shown(alloc, text, "[52, 18, 255, 254, 86]")
-        && text.byte_len() == 5
+/// Five bytes.
+pub const ODD: [u8; 5] = [0x34, 0x12, 0xff, 0xfe, 0x56];
+
+/// Whether a text has these bytes, and little-endian units, the last one with a byte of 0.
+pub fn is_told(text: &Bstr) -> bool {
+    text.byte_len() == 5
+        && text.as_bytes() == ODD.as_slice()
         && text.unit(0) == 0x1234
         && text.unit(1) == 0xfeff
         && text.unit(2) == 0x0056
 }
 
-/// Whether such a text and null are told so.
+/// Whether such a text is told so, and printed by its bytes, and null by its name.
 fn are_told(alloc: Global) -> bool {
-    match text(alloc, &[0x34, 0x12, 0xff, 0xfe, 0x56]) {
-        Ok(text) => is_told(alloc, &text) && is_shown(alloc, &Bstr::null(), "null"),
+    match text(alloc, &ODD) {
+        Ok(text) => {
+            is_told(&text)
+                && is_shown(alloc, &text, "[52, 18, 255, 254, 86]")
+                && is_shown(alloc, &Bstr::null(), "null")
+        }
         Err(_) => false,
     }
 }

@@ -22,8 +22,9 @@ impl Drop for Counted<'_> {
     }
 }
 
+/// Why cells are not made.
 #[derive(Clone, Copy, PartialEq, Eq)]
-enum Refusal {
+pub enum Refusal {
     Memory,
     At(usize),
 }
@@ -98,8 +99,9 @@ fn first_other_fill(alloc: Global) -> Option<usize> {
     None
 }
 
-/// From 3 cells to `len`, refused at an index: the length then, the drops so far, and the drops at the end.
+/// From so many cells to `len`, refused at an index: the length then, the drops so far, and the drops at the end.
 struct Resize {
+    from: usize,
     len: usize,
     refuse: usize,
     answer: Result<(), Refusal>,
@@ -108,8 +110,9 @@ struct Resize {
     all: usize,
 }
 
-const RESIZES: [Resize; 6] = [
+const RESIZES: [Resize; 7] = [
     Resize {
+        from: 3,
         len: 5,
         refuse: 9,
         answer: Ok(()),
@@ -118,6 +121,7 @@ const RESIZES: [Resize; 6] = [
         all: 5,
     },
     Resize {
+        from: 3,
         len: 5,
         refuse: 3,
         answer: Err(Refusal::At(3)),
@@ -126,6 +130,7 @@ const RESIZES: [Resize; 6] = [
         all: 3,
     },
     Resize {
+        from: 3,
         len: 5,
         refuse: 4,
         answer: Err(Refusal::At(4)),
@@ -134,6 +139,7 @@ const RESIZES: [Resize; 6] = [
         all: 4,
     },
     Resize {
+        from: 3,
         len: 3,
         refuse: 9,
         answer: Ok(()),
@@ -142,6 +148,7 @@ const RESIZES: [Resize; 6] = [
         all: 3,
     },
     Resize {
+        from: 3,
         len: 1,
         refuse: 9,
         answer: Ok(()),
@@ -150,12 +157,22 @@ const RESIZES: [Resize; 6] = [
         all: 3,
     },
     Resize {
+        from: 3,
         len: 0,
         refuse: 9,
         answer: Ok(()),
         left: 0,
         dropped: 3,
         all: 3,
+    },
+    Resize {
+        from: 0,
+        len: 2,
+        refuse: 9,
+        answer: Ok(()),
+        left: 2,
+        dropped: 0,
+        all: 2,
     },
 ];
 
@@ -167,23 +184,23 @@ fn resize_once<'a>(
     cells.resized(row.len, |i| make_counted(i, row.refuse, drops))
 }
 
-/// Where memory is refused, the three cells are as they were, and none was dropped.
+/// Where memory is refused, the cells are as they were, and none was dropped.
 fn resized<'a>(
     cells: &mut Cells<Counted<'a>>,
     row: &Resize,
     drops: &'a Cell<usize>,
 ) -> Result<(), Refusal> {
     match resize_once(cells, row, drops) {
-        Err(Refusal::Memory) if are_numbered(cells, 3) && drops.get() == 0 => {
+        Err(Refusal::Memory) if are_numbered(cells, row.from) && drops.get() == 0 => {
             resize_once(cells, row, drops)
         }
         answer => answer,
     }
 }
 
-/// Whether three cells become what the row says.
+/// Whether the cells become what the row says.
 fn is_resized(alloc: Global, row: &Resize, drops: &Cell<usize>) -> bool {
-    let Ok(mut cells) = filled(alloc, 3, 9, drops) else {
+    let Ok(mut cells) = filled(alloc, row.from, 9, drops) else {
         return false;
     };
     resized(&mut cells, row, drops) == row.answer
@@ -240,25 +257,8 @@ fn each_cell_is_dropped_once(rt: HostRuntime) {
     );
 }
 
-/// New cells get that value.
-fn resize_with<T: Copy>(cells: &mut Cells<T>, len: usize, value: T) -> Result<(), AllocError> {
-    cells.resized(len, |_| Ok::<T, AllocError>(value))
-}
-
-/// Whether these cells become those. Where memory is refused, they are as before.
-fn turn_into<T: Copy + PartialEq>(
-    cells: &mut Cells<T>,
-    before: &[T],
-    value: T,
-    after: &[T],
-) -> bool {
-    let len = after.len();
-    let is_done = resize_with(cells, len, value).is_ok()
-        || cells.as_slice() == before && resize_with(cells, len, value).is_ok();
-    is_done && cells.as_slice() == after
-}
-
-fn made_once<T: Copy>(
+/// Cells of one value, refused at one of them.
+pub fn made<T: Copy>(
     alloc: Global,
     len: usize,
     refuse: usize,
@@ -272,34 +272,17 @@ fn made_once<T: Copy>(
     })
 }
 
-/// Cells of one value, refused at one of them.
-fn made<T: Copy>(alloc: Global, len: usize, refuse: usize, value: T) -> Result<Cells<T>, Refusal> {
-    match made_once(alloc, len, refuse, value) {
-        Err(Refusal::Memory) => made_once(alloc, len, refuse, value),
-        answer => answer,
+/// Whether as many cells of no size as fit in a block are refused at one of them. Where memory is refused, they are made once more.
+fn are_many(alloc: Global) -> bool {
+    match made(alloc, 1 << 62, 2, ()) {
+        Err(Refusal::Memory) => made(alloc, 1 << 62, 2, ()).err() == Some(Refusal::At(2)),
+        answer => answer.err() == Some(Refusal::At(2)),
     }
-}
-
-/// Whether cells of one value become more or fewer of it.
-fn become_others<T: Copy + PartialEq>(alloc: Global, value: T, before: &[T], after: &[T]) -> bool {
-    match made(alloc, before.len(), 9, value) {
-        Ok(mut cells) => turn_into(&mut cells, before, value, after),
-        Err(_) => false,
-    }
-}
-
-/// Whether cells of no size, of two bytes and of sixteen become more or fewer, and none of any.
-fn become_each(alloc: Global) -> bool {
-    become_others(alloc, (), &[(); 3], &[(); 5])
-        && become_others(alloc, 9u16, &[], &[9, 9])
-        && become_others(alloc, 9u16, &[9, 9], &[])
-        && become_others(alloc, 7u128, &[7, 7, 7], &[7, 7])
 }
 
 /// 2 ^ 62 values of no size take no byte, and fit in a block; 2 ^ 59 of sixteen bytes would take 2 ^ 63 bytes.
 fn are_bounded(alloc: Global) -> bool {
-    made(alloc, 1 << 62, 2, ()).err() == Some(Refusal::At(2))
-        && made(alloc, 1 << 59, 2, 7u128).err() == Some(Refusal::Memory)
+    are_many(alloc) && made(alloc, 1 << 59, 2, 7u128).err() == Some(Refusal::Memory)
 }
 
 /// Whether a row takes one word, and cells take two.
@@ -308,11 +291,7 @@ fn are_small() -> bool {
 }
 
 #[test]
-fn cells_have_several_sizes(rt: HostRuntime) {
+fn cells_are_bounded_and_small(rt: HostRuntime) {
     let alloc = rt.alloc();
-    expect(
-        &rt,
-        "sizes",
-        become_each(alloc) && are_bounded(alloc) && are_small(),
-    );
+    expect(&rt, "sizes", are_bounded(alloc) && are_small());
 }

@@ -1,8 +1,12 @@
-//! A value that is put behind other fields, and the opcode of a body. The other fields of replies, one behind another, are shown by the cases of the
-//! program.
+//! A value that is put behind other fields, a scalar by itself, and the opcode of a body. The other fields of replies, one behind another, are shown by the
+//! cases of the program.
 use crate::asserts::expect;
+use crate::shown::is_shown;
+use oa_ndr::Ndr;
 use oa_record::{Opcode, opcode_of, put_variant_field};
 use oa_variant::{Scalar, Variant};
+use oa_wire_array::read_scalar;
+use std::alloc::Global;
 use std::rt::HostRuntime;
 
 /// Behind a byte that was there, how many bytes follow, and a VARIANT of these.
@@ -11,16 +15,31 @@ static PUT: [u8; 33] = [
     0, 0,
 ];
 
-#[test]
-fn a_value_is_put_behind_others(rt: HostRuntime) {
-    let mut out = Vec::new(rt.alloc());
+/// Whether 7 is put so behind a byte.
+fn is_put(alloc: Global) -> bool {
+    let mut out = Vec::new(alloc);
     let _ = out.push(9);
-    let is_put = put_variant_field(&mut out, &Variant::One(Scalar::I4(7))).is_ok();
-    expect(&rt, "a value", is_put && out.as_slice() == PUT.as_slice());
+    let is_done = put_variant_field(&mut out, &Variant::One(Scalar::I4(7))).is_ok();
+    is_done && out.as_slice() == PUT.as_slice()
+}
+
+/// A wireVARIANT of the text "Hi".
+static TEXT: [u8; 40] = [
+    5, 0, 0, 0, 0, 0, 0, 0, 8, 0, 0, 0, 0, 0, 0, 0, 8, 0, 0, 0, 0, 0, 2, 0, 2, 0, 0, 0, 4, 0, 0, 0,
+    2, 0, 0, 0, 72, 0, 105, 0,
+];
+
+/// Whether the text is read.
+fn is_read(alloc: Global) -> bool {
+    let read = read_scalar(alloc, &mut Ndr::new(&TEXT));
+    is_shown(alloc, &read, "Ok(Bstr([72, 0, 105, 0]))")
 }
 
 #[test]
-fn an_opcode_stands_in_a_body(rt: HostRuntime) {
+fn a_value_an_opcode_and_a_scalar(rt: HostRuntime) {
+    let alloc = rt.alloc();
     let opcode = opcode_of(&[9, 0, 0, 0, 11, 0, 0, 0]);
+    expect(&rt, "a value", is_put(alloc));
     expect(&rt, "a list of objects", opcode == Some(Opcode::Objects));
+    expect(&rt, "a text", is_read(alloc));
 }

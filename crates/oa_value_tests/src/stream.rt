@@ -29,10 +29,6 @@ struct Scripted<'a> {
 }
 
 impl<'a> Scripted<'a> {
-    fn new(steps: &'a [Step]) -> Scripted<'a> {
-        Scripted { steps, calls: 0 }
-    }
-
     fn next(&mut self) -> io::Result<usize> {
         let step = self.steps.get(self.calls).copied();
         self.calls = self.calls.saturating_add(1);
@@ -95,7 +91,10 @@ fn put<W: Sink>(writer: &mut W, bytes: &[u8]) -> Result<(), Unwritten>
 }
 
 fn written(row: &Writing) -> (Result<(), Unwritten>, usize) {
-    let mut writer = Scripted::new(row.steps);
+    let mut writer = Scripted {
+        steps: row.steps,
+        calls: 0,
+    };
     let result = put(&mut Outlet::new(&mut writer), row.bytes);
     (result, writer.calls)
 }
@@ -121,11 +120,6 @@ fn shown(alloc: Global) -> [bool; 4] {
     [is_empty, is_more, is_two, is_left]
 }
 
-#[test]
-fn a_buffer_shows_what_one_call_gave(rt: HostRuntime) {
-    expect(&rt, "what it shows", shown(rt.alloc()) == [true; 4]);
-}
-
 /// What two calls of a reader give that is interrupted once, how many calls it counts, and what is in the buffer.
 fn interrupted_once() -> (Next, Next, u64, [u8; 4]) {
     let mut reader = Interrupted::new(b"ab".as_slice(), 1);
@@ -136,7 +130,8 @@ fn interrupted_once() -> (Next, Next, u64, [u8; 4]) {
 }
 
 #[test]
-fn a_reader_is_interrupted_so_many_times(rt: HostRuntime) {
+fn a_buffer_shows_what_one_call_gave_and_a_reader_is_interrupted_so_many_times(rt: HostRuntime) {
+    expect(&rt, "what it shows", shown(rt.alloc()) == [true; 4]);
     laws::one_line();
     laws::one_end();
     let wanted = (Next::Again, Next::Bytes(2), 2, *b"ab\0\0");

@@ -1,10 +1,9 @@
-//! Why a table refuses an event, as far as no reply tells, and what is stated of tables. What a lock refuses is shown by the cases of the program.
-ghost use Rattle.oa_table.specs.Events.{BringsNoLocks};
-
+//! The calls of a table that stand for one event each, which no request makes: a server makes events. What they are refused for, what they leave, and
+//! what is stated of tables.
 use crate::arrays::array;
 use crate::asserts::expect;
-use crate::table::Changing::{Create, PutI4, Redim, Release};
 use oa_array::{ArrayFault, Indices};
+use oa_image::write_table;
 use oa_model::{Bound, VarType};
 use oa_table::{CellName, Event, Place, Table, TableFault, laws};
 use oa_variant::Scalar;
@@ -12,131 +11,103 @@ use std::alloc::Global;
 use std::rt::HostRuntime;
 use uuid::Uuid;
 
-/// A change of a table whose object 1 has an array in its cell 8.
-#[derive(Clone, Copy)]
-enum Changing {
-    Create(u32),
-    Release(u32),
-    /// An I4 at an index of the array.
-    PutI4([i32; 2]),
-    /// Another first bound of the array in a cell.
-    Redim(i32),
-}
-
-/// A change that is refused, and why.
-struct Row {
-    name: &'static str,
-    change: Changing,
-    fault: TableFault,
-}
-
-static REFUSED: [Row; 5] = [
-    Row {
-        name: "a number that was given",
-        change: Create(1),
-        fault: TableFault::WrongNumber,
-    },
-    Row {
-        name: "no such object",
-        change: Release(2),
-        fault: TableFault::NoObject,
-    },
-    Row {
-        name: "another cell",
-        change: Redim(9),
-        fault: TableFault::NotArray,
-    },
-    Row {
-        name: "an index that is none",
-        change: PutI4([1, 7]),
-        fault: TableFault::Array(ArrayFault::BadIndex),
-    },
-    Row {
-        name: "another type",
-        change: PutI4([0, 7]),
-        fault: TableFault::Array(ArrayFault::TypeMismatch),
-    },
-];
-
 /// The cell of a property without parameters, in the object 1.
-fn cell(alloc: Global, dispid: i32) -> CellName {
+pub fn cell(alloc: Global, dispid: i32) -> CellName {
     let place = Place::new(Uuid::nil(), dispid, Vec::new(alloc));
     CellName { object: 1, place }
 }
 
-fn put_element(alloc: Global, index: [i32; 2]) -> Event
-    ensures { BringsNoLocks result }
-{
-    let mut indices = Vec::new(alloc);
-    let _ = indices.push(index[0]);
-    let _ = indices.push(index[1]);
-    Event::PutElement {
-        name: cell(alloc, 8),
-        index: Indices::new(indices),
-        value: Scalar::I4(6),
-    }
-}
+const BOUNDS: [Bound; 2] = [
+    Bound {
+        count: 2,
+        lower: -1,
+    },
+    Bound { count: 3, lower: 5 },
+];
 
-fn event(alloc: Global, change: &Changing) -> Event
-    ensures { BringsNoLocks result }
-{
-    match *change {
-        Create(number) => Event::Create {
-            number,
-            class: Uuid::nil(),
-        },
-        Release(number) => Event::Release { number },
-        PutI4(index) => put_element(alloc, index),
-        Redim(dispid) => Event::Redim {
-            name: cell(alloc, dispid),
-            bound: Bound { count: 1, lower: 0 },
-        },
-    }
-}
-
-/// Whether a change is refused so.
-fn is_refused(alloc: Global, table: &mut Table, row: &Row) -> bool {
-    match table.apply(event(alloc, &row.change)) {
-        Ok(()) => false,
-        Err((_, fault)) => fault == row.fault,
-    }
-}
-
-/// The first row that is not refused so; nothing where each is.
-fn wrong_row(alloc: Global, table: &mut Table, rows: &[Row]) -> &'static str {
-    for row in rows {
-        if !is_refused(alloc, table, row) {
-            return row.name;
-        }
-    }
-    ""
-}
-
-fn put_array(alloc: Global, table: &mut Table) -> Option<()> {
-    let bounds = [
-        Bound {
-            count: 2,
-            lower: -1,
-        },
-        Bound { count: 3, lower: 5 },
-    ];
-    let value = array(alloc, VarType::I2, &bounds)?;
-    let name = cell(alloc, 8);
-    table.apply(Event::Put { name, value }).ok()
-}
-
-/// The first row that a table with an array does not answer so.
-fn wrong(alloc: Global) -> &'static str {
+/// A table whose object 1 has an array of zeros in its cell 8.
+pub fn with_array(alloc: Global) -> Option<Table> {
+    let value = array(alloc, VarType::I2, &BOUNDS)?;
     let mut table = Table::new(alloc);
-    let _ = table.apply(event(alloc, &Create(1)));
-    let _ = put_array(alloc, &mut table);
-    wrong_row(alloc, &mut table, &REFUSED)
+    table.create(1, Uuid::nil()).ok()?;
+    table.put(cell(alloc, 8), value).ok()?;
+    Some(table)
+}
+
+/// What a change was refused for.
+fn refusal(answer: Result<(), (Event, TableFault)>) -> Option<TableFault> {
+    match answer {
+        Ok(()) => None,
+        Err((_, fault)) => Some(fault),
+    }
+}
+
+/// Puts the element at -1 and 7 of the array.
+fn put(alloc: Global, table: &mut Table, value: Scalar) -> Option<TableFault> {
+    let mut indices = Vec::new(alloc);
+    let _ = indices.push(-1);
+    let _ = indices.push(7);
+    refusal(table.put_element(cell(alloc, 8), Indices::new(indices), value))
+}
+
+/// Gives the array in a cell another first bound.
+fn shorten(alloc: Global, table: &mut Table, dispid: i32) -> Option<TableFault> {
+    refusal(table.redim(cell(alloc, dispid), Bound { count: 1, lower: 0 }))
+}
+
+/// What changes are refused for, and one of each kind that is not refused.
+fn refusals(alloc: Global, table: &mut Table) -> [Option<TableFault>; 6] {
+    [
+        refusal(table.create(1, Uuid::nil())),
+        put(alloc, table, Scalar::I4(6)),
+        put(alloc, table, Scalar::I2(6)),
+        shorten(alloc, table, 9),
+        shorten(alloc, table, 8),
+        refusal(table.release(2)),
+    ]
+}
+
+const REFUSED: [Option<TableFault>; 6] = [
+    Some(TableFault::WrongNumber),
+    Some(TableFault::Array(ArrayFault::TypeMismatch)),
+    None,
+    Some(TableFault::NotArray),
+    None,
+    Some(TableFault::NoObject),
+];
+
+/// The image of the table then: object 1, and in its cell 8 an array of one by three with a 6 in its last element.
+static LEFT: [u8; 80] = [
+    2, 0, 0, 0, 1, 0, 0, 0, 1, 0, 0, 0, 0, 0, 0, 0, 0, 0, 0, 0, 0, 0, 0, 0, 0, 0, 0, 0, 1, 0, 0, 0,
+    0, 0, 0, 0, 0, 0, 0, 0, 0, 0, 0, 0, 0, 0, 0, 0, 8, 0, 0, 0, 0, 0, 2, 32, 2, 0, 1, 0, 0, 0, 0,
+    0, 0, 0, 3, 0, 0, 0, 5, 0, 0, 0, 0, 0, 0, 0, 6, 0,
+];
+
+/// Whether the table has this image.
+fn is_imaged(alloc: Global, table: &Table, wanted: &[u8]) -> bool {
+    let mut image = Vec::new(alloc);
+    let is_written = write_table(table, &mut image).is_ok();
+    is_written && image.as_slice() == wanted
+}
+
+/// Whether the table is changed so, and is empty once its object is released.
+fn is_changed(alloc: Global, table: &mut Table) -> [bool; 4] {
+    [
+        refusals(alloc, table) == REFUSED,
+        is_imaged(alloc, table, &LEFT),
+        table.release(1).is_ok(),
+        is_imaged(alloc, table, &[2, 0, 0, 0, 0, 0, 0, 0]),
+    ]
+}
+
+fn changes(alloc: Global) -> Option<[bool; 4]> {
+    let mut table = with_array(alloc)?;
+    Some(is_changed(alloc, &mut table))
 }
 
 #[test]
-fn events_are_refused(rt: HostRuntime) {
-    let wrong = wrong(rt.alloc());
-    expect(&rt, wrong, wrong.is_empty());
+fn a_table_is_changed_by_calls(rt: HostRuntime) {
     laws::locks_change_no_event();
     laws::parts_in_order_stay();
+    expect(&rt, "changes", changes(rt.alloc()) == Some([true; 4]));
 }

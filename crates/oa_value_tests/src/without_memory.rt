@@ -2,6 +2,9 @@
 //! `cli/test_raw_memory.py` refuses all memory from each call of the allocator on, and then the values are not made.
 use crate::arrays::array;
 use crate::asserts::expect;
+use crate::bstr::{ODD, is_told};
+use crate::cells::made;
+use crate::table::{cell, with_array};
 use oa_array::SafeArray;
 use oa_bstr::Bstr;
 use oa_cells::Cells;
@@ -10,26 +13,17 @@ use oa_image::Pieces;
 use oa_model::{Bound, ValueType, VarType};
 use oa_ndr::Ndr;
 use oa_record::{RecordFault, read_request, tag_of};
-use oa_table::{CellName, Event, Place, Table};
+use oa_table::{CellName, Event, Table};
 use oa_typelib::{Access, Library, check};
 use oa_variant::{Scalar, Variant};
 use oa_wire_variant::wire_len;
-use std::alloc::{AllocError, Global};
-use std::process::Abort;
+use std::alloc::Global;
 use std::rt::HostRuntime;
 use uuid::Uuid;
 
-/// Whether a text of four bytes is told.
-fn is_told(text: &Bstr) -> bool {
-    text.byte_len() == 4
-        && text.as_bytes() == [72, 0, 105, 0].as_slice()
-        && text.unit(1) == 105
-        && Bstr::null().is_null()
-}
-
 fn text(alloc: Global) -> Option<bool> {
-    let text = Bstr::from_bytes(alloc, &[72, 0, 105, 0]).ok()?;
-    Some(is_told(&text))
+    let text = Bstr::from_bytes(alloc, &ODD).ok()?;
+    Some(is_told(&text) && Bstr::null().is_null())
 }
 
 /// Whether a cell of two sevens becomes another.
@@ -37,12 +31,8 @@ fn is_replaced(cells: &mut Cells<u8>) -> bool {
     cells.len() == 2 && *cells.get(0) == 7 && cells.replace(1, 9) == 7
 }
 
-fn two_sevens(alloc: Global) -> Result<Cells<u8>, AllocError> {
-    Cells::filled_by(alloc, 2, |_: usize| -> Result<u8, AllocError> { Ok(7) })
-}
-
 fn cells(alloc: Global) -> Option<bool> {
-    let mut cells = two_sevens(alloc).ok()?;
+    let mut cells = made(alloc, 2, 2, 7u8).ok()?;
     Some(is_replaced(&mut cells))
 }
 
@@ -50,11 +40,16 @@ const TWO: [Bound; 1] = [Bound { count: 2, lower: 0 }];
 
 /// Whether an element of an array is put while it is locked, and found.
 fn is_put(array: &mut SafeArray<Scalar>) -> bool {
-    let is_locked = array.lock().is_ok();
-    let is_put = array.put_element(&[1], Scalar::I4(7)).is_ok();
-    let is_there = array.element(&[1]).is_ok() && array.element(&[2]).is_err();
-    let is_told = array.locks() == 1 && array.bounds().len() == 1;
-    is_locked && is_put && is_there && is_told && array.unlock().is_ok()
+    let found = [
+        array.lock().is_ok(),
+        array.put_element(&[1], Scalar::I4(7)).is_ok(),
+        array.element(&[1]).is_ok(),
+        array.element(&[2]).is_err(),
+        array.locks() == 1,
+        array.bounds().len() == 1,
+        array.unlock().is_ok(),
+    ];
+    found == [true; 7]
 }
 
 fn elements(alloc: Global) -> Option<bool> {
@@ -70,11 +65,17 @@ const PARTS: [u8; 22] = [
 /// Whether parts of each kind are read, and no more.
 fn are_read() -> bool {
     let mut reader = Ndr::new(&PARTS);
-    let small = reader.u8().ok() == Some(1) && reader.align(2).is_ok();
-    let numbers = reader.u16().ok() == Some(2) && reader.u32().ok() == Some(3);
-    let large = reader.u64().ok() == Some(4) && reader.referent().ok() == Some(true);
-    let bytes = reader.bytes(2).is_ok() && reader.u8().is_err();
-    small && numbers && large && bytes
+    let found = [
+        reader.u8().ok() == Some(1),
+        reader.align(2).is_ok(),
+        reader.u16().ok() == Some(2),
+        reader.u32().ok() == Some(3),
+        reader.u64().ok() == Some(4),
+        reader.referent().ok() == Some(true),
+        reader.bytes(2).is_ok(),
+        reader.u8().is_err(),
+    ];
+    found == [true; 8]
 }
 
 /// Whether a value of two cells is measured, and its type is told.
@@ -116,28 +117,25 @@ fn fields(alloc: Global) -> Option<bool> {
     Some(is_measured(&value) && are_told(alloc, &BODIES))
 }
 
-/// The cell of a property without parameters, in the object 1.
-fn name(alloc: Global) -> CellName {
-    let place = Place::new(Uuid::nil(), 8, Vec::new(alloc));
-    CellName { object: 1, place }
-}
-
 /// Whether the array in a cell is locked, and the table told.
 fn is_locked(table: &mut Table, name: &CellName) -> bool {
-    let is_locked = table.lock(name).is_ok() && table.locked(1);
-    let is_there = table.get(name).is_some() && table.class_of(1).is_some() && table.next() == 2;
     let mut front = [0u8; 8];
-    let is_given = Pieces::new(table).fill(&mut front) == 8 && front[0] == 2;
-    let without = table.size_after(&Event::Release { number: 2 });
-    is_locked && is_there && is_given && without == table.image_size() && table.unlock(name).is_ok()
+    let found = [
+        table.lock(name).is_ok(),
+        table.locked(1),
+        table.get(name).is_some(),
+        table.class_of(1).is_some(),
+        table.next() == 2,
+        Pieces::new(table).fill(&mut front) == 8,
+        table.size_after(&Event::Release { number: 2 }) == table.image_size(),
+        table.unlock(name).is_ok(),
+    ];
+    found == [true; 8] && front[0] == 2
 }
 
 fn table(alloc: Global) -> Option<bool> {
-    let mut table = Table::new(alloc);
-    table.create(1, Uuid::nil()).ok()?;
-    let value = array(alloc, VarType::I4, &TWO)?;
-    table.put(name(alloc), value).ok()?;
-    Some(is_locked(&mut table, &name(alloc)))
+    let mut table = with_array(alloc)?;
+    Some(is_locked(&mut table, &cell(alloc, 8)))
 }
 
 /// Its first interface is named by no coclass.
@@ -172,37 +170,15 @@ fn library(alloc: Global) -> Option<bool> {
     Some(is_found(&library) && is_found_alone(&library))
 }
 
-fn told(rt: &impl Abort, found: Option<bool>) {
-    expect(rt, "not made", found.is_some());
-    expect(rt, "answered otherwise", found == Some(true));
+/// Whether each of them is answered so, one behind another; None where a value is not made.
+fn each(alloc: Global) -> Option<bool> {
+    let values = text(alloc)? && cells(alloc)? && elements(alloc)?;
+    Some(values && fields(alloc)? && table(alloc)? && library(alloc)?)
 }
 
 #[test]
-fn texts(rt: HostRuntime) {
-    told(&rt, text(rt.alloc()));
-}
-
-#[test]
-fn rows_of_cells(rt: HostRuntime) {
-    told(&rt, cells(rt.alloc()));
-}
-
-#[test]
-fn arrays(rt: HostRuntime) {
-    told(&rt, elements(rt.alloc()));
-}
-
-#[test]
-fn fields_of_bodies(rt: HostRuntime) {
-    told(&rt, fields(rt.alloc()));
-}
-
-#[test]
-fn tables(rt: HostRuntime) {
-    told(&rt, table(rt.alloc()));
-}
-
-#[test]
-fn libraries(rt: HostRuntime) {
-    told(&rt, library(rt.alloc()));
+fn calls_without_memory(rt: HostRuntime) {
+    let found = each(rt.alloc());
+    expect(&rt, "not made", found.is_some());
+    expect(&rt, "answered otherwise", found == Some(true));
 }

@@ -2,7 +2,7 @@
 use crate::moments::begun_at;
 use oa_disk::{DeviceFault, Disk, FuseDisk, MemoryDisk, NoDisk, Tear, flip, write_then_flip};
 use std::alloc::Global;
-use std::test::Fail;
+use std::rt::HostRuntime;
 
 const SIZE: usize = 16;
 
@@ -339,9 +339,8 @@ fn is_of_no_bytes() -> bool {
 }
 
 #[test]
-fn a_fuse_passes_the_calls_before_it_on(rt: HostRuntime) -> Result<(), Fail> {
+fn a_fuse_passes_the_calls_before_it_on(rt: HostRuntime) {
     assert_eq!(rt; (first_unblown(rt.alloc()), is_of_no_bytes()), (None, true));
-    Ok(())
 }
 
 /// Three bytes and, behind a sync, their gate.
@@ -367,11 +366,10 @@ fn gated(alloc: Global) -> Option<Option<(u64, Tear)>> {
 }
 
 #[test]
-fn disks_in_memory(rt: HostRuntime) -> Result<(), Fail> {
+fn disks_in_memory(rt: HostRuntime) {
     let crashed = (torn(rt.alloc()), gated(rt.alloc()));
     let is_well = keeps_its_room(rt.alloc()) && starts_again(rt.alloc()) == Some(true);
     assert_eq!(rt; (crashed, is_well), ((Some(None), Some(None)), true));
-    Ok(())
 }
 
 /// How many of so many crashes of a disk of that size leave its last byte, which was written and not brought to the device.
@@ -391,7 +389,6 @@ fn crashes(alloc: Global, size: usize, count: u64) -> Option<u64> {
 
 /// A crash costs a copy of what was written: by two copies of the disk these would take some minutes.
 #[test]
-fn thousands_of_crashes_of_a_large_disk(rt: HostRuntime) -> Result<(), Fail> {
+fn thousands_of_crashes_of_a_large_disk(rt: HostRuntime) {
     assert_eq!(rt; crashes(rt.alloc(), 33_562_624, 5000), Some(5000));
-    Ok(())
 }

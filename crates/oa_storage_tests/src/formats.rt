@@ -3,7 +3,7 @@
 use oa_disk::MemoryDisk;
 use oa_store::{FormatFault, UpgradeFault, format, laws, upgrade};
 use std::alloc::Global;
-use std::test::Fail;
+use std::rt::HostRuntime;
 
 /// The least size of a store, and how many bytes a bank of it has.
 const SIZE: usize = 75_505_664;
@@ -46,9 +46,8 @@ fn first_other(alloc: Global) -> Option<usize> {
 }
 
 #[test]
-fn one_byte_decides_whether_a_disk_is_large_enough(rt: HostRuntime) -> Result<(), Fail> {
+fn one_byte_decides_whether_a_disk_is_large_enough(rt: HostRuntime) {
     laws::upgrade_leaves_a_store();
     laws::replacement_leaves_a_store();
     assert_eq!(rt; first_other(rt.alloc()), None);
-    Ok(())
 }

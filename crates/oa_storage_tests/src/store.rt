@@ -8,7 +8,7 @@ use oa_image::laws::images_are_counted;
 use oa_store::{Store, format};
 use oa_table::Table;
 use std::alloc::Global;
-use std::test::Fail;
+use std::rt::HostRuntime;
 
 /// What a store keeps as its library: here any bytes.
 const LIBRARY: &[u8; 7] = b"library";
@@ -67,9 +67,8 @@ fn written(alloc: Global) -> Option<bool> {
 }
 
 #[test]
-fn an_open_store_takes_no_memory(rt: HostRuntime) -> Result<(), Fail> {
+fn an_open_store_takes_no_memory(rt: HostRuntime) {
     let found = written(rt.alloc());
     assert!(rt; found.is_some(), "not made");
     assert_eq!(rt; found, Some(true));
-    Ok(())
 }

@@ -76,7 +76,7 @@ bound_call parameters declared kind call = do
   Ok (record { key = key; value = value })
 
 -- Memory is taken for the key and for the new value: only where neither the names nor their number nor a missing argument is refused.
-pub record TakesMemory (parameters : List Parameter) (kind : Kind) (call : Given) : Type 0 where
+pub record BindingTakesMemory (parameters : List Parameter) (kind : Kind) (call : Given) : Type 0 where
   pub named : well_named parameters kind call.named (length call.arguments) ≡ Ok tt
   pub full : complete parameters call ≡ Ok tt
 

@@ -4,7 +4,7 @@ ghost use Rattle.oa_model.specs.Limits.{max_arguments, max_parameters};
 ghost use Rattle.oa_typelib.specs.Bindable.{IsBindable};
 ghost use Rattle.oa_checks.specs.Defaults.{default_value};
 ghost use Rattle.oa_variant.specs.Variants.{HasZero};
-ghost use Rattle.oa_bind.specs.Bindings.{TakesMemory, bound_call, bound_to};
+ghost use Rattle.oa_bind.specs.Bindings.{BindingTakesMemory, bound_call, bound_to};
 ghost use Rattle.oa_bind.specs.Given.{given_call};
 ghost use Rattle.oa_bind.specs.Refusals.{BindsAs, lacks_memory};
 
@@ -38,7 +38,7 @@ pub fn bind(
     requires named { length named.now ≤ max_arguments }
     ensures call { BindsAs (λ c. c) (bound_to member.now kind (record { named = named.now; arguments = arguments.items })) result }
     ensures memory { IfErr result (λ fault. fault ≡ lacks_memory
-        → TakesMemory member.now.parameters kind (record { named = named.now; arguments = arguments.items })) }
+        → BindingTakesMemory member.now.parameters kind (record { named = named.now; arguments = arguments.items })) }
 {
     bind_parts(
         alloc,
@@ -67,7 +67,7 @@ fn bind_parts(
     requires zero { HasZero declared }
     requires named { length named.now ≤ max_arguments }
     ensures call { BindsAs (λ c. c) (bound_call parameters.now declared kind (given_call named.now arguments.items)) result }
-    ensures memory { IfErr result (λ fault. fault ≡ lacks_memory → TakesMemory parameters.now kind (given_call named.now arguments.items)) }
+    ensures memory { IfErr result (λ fault. fault ≡ lacks_memory → BindingTakesMemory parameters.now kind (given_call named.now arguments.items)) }
 {
     check_names(parameters, kind, named, arguments.len())?;
     check_complete(parameters, named, arguments.as_slice())?;

@@ -1,13 +1,14 @@
 //! The values of the parameters, and the new value of a put.
-ghost use Rattle.std.specs.Prelude.{◌≡◌, ◌≢◌, ◌≤◌, ◌<◌, ◌+◌, ℕ, length, map, pos, slice_get, Some, IfOk, OnOk};
+ghost use Rattle.std.specs.Prelude.{◌≡◌, ◌≢◌, ◌≤◌, ◌<◌, ◌+◌, ℕ, true, false, length, map, pos, slice_get, Some, IfOk, OnOk};
 ghost use Rattle.oa_model.specs.Limits.{max_arguments, max_parameters};
-ghost use Rattle.oa_coerce.specs.Answers.{coerced};
+ghost use Rattle.oa_coerce.specs.Answers.{coerced, is_memory};
+ghost use Rattle.oa_coerce.specs.Refusals.{coercion_code};
 ghost use Rattle.oa_checks.specs.Defaults.{default_value};
 ghost use Rattle.oa_variant.specs.Variants.{HasZero};
 ghost use Rattle.oa_bind.specs.Bindings.{missing_value, given_new_value, parameter_value};
 ghost use Rattle.oa_bind.specs.Bindings.{scalar_type, told_of_argument, value_by_argument, without_default};
 ghost use Rattle.oa_bind.specs.Given.{Stay, given_call, argument_index};
-ghost use Rattle.oa_bind.specs.Refusals.{BindsAs, each_at};
+ghost use Rattle.oa_bind.specs.Refusals.{BindsAs, each_at, lacks_memory};
 
 use crate::BindFault;
 use crate::given::{MISSING, index_of, says_missing, take};
@@ -127,6 +128,17 @@ pub(crate) fn key(
     Ok(key)
 }
 
+/// Why the argument at an index is refused; want of memory speaks of no argument.
+fn fault_at(fault: CoerceFault, at: u32) -> BindFault
+    ensures memory { is_memory fault ≡ true → result ≡ lacks_memory }
+    ensures argument { is_memory fault ≡ false → result ≡ record { code = coercion_code fault; index = Some at } }
+{
+    match fault {
+        CoerceFault::Memory => BindFault::of(fault.code()),
+        CoerceFault::Overflow | CoerceFault::TypeMismatch => BindFault::at(fault.code(), at),
+    }
+}
+
 /// The new value of a declared type, by the argument at an index.
 fn new_value_by(
     alloc: Global,
@@ -139,11 +151,7 @@ fn new_value_by(
     ensures { BindsAs (λ v. v) (told_of_argument i (coerced argument declared)) result }
 {
     let at = i as u32;
-    coerce(alloc, argument, declared).map_err(|(_, fault)| match fault {
-        CoerceFault::Overflow => BindFault::at(HResult::DISP_E_OVERFLOW, at),
-        CoerceFault::TypeMismatch => BindFault::at(HResult::DISP_E_TYPEMISMATCH, at),
-        CoerceFault::Memory => BindFault::of(HResult::E_OUTOFMEMORY),
-    })
+    coerce(alloc, argument, declared).map_err(|(_, fault)| fault_at(fault, at))
 }
 
 /// The new value of a put. Its argument is taken out.

@@ -1,5 +1,5 @@
 -- The call that the arguments make of a property (MS-OAUT section 3.1.4.4), or its first refusal (the order is this project's choice).
-use Rattle.std.specs.Prelude.{◌≡◌, ℕ, if◌then◌else◌, List, length, Option, Some, None, Result, Ok, Err}
+use Rattle.std.specs.Prelude.{◌≡◌, ◌⊎◌, ℕ, ◌<◌, if◌then◌else◌, List, length, Option, Some, None, Result, Ok, Err}
 use Rattle.std.specs.Option.{unwrap_or}
 use Rattle.oa_model.specs.Codes.{e_invalidarg, disp_e_paramnotfound, disp_e_typemismatch}
 use Rattle.oa_model.specs.declared.var_type.VarType.{VarType}
@@ -13,7 +13,7 @@ use Rattle.oa_variant.specs.declared.scalar.Scalar.TheVariants as scalars
 use Rattle.oa_variant.specs.declared.variant.Variant.{Variant}
 use Rattle.oa_variant.specs.declared.variant.Variant.TheVariants.{One, Array}
 use Rattle.oa_coerce.specs.Answers.{coerced_scalar, coerced}
-use Rattle.oa_coerce.specs.Refusals.{coercion_code}
+use Rattle.oa_coerce.specs.Refusals.{IsArrayType, coercion_code}
 use Rattle.oa_coerce.specs.declared.fault.CoerceFault.{CoerceFault}
 use Rattle.oa_checks.specs.Defaults.{default_value}
 use Rattle.oa_typelib.specs.MemberValues.{MemberValue}
@@ -75,10 +75,17 @@ bound_call parameters declared kind call = do
   value ← given_new_value call declared kind
   Ok (record { key = key; value = value })
 
--- Memory is taken for the key and for the new value: only where neither the names nor their number nor a missing argument is refused.
-pub record BindingTakesMemory (parameters : List Parameter) (kind : Kind) (call : Given) : Type 0 where
+-- a put of a property of an array type: the array that EMPTY becomes is the one new value that takes memory to make
+abbrev pub PutsArray : ValueType → Kind → Type 0
+PutsArray declared Get = ⊥
+PutsArray declared Put = IsArrayType declared
+
+-- Memory is taken for the key of a property with parameters and for such an array: only where neither the names nor their number nor a
+-- missing argument is refused.
+pub record BindingTakesMemory (parameters : List Parameter) (declared : ValueType) (kind : Kind) (call : Given) : Type 0 where
   pub named : well_named parameters kind call.named (length call.arguments) ≡ Ok tt
   pub full : complete parameters call ≡ Ok tt
+  pub some : (0 < length parameters) ⊎ PutsArray declared kind
 
 abbrev pub bound_to : MemberValue → Kind → Given → Result BoundCallValue BindFault
 bound_to member kind call = bound_call member.parameters member.value_type kind call

@@ -1,4 +1,4 @@
--- What is refused before any value is looked at: by the names and the number of the arguments, and for a missing one (the order is this
+-- What is refused before any argument is coerced: by the names and the number of the arguments, and for a missing one (the order is this
 -- project's choice).
 use Rattle.std.specs.Prelude.{ℕ, ◌+◌, ℤ, nat_lt, Bool, false, not, ◌&&◌, ◌||◌, if◌then◌else◌, List, [], ◌∷◌, length, is_none, Result}
 use Rattle.std.specs.List.{list_any, position_from}

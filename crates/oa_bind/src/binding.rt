@@ -26,7 +26,8 @@ use std::alloc::Global;
 /// index whose name is that of no parameter, or of one that is given by position too; DISP_E_PARAMNOTOPTIONAL where a parameter that may
 /// not be left out has no argument, or one that says that it is missing (ERROR DISP_E_PARAMNOTFOUND); and then by the parameters' places,
 /// the new value last, DISP_E_TYPEMISMATCH or DISP_E_OVERFLOW with the index of an argument that can't be coerced. E_OUTOFMEMORY without
-/// an index where a growth was refused, never in place of one of the first four.
+/// an index where a growth was refused: only for a property with parameters, or in a put of one of an array type, and never in place of one
+/// of the first four.
 pub fn bind(
     alloc: Global,
     member: &Member<'_>,
@@ -38,7 +39,7 @@ pub fn bind(
     requires named { length named.now ≤ max_arguments }
     ensures call { BindsAs (λ c. c) (bound_to member.now kind (record { named = named.now; arguments = arguments.items })) result }
     ensures memory { IfErr result (λ fault. fault ≡ lacks_memory
-        → BindingTakesMemory member.now.parameters kind (record { named = named.now; arguments = arguments.items })) }
+        → BindingTakesMemory member.now.parameters member.now.value_type kind (record { named = named.now; arguments = arguments.items })) }
 {
     bind_parts(
         alloc,
@@ -67,7 +68,8 @@ fn bind_parts(
     requires zero { HasZero declared }
     requires named { length named.now ≤ max_arguments }
     ensures call { BindsAs (λ c. c) (bound_call parameters.now declared kind (given_call named.now arguments.items)) result }
-    ensures memory { IfErr result (λ fault. fault ≡ lacks_memory → BindingTakesMemory parameters.now kind (given_call named.now arguments.items)) }
+    ensures memory { IfErr result (λ fault. fault ≡ lacks_memory
+        → BindingTakesMemory parameters.now declared kind (given_call named.now arguments.items)) }
 {
     check_names(parameters, kind, named, arguments.len())?;
     check_complete(parameters, named, arguments.as_slice())?;

@@ -1,4 +1,4 @@
-//! What is refused before any value is looked at. None of it takes memory.
+//! What is refused before any argument is coerced. None of it takes memory.
 ghost use Rattle.std.specs.Prelude.{◌≡◌, ◌≢◌, ◌≤◌, ◌<◌, ◌+◌, length, true, IfErr, IfSome, OnOk};
 ghost use Rattle.std.specs.List.{position_from};
 ghost use Rattle.oa_model.specs.Limits.{max_arguments, max_parameters};

@@ -1,11 +1,11 @@
 //! The values of the parameters, and the new value of a put.
-ghost use Rattle.std.specs.Prelude.{◌≡◌, ◌≢◌, ◌≤◌, ◌<◌, ◌+◌, ℕ, true, false, length, map, pos, slice_get, Some, IfOk, OnOk};
+ghost use Rattle.std.specs.Prelude.{◌≡◌, ◌≢◌, ◌≤◌, ◌<◌, ◌+◌, ℕ, true, false, length, map, pos, slice_get, Some, IfErr, IfOk, OnErr, OnOk};
 ghost use Rattle.oa_model.specs.Limits.{max_arguments, max_parameters};
 ghost use Rattle.oa_coerce.specs.Answers.{coerced, is_memory};
-ghost use Rattle.oa_coerce.specs.Refusals.{coercion_code};
+ghost use Rattle.oa_coerce.specs.Refusals.{IsArrayType, coercion_code};
 ghost use Rattle.oa_checks.specs.Defaults.{default_value};
 ghost use Rattle.oa_variant.specs.Variants.{HasZero};
-ghost use Rattle.oa_bind.specs.Bindings.{missing_value, given_new_value, parameter_value};
+ghost use Rattle.oa_bind.specs.Bindings.{PutsArray, missing_value, given_new_value, parameter_value};
 ghost use Rattle.oa_bind.specs.Bindings.{scalar_type, told_of_argument, value_by_argument, without_default};
 ghost use Rattle.oa_bind.specs.Given.{Stay, given_call, argument_index};
 ghost use Rattle.oa_bind.specs.Refusals.{BindsAs, each_at, lacks_memory};
@@ -98,6 +98,7 @@ fn value(
 }
 
 /// The values of the parameters in their order, by the values of their defaults. The arguments for them are taken out; the others stay.
+/// Without parameters it takes no memory.
 pub(crate) fn key(
     alloc: Global,
     parameters: &[Parameter],
@@ -112,6 +113,7 @@ pub(crate) fn key(
     ensures key { BindsAs (λ v. v.items) (each_at (parameter_value (given_call named.now arguments.old.items)) 0 parameters.now) result }
     ensures others { OnOk result (Stay named.now arguments.old.items arguments.new.items (length parameters.now)) }
     ensures len { length arguments.new.items ≡ length arguments.old.items }
+    ensures some { OnErr result (0 < length parameters.now) }
 {
     let mut key = Vec::with_capacity(alloc, parameters.len())?;
     'parameters: for place in 0..parameters.len() {
@@ -148,7 +150,8 @@ fn new_value_by(
 ) -> Result<Variant, BindFault>
     requires zero { HasZero declared }
     requires few { i < max_arguments }
-    ensures { BindsAs (λ v. v) (told_of_argument i (coerced argument declared)) result }
+    ensures value { BindsAs (λ v. v) (told_of_argument i (coerced argument declared)) result }
+    ensures memory { IfErr result (λ fault. fault ≡ lacks_memory → IsArrayType declared) }
 {
     let at = i as u32;
     coerce(alloc, argument, declared).map_err(|(_, fault)| fault_at(fault, at))
@@ -165,7 +168,8 @@ pub(crate) fn new_value(
     requires zero { HasZero declared }
     requires named { length named.now ≤ length arguments.old.items }
     requires few { length arguments.old.items ≤ max_parameters + 1 }
-    ensures { BindsAs (λ v. v) (given_new_value (given_call named.now arguments.old.items) declared kind) result }
+    ensures value { BindsAs (λ v. v) (given_new_value (given_call named.now arguments.old.items) declared kind) result }
+    ensures memory { IfErr result (λ fault. fault ≡ lacks_memory → PutsArray declared kind) }
 {
     match kind {
         Kind::Get => Ok(None),

@@ -14,6 +14,7 @@ mod array_cell;
 pub(crate) mod cell;
 mod create;
 mod get_element;
+mod interface;
 mod invoke;
 mod listing;
 mod lock;

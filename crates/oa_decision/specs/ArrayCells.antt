@@ -80,13 +80,13 @@ as_element elem (One s) = told_as_element (coerced_scalar s elem)
 as_element elem (Array a) = refused (coercion_code coercions.TypeMismatch)
 
 -- how many locks the array in a cell has; that of a cell never put can't be locked
-abbrev pub locks_of : ValueType → Option Variant → Result ℕ Refusal
-locks_of declared (Some value) = array_of value >>= λ array. Ok array.locks
-locks_of (kinds.One t) None = refused (table_code NotArray)
-locks_of (kinds.Array t) None = refused (table_code (ArrayRefuses arrays.Unexpected))
+abbrev pub array_locks : ValueType → Option Variant → Result ℕ Refusal
+array_locks declared (Some value) = array_of value >>= λ array. Ok array.locks
+array_locks (kinds.One t) None = refused (table_code NotArray)
+array_locks (kinds.Array t) None = refused (table_code (ArrayRefuses arrays.Unexpected))
 
-abbrev pub locks_in : State → BoundCell → Result ℕ Refusal
-locks_in state cell = locks_of cell.declared (put_in state cell.name)
+abbrev pub locks_found : State → BoundCell → Result ℕ Refusal
+locks_found state cell = array_locks cell.declared (put_in state cell.name)
 
 -- the same of a cell, whose value is the zero of its type where it was never put
 abbrev pub element_in : State → List ℤ → BoundCell → Result Scalar Refusal

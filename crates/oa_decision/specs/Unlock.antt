@@ -8,14 +8,14 @@ use Rattle.oa_decision.specs.declared.decision.Decision.TheVariants.{Relock}
 use Rattle.oa_decision.specs.declared.decision.LockChange.TheVariants.{Unlock}
 use Rattle.oa_decision.specs.declared.refusal.Refusal.{Refusal}
 use Rattle.oa_decision.specs.declared.decider.cell.BoundCell.{BoundCell}
-use Rattle.oa_decision.specs.ArrayCells.{locks_in}
+use Rattle.oa_decision.specs.ArrayCells.{locks_found}
 use Rattle.oa_decision.specs.Cells.{cell_called}
 use Rattle.oa_decision.specs.Refusals.{◌>>=◌}
 use Rattle.oa_decision.specs.States.{State}
 
 -- the reply tells how many locks there are then
 abbrev pub taking : State → BoundCell → Result Decision Refusal
-taking state cell = locks_in state cell >>= λ locks. Ok (Relock (Unlock cell.name) (number_field (locks - 1)))
+taking state cell = locks_found state cell >>= λ locks. Ok (Relock (Unlock cell.name) (number_field (locks - 1)))
 
 -- the property's get form, then the array
 abbrev pub unlocking : State → Call → Result Decision Refusal

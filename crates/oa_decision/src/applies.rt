@@ -1,7 +1,7 @@
 //! Whether an event applies to a table.
 ghost use Rattle.std.specs.Prelude.{◌≡◌, ℕ, List};
 ghost use Rattle.oa_decision.specs.Limits.{GivesReason};
-ghost use Rattle.oa_table.specs.Elements.{with_element_put, locks_of, redimensioned_value};
+ghost use Rattle.oa_table.specs.Elements.{with_element_put, redimensioned_value};
 ghost use Rattle.oa_table.specs.Events.{applied};
 ghost use Rattle.oa_table.specs.declared.event.Event.TheVariants as events;
 ghost use Rattle.oa_variant.specs.declared.variant.Variant.TheVariants as variants;
@@ -52,8 +52,8 @@ fn of_put(table: &Table, name: &CellName) -> Option<TableFault>
     let Some(object) = table.object(name.object) else {
         return Some(TableFault::NoObject);
     };
-    if let Some(value) = object.get(&name.place)
-        && locks_of(value) != 0
+    if let Some(Variant::Array(array)) = object.get(&name.place)
+        && array.locks() != 0
     {
         return Some(TableFault::Array(ArrayFault::IsLocked));
     }
@@ -118,14 +118,4 @@ fn of_array_redim(array: &SafeArray<Scalar>, bound: Bound) -> Option<TableFault>
         return Some(TableFault::Array(ArrayFault::InvalidArgument));
     }
     None
-}
-
-/// How many locks the array of a value has; 0 for another value.
-fn locks_of(value: &Variant) -> u16
-    ensures { result ≡ locks_of value.now }
-{
-    match value {
-        Variant::One(_) => 0,
-        Variant::Array(array) => array.locks(),
-    }
 }

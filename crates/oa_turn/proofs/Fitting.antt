@@ -56,7 +56,7 @@ use Rattle.oa_decision.specs.declared.decision.LockChange.{LockChange}
 use Rattle.oa_decision.specs.declared.decision.LockChange.TheVariants.{Lock, Unlock}
 use Rattle.oa_decision.specs.declared.refusal.Refusal.{Refusal}
 use Rattle.oa_decision.specs.declared.decider.cell.BoundCell.{BoundCell}
-use Rattle.oa_decision.specs.ArrayCells.{as_refused, element_in, locks_in, put_in}
+use Rattle.oa_decision.specs.ArrayCells.{as_refused, element_in, locks_found, put_in}
 use Rattle.oa_decision.specs.Cells.{bound_as, call_found, cell_called, member_found, place_of}
 use Rattle.oa_decision.specs.Create.{class_found, is_used_up, fitting}
 use Rattle.oa_turn.specs.Steps.{after_outcome, changed, outcome_of, relocked, relocking, with_table}
@@ -219,8 +219,8 @@ module _ (state : State) (is : IsChecked state.library) where
   decided_brings (requests.PutElement call index value) =
       called call accesses.Put _ (λ cell for. after_both (Brings state) (element_for state index value cell) _ (λ element a. refl))
   decided_brings (requests.Redimension call bound) = called call accesses.Put _ (λ cell for. resized state cell bound (put_in state cell.name) for)
-  decided_brings (requests.Lock call) = called call accesses.Get _ (λ cell for. after_both (Brings state) (locks_in state cell) _ (λ locks a. tt))
-  decided_brings (requests.Unlock call) = called call accesses.Get _ (λ cell for. after_both (Brings state) (locks_in state cell) _ (λ locks a. tt))
+  decided_brings (requests.Lock call) = called call accesses.Get _ (λ cell for. after_both (Brings state) (locks_found state cell) _ (λ locks a. tt))
+  decided_brings (requests.Unlock call) = called call accesses.Get _ (λ cell for. after_both (Brings state) (locks_found state cell) _ (λ locks a. tt))
   decided_brings (requests.TypeInfo index) = after_both (Brings state) (known _ (description_of state index)) _ (λ description a. tt)
   decided_brings requests.Objects = tt
 

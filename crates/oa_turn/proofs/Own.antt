@@ -263,7 +263,7 @@ as_element_own : (elem : VarType) (v : Variant) → Own (array_cells.as_element 
 as_element_own elem (variants.One s) = coerced_own (coerced_scalar s elem)
 as_element_own elem (variants.Array a) = refl
 
-locks_own : (declared : ValueType) (o : Option Variant) → Own (array_cells.locks_of declared o)
+locks_own : (declared : ValueType) (o : Option Variant) → Own (array_cells.array_locks declared o)
 locks_own declared (Some v) = then_own (array_cells.array_of v) _ (array_of_own v) (λ array. tt)
 locks_own (kinds.One t) None = refl
 locks_own (kinds.Array t) None = refl
@@ -331,9 +331,9 @@ decided_own state (requests.Redimension call bound) = then_decides (cell_called 
     by cell None = then_decides (zero_with bound cell.declared) _ (refused_own (redimensioned_value bound (zero_value cell.declared))) (λ value. tt)
     by cell (Some value) = tt
 decided_own state (requests.Lock call) = then_decides (cell_called state call accesses.Get) _ (cell_own state call accesses.Get)
-    (λ cell. then_decides (array_cells.locks_in state cell) _ (locks_own cell.declared (array_cells.put_in state cell.name)) (λ locks. tt))
+    (λ cell. then_decides (array_cells.locks_found state cell) _ (locks_own cell.declared (array_cells.put_in state cell.name)) (λ locks. tt))
 decided_own state (requests.Unlock call) = then_decides (cell_called state call accesses.Get) _ (cell_own state call accesses.Get)
-    (λ cell. then_decides (array_cells.locks_in state cell) _ (locks_own cell.declared (array_cells.put_in state cell.name)) (λ locks. tt))
+    (λ cell. then_decides (array_cells.locks_found state cell) _ (locks_own cell.declared (array_cells.put_in state cell.name)) (λ locks. tt))
 decided_own state (requests.TypeInfo index) = then_decides (known disp_e_badindex (description_of state index)) _ (known_own disp_e_badindex (description_of state index) refl) (λ description. refl)
 decided_own state requests.Objects = refl
 

@@ -1,7 +1,8 @@
 //! The array in a cell.
 ghost use Rattle.std.specs.Prelude.{◌≡◌, None, Err, ℤ, List};
 ghost use Rattle.std.specs.Result.{result_map_both};
-ghost use Rattle.oa_decision.specs.ArrayCells.{array_of, element_at, element_of, element_type_of, locks_in, locks_of, element_type_at};
+ghost use Rattle.oa_decision.specs.ArrayCells.{array_locks, array_of, element_at, element_of, element_type_at};
+ghost use Rattle.oa_decision.specs.ArrayCells.{element_type_of, locks_found};
 ghost use Rattle.oa_variant.specs.Variants.{zero_value};
 
 use super::Decider;
@@ -14,8 +15,8 @@ use oa_variant::{Scalar, Variant};
 
 impl Decider<'_> {
     /// How many locks the array in a cell has. Refused where the cell holds no array, and where it was never put.
-    pub(super) fn locks_in(&self, cell: &BoundCell) -> Result<u16, Refusal>
-        ensures { result ≡ locks_in self.now cell.now }
+    pub(super) fn find_locks(&self, cell: &BoundCell) -> Result<u16, Refusal>
+        ensures { result ≡ locks_found self.now cell.now }
     {
         match self.table.get(&cell.name) {
             Some(value) => Ok(array_of(value)?.locks()),
@@ -74,7 +75,7 @@ pub(super) fn no_element(declared: ValueType) -> Refusal
 
 /// Why the array of a cell that was never put has no lock to give or to take.
 fn no_lock(declared: ValueType) -> Refusal
-    ensures { locks_of declared None ≡ Err result }
+    ensures { array_locks declared None ≡ Err result }
 {
     match declared {
         ValueType::One(_) => Refusal::of(TableFault::NotArray.code()),

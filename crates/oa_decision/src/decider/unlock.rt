@@ -16,7 +16,7 @@ impl Decider<'_> {
         ensures unlocked { IfOk result ChangesNoLocks }
     {
         let cell = self.find_cell(call, Access::Get)?;
-        let locks = self.locks_in(&cell)?;
+        let locks = self.find_locks(&cell)?;
         let fields = Fields::new(number_field(self.alloc, u32::from(locks.saturating_sub(1)))?);
         let change = LockChange::Unlock(cell.name);
         Ok(Decision::Relock { change, fields })

@@ -1,8 +1,8 @@
 -- An INVOKE that brings no more than a put's new value, of a property without parameters.
-use Rattle.std.proofs.Common.{◌≡◌, inl, inr, ℕ, [], ◌∷◌, negsuc, Option, Some, None, IfSome, Result, Ok, Err, refl, sym, ◌∙◌}
+use Rattle.std.proofs.Common.{◌≡◌, inl, inr, ℕ, [], ◌∷◌, Option, Some, None, IfSome, Result, Ok, Err, refl, sym, ◌∙◌}
 use Rattle.std.specs.Result.{result_ok}
 use Rattle.oa_bind.specs.Bindings.{bound_call}
-use Rattle.oa_bind.specs.Given.{given_call, argument_index}
+use Rattle.oa_bind.specs.Given.{given_call, argument_index, new_value_id}
 use Rattle.oa_bind.specs.Names.{complete, well_named}
 use Rattle.oa_bind.specs.Refusals.{any_at, each_at}
 use Rattle.oa_coerce.specs.Answers.{coerced}
@@ -35,7 +35,7 @@ unfolding bound_call well_named complete any_at each_at argument_index
 bound_get declared = refl
 
 bound_put : (declared : ValueType) (argument value : Variant) → coerced argument declared ≡ Ok value
-    → bound_call [] declared forms.Put (given_call (negsuc 2 ∷ []) (argument ∷ [])) ≡ Ok (record { key = []; value = Some value })
+    → bound_call [] declared forms.Put (given_call (new_value_id ∷ []) (argument ∷ [])) ≡ Ok (record { key = []; value = Some value })
 unfolding bound_call well_named complete any_at each_at argument_index
 bound_put declared argument value is = rw is refl
 

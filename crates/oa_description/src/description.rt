@@ -7,16 +7,15 @@ ghost use Rattle.oa_description.specs.DescriptionFields.{content_head, default_f
 ghost use Rattle.oa_description.specs.DescriptionFields.{entry_fields, flag, invoke_kind, member_field, member_flags, member_head};
 ghost use Rattle.oa_description.specs.DescriptionFields.{parameter_field, parameter_flags, parameter_head, type_number};
 
-use oa_array::Cell;
 use oa_checks::DeclarationKind;
 use oa_idl::Name;
 use oa_model::{
     COCLASS_KIND, DEFAULT_FLAG, HAS_DEFAULT_FLAG, IN_FLAG, INTERFACE_KIND, INVOKE_GET,
     INVOKE_METHOD, INVOKE_PUT, OPTIONAL_FLAG, READONLY_FLAG, VT_VOID, ValueType, guid_to_wire,
 };
-use oa_record::{MAX_FIELDS_BYTES, string_field, variant_field};
+use oa_record::{MAX_FIELDS_BYTES, scalar_field, string_field};
 use oa_typelib::{Content, DescribedEntry, DescribedMember, DescribedParameter, Description};
-use oa_variant::{Scalar, Variant};
+use oa_variant::Scalar;
 use std::alloc::{AllocError, Global};
 
 /// The number of a type.
@@ -98,8 +97,7 @@ fn put_default(out: &mut Vec<u8>, default: Option<&Scalar>) -> Result<(), AllocE
     match default {
         Some(value) => {
             let alloc = *out.allocator();
-            let value = Variant::One(value.copy(alloc)?);
-            let field = variant_field(alloc, &value)?;
+            let field = scalar_field(alloc, value)?;
             out.extend_from_slice(&field)
         }
         None => Ok(()),

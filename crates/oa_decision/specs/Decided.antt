@@ -1,5 +1,5 @@
 -- What is decided of a request: the answer, the change that it calls for, or why it is refused. (This project's choice.)
-use Rattle.std.specs.Prelude.{ℕ, Bool, true, is_ok, [], Option, Result}
+use Rattle.std.specs.Prelude.{ℕ, Bool, true, false, is_ok, [], Option, Result}
 use Rattle.oa_model.specs.declared.hresult.HResult.{HResult}
 use Rattle.oa_record.specs.declared.request.Request.{Request}
 use Rattle.oa_record.specs.declared.request.Request.TheVariants as requests
@@ -52,3 +52,8 @@ may_want_memory state (requests.Lock call) = true
 may_want_memory state (requests.Unlock call) = true
 may_want_memory state (requests.TypeInfo index) = is_ok (information state index)
 may_want_memory state requests.Objects = true
+
+-- the same of what is decided alone: a RELEASE is decided without memory (a store that keeps its event takes some)
+abbrev pub deciding_takes_memory : State → Request → Bool
+deciding_takes_memory state (requests.Release number) = false
+deciding_takes_memory state request = may_want_memory state request

@@ -6,7 +6,7 @@ ghost use Rattle.oa_turn.specs.Steps.{after_outcome, relocked, relocking};
 ghost use Rattle.oa_turn.specs.Limits.{IsSoundTable, least_bank};
 ghost use Rattle.oa_decision.specs.Limits.{allowed};
 ghost use Rattle.oa_turn.specs.Plans.{Drafts, HasNoEvent, HoldsSame, IsDrafted, Plans, PlansChange};
-ghost use Rattle.oa_decision.specs.Decided.{decided, may_want_memory};
+ghost use Rattle.oa_decision.specs.Decided.{decided, deciding_takes_memory};
 ghost use Rattle.oa_turn.specs.Steps.{reply_with};
 ghost use Rattle.oa_turn.specs.Turns.{Ordinary, Run, Turn};
 ghost use Rattle.oa_table.specs.Events.{BringsNoLocks};
@@ -228,7 +228,7 @@ impl Host {
 
     /// What becomes of a request. Only reads.
     fn decide(&self, request: Request) -> Result<Decision, Undecided>
-        ensures decided { Decides (decided self.now request) (may_want_memory self.now request) result }
+        ensures decided { Decides (decided self.now request) (deciding_takes_memory self.now request) result }
         ensures unlocked { IfOk result ChangesNoLocks }
     {
         self.decider().decide(request)

@@ -1,12 +1,14 @@
 -- What is planned of a call that brings no more than a new value, as a turn.
 use Rattle.std.proofs.Common.{◌≡◌, inl, inr, ℕ, List, refl, subst}
 use Rattle.oa_record.specs.Asks.{Asks, tag_at}
+use Rattle.oa_record.specs.declared.request.Call.{Call}
 use Rattle.oa_record.specs.declared.request.Request.{Request}
+use Rattle.oa_record.specs.declared.request.Request.TheVariants.{Invoke, Release}
 use Rattle.oa_decision.specs.States.{State}
 use Rattle.oa_decision.specs.ValuePlans.{PlansValue}
 use Rattle.oa_decision.specs.declared.plan.Plan.{Plan}
 use Rattle.oa_decision.specs.declared.plan.Plan.TheVariants.{Answered, Change}
-use Rattle.oa_turn.specs.Plans.{Drafts, HasNoEvent}
+use Rattle.oa_turn.specs.Plans.{Drafts, HasNoEvent, PlansWithoutMemory}
 use Rattle.oa_turn.proofs.Eventless.{eventless, undone}
 use Rattle.oa_turn.proofs.Refused.{lacks, told}
 
@@ -24,3 +26,8 @@ module _ (old : State) (body : List ℕ) (request : Request) (asked : Asks body 
   quiet one tag (Answered reply) (inl is) = eventless old body one request asked _ reply is.1 refl
   quiet one tag (Answered reply) (inr wants) = undone old body reply (rw wants.1 refl)
   quiet one tag (Change planned) is = tt
+
+-- it is no RELEASE
+pub released : (body : List ℕ) → ((body : List ℕ) (p q : Request) → Asks body p → Asks body q → p ≡ q) → (call : Call) → Asks body (Invoke call) → (plan : Plan) → PlansWithoutMemory body plan
+released body one call asked (Answered reply) = λ number of code. let same = one body (Invoke call) (Release number) asked of in absurd cc
+released body one call asked (Change planned) = tt

@@ -14,6 +14,7 @@ pub mod Beginning
 pub mod OneState
 -- what this crate alone does
 mod Wants
+mod Releases
 mod Refused
 mod Bound
 mod Bringing

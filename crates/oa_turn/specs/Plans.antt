@@ -1,7 +1,10 @@
 -- What is left of a turn once its body was looked at. (This project's choice.)
 use Rattle.std.specs.Prelude.{◌≡◌, List, [], ℕ, None, Ok, Err, IsOk, ⊤}
+use Rattle.oa_model.specs.Codes.{e_outofmemory}
 use Rattle.oa_model.specs.declared.hresult.HResult.{HResult}
 use Rattle.oa_record.specs.declared.request.Request.{Request}
+use Rattle.oa_record.specs.declared.request.Request.TheVariants.{Release}
+use Rattle.oa_record.specs.Replies.{ReplyValue}
 use Rattle.oa_record.specs.Asks.{Asks, tag_at}
 use Rattle.oa_table.specs.declared.event.Event.{Event}
 use Rattle.oa_table.specs.Events.{BringsNoLocks}
@@ -52,6 +55,14 @@ PlansChange state tag event fields (Answered reply) =
     (code : HResult) × (allowed state.bank event state.table ≡ Err code) × (reply ≡ refusal tag code None)
 PlansChange state tag event fields (Change planned) =
     (planned ≡ record { tag = tag; event = event; fields = fields }) × IsOk (allowed state.bank event state.table)
+
+-- a RELEASE takes no memory: what was answered to one is not want of it
+abbrev pub ReleasesWithoutMemory : List ℕ → ReplyValue → Type 0
+ReleasesWithoutMemory body reply = (number : ℕ) → Asks body (Release number) → reply.code ≡ e_outofmemory → ⊥
+
+abbrev pub PlansWithoutMemory : List ℕ → Plan → Type 0
+PlansWithoutMemory body (Answered reply) = ReleasesWithoutMemory body reply
+PlansWithoutMemory body (Change planned) = ⊤
 
 -- what was answered made no event
 abbrev pub HasNoEvent : State → List ℕ → Plan → Type 0

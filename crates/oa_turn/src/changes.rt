@@ -1,10 +1,12 @@
 //! The ways in which a table changes.
-ghost use Rattle.std.specs.Prelude.{◌≡◌, ℕ, IsOk, OnErr};
+ghost use Rattle.std.specs.Prelude.{◌≡◌, ℕ, IfErr, IsOk, OnErr};
+ghost use Rattle.oa_model.specs.Codes.{e_outofmemory};
 ghost use Rattle.oa_turn.specs.Changes.{ChangesTable, MakesTable, RelocksTable};
 ghost use Rattle.oa_turn.specs.Limits.{IsSoundTable};
 ghost use Rattle.oa_decision.specs.Limits.{StaysWithin, allowed};
 ghost use Rattle.oa_decision.specs.declared.decision.LockChange.TheVariants.{Lock as ALock, Unlock as AnUnlock};
 ghost use Rattle.oa_table.specs.Events.{BringsNoLocks};
+ghost use Rattle.oa_table.specs.declared.event.Event.TheVariants.{Release as ARelease};
 ghost use Rattle.oa_table.specs.Memory.{MayWantMemory};
 ghost use Rattle.oa_table.specs.Tables.{unlocked_table};
 
@@ -31,6 +33,7 @@ pub(crate) fn change(bank: u32, table: &mut Table, event: Event) -> Result<(), H
     requires unlocked { BringsNoLocks event }
     requires sound { IsSoundTable bank table.old }
     ensures change { ChangesTable bank event table.old table.new result }
+    ensures released { (number : ℕ) → event ≡ ARelease number → IfErr result (λ code. code ≡ e_outofmemory → ⊥) }
     ensures sound { IsSoundTable bank table.new }
 {
     // Far from the limits, as most changes are, the table alone tells whether the event applies, as it makes the change.
@@ -47,6 +50,7 @@ pub(crate) fn change(bank: u32, table: &mut Table, event: Event) -> Result<(), H
 fn change_within(table: &mut Table, event: Event) -> Result<(), HResult>
     requires unlocked { BringsNoLocks event }
     ensures change { (bank : ℕ) → StaysWithin bank event table.old → ChangesTable bank event table.old table.new result }
+    ensures released { (number : ℕ) → event ≡ ARelease number → IfErr result (λ code. code ≡ e_outofmemory → ⊥) }
     ensures sound { (bank : ℕ) → StaysWithin bank event table.old → IsSoundTable bank table.old → IsSoundTable bank table.new }
 {
     if let Err((_, fault)) = table.apply(event) {

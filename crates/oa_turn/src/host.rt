@@ -6,10 +6,13 @@ ghost use Rattle.oa_turn.specs.Steps.{after_outcome, relocked, relocking};
 ghost use Rattle.oa_turn.specs.Limits.{IsSoundTable, least_bank};
 ghost use Rattle.oa_decision.specs.Limits.{allowed};
 ghost use Rattle.oa_turn.specs.Plans.{Drafts, HasNoEvent, HoldsSame, IsDrafted, Plans, PlansChange};
+ghost use Rattle.oa_turn.specs.Plans.{PlansWithoutMemory, ReleasesWithoutMemory};
+ghost use Rattle.oa_model.specs.Codes.{e_outofmemory};
 ghost use Rattle.oa_decision.specs.Decided.{decided, deciding_takes_memory};
 ghost use Rattle.oa_turn.specs.Steps.{reply_with};
 ghost use Rattle.oa_turn.specs.Turns.{Ordinary, Run, Turn};
 ghost use Rattle.oa_table.specs.Events.{BringsNoLocks};
+ghost use Rattle.oa_table.specs.declared.event.Event.TheVariants.{Release as ARelease};
 ghost use Rattle.oa_table.specs.Memory.{MayWantMemory};
 ghost use Rattle.oa_table.specs.Tables.{first_table};
 
@@ -18,7 +21,7 @@ use oa_decision::{
     Decider, Decision, Fields, LockChange, Plan, Planned, Refusal, Undecided, disallowed,
 };
 use oa_model::HResult;
-use oa_record::laws::one_request;
+use oa_record::laws::{one_request, opcode_stands};
 use oa_record::{Reply, Request, ValueCall, is_replacement, read_request, read_value_call, tag_of};
 use oa_table::{Event, Table};
 use oa_typelib::Library;
@@ -86,11 +89,13 @@ impl Host {
         }
     }
 
-    /// One turn. Want of memory is told in the reply, which then leaves all as it was.
+    /// One turn. Want of memory is told in the reply, which then leaves all as it was; never for a RELEASE.
     pub fn turn(&mut self, body: &[u8]) -> Reply
         ensures turn { Turn self.old body.now result self.new }
         ensures bank { self.new.bank ≡ self.old.bank }
+        ensures released { ReleasesWithoutMemory body.now result }
     {
+        opcode_stands();
         if is_replacement(body) {
             return self.renew(body);
         }
@@ -99,8 +104,10 @@ impl Host {
 
     /// One turn of a body with another opcode than 12.
     fn ordinary_turn(&mut self, body: &[u8]) -> Reply
-        ensures { Ordinary self.old body.now result self.new }
+        ensures turn { Ordinary self.old body.now result self.new }
+        ensures released { ReleasesWithoutMemory body.now result }
     {
+        one_request();
         match self.draft(body) {
             Plan::Answered(reply) => reply,
             Plan::Change(planned) => self.make(planned),
@@ -111,6 +118,7 @@ impl Host {
     pub fn plan(&mut self, body: &[u8]) -> Plan
         ensures plans { Plans self.old body.now self.new result }
         ensures quiet { HasNoEvent self.old body.now result }
+        ensures released { PlansWithoutMemory body.now result }
     {
         one_request();
         match self.draft(body) {
@@ -121,10 +129,11 @@ impl Host {
 
     /// The same, but a change that was decided may still be refused. A call that brings no more than a new value is looked at first, since
     /// most are such calls.
-    #[tactic(auto, using(crate::proofs::Bringing::drafts, crate::proofs::Bringing::quiet))]
+    #[tactic(auto, using(crate::proofs::Bringing::drafts, crate::proofs::Bringing::quiet, crate::proofs::Bringing::released))]
     fn draft(&mut self, body: &[u8]) -> Plan
         ensures drafts { Drafts self.old body.now self.new result }
         ensures quiet { HasNoEvent self.old body.now result }
+        ensures released { PlansWithoutMemory body.now result }
     {
         one_request();
         if let Some(ValueCall { head, value }) = read_value_call(self.alloc, body)
@@ -139,8 +148,10 @@ impl Host {
     fn draft_request(&mut self, body: &[u8]) -> Plan
         ensures drafts { Drafts self.old body.now self.new result }
         ensures quiet { HasNoEvent self.old body.now result }
+        ensures released { PlansWithoutMemory body.now result }
     {
         one_request();
+        opcode_stands();
         let tag = tag_of(body);
         let request = match read_request(self.alloc, body) {
             Ok(request) => request,
@@ -177,7 +188,8 @@ impl Host {
     /// Makes a change in memory, and tells it, or why it is refused.
     fn make(&mut self, planned: Planned) -> Reply
         requires { BringsNoLocks planned.event }
-        ensures { (body : List ℕ) → IsDrafted self.old body planned → Ordinary self.old body result self.new }
+        ensures turn { (body : List ℕ) → IsDrafted self.old body planned → Ordinary self.old body result self.new }
+        ensures released { (number : ℕ) → planned.event ≡ ARelease number → result.code ≡ e_outofmemory → ⊥ }
     {
         let Planned { tag, event, fields } = planned;
         if let Err(code) = change(self.bank, &mut self.table, event) {

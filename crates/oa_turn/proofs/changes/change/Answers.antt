@@ -1,6 +1,7 @@
 use Rattle.std.proofs.Common.{IsOk, refl, rules}
 use Rattle.oa_decision.specs.Limits.{allowed}
 use Rattle.oa_turn.proofs.Allowed.{changed}
+use Rattle.oa_turn.proofs.Releases.{is_made, not_allowed}
 use Rattle.oa_turn.proofs.changes.change.Goals as goal
 
 pub returns-clause-change : goal.returns-clause-change
@@ -13,3 +14,11 @@ returns-then-is_surely_within-clause-change c = c.change_within.ensures.change c
 
 pub returns-then-is_surely_within-clause-sound : goal.returns-then-is_surely_within-clause-sound
 returns-then-is_surely_within-clause-sound c = c.change_within.ensures.sound c.args.bank (c.if-is_surely_within.ensures refl) c.requires.sound
+
+pub returns-clause-released : goal.returns-clause-released
+returns-clause-released c = λ number is.
+    let ok : IsOk (allowed c.args.bank c.args.event c.args.table.now) = search rules in
+    is_made _ c.apply.result c.map_err.result (rw is at (c.apply.ensures.starved c.args.bank ok)) c.map_err.ensures.cases
+
+pub returns-in-Some-clause-released : goal.returns-in-Some-clause-released
+returns-in-Some-clause-released c = λ number is. not_allowed c.args.bank number c.args.table.now c.in-Some.code (rw is at c.in-Some.ensures)

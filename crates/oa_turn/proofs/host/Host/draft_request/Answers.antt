@@ -1,7 +1,8 @@
-use Rattle.std.proofs.Common.{Ok, Err, refl}
+use Rattle.std.proofs.Common.{Ok, Err, refl, rules, sym, true≢false}
 use Rattle.oa_decision.specs.declared.decision.Decision.TheVariants as decisions
 use Rattle.oa_turn.proofs.Eventless.{eventless, relocked_eventless}
 use Rattle.oa_turn.proofs.Refused.{lacks, refused_turn, relocks, told, told_why}
+use Rattle.oa_turn.proofs.Releases.{changes, is_read, takes_none}
 use Rattle.oa_turn.proofs.Wants.{wanted}
 use Rattle.oa_turn.proofs.host.Host.draft_request.Goals as goal
 
@@ -58,3 +59,18 @@ returns-in-Ok-Relock-clause-quiet c =
 pub returns-in-Err-Refused-clause-quiet : goal.returns-in-Err-Refused-clause-quiet
 returns-in-Err-Refused-clause-quiet c =
     eventless c.args.self.now c.args.body.now c.one_request.ensures c.in-Ok.request c.in-Ok.ensures (Err c.in-Err-Refused.refusal) c.refuse.result (rw c.in-Err-Refused.field-0-is at c.in-Err-Refused.ensures.decided) refl
+
+pub returns-in-Err-clause-released : goal.returns-in-Err-clause-released
+returns-in-Err-clause-released c = λ number of code. is_read c.args.body.now number of c.opcode_stands.ensures c.in-Err.fault c.in-Err.ensures (search (rules, code))
+
+pub returns-in-Ok-Answer-clause-released : goal.returns-in-Ok-Answer-clause-released
+returns-in-Ok-Answer-clause-released c = λ number of code. true≢false (sym (changes c.args.body.now number of c.one_request.ensures c.args.self.now c.in-Ok.request c.in-Ok.ensures _ (rw c.in-Ok-Answer.field-0-is at c.in-Ok-Answer.ensures.decided)))
+
+pub returns-in-Ok-Relock-clause-released : goal.returns-in-Ok-Relock-clause-released
+returns-in-Ok-Relock-clause-released c = λ number of code. true≢false (sym (changes c.args.body.now number of c.one_request.ensures c.args.self.now c.in-Ok.request c.in-Ok.ensures _ (rw c.in-Ok-Relock.field-0-is at c.in-Ok-Relock.ensures.decided)))
+
+pub returns-in-Err-Refused-clause-released : goal.returns-in-Err-Refused-clause-released
+returns-in-Err-Refused-clause-released c = λ number of code. true≢false (sym (changes c.args.body.now number of c.one_request.ensures c.args.self.now c.in-Ok.request c.in-Ok.ensures _ (rw c.in-Err-Refused.field-0-is at c.in-Err-Refused.ensures.decided)))
+
+pub returns-in-Err-OutOfMemory-clause-released : goal.returns-in-Err-OutOfMemory-clause-released
+returns-in-Err-OutOfMemory-clause-released c = λ number of code. takes_none c.args.body.now number of c.one_request.ensures c.args.self.now c.in-Ok.request c.in-Ok.ensures (rw c.in-Err-OutOfMemory.field-0-is at c.in-Err-OutOfMemory.ensures.decided)

@@ -1,6 +1,7 @@
 -- How many bytes are there where memory is taken: those of a head and its counts.
 use Rattle.std.proofs.Common.{◌≡◌, ℕ, ℤ, ◌+◌, ◌≤◌, List, length, Some, ap, arith}
 use Rattle.std.proofs.lemmas.List.{length-append}
+use Rattle.oa_ndr.specs.Forms.{◌▸◌, ignored, unit}
 use Rattle.oa_ndr.specs.Reading.{Cursor, at, unit_at}
 use Rattle.oa_ndr.proofs.Laws.{unit_reads}
 use Rattle.oa_record.specs.CallParts.{CallParts}
@@ -13,129 +14,64 @@ use Rattle.oa_record.specs.declared.fault.RecordFault.{RecordFault}
 use Rattle.oa_record.specs.declared.fault.RecordFault.TheVariants.{Stub, BadVarType, Memory}
 use Rattle.oa_record.proofs.LayoutLaws.{guid_reads, call_head_reads}
 
-guid_length : (g : List ℕ) (p : ℕ) (bytes : List ℕ) → guid g p bytes → 16 ≤ length bytes
-guid_length g p bytes form =
+-- the stretches of a form have at least so many bytes
+abbrev HasAtLeast : ℕ → (ℕ → List ℕ → Type 0) → Type 0
+HasAtLeast n F = (place : ℕ) (bytes : List ℕ) → F place bytes → n ≤ length bytes
+
+any_has : (F : ℕ → List ℕ → Type 0) → HasAtLeast 0 F
+any_has F place bytes form = omega arith
+
+then_has : {F G : ℕ → List ℕ → Type 0} (m n : ℕ) → HasAtLeast m F → HasAtLeast n G → HasAtLeast (m + n) (F ▸ G)
+then_has m n first second place bytes a =
+    omega (arith, ap length a.parts, length-append a.front a.back, first place a.front a.first, second (place + length a.front) a.back a.second)
+
+ignored_has : (n : ℕ) → HasAtLeast n (ignored n)
+ignored_has n place bytes form = omega (arith, form)
+
+unit_has : (n x : ℕ) → HasAtLeast n (unit n x)
+unit_has n x place bytes form = omega (arith, form.len)
+
+guid_has : (g : List ℕ) → HasAtLeast 16 (guid g)
+guid_has g place bytes form =
     let a = form.form in
     omega (arith, ap length a.parts, length-append a.front a.back, ap length a.second, a.first.fact)
 
-dispid_length : (z : ℤ) (p : ℕ) (bytes : List ℕ) → dispid z p bytes → 4 ≤ length bytes
-dispid_length z p bytes form =
+dispid_has : (z : ℤ) → HasAtLeast 4 (dispid z)
+dispid_has z place bytes form =
     let a = form.form in
     omega (arith, ap length a.parts, length-append a.front a.back, a.first.len)
 
-head_length : (h : CallHead) (p : ℕ) (bytes : List ℕ) → call_head h p bytes → 48 ≤ length bytes
-head_length h p bytes a =
-    let b = a.second in
-    let c = b.second in
-    let d = c.second in
-    let e = d.second in
-    let f = e.second in
-    let g = f.second in
-    omega (
-      arith,
-      ap length a.parts,
-      length-append a.front a.back,
-      a.first.len,
-      ap length b.parts,
-      length-append b.front b.back,
-      dispid_length h.dispid _ b.front b.first,
-      ap length c.parts,
-      length-append c.front c.back,
-      guid_length h.interface _ c.front c.first,
-      ap length d.parts,
-      length-append d.front d.back,
-      guid_length h.riid _ d.front d.first,
-      ap length e.parts,
-      length-append e.front e.back,
-      e.first.len,
-      ap length f.parts,
-      length-append f.front f.back,
-      f.first.len,
-      ap length g.parts,
-      length-append g.front g.back,
-      g.first,
-    )
+head_has : (h : CallHead) → HasAtLeast 48 (call_head h)
+head_has h =
+    then_has 4 44 (unit_has 4 h.object) (then_has 4 40 (dispid_has h.dispid) (then_has 16 24 (guid_has h.interface) (then_has 16 8 (guid_has h.riid)
+    (then_has 4 4 (unit_has 4 h.lcid) (then_has 2 2 (unit_has 2 h.flags) (then_has 2 0 (ignored_has 2) (any_has _)))))))
 
-call_length : (c : CallParts) (p : ℕ) (bytes : List ℕ) → call_parts c p bytes → 56 ≤ length bytes
-call_length c p bytes a =
-    let b = a.second in
-    let d = b.second in
-    omega (
-      arith,
-      ap length a.parts,
-      length-append a.front a.back,
-      head_length c.head p a.front a.first,
-      ap length b.parts,
-      length-append b.front b.back,
-      b.first.len,
-      ap length d.parts,
-      length-append d.front d.back,
-      d.first.len,
-    )
+call_has : (c : CallParts) → HasAtLeast 56 (call_parts c)
+call_has c = then_has 48 8 (head_has c.head) (then_has 4 4 (unit_has 4 (length c.fields)) (then_has 4 0 (unit_has 4 (length c.named)) (any_has _)))
 
-get_ids_length : (q : GetIds) (p : ℕ) (bytes : List ℕ) → get_ids q p bytes → 48 ≤ length bytes
-get_ids_length q p bytes a =
-    let b = a.second in
-    let c = b.second in
-    let d = c.second in
-    let e = d.second in
-    let f = e.second in
-    omega (
-      arith,
-      ap length a.parts,
-      length-append a.front a.back,
-      a.first.len,
-      ap length b.parts,
-      length-append b.front b.back,
-      b.first,
-      ap length c.parts,
-      length-append c.front c.back,
-      guid_length q.interface _ c.front c.first,
-      ap length d.parts,
-      length-append d.front d.back,
-      guid_length q.riid _ d.front d.first,
-      ap length e.parts,
-      length-append e.front e.back,
-      e.first.len,
-      ap length f.parts,
-      length-append f.front f.back,
-      f.first.len,
-    )
+get_ids_has : (q : GetIds) → HasAtLeast 48 (get_ids q)
+get_ids_has q =
+    then_has 4 44 (unit_has 4 q.object) (then_has 4 40 (ignored_has 4) (then_has 16 24 (guid_has q.interface) (then_has 16 8 (guid_has q.riid)
+    (then_has 4 4 (unit_has 4 q.lcid) (then_has 4 0 (unit_has 4 (length q.names)) (any_has _))))))
 
-fields_length : (parts : Layout) (p : ℕ) (bytes : List ℕ) → fields parts p bytes → before_memory (opcode_of parts) ≤ length bytes
-fields_length (Layout.CreateBody class) p bytes form = omega arith
-fields_length (Layout.ReleaseBody object) p bytes form = omega arith
-fields_length (Layout.GetIdsBody call) p bytes form = get_ids_length call p bytes form
-fields_length (Layout.InvokeBody call) p bytes form = call_length call p bytes form
-fields_length (Layout.GetElementBody element) p bytes form =
-    omega (arith, ap length form.parts, length-append form.front form.back, call_length element.call p form.front form.first)
-fields_length (Layout.PutElementBody put) p bytes form =
-    let a = form.first in
-    omega (arith, ap length form.parts, length-append form.front form.back, ap length a.parts, length-append a.front a.back, call_length put.element.call p a.front a.first)
-fields_length (Layout.RedimensionBody redim) p bytes form =
-    omega (arith, ap length form.parts, length-append form.front form.back, call_length redim.call p form.front form.first)
-fields_length (Layout.LockBody call) p bytes form = call_length call p bytes form
-fields_length (Layout.UnlockBody call) p bytes form = call_length call p bytes form
-fields_length (Layout.TypeInfoBody index) p bytes form = omega arith
-fields_length Layout.ObjectsBody p bytes form = omega arith
+fields_have : (parts : Layout) → HasAtLeast (before_memory (opcode_of parts)) (fields parts)
+fields_have (Layout.CreateBody class) = any_has _
+fields_have (Layout.ReleaseBody object) = any_has _
+fields_have (Layout.GetIdsBody call) = get_ids_has call
+fields_have (Layout.InvokeBody call) = call_has call
+fields_have (Layout.GetElementBody element) = then_has 56 0 (call_has element.call) (any_has _)
+fields_have (Layout.PutElementBody put) = then_has 56 0 (then_has 56 0 (call_has put.element.call) (any_has _)) (any_has _)
+fields_have (Layout.RedimensionBody redim) = then_has 56 0 (call_has redim.call) (any_has _)
+fields_have (Layout.LockBody call) = call_has call
+fields_have (Layout.UnlockBody call) = call_has call
+fields_have (Layout.TypeInfoBody index) = any_has _
+fields_have Layout.ObjectsBody = any_has _
 
 pub layout_length : (parts : Layout) (body : List ℕ) → layout parts 0 body → 8 + before_memory (opcode_of parts) ≤ length body
-layout_length parts body a =
-    let b = a.second in
-    let c = b.second in
-    omega (
-      arith,
-      ap length a.parts,
-      length-append a.front a.back,
-      a.first,
-      ap length b.parts,
-      length-append b.front b.back,
-      b.first.len,
-      ap length c.parts,
-      length-append c.front c.back,
-      c.first,
-      fields_length parts _ c.back c.second,
-    )
+layout_length parts body form =
+    let n = before_memory (opcode_of parts) in
+    let long : 4 + (2 + (2 + n)) ≤ length body = then_has 4 (2 + (2 + n)) (ignored_has 4) (then_has 2 (2 + n) (unit_has 2 _) (then_has 2 n (ignored_has 2) (fields_have parts))) 0 body form in
+    omega (arith, long)
 
 -- what is read is there
 pub unit_there : (n : ℕ) (s t : Cursor) (x : ℕ) → unit_at n s ≡ Some (x, t) → n + length t.rest ≤ length s.rest
@@ -146,12 +82,12 @@ unit_there n s t x e =
 pub guid_there : (s t : Cursor) (g : List ℕ) → guid_at s ≡ Some (g, t) → 16 + length t.rest ≤ length s.rest
 guid_there s t g e =
     let one = (guid_reads.takes s.position s.rest g t e).1 in
-    omega (arith, ap length one.parts, length-append one.text t.rest, guid_length g s.position one.text one.form)
+    omega (arith, ap length one.parts, length-append one.text t.rest, guid_has g s.position one.text one.form)
 
 pub head_there : (s t : Cursor) (h : CallHead) → call_head_at s ≡ Some (h, t) → 48 + length t.rest ≤ length s.rest
 head_there s t h e =
     let one = (call_head_reads.takes s.position s.rest h t e).1 in
-    omega (arith, ap length one.parts, length-append one.text t.rest, head_length h s.position one.text one.form)
+    omega (arith, ap length one.parts, length-append one.text t.rest, head_has h s.position one.text one.form)
 
 -- the 8 bytes before the fields
 pub start_there : (body : List ℕ) (x n y : ℕ) (s t u : Cursor) → unit_at 4 (at 0 body) ≡ Some (x, s) → unit_at 2 s ≡ Some (n, t) → unit_at 2 t ≡ Some (y, u) → 8 + length u.rest ≤ length body

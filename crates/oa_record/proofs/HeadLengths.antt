@@ -7,7 +7,7 @@ use Rattle.oa_ndr.proofs.Laws.{unit_reads}
 use Rattle.oa_record.specs.CallParts.{CallParts}
 use Rattle.oa_record.specs.Layouts.{Layout, opcode_of, guid, dispid, call_head, call_parts, get_ids, fields, layout}
 use Rattle.oa_record.specs.Opcodes.{before_memory}
-use Rattle.oa_record.specs.Reading.{guid_at, call_head_at, FaultReaches}
+use Rattle.oa_record.specs.Reading.{guid_at, call_head_at, FaultIsBehind}
 use Rattle.oa_record.specs.declared.request.CallHead.{CallHead}
 use Rattle.oa_record.specs.declared.request.GetIds.{GetIds}
 use Rattle.oa_record.specs.declared.fault.RecordFault.{RecordFault}
@@ -96,7 +96,7 @@ start_there body x n y s t u e f g =
     omega (arith, a, unit_there 2 s t n f, unit_there 2 t u y g)
 
 -- where they are there anyhow
-pub reaches_anyhow : (n : ℕ) (e : RecordFault) (s : Cursor) → n ≤ length s.rest → FaultReaches n e s
-reaches_anyhow n Stub s h = tt
-reaches_anyhow n (BadVarType i) s h = tt
-reaches_anyhow n Memory s h = h
+pub behind_anyhow : (n : ℕ) (e : RecordFault) (s : Cursor) → n ≤ length s.rest → FaultIsBehind n e s
+behind_anyhow n Stub s h = tt
+behind_anyhow n (BadVarType i) s h = tt
+behind_anyhow n Memory s h = h

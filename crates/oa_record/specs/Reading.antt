@@ -37,15 +37,15 @@ abbrev pub ReadsBodyToItsEnd : {X Y : Type 0} → (X → Y) → Result X RecordF
 ReadsBodyToItsEnd view (Ok x) read = read ≡ Some (view x)
 ReadsBodyToItsEnd view (Err e) read = ReadingFails e read
 
--- where a call answers, or lacks memory, so many bytes are there
-abbrev pub FaultReaches : ℕ → RecordFault → Cursor → Type 0
-FaultReaches n Stub s = Unit {0}
-FaultReaches n (BadVarType i) s = Unit {0}
-FaultReaches n Memory s = n ≤ length s.rest
+-- a call answers, or lacks memory, only behind so many bytes
+abbrev pub FaultIsBehind : ℕ → RecordFault → Cursor → Type 0
+FaultIsBehind n Stub s = Unit {0}
+FaultIsBehind n (BadVarType i) s = Unit {0}
+FaultIsBehind n Memory s = n ≤ length s.rest
 
-abbrev pub Reaches : {X : Type 0} → ℕ → Result X RecordFault → Cursor → Type 0
-Reaches n (Ok x) s = n ≤ length s.rest
-Reaches n (Err e) s = FaultReaches n e s
+abbrev pub IsBehind : {X : Type 0} → ℕ → Result X RecordFault → Cursor → Type 0
+IsBehind n (Ok x) s = n ≤ length s.rest
+IsBehind n (Err e) s = FaultIsBehind n e s
 
 -- want of memory comes only where the opcode takes some, and behind the bytes before it
 abbrev pub IsStarved : RecordFault → Opcode → Cursor → Type 0

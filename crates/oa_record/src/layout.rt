@@ -7,7 +7,7 @@ ghost use Rattle.oa_record.specs.Reading.{
   ReadsBody,
   ReadsBodyToItsEnd,
   ReadsFixed,
-  Reaches,
+  IsBehind,
   Starves,
   StarvesAt,
   guid_at,
@@ -126,7 +126,7 @@ fn call_head(r: &mut Ndr<'_>) -> Result<CallHead, Short>
 #[tactic(auto, unfolding(oa_ndr::specs::Reading::steps, crate::specs::Reading::call_at, crate::specs::Reading::lists_at))]
 fn call<'a>(alloc: Global, r: &mut Ndr<'a>) -> Result<RawCall<'a>, RecordFault>
     ensures answers { ReadsBody (λ x. x) result r.new (call_at r.old) }
-    ensures long { Reaches 56 result r.old }
+    ensures long { IsBehind 56 result r.old }
 {
     let head = call_head(r)?;
     let count = r.u32()?;
@@ -221,7 +221,7 @@ fn indices(alloc: Global, r: &mut Ndr<'_>) -> Result<Indices, RecordFault>
 #[tactic(auto, unfolding(oa_ndr::specs::Reading::steps, crate::specs::Reading::element_at))]
 fn element<'a>(alloc: Global, r: &mut Ndr<'a>) -> Result<(RawCall<'a>, Indices), RecordFault>
     ensures answers { ReadsBody (λ x. parts_of_element x.0 x.1) result r.new (element_at r.old) }
-    ensures long { Reaches 56 result r.old }
+    ensures long { IsBehind 56 result r.old }
 {
     let call = call(alloc, r)?;
     let indices = indices(alloc, r)?;
@@ -281,7 +281,7 @@ fn strings(alloc: Global, count: u32, r: &mut Ndr<'_>) -> Result<Vec<Vec<u16>>, 
 #[tactic(auto, unfolding(oa_ndr::specs::Reading::steps, crate::specs::Reading::get_ids_at, crate::specs::Reading::names_at))]
 fn get_ids(alloc: Global, r: &mut Ndr<'_>) -> Result<GetIds, RecordFault>
     ensures answers { ReadsBody (λ x. x) result r.new (get_ids_at r.old) }
-    ensures long { Reaches 48 result r.old }
+    ensures long { IsBehind 48 result r.old }
 {
     let object = r.u32()?;
     r.u32()?;
@@ -316,7 +316,7 @@ fn number(r: &mut Ndr<'_>) -> Result<u32, Short>
 #[tactic(auto, unfolding(oa_ndr::specs::Reading::bind, oa_ndr::specs::Reading::give, crate::specs::Reading::fields_at))]
 fn get_element<'a>(alloc: Global, r: &mut Ndr<'a>) -> Result<Parts<'a>, RecordFault>
     ensures answers { ReadsBody shown result r.new (fields_at opcodes.GetElement r.old) }
-    ensures long { Reaches 56 result r.old }
+    ensures long { IsBehind 56 result r.old }
 {
     let (call, indices) = element(alloc, r)?;
     Ok(Parts::GetElement(call, indices))
@@ -326,7 +326,7 @@ fn get_element<'a>(alloc: Global, r: &mut Ndr<'a>) -> Result<Parts<'a>, RecordFa
 #[tactic(auto, unfolding(oa_ndr::specs::Reading::steps, crate::specs::Reading::fields_at, crate::specs::Reading::put_at))]
 fn put_element<'a>(alloc: Global, r: &mut Ndr<'a>) -> Result<Parts<'a>, RecordFault>
     ensures answers { ReadsBody shown result r.new (fields_at opcodes.PutElement r.old) }
-    ensures long { Reaches 56 result r.old }
+    ensures long { IsBehind 56 result r.old }
 {
     let (call, indices) = element(alloc, r)?;
     Ok(Parts::PutElement(call, indices, field(r)?))
@@ -336,7 +336,7 @@ fn put_element<'a>(alloc: Global, r: &mut Ndr<'a>) -> Result<Parts<'a>, RecordFa
 #[tactic(auto, unfolding(oa_ndr::specs::Reading::steps, crate::specs::Reading::fields_at, crate::specs::Reading::redim_at))]
 fn redimension<'a>(alloc: Global, r: &mut Ndr<'a>) -> Result<Parts<'a>, RecordFault>
     ensures answers { ReadsBody shown result r.new (fields_at opcodes.Redimension r.old) }
-    ensures long { Reaches 56 result r.old }
+    ensures long { IsBehind 56 result r.old }
 {
     let call = call(alloc, r)?;
     let bound = bound(r)?;

@@ -1,20 +1,49 @@
--- A run of calls that writes nothing. (This project's choice.)
+-- Calls that write nothing. (This project's choice.)
 use Rattle.std.proofs.Common.{◌≡◌, ℕ, List, refl, ◌∙◌}
 use Rattle.oa_disk.specs.Disk.{Elapses, LeavesOnly, Stays}
 use Rattle.oa_disk.specs.Moments.{started, goes_on, chained}
 
--- The contents stay, and at every moment each image is one of those at its start.
+-- At every moment of the calls each image is one of those at their start.
+pub record WritesNothing {D : Type 0} (image : D → List ℕ → Type 0) (moment : D → ℕ) (image_since : D → ℕ → List ℕ → Type 0)
+    (old new : D) : Type 0 where
+  pub images : (c : List ℕ) → image new c → image old c
+  pub moments : LeavesOnly moment image_since old new (image old)
+
+-- So it is, and the contents stay, which behind a sync that has failed are not known.
 pub record OnlyReads {D : Type 0} (contents : D → List ℕ) (image : D → List ℕ → Type 0) (moment : D → ℕ)
     (image_since : D → ℕ → List ℕ → Type 0) (old new : D) : Type 0 where
   pub contents_stay : contents new ≡ contents old
-  pub images : (c : List ℕ) → image new c → image old c
-  pub moments : LeavesOnly moment image_since old new (image old)
+  pub writes_nothing : WritesNothing image moment image_since old new
+
+module _ {D : Type 0} (image : D → List ℕ → Type 0) (moment : D → ℕ) (image_since : D → ℕ → List ℕ → Type 0) where
+  -- no call
+  pub called_none : (old : D) → ((c : List ℕ) → image_since old (moment old) c → image old c)
+      → WritesNothing image moment image_since old old
+  called_none old only = record { images = λ c is. is; moments = started moment image_since old (image old) only }
+
+  -- one call
+  pub called_once : (old new : D) → ((c : List ℕ) → image_since old (moment old) c → image old c)
+      → ((c : List ℕ) → image new c → image old c)
+      → Elapses (moment old) (moment new) (image_since old) (image_since new) (image new) → WritesNothing image moment image_since old new
+  called_once old new only images time = record {
+    images = images;
+    moments = goes_on moment image_since old old new (image old) (image new) (started moment image_since old (image old) only) time images;
+  }
+
+  -- one run behind the other
+  pub called_on : (old mid new : D) → WritesNothing image moment image_since old mid → WritesNothing image moment image_since mid new
+      → WritesNothing image moment image_since old new
+  called_on old mid new first second = record {
+    images = λ c is. first.images c (second.images c is);
+    moments = chained moment image_since old mid new (image old) (image mid)
+        (image old) first.moments second.moments (λ c is. is) first.images;
+  }
 
 module _ {D : Type 0} (contents : D → List ℕ) (image : D → List ℕ → Type 0) (moment : D → ℕ) (image_since : D → ℕ → List ℕ → Type 0) where
   -- no call
   pub reads_none : (old : D) → ((c : List ℕ) → image_since old (moment old) c → image old c)
       → OnlyReads contents image moment image_since old old
-  reads_none old only = record { contents_stay = refl; images = λ c is. is; moments = started moment image_since old (image old) only }
+  reads_none old only = record { contents_stay = refl; writes_nothing = called_none image moment image_since old only }
 
   -- one call that leaves contents and images as they were
   pub reads_one : (old new : D) → ((c : List ℕ) → image_since old (moment old) c → image old c)
@@ -23,9 +52,7 @@ module _ {D : Type 0} (contents : D → List ℕ) (image : D → List ℕ → Ty
       → OnlyReads contents image moment image_since old new
   reads_one old new only stays time = record {
     contents_stay = stays.contents;
-    images = stays.images;
-    moments = goes_on moment image_since old old new (image old) (image new)
-        (started moment image_since old (image old) only) time stays.images;
+    writes_nothing = called_once image moment image_since old new only stays.images time;
   }
 
   -- one run behind the other
@@ -33,7 +60,5 @@ module _ {D : Type 0} (contents : D → List ℕ) (image : D → List ℕ → Ty
       → OnlyReads contents image moment image_since mid new → OnlyReads contents image moment image_since old new
   reads_on old mid new first second = record {
     contents_stay = second.contents_stay ∙ first.contents_stay;
-    images = λ c is. first.images c (second.images c is);
-    moments = chained moment image_since old mid new (image old) (image mid)
-        (image old) first.moments second.moments (λ c is. is) first.images;
+    writes_nothing = called_on image moment image_since old mid new first.writes_nothing second.writes_nothing;
   }

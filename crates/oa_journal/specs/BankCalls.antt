@@ -50,12 +50,13 @@ pub record RefusesBank {D T : Type 0} (g : Ghosts D) (damage : ℕ → Type 0) (
       → IsAt before.shape before.head before.body before.gate true after × (fault ≡ Read)
   pub cause : IfErr result (IsCaused (g.failures_of old) (g.failures_of new))
 
--- The bank was read: this library, and this table after its groups.
+-- The bank was read: this library, and this table after its groups. It knows its closed gate, and else is as it was.
 pub record ReadsBank {D : Type 0} (g : Ghosts D) (before after : Bank) (old new : D) (library : List ℕ) (table : TableValue) : Type 0 where
   pub found : IsTrue (g.is_honest new) → IsBank before.shape (from_place before.head (g.contents old))
       (from_place before.body (g.contents old)) library table after.gate
   pub numbered : is_numbered table ≡ true
   pub unlocked : unlocked_table table ≡ table
+  pub bank : IsAt before.shape before.head before.body after.gate before.stopped after
   -- at most four calls, and one for two bytes of snapshot and groups
   pub calls : IsTrue (g.is_honest new) → g.moment new + length library ≤ g.moment old + (8 + after.gate)
 

@@ -204,7 +204,6 @@ impl Bank {
 
         ensures found { IfOk result (λ r. ReadsBank D.Disk self.old self.new disk.old disk.new r.0.items r.1) }
         ensures buffer { IfOk result (λ r. length r.2.items ≡ length buffer.items) }
-        ensures bank { OnOk result (IsAt self.old.shape self.old.head self.old.body self.new.gate self.old.stopped self.new) }
         // `Damaged` with the place on the disk of the first part that fails.
         ensures refused { RefusesBank D.Disk (IsDamagedBank self.old.shape self.old.head self.old.body (D.contents disk.old)) self.old
             self.new disk.old disk.new result }

@@ -20,16 +20,16 @@ use oa_table::Table;
 use std::alloc::{AllocError, Global};
 use thiserror::Error;
 
-/// Why a group was not added.
+/// Why an append did not end well.
 #[derive(Clone, Copy, Debug, PartialEq, Eq, Error)]
 pub enum AppendFault {
-    /// There is no room for it.
+    /// There is no room for the group. Nothing was written.
     #[error("the bank is full")]
     Full,
-    /// The device has failed a call before.
+    /// The device has failed a call before. Nothing was written.
     #[error("the bank has stopped")]
     Stopped,
-    /// The device has failed a call.
+    /// The device has failed a call. The group is there whole or not at all.
     #[error("device: {0}")]
     Device(DeviceFault),
 }
@@ -123,8 +123,8 @@ impl Bank {
     }
 
     /// Writes the bank of a library and a table, without groups and without locks: its head in one write, and its body in as many bytes a
-    /// write as the buffer takes. Until it is synced, a crash may leave any bytes there. Takes no memory. After an `Err`, and only then, the
-    /// bank has stopped.
+    /// write as the buffer takes. Until it is synced, a crash may leave any bytes there. Takes no memory. After an `Err` the bank has
+    /// stopped; `Ok` does not change whether it has.
     pub fn start<D: Disk>(
         &mut self,
         disk: &mut D,

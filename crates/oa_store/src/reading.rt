@@ -75,7 +75,7 @@ fn read_all<D: Disk>(
     ensures numbered { IfOk result (λ r. is_numbered r.1 ≡ true) }
     ensures unlocked { IfOk result (λ r. unlocked_table r.1 ≡ r.1) }
     ensures buffer { IfOk result (λ r. length r.2.items ≡ length buffer.items) }
-    ensures bank { OnOk result (IsAt bank.old.shape bank.old.head bank.old.body bank.new.gate bank.old.stopped bank.new) }
+    ensures bank { IfOk result (λ r. IsAt bank.old.shape bank.old.head bank.old.body bank.new.gate bank.old.stopped bank.new) }
     ensures damaged { (at : ℕ) → IsErrOf result (BankFault.Damaged at) → IsTrue (D.is_honest disk.new)
         → IsDamagedBank bank.old.shape bank.old.head bank.old.body (D.contents disk.old) at }
     ensures device { (fault : DeviceFault) → IsErrOf result (BankFault.Device fault) → fault ≡ DeviceFault.Read }

@@ -6,6 +6,7 @@ use Rattle.oa_groups.specs.Runs.{HoldsState}
 use Rattle.oa_canonical.specs.Canonical.{canonical}
 use Rattle.oa_image.specs.Tables.{table_image}
 use Rattle.oa_journal.specs.Banks.{first_gate}
+use Rattle.oa_journal.specs.Reads.{WritesNothing}
 use Rattle.oa_journal.specs.Shapes.{body_bytes}
 use Rattle.oa_journal.specs.declared.shape.Shape.{Shape}
 use Rattle.oa_journal.specs.declared.shape.Shape.TheVariants.{Two}
@@ -17,7 +18,6 @@ use Rattle.oa_store.specs.Calls.{checkpoint_calls}
 use Rattle.oa_store.specs.Changes.{IsSwitch, IsSwitched}
 use Rattle.oa_store.specs.OneStore.{AreSameStores}
 use Rattle.oa_store.proofs.OneStore.{one_store}
-use Rattle.oa_store.specs.Reads.{WritesNothing}
 use Rattle.oa_store.specs.Stores.{IsStoreAt}
 use Rattle.oa_store.specs.declared.store.Store.{Store}
 use Rattle.oa_table.specs.Tables.{TableValue, unlocked_table}

@@ -10,6 +10,7 @@ use Rattle.oa_groups.specs.Runs.{HoldsState}
 use Rattle.oa_idl.specs.Trees.{TreeValue}
 use Rattle.oa_image.specs.Tables.{is_numbered}
 use Rattle.oa_journal.specs.Banks.{first_gate}
+use Rattle.oa_journal.specs.Reads.{WritesNothing}
 use Rattle.oa_journal.specs.Shapes.{default_bank_bytes}
 use Rattle.oa_journal.specs.declared.shape.Shape.TheVariants.{Two}
 use Rattle.oa_turn.specs.Events.{held_of}
@@ -17,7 +18,6 @@ use Rattle.oa_decision.specs.States.{State}
 use Rattle.oa_server.specs.Requests.{requests}
 use Rattle.oa_store.specs.Calls.{checkpoint_calls, format_calls}
 use Rattle.oa_store.specs.Changes.{IsNoneOrFirst}
-use Rattle.oa_store.specs.Reads.{WritesNothing}
 use Rattle.oa_store.specs.Stores.{IsStoreAt}
 use Rattle.oa_store.specs.declared.store.Store.{Store}
 use Rattle.oa_table.specs.Tables.{TableValue, unlocked_table}

@@ -6,13 +6,13 @@ use Rattle.oa_canonical.specs.Canonical.{canonical}
 use Rattle.oa_idl.specs.Trees.{TreeValue}
 use Rattle.oa_keeper.specs.Kept.{EachIs}
 use Rattle.oa_image.specs.Tables.{is_numbered}
+use Rattle.oa_journal.specs.Reads.{WritesNothing}
 use Rattle.oa_journal.specs.declared.shape.Shape.TheVariants.{Two}
 use Rattle.oa_journal.specs.Shapes.{body_bytes}
 use Rattle.oa_store.specs.declared.fault.OpenFault.{OpenFault}
 use Rattle.oa_store.specs.declared.fault.OpenFault.TheVariants.{Damaged, LibraryDiffers}
 use Rattle.oa_store.specs.declared.store.Store.{Store}
 use Rattle.oa_store.specs.Faults.{IsCaused, ComesOfForeign, SpeaksOfContents, RefusalSays, DeviceTells, moments_until}
-use Rattle.oa_store.specs.Reads.{WritesNothing}
 use Rattle.oa_store.specs.Stores.{IsForeign, IsStoreIn}
 use Rattle.oa_table.specs.Tables.{TableValue, unlocked_table}
 use Rattle.oa_turn.specs.Beginnings.{CanBegin, CanServe}

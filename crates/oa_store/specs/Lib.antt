@@ -4,6 +4,5 @@ pub mod Faults
 pub mod Making
 pub mod OneStore
 pub mod Openings
-pub mod Reads
 pub mod Stores
 pub mod Writing

@@ -1,11 +1,11 @@
 -- What refusals of a format and of an upgrade say. (This project's choice.)
 use Rattle.std.specs.Prelude.{◌≡◌, ◌↔◌, ℕ, ◌+◌, ◌<◌, ◌≤◌, IsTrue, Result, IsErrOf}
 use Rattle.oa_disk.specs.declared.disk.Disk.{Ghosts}
+use Rattle.oa_journal.specs.Reads.{WritesNothing}
 use Rattle.oa_journal.specs.declared.shape.Shape.TheVariants.{Two}
 use Rattle.oa_journal.specs.Shapes.{disk_bytes}
 use Rattle.oa_store.specs.declared.fault.UpgradeFault.{UpgradeFault}
 use Rattle.oa_store.specs.Faults.{IsCausedUpgrade, IsRefusedUpgrade, UpgradeSays, UpgradeDeviceTells}
-use Rattle.oa_store.specs.Reads.{WritesNothing}
 
 -- One fault is answered exactly where the disk has fewer bytes than those of format 1 and two bodies of this size, before its first call.
 pub record RefusesSmall {D T E : Type 0} (g : Ghosts D) (small : E) (size : ℕ) (old new : D) (result : Result T E) : Type 0 where

@@ -8,7 +8,7 @@ ghost use Rattle.oa_store.specs.declared.fault.FindFault.{FindFault};
 ghost use Rattle.oa_store.specs.Calls.{piece_bytes};
 ghost use Rattle.oa_store.specs.Faults.{of_finding, moments_until, ComesOfForeign, DeviceTells, IsCaused};
 ghost use Rattle.oa_store.specs.Openings.{FindsChosen, RefusesChosen};
-ghost use Rattle.oa_store.specs.Reads.{WritesNothing};
+ghost use Rattle.oa_journal.specs.Reads.{WritesNothing};
 ghost use Rattle.oa_journal.specs.Shapes.{body_bytes, disk_bytes, IsShape};
 ghost use Rattle.oa_store.specs.Stores.{store_bytes, body_place, head_place, IsFormatted, IsForeign};
 

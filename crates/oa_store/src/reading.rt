@@ -9,11 +9,11 @@ ghost use Rattle.oa_table.specs.Tables.{unlocked_table};
 ghost use Rattle.oa_journal.specs.Append.{IsAt};
 ghost use Rattle.oa_journal.specs.Bank.{from_place, IsBank, HasLibrary};
 ghost use Rattle.oa_journal.specs.Damages.{HasNoHeader, IsDamagedBank};
+ghost use Rattle.oa_journal.specs.Reads.{WritesNothing};
 ghost use Rattle.oa_journal.specs.Shapes.{body_bytes, disk_bytes, IsShape};
 ghost use Rattle.oa_journal.specs.Replies.{IsCaused};
 ghost use Rattle.oa_journal.specs.declared.bank.BankFault.{BankFault};
 ghost use Rattle.oa_store.specs.Openings.{Finds, FindsAny, Refuses, RefusesAny};
-ghost use Rattle.oa_store.specs.Reads.{WritesNothing};
 ghost use Rattle.oa_store.specs.Stores.{body_place, head_place};
 
 use crate::OpenFault;

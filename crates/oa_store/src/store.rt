@@ -7,9 +7,9 @@ ghost use Rattle.oa_image.specs.Tables.{is_numbered, reserved_bytes, table_image
 ghost use Rattle.oa_journal.specs.Shapes.{ample_bytes, body_bytes, disk_bytes, format_of};
 ghost use Rattle.oa_journal.specs.Append.{group_of};
 ghost use Rattle.oa_journal.specs.Banks.{first_gate};
+ghost use Rattle.oa_journal.specs.Reads.{WritesNothing};
 ghost use Rattle.oa_store.specs.Calls.{piece_bytes, checkpoint_calls};
 ghost use Rattle.oa_store.specs.Changes.{IsCommit, IsCommitted, IsReplacement, IsReplaced, IsSwitch, IsSwitched};
-ghost use Rattle.oa_store.specs.Reads.{WritesNothing};
 ghost use Rattle.oa_store.specs.Stores.{body_place, head_place};
 
 use crate::reading::find_store;

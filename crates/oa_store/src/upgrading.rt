@@ -6,6 +6,7 @@ ghost use Rattle.oa_disk.specs.Disk.{LeavesStep, Only};
 ghost use Rattle.oa_image.specs.Tables.{FitsBank, is_numbered};
 ghost use Rattle.oa_model.specs.Limits.{max_library_bytes};
 ghost use Rattle.oa_table.specs.Tables.{TableValue};
+ghost use Rattle.oa_journal.specs.Reads.{WritesNothing};
 ghost use Rattle.oa_journal.specs.Shapes.{least_bank_bytes, most_bank_bytes};
 ghost use Rattle.oa_journal.specs.declared.shape.Shape.TheVariants.{One, Two};
 ghost use Rattle.oa_store.specs.declared.fault.UpgradeFault.{UpgradeFault};
@@ -13,7 +14,6 @@ ghost use Rattle.oa_store.specs.Calls.{piece_bytes, checkpoint_calls};
 ghost use Rattle.oa_store.specs.Changes.{IsUpgrade};
 ghost use Rattle.oa_store.specs.Faults.{CanBeBrought, IsBrought, IsCausedUpgrade, ReadingTells, UpgradeSays};
 ghost use Rattle.oa_store.specs.Making.{RefusesSmall, RefusesUpgrade};
-ghost use Rattle.oa_store.specs.Reads.{WritesNothing};
 ghost use Rattle.oa_store.specs.Stores.{IsStoreAt, IsStoreIn};
 
 use crate::UpgradeFault;

@@ -5,12 +5,26 @@ use Rattle.oa_journal.specs.Reads.{WritesNothing}
 use Rattle.oa_journal.specs.declared.shape.Shape.TheVariants.{Two}
 use Rattle.oa_journal.specs.Shapes.{disk_bytes}
 use Rattle.oa_store.specs.declared.fault.UpgradeFault.{UpgradeFault}
-use Rattle.oa_store.specs.Faults.{IsCausedUpgrade, IsRefusedUpgrade, UpgradeSays, UpgradeDeviceTells}
+use Rattle.oa_store.specs.declared.fault.UpgradeFault.TheVariants as upgrades
+use Rattle.oa_store.specs.Faults.{IsCausedUpgrade, IsRefusedUpgrade, ReadingTells, UpgradeSays, UpgradeDeviceTells}
 
 -- One fault is answered exactly where the disk has fewer bytes than those of format 1 and two bodies of this size, before its first call.
 pub record RefusesSmall {D T E : Type 0} (g : Ghosts D) (small : E) (size : ℕ) (old new : D) (result : Result T E) : Type 0 where
   pub exactly : IsErrOf result small ↔ (g.size_of old < disk_bytes (Two size))
   pub same : IsErrOf result small → new ≡ old
+
+-- The disk has no store that an upgrade to bodies of this size brings over, or memory or the device is wanting. All but the cause is said
+-- of a disk that is honest at the end.
+pub record RefusesReading {D : Type 0} (g : Ghosts D) (size : ℕ) (old new : D) (fault : UpgradeFault) : Type 0 where
+  -- It is true of the contents at the start.
+  pub says : IsTrue (g.is_honest new) → UpgradeSays size (g.size_of old) (g.contents old) fault
+  -- That the disk has no room for format 2 is no reason.
+  pub any_size : fault ≡ upgrades.TooSmall → ⊥
+  pub cause : IsCausedUpgrade (g.failures_of old) (g.failures_of new) fault
+  -- A fault of a write is that of the sync at the start.
+  pub tells : IsTrue (g.is_honest new) → ReadingTells (g.contents old) (g.image old) (g.image new) fault
+  -- at most ten calls, and one for two bytes of the disk
+  pub calls : IsTrue (g.is_honest new) → g.moment new ≤ g.moment old + (20 + g.size_of old)
 
 -- A store was not brought to format 2 with bodies of this size. All but the cause is said of a disk that is honest at the end.
 pub record RefusesUpgrade {D : Type 0} (g : Ghosts D) (size : ℕ) (old new : D) (fault : UpgradeFault) : Type 0 where

@@ -13,7 +13,7 @@ ghost use Rattle.oa_store.specs.declared.fault.UpgradeFault.{UpgradeFault};
 ghost use Rattle.oa_store.specs.Calls.{piece_bytes, checkpoint_calls};
 ghost use Rattle.oa_store.specs.Changes.{IsUpgrade};
 ghost use Rattle.oa_store.specs.Faults.{CanBeBrought, IsBrought, IsCausedUpgrade, ReadingTells, UpgradeSays};
-ghost use Rattle.oa_store.specs.Making.{RefusesSmall, RefusesUpgrade};
+ghost use Rattle.oa_store.specs.Making.{RefusesReading, RefusesSmall, RefusesUpgrade};
 ghost use Rattle.oa_store.specs.Stores.{IsStoreAt, IsStoreIn};
 
 use crate::UpgradeFault;
@@ -83,10 +83,7 @@ fn find_fitting<D: Disk>(alloc: Global, disk: &mut D, size: u32) -> Result<Old, 
     ensures fits { IfOk result (λ o. FitsBank size o.table) }
     ensures buffer { IfOk result (λ o. length o.buffer.items ≡ piece_bytes) }
     ensures synced { OnOk result (IsTrue (D.is_honest disk.new) → Only (D.contents disk.old) (D.image disk.new)) }
-    ensures refused { IfErr result (λ e. RefusesUpgrade D.Disk size disk.old disk.new e) }
-    ensures tells { IfErr result (λ e. IsTrue (D.is_honest disk.new)
-        → ReadingTells (D.contents disk.old) (D.image disk.old) (D.image disk.new) e) }
-    ensures small { IsErrOf result UpgradeFault.TooSmall → ⊥ }
+    ensures refused { IfErr result (λ e. RefusesReading D.Disk size disk.old disk.new e) }
     ensures reads { IsTrue (D.is_honest disk.new) → WritesNothing D.image D.moment D.image_since disk.old disk.new }
     ensures after { AfterCalls D.Disk disk.old disk.new result }
 {
@@ -109,12 +106,7 @@ pub fn check_upgrade<D: Disk>(alloc: Global, disk: &mut D, size: u32) -> Result<
     ensures found { OnOk result (IsTrue (D.is_honest disk.new) → CanBeBrought size (D.contents disk.old)) }
     // So it is a store in each image, and that one alone.
     ensures synced { OnOk result (IsTrue (D.is_honest disk.new) → Only (D.contents disk.old) (D.image disk.new)) }
-    ensures refused { IfErr result (λ e. RefusesUpgrade D.Disk size disk.old disk.new e) }
-    // A fault of a write is that of the sync at the start.
-    ensures tells { IfErr result (λ e. IsTrue (D.is_honest disk.new)
-        → ReadingTells (D.contents disk.old) (D.image disk.old) (D.image disk.new) e) }
-    // That the disk has no room for format 2 is no reason.
-    ensures any_size { IsErrOf result UpgradeFault.TooSmall → ⊥ }
+    ensures refused { IfErr result (λ e. RefusesReading D.Disk size disk.old disk.new e) }
     // at most the calls of a reading, as `inspect` makes them
     ensures calls { OnOk result (IsTrue (D.is_honest disk.new) → (library : List ℕ) × (table : TableValue) × (chosen : ℕ) × (gate : ℕ)
         × IsStoreAt One chosen gate library table (D.contents disk.old)

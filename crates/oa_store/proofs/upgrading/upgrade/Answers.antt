@@ -4,7 +4,7 @@ use Rattle.oa_disk.specs.Moments.{chained}
 use Rattle.oa_table.specs.Tables.{unlocked_table}
 use Rattle.oa_journal.specs.Banks.{first_gate}
 use Rattle.oa_store.specs.Changes.{IsMove, IsMoved, IsUpgrade}
-use Rattle.oa_store.proofs.Upgraded.{moved, arrived, was_done}
+use Rattle.oa_store.proofs.Upgraded.{moved, arrived, upgrade_tells, was_done}
 use Rattle.oa_store.proofs.upgrading.upgrade.Goals as goal
 
 pub returns-in_err-map_err-clause-any_moment : goal.returns-in_err-map_err-clause-any_moment
@@ -87,7 +87,14 @@ returns-clause-done g c h =
 pub returns-in_err-old-clause-refused : goal.returns-in_err-old-clause-refused
 returns-in_err-old-clause-refused g c =
     let p = err_from_is_err_and c.from_residual.result c.from_residual.ensures.1 in
-    rw (p.1, p.2) c.in_err-old.ensures.refused
+    let refused = c.in_err-old.ensures.refused in
+    rw (p.1, p.2) (record {
+      says = refused.says;
+      refused = λ is h. c.find_fitting.ensures.reads h;
+      cause = refused.cause;
+      tells = λ h. upgrade_tells c.args.size _ _ _ c.in_err-old.field-0.0 (refused.tells h);
+      calls = λ is h. refused.calls h;
+    })
 
 pub returns-in_err-map_err-clause-refused : goal.returns-in_err-map_err-clause-refused
 returns-in_err-map_err-clause-refused g c =

@@ -1,12 +1,15 @@
 -- What refusals of a format and of an upgrade say. (This project's choice.)
-use Rattle.std.specs.Prelude.{◌≡◌, ◌↔◌, ℕ, ◌+◌, ◌<◌, ◌≤◌, IsTrue, Result, IsErrOf}
+use Rattle.std.specs.Prelude.{◌≡◌, ◌↔◌, ◌⊎◌, ℕ, ◌+◌, ◌*◌, ◌<◌, ◌≤◌, IsTrue, List, length, Result, IsErrOf}
 use Rattle.oa_disk.specs.declared.disk.Disk.{Ghosts}
 use Rattle.oa_journal.specs.Reads.{WritesNothing}
-use Rattle.oa_journal.specs.declared.shape.Shape.TheVariants.{Two}
+use Rattle.oa_journal.specs.declared.shape.Shape.TheVariants.{One, Two}
 use Rattle.oa_journal.specs.Shapes.{disk_bytes}
 use Rattle.oa_store.specs.declared.fault.UpgradeFault.{UpgradeFault}
 use Rattle.oa_store.specs.declared.fault.UpgradeFault.TheVariants as upgrades
+use Rattle.oa_store.specs.Calls.{checkpoint_calls}
 use Rattle.oa_store.specs.Faults.{IsCausedUpgrade, IsRefusedUpgrade, ReadingTells, UpgradeSays, UpgradeDeviceTells}
+use Rattle.oa_store.specs.Stores.{IsStoreAt}
+use Rattle.oa_table.specs.Tables.{TableValue}
 
 -- One fault is answered exactly where the disk has fewer bytes than those of format 1 and two bodies of this size, before its first call.
 pub record RefusesSmall {D T E : Type 0} (g : Ghosts D) (small : E) (size : ℕ) (old new : D) (result : Result T E) : Type 0 where
@@ -26,6 +29,12 @@ pub record RefusesReading {D : Type 0} (g : Ghosts D) (size : ℕ) (old new : D)
   -- at most ten calls, and one for two bytes of the disk
   pub calls : IsTrue (g.is_honest new) → g.moment new ≤ g.moment old + (20 + g.size_of old)
 
+-- An upgrade of a store of format 1 makes at most the calls of a reading, as `inspect` makes them, and those of a checkpoint.
+abbrev pub CallsForUpgrade : {D : Type 0} → Ghosts D → D → D → Type 0
+CallsForUpgrade g old new = (library : List ℕ) × (table : TableValue) × (chosen : ℕ) × (gate : ℕ)
+    × IsStoreAt One chosen gate library table (g.contents old)
+    × (g.moment new + length library ≤ g.moment old + (16 + gate) + 2 * checkpoint_calls library table)
+
 -- A store was not brought to format 2 with bodies of this size. All but the cause is said of a disk that is honest at the end.
 pub record RefusesUpgrade {D : Type 0} (g : Ghosts D) (size : ℕ) (old new : D) (fault : UpgradeFault) : Type 0 where
   -- It is true of the contents at the start.
@@ -36,3 +45,5 @@ pub record RefusesUpgrade {D : Type 0} (g : Ghosts D) (size : ℕ) (old new : D)
   pub tells : IsTrue (g.is_honest new) → UpgradeDeviceTells size (g.contents old) (g.image old) (g.image new) fault
   -- Then at most ten calls were made, and one for two bytes of the disk.
   pub calls : IsRefusedUpgrade fault → IsTrue (g.is_honest new) → g.moment new ≤ g.moment old + (20 + g.size_of old)
+  -- And otherwise so many, or those of an upgrade.
+  pub most : IsTrue (g.is_honest new) → (g.moment new ≤ g.moment old + (20 + g.size_of old)) ⊎ CallsForUpgrade g old new

@@ -1,5 +1,5 @@
 //! Bringing a store of format 1 to format 2.
-ghost use Rattle.std.specs.Prelude.{◌≡◌, ◌+◌, ◌*◌, ◌-◌, ◌<◌, ◌≤◌, List, ℕ, IsTrue, length, OnOk, IfOk, IfErr};
+ghost use Rattle.std.specs.Prelude.{◌≡◌, ◌+◌, ◌-◌, ◌<◌, ◌≤◌, List, ℕ, IsTrue, length, OnOk, IfOk, IfErr};
 ghost use Rattle.std.specs.Prelude.{IsErrOf, true};
 ghost use Rattle.oa_disk.specs.After.{AfterCalls};
 ghost use Rattle.oa_disk.specs.Disk.{LeavesStep, Only};
@@ -10,10 +10,10 @@ ghost use Rattle.oa_journal.specs.Reads.{WritesNothing};
 ghost use Rattle.oa_journal.specs.Shapes.{least_bank_bytes, most_bank_bytes};
 ghost use Rattle.oa_journal.specs.declared.shape.Shape.TheVariants.{One, Two};
 ghost use Rattle.oa_store.specs.declared.fault.UpgradeFault.{UpgradeFault};
-ghost use Rattle.oa_store.specs.Calls.{piece_bytes, checkpoint_calls};
+ghost use Rattle.oa_store.specs.Calls.{piece_bytes};
 ghost use Rattle.oa_store.specs.Changes.{IsUpgrade};
 ghost use Rattle.oa_store.specs.Faults.{CanBeBrought, IsBrought, IsCausedUpgrade, ReadingTells, UpgradeSays};
-ghost use Rattle.oa_store.specs.Making.{RefusesReading, RefusesSmall, RefusesUpgrade};
+ghost use Rattle.oa_store.specs.Making.{CallsForUpgrade, RefusesReading, RefusesSmall, RefusesUpgrade};
 ghost use Rattle.oa_store.specs.Stores.{IsStoreAt, IsStoreIn};
 
 use crate::UpgradeFault;
@@ -133,10 +133,7 @@ pub fn upgrade<D: Disk>(alloc: Global, disk: &mut D, size: u32) -> Result<(), Up
     ensures done { OnOk result (IsTrue (D.is_honest disk.new) → IsBrought size (D.contents disk.old) (D.image disk.new)) }
     ensures small { RefusesSmall D.Disk UpgradeFault.TooSmall size disk.old disk.new result }
     ensures refused { IfErr result (λ e. RefusesUpgrade D.Disk size disk.old disk.new e) }
-    // at most the calls of a reading, as `inspect` makes them, and those of a checkpoint
-    ensures calls { OnOk result (IsTrue (D.is_honest disk.new) → (library : List ℕ) × (table : TableValue) × (chosen : ℕ) × (gate : ℕ)
-        × IsStoreAt One chosen gate library table (D.contents disk.old)
-        × (D.moment disk.new + length library ≤ D.moment disk.old + (16 + gate) + 2 * checkpoint_calls library table)) }
+    ensures calls { OnOk result (IsTrue (D.is_honest disk.new) → CallsForUpgrade D.Disk disk.old disk.new) }
     ensures after { AfterCalls D.Disk disk.old disk.new result }
 {
     if disk.size() < Shape::Two(size).disk_bytes() {

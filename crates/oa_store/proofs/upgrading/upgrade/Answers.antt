@@ -1,9 +1,10 @@
-use Rattle.std.proofs.Common.{inl, ◌-◌, ◌∙◌, List, ℕ, sym, subst, rules}
+use Rattle.std.proofs.Common.{inl, inr, ◌-◌, ◌∙◌, List, ℕ, length, ap, arith, sym, subst, rules}
 use Rattle.std.proofs.lemmas.Result.{err_from_is_err_and}
 use Rattle.oa_disk.specs.Moments.{chained}
 use Rattle.oa_table.specs.Tables.{unlocked_table}
 use Rattle.oa_journal.specs.Banks.{first_gate}
 use Rattle.oa_store.specs.Changes.{IsMove, IsMoved, IsUpgrade}
+use Rattle.oa_store.proofs.Counted.{in_pieces}
 use Rattle.oa_store.proofs.Upgraded.{moved, arrived, upgrade_tells, was_done}
 use Rattle.oa_store.proofs.upgrading.upgrade.Goals as goal
 
@@ -94,6 +95,7 @@ returns-in_err-old-clause-refused g c =
       cause = refused.cause;
       tells = λ h. upgrade_tells c.args.size _ _ _ c.in_err-old.field-0.0 (refused.tells h);
       calls = λ is h. refused.calls h;
+      most = λ h. inl (refused.calls h);
     })
 
 pub returns-in_err-map_err-clause-refused : goal.returns-in_err-map_err-clause-refused
@@ -105,4 +107,12 @@ returns-in_err-map_err-clause-refused g c =
       cause = search rules;
       tells = search rules;
       calls = search rules;
+      most = λ h.
+          let library = c.in_ok-old.old.library.items in
+          let table = c.in_ok-old.old.table in
+          let h1 = sym c.switch_to.ensures.after.honest ∙ h in
+          let found = c.in_ok-old.ensures.found h1 in
+          let whole = ap length c.deref_mut.ensures.value ∙ c.in_ok-old.ensures.buffer in
+          let written = in_pieces 4 (g.D.Disk.moment c.find_fitting.new.disk) (g.D.Disk.moment c.switch_to.new.disk) _ _ library table c.deref.ensures.value whole (c.switch_to.ensures.after.calls h1) in
+          inr (library, table, c.in_ok-old.old.chosen, found.0, found.1, omega (arith, found.2, written));
     })

@@ -24,7 +24,7 @@ pub record Goes {D : Type 0} {g : Ghosts D} (old new : Store D g) : Type 0 where
   -- no failed call goes untold
   pub unfailed : new.stopped ≡ false → g.failures_of new.disk ≡ g.failures_of old.disk
 
--- The store goes on exactly where `Ok` is answered. One fault says that it had stopped before, and the others that a write has failed.
+-- The store goes on exactly where `Ok` is answered. One fault says that it had stopped before, the other that a write has failed.
 pub record StopsAtFault {D T : Type 0} {g : Ghosts D} (old new : Store D g) (result : Result T WriteFault) : Type 0 where
   pub goes_on : OnOk result (new.stopped ≡ false)
   pub stops : OnErr result (new.stopped ≡ true)

@@ -121,7 +121,7 @@ impl From<BankFault> for FindFault {
     }
 }
 
-/// Why a store was not brought to format 2.
+/// Why an upgrade did not end well.
 #[derive(Clone, Copy, Debug, PartialEq, Eq, Error)]
 pub enum UpgradeFault {
     /// It has fewer bytes than those of format 1 and two bodies of the size that is asked for.
@@ -136,7 +136,7 @@ pub enum UpgradeFault {
     /// The bytes at this place of the disk are not those of a head, a table or a group; or, at 0, its table or its library is too large.
     #[error("damaged at {0}")]
     Damaged(u64),
-    /// A call of the device failed.
+    /// A call of the device failed. Where it was a read nothing was written; else a store of format 1 is there still, or is in format 2.
     #[error("device: {0}")]
     Device(DeviceFault),
     /// There is no memory for what is read, or to write a bank's bytes from. Nothing was written.
@@ -169,13 +169,13 @@ impl From<BankFault> for UpgradeFault {
     }
 }
 
-/// Why an open store has written no group, or made no checkpoint.
+/// Why a commit or a checkpoint of an open store did not end well.
 #[derive(Clone, Copy, Debug, PartialEq, Eq, Error)]
 pub enum WriteFault {
-    /// The device has failed a call before.
+    /// The device has failed a call before. None was made.
     #[error("the store has stopped")]
     Stopped,
-    /// The device has failed a call.
+    /// The device has failed a call. The group is there whole or not at all; the selector names the bank of before or the other one.
     #[error("device: {0}")]
     Device(DeviceFault),
 }

@@ -203,14 +203,10 @@ pub record CanBeBrought (bank : ℕ) (contents : List ℕ) : Type 0 where
   pub short : length library ≤ max_library_bytes
   pub fits : FitsBank bank table
 
--- The contents were a store of format 1, and each image is one of format 2 with what it held, none of it too large for a server.
+-- The contents were such a store, and each image is one of format 2 with what it held.
 pub record IsBrought (bank : ℕ) (contents : List ℕ) (image : List ℕ → Type 0) : Type 0 where
-  pub library : List ℕ
-  pub table : TableValue
-  pub store : IsStoreIn One contents library table
-  pub each : (c : List ℕ) → image c → IsStoreIn (Two bank) c library table
-  pub short : length library ≤ max_library_bytes
-  pub fits : FitsBank bank table
+  pub was : CanBeBrought bank contents
+  pub each : (c : List ℕ) → image c → IsStoreIn (Two bank) c was.library was.table
 
 -- What a refusal of an upgrade to bodies of a size says of a disk of this size and these contents. Memory is asked for once a head of
 -- format 1 is found.

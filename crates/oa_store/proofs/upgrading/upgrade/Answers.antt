@@ -71,9 +71,7 @@ returns-clause-done g c h =
     let found = c.in_ok-old.ensures.found h1 in
     let done = was_done _ _ _ c.switch_to.result (sym c.in_ok-map_err.ensures.variant) c.switch_to.ensures.done h1 in
     record {
-      library = library;
-      table = table;
-      store = (chosen, found.0, found.1);
+      was = record { library = library; table = table; store = (chosen, found.0, found.1); short = search rules; fits = search rules };
       each = λ f now.
           let step = done f now in (
             1 - chosen,
@@ -81,8 +79,6 @@ returns-clause-done g c h =
             arrived size chosen found.0 (first_gate library table) library table first step.0 f found.1 (c.in_ok-old.ensures.synced h1 step.0 step.1)
                 (subst (λ (l : List ℕ). IsMoved chosen size (first_gate l table) l (unlocked_table table) step.0 f) c.deref.ensures.value step.2),
           );
-      short = search rules;
-      fits = search rules;
     }
 
 pub returns-in_err-old-clause-refused : goal.returns-in_err-old-clause-refused

@@ -54,10 +54,14 @@ pub record Finds {D : Type 0} (g : Ghosts D) (library : List ℕ) (old new : D) 
 
 -- What the refusal of a disk says, whose library has to be the one that is wanted.
 pub record Refuses {D : Type 0} (g : Ghosts D) (wanted : Option (List ℕ)) (old new : D) (fault : OpenFault) : Type 0 where
+  -- It is true of the contents at the start.
   pub says : IsTrue (g.is_honest new) → RefusalSays wanted (g.size_of old) (g.contents old) fault
+  -- A disk that is too small or not formatted is found to be that before memory is taken.
   pub early : IsTrue (g.is_honest new) → IsForeign (g.size_of old) (g.contents old) → ComesOfForeign fault
   pub cause : IsCaused (g.failures_of old) (g.failures_of new) fault
+  -- Read is told once all that was written is on the device, and Write where the sync at the start failed.
   pub tells : IsTrue (g.is_honest new) → DeviceTells (g.contents old) (g.image old) (g.image new) fault
+  -- at most twelve calls, and one for two bytes of the disk; three where it is no store, four for its format, six for its library
   pub calls : IsTrue (g.is_honest new) → g.moment new ≤ g.moment old + moments_until (24 + g.size_of old) fault
 
 -- A store of this library was opened on the disk, with its table.
@@ -80,16 +84,9 @@ pub record Starts {D : Type 0} {g : Ghosts D} (library : List ℕ) (store : Stor
 
 -- The disk is no store of this library that can be opened.
 pub record RefusesDisk {D : Type 0} (g : Ghosts D) (library : List ℕ) (disk back : D) (fault : OpenFault) : Type 0 where
-  -- A refusal is true of the contents at the start, and they are no store of this library.
-  pub says : IsTrue (g.is_honest back) → RefusalSays (Some library) (g.size_of disk) (g.contents disk) fault
+  pub refusal : Refuses g (Some library) disk back fault
+  -- So the contents are no store of this library where it speaks of them.
   pub refused : SpeaksOfContents fault → IsTrue (g.is_honest back) → (table : TableValue) → IsNewStore (g.contents disk) library table → ⊥
-  -- A disk that is too small or not formatted is found to be that before memory is taken.
-  pub early : IsTrue (g.is_honest back) → IsForeign (g.size_of disk) (g.contents disk) → ComesOfForeign fault
-  pub cause : IsCaused (g.failures_of disk) (g.failures_of back) fault
-  -- Read is told once all that was written is on the device, and Write where the sync at the start failed.
-  pub tells : IsTrue (g.is_honest back) → DeviceTells (g.contents disk) (g.image disk) (g.image back) fault
-  -- at most twelve calls, and one for two bytes of the disk; three where it is no store, four for its format, six for its library
-  pub calls : IsTrue (g.is_honest back) → g.moment back ≤ g.moment disk + moments_until (24 + g.size_of disk) fault
 
 -- A store of some library was found in some format, with its table.
 pub record FindsAny {D : Type 0} (g : Ghosts D) (disk new : D) (library : List ℕ) (table : TableValue) : Type 0 where

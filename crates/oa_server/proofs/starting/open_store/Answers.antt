@@ -87,21 +87,21 @@ returns-in_err-store-clause-refused g c =
     let refused = c.in_err-store.ensures.refused in
     rw (p.1, p.2) (record {
       size = c.in_err-store.ensures.after_err.size;
-      cause = refused.cause;
-      calls = refused.calls;
+      cause = refused.refusal.cause;
+      calls = refused.refusal.calls;
       told = λ h.
           let honest = c.in_err-store.ensures.after_err.honest h in
           let is = g.met.D.Disk.contents_is_image disk honest in
           let long = g.met.D.Disk.images_have_size disk contents honest is in
-          let says = says_library library text contents c.text_of.ensures.text (g.D.Disk.size_of disk) _ (refused.says h) in
+          let says = says_library library text contents c.text_of.ensures.text (g.D.Disk.size_of disk) _ (refused.refusal.says h) in
           record {
             honest = honest;
             reads = c.in_err-store.ensures.reads_err h;
             says = inl says;
-            early = refused.early h;
+            early = refused.refusal.early h;
             differs = λ state other r. differs_told contents (g.D.Disk.size_of disk) long library _ says state other r;
             late = λ r. refuses_one (same_library c.one_tree.ensures (is_read c.marked_is_read.ensures)) library c.is_checked.ensures contents (g.D.Disk.size_of disk) long _ r says
                 (λ table store. refused.refused r h table (of_library library text contents c.text_of.ensures.text table store)) (g.D.Disk.image disk) is;
-            tells = refused.tells h;
+            tells = refused.refusal.tells h;
           };
     })

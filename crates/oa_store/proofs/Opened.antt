@@ -14,7 +14,7 @@ use Rattle.oa_journal.specs.declared.bank.Bank.{Bank}
 use Rattle.oa_journal.specs.declared.bank.BankFault.{BankFault}
 use Rattle.oa_journal.specs.declared.bank.BankFault.TheVariants as banks
 use Rattle.oa_journal.specs.Append.{IsAt}
-use Rattle.oa_journal.specs.Damages.{IsDamagedBank}
+use Rattle.oa_journal.specs.Damages.{IsDamagedBank, IsDamagedHead}
 use Rattle.oa_journal.proofs.Damages.{bank_library, not_damaged, one_library}
 use Rattle.oa_journal.specs.Replies.{IsCaused as IsBankCaused}
 use Rattle.oa_store.specs.declared.fault.FindFault.{FindFault}
@@ -63,6 +63,16 @@ pub bank_says : (size : ℕ) (contents : List ℕ) (e : BankFault) → ((at : �
 bank_says size contents (banks.Damaged place) f = f place refl
 bank_says size contents (banks.Device fault) f = tt
 bank_says size contents banks.Memory f = tt
+
+-- where the head was looked for stands none, so the bank that was chosen has none
+pub beheaded : (contents mid : List ℕ) (chosen place at : ℕ) → IsFormatted chosen contents → mid ≡ contents → place ≡ head_place chosen
+    → at ≡ place → IsDamagedHead place mid → IsBeheaded contents at
+beheaded contents mid chosen place at head stay there is none = record {
+  chosen = chosen;
+  head = head;
+  there = is ∙ there;
+  none = subst (λ (d : List ℕ). IsDamagedHead (head_place chosen) d) stay (subst (λ (k : ℕ). IsDamagedHead k mid) there none);
+}
 
 -- its cause, as that of a fault of an opening
 pub bank_caused : (before now : ℕ) (e : BankFault) → IsBankCaused before now e → IsCaused before now (of_bank e)

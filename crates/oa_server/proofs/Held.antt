@@ -34,7 +34,7 @@ use Rattle.oa_record.specs.Replacement.{is_replacement}
 use Rattle.oa_turn.specs.Turns.{Ordinary}
 use Rattle.oa_turn.proofs.Allowed.{is_allowed}
 use Rattle.oa_turn.proofs.Eventless.{has_event, undone}
-use Rattle.oa_turn.proofs.Changing.{done, drafted, refused}
+use Rattle.oa_turn.proofs.Changing.{done, refused}
 
 -- what was committed stands, however what is held is named
 pub carried : {D : Type 0} {g : Ghosts D} {held also : TableValue} (batch : List ℕ) (old new : Store D g) → held ≡ also
@@ -68,8 +68,8 @@ module _ (one_request : (body : List ℕ) (p q : Request) → Asks body p → As
       record {
         event = event_image planned.event;
         asked = record {
-          turn = inl (record { kind = plain; turn = done old body planned (drafted old body planned is) new reply (is_allowed old.bank planned.event old.table new.table is.allows at).is leaves told });
-          made = has_event old body one_request is.request is.asked planned new.table reply is.decided_is (is_allowed old.bank planned.event old.table new.table is.allows at).is (rw told refl);
+          turn = inl (record { kind = plain; turn = done old body planned is.drafted new reply (is_allowed old.bank planned.event old.table new.table is.allows at).is leaves told });
+          made = has_event old body one_request is.drafted.request is.drafted.asked planned new.table reply is.drafted.decided_is (is_allowed old.bank planned.event old.table new.table is.allows at).is (rw told refl);
           replays = replays;
         };
         added = added;
@@ -80,7 +80,7 @@ module _ (one_request : (body : List ℕ) (p q : Request) → Asks body p → As
   pub starved : (new : State) (reply : ReplyValue) (events events' : List ℕ) → new ≡ old → events' ≡ events → reply ≡ refusal planned.tag e_outofmemory None → IsHeldBack body reply events events' old new
   starved new reply events events' same none told = record {
     event = [];
-    asked = record { turn = inl (record { kind = plain; turn = refused old body planned (drafted old body planned is) new reply e_outofmemory (inr (refl, is.allows)) told same }); made = undone old body reply (rw told refl); replays = no_events (held_of old) (held_of new) (ap held_of same) };
+    asked = record { turn = inl (record { kind = plain; turn = refused old body planned is.drafted new reply e_outofmemory (inr (refl, is.allows)) told same }); made = undone old body reply (rw told refl); replays = no_events (held_of old) (held_of new) (ap held_of same) };
     added = none ∙ sym (append-nil events);
     small = omega arith;
   }
@@ -89,7 +89,7 @@ module _ (one_request : (body : List ℕ) (p q : Request) → Asks body p → As
   pub has_turn : (new : State) → new ≡ old → HasTurn body old new
   has_turn new same = record {
     reply = refusal planned.tag e_outofmemory None;
-    asked = record { turn = inl (record { kind = plain; turn = refused old body planned (drafted old body planned is) new (refusal planned.tag e_outofmemory None) e_outofmemory (inr (refl, is.allows)) refl same }); made = undone old body (refusal planned.tag e_outofmemory None) refl; replays = no_events (held_of old) (held_of new) (ap held_of same) };
+    asked = record { turn = inl (record { kind = plain; turn = refused old body planned is.drafted new (refusal planned.tag e_outofmemory None) e_outofmemory (inr (refl, is.allows)) refl same }); made = undone old body (refusal planned.tag e_outofmemory None) refl; replays = no_events (held_of old) (held_of new) (ap held_of same) };
     same = ap held_of same;
   }
 
@@ -107,8 +107,8 @@ module _ (one_request : (body : List ℕ) (p q : Request) → Asks body p → As
             event = event_image planned.event;
             after = new;
             turn = record {
-              turn = inl (record { kind = plain; turn = done old body planned (drafted old body planned is) new reply made refl refl });
-              made = has_event old body one_request is.request is.asked planned table reply is.decided_is made refl;
+              turn = inl (record { kind = plain; turn = done old body planned is.drafted new reply made refl refl });
+              made = has_event old body one_request is.drafted.request is.drafted.asked planned table reply is.drafted.decided_is made refl;
               replays = one_event planned.event old.table table is_event at;
             };
             some = event_bytes planned.event is_event;

@@ -8,15 +8,12 @@ use Rattle.oa_model.specs.Codes.{e_outofmemory, s_ok}
 use Rattle.oa_record.specs.Replies.{ReplyValue}
 use Rattle.oa_decision.specs.declared.plan.Planned.{Planned}
 use Rattle.oa_decision.specs.Limits.{allowed}
-use Rattle.oa_turn.specs.Plans.{IsDrafted, IsPlanned}
+use Rattle.oa_turn.specs.Plans.{IsDrafted}
 use Rattle.oa_decision.specs.States.{State, state_of}
 use Rattle.oa_decision.specs.Decided.{refusal}
 use Rattle.oa_turn.specs.Turns.{Ordinary}
 use Rattle.oa_turn.proofs.Allowed.{is_made}
 use Rattle.oa_turn.proofs.Wants.{wants}
-
-pub drafted : (old : State) (body : List ℕ) (planned : Planned) → IsPlanned old body planned → IsDrafted old body planned
-drafted old body planned is = record { request = is.request; asked = is.asked; tag = is.tag; decided_is = is.decided_is }
 
 module _ (old : State) (body : List ℕ) (planned : Planned) (is : IsDrafted old body planned) where
   pub done : (new : State) (reply : ReplyValue) → allowed old.bank planned.event old.table ≡ Ok new.table → new ≡ record old { table = new.table }

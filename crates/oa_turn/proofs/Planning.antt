@@ -36,7 +36,7 @@ change_planned old body request event fields (Answered reply) asked is none told
   record { table = refl; library = refl },
 )
 change_planned old body request event fields (AChange planned) asked is none told = (
-  rw told.0 (record { request = request; asked = asked; tag = refl; decided_is = is; allows = told.1 }),
+  rw told.0 (record { drafted = record { request = request; asked = asked; tag = refl; decided_is = is }; allows = told.1 }),
   rw told.0 none,
   refl,
 )

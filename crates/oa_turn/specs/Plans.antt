@@ -28,10 +28,7 @@ pub record IsDrafted (state : State) (body : List ℕ) (planned : Planned) : Typ
 
 -- the same, and the change is allowed
 pub record IsPlanned (state : State) (body : List ℕ) (planned : Planned) : Type 0 where
-  pub request : Request
-  pub asked : Asks body request
-  pub tag : planned.tag ≡ tag_at body
-  pub decided_is : decided state request ≡ Ok (decisions.Change planned.event planned.fields)
+  pub drafted : IsDrafted state body planned
   pub allows : IsOk (allowed state.bank planned.event state.table)
 
 -- what images hold of a state, and its library, are the same

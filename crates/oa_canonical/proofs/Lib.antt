@@ -1,3 +1,4 @@
+mod Ascii
 mod FirstDefault
 mod MarkedTrees
 mod PrintedMembers

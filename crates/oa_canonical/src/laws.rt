@@ -1,5 +1,6 @@
 //! Laws over the definitions alone.
 ghost use Rattle.std.specs.Prelude.{ℕ, List};
+ghost use Rattle.std.specs.Str.{IsUtf8};
 ghost use Rattle.oa_idl.specs.Trees.{TreeValue};
 ghost use Rattle.oa_idl.specs.IsTree.{MayBeText, IsTree};
 ghost use Rattle.oa_canonical.specs.Canonical.{canonical};
@@ -25,4 +26,9 @@ pub fn marked_is_printable()
 pub fn marked_is_read()
     ensures { (text : List ℕ) (t : TreeValue) → IsTree text t → MayBeText (canonical (marked t))
         → IsTree (canonical (marked t)) (marked t) }
+{}
+
+/// The canonical text of such a tree is UTF-8, and no more than ASCII.
+pub fn canonical_is_utf8()
+    ensures { (t : TreeValue) → IsPrintable t → IsUtf8 (canonical t) }
 {}

@@ -1,5 +1,6 @@
 mod Calls
 mod Entered
+mod Folders
 mod Laid
 mod Noted
 pub mod Ranges

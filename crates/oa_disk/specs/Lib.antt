@@ -2,6 +2,7 @@ pub mod After
 pub mod Counting
 pub mod Disk
 pub mod File
+pub mod Folders
 pub mod Fuse
 pub mod History
 pub mod Layered

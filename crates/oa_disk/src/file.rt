@@ -1,6 +1,7 @@
 //! A file of the operating system as a disk.
 ghost use Rattle.std.specs.Prelude.{◌≡◌, ◌+◌, ◌-◌, ◌^◌, ◌<◌, ◌≤◌, [], ℕ, length, IfOk, IfErr};
 ghost use Rattle.oa_disk.specs.Disk.{CountsFailures};
+ghost use Rattle.oa_disk.specs.Folders.{IsFolderOf};
 ghost use Rattle.oa_disk.specs.History.{IsHistory};
 ghost use Rattle.oa_disk.specs.Record.{history_of};
 
@@ -224,10 +225,12 @@ fn lay_down<R: Files<File = File>>(rt: &R, file: &File, path: &str, size: u64) -
 }
 
 /// The folder of a path.
-fn folder_of(path: &str) -> &str {
+fn folder_of(path: &str) -> &str
+    ensures { IsFolderOf path.now result.now }
+{
     match path.rsplit_once('/') {
         None => ".",
-        Some(("", _)) => "/",
-        Some((folder, _)) => folder,
+        Some((folder, _)) if !folder.is_empty() => folder,
+        Some(_) => "/",
     }
 }

@@ -4,3 +4,4 @@ mod LaidDown
 pub mod OneStore
 pub mod Opened
 mod Upgraded
+pub mod Whole

@@ -81,7 +81,8 @@ bank_caused before now (banks.Device fault) is = is
 bank_caused before now banks.Memory is = is
 
 -- how far the clock rises until a refusal: of a search for a bank, of one for its head, and once the bank is looked at
-pub until_bank : (before now : ℕ) (e : FindFault) → now ≤ before + 6 → now ≤ before + moments_until 8 (of_finding e)
+pub until_bank : (before now : ℕ) (e : FindFault) → now ≤ before + moments_until 6 (of_finding e)
+    → now ≤ before + moments_until 8 (of_finding e)
 until_bank before now finds.NotAStore is = is
 until_bank before now (finds.Damaged place) is = omega (arith, is)
 until_bank before now (finds.Device fault) is = omega (arith, is)
@@ -179,14 +180,14 @@ other_long contents library chosen l s size two head has differs =
     }
 
 -- a store's bank is the one that the selector names
-its_bank : (shape : Shape) (contents : List ℕ) (chosen number gate : ℕ) (library : List ℕ) (table : TableValue)
+pub its_bank : (shape : Shape) (contents : List ℕ) (chosen number gate : ℕ) (library : List ℕ) (table : TableValue)
     → IsFormatted chosen contents → IsStoreAt shape number gate library table contents
     → IsStoreAt shape chosen gate library table contents
 its_bank shape contents chosen number gate library table head is =
     subst (λ (k : ℕ). IsStoreAt shape k gate library table contents) (sym is.head.selected ∙ head.selected) is
 
 -- a head that a store's bank has, in whichever format, is that of the store
-its_shape : (shape other : Shape) (contents : List ℕ) (chosen gate l s : ℕ) (library : List ℕ) (table : TableValue)
+pub its_shape : (shape other : Shape) (contents : List ℕ) (chosen gate l s : ℕ) (library : List ℕ) (table : TableValue)
     → HasHeader other (from_place (head_place chosen) contents) l s
     → IsStoreAt shape chosen gate library table contents → shape ≡ other
 its_shape shape other contents chosen gate l s library table has is =

@@ -73,7 +73,7 @@ ComesOfForeign Memory = ⊥
 
 -- How far the clock rises at most until a refusal, two moments a call: one that comes before a body is looked at comes after few calls.
 abbrev pub moments_until : ℕ → OpenFault → ℕ
-moments_until most NotAStore = 6
+moments_until most NotAStore = 4
 moments_until most OldFormat = 8
 moments_until most LibraryDiffers = 12
 moments_until most (Damaged place) = most

@@ -61,7 +61,7 @@ pub record Refuses {D : Type 0} (g : Ghosts D) (wanted : Option (List ℕ)) (old
   pub cause : IsCaused (g.failures_of old) (g.failures_of new) fault
   -- Read is told once all that was written is on the device, and Write where the sync at the start failed.
   pub tells : IsTrue (g.is_honest new) → DeviceTells (g.contents old) (g.image old) (g.image new) fault
-  -- at most twelve calls, and one for two bytes of the disk; three where it is no store, four for its format, six for its library
+  -- at most twelve calls, and one for two bytes of the disk; two where it is no store, four for its format, six for its library
   pub calls : IsTrue (g.is_honest new) → g.moment new ≤ g.moment old + moments_until (24 + g.size_of old) fault
 
 -- A store of this library was opened on the disk, with its table.
@@ -106,5 +106,5 @@ pub record RefusesAny {D : Type 0} (g : Ghosts D) (disk new : D) (fault : OpenFa
   pub any_format : fault ≡ OldFormat → ⊥
   pub cause : IsCaused (g.failures_of disk) (g.failures_of new) fault
   pub tells : IsTrue (g.is_honest new) → DeviceTells (g.contents disk) (g.image disk) (g.image new) fault
-  -- at most ten calls, and one for two bytes of the disk; three where it is no store
+  -- at most ten calls, and one for two bytes of the disk; two where it is no store
   pub calls : IsTrue (g.is_honest new) → g.moment new ≤ g.moment disk + moments_until (20 + g.size_of disk) fault

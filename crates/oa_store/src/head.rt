@@ -102,8 +102,9 @@ pub(crate) fn find_bank<D: Disk>(disk: &mut D) -> Result<u8, FindFault>
     ensures cause { IfErr result (λ e. IsCaused (D.failures_of disk.old) (D.failures_of disk.new) (of_finding e)) }
     ensures tells { IfErr result (λ e. IsTrue (D.is_honest disk.new)
         → DeviceTells (D.contents disk.old) (D.image disk.old) (D.image disk.new) (of_finding e)) }
-    // at most three calls
+    // at most three calls, and two of what is not formatted: the selector of such a disk is not read
     ensures calls { IsTrue (D.is_honest disk.new) → D.moment disk.new ≤ D.moment disk.old + 6 }
+    ensures until { IfErr result (λ e. IsTrue (D.is_honest disk.new) → D.moment disk.new ≤ D.moment disk.old + moments_until 6 (of_finding e)) }
 {
     if disk.size() < STORE_BYTES {
         return Err(FindFault::NotAStore);

@@ -27,8 +27,8 @@ tree_fails checking.Memory = omega arith
 pub fails : (fault : Fault) → 1 ≤ status_of fault
 fails faults.Words = omega arith
 fails faults.TwoInputs = omega arith
-fails (faults.CannotRead name) = omega arith
-fails (faults.CannotWrite name) = omega arith
+fails (faults.CannotRead name reason) = omega arith
+fails (faults.CannotWrite name reason) = omega arith
 fails (faults.InUse name) = omega arith
 fails faults.NotUtf8 = omega arith
 fails (faults.Parse error) = text_fails error

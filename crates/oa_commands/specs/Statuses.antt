@@ -28,8 +28,8 @@ status_of_tree error = 2
 abbrev pub status_of : Fault → ℕ
 status_of faults.Words = 2
 status_of faults.TwoInputs = 2
-status_of (faults.CannotRead name) = 1
-status_of (faults.CannotWrite name) = 1
+status_of (faults.CannotRead name reason) = 1
+status_of (faults.CannotWrite name reason) = 1
 status_of (faults.InUse name) = 1
 status_of faults.NotUtf8 = 2
 status_of (faults.Parse error) = status_of_text error
@@ -80,7 +80,7 @@ of_upgrade upgrades.Memory = faults.Memory
 
 -- of a file that is read: it cannot be
 abbrev pub IsOfReading : Fault → Type 0
-IsOfReading (faults.CannotRead name) = ⊤
+IsOfReading (faults.CannotRead name reason) = ⊤
 IsOfReading faults.Memory = ⊤
 IsOfReading other = ⊥
 
@@ -90,15 +90,19 @@ IsOfUse (faults.InUse name) = ⊤
 IsOfUse faults.Memory = ⊤
 IsOfUse other = ⊥
 
--- of a file that is opened as a store's
+-- of a file that is opened as a store's, to be read
 abbrev pub IsOfOpening : Fault → Type 0
 IsOfOpening fault = IsOfReading fault ⊎ IsOfUse fault
 
--- of a file that is made or lengthened: it cannot be
+-- of a file that is made, lengthened, or written as far as is needed: it cannot be
 abbrev pub IsOfMaking : Fault → Type 0
-IsOfMaking (faults.CannotWrite name) = ⊤
+IsOfMaking (faults.CannotWrite name reason) = ⊤
 IsOfMaking faults.Memory = ⊤
 IsOfMaking other = ⊥
+
+-- of a file that is opened as a store's, to be read and written
+abbrev pub IsOfTaking : Fault → Type 0
+IsOfTaking fault = IsOfOpening fault ⊎ IsOfMaking fault
 
 -- ---- of a library
 
@@ -147,7 +151,7 @@ IsOfFormatting other = ⊥
 
 -- all that `format` tells
 abbrev pub IsOfFormat : Fault → Type 0
-IsOfFormat fault = IsOfLibrary fault ⊎ (IsOfOpening fault ⊎ (IsOfMaking fault ⊎ IsOfFormatting fault))
+IsOfFormat fault = IsOfLibrary fault ⊎ (IsOfTaking fault ⊎ IsOfFormatting fault)
 
 -- of a disk whose store is read, whichever its library and its format are
 abbrev pub IsOfInspection : Fault → Type 0
@@ -175,4 +179,4 @@ IsOfUpgrading other = ⊥
 
 -- all that `upgrade` tells
 abbrev pub IsOfUpgrade : Fault → Type 0
-IsOfUpgrade fault = IsOfOpening fault ⊎ (IsOfMaking fault ⊎ IsOfUpgrading fault)
+IsOfUpgrade fault = IsOfTaking fault ⊎ IsOfUpgrading fault

@@ -10,7 +10,7 @@ ghost use Rattle.oa_stream.specs.Sink.{IsHandedOn, Writes};
 ghost use Rattle.oa_table.specs.Tables.{TableValue};
 
 use crate::fault::Fault;
-use crate::store::open_store_file;
+use crate::store::open_to_read;
 use crate::streams::StandardStreams;
 use oa_disk::{Disk, FileDisk};
 use oa_frame::put_hex;
@@ -25,8 +25,9 @@ use uuid::Uuid;
 /// Writes the objects of the store in the file `path` and their cells, a line each, or the bytes of its library in their place, and hands
 /// them on. The file is let go before the first line, and of one that is not opened or holds no whole store nothing is written.
 ///
-/// `CannotRead` and `InUse` as `open_store_file` tells them; `NotAStore`; `Damaged` with the place in bytes; `DeviceRead` and `DeviceWrite`
-/// where a read or the sync before them failed; `Write` where the writer fails. `Memory` may come at each.
+/// The file is opened to be read alone. `CannotRead` where it cannot be, or is no regular file; `InUse` where another process has it locked;
+/// `NotAStore`; `Damaged` with the place in bytes; `DeviceRead` and `DeviceWrite` where a read or the sync before them failed; `Write` where
+/// the writer fails. `Memory` may come at each.
 pub fn write_dump<W: Sink>(
     rt: &HostRuntime,
     streams: &StandardStreams,
@@ -59,7 +60,7 @@ fn kept(
     ensures read { IfOk result (λ r. WasRead ⟦<FileDisk as Disk>⟧ r.0.items r.1) }
     ensures refused { IfErr result IsOfDump }
 {
-    let mut disk = open_store_file(rt, streams, alloc, path)?;
+    let mut disk = open_to_read(rt, streams, alloc, path)?;
     Ok(inspect(alloc, &mut disk)?)
 }
 

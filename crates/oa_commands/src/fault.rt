@@ -1,4 +1,4 @@
-//! What ends the program early: one line on standard error, and a status.
+//! What ends the program early: one line on standard error, behind some a second one with the cause, and a status.
 ghost use Rattle.std.specs.Prelude.{◌≡◌, ◌≤◌};
 ghost use Rattle.oa_commands.specs.Statuses.{of_device, of_format, of_open, of_upgrade, status_of};
 ghost use Rattle.oa_commands.specs.declared.fault.Fault.TheVariants as faults;
@@ -21,12 +21,12 @@ pub enum Fault {
     /// The library is to be read from standard input, as the requests are.
     #[error("standard input holds the requests, so LIB cannot be -")]
     TwoInputs,
-    /// The file of this name is not there, or cannot be opened or read.
-    #[error("cannot read {0}")]
-    CannotRead(String),
-    /// The file of this name cannot be made or lengthened.
-    #[error("cannot write {0}")]
-    CannotWrite(String),
+    /// The file of this name is not there, or cannot be opened or read, for this reason.
+    #[error("cannot read {0}\n{0}: {1}")]
+    CannotRead(String, String),
+    /// The file of this name cannot be made, lengthened or written as far as is needed, for this reason.
+    #[error("cannot write {0}\n{0}: {1}")]
+    CannotWrite(String, String),
     /// Another process has the file of this name.
     #[error("cannot read {0}\n{0}: in use by another process")]
     InUse(String),
@@ -95,8 +95,8 @@ impl Fault {
         ensures fails { 1 ≤ result }
     {
         match self {
-            Fault::CannotRead(_)
-            | Fault::CannotWrite(_)
+            Fault::CannotRead(..)
+            | Fault::CannotWrite(..)
             | Fault::InUse(_)
             | Fault::DeviceWrite
             | Fault::DeviceRead

@@ -10,8 +10,11 @@
 
 mod dump;
 mod fault;
+mod hint;
 mod library;
+mod limit;
 mod place;
+mod reason;
 mod shown;
 mod store;
 mod streams;

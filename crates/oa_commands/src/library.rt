@@ -5,6 +5,7 @@ ghost use Rattle.oa_checks.specs.IsLibrary.{IsLibrary};
 ghost use Rattle.oa_commands.specs.Statuses.{IsOfLibrary, IsOfReading, IsOfLibraryText, IsOfTree};
 
 use crate::fault::Fault;
+use crate::reason::reason;
 use crate::shown::shown_name;
 use oa_idl::{Limit, ParseError, parse};
 use oa_model::MAX_LIBRARY_BYTES;
@@ -61,9 +62,9 @@ pub(crate) fn unread(alloc: Global, error: &io::Error, path: &str) -> Fault
     if error.kind() == ErrorKind::OutOfMemory {
         return Fault::Memory;
     }
-    match shown_name(alloc, path) {
-        Ok(path) => Fault::CannotRead(path),
-        Err(_) => Fault::Memory,
+    match (shown_name(alloc, path), reason(alloc, error)) {
+        (Ok(path), Ok(reason)) => Fault::CannotRead(path, reason),
+        _ => Fault::Memory,
     }
 }
 

@@ -1,4 +1,5 @@
 //! Where in a text a fault stands, for a person to read.
+use crate::hint::word_left_out;
 use crate::shown::shown_name;
 use std::alloc::{AllocError, Global};
 use std::fmt;
@@ -12,6 +13,8 @@ pub struct Place {
     line: String,
     /// What stands before the place in both, as blanks.
     blank: String,
+    /// The word at the place, where it is one of automation IDL that the grammar leaves out.
+    left_out: Option<&'static str>,
 }
 
 impl Place {
@@ -29,7 +32,7 @@ impl Place {
             }
             line.take(c, index < at)?;
         }
-        line.placed(alloc, file)
+        line.placed(alloc, file, word_left_out(text, at))
     }
 }
 
@@ -85,7 +88,12 @@ impl Line {
     }
 
     /// The place that was reached, in a file.
-    fn placed(self, alloc: Global, file: &str) -> Result<Place, AllocError> {
+    fn placed(
+        self,
+        alloc: Global,
+        file: &str,
+        left_out: Option<&'static str>,
+    ) -> Result<Place, AllocError> {
         let file = shown_name(alloc, file)?;
         let head = format!(in alloc; "{file}:{}:{}: ", self.number, self.column)?;
         let blank = blanks(alloc, &head, &self.blank)?;
@@ -93,6 +101,7 @@ impl Line {
             head,
             line: self.shown,
             blank,
+            left_out,
         })
     }
 }
@@ -119,6 +128,13 @@ fn shown(c: char) -> char {
 
 impl fmt::Display for Place {
     fn fmt<W: fmt::Write>(&self, f: &mut fmt::Formatter<W>) -> fmt::Result {
-        write!(f, "{}{}\n{}^", self.head, self.line, self.blank)
+        write!(f, "{}{}\n{}^", self.head, self.line, self.blank)?;
+        match self.left_out {
+            Some(word) => write!(
+                f,
+                "\nnote: automation IDL has {word}, which is left out here: docs/idl.md, \"Words that are left out\""
+            ),
+            None => Ok(()),
+        }
     }
 }

@@ -1,11 +1,11 @@
 //! Bringing the file of a store to format 2.
-ghost use Rattle.std.specs.Prelude.{◌⊎◌, ◌≤◌, IfErr, IfOk};
-ghost use Rattle.oa_commands.specs.Statuses.{IsOfMaking, IsOfOpening, IsOfUpgrade};
+ghost use Rattle.std.specs.Prelude.{◌≤◌, IfErr, IfOk};
+ghost use Rattle.oa_commands.specs.Statuses.{IsOfTaking, IsOfUpgrade};
 ghost use Rattle.oa_commands.specs.Stores.{IsUpgraded, bank_near};
 ghost use Rattle.oa_journal.specs.Shapes.{least_bank_bytes, most_bank_bytes};
 
 use crate::fault::Fault;
-use crate::store::{open_store_file, unopened, unwritten};
+use crate::store::{allow_writes, open_store_file, unopened, unwritten};
 use crate::streams::StandardStreams;
 use oa_disk::{Disk, FileDisk};
 use oa_journal::{LEAST_BANK_BYTES, MOST_BANK_BYTES, Shape};
@@ -23,8 +23,9 @@ const PIECE: usize = 65_536;
 ///
 /// `CannotRead` and `InUse` as `open_store_file` tells them; `NotAStore`; `AlreadyNew` of one of format 2; `Damaged` with the place in
 /// bytes, 0 where a bank of that size has no room for what the store holds: these are looked for before anything is written, and once more
-/// where another process may have had the file since. `CannotWrite` where it cannot be lengthened, `TooSmall` where it became shorter
-/// since, `DeviceRead` and `DeviceWrite` where a call of the device failed. `Memory` may come at each.
+/// where another process may have had the file since. `CannotWrite` where it cannot be lengthened, or this process may not write files that
+/// long, `TooSmall` where it became shorter since, `DeviceRead` and `DeviceWrite` where a call of the device failed. `Memory` may come at
+/// each.
 pub fn upgrade_store(
     rt: &HostRuntime,
     streams: &StandardStreams,
@@ -71,7 +72,7 @@ fn lengthen(
     path: &str,
     size: u64,
 ) -> Result<(), Fault>
-    ensures { IfErr result (λ fault. IsOfOpening fault ⊎ IsOfMaking fault) }
+    ensures { IfErr result IsOfTaking }
 {
     let file = OpenOptions::new()
         .read(true)
@@ -81,6 +82,7 @@ fn lengthen(
     if let Err(error) = file.try_lock() {
         return Err(unopened(alloc, &io::Error::from(error), path));
     }
+    allow_writes(rt, alloc, path, size)?;
     fill_up(&file, size).map_err(|error| unwritten(alloc, &error, path))
 }
 

@@ -1,5 +1,6 @@
 //! What the command line may be: the commands with their words, options and help.
-use clap::{Arg, ArgAction, Command, value_parser};
+use clap::error::ErrorKind;
+use clap::{Arg, ArgAction, ArgMatches, Command, Error, value_parser};
 use oa_journal::{LEAST_BANK_BYTES, MOST_BANK_BYTES};
 use oa_model::MAX_GROUP;
 use std::alloc::{AllocError, Global};
@@ -191,4 +192,25 @@ pub(crate) fn command<'a>(alloc: Global) -> Result<Command<'a>, AllocError> {
     let command = with(command, upgrade(alloc))?;
     let command = with(command, dump(alloc))?;
     with(command, check(alloc))
+}
+
+/// The refusal of a command line whose number of bytes or requests has a sign, which std's reading of numbers takes.
+pub(crate) fn signed_number(
+    alloc: Global,
+    matches: &ArgMatches,
+) -> Result<Option<Error>, AllocError> {
+    let Some((_, arguments)) = matches.subcommand() else {
+        return Ok(None);
+    };
+    for (name, value) in [("bank", "B"), ("group", "N")] {
+        let text = arguments.get_str(name).unwrap_or("");
+        if text.starts_with('+') {
+            let told = format!(in alloc;
+                "invalid value '{text}' for '--{name} <{value}>': a number has no sign"
+            )?;
+            let error = command(alloc)?.error(ErrorKind::ValueValidation, told.as_str())?;
+            return Ok(Some(error));
+        }
+    }
+    Ok(None)
 }

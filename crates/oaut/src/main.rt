@@ -38,16 +38,24 @@ fn run(rt: &HostRuntime) -> Result<ExitCode, Fault> {
     let words = words(rt, alloc)?;
     let matches = match command::command(alloc)?.try_get_matches_from(words.as_slice()) {
         Ok(matches) => matches,
-        Err(error) if error.kind() == ErrorKind::OutOfMemory => return Err(Fault::Memory),
-        Err(error) => {
-            // Help and the version are what was asked for: that they could not be written is a fault.
-            if error.print(rt).is_err() && error.exit_code() == 0 {
-                return Err(Fault::Write);
-            }
-            return Ok(ExitCode::from(error.exit_code() as u8));
-        }
+        Err(error) => return refuse(rt, &error),
     };
-    perform(rt, &matches)
+    match command::signed_number(alloc, &matches)? {
+        Some(error) => refuse(rt, &error),
+        None => perform(rt, &matches),
+    }
+}
+
+/// Says why a command line is refused, or what was asked for by `--help` and `--version`.
+fn refuse(rt: &HostRuntime, error: &clap::Error) -> Result<ExitCode, Fault> {
+    if error.kind() == ErrorKind::OutOfMemory {
+        return Err(Fault::Memory);
+    }
+    // Help and the version are what was asked for: that they could not be written is a fault.
+    if error.print(rt).is_err() && error.exit_code() == 0 {
+        return Err(Fault::Write);
+    }
+    Ok(ExitCode::from(error.exit_code() as u8))
 }
 
 /// The words of the command line, with the program's name.

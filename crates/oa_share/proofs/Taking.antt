@@ -1,0 +1,444 @@
+-- What the first bytes of frames bring, as the frames are taken apart.
+use Rattle.std.proofs.Common.{◌≡◌, ◌⊎◌, ◌≤◌, ◌<◌, ℕ, ◌+◌, ◌-◌, Bool, true, false, List, [], ◌∷◌, ◌++◌, length, take, take-take, min, drop, Option, Some, None, refl, sym, ap, ◌∙◌, subst, inl, inr, arith, eqb, true≢false}
+use Rattle.std.specs.Prelude.{nat_lt, if◌then◌else◌, ◌==◌}
+use Rattle.std.proofs.lemmas.Bool.{cases_lt, eq-eqb, eqb-true}
+use Rattle.std.proofs.lemmas.List.{append-nil, append_assoc, length-append, length-take-le, take_all}
+use Rattle.oa_frame.specs.declared.ends.End.{End}
+use Rattle.oa_share.specs.Marks.{Piece, Byte, Last, Item, Of, Now, States, named, pieces, put_at}
+use Rattle.oa_share.specs.Readers.{Brings, Brought, Ends, Partial, Reads, asked_in, behind, brought_in, records_of}
+use Rattle.oa_share.specs.Frames.{Broken, InHead, Place, SaysSome, Within, begun, framed, head_of, heading, items_in, within}
+use Rattle.oa_share.specs.Shared.{Asks, Begins, IsClients, IsHeads, SharedState, place_behind, place_of, states_behind}
+use Rattle.oa_share.specs.Steps.{EndsWith, OthersStay, Takes, brought, brought_last, state_of}
+use Rattle.oa_share.specs.declared.step.What.{What}
+use Rattle.oa_share.specs.declared.step.What.TheVariants as things
+use Rattle.oa_share.specs.declared.frame.Head.{Head}
+use Rattle.oa_share.specs.declared.frame.Head.TheVariants as head
+use Rattle.oa_share.proofs.Framed.{head_part, head_whole}
+use Rattle.oa_share.proofs.Owners.{alone, at_self}
+
+-- ---- where the reading stands, and what comes
+item_first : (at : Place) (x : ℕ) (xs : List ℕ) → items_in at (x ∷ xs) ≡ (framed at x).0 ++ items_in (framed at x).1 xs
+unfolding items_in
+item_first at x xs = refl
+
+place_first : (at : Place) (x : ℕ) (xs : List ℕ) → place_behind at (x ∷ xs) ≡ place_behind (framed at x).1 xs
+unfolding place_behind
+place_first at x xs = refl
+
+no_items : (at : Place) → items_in at [] ≡ []
+unfolding items_in
+no_items at = refl
+
+same_place : (at : Place) → place_behind at [] ≡ at
+unfolding place_behind
+same_place at = refl
+
+broken_items : (bytes : List ℕ) → items_in Broken bytes ≡ []
+broken_items [] = no_items Broken
+broken_items (x ∷ xs) = item_first Broken x xs ∙ broken_items xs
+
+broken_place : (bytes : List ℕ) → place_behind Broken bytes ≡ Broken
+broken_place [] = same_place Broken
+broken_place (x ∷ xs) = place_first Broken x xs ∙ broken_place xs
+
+-- behind some of a client's bytes
+abbrev place_left : ℕ → ℕ → Place
+place_left client n = if n == 0 then InHead [] else Within client n
+
+within_more : (client n : ℕ) → 1 < n → within client n ≡ Within client (n - 1)
+within_more client n h =
+    let a : nat_lt 1 n ≡ true = search (arith, h) in
+    rw a refl
+
+within_last : (client n : ℕ) → 0 < n → within client n ≡ place_left client (n - 1)
+within_last client n h = by (cases_lt 1 n)
+  where
+    by : (1 < n) ⊎ (n ≤ 1) → within client n ≡ place_left client (n - 1)
+    by (inl more) =
+        let a : (n - 1 == 0) ≡ false = search (arith, more) in
+        within_more client n more ∙ rw a refl
+    by (inr one) =
+        let a : nat_lt 1 n ≡ false = search (arith, one) in
+        let b : (n - 1 == 0) ≡ true = search (arith, one) in
+        rw (a, b) refl
+
+within_items : (client n : ℕ) (bytes : List ℕ) → length bytes ≤ n → items_in (Within client n) bytes ≡ named client (pieces bytes)
+unfolding named pieces
+within_items client n [] h = no_items (Within client n)
+within_items client n (x ∷ []) h = item_first (Within client n) x [] ∙ ap (λ l. Of client (Byte x) ∷ l) (no_items (within client n))
+within_items client n (x ∷ (y ∷ ys)) h =
+    item_first (Within client n) x (y ∷ ys)
+    ∙ ap (λ p. Of client (Byte x) ∷ items_in p (y ∷ ys)) (within_more client n (omega (arith, h)))
+    ∙ ap (λ l. Of client (Byte x) ∷ l) (within_items client (n - 1) (y ∷ ys) (omega (arith, h)))
+
+within_place : (client n : ℕ) (x : ℕ) (xs : List ℕ) → length (x ∷ xs) ≤ n → place_behind (Within client n) (x ∷ xs) ≡ place_left client (n - length (x ∷ xs))
+within_place client n x [] h = place_first (Within client n) x [] ∙ same_place (within client n) ∙ within_last client n (omega (arith, h))
+within_place client n x (y ∷ ys) h =
+    let e : n - 1 - length (y ∷ ys) ≡ n - length (x ∷ (y ∷ ys)) = omega arith in
+    place_first (Within client n) x (y ∷ ys)
+    ∙ ap (λ p. place_behind p (y ∷ ys)) (within_more client n (omega (arith, h)))
+    ∙ within_place client (n - 1) y ys (omega (arith, h))
+    ∙ ap (place_left client) e
+
+-- in a head
+goes : List (Item Piece) × Place → List ℕ → List (Item Piece) × Place
+goes r rest = (r.0 ++ items_in r.1 rest, place_behind r.1 rest)
+
+both_first : (at : Place) (x : ℕ) (xs : List ℕ) → (items_in at (x ∷ xs), place_behind at (x ∷ xs)) ≡ goes (framed at x) xs
+unfolding goes items_in place_behind
+both_first at x xs = refl
+
+both : Place → List ℕ → List (Item Piece) × Place
+both at bytes = (items_in at bytes, place_behind at bytes)
+
+goes_none : (r : List (Item Piece) × Place) → goes r [] ≡ r
+unfolding goes items_in place_behind
+goes_none r = ap (λ l. (l, r.1)) (append-nil r.0)
+
+head_goes : (front : List ℕ) (x : ℕ) (xs : List ℕ) → length (front ++ x ∷ []) < 8 → both (InHead front) (x ∷ xs) ≡ both (InHead (front ++ x ∷ [])) xs
+unfolding both goes
+head_goes front x xs h = both_first (InHead front) x xs ∙ ap (λ (r : List (Item Piece) × Place). goes r xs) (head_part (front ++ x ∷ []) h)
+
+in_head_part : (front bytes : List ℕ) → length (front ++ bytes) < 8 → both (InHead front) bytes ≡ ([], InHead (front ++ bytes))
+unfolding both items_in place_behind
+in_head_part front [] h = ap (λ l. ([], InHead l)) (sym (append-nil front))
+in_head_part front (x ∷ xs) h =
+    let e : (front ++ x ∷ []) ++ xs ≡ front ++ x ∷ xs = append_assoc front (x ∷ []) xs in
+    let len = length-append front (x ∷ xs) in
+    let len' = length-append front (x ∷ []) in
+    head_goes front x xs (omega (arith, len, len', h))
+    ∙ in_head_part (front ++ x ∷ []) xs (subst (λ (l : List ℕ). length l < 8) (sym e) h)
+    ∙ ap (λ l. ([], InHead l)) e
+
+in_head_whole : (front : List ℕ) (x : ℕ) (xs : List ℕ) → length (front ++ x ∷ xs) ≡ 8 → both (InHead front) (x ∷ xs) ≡ begun (head_of (front ++ x ∷ xs))
+unfolding both
+in_head_whole front x [] h = both_first (InHead front) x [] ∙ ap (λ (r : List (Item Piece) × Place). goes r []) (head_whole (front ++ x ∷ []) h) ∙ goes_none (begun (head_of (front ++ x ∷ [])))
+in_head_whole front x (y ∷ ys) h =
+    let e : (front ++ x ∷ []) ++ y ∷ ys ≡ front ++ x ∷ (y ∷ ys) = append_assoc front (x ∷ []) (y ∷ ys) in
+    let len = length-append front (x ∷ (y ∷ ys)) in
+    let len' = length-append front (x ∷ []) in
+    head_goes front x (y ∷ ys) (omega (arith, len, len', h))
+    ∙ in_head_whole (front ++ x ∷ []) y ys (ap length e ∙ h)
+    ∙ ap (λ l. begun (head_of l)) e
+
+-- ---- the states of the clients
+module _ {Z : Type 0} (reads : Reads Z) where
+  same_put : (client other : ℕ) (states : States Z) → states other ≡ put_at client (states client) states other
+  same_put client other states = by (eqb client other) refl
+    where
+      by : (b : Bool) → eqb client other ≡ b → states other ≡ (if eqb client other then states client else states other)
+      by true e = rw e (ap states (sym (eqb-true client other e)))
+      by false e = rw e refl
+
+  put_twice : (client other : ℕ) (a b : Z) (states : States Z) → put_at client a (put_at client b states) other ≡ put_at client a states other
+  put_twice client other a b states = by (eqb client other) refl
+    where
+      by : (t : Bool) → eqb client other ≡ t → put_at client a (put_at client b states) other ≡ put_at client a states other
+      by true e = rw e refl
+      by false e = rw e refl
+
+  named_behind : (states : States Z) (client : ℕ) (ps : List Piece) (other : ℕ) → states_behind reads states (named client ps) other ≡ put_at client (behind reads (states client) ps) states other
+  unfolding states_behind named behind
+  named_behind states client [] other = same_put client other states
+  named_behind states client (p ∷ ps) other =
+      let z = (reads (states client) p).1 in
+      named_behind (put_at client z states) client ps other
+      ∙ ap (λ (w : Z). put_at client (behind reads w ps) (put_at client z states) other) (at_self reads client z states)
+      ∙ put_twice client other (behind reads z ps) z states
+
+state_put : (client : ℕ) (old new : List (ℕ × Partial)) (at : Option Partial) (other : ℕ) → at ≡ state_of new client → OthersStay client old new → put_at client at (state_of old) other ≡ state_of new other
+state_put client old new at other is stay = by (eqb client other) refl
+  where
+    by : (b : Bool) → eqb client other ≡ b → put_at client at (state_of old) other ≡ state_of new other
+    by true e = rw e (is ∙ ap (state_of new) (eqb-true client other e))
+    by false e = rw e (sym (stay other (λ same. true≢false (sym (eq-eqb client other same) ∙ e))))
+
+-- ---- what is taken
+no_asks : (place : Place) (old new : SharedState) → old.place ≡ place → new.place ≡ place → ((client : ℕ) → state_of old.clients client ≡ state_of new.clients client) → Asks old [] [] new
+unfolding asked_in states_behind items_in place_behind
+no_asks place old new a b s = record { brought = refl; place = a ∙ sym b; states = s }
+
+pub nothing_asked : (old new : SharedState) → new.place ≡ old.place → ((client : ℕ) → state_of new.clients client ≡ state_of old.clients client) → Asks old [] [] new
+nothing_asked old new b s = no_asks old.place old new refl b (λ client. sym (s client))
+
+pub broken_asks : (old : SharedState) (bytes : List ℕ) → old.place ≡ Broken → Asks old bytes [] old
+unfolding asked_in states_behind
+broken_asks old bytes is =
+    let none : items_in old.place bytes ≡ [] = ap (λ p. items_in p bytes) is ∙ broken_items bytes in record {
+      brought = ap (asked_in records_of (state_of old.clients)) none;
+      place = ap (λ p. place_behind p bytes) is ∙ broken_place bytes ∙ sym is;
+      states = λ client. ap (λ l. states_behind records_of (state_of old.clients) l client) none;
+    }
+
+pub within_asks : (old new : SharedState) (client n : ℕ) (part : List ℕ) (all : List Brought) → old.place ≡ Within client n → 0 < length part → length part ≤ n
+    → Brings (state_of old.clients client) part all (state_of new.clients client) → OthersStay client old.clients new.clients → new.place ≡ place_left client (n - length part)
+    → Asks old part (named client all) new
+within_asks old new client n [] all is some short b stay to = absurd (omega (arith, some))
+within_asks old new client n (x ∷ xs) all is some short b stay to =
+    let items : items_in old.place (x ∷ xs) ≡ named client (pieces (x ∷ xs)) = ap (λ p. items_in p (x ∷ xs)) is ∙ within_items client n (x ∷ xs) short in record {
+      brought = ap (asked_in records_of (state_of old.clients)) items ∙ alone records_of (state_of old.clients) client (pieces (x ∷ xs)) ∙ ap (named client) b.brought;
+      place = ap (λ p. place_behind p (x ∷ xs)) is ∙ within_place client n x xs short ∙ sym to;
+      states = λ other.
+          ap (λ l. states_behind records_of (state_of old.clients) l other) items
+          ∙ named_behind records_of (state_of old.clients) client (pieces (x ∷ xs)) other
+          ∙ state_put client old.clients new.clients (behind records_of (state_of old.clients client) (pieces (x ∷ xs))) other b.after stay;
+    }
+
+pub part_asks : (old new : SharedState) (front bytes : List ℕ) → old.place ≡ InHead front → length (front ++ bytes) < 8 → new.place ≡ InHead (front ++ bytes)
+    → ((client : ℕ) → state_of new.clients client ≡ state_of old.clients client) → Asks old bytes [] new
+unfolding both asked_in states_behind
+part_asks old new front bytes is short to same =
+    let r = in_head_part front bytes short in
+    let none : items_in old.place bytes ≡ [] = ap (λ p. items_in p bytes) is ∙ ap (λ (b : List (Item Piece) × Place). b.0) r in record {
+      brought = ap (asked_in records_of (state_of old.clients)) none;
+      place = ap (λ p. place_behind p bytes) is ∙ ap (λ (b : List (Item Piece) × Place). b.1) r ∙ sym to;
+      states = λ client. ap (λ l. states_behind records_of (state_of old.clients) l client) none ∙ sym (same client);
+    }
+
+pub whole_asks : (old mid new : SharedState) (front bytes : List ℕ) (all : List (Item Brought)) → old.place ≡ InHead front → 0 < length bytes → length (front ++ bytes) ≡ 8 → mid.clients ≡ old.clients
+    → Begins (head_of (front ++ bytes)) mid all new → Asks old bytes all new
+unfolding both
+whole_asks old mid new front [] all is some eight same b = absurd (omega (arith, some))
+whole_asks old mid new front (x ∷ xs) all is some eight same b =
+    let r = in_head_whole front x xs eight in
+    let items : items_in old.place (x ∷ xs) ≡ (begun (head_of (front ++ x ∷ xs))).0 = ap (λ p. items_in p (x ∷ xs)) is ∙ taken_items r in record {
+      brought = ap (asked_in records_of (state_of old.clients)) items ∙ ap (λ c. asked_in records_of (state_of c) (begun (head_of (front ++ x ∷ xs))).0) (sym same) ∙ b.brought;
+      place = ap (λ p. place_behind p (x ∷ xs)) is ∙ taken_place r ∙ sym b.place;
+      states = λ client.
+          ap (λ l. states_behind records_of (state_of old.clients) l client) items
+          ∙ ap (λ c. states_behind records_of (state_of c) (begun (head_of (front ++ x ∷ xs))).0 client) (sym same)
+          ∙ b.states client;
+    }
+  where
+    taken_items : both (InHead front) (x ∷ xs) ≡ begun (head_of (front ++ x ∷ xs)) → items_in (InHead front) (x ∷ xs) ≡ (begun (head_of (front ++ x ∷ xs))).0
+    taken_items r = ap (λ (b : List (Item Piece) × Place). b.0) r
+
+    taken_place : both (InHead front) (x ∷ xs) ≡ begun (head_of (front ++ x ∷ xs)) → place_behind (InHead front) (x ∷ xs) ≡ (begun (head_of (front ++ x ∷ xs))).1
+    taken_place r = ap (λ (b : List (Item Piece) × Place). b.1) r
+
+-- ---- behind a head
+pub begins_plain : (h : Head) (old new : SharedState) (all : List (Item Brought)) → (begun h).0 ≡ [] → all ≡ [] → new.place ≡ (begun h).1 → new.clients ≡ old.clients → Begins h old all new
+unfolding asked_in states_behind
+begins_plain h old new all none is to same = record {
+  brought = ap (asked_in records_of (state_of old.clients)) none ∙ sym is;
+  place = to;
+  states = λ client. ap (λ l. states_behind records_of (state_of old.clients) l client) none ∙ ap (λ c. state_of c client) (sym same);
+}
+
+pub begins_now : (old new : SharedState) → new.place ≡ InHead [] → new.clients ≡ old.clients → Begins head.Now old (Now ∷ []) new
+unfolding asked_in states_behind
+begins_now old new to same = record { brought = refl; place = to; states = λ client. ap (λ c. state_of c client) (sym same) }
+
+pub begins_last : (client : ℕ) (result : Option End) (old new : SharedState) (all : List (Item Brought)) → new.place ≡ InHead [] → all ≡ named client (brought_last result)
+    → EndsWith result (state_of old.clients client) (state_of new.clients client) → OthersStay client old.clients new.clients → Begins (head.Last client) old all new
+unfolding asked_in states_behind
+begins_last client result old new all to is ends stay = record {
+  brought = append-nil (named client (records_of (state_of old.clients client) Last).0) ∙ ap (λ (r : List Brought × Option Partial). named client r.0) ends ∙ sym is;
+  place = to;
+  states = λ other. state_put client old.clients new.clients (records_of (state_of old.clients client) Last).1 other (ap (λ (r : List Brought × Option Partial). r.1) ends) stay;
+}
+
+-- ---- what is kept of a place
+pub kept_head : (broken : Bool) (left client have : ℕ) (bytes : List ℕ) → IsHeads (place_of broken left client have bytes) → (broken ≡ false) × (left ≡ 0)
+kept_head true left client have bytes is = absurd is
+kept_head false left client have bytes is = by (left == 0) refl
+  where
+    by : (b : Bool) → (left == 0) ≡ b → (false ≡ false) × (left ≡ 0)
+    by true e = (refl, eqb-true left 0 e)
+    by false e = absurd (subst IsHeads (ap (λ b. if b then InHead (take have bytes) else Within client left) e) is)
+
+pub kept_client : (broken : Bool) (left client have : ℕ) (bytes : List ℕ) → IsClients (place_of broken left client have bytes) → (broken ≡ false) × (0 < left)
+kept_client true left client have bytes is = absurd is
+kept_client false left client have bytes is = by (left == 0) refl
+  where
+    by : (b : Bool) → (left == 0) ≡ b → (false ≡ false) × (0 < left)
+    by true e = absurd (subst IsClients (ap (λ b. if b then InHead (take have bytes) else Within client left) e) is)
+    by false e = (refl, search (arith, e))
+
+pub at_client : (broken : Bool) (left client have : ℕ) (bytes : List ℕ) → broken ≡ false → 0 < left → place_of broken left client have bytes ≡ Within client left
+at_client broken left client have bytes e some =
+    let a : (left == 0) ≡ false = search (arith, some) in
+    rw (e, a) refl
+
+pub at_head : (broken : Bool) (left client have : ℕ) (bytes : List ℕ) → broken ≡ false → left ≡ 0 → place_of broken left client have bytes ≡ InHead (take have bytes)
+at_head broken left client have bytes e none =
+    let a = eq-eqb left 0 none in
+    rw (e, a) refl
+
+pub at_broken : (broken : Bool) (left client have : ℕ) (bytes : List ℕ) → broken ≡ true → place_of broken left client have bytes ≡ Broken
+at_broken broken left client have bytes e = rw e refl
+
+-- behind some of the bytes of a client's frame
+pub at_left : (broken : Bool) (left client have : ℕ) (bytes : List ℕ) → broken ≡ false → have ≡ 0 → place_of broken left client have bytes ≡ place_left client left
+at_left broken left client have bytes e none = rw (e, none) refl
+
+-- ---- as it is kept
+take_less : (n m : ℕ) (xs : List ℕ) → n ≤ m → take n (take m xs) ≡ take n xs
+take_less n m xs h = take-take n m xs h
+
+taken_within : (taken : ℕ) (what : What) (all : ℕ) → Takes taken what all → taken ≤ all
+taken_within taken things.Nothing all t = omega (arith, t)
+taken_within taken (things.Body r) all t = t.1
+taken_within taken (things.Ends why) all t = t.1
+
+taken_some : (taken : ℕ) (what : What) (all : ℕ) → Takes taken what all → 0 < all → 0 < taken
+taken_some taken things.Nothing all t h = omega (arith, t, h)
+taken_some taken (things.Body r) all t h = t.0
+taken_some taken (things.Ends why) all t h = t.0
+
+module _ (old : SharedState) (clients : List (ℕ × Partial)) (broken : Bool) (left client have : ℕ) (bytes : List ℕ) (is : record { place = place_of broken left client have bytes; clients = clients } ≡ old) where
+  place_is : place_of broken left client have bytes ≡ old.place
+  place_is = ap (λ (s : SharedState). s.place) is
+
+  clients_are : clients ≡ old.clients
+  clients_are = ap (λ (s : SharedState). s.clients) is
+
+  pub broken_taken : (more : List ℕ) → broken ≡ true → Asks old (take (length more) more) [] old
+  broken_taken more b = broken_asks old (take (length more) more) (sym place_is ∙ at_broken broken left client have bytes b)
+
+  head_is : IsHeads old.place → old.place ≡ InHead (take have bytes)
+  head_is h = let k = kept_head broken left client have bytes (subst IsHeads (sym place_is) h) in sym place_is ∙ at_head broken left client have bytes k.0 k.1
+
+  pub part_taken : (filled more : List ℕ) (count : ℕ) → IsHeads old.place → length bytes ≡ 8 → count ≤ length more → have + count < 8
+      → take (have + length (take count more)) filled ≡ take have bytes ++ take count more
+      → Asks old (take count more) [] (record { place = place_of broken left client (have + count) filled; clients = clients })
+  part_taken filled more count h eight few short fill =
+      let k = kept_head broken left client have bytes (subst IsHeads (sym place_is) h) in
+      let len = length-take-le count more few in
+      let len' = length-take-le have bytes (omega (arith, eight, short)) in
+      let all = length-append (take have bytes) (take count more) in
+      part_asks old (record { place = place_of broken left client (have + count) filled; clients = clients }) (take have bytes) (take count more) (head_is h) (omega (arith, all, len, len', short))
+      (at_head broken left client (have + count) filled k.0 k.1 ∙ ap InHead (ap (λ n. take (have + n) filled) (sym len) ∙ fill)) (λ c. ap (λ cs. state_of cs c) clients_are)
+
+  pub whole_taken : (filled more : List ℕ) (count : ℕ) (h : Head) (all : List (Item Brought)) (mid new : SharedState) → IsHeads old.place → length bytes ≡ 8 → length filled ≡ 8 → have < 8 → count ≤ length more
+      → have + count ≡ 8 → take (have + length (take count more)) filled ≡ take have bytes ++ take count more → h ≡ head_of filled → mid.clients ≡ clients → Begins h mid all new → Asks old (take count more) all new
+  whole_taken filled more count h all mid new heads eight eight' under few sum fill is_head same b =
+      let len = length-take-le count more few in
+      let len' = length-take-le have bytes (omega (arith, eight, under)) in
+      let total = length-append (take have bytes) (take count more) in
+      let full : filled ≡ take have bytes ++ take count more = sym (take_all (have + length (take count more)) filled (omega (arith, len, sum, eight'))) ∙ fill in
+      whole_asks old mid new (take have bytes) (take count more) all (head_is heads) (omega (arith, len, sum, under)) (omega (arith, total, len, len', sum)) (same ∙ clients_are)
+      (subst (λ (g : Head). Begins g mid all new) (is_head ∙ ap head_of full) b)
+
+  pub within_taken : (clients' : List (ℕ × Partial)) (more : List ℕ) (most taken : ℕ) (what : What) (all : List (Item Brought)) → IsClients old.place → 0 < length more → most ≡ min (length more) left → Takes taken what (length (take most more))
+      → Brings (state_of clients client) (take taken (take most more)) (brought what) (state_of clients' client) → OthersStay client clients clients' → all ≡ named client (brought what)
+      → Asks old (take taken more) all (record { place = place_of broken (left - taken) client 0 bytes; clients = clients' })
+  within_taken clients' more most taken what all cs some m t b stay named_are =
+      let k = kept_client broken left client have bytes (subst IsClients (sym place_is) cs) in
+      let left_some = k.1 in
+      let inside : most ≤ length more = omega (arith, m) in
+      let fits : most ≤ left = omega (arith, m) in
+      let first : 0 < most = omega (arith, m, some, left_some) in
+      let len = length-take-le most more inside in
+      let up = taken_within taken what (length (take most more)) t in
+      let low = taken_some taken what (length (take most more)) t (omega (arith, len, first)) in
+      let part : take taken (take most more) ≡ take taken more = take_less taken most more (omega (arith, up, len)) in
+      let long = length-take-le taken more (omega (arith, up, len, inside)) in
+      let b' = subst (λ cs. Brings (state_of cs client) (take taken more) (brought what) (state_of clients' client)) clients_are (subst (λ l. Brings (state_of clients client) l (brought what) (state_of clients' client)) part b) in
+      let stay' = subst (λ cs. OthersStay client cs clients') clients_are stay in
+      subst (λ l. Asks old (take taken more) l (record { place = place_of broken (left - taken) client 0 bytes; clients = clients' })) (sym named_are)
+      (within_asks old (record { place = place_of broken (left - taken) client 0 bytes; clients = clients' }) client left (take taken more) (brought what)
+      (sym place_is ∙ at_client broken left client have bytes k.0 k.1) (omega (arith, long, low)) (omega (arith, long, up, len, fits)) b' stay'
+      (at_left broken (left - taken) client 0 bytes k.0 refl ∙ ap (λ n. place_left client (left - n)) (sym long)))
+
+  pub nothing_taken : (clients' : List (ℕ × Partial)) → state_of clients' client ≡ state_of clients client → OthersStay client clients clients'
+      → Asks old [] [] (record { place = place_of broken left client have bytes; clients = clients' })
+  nothing_taken clients' same stay = nothing_asked old (record { place = place_of broken left client have bytes; clients = clients' }) place_is (λ other. by other (eqb client other) refl ∙ ap (λ cs. state_of cs other) clients_are)
+    where
+      by : (other : ℕ) (b : Bool) → eqb client other ≡ b → state_of clients' other ≡ state_of clients other
+      by other true e = let is_same = eqb-true client other e in ap (state_of clients') (sym is_same) ∙ same ∙ ap (state_of clients) is_same
+      by other false e = stay other (λ f. true≢false (sym (eq-eqb client other f) ∙ e))
+
+  pub begun_bytes : (h : Head) (number count : ℕ) → old.place ≡ InHead [] → h ≡ head.Bytes number count → SaysSome h
+      → Begins h old [] (record { place = place_of broken count number have bytes; clients = clients })
+  begun_bytes h number count at e some =
+      let k = kept_head broken left client have bytes (subst IsHeads (sym at ∙ sym place_is) tt) in
+      let n : 0 < count = subst SaysSome e some in
+      subst (λ (g : Head). Begins g old [] (record { place = place_of broken count number have bytes; clients = clients })) (sym e)
+      (begins_plain (head.Bytes number count) old (record { place = place_of broken count number have bytes; clients = clients }) [] refl refl (at_client broken count number have bytes k.0 n) clients_are)
+
+  pub begun_last : (h : Head) (number : ℕ) (result : Option End) (all : List (Item Brought)) (clients' : List (ℕ × Partial)) → old.place ≡ InHead [] → h ≡ head.Last number → all ≡ named number (brought_last result)
+      → EndsWith result (state_of clients number) (state_of clients' number) → OthersStay number clients clients'
+      → Begins h old all (record { place = place_of broken left client have bytes; clients = clients' })
+  begun_last h number result all clients' at e is_all ends stay =
+      subst (λ (g : Head). Begins g old all (record { place = place_of broken left client have bytes; clients = clients' })) (sym e)
+      (begins_last number result old (record { place = place_of broken left client have bytes; clients = clients' }) all (place_is ∙ at) is_all
+      (subst (λ cs. EndsWith result (state_of cs number) (state_of clients' number)) clients_are ends) (subst (λ cs. OthersStay number cs clients') clients_are stay))
+
+  pub begun_now : (h : Head) → old.place ≡ InHead [] → h ≡ head.Now → Begins h old (Now ∷ []) old
+  begun_now h at e = subst (λ (g : Head). Begins g old (Now ∷ []) old) (sym e) (begins_now old old at refl)
+
+  pub begun_unknown : (h : Head) → h ≡ head.Unknown → Begins h old [] (record { place = place_of true left client have bytes; clients = clients })
+  begun_unknown h e =
+      subst (λ (g : Head). Begins g old [] (record { place = place_of true left client have bytes; clients = clients })) (sym e)
+      (begins_plain head.Unknown old (record { place = place_of true left client have bytes; clients = clients }) [] refl refl refl clients_are)
+
+-- ---- one part of a stream after another
+items_append : (at : Place) (xs ys : List ℕ) → items_in at (xs ++ ys) ≡ items_in at xs ++ items_in (place_behind at xs) ys
+unfolding items_in place_behind
+items_append at [] ys = refl
+items_append at (x ∷ xs) ys =
+    ap (λ l. (framed at x).0 ++ l) (items_append (framed at x).1 xs ys)
+    ∙ sym (append_assoc (framed at x).0 (items_in (framed at x).1 xs) (items_in (place_behind (framed at x).1 xs) ys))
+
+place_append : (at : Place) (xs ys : List ℕ) → place_behind at (xs ++ ys) ≡ place_behind (place_behind at xs) ys
+unfolding place_behind
+place_append at [] ys = refl
+place_append at (x ∷ xs) ys = place_append (framed at x).1 xs ys
+
+module _ {Z : Type 0} (reads : Reads Z) where
+  asked_append : (states : States Z) (ps qs : List (Item Piece)) → asked_in reads states (ps ++ qs) ≡ asked_in reads states ps ++ asked_in reads (states_behind reads states ps) qs
+  unfolding asked_in states_behind
+  asked_append states [] qs = refl
+  asked_append states (Of client p ∷ ps) qs =
+      ap (λ l. named client (reads (states client) p).0 ++ l) (asked_append (put_at client (reads (states client) p).1 states) ps qs)
+      ∙ sym (append_assoc (named client (reads (states client) p).0) (asked_in reads (put_at client (reads (states client) p).1 states) ps)
+      (asked_in reads (states_behind reads (put_at client (reads (states client) p).1 states) ps) qs))
+  asked_append states (Now ∷ ps) qs = ap (λ l. Now ∷ l) (asked_append states ps qs)
+
+  behind_append : (states : States Z) (ps qs : List (Item Piece)) (c : ℕ) → states_behind reads states (ps ++ qs) c ≡ states_behind reads (states_behind reads states ps) qs c
+  unfolding states_behind
+  behind_append states [] qs c = refl
+  behind_append states (Of client p ∷ ps) qs c = behind_append (put_at client (reads (states client) p).1 states) ps qs c
+  behind_append states (Now ∷ ps) qs c = behind_append states ps qs c
+
+  put_alike : (client : ℕ) (a b : Z) (one two : States Z) → a ≡ b → ((c : ℕ) → one c ≡ two c) → (c : ℕ) → put_at client a one c ≡ put_at client b two c
+  put_alike client a b one two e same c = by (eqb client c) refl
+    where
+      by : (t : Bool) → eqb client c ≡ t → put_at client a one c ≡ put_at client b two c
+      by true f = rw f e
+      by false f = rw f (same c)
+
+  -- equal states bring the same
+  asked_alike : (one two : States Z) (ps : List (Item Piece)) → ((c : ℕ) → one c ≡ two c) → asked_in reads one ps ≡ asked_in reads two ps
+  unfolding asked_in
+  asked_alike one two [] same = refl
+  asked_alike one two (Of client p ∷ ps) same =
+      let e = same client in
+      ap (λ (z : Z). named client (reads z p).0 ++ asked_in reads (put_at client (reads (one client) p).1 one) ps) e
+      ∙ ap (λ l. named client (reads (two client) p).0 ++ l)
+      (asked_alike (put_at client (reads (one client) p).1 one) (put_at client (reads (two client) p).1 two) ps (put_alike client _ _ one two (ap (λ (z : Z). (reads z p).1) e) same))
+  asked_alike one two (Now ∷ ps) same = ap (λ l. Now ∷ l) (asked_alike one two ps same)
+
+  behind_alike : (one two : States Z) (ps : List (Item Piece)) → ((c : ℕ) → one c ≡ two c) → (c : ℕ) → states_behind reads one ps c ≡ states_behind reads two ps c
+  unfolding states_behind
+  behind_alike one two [] same c = same c
+  behind_alike one two (Of client p ∷ ps) same c =
+      behind_alike (put_at client (reads (one client) p).1 one) (put_at client (reads (two client) p).1 two) ps (put_alike client _ _ one two (ap (λ (z : Z). (reads z p).1) (same client)) same) c
+  behind_alike one two (Now ∷ ps) same c = behind_alike one two ps same c
+
+pub asks_then : (old mid new : SharedState) (xs ys : List ℕ) (before after : List (Item Brought)) → Asks old xs before mid → Asks mid ys after new → Asks old (xs ++ ys) (before ++ after) new
+asks_then old mid new xs ys before after a b =
+    let start = state_of old.clients in
+    let items : items_in old.place (xs ++ ys) ≡ items_in old.place xs ++ items_in mid.place ys = items_append old.place xs ys ∙ ap (λ p. items_in old.place xs ++ items_in p ys) a.place in record {
+      brought = ap (asked_in records_of start) items
+          ∙ asked_append records_of start (items_in old.place xs) (items_in mid.place ys)
+          ∙ ap (λ l. l ++ asked_in records_of (states_behind records_of start (items_in old.place xs)) (items_in mid.place ys)) a.brought
+          ∙ ap (λ l. before ++ l) (asked_alike records_of (states_behind records_of start (items_in old.place xs)) (state_of mid.clients) (items_in mid.place ys) a.states ∙ b.brought);
+      place = place_append old.place xs ys ∙ ap (λ p. place_behind p ys) a.place ∙ b.place;
+      states = λ c.
+          ap (λ l. states_behind records_of start l c) items
+          ∙ behind_append records_of start (items_in old.place xs) (items_in mid.place ys) c
+          ∙ behind_alike records_of (states_behind records_of start (items_in old.place xs)) (state_of mid.clients) (items_in mid.place ys) a.states c
+          ∙ b.states c;
+    }

@@ -1,0 +1,5 @@
+pub mod Marks
+pub mod Readers
+pub mod Frames
+pub mod Steps
+pub mod Shared

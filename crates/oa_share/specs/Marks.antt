@@ -1,0 +1,39 @@
+-- Pieces of many clients' own streams, one after another, and what each client has of them. (This project's choice.)
+use Rattle.std.specs.Prelude.{ℕ, ◌==◌, Bool, if◌then◌else◌, List, [], ◌∷◌}
+
+-- a piece of one client's own stream: a byte of it, or its end
+pub data Piece : Type 0 where
+  Byte : ℕ → Piece
+  Last : Piece
+
+-- of one client, by its number, or of all: what was held is to be committed and answered now
+pub data Item (X : Type 0) : Type 0 where
+  Of : ℕ → X → Item X
+  Now : Item X
+
+-- all these of one client
+unfoldable pub named : {X : Type 0} → ℕ → List X → List (Item X)
+named client [] = []
+named client (x ∷ xs) = Of client x ∷ named client xs
+
+-- x in front, where it is that client's
+abbrev pub if_own : {X : Type 0} → Bool → X → List X → List X
+if_own own x xs = if own then x ∷ xs else xs
+
+-- those of one client, in order
+unfoldable pub own : {X : Type 0} → ℕ → List (Item X) → List X
+own client [] = []
+own client (Of other x ∷ items) = if_own (other == client) x (own client items)
+own client (Now ∷ items) = own client items
+
+-- the pieces of these bytes
+unfoldable pub pieces : List ℕ → List Piece
+pieces [] = []
+pieces (x ∷ xs) = Byte x ∷ pieces xs
+
+-- a state for each client, and one of them changed
+abbrev pub States : Type 0 → Type 0
+States Z = ℕ → Z
+
+abbrev pub put_at : {Z : Type 0} → ℕ → Z → States Z → States Z
+put_at client at states other = if client == other then at else states other

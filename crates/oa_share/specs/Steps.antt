@@ -1,0 +1,61 @@
+-- What a step through a client's bytes finds, takes and leaves. (This project's choice.)
+use Rattle.std.specs.Prelude.{◌≡◌, ◌<◌, ◌≤◌, ℕ, List, [], ◌∷◌, ◌++◌, length, take, drop, Option, Some, None}
+use Rattle.std.specs.Map.{lookup}
+use Rattle.std.specs.BTreeMap.{is_at}
+use Rattle.std.specs.Ordering.{nat_cmp}
+use Rattle.oa_frame.specs.declared.ends.End.{End}
+use Rattle.oa_share.specs.Marks.{Last}
+use Rattle.oa_share.specs.Readers.{Body, Brought, Ends, Held, IsEnd, IsPart, IsWhole, Over, Partial, records_of}
+use Rattle.oa_share.specs.declared.found.Found.{Found}
+use Rattle.oa_share.specs.declared.found.Found.TheVariants as found
+use Rattle.oa_share.specs.declared.step.Record.{Record}
+use Rattle.oa_share.specs.declared.step.Record.TheVariants as whole
+use Rattle.oa_share.specs.declared.step.What.{What}
+use Rattle.oa_share.specs.declared.step.What.TheVariants as what
+
+-- what is whole behind the bytes that came before
+abbrev pub Finds : Found → List ℕ → List ℕ → Type 0
+Finds found.Part front bytes = IsPart (front ++ bytes)
+Finds (found.Whole n) front bytes = (0 < n) × (n ≤ length bytes) × IsWhole (front ++ take n bytes)
+Finds (found.Ends why n) front bytes = (0 < n) × (n ≤ length bytes) × IsEnd why (front ++ take n bytes)
+
+abbrev pub body_of : Record → List ℕ
+body_of (whole.Here bytes) = drop 4 bytes.now
+body_of (whole.Gathered bytes) = drop 4 bytes.items
+
+abbrev pub brought : What → List Brought
+brought what.Nothing = []
+brought (what.Body r) = Body (body_of r) ∷ []
+brought (what.Ends why) = Ends why ∷ []
+
+-- the state of a client, among those that are there
+abbrev pub state_of : List (ℕ × Partial) → ℕ → Option Partial
+state_of clients client = lookup (is_at (nat_cmp client)) clients
+
+-- some bytes were taken, all of them where they brought nothing
+abbrev pub Takes : ℕ → What → ℕ → Type 0
+Takes taken what.Nothing all = taken ≡ all
+Takes taken (what.Body r) all = (0 < taken) × (taken ≤ all)
+Takes taken (what.Ends why) all = (0 < taken) × (taken ≤ all)
+
+-- the bytes of a whole record behind what a client has sent of it
+abbrev pub IsWholeBehind : List ℕ → Partial → Type 0
+IsWholeBehind bytes (Held front) = (0 < length bytes) × IsWhole (front ++ bytes)
+IsWholeBehind bytes Over = ⊥
+
+-- every other client is as it was
+abbrev pub OthersStay : ℕ → List (ℕ × Partial) → List (ℕ × Partial) → Type 0
+OthersStay client old new = (other : ℕ) → (client ≡ other → ⊥) → state_of new other ≡ state_of old other
+
+-- the end of a client's stream brings this end, or nothing where it has had one
+abbrev pub brought_last : Option End → List Brought
+brought_last None = []
+brought_last (Some why) = Ends why ∷ []
+
+abbrev pub EndsWith : Option End → Option Partial → Option Partial → Type 0
+EndsWith result old new = records_of old Last ≡ (brought_last result, new)
+
+-- the lowest number, since they rise
+abbrev pub first_of : List (ℕ × Partial) → Option ℕ
+first_of [] = None
+first_of (client ∷ clients) = Some client.0

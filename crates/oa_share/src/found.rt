@@ -1,0 +1,71 @@
+//! Where a record ends.
+ghost use Rattle.std.specs.Prelude.{◌≡◌, ◌≤◌, ◌<◌, ◌+◌, ◌++◌, length, take, IfSome, IsNone};
+ghost use Rattle.oa_share.specs.Readers.{IsPart, said};
+ghost use Rattle.oa_share.specs.Steps.{Finds};
+
+use oa_frame::End;
+
+/// The most bytes of a body.
+const BODY_LIMIT: usize = oa_model::MAX_REQUEST_BYTES as usize;
+
+/// What stands behind the part of a record that came before.
+#[derive(Clone, Copy)]
+pub(crate) enum Found {
+    /// Not all of it.
+    Part,
+    /// The rest of it, of so many bytes.
+    Whole(usize),
+    /// After so many bytes a length that ends the stream.
+    Ends(End, usize),
+}
+
+/// Looks for the end of the record that begins with these bytes and goes on with those.
+pub(crate) fn find(front: &[u8], bytes: &[u8]) -> Found
+    requires part { IsPart front.now }
+    requires some { 0 < length bytes.now }
+    ensures { Finds result front.now bytes.now }
+{
+    match length_of(front, bytes) {
+        None => Found::Part,
+        Some(n) => find_of(n, front, bytes),
+    }
+}
+
+/// The same where the body is to have so many bytes.
+fn find_of(n: usize, front: &[u8], bytes: &[u8]) -> Found
+    requires part { IsPart front.now }
+    requires some { 0 < length bytes.now }
+    requires said { n ≡ said (front.now ++ bytes.now) }
+    requires four { 4 ≤ length front.now + length bytes.now }
+    ensures { Finds result front.now bytes.now }
+{
+    if front.len() < 4 && n == 0 {
+        return Found::Ends(End::Closed, 4 - front.len());
+    }
+    if front.len() < 4 && n > BODY_LIMIT {
+        return Found::Ends(End::TooLong, 4 - front.len());
+    }
+    if bytes.len() < 4 + n - front.len() {
+        Found::Part
+    } else {
+        Found::Whole(4 + n - front.len())
+    }
+}
+
+/// The length that a record's first four bytes say, where so many came.
+fn length_of(front: &[u8], bytes: &[u8]) -> Option<usize>
+    ensures none { IsNone result → length front.now + length bytes.now < 4 }
+    ensures some { IfSome result (λ n. (n ≡ said (front.now ++ bytes.now)) × (4 ≤ length front.now + length bytes.now)) }
+{
+    if let Some((head, _)) = front.split_first_chunk::<4>() {
+        return Some(u32::from_le_bytes(*head) as usize);
+    }
+    let more = 4 - front.len();
+    if bytes.len() < more {
+        return None;
+    }
+    let mut head = [0u8; 4];
+    head[..front.len()].copy_from_slice(front);
+    head[front.len()..].copy_from_slice(&bytes[..more]);
+    Some(u32::from_le_bytes(head) as usize)
+}

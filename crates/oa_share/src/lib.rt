@@ -1,0 +1,18 @@
+//! Whose request stands where in one stream of many clients' records.
+//!
+//! Its contract: each client's bodies are those that a session of its own would have read, whatever stands between them
+//! (`laws::each_has_its_own`, `laws::each_is_a_session`), and `Streams::take` finds them one by one, in the order in which they came (`Asks`).
+#![tactic(auto)]
+
+mod client;
+mod clients;
+mod found;
+mod frame;
+pub mod laws;
+mod step;
+mod streams;
+
+pub use clients::Clients;
+pub use frame::{ALL_CLIENTS, Head, MAX_FRAME_BYTES, head_bytes};
+pub use step::{Record, Step, What};
+pub use streams::{Asked, Streams, Taken};

@@ -2,14 +2,17 @@
 What is not installed leaves its tests out, each by its name."""
 import collections
 import os
+import re
+import shutil
 import signal
 import struct
 import sys
+import tempfile
 import time
 import unittest
 
-from running import Cases, rows_of, short
-from under_wine import COM, HUB, ITEM, TESTS, TIMEOUT, UnderWine, all_planted, built, hub_of, is_placed, left_out, needs_wine, oaut, plain, text, windows, write
+from running import PROGRAM, ROOT, Cases, rows_of, short
+from under_wine import COM, HUB, ITEM, TESTS, TIMEOUT, TYPES, UnderWine, all_planted, built, hub_of, is_placed, left_out, needs_wine, oaut, plain, text, windows, write
 
 SPOILED_SECONDS = 5
 
@@ -62,6 +65,37 @@ class Values(UnderWine):
         self.bridge.set()
         self.each("client.c", self.wine.run(f"{self.bridge.room}/built/client.exe", "script")[1])
 
+    def test_numbers_of_scripts(self):
+        self.bridge.new_store()
+        self.bridge.set()
+        self.runs("numbers.vbs")
+
+    def test_collections(self):
+        """Without a type library, too: then TypeName is the coclass's name under Wine, which asks GetTypeInfo."""
+        for has_types, names in ((False, "Item Shelf"), *([(True, "DItem DStock")] if shutil.which("x86_64-w64-mingw32-widl") else [])):
+            self.bridge.new_store()
+            self.bridge.set()
+            if not has_types:
+                self.bridge.without_types()
+            self.runs("collection.vbs", names)
+
+    def test_what_is_told_of_each_code(self):
+        """The table of docs/com.md: a server answers each code in turn, with an argument where it may name one."""
+        rows = refusals()
+        self.bridge.new_store()
+        self.bridge.set()
+        self.server.looks = True
+        self.server.answers = [(code, 0 if name in OF_VALUES else 0xFFFFFFFF) for _, name, code, _ in rows]
+        try:
+            output = self.wine.run(*self.bridge.script("answers.vbs"), str(len(rows)))[1]
+        finally:
+            self.server.looks, self.server.answers = False, []
+        for (number, name, code, words), line in zip(rows, output.splitlines()):
+            more = ": the new value is declared long and given as long" if name in OF_VALUES else ""
+            wanted = f"{number}|Demo.Item|Demo.Item 1, Count: {words}{more} ({name}, 0x{code:08X})"
+            self.tell(f"what is told of {name}", line == wanted, f"{line}, wanted {wanted}")
+        self.tell("how many codes", (len(rows), len(output.splitlines())) == (28, 29), output)
+
     def test_fields_of_another_implementation(self):
         rows = [row.split() for row in rows_of("variants.txt")]
         output = self.wine.run(f"{self.bridge.room}/built/fields.exe", given="".join(f"{field}\n" for field, _ in rows).encode())[1]
@@ -77,6 +111,19 @@ class Values(UnderWine):
         self.runs("arrays.vbs")
 
 
+# the codes that a server tells an argument of, as docs/records.md says
+OF_VALUES = ("DISP_E_TYPEMISMATCH", "DISP_E_OVERFLOW", "DISP_E_BADVARTYPE")
+
+
+def refusals():
+    """The rows of the table of docs/com.md: what Err.Number is, the code's name, the code, what Err.Description says of it."""
+    made = []
+    for number, name, code, words in re.findall(r"^\| (&H[0-9A-F]{8}|\d+) \| ([A-Z_]+) \| ([0-9A-F]{8}) \| (.*) \|$", text(f"{ROOT}/docs/com.md"), re.MULTILINE):
+        shown = int(number[2:], 16) - (1 << 32) if number.startswith("&H") else int(number)
+        made.append((shown, name, int(code, 16), words.replace("**", "")))
+    return made
+
+
 def fields_of(body):
     """The variant fields of a request's body."""
     opcode = body[4]
@@ -90,6 +137,51 @@ def fields_of(body):
         (length,) = struct.unpack_from("<I", body, place)
         yield body[place + 8 : place + 8 + length]
         place = -(-(place + 8 + length) // 8) * 8
+
+
+@needs_wine
+class Hosts(UnderWine):
+    """What hosts do beside late binding."""
+
+    def tearDown(self):
+        self.bridge.set()
+
+    def hosts(self, *words):
+        return self.wine.run(f"{self.bridge.room}/built/hosts.exe", *words)[1]
+
+    @left_out("x86_64-w64-mingw32-widl")
+    def test_the_registered_type_library(self):
+        self.bridge.new_store()
+        self.bridge.set(Script=0)
+        self.told("early", self.hosts("early"), 20)
+        self.told("apartments", self.hosts("apartments"), 9)
+
+    def test_without_a_type_library(self):
+        self.bridge.new_store()
+        self.bridge.set(Script=0)
+        self.bridge.without_types()
+        self.told("plain", self.hosts("plain"), 17)
+
+    def test_the_dll_is_not_unloaded_while_a_reply_is_out(self):
+        self.bridge.new_store()
+        self.bridge.set(Script=0, Idle=0)
+        go = tempfile.mktemp(dir=self.bridge.room)
+        host = self.wine.start(f"{self.bridge.room}/built/hosts.exe", "unloads", windows(go))
+        told = b""
+        for line, then in ((b"ready", signal.SIGSTOP), (b"sent", signal.SIGCONT)):
+            while line not in told and (more := host.stdout.readline()):
+                told += more
+            if host.poll() is None:
+                self.server.child.send_signal(then)
+            write(go, "")
+        self.told("unloads", plain(told + host.communicate(timeout=TIMEOUT)[0]), 9)
+
+    def told(self, name, output, count):
+        lines = output.splitlines()
+        for line in lines:
+            if not line.startswith(("ok   ", "ready", "sent", "end")):
+                self.tell(f"hosts {name}: {line[5:]}", False, line)
+        self.tell(f"hosts {name}: all of its cases", (sum(it.startswith("ok   ") for it in lines), lines[-1:]) == (count, ["end"]), output)
 
 
 @needs_wine
@@ -185,7 +277,10 @@ class Registration(UnderWine):
         self.bridge.set()
 
     def has(self, key):
-        return self.wine.run("reg", "query", f"HKCR\\{key}")[0] == 0
+        return self.bridge.has(f"HKCR\\{key}")
+
+    def are_there(self, what, keys, are=True):
+        self.tell(what, [it for it in keys if self.bridge.has(it) != are] == [], keys)
 
     def test_in_and_out(self):
         self.tell("regsvr32 enters the classes", self.bridge.registered == 0)
@@ -211,6 +306,40 @@ class Registration(UnderWine):
             self.tell(f"{key}: stays", self.has(key) and not self.has(f"CLSID\\{{{ITEM}}}\\Oaut"))
             self.bridge.enter(f"[-HKEY_CLASSES_ROOT\\{key}]\n")
 
+    @left_out("x86_64-w64-mingw32-widl")
+    def test_the_type_library(self):
+        """It is entered with its version and taken out again, and never over another program's."""
+        types, own = f"HKCR\\TypeLib\\{{{TYPES}}}", [f"HKCR\\CLSID\\{{{ITEM}}}\\{it}" for it in ("TypeLib", "Version")]
+        interface = f"HKCR\\Interface\\{{{TYPES[:-2]}02}}"
+        file = f"{self.bridge.room}/built/Demo.tlb"
+        self.are_there("it is entered", [f"{types}\\1.0", interface, *own])
+        later = write(f"{self.bridge.room}/later.idl", text(f"{TESTS}/demo.idl").replace("version(1.0)", "version(2.3)"))
+        shutil.copy(file, f"{file}.kept")
+        built([f"{COM}/typelib.sh", PROGRAM, later, file])
+        self.bridge.register("Demo")
+        self.are_there("a later version", [f"{types}\\2.3", interface, *own])
+        self.are_there("in the place of the earlier one", [f"{types}\\1.0"], False)
+        shutil.move(f"{file}.kept", file)
+        self.bridge.register("Demo", "/u")
+        self.are_there("it is taken out", [f"{types}\\2.3", interface, *own, "HKCR\\Demo.Item"], False)
+        self.bridge.enter(f'[HKEY_CLASSES_ROOT\\TypeLib\\{{{TYPES}}}\\1.0\\0\\win64]\n@="C:\\\\other.tlb"\n')
+        self.tell("another program's is not taken", self.bridge.register("Demo") != 0)
+        self.are_there("and stays", [f"{types}\\1.0\\0\\win64"])
+        self.are_there("and nothing is entered", ["HKCR\\Demo.Item", *own], False)
+        self.bridge.enter(f"[-HKEY_CLASSES_ROOT\\TypeLib\\{{{TYPES}}}]\n")
+
+    def test_for_one_user(self):
+        """In the user's own part of the registry, whoever that is; it is used from there, and taken out."""
+        own = "HKCU\\Software\\Classes"
+        keys = [f"{own}\\Demo.Item", f"{own}\\Demo.Store", f"{own}\\CLSID\\{{{ITEM}}}\\Oaut"]
+        self.bridge.register("Demo", "/u")
+        self.tell("regsvr32 enters them for the user", self.bridge.register("user:Demo") == 0)
+        self.are_there("their keys", keys)
+        self.are_there("are the user's", [it.replace(own, "HKLM\\Software\\Classes") for it in keys], False)
+        self.are_there("the same with /u leaves the user's", [keys[0] * (self.bridge.register("Demo", "/u") == 0)])
+        self.tell("regsvr32 takes them out", self.bridge.register("user:Demo", "/u") == 0)
+        self.are_there("nothing stays", keys, False)
+
     def test_words(self):
         for words in ("Demo", "Demo@127.0.0.1", "Demo@:8765", "@127.0.0.1:8765", "De mo@127.0.0.1:8765", "..\\x@127.0.0.1:8765", "1Demo@127.0.0.1:8765", f"{'a' * 40}@127.0.0.1:8765", "Demo@127.0.0.1:", f"Demo@{'h' * 300}:8765"):
             self.tell(f"/i:{short(words)}", self.wine.run("regsvr32", "/s", "/n", f"/i:{words}", self.bridge.dll)[0] != 0)
@@ -220,12 +349,18 @@ class Registration(UnderWine):
         self.bridge.new_store(f"{COM}/example/sheet.idl")
         lines = text(f"{COM}/example/sheet.reg").replace("REGEDIT4", "").replace('"localhost"', '"127.0.0.1"').replace('"8765"', f'"{self.server.port}"')
         self.bridge.enter(lines.replace("C:\\\\oaut\\\\oautcom.dll", windows(self.bridge.dll).replace("\\", "\\\\")))
-        write(f"{self.bridge.room}/sheet.vbs", text(f"{COM}/example/sheet.vbs"))
+        for script in ("sheet.vbs", "prices.vbs"):
+            write(f"{self.bridge.room}/{script}", text(f"{COM}/example/{script}"))
         said = []
         for row, number in (("Monday", 3), ("Tuesday", 4), ("Monday", 2)):
             said.append(self.wine.run("cscript", "//nologo", "sheet.vbs", row, "tea", str(number))[1])
             self.server.child.kill()
         self.tell("sheet.vbs", said == ["Monday: 3\ntotal: 3\n", "Monday: 3\nTuesday: 4\ntotal: 7\n", "Monday: 5\nTuesday: 4\ntotal: 9\n"], said)
+        refused = "458: Desk.Sheet 1, Price: values of this type are not taken: the new value is declared CURRENCY and given as double; "
+        refused += "DECIMAL holds this number, and CCur makes a CURRENCY that is near it (DISP_E_BADVARTYPE, 0x80020008)\nrounded to 0.3333\n"
+        for marks, wanted in (("4", "Sheet 1: 9 marks, 2.25\n"), ("3", f"{refused}Sheet 1: 9 marks, 2.9997\n")):
+            output = self.wine.run("cscript", "//nologo", "prices.vbs", "tea", marks, "1")[1]
+            self.tell(f"prices.vbs, {marks} marks cost 1", output == wanted, output)
         entered = [self.wine.run("reg", "query", f"HKCR\\CLSID\\{{{it}}}", "/s")[1] for it in ("8d1e5f60-3c42-4b77-9a51-6272a3d0c103", hub_of("8d1e5f60-3c42-4b77-9a51-6272a3d0c102"))]
         self.bridge.register("Desk", "/u")
         self.bridge.register("Desk")
@@ -239,10 +374,11 @@ class Registration(UnderWine):
 FAULTS = {
     "scale and sign of a DECIMAL are exchanged": ("wire.c", [("&number->scale, 1);\n    write_bytes(to, &number->sign, 1);", "&number->sign, 1);\n    write_bytes(to, &number->scale, 1);"), ("&number->scale, 1);\n    read_bytes(from, &number->sign, 1);", "&number->sign, 1);\n    read_bytes(from, &number->scale, 1);")], "client"),
     "the bounds of an array that was read are not turned": ("wire.c", [("bounds[dimensions - 1 - i]", "bounds[i]")], "client"),
-    "VT_BYREF is not followed": ("wire.c", [("if (!(V_VT(value) & VT_BYREF))", "if (1)")], "client"),
-    "the argument at fault is not told": ("objects.c", [("    if (FAILED(code) && argument && call.argument < given->cArgs)\n", "    if (0)\n")], "client"),
+    "VT_BYREF is not followed": ("values.c", [("if (!(V_VT(value) & VT_BYREF))", "if (1)")], "client"),
+    "the argument at fault is not told": ("objects.c", [("    if (FAILED(code) && argument && call.argument < call.given->cArgs)\n", "    if (0)\n")], "client"),
     "a put that was lost is sent again": ("connection.c", [("result == OAUT_E_LOST && way == AGAIN &&", "result == OAUT_E_LOST &&")], "lost"),
-    "half of the types is another server's": ("connection.c", [("index ? HERE : AGAIN", "index ? ONCE : AGAIN")], "types"),
+    "half of the types is another server's": ("library.c", [("index ? HERE : AGAIN", "AGAIN")], "types"),
+    "the second interface's calls are the first one's": ("objects.c", [("    face->target.iid = *iid;\n", "    face->target.iid = GUID_NULL;\n")], "plain"),
     "a started process has the connection": ("connection.c", [("WSA_FLAG_OVERLAPPED | WSA_FLAG_NO_HANDLE_INHERIT", "WSA_FLAG_OVERLAPPED")], "started"),
 }
 
@@ -260,6 +396,9 @@ class PlantedFaults(UnderWine):
 
     def client(self):
         return self.wine.run(f"{self.bridge.room}/built/client.exe")[1]
+
+    def plain(self):
+        return self.wine.run(f"{self.bridge.room}/built/hosts.exe", "plain")[1]
 
     def test_each_is_found(self):
         self.bridge.new_store()

@@ -1,8 +1,13 @@
 """The COM bridge's reading of bytes, under Linux with sanitizers. What is not installed leaves its tests out, each by its name."""
+import decimal
 import functools
+import glob
+import math
 import os
+import random
 import re
 import shutil
+import struct
 import subprocess
 import sys
 import tempfile
@@ -43,13 +48,83 @@ class UnderLinux(Cases):
         got = done.stdout.decode().split()
         self.tell("fields and values", (done.returncode, got) == (0, [wanted for _, wanted in rows]), plain(done.stderr)[:2000])
 
+    def test_numbers(self):
+        """Floating-point numbers as what a declared type takes exactly: the shortest decimals are Python's own."""
+        room, said = sanitized()
+        self.tell("the build", said == (0, ""), said)
+        rows = [(vt, bits, declared) for vt, bits in floating_numbers() for declared in (I4, CY, DECIMAL, VARIANT)]
+        lines = "".join(f"{vt} {bits:x} {declared}\n" for vt, bits, declared in rows)
+        done = subprocess.run([f"{room}/numbers"], input=lines.encode(), stdout=subprocess.PIPE, stderr=subprocess.PIPE, timeout=TIMEOUT)
+        got = done.stdout.decode().splitlines()
+        self.tell("they are taken", (done.returncode, len(got)) == (0, len(rows)), plain(done.stderr)[:2000])
+        for row, line in zip(rows, got):
+            if line != exact(*row):
+                self.tell(f"the bits {row[1]:x} of type {row[0]}, declared {row[2]}", False, f"{line}, wanted {exact(*row)}")
+
     def test_spoiled_bytes(self):
         status, said = fuzzed(sanitized()[0], int.from_bytes(os.urandom(4), "little"))
         self.tell("fuzz", status == 0, said)
 
 
+# --- floating-point numbers
+
+I4, SINGLE, DOUBLE, CY, VARIANT, DECIMAL, I8 = 3, 4, 5, 6, 12, 14, 20
+
+
+def bits_of(vt, number):
+    return int.from_bytes(struct.pack("<d" if vt == DOUBLE else "<f", number), "little")
+
+
+def floating_numbers():
+    """Ends of ranges, ties, powers of two, which have a nearer neighbour below, and numbers drawn at several sizes."""
+    dice = random.Random(20261128)
+    told = [0.0, -0.0, 0.1, 2.5, 1 / 3, 0.1 + 0.2, 1e16, 1e22, 1e28, 8e28, 5e-28, 4.9e-28, 1e-29, 5e-324, 1e300, math.inf, math.nan, 922337203685477.4, 922337203685478.5, 866242666060511.75]
+    told += [sign * (2.0**power + more) for power in (31, 63, 64, 96) for more in (-1, 0, 1) for sign in (1, -1)] + [2.0**-power for power in range(1, 96, 5)] + [2.0**96 - 2.0**43, 4503599627370495.5]
+    told += [dice.randrange(-(10**9), 10**9) / 10 ** dice.randrange(9) for _ in range(150)] + [dice.uniform(-1, 1) * 10.0 ** dice.randrange(-30, 30) for _ in range(150)]
+    return [(DOUBLE, bits_of(DOUBLE, it)) for it in told] + [(DOUBLE, dice.getrandbits(64)) for _ in range(60)] + [(SINGLE, bits_of(SINGLE, dice.randrange(-(10**6), 10**6) / 10 ** dice.randrange(6))) for _ in range(100)] + [(SINGLE, dice.getrandbits(32)) for _ in range(60)]
+
+
+def shortest(vt, number):
+    """Digits and places of the shortest decimal that reads back as a number."""
+    words = [repr(number)] if vt == DOUBLE else (f"{number:.{count}g}" for count in range(1, 10))
+    _, digits, exponent = decimal.Decimal(next(it for it in words if bits_of(vt, float(it)) == bits_of(vt, number))).normalize().as_tuple()
+    return int("".join(map(str, digits))), -exponent
+
+
+def decimal_line(number, digits, places):
+    return f"{DECIMAL} {'-' if number < 0 else ''}{digits >> 64:x}{digits % 2**64:016x} {places}"
+
+
+def exact(vt, bits, declared):
+    """What tests/numbers.c prints for a number, as docs/com.md has it."""
+    number = struct.unpack("<d" if vt == DOUBLE else "<f", bits.to_bytes(8 if vt == DOUBLE else 4, "little"))[0]
+    if not math.isfinite(number):
+        return "80020008"
+    if number == int(number):
+        whole = int(number)
+        vt = next((it for it, most in ((I4, 2**31), (I8, 2**63)) if -most <= whole < most and whole != -(2**63)), DECIMAL)
+        if vt == DECIMAL:
+            return decimal_line(whole, abs(whole), 0) if abs(whole) < 2**96 else "8002000a"
+        return f"{vt} {whole}"
+    digits, places = shortest(vt, number)
+    if places > 28 or declared not in (CY, DECIMAL, VARIANT) or (declared == CY and places > 4):
+        return "80020008"
+    count = digits * 10 ** max(4 - places, 0)
+    if declared != DECIMAL and places <= 4 and count < 2**63:
+        return f"{CY} {-count if number < 0 else count}"
+    return "8002000a" if declared == CY else decimal_line(number, digits, places)
+
+
 class Source(Cases):
     """What is looked at in the sources alone."""
+
+    def test_one_style(self):
+        """As clang-format has it: another version of it may have another mind."""
+        said = built(["clang-format", "--version"])[1] if shutil.which("clang-format") else ""
+        if " 14." not in said:
+            self.skipTest("clang-format 14 not there")
+        files = [it for folder in (COM, TESTS, f"{TESTS}/linux") for it in glob.glob(f"{folder}/*.[ch]")]
+        self.tell("clang-format", len(files) > 20 and built(["clang-format", "--dry-run", "-Werror", *files]) == (0, ""), built(["clang-format", "--dry-run", "-Werror", *files])[1][:2000])
 
     def test_the_limit_of_a_request_is_the_servers(self):
         own = re.search(r"^#define MAX_BODY (\w+)u ", text(f"{COM}/wire.h"), re.MULTILINE)[1]
@@ -66,7 +141,14 @@ def fuzzed(room, seed):
 
 SPOILERS = {
     "a text is as long as it says": ("wire.c", [("    if (!has_bytes(from, (size_t)count + count % 2))\n        return S_OK;\n    *text", "    *text")]),
-    "a reply is as long as it says": ("connection.c", [("if (connection->reply_room < got + step)", "if (!connection->reply)")]),
+    "a reply is as long as its first bytes": (
+        "connection.c",
+        [
+            ("room = length < FIRST_ROOM ? FIRST_ROOM : length;", "room = length;"),
+            ("if (room <= connection->reply_room)", "if (connection->reply)"),
+            ("(int)(connection->reply_room - connection->received)", "(int)(length - connection->received)"),
+        ],
+    ),
 }
 
 

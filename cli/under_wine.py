@@ -40,6 +40,7 @@ def hub_of(first):
 
 
 HUB = hub_of("11223344-5566-7788-99aa-bbccddeeff02")
+TYPES = "11223344-5566-7788-99aa-bbccddeeff01"  # the type library of tests/demo.idl
 
 
 def left_out(*tools):
@@ -73,12 +74,13 @@ def built(words, **how):
 
 class Server:
     """Accepts on a port of its own and starts the program for each client in turn. Its words may change: the next client's program has them. Where
-    records are looked at, they go through this process, which keeps the requests' bodies, spoils some replies of a thousand, and ends a session
-    behind so many requests for types, once."""
+    records are looked at, they go through this process, which keeps the requests' bodies, spoils some replies of a thousand, ends a session behind so
+    many requests for types, once, and answers a put of a number itself, where it has answers."""
 
     def __init__(self):
         self.words, self.looks, self.spoils, self.requests = None, False, 0, []
         self.types_left, self.is_last = 0, False
+        self.answers = []
         self.chance = random.Random(20261126)
         self.child = self.client = None
         self.port = 0
@@ -115,6 +117,10 @@ class Server:
         with client.makefile("rb") as asked, contextlib.suppress(OSError):  # a client that resets its connection, or a program that has ended
             while (body := record(asked)) is not None:
                 self.requests.append(body)
+                if self.answers and body[4] == oaut.INVOKE and body[52] & 4:
+                    code, index = self.answers[struct.unpack_from("<i", body, 100)[0]]
+                    client.sendall(struct.pack("<I", 16) + body[:4] + struct.pack("<III", code, index, 0))
+                    continue
                 if self.types_left and body[4] == oaut.TYPEINFO:
                     self.types_left -= 1
                     self.is_last = not self.types_left
@@ -264,6 +270,9 @@ class Bridge:
     def register(self, name, *more):
         return self.wine.run("regsvr32", "/s", "/n", *more, f"/i:{name}@127.0.0.1:{self.server.port}", self.dll)[0]
 
+    def has(self, key):
+        return self.wine.run("reg", "query", key)[0] == 0
+
     def enter(self, lines):
         """Enters lines of a .reg file."""
         file = write(f"{self.room}/some.reg", "REGEDIT4\n\n" + lines)
@@ -274,6 +283,10 @@ class Bridge:
         self.register("Demo")
         values = "".join(f'"{name}"=dword:{number:08x}\n' for name, number in numbers.items())
         self.enter("".join(f"[HKEY_CLASSES_ROOT\\CLSID\\{{{it}}}\\Oaut]\n{values}\n" for it in (ITEM, HUB)))
+
+    def without_types(self):
+        """Takes the type library's file out of the class and of the hub."""
+        self.enter("".join(f'[HKEY_CLASSES_ROOT\\CLSID\\{{{it}}}\\Oaut]\n"TypeLib"=-\n\n' for it in (ITEM, HUB)))
 
     def script(self, name):
         """A script of the tests, behind what all of them share."""
@@ -302,7 +315,7 @@ class Told(Cases):
         script breaks off, and behind On Error Resume Next it says nothing of a line with an error."""
         lines = (output or "").splitlines()
         told = {line[5:] for line in lines if line.startswith("ok   ")}
-        for case in {*re.findall(r'\b(?:Same|Refused|same|refused)[ (]"([^"]+)"', text(f"{TESTS}/{name}")), *told}:
+        for case in {*re.findall(r'\b(?:Same|Refused|Tells|same|refused)[ (]"([^"]+)"', text(f"{TESTS}/{name}")), *told}:
             self.tell(f"{name}: {case}", case in told, [line for line in lines if line.startswith(f"BAD  {case}")])
         for line in lines:
             if line.startswith("BAD  "):

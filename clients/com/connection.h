@@ -17,31 +17,28 @@
 #define OAUT_E_LATE ((HRESULT)0x8001011F)        /* RPC_E_TIMEOUT: the same, no reply in time */
 
 enum opcode {
-    OP_CREATE = 1, OP_RELEASE, OP_GETIDS, OP_INVOKE, OP_GETELEM, OP_PUTELEM, OP_REDIM, OP_LOCK, OP_UNLOCK,
-    OP_TYPEINFO, OP_LIST
+    OP_CREATE = 1,
+    OP_RELEASE,
+    OP_GETIDS,
+    OP_INVOKE,
+    OP_GETELEM,
+    OP_PUTELEM,
+    OP_REDIM,
+    OP_LOCK,
+    OP_UNLOCK,
+    OP_TYPEINFO,
+    OP_LIST
 };
-
-#define KIND_INTERFACE 4u /* TKIND_DISPATCH */
-#define KIND_COCLASS 5u   /* TKIND_COCLASS */
 
 /* Where a server is, and how long to wait; texts end with a NUL. */
 typedef struct Settings {
     WCHAR host[256], port[16];
     WCHAR type_library[MAX_PATH]; /* the file of its types, or empty */
-    DWORD timeout; /* milliseconds for a reply; 0 for ever */
-    DWORD idle;    /* milliseconds behind the last reply until it hangs up; 0 never */
+    DWORD timeout;                /* milliseconds for a reply; 0 for ever */
+    DWORD idle;                   /* milliseconds behind the last reply until it hangs up; 0 never */
 } Settings;
 
-/* What a property takes and holds, from TYPEINFO. */
-typedef struct Property {
-    DISPID id;
-    VARTYPE type;    /* of what it holds, with VT_ARRAY; VT_VOID of a method */
-    WORD parameters; /* a put's new value not counted */
-} Property;
-
-struct known_name;
-struct interface_types;
-struct class_types;
+struct Library;
 
 typedef struct Connection {
     struct Connection *next;
@@ -51,18 +48,14 @@ typedef struct Connection {
     PTP_TIMER timer;
     SOCKET socket; /* INVALID_SOCKET where it is hung up */
     ULONGLONG last;
-    LONG locks;    /* of arrays: they end with the connection, so it is not idle while there are some */
+    LONG locks; /* of arrays: they end with the connection, so it is not idle while there are some */
     UINT32 tag;
     Writer request;
     BYTE *reply;
-    UINT32 reply_length, reply_room;
-    UINT32 argument; /* the last reply's index of an argument, or NO_ARGUMENT */
-    /* what this connection's server has said of its library: another one may be there at the next dial */
-    struct known_name *names;
-    struct interface_types *interfaces;
-    struct class_types *classes;
-    UINT32 interface_count, class_count;
-    BOOL has_types;
+    UINT32 reply_length, reply_room; /* of the body, of all that is received */
+    UINT32 received;
+    UINT32 argument;         /* the last reply's index of an argument, or NO_ARGUMENT */
+    struct Library *library; /* what the server has said of its library (library.h) */
 } Connection;
 
 /* Before all else, once a process. */
@@ -83,7 +76,7 @@ HRESULT connection_leave(Connection *connection, HRESULT code);
 
 /* Over which connection a request goes. */
 enum way {
-    ONCE,  /* over the one that is there; over a new one where there is none, or its server has gone before it was sent */
+    ONCE, /* over the one that is there; over a new one where there is none, or its server has gone before it was sent */
     AGAIN, /* the same, and over a new one where the connection broke: asking twice is as asking once */
     HERE   /* over the one that is there: what was asked before it has to be of the same server */
 };
@@ -96,15 +89,9 @@ HRESULT exchange(Connection *connection, enum way way);
 Reader reply_fields(Connection *connection);
 void hang_up(Connection *connection);
 
-/* DISPIDs of a member and of parameters, by GETIDS; that of a member alone is remembered while the connection lasts. */
-HRESULT names_to_ids(Connection *connection, UINT32 object, REFGUID class, REFIID riid, LCID locale,
-                     const WCHAR *const *names, UINT32 count, DISPID *ids);
-/* What a property of a coclass's default interface takes and holds. S_FALSE where there is no such property. */
-HRESULT property_of(Connection *connection, REFGUID class, DISPID id, Property *property);
-/* Asks for the item of the library with an index: its kind, GUID, and name, of at most 64 units and a NUL.
-   DISP_E_BADINDEX behind the last. `entries` reads on behind them. The items are asked for from 0 on, so that all of
-   them are of one server. */
-HRESULT describe_item(Connection *connection, UINT32 index, UINT32 *kind, GUID *guid, WCHAR name[65],
-                      UINT32 *entry_count, Reader *entries);
+/* Whether there is a connection; whether its other end has closed, or has sent what nobody asked for, so that nothing
+   that is sent has a reply. */
+BOOL is_connected(const Connection *connection);
+BOOL has_gone(Connection *connection);
 
 #endif

@@ -1,21 +1,23 @@
-/* COM objects over a connection: those of a store, and the hub, which is the server itself. */
+/* COM objects over a connection: those of a store. */
 #ifndef OAUT_OBJECTS_H
 #define OAUT_OBJECTS_H
 
-#include "connection.h"
-
-/* What is registered of a class: CLSID\{..}\Oaut in the registry (registration.c). */
-typedef struct Class {
-    GUID guid;
-    Settings settings;
-    BOOL is_hub;      /* the server, no coclass */
-    BOOL for_scripts; /* values as VBScript and JScript can use them */
-} Class;
+#include "calls.h"
 
 /* How many objects of this DLL are there, and locks on it. */
 extern LONG dll_references;
 
-/* A class object: IClassFactory, and of a hub IParseDisplayName. */
-HRESULT new_class_object(const Class *class, REFIID iid, void **made);
+/* A COM object for an object of a store. Its IDispatch is the target's interface; the others of the coclass are there by
+   QueryInterface. */
+HRESULT new_object(const Target *target, REFIID iid, void **made);
+
+/* What a COM object stands for, where it is one of new_object's; NULL else. It lasts as long as the object. */
+const Target *target_of(IUnknown *object);
+
+/* Whether an object of a coclass would answer an interface. Wants the connection's lock held. */
+HRESULT has_interface(const Target *target, REFIID iid);
+
+/* The class as it is registered, such as Desk.Sheet, else its coclass's name, and the object's number behind it. */
+void name_class(Connection *connection, REFGUID class, WCHAR *text, size_t room);
 
 #endif

@@ -90,30 +90,17 @@ static void set_32(Writer *to, size_t at, UINT32 number)
 
 /* ---- types */
 
-/* The bytes of a number of a type, in memory as on the wire; 0 of what is no number. */
-static UINT32 width_of(VARTYPE type)
-{
-    switch (type) {
-    case VT_I1: case VT_UI1:
-        return 1;
-    case VT_I2: case VT_UI2: case VT_BOOL:
-        return 2;
-    case VT_I4: case VT_UI4: case VT_INT: case VT_UINT: case VT_ERROR: case VT_R4:
-        return 4;
-    case VT_I8: case VT_UI8: case VT_CY: case VT_R8: case VT_DATE:
-        return 8;
-    }
-    return 0;
-}
-
 /* Whether a server has scalars of a type. */
 static BOOL is_scalar(VARTYPE type)
 {
     switch (type) {
-    case VT_EMPTY: case VT_NULL: case VT_BSTR: case VT_DECIMAL:
-        return TRUE;
-    case VT_R4: case VT_R8: case VT_DATE:
-        return FALSE;
+    case VT_EMPTY:
+    case VT_NULL:
+    case VT_BSTR:
+    case VT_DECIMAL: return TRUE;
+    case VT_R4:
+    case VT_R8:
+    case VT_DATE: return FALSE;
     }
     return width_of(type) != 0;
 }
@@ -163,35 +150,6 @@ static UINT32 count_cells(const SAFEARRAYBOUND *bounds, UINT32 count)
 }
 
 /* ---- values to bytes */
-
-const VARIANT *value_behind(const VARIANT *value, VARIANT *room)
-{
-    const void *at;
-    VARTYPE type;
-    int turns;
-
-    for (turns = 0; V_VT(value) == (VT_BYREF | VT_VARIANT); turns++)
-        if (turns == 4 || !(value = V_VARIANTREF(value)))
-            return NULL;
-    if (!(V_VT(value) & VT_BYREF))
-        return value;
-    type = V_VT(value) & ~VT_BYREF;
-    if (!(at = V_BYREF(value)))
-        return NULL;
-    memset(room, 0, sizeof *room);
-    if (type == VT_DECIMAL)
-        V_DECIMAL(room) = *(const DECIMAL *)at;
-    else if (type & VT_ARRAY)
-        V_ARRAY(room) = *(SAFEARRAY *const *)at;
-    else if (type == VT_BSTR)
-        V_BSTR(room) = *(const BSTR *)at;
-    else if (type == VT_DISPATCH || type == VT_UNKNOWN)
-        V_BYREF(room) = *(void *const *)at; /* a pointer, as V_DISPATCH and V_UNKNOWN are */
-    else
-        memcpy(&V_UI8(room), at, width_of(type)); /* the numbers of the union begin at one place */
-    V_VT(room) = type;                            /* last: a DECIMAL's first two bytes are the vt */
-    return room;
-}
 
 static void write_head(Writer *to, VARTYPE type)
 {
@@ -260,25 +218,6 @@ static void write_texts(Writer *to, const BSTR *texts, UINT32 count)
             write_text(to, texts[i]);
 }
 
-static HRESULT write_variants(Writer *to, const VARIANT *values, UINT32 count)
-{
-    UINT32 i;
-
-    for (i = 0; i < count; i++)
-        write_32(to, REFERENT);
-    for (i = 0; i < count; i++) {
-        VARIANT room;
-        const VARIANT *cell = value_behind(&values[i], &room);
-
-        if (!cell)
-            return E_POINTER;
-        if (!is_scalar(V_VT(cell)))
-            return DISP_E_BADVARTYPE; /* a server says bad stub data, without the argument */
-        write_scalar(to, cell);
-    }
-    return S_OK;
-}
-
 /* Whether cells are what a VARIANT calls them. Numbers are compared by their width alone, since a host may call a
    Long an INT; but what is followed as a pointer has to be one by the array's own word, where it has said it. */
 static BOOL holds_cells(const SAFEARRAY *array, VARTYPE type, size_t width)
@@ -291,28 +230,28 @@ static BOOL holds_cells(const SAFEARRAY *array, VARTYPE type, size_t width)
            (SUCCEEDED(SafeArrayGetVartype((SAFEARRAY *)array, &own)) && own == type);
 }
 
-/* The bounds stand as in memory, where rgsabound has the leftmost dimension last, and so do the cells: in memory the
-   last of rgsabound counts fastest, on the wire the last that is listed. */
-static HRESULT write_array(Writer *to, VARTYPE type, const SAFEARRAY *array)
+/* What an array has to be for its cells to be written: that is, as many as `count` tells. No array is one without
+   cells. */
+static HRESULT check_array(const SAFEARRAY *array, VARTYPE type, size_t width, UINT32 *count)
+{
+    *count = 0;
+    if (!array)
+        return S_OK;
+    if (array->cDims < 1 || array->cDims > MAX_BOUNDS || !holds_cells(array, type, width))
+        return E_INVALIDARG;
+    *count = count_cells(array->rgsabound, array->cDims);
+    return *count > MAX_CELLS || (*count && !array->pvData) ? E_INVALIDARG : S_OK;
+}
+
+/* All of an array before its cells. The bounds stand as in memory, where rgsabound has the leftmost dimension last, and
+   so do the cells: in memory the last of rgsabound counts fastest, on the wire the last that is listed. */
+static void write_array_head(Writer *to, VARTYPE type, const SAFEARRAY *array, UINT32 count)
 {
     static const SAFEARRAYBOUND nothing = {0, 0};
-    const SAFEARRAYBOUND *bounds = array ? array->rgsabound : &nothing;
-    UINT32 dimensions = array ? array->cDims : 1, count;
-    const void *data = array ? array->pvData : NULL;
+    UINT32 dimensions = array ? array->cDims : 1;
     Cells cells = cells_of(type);
-    size_t head = to->length;
-    HRESULT result = S_OK;
 
     write_head(to, type | VT_ARRAY);
-    if (!cells.form) {
-        write_size(to, head);
-        return S_OK; /* the server refuses its vt */
-    }
-    if (dimensions < 1 || dimensions > MAX_BOUNDS || (array && !holds_cells(array, type, cells.memory)))
-        return E_INVALIDARG;
-    count = count_cells(bounds, dimensions);
-    if (count > MAX_CELLS || (count && !data))
-        return E_INVALIDARG;
     write_32(to, REFERENT);
     write_32(to, REFERENT);
     write_32(to, dimensions);
@@ -323,37 +262,172 @@ static HRESULT write_array(Writer *to, VARTYPE type, const SAFEARRAY *array)
     write_32(to, cells.form);
     write_32(to, count);
     write_32(to, REFERENT);
-    write_bytes(to, bounds, dimensions * sizeof *bounds);
+    write_bytes(to, array ? array->rgsabound : &nothing, dimensions * sizeof nothing);
     write_32(to, count);
-    if (type == VT_BSTR) {
-        write_texts(to, data, count);
-    } else if (type == VT_VARIANT) {
-        result = write_variants(to, data, count);
+}
+
+/* Where cells come from: an array that a host has made, and the type that it has for them. */
+typedef struct Source {
+    const SAFEARRAY *array;
+    VARTYPE own;
+    VARTYPE wanted;  /* the type that they are written with; that of a VARIANT takes any scalar */
+    BOOL as_scripts; /* floating-point numbers go as what they are exactly */
+} Source;
+
+/* What is written of a cell. */
+static HRESULT cell_at(const Source *source, UINT32 i, VARIANT *made)
+{
+    const VARIANT *cell;
+    VARIANT room;
+    HRESULT result;
+
+    if (source->own == VT_VARIANT) {
+        cell = value_behind((const VARIANT *)source->array->pvData + i, &room);
+        if (!cell)
+            return E_POINTER;
+    } else {
+        UINT32 width = width_of(source->own);
+
+        memset(&room, 0, sizeof room);
+        memcpy(&V_UI8(&room), (const BYTE *)source->array->pvData + (size_t)i * width, width);
+        V_VT(&room) = source->own;
+        cell = &room;
+    }
+    if (source->wanted != VT_VARIANT)
+        return cell_as(cell, source->wanted, made);
+    if (source->as_scripts && (result = number_as(cell, VT_VARIANT, made)) != S_FALSE)
+        return result;
+    *made = *cell;
+    return is_scalar(V_VT(cell)) ? S_OK : DISP_E_BADVARTYPE; /* a server says bad stub data, without the argument */
+}
+
+static HRESULT write_cells(Writer *to, const Source *source, UINT32 count)
+{
+    UINT32 width = width_of(source->wanted), i;
+    HRESULT result = S_OK;
+    VARIANT made;
+
+    if (width && count)
+        write_pad(to, width);
+    for (i = 0; i < count && !width && SUCCEEDED(result); i++) {
+        result = source->wanted == VT_VARIANT ? S_OK : cell_at(source, i, &made);
+        if (SUCCEEDED(result))
+            write_32(to, source->wanted == VT_VARIANT || V_BSTR(&made) ? REFERENT : 0);
+    }
+    for (i = 0; i < count && SUCCEEDED(result); i++) {
+        if (FAILED(result = cell_at(source, i, &made)))
+            break;
+        if (width)
+            write_bytes(to, &V_UI8(&made), width);
+        else if (source->wanted == VT_VARIANT)
+            write_scalar(to, &made);
+        else if (V_BSTR(&made))
+            write_text(to, V_BSTR(&made));
+    }
+    return result;
+}
+
+static HRESULT write_array(Writer *to, VARTYPE type, const SAFEARRAY *array)
+{
+    Cells cells = cells_of(type);
+    Source source = {array, VT_VARIANT, VT_VARIANT, FALSE};
+    size_t head = to->length;
+    HRESULT result;
+    UINT32 count;
+
+    if (!cells.form) {
+        write_head(to, type | VT_ARRAY);
+        write_size(to, head);
+        return S_OK; /* the server refuses its vt */
+    }
+    if (FAILED(result = check_array(array, type, cells.memory, &count)))
+        return result;
+    write_array_head(to, type, array, count);
+    if (type == VT_BSTR && count) {
+        write_texts(to, array->pvData, count);
+    } else if (type == VT_VARIANT && count) {
+        result = write_cells(to, &source, count);
     } else if (count) {
         write_pad(to, cells.bytes);
-        write_bytes(to, data, (size_t)count * cells.bytes);
+        write_bytes(to, array->pvData, (size_t)count * cells.bytes);
     }
     write_size(to, head);
     return result;
 }
 
+/* An array of VARIANT, VT_R4 or VT_R8, with its cells as those of another type. Nothing is written where one cannot be. */
+static HRESULT write_array_as(Writer *to, VARTYPE own, const SAFEARRAY *array, VARTYPE wanted)
+{
+    Source source = {array, own, wanted, TRUE};
+    size_t head = to->length;
+    HRESULT result;
+    UINT32 count, i;
+    VARIANT made;
+
+    result = check_array(array, own, own == VT_VARIANT ? sizeof(VARIANT) : width_of(own), &count);
+    for (i = 0; i < count && SUCCEEDED(result); i++)
+        result = cell_at(&source, i, &made);
+    if (FAILED(result))
+        return result;
+    write_array_head(to, wanted, array, count);
+    result = write_cells(to, &source, count);
+    write_size(to, head);
+    return result;
+}
+
+/* A field's length and a reserved number, known once the field is written. */
+static size_t begin_field(Writer *to)
+{
+    write_zeros(to, 8);
+    return to->length;
+}
+
+static HRESULT end_field(Writer *to, size_t field, HRESULT result)
+{
+    set_32(to, field - 8, (UINT32)(to->length - field));
+    write_pad(to, 8);
+    return SUCCEEDED(result) ? to->fault : result;
+}
+
 HRESULT write_variant(Writer *to, const VARIANT *value)
 {
-    VARIANT room;
-    size_t head = to->length, field;
     HRESULT result = S_OK;
+    VARIANT room;
+    size_t field;
 
     if (!(value = value_behind(value, &room)))
         return E_POINTER;
-    write_zeros(to, 8); /* the field's length, and a reserved number */
-    field = to->length;
+    field = begin_field(to);
     if (V_VT(value) & VT_ARRAY)
-        result = write_array(to, V_VT(value) & ~VT_ARRAY, V_ARRAY(value));
+        result = write_array(to, V_VT(value) & (VARTYPE)~VT_ARRAY, V_ARRAY(value));
     else
         write_scalar(to, value);
-    set_32(to, head, (UINT32)(to->length - field));
-    write_pad(to, 8);
-    return SUCCEEDED(result) ? to->fault : result;
+    return end_field(to, field, result);
+}
+
+HRESULT write_variant_as(Writer *to, const VARIANT *value, VARTYPE declared)
+{
+    size_t begun = to->length, field;
+    VARTYPE own, wanted = VT_VARIANT;
+    VARIANT room, made;
+    HRESULT result;
+
+    if (!(value = value_behind(value, &room)))
+        return E_POINTER;
+    own = V_VT(value) & (VARTYPE)~VT_ARRAY;
+    if (!(V_VT(value) & VT_ARRAY)) {
+        result = number_as(value, declared, &made);
+        return FAILED(result) ? result : write_variant(to, result == S_OK ? &made : value);
+    }
+    if (own != VT_VARIANT && own != VT_R4 && own != VT_R8)
+        return write_variant(to, value);
+    if ((declared & VT_ARRAY) && cells_of(declared & (VARTYPE)~VT_ARRAY).form)
+        wanted = declared & (VARTYPE)~VT_ARRAY;
+    field = begin_field(to);
+    result = end_field(to, field, write_array_as(to, own, V_ARRAY(value), wanted));
+    if (FAILED(result) && SUCCEEDED(to->fault))
+        to->length = begun;
+    return result;
 }
 
 /* ---- bytes being read */
@@ -510,18 +584,37 @@ static SAFEARRAY *new_array(VARTYPE type, UINT32 dimensions, const SAFEARRAYBOUN
     return SafeArrayCreate(type, dimensions, turned);
 }
 
+/* A text that is a cell: of an array of texts, or of one of VARIANT that takes its place. */
+static HRESULT read_text_cell(Reader *from, void *data, UINT32 i, BOOL as_variants)
+{
+    VARIANT *cell = (VARIANT *)data + i;
+
+    if (!as_variants)
+        return read_text(from, (BSTR *)data + i);
+    V_VT(cell) = VT_BSTR;
+    return read_text(from, &V_BSTR(cell));
+}
+
 /* The cells of an array of texts or VARIANTs: their referents, then those that are not null. */
-static HRESULT read_pointees(Reader *from, VARTYPE type, void *data, UINT32 count)
+static HRESULT read_pointees(Reader *from, VARTYPE type, void *data, UINT32 count, BOOL as_variants)
 {
     Reader referents = *from;
     HRESULT result = S_OK;
     UINT32 i;
 
     read_past(from, (size_t)count * 4);
-    for (i = 0; i < count && !from->bad && SUCCEEDED(result); i++)
-        if (read_32(&referents))
-            result = type == VT_BSTR ? read_text(from, (BSTR *)data + i)
-                                     : read_scalar(from, (VARIANT *)data + i);
+    for (i = 0; i < count && !from->bad && SUCCEEDED(result); i++) {
+        BOOL is_there = read_32(&referents) != 0;
+
+        if (is_there && type == VT_BSTR)
+            result = read_text_cell(from, data, i, as_variants);
+        else if (is_there)
+            result = read_scalar(from, (VARIANT *)data + i);
+        else if (type == VT_BSTR && as_variants)
+            V_VT((VARIANT *)data + i) = VT_BSTR;
+        if (type == VT_VARIANT && as_variants)
+            make_number_scriptable((VARIANT *)data + i);
+    }
     return result;
 }
 
@@ -539,9 +632,26 @@ static void read_numbers(Reader *from, VARTYPE type, void *data, UINT32 count, U
                 ((VARIANT_BOOL *)data)[i] = VARIANT_TRUE;
 }
 
-/* A wireVARIANT that is an array, from its discriminant on. */
-static HRESULT read_array(Reader *from, VARTYPE type, VARIANT *value)
+/* The same into an array of VARIANT, whose numbers are of the types that scripts have. */
+static void read_numbers_as_variants(Reader *from, VARTYPE type, VARIANT *cells, UINT32 count, UINT32 width)
 {
+    UINT32 i;
+
+    if (count)
+        read_pad(from, width);
+    for (i = 0; i < count && !from->bad; i++) {
+        read_bytes(from, &V_UI8(&cells[i]), width);
+        if (type == VT_BOOL && V_BOOL(&cells[i]))
+            V_BOOL(&cells[i]) = VARIANT_TRUE;
+        V_VT(&cells[i]) = type;
+        make_number_scriptable(&cells[i]);
+    }
+}
+
+/* A wireVARIANT that is an array, from its discriminant on; for scripts it becomes one of VARIANT. */
+static HRESULT read_array(Reader *from, VARTYPE type, BOOL for_scripts, VARIANT *value)
+{
+    VARTYPE made = for_scripts ? VT_VARIANT : type;
     SAFEARRAYBOUND bounds[MAX_BOUNDS];
     Cells cells = cells_of(type);
     UINT32 discriminant, referents, most, dimensions, form, count;
@@ -566,24 +676,26 @@ static HRESULT read_array(Reader *from, VARTYPE type, VARIANT *value)
     /* the bytes of the cells, or of their referents, before room is made for them */
     if (from->bad || bytes_left(from) < (size_t)count * (width_of(type) ? cells.bytes : 4))
         return OAUT_E_NO_REPLY;
-    if (!(array = new_array(type, dimensions, bounds)))
+    if (!(array = new_array(made, dimensions, bounds)))
         return E_OUTOFMEMORY;
     if (count && !array->pvData)
         result = E_OUTOFMEMORY;
     else if (type == VT_BSTR || type == VT_VARIANT)
-        result = read_pointees(from, type, array->pvData, count);
+        result = read_pointees(from, type, array->pvData, count, for_scripts);
+    else if (for_scripts)
+        read_numbers_as_variants(from, type, array->pvData, count, cells.bytes);
     else
         read_numbers(from, type, array->pvData, count, cells.bytes);
     if (from->bad || FAILED(result)) {
         SafeArrayDestroy(array);
         return from->bad ? OAUT_E_NO_REPLY : result;
     }
-    V_VT(value) = VT_ARRAY | type;
+    V_VT(value) = VT_ARRAY | made;
     V_ARRAY(value) = array;
     return S_OK;
 }
 
-HRESULT read_variant(Reader *from, VARIANT *value)
+HRESULT read_variant(Reader *from, BOOL for_scripts, VARIANT *value)
 {
     UINT32 length = read_32(from);
     HRESULT result;
@@ -601,192 +713,16 @@ HRESULT read_variant(Reader *from, VARIANT *value)
     type = read_16(&field);
     read_past(&field, 6);
     if (type & VT_ARRAY) {
-        result = read_array(&field, type & ~VT_ARRAY, value);
+        result = read_array(&field, type & (VARTYPE)~VT_ARRAY, for_scripts, value);
     } else {
         field.place = 0; /* a scalar is read from its head on */
         result = read_scalar(&field, value);
+        if (for_scripts)
+            make_number_scriptable(value);
     }
     if (SUCCEEDED(result) && (from->bad || field.place != length)) {
         VariantClear(value);
         result = OAUT_E_NO_REPLY;
     }
     return result;
-}
-
-/* ---- values */
-
-BOOL whole_number(const VARIANT *value, INT64 *number, BOOL *large)
-{
-    *large = FALSE;
-    switch (V_VT(value)) {
-    case VT_I1: *number = (signed char)V_UI1(value); return TRUE;
-    case VT_UI1: *number = V_UI1(value); return TRUE;
-    case VT_I2: *number = V_I2(value); return TRUE;
-    case VT_UI2: *number = V_UI2(value); return TRUE;
-    case VT_I4: case VT_INT: *number = V_I4(value); return TRUE;
-    case VT_UI4: case VT_UINT: *number = V_UI4(value); return TRUE;
-    case VT_I8: *number = V_I8(value); return TRUE;
-    case VT_UI8:
-        *number = V_I8(value);
-        *large = *number < 0;
-        return TRUE;
-    }
-    return FALSE;
-}
-
-#define CY_MOST (INT64_MAX / 10000) /* the largest whole number of a CURRENCY */
-
-/* A whole number in a type that scripts have. */
-static void scriptable_number(VARIANT *value)
-{
-    INT64 number;
-    BOOL large, minus;
-
-    if (V_VT(value) == VT_UI1 || V_VT(value) == VT_I2 || V_VT(value) == VT_I4 ||
-        !whole_number(value, &number, &large))
-        return;
-    memset(value, 0, sizeof *value);
-    minus = !large && number < 0;
-    if (!large && number == (INT32)number) {
-        V_I4(value) = (INT32)number;
-        V_VT(value) = VT_I4;
-    } else if (!large && number <= CY_MOST && number >= -CY_MOST) {
-        V_CY(value).int64 = number * 10000;
-        V_VT(value) = VT_CY;
-    } else {
-        V_DECIMAL(value).Lo64 = minus ? 0 - (UINT64)number : (UINT64)number;
-        V_DECIMAL(value).sign = minus ? DECIMAL_NEG : 0;
-        V_VT(value) = VT_DECIMAL;
-    }
-}
-
-static HRESULT copy_text(BSTR from, BSTR *to)
-{
-    *to = from ? SysAllocStringByteLen((const char *)from, SysStringByteLen(from)) : NULL;
-    return from && !*to ? E_OUTOFMEMORY : S_OK;
-}
-
-/* An array of numbers or texts that was read, as one of VARIANT. */
-static HRESULT scriptable_cells(SAFEARRAY *from, VARTYPE type, SAFEARRAY **made)
-{
-    UINT32 count = count_cells(from->rgsabound, from->cDims), i;
-    HRESULT result = S_OK;
-
-    if (!(*made = new_array(VT_VARIANT, from->cDims, from->rgsabound)) || (count && !(*made)->pvData))
-        result = E_OUTOFMEMORY;
-    for (i = 0; i < count && SUCCEEDED(result); i++) {
-        VARIANT *to = (VARIANT *)(*made)->pvData + i;
-
-        if (type == VT_BSTR)
-            result = copy_text(((BSTR *)from->pvData)[i], &V_BSTR(to));
-        else
-            memcpy(&V_UI8(to), (BYTE *)from->pvData + (size_t)i * width_of(type), width_of(type));
-        if (SUCCEEDED(result))
-            V_VT(to) = type;
-        scriptable_number(to);
-    }
-    if (FAILED(result) && *made)
-        SafeArrayDestroy(*made);
-    return result;
-}
-
-HRESULT make_scriptable(VARIANT *value)
-{
-    VARTYPE type = V_VT(value) & ~VT_ARRAY;
-    SAFEARRAY *array = V_ARRAY(value), *made;
-    HRESULT result;
-    UINT32 i;
-
-    if (!(V_VT(value) & VT_ARRAY)) {
-        scriptable_number(value);
-    } else if (type == VT_VARIANT) {
-        for (i = count_cells(array->rgsabound, array->cDims); i > 0; i--)
-            scriptable_number((VARIANT *)array->pvData + i - 1);
-    } else {
-        result = scriptable_cells(array, type, &made);
-        if (FAILED(result))
-            return result;
-        VariantClear(value);
-        V_ARRAY(value) = made;
-        V_VT(value) = VT_ARRAY | VT_VARIANT;
-    }
-    return S_OK;
-}
-
-/* A cell of an array of VARIANT as one of a type, at `to`, which holds zeros. */
-static HRESULT cast_cell(const VARIANT *value, VARTYPE type, void *to)
-{
-    UINT32 width = width_of(type), bits = width * 8;
-    INT64 number, least = 0, most;
-    BOOL large;
-
-    if (V_VT(value) == VT_EMPTY)
-        return S_OK;
-    if (V_VT(value) == VT_BSTR && type == VT_BSTR)
-        return copy_text(V_BSTR(value), to);
-    if (V_VT(value) == type && width) {
-        memcpy(to, &V_UI8(value), width);
-        return S_OK;
-    }
-    if (type == VT_BOOL || !width || !whole_number(value, &number, &large))
-        return DISP_E_TYPEMISMATCH;
-    switch (type) {
-    case VT_CY:
-        if (large || number > CY_MOST || number < -CY_MOST)
-            return DISP_E_OVERFLOW;
-        number *= 10000;
-        break;
-    case VT_UI8:
-        if (!large && number < 0)
-            return DISP_E_OVERFLOW;
-        break;
-    case VT_I8:
-        if (large)
-            return DISP_E_OVERFLOW;
-        break;
-    case VT_I1: case VT_I2: case VT_I4: case VT_INT:
-        least = -((INT64)1 << (bits - 1));
-        bits--;
-        /* fall through */
-    default:
-        most = ((INT64)1 << bits) - 1;
-        if (large || number < least || number > most)
-            return DISP_E_OVERFLOW;
-    }
-    memcpy(to, &number, width);
-    return S_OK;
-}
-
-HRESULT cast_cells(SAFEARRAY *cells, VARTYPE type, VARIANT *made)
-{
-    UINT32 count, i;
-    HRESULT result = S_OK;
-    SAFEARRAY *array;
-    size_t width = cells_of(type).memory;
-
-    if (cells->cDims < 1 || cells->cDims > MAX_BOUNDS || !holds_cells(cells, VT_VARIANT, sizeof(VARIANT)))
-        return E_INVALIDARG;
-    count = count_cells(cells->rgsabound, cells->cDims);
-    if (count > MAX_CELLS || (count && !cells->pvData))
-        return E_INVALIDARG;
-    if (!cells_of(type).form || type == VT_VARIANT)
-        return DISP_E_TYPEMISMATCH;
-    if (!(array = new_array(type, cells->cDims, cells->rgsabound)))
-        return E_OUTOFMEMORY;
-    if (count && !array->pvData)
-        result = E_OUTOFMEMORY;
-    for (i = 0; i < count && SUCCEEDED(result); i++) {
-        VARIANT room;
-        const VARIANT *cell = value_behind((VARIANT *)cells->pvData + i, &room);
-
-        result = cell ? cast_cell(cell, type, (BYTE *)array->pvData + i * width) : E_POINTER;
-    }
-    if (FAILED(result)) {
-        SafeArrayDestroy(array);
-        return result;
-    }
-    memset(made, 0, sizeof *made);
-    V_ARRAY(made) = array;
-    V_VT(made) = VT_ARRAY | type;
-    return S_OK;
 }

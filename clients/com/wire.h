@@ -5,12 +5,11 @@
 #ifndef OAUT_WIRE_H
 #define OAUT_WIRE_H
 
-#include <windows.h>
-#include <oleauto.h>
+#include "values.h"
 
-#define MAX_BODY 0x400000u    /* the bytes of a request's body */
-#define MAX_CELLS 0x10000u    /* the cells of an array */
-#define MAX_BOUNDS 16u        /* the bounds of an array */
+#define MAX_BODY 0x400000u      /* the bytes of a request's body */
+#define MAX_CELLS 0x10000u      /* the cells of an array */
+#define MAX_BOUNDS 16u          /* the bounds of an array */
 #define NO_ARGUMENT 0xFFFFFFFFu /* a reply's index where no argument is at fault */
 
 /* Bytes that are no reply of a server. */
@@ -40,6 +39,11 @@ void write_pad(Writer *to, size_t width);
    that is not what its VARIANT says or has too many bounds or cells, DISP_E_BADVARTYPE for a cell of an array
    that no server takes. A value of a type without a wire form is written by its vt alone, for the server to refuse. */
 HRESULT write_variant(Writer *to, const VARIANT *value);
+/* The same for a value that a script gives to what is declared with a type. A floating-point number goes as what it is
+   exactly, also in an array; an array of VARIANT, or of such numbers, goes as one of the declared type, each cell the
+   same number, text or truth. Where one cannot, nothing is written: DISP_E_BADVARTYPE, DISP_E_TYPEMISMATCH or
+   DISP_E_OVERFLOW. */
+HRESULT write_variant_as(Writer *to, const VARIANT *value, VARTYPE declared);
 
 /* ---- bytes being read */
 
@@ -59,24 +63,9 @@ UINT32 read_32(Reader *from);
 void read_pad(Reader *from, size_t width);
 /* A string of a record: its UTF-16 units at `*units`, in the Reader's bytes, and their number. */
 UINT32 read_string(Reader *from, const BYTE **units);
-/* A variant field of a reply. On success the caller owns the VARIANT; else it is EMPTY. */
-HRESULT read_variant(Reader *from, VARIANT *value);
-
-/* ---- values */
-
-/* The value behind VT_BYREF, without a copy of what it points to: either one that stands elsewhere, or `room`,
-   which then must not be cleared. NULL where a pointer is null. */
-const VARIANT *value_behind(const VARIANT *value, VARIANT *room);
-
-/* Whether a scalar is a whole number; `large` tells that it is one of UI8 above what `number` holds with a sign. */
-BOOL whole_number(const VARIANT *value, INT64 *number, BOOL *large);
-
-/* What VBScript and JScript can use, in place of a value that was read: a whole number of another type than UI1,
-   I2 and I4 becomes the same number as I4, CURRENCY or DECIMAL, in an array too, and an array one of VARIANT. */
-HRESULT make_scriptable(VARIANT *value);
-
-/* An array of VARIANT as one with cells of a type. A cell stays the same number, text or truth, EMPTY becomes
-   zero; else DISP_E_TYPEMISMATCH or DISP_E_OVERFLOW. The caller owns `made`. */
-HRESULT cast_cells(SAFEARRAY *cells, VARTYPE type, VARIANT *made);
+/* A variant field of a reply. On success the caller owns the VARIANT; else it is EMPTY. For scripts a whole number of
+   another type than UI1, I2 and I4 is read as the same number in I4, CURRENCY or DECIMAL, in an array too, and an array
+   as one of VARIANT. */
+HRESULT read_variant(Reader *from, BOOL for_scripts, VARIANT *value);
 
 #endif

@@ -4,17 +4,18 @@
 '
 ' The server serves example/sheet.idl, and is registered by regsvr32 /n /i:Desk@HOST:PORT oautcom.dll, or by sheet.reg.
 Option Explicit
-Dim hub, sheet, row, column, name, total
+Dim hub, sheets, sheet, row, column, name, total
 
 row = WScript.Arguments(0)
 column = WScript.Arguments(1)
 
-' the sheet is the store's first object; CreateObject makes one more at each run
+' the first sheet that is there; CreateObject makes one more at each run
 Set hub = CreateObject("Desk.Store")
-If hub.Count = 0 Then
+Set sheets = hub.Objects("Sheet")
+If sheets.Count = 0 Then
   Set sheet = CreateObject("Desk.Sheet")
 Else
-  Set sheet = hub.Object(1)
+  Set sheet = sheets(1)
 End If
 
 ' a new row: the array grows by one text, as by ReDim Preserve

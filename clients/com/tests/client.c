@@ -68,17 +68,6 @@ static BOOL same_text(BSTR one, BSTR other)
     return !one == !other && count == SysStringByteLen(other) && (!count || !memcmp(one, other, count));
 }
 
-static UINT width_of(VARTYPE type)
-{
-    switch (type) {
-    case VT_EMPTY: case VT_NULL: return 0;
-    case VT_I1: case VT_UI1: return 1;
-    case VT_I2: case VT_UI2: case VT_BOOL: return 2;
-    case VT_I8: case VT_UI8: case VT_CY: return 8;
-    }
-    return 4;
-}
-
 static BOOL same_scalar(const VARIANT *one, const VARIANT *other)
 {
     const DECIMAL *a = &V_DECIMAL(one), *b = &V_DECIMAL(other);
@@ -102,7 +91,7 @@ static BOOL same_array(const SAFEARRAY *one, const SAFEARRAY *other, VARTYPE typ
     for (i = 0; i < one->cDims; i++)
         count *= one->rgsabound[i].cElements;
     for (i = 0; i < count; i++) {
-        if (type == VT_BSTR ? !same_text(((BSTR *)one->pvData)[i], ((BSTR *)other->pvData)[i])
+        if (type == VT_BSTR      ? !same_text(((BSTR *)one->pvData)[i], ((BSTR *)other->pvData)[i])
             : type == VT_VARIANT ? !same_scalar((VARIANT *)one->pvData + i, (VARIANT *)other->pvData + i)
                                  : memcmp((BYTE *)one->pvData + i * one->cbElements,
                                           (BYTE *)other->pvData + i * one->cbElements, one->cbElements) != 0)
@@ -115,7 +104,7 @@ static BOOL same_value(const VARIANT *one, const VARIANT *other)
 {
     if (!(V_VT(one) & VT_ARRAY))
         return same_scalar(one, other);
-    return V_VT(one) == V_VT(other) && same_array(V_ARRAY(one), V_ARRAY(other), V_VT(one) & ~VT_ARRAY);
+    return V_VT(one) == V_VT(other) && same_array(V_ARRAY(one), V_ARRAY(other), V_VT(one) & (VARTYPE)~VT_ARRAY);
 }
 
 /* Puts a value by value, by reference, and by a reference to a VARIANT, and gets it back each time. */
@@ -170,13 +159,13 @@ static VARIANT number_of(LONG number)
 
 /* ---- cases */
 
-static const VARTYPE CELLS[] = {VT_I1, VT_UI1, VT_I2, VT_UI2, VT_I4, VT_UI4, VT_INT, VT_UINT, VT_I8, VT_UI8, VT_CY, VT_BOOL,
-                                VT_BSTR, VT_VARIANT};
+static const VARTYPE CELLS[] = {VT_I1,   VT_UI1, VT_I2,  VT_UI2, VT_I4,   VT_UI4,  VT_INT,
+                                VT_UINT, VT_I8,  VT_UI8, VT_CY,  VT_BOOL, VT_BSTR, VT_VARIANT};
 
 static void scalars(void)
 {
-    static const VARTYPE numbers[] = {VT_I1, VT_UI1, VT_I2, VT_UI2, VT_I4, VT_UI4, VT_INT, VT_UINT, VT_I8, VT_UI8, VT_CY,
-                                      VT_ERROR};
+    static const VARTYPE numbers[] = {VT_I1,  VT_UI1,  VT_I2, VT_UI2, VT_I4, VT_UI4,
+                                      VT_INT, VT_UINT, VT_I8, VT_UI8, VT_CY, VT_ERROR};
     char name[40];
     VARIANT value;
     UINT i;
@@ -460,8 +449,8 @@ static void named_arguments(void)
     tell(code == S_OK, "a put by names", code);
     VariantInit(&seen);
     code = call(9, DISPATCH_PROPERTYGET, &by_place, &seen);
-    tell(code == S_OK && V_VT(&seen) == VT_BSTR && same_text(V_BSTR(&seen), V_BSTR(&arguments[0])),
-         "a get by place", code);
+    tell(code == S_OK && V_VT(&seen) == VT_BSTR && same_text(V_BSTR(&seen), V_BSTR(&arguments[0])), "a get by place",
+         code);
     VariantClear(&seen);
     code = call(9, DISPATCH_PROPERTYGET, &by_place, NULL);
     tell(code == S_OK, "a get without a place for the result", code);
@@ -475,8 +464,6 @@ static void named_arguments(void)
     arguments[2] = number_of(5);
     code = call(9, DISPATCH_PROPERTYPUT, &all_named, NULL);
     tell(code == E_INVALIDARG, "a name that is given twice", code);
-    code = call(1, DISPATCH_PROPERTYPUTREF, &all_named, NULL);
-    tell(code == DISP_E_MEMBERNOTFOUND, "PROPERTYPUTREF alone", code);
     VariantClear(&arguments[0]);
     VariantClear(&arguments[1]);
 }
@@ -499,6 +486,166 @@ static void bad_calls(void)
     tell(code == E_NOINTERFACE && !found, "an interface that an object does not have", code);
 }
 
+/* The forms that hosts of late binding say the same in. */
+static void forms_of_calls(void)
+{
+    static const WORD gets[] = {DISPATCH_PROPERTYGET, DISPATCH_PROPERTYGET | DISPATCH_METHOD};
+    static const WORD puts_[] = {DISPATCH_PROPERTYPUT, DISPATCH_PROPERTYPUTREF,
+                                 DISPATCH_PROPERTYPUT | DISPATCH_PROPERTYPUTREF};
+    /* Cell("x"; Row 5, Key "k", Page 2), each argument by place or by name; the new value's name stands anywhere */
+    static const struct {
+        const char *name;
+        UINT named;
+        int order[4]; /* of what stands in rgvarg: 0 to 2 a parameter, 3 the new value */
+        DISPID ids[4];
+    } mixes[] = {
+        {"all by place", 1, {3, 2, 1, 0}, {DISPID_PROPERTYPUT}},
+        {"the last by name", 2, {3, 2, 1, 0}, {DISPID_PROPERTYPUT, 2}},
+        {"the first by place", 3, {3, 1, 2, 0}, {DISPID_PROPERTYPUT, 1, 2}},
+        {"all by name, backwards", 4, {0, 1, 2, 3}, {0, 1, 2, DISPID_PROPERTYPUT}},
+        {"the new value between", 3, {2, 3, 1, 0}, {2, DISPID_PROPERTYPUT, 1}},
+    };
+    DISPID new_value = DISPID_PROPERTYPUT;
+    VARIANT number, seen, values[4], given[4];
+    DISPPARAMS one = {&number, &new_value, 1, 1}, none = {NULL, NULL, 0, 0};
+    char line[80];
+    HRESULT code;
+    UINT i, k;
+
+    for (i = 0; i < ARRAYSIZE(puts_); i++) {
+        number = number_of((LONG)i + 50);
+        code = call(1, puts_[i], &one, NULL);
+        for (k = 0; k < ARRAYSIZE(gets) && code == S_OK; k++) {
+            code = call(1, gets[k], &none, &seen);
+            if (code == S_OK && V_I4(&seen) != (LONG)i + 50)
+                code = S_FALSE;
+        }
+        sprintf(line, "a put with flags %u, and gets with 2 and 3", puts_[i]);
+        tell(code == S_OK, line, code);
+    }
+    values[0] = number_of(5);
+    values[1] = text_of(L"k");
+    values[2] = number_of(2);
+    for (i = 0; i < ARRAYSIZE(mixes); i++) {
+        DISPPARAMS mixed = {given, (DISPID *)mixes[i].ids, 4, mixes[i].named}, by_place = {given, NULL, 3, 0};
+        WCHAR text[2] = {(WCHAR)(L'a' + i), 0};
+
+        values[3] = text_of(text);
+        for (k = 0; k < 4; k++)
+            given[k] = values[mixes[i].order[k]];
+        code = call(9, DISPATCH_PROPERTYPUT, &mixed, NULL);
+        given[0] = values[2];
+        given[1] = values[1];
+        given[2] = values[0];
+        if (code == S_OK)
+            code = call(9, DISPATCH_PROPERTYGET, &by_place, &seen);
+        sprintf(line, "arguments %s", mixes[i].name);
+        tell(code == S_OK && same_text(V_BSTR(&seen), V_BSTR(&values[3])), line, code);
+        if (code == S_OK)
+            VariantClear(&seen);
+        VariantClear(&values[3]);
+    }
+    /* Page is left out by what VBA gives for it: the default's cell is the one that named_arguments has put */
+    given[0] = number_of(0);
+    V_VT(&given[0]) = VT_ERROR;
+    V_ERROR(&given[0]) = DISP_E_PARAMNOTFOUND;
+    given[1] = values[1];
+    given[2] = values[0];
+    code = get(9, given, 3, &seen);
+    tell(code == S_OK && !lstrcmpW(V_BSTR(&seen), L"x"), "an argument that is Missing", code);
+    if (code == S_OK)
+        VariantClear(&seen);
+    given[1] = given[0];
+    code = get(9, given, 3, &seen);
+    tell(code == DISP_E_PARAMNOTOPTIONAL, "one that has to be given", code);
+    VariantClear(&values[1]);
+    memset(&number, 0, sizeof number);
+    V_VT(&number) = VT_DISPATCH;
+    code = put(ANY, &number, 1);
+    tell(code == DISP_E_BADVARTYPE && at_fault == 0, "Nothing", code);
+}
+
+/* Arrays of shapes that few hosts make. */
+static void odd_arrays(void)
+{
+    SAFEARRAYBOUND bounds[3] = {{2, 0}, {3, -1}, {2, 7}}, two = {2, 0};
+    LONG place[3] = {1, 0, 8};
+    VARIANT value, seen, indices[3], *cells, inner;
+    SHORT cell = 31;
+    HRESULT code;
+
+    VariantInit(&value);
+    V_ARRAY(&value) = SafeArrayCreate(VT_I2, 3, bounds);
+    V_VT(&value) = VT_ARRAY | VT_I2;
+    SafeArrayPutElement(V_ARRAY(&value), place, &cell);
+    there_and_back("an array of three dimensions", &value);
+    code = put(8, &value, 1);
+    indices[0] = number_of(8);
+    indices[1] = number_of(0);
+    indices[2] = number_of(1);
+    if (code == S_OK)
+        code = get(8, indices, 3, &seen);
+    tell(code == S_OK && V_VT(&seen) == VT_I2 && V_I2(&seen) == 31, "its element", code);
+    VariantClear(&value);
+    V_VT(&value) = VT_ARRAY | VT_I2; /* Dim a() As Integer */
+    V_ARRAY(&value) = NULL;
+    code = put(8, &value, 1);
+    if (code == S_OK)
+        code = get(8, NULL, 0, &seen);
+    tell(code == S_OK && V_VT(&seen) == (VT_ARRAY | VT_I2) && !V_ARRAY(&seen)->rgsabound[0].cElements,
+         "an array that was never dimensioned", code);
+    if (code == S_OK)
+        VariantClear(&seen);
+    V_ARRAY(&value) = SafeArrayCreate(VT_VARIANT, 1, &two);
+    V_VT(&value) = VT_ARRAY | VT_VARIANT;
+    cells = V_ARRAY(&value)->pvData;
+    V_VT(&cells[0]) = VT_ARRAY | VT_VARIANT;
+    V_ARRAY(&cells[0]) = SafeArrayCreate(VT_VARIANT, 1, &two);
+    code = put(ANY, &value, 1);
+    tell(code == DISP_E_BADVARTYPE && at_fault == 0, "an array in an array", code);
+    VariantClear(&cells[0]);
+    inner = number_of(5);
+    V_VT(&cells[0]) = VT_VARIANT | VT_BYREF;
+    V_VARIANTREF(&cells[0]) = &inner;
+    V_VT(&cells[1]) = VT_I4 | VT_BYREF;
+    V_I4REF(&cells[1]) = &V_I4(&inner);
+    code = put(16, &value, 1);
+    if (code == S_OK)
+        code = get(16, NULL, 0, &seen);
+    cells = code == S_OK ? V_ARRAY(&seen)->pvData : NULL;
+    tell(code == S_OK && V_I4(&cells[0]) == 5 && V_VT(&cells[1]) == VT_I4 && V_I4(&cells[1]) == 5, "cells by reference",
+         code);
+    if (code == S_OK)
+        VariantClear(&seen);
+    SafeArrayDestroy(V_ARRAY(&value));
+}
+
+/* What a host that gives room for words is told: the code of Script 0 is the server's own. */
+static void words_of_refusals(void)
+{
+    DISPID new_value = DISPID_PROPERTYPUT;
+    VARIANT text = text_of(L"no number");
+    DISPPARAMS given = {&text, &new_value, 1, 1}, none = {NULL, NULL, 0, 0};
+    EXCEPINFO told;
+    HRESULT code;
+
+    memset(&told, 0x55, sizeof told);
+    code = IDispatch_Invoke(item, 1, &IID_NULL, 0, DISPATCH_PROPERTYPUT, &given, NULL, &told, NULL);
+    tell(code == DISP_E_EXCEPTION && told.scode == DISP_E_TYPEMISMATCH && !told.wCode && !told.bstrHelpFile &&
+             !lstrcmpW(told.bstrSource, L"Demo.Item") && wcsstr(told.bstrDescription, L", Count: the value is of"),
+         "words beside the code", code);
+    SysFreeString(told.bstrSource);
+    SysFreeString(told.bstrDescription);
+    code = IDispatch_Invoke(item, 9, &IID_NULL, 0, DISPATCH_PROPERTYGET, &none, NULL, &told, NULL);
+    tell(code == DISP_E_PARAMNOTOPTIONAL, "a host that asks whether a member wants arguments has the code itself",
+         code);
+    code = IDispatch_Invoke(item, 9, &IID_NULL, 0, DISPATCH_PROPERTYGET | DISPATCH_METHOD, &none, NULL, &told, NULL);
+    tell(code == DISP_E_EXCEPTION && told.scode == DISP_E_PARAMNOTOPTIONAL, "one that calls it has words", code);
+    SysFreeString(told.bstrSource);
+    SysFreeString(told.bstrDescription);
+    VariantClear(&text);
+}
+
 /* As VBA gives an object: by a reference to its pointer. */
 static void objects_by_reference(void)
 {
@@ -517,7 +664,8 @@ static void objects_by_reference(void)
     V_DISPATCHREF(&object) = &item;
     given.rgvarg = &object;
     if (SUCCEEDED(code))
-        code = IDispatch_Invoke(hub, id_of(hub, L"NumberOf"), &IID_NULL, 0, DISPATCH_METHOD, &given, &number, NULL, NULL);
+        code = IDispatch_Invoke(hub, id_of(hub, L"NumberOf"), &IID_NULL, 0, DISPATCH_METHOD, &given, &number, NULL,
+                                NULL);
     tell(code == S_OK && V_VT(&number) == VT_I4 && V_I4(&number) > 0, "an object by reference", code);
     if (hub)
         IDispatch_Release(hub);
@@ -583,19 +731,17 @@ static VARIANT some_value(unsigned kind, unsigned number)
 
     memset(&made, 0, sizeof made);
     switch (kind) {
-    case 0:
-        return number_of((LONG)number);
-    case 1:
-        return text_of(L"some text");
+    case 0: return number_of((LONG)number);
+    case 1: return text_of(L"some text");
     case 2:
         V_DECIMAL(&made).Lo64 = number;
         V_VT(&made) = VT_DECIMAL;
         return made;
     }
     V_VT(&made) = VT_ARRAY | (kind == 3 ? VT_I2 : kind < 6 ? VT_BSTR : VT_VARIANT);
-    V_ARRAY(&made) = SafeArrayCreate(V_VT(&made) & ~VT_ARRAY, 2, bounds);
+    V_ARRAY(&made) = SafeArrayCreate(V_VT(&made) & (VARTYPE)~VT_ARRAY, 2, bounds);
     for (i = 0; i < 6; i++)
-        fill_cell(V_ARRAY(&made), V_VT(&made) & ~VT_ARRAY, i);
+        fill_cell(V_ARRAY(&made), V_VT(&made) & (VARTYPE)~VT_ARRAY, i);
     return made;
 }
 
@@ -629,7 +775,7 @@ static int spoiled(REFCLSID class, int seconds)
         }
         if (get(8, &index, 1, &seen) == S_OK)
             VariantClear(&seen);
-        IDispatch_GetIDsOfNames(item, &IID_NULL, names, 1 + i % 3, 0, ids);
+        IDispatch_GetIDsOfNames(item, &IID_NULL, names, 1 + (UINT)i % 3, 0, ids);
         VariantClear(&value);
     }
     printf("%d fine, %d refused\nend\n", fine, refused);
@@ -682,12 +828,16 @@ int main(int count, char **words)
         puts("end");
         return 0;
     }
-    tell(id_of(item, L"any") == 7 && id_of(item, L"COUNT") == 1 && id_of(item, L"Count") == 1, "DISPIDs of names", S_OK);
+    tell(id_of(item, L"any") == 7 && id_of(item, L"COUNT") == 1 && id_of(item, L"Count") == 1, "DISPIDs of names",
+         S_OK);
     scalars();
     arrays();
     elements();
     refusals();
     named_arguments();
+    forms_of_calls();
+    odd_arrays();
+    words_of_refusals();
     bad_calls();
     objects_by_reference();
     moniker();

@@ -35,7 +35,7 @@ int main(void)
         UINT32 i, length;
 
         writer_begin(&to, 0);
-        if (FAILED(read_variant(&from, &value)) || FAILED(write_variant(&to, &value))) {
+        if (FAILED(read_variant(&from, FALSE, &value)) || FAILED(write_variant(&to, &value))) {
             puts("-");
             continue;
         }

@@ -1,7 +1,7 @@
 #define OWN_MEMORY
+#define OWN_SOCKETS
 #include "windows.h"
 
-#undef setsockopt
 #include <assert.h>
 #include <sys/time.h>
 #include <time.h>
@@ -67,10 +67,20 @@ static void free_text(BSTR text)
 static size_t size_of(VARTYPE type)
 {
     switch (type) {
-    case VT_I1: case VT_UI1: return 1;
-    case VT_I2: case VT_UI2: case VT_BOOL: return 2;
-    case VT_I4: case VT_UI4: case VT_INT: case VT_UINT: return 4;
-    case VT_I8: case VT_UI8: case VT_CY: return 8;
+    case VT_I1:
+    case VT_UI1: return 1;
+    case VT_I2:
+    case VT_UI2:
+    case VT_BOOL: return 2;
+    case VT_I4:
+    case VT_UI4:
+    case VT_INT:
+    case VT_UINT:
+    case VT_R4: return 4;
+    case VT_I8:
+    case VT_UI8:
+    case VT_CY:
+    case VT_R8: return 8;
     case VT_BSTR: return sizeof(BSTR);
     case VT_VARIANT: return sizeof(VARIANT);
     }
@@ -191,7 +201,11 @@ void DeleteCriticalSection(CRITICAL_SECTION *lock)
 
 /* ---- timers and time */
 
-struct timer { PTP_TIMER_CALLBACK call; PVOID context; int is_set; };
+struct timer {
+    PTP_TIMER_CALLBACK call;
+    PVOID context;
+    int is_set;
+};
 static PTP_TIMER last_timer;
 static ULONGLONG skipped;
 
@@ -298,4 +312,19 @@ int set_socket_option(SOCKET socket, int level, int option, const char *value, i
     time.tv_sec = number / 1000;
     time.tv_usec = number % 1000 * 1000;
     return setsockopt(socket, level, option, &time, sizeof time);
+}
+
+int connect_socket(SOCKET socket, const struct sockaddr *address, int size)
+{
+    return connect(socket, address, (socklen_t)size);
+}
+
+int send_bytes(SOCKET socket, const char *bytes, int count, int flags)
+{
+    return (int)send(socket, bytes, (size_t)count, flags);
+}
+
+int receive_bytes(SOCKET socket, char *bytes, int count, int flags)
+{
+    return (int)recv(socket, bytes, (size_t)count, flags);
 }

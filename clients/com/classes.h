@@ -1,0 +1,18 @@
+/* Class objects: what CoCreateInstance and GetObject ask. */
+#ifndef OAUT_CLASSES_H
+#define OAUT_CLASSES_H
+
+#include "objects.h"
+
+/* What is registered of a class: CLSID\{..}\Oaut in the registry (registration.c). */
+typedef struct Class {
+    GUID guid;
+    Settings settings;
+    BOOL is_hub;      /* the server, no coclass */
+    BOOL for_scripts; /* values as VBScript and JScript have them */
+} Class;
+
+/* A class object: IClassFactory, and of a hub IParseDisplayName. */
+HRESULT new_class_object(const Class *class, REFIID iid, void **made);
+
+#endif

@@ -1,5 +1,6 @@
 """`python3 -m oaut store`: what a store holds, its dumps, what is restored of them, and copies, over stores that are made here."""
 import fcntl
+import hashlib
 import json
 import os
 import struct
@@ -8,7 +9,7 @@ import sys
 import tempfile
 
 from clients import ENVIRONMENT, LIBRARY, PROGRAM, ROOT, ClientCases, oaut
-from oaut import backup
+from oaut import copies, dumps, files
 from oaut import store as stores
 
 FACE, CLASS = LIBRARY.interfaces[0].guid, LIBRARY.coclasses[0].guid
@@ -84,30 +85,33 @@ class Backup(ClientCases):
             size = sum(map(len, EVENTS)) + 5 * len(EVENTS)
             for form, length, bank in ((2, 75_505_664, 20_971_520), (1, 33_562_624, 16_777_184)):
                 path = made(room, form, f"{form}.store")
-                found = backup.info(path)
-                wanted = {"format": form, "size": length, "bank": 0, "bank_size": bank, "library_size": len(TEXT), "snapshot_size": 8, "groups": 4}
-                wanted |= {"events": count, "groups_size": size, "room": bank - len(TEXT) - 8 - size, "next": 6, "objects": 4, "cells": len(VALUES) + 1}
+                found = files.info(path)
+                wanted = {"format": form, "size": length, "bank": 0, "bank_size": bank, "library": "Demo", "library_sha256": hashlib.sha256(TEXT).hexdigest()}
+                wanted |= {"library_size": len(TEXT), "snapshot_size": 8, "groups": 4, "groups_size": size, "room": bank - len(TEXT) - 8 - size}
                 with open(path, "rb") as file:
                     read = stores.read(file.read())
-                self.same(f"format {form}", found, {**wanted, "image_size": len(stores.table_image(read.next, read.objects))})
+                self.same(f"format {form}", found, wanted)
+                wanted |= {"events": count, "next": 6, "objects": 4, "cells": len(VALUES) + 1, "image_size": len(stores.table_image(read.next, read.objects))}
+                self.same(f"format {form}, counted", dumps.counted(path), wanted)
             self.same("in words", command("info", path)[:1] + tuple(command("info", path)[1].splitlines()[:2]), (0, "format 1", "size 33562624"))
             self.same("for programs", json.loads(command("info", "--json", path)[1]), found)
+            self.same("counted, for programs", json.loads(command("info", "--objects", "--json", path)[1]), wanted)
 
     def test_dump_and_restore(self):
         with tempfile.TemporaryDirectory() as room:
             for form in (2, 1):
                 path = made(room, form, f"{form}.store")
-                told = backup.dump(path)
+                told = dumps.dump(path)
                 self.same(f"format {form}: what is told can be written", json.loads(json.dumps(told)), told)
-                backup.restore(json.loads(json.dumps(told)), f"{room}/{form}.restored")
+                dumps.restore(json.loads(json.dumps(told)), f"{room}/{form}.restored")
                 self.same(f"format {form}: what is restored holds it all", held(f"{room}/{form}.restored"), held(path))
-                self.same(f"format {form}: its library", backup.dump(f"{room}/{form}.restored"), told)
+                self.same(f"format {form}: its library", dumps.dump(f"{room}/{form}.restored"), told)
             found = [(it["type"], it.get("value")) for one in told["objects"] for it in one["cells"] if "type" in it]
             for it in (("I4", 1), ("I8", "9223372036854775807"), ("CY", "0.0001"), ("DECIMAL", "-2.50"), ("DECIMAL", "-0.000"), ("BSTR", None), ("NULL", None), ("BOOL", True)):
                 self.tell(f"a value as JSON: {it}", it in found, found)
             self.same("its size", os.path.getsize(f"{room}/2.restored"), 75_505_664)
-            backup.restore(told, f"{room}/large", bank=25_000_000)
-            self.same("of another bank", backup.info(f"{room}/large")["bank_size"], 25_000_000)
+            dumps.restore(told, f"{room}/large", bank=25_000_000)
+            self.same("of another bank", files.info(f"{room}/large")["bank_size"], 25_000_000)
             # by the commands
             status, out, err = command("dump", "--json", path)
             self.same("dump --json", (status, json.loads(out), err), (0, told, ""))
@@ -118,7 +122,7 @@ class Backup(ClientCases):
 
     def test_what_is_not_restored(self):
         with tempfile.TemporaryDirectory() as room:
-            told = backup.dump(made(room, events=[EVENTS[0], KEYED[0]]))
+            told = dumps.dump(made(room, events=[EVENTS[0], KEYED[0]]))
             number = told["objects"][0]["number"]
             for name, change in (
                 ("another form", {"form": 2}),
@@ -130,10 +134,10 @@ class Backup(ClientCases):
                 ("a number too large", {"objects": [{"number": 1, "coclass": str(CLASS), "cells": [{"interface": str(FACE), "dispid": 1, "type": "I2", "value": 70_000}]}]}),
                 ("cells too few", {"objects": [{"number": 1, "coclass": str(CLASS), "cells": [{"interface": str(FACE), "dispid": 1, "array": "I2", "bounds": [[2, 0]], "cells": [1]}]}]}),
             ):
-                self.raises(name, backup.Unusable, lambda: backup.restore({**told, **change}, f"{room}/new"))
-            self.raises("no dump", backup.Unusable, lambda: backup.restore([], f"{room}/new"))
-            self.raises("a bank too small", ValueError, lambda: backup.restore(told, f"{room}/new", bank=1_000))
-            self.raises("a file that is there", FileExistsError, lambda: backup.restore(told, f"{room}/it.store"))
+                self.raises(name, oaut.Unusable, lambda: dumps.restore({**told, **change}, f"{room}/new"))
+            self.raises("no dump", oaut.Unusable, lambda: dumps.restore([], f"{room}/new"))
+            self.raises("a bank too small", ValueError, lambda: dumps.restore(told, f"{room}/new", bank=1_000))
+            self.raises("a file that is there", FileExistsError, lambda: dumps.restore(told, f"{room}/it.store"))
             self.same("nothing is left", sorted(os.listdir(room)), ["it.store"])
             with open(f"{room}/broken.json", "w") as file:
                 file.write("{")
@@ -151,9 +155,19 @@ class Backup(ClientCases):
                 file.seek(33_562_624 + len(TEXT) + 8 + 5)
                 file.write(b"\x09")
             damaged = f"python3 -m oaut: {path}: damaged at {33_562_624 + len(TEXT) + 8}\n"
-            for words in (["info"], ["dump"], ["dump", "--json"], ["groups"]):
+            for words in (["info", "--objects"], ["dump"], ["dump", "--json"]):
                 self.same(f"{words} of a damaged one", command(*words, path), (1, "", damaged))
-            self.same("a copy of a damaged one", command("copy", path, f"{room}/other"), (1, "", damaged))
+            self.same("groups of a damaged one", command("groups", path), (1, "format 2, bank 0\n", damaged))
+            # what reads no object does not meet it: a copy is the same bytes
+            self.same("info of a damaged one", command("info", path)[0], 0)
+            self.same("a copy of a damaged one", (command("copy", path, f"{room}/damaged"), command("dump", f"{room}/damaged")[0]), ((0, "", ""), 1))
+            os.unlink(f"{room}/damaged")
+            with open(path, "r+b") as file:
+                file.seek(stores.HEADS[0])
+                file.write(b"X")
+            damaged = f"python3 -m oaut: {path}: damaged at {stores.HEADS[0]}\n"
+            for words in (["info"], ["info", "--live"], ["copy", path, f"{room}/other"], ["copy", "--live", path, f"{room}/other"]):
+                self.same(f"{words} of a head that is none", command(*words, *([] if "copy" in words else [path])), (1, "", damaged))
             for name, content in (("empty", b""), ("short", b"\1" * 100)):
                 with open(f"{room}/{name}", "wb") as file:
                     file.write(content)
@@ -163,9 +177,17 @@ class Backup(ClientCases):
 
     def test_a_store_in_use(self):
         with tempfile.TemporaryDirectory() as room:
-            path = made(room)
+            path, told = made(room), {}
             with open(path, "r+b") as file:
                 fcntl.flock(file, fcntl.LOCK_EX)
-                for name, act in (("info", backup.info), ("dump", backup.dump), ("copy", lambda it: backup.copy(it, f"{room}/copy"))):
+                for name, act in (("info", files.info), ("dump", dumps.dump), ("copy", lambda it: copies.copy(it, f"{room}/copy"))):
                     self.raises(f"{name} of a store that a server has", oaut.StoreInUse, lambda: act(path))
-            self.same("once it is free", backup.info(path)["objects"], 4)
+                busy = f"python3 -m oaut: {path}: in use by another process; --live reads it meanwhile\n"
+                self.same("by the command", command("info", path), (1, "", busy))
+                for words in (["info"], ["dump"], ["dump", "--json"], ["groups"], ["library"]):
+                    live = command(*words, "--live", path)
+                    self.same(f"{words} --live of it", (live[0], live[2]), (0, ""))
+                    told[tuple(words)] = live[1]
+            self.same("once it is free", files.info(path)["groups"], 4)
+            for words, said in told.items():
+                self.same(f"{words}, as --live told it", command(*words, path), (0, said, ""))

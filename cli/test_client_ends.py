@@ -6,6 +6,7 @@ import re
 import shutil
 import signal
 import socket
+import struct
 import subprocess
 import sys
 import tempfile
@@ -13,6 +14,7 @@ import threading
 import time
 import unittest
 
+from calls import STRACE
 from clients import FULL, PROGRAM, ROOT, ClientCases, library_of, oaut, play
 from oaut import I4
 
@@ -21,6 +23,9 @@ LISTENERS = {
     "systemd-socket-activate": lambda path, words: [ACTIVATE, "--accept", "--inetd", "-l", path, *words],
     "socat": lambda path, words: ["socat", f"UNIX-LISTEN:{path},fork", "EXEC:" + " ".join(words)],
 }
+ONE_AT_A_TIME = f"{ROOT}/examples/one_at_a_time.py"
+# how many clients end in each way that examples/one_at_a_time.py has to outlive
+CLIENTS = int(os.environ.get("OAUT_CLIENTS", "100"))
 
 
 @contextlib.contextmanager
@@ -78,15 +83,15 @@ class Ends(ClientCases):
     def test_a_program_that_is_killed(self):
         server = play(FULL)
         item = server.create("Item")
-        os.kill(server._child.pid, signal.SIGKILL)
-        server._child.wait()
+        os.kill(server._connection.child.pid, signal.SIGKILL)
+        server._connection.child.wait()
         self.raises("a child that was killed", oaut.Stopped, lambda: item.Count, status=-signal.SIGKILL, fault=None)
         self.raises("a session that has ended", oaut.Stopped, lambda: item.Count, status=-signal.SIGKILL)
         server.close()
         server = play(FULL)
         item = server.create("Item")
-        os.kill(server._child.pid, signal.SIGKILL)
-        server._child.wait()
+        os.kill(server._connection.child.pid, signal.SIGKILL)
+        server._connection.child.wait()
         try:
             with server.batch():
                 for _ in range(5_000):
@@ -100,7 +105,7 @@ class Ends(ClientCases):
 
     def test_what_is_refused_at_the_start(self):
         with library_of("properties: long Count;") as library:
-            end = self.raises("a library that is refused", oaut.Stopped, lambda: play(library), status=2)
+            end = self.raises("a library that is refused", oaut.faults.LibraryRefused, lambda: play(library), status=2)
             self.tell("its fault line", (end.fault or "").startswith("oaut: syntax at byte "), end.fault)
         self.raises("a library that is not there", oaut.Stopped, lambda: play("/none.idl"), status=1, fault="oaut: cannot read /none.idl")
         for program in ("/none/oaut", "no-such-oaut", FULL + "/oaut", ["no-such-ssh", "host", "oaut"]):
@@ -147,31 +152,31 @@ class Ends(ClientCases):
             ours, theirs = socket.socketpair()
             with theirs, ours:
                 server, begun = over[how](ours), time.monotonic()
-                self.raises(f"{name} over {how}", oaut.TimedOut, lambda: server._exchange(asks), "no answer within 0.05 seconds", status=None, fault=None)
+                self.raises(f"{name} over {how}", oaut.TimedOut, lambda: server.exchange(asks), "no answer within 0.05 seconds", status=None, fault=None)
                 self.raises(f"{name} over {how}, and behind it", oaut.TimedOut, lambda: server.create("Item"))
                 self.tell(f"{name} over {how} takes no longer", time.monotonic() - begun < 5, time.monotonic() - begun)
                 server.close()
         self.tell("it is a Stopped and a TimeoutError", issubclass(oaut.TimedOut, oaut.Stopped) and issubclass(oaut.TimedOut, TimeoutError))
 
     def test_a_program_that_does_not_answer(self):
-        for name, act in (("a get", lambda item: item.Count), ("a batch", lambda item: item._server._exchange([oaut.ask_type_info(0)] * 100_000))):
+        for name, act in (("a get", lambda item: item.Count), ("a batch", lambda item: item._server.exchange([oaut.ask_type_info(0)] * 100_000))):
             server = oaut.play(FULL, program=PROGRAM, timeout=60)
             item = server.create("Item")
             item.Count = 7
             with server.batch():
                 later = item.Count
             self.same(f"{name}: in time", later.value, I4(7))
-            os.kill(server._child.pid, signal.SIGSTOP)
-            server._timeout = server._reader.raw._timeout = 0.2
+            os.kill(server._connection.child.pid, signal.SIGSTOP)
+            server._connection.timeout = 0.2
             self.raises(f"{name} of a program that is stopped", oaut.TimedOut, lambda: act(item), "no answer within 0.2 seconds")
-            self.same(f"{name}: the program is killed", server._child.returncode, -signal.SIGKILL)
+            self.same(f"{name}: the program is killed", server._connection.child.returncode, -signal.SIGKILL)
             server.close()
 
     @unittest.skipIf(ACTIVATE is None, "systemd-socket-activate is not there")
     def test_clients_that_are_silent_are_let_go(self):
         """Each session leaves a line. The program is `cat`, which answers each record by itself."""
         with tempfile.TemporaryDirectory() as room, open(f"{room}/said", "wb+") as said:
-            words = [ACTIVATE, "-l", f"{room}/queue", sys.executable, f"{ROOT}/examples/one_at_a_time.py", "--idle", "0.5"]
+            words = [ACTIVATE, "-l", f"{room}/queue", sys.executable, ONE_AT_A_TIME, "--idle", "0.5"]
             for lines, records in (([], b"\3\0\0\0abc\1\0\0\0x"), (["--hex"], b"00\n01\n02\n")):
                 if os.path.exists(f"{room}/queue"):
                     os.unlink(f"{room}/queue")
@@ -211,7 +216,7 @@ class Ends(ClientCases):
             with tempfile.TemporaryDirectory() as room:
                 # the next client waits in the queue of a listening socket that is handed over
                 oaut.make_store(f"{room}/it.store", FULL, program=PROGRAM)
-                words = [sys.executable, f"{ROOT}/examples/one_at_a_time.py", PROGRAM, "serve", f"{room}/it.store", FULL]
+                words = [sys.executable, ONE_AT_A_TIME, PROGRAM, "serve", f"{room}/it.store", FULL]
                 with listening([ACTIVATE, "-l", f"{room}/queue", *words]):
                     told = []
 
@@ -229,3 +234,85 @@ class Ends(ClientCases):
                         early = list(told)
                     waiting.join(300)
                     self.same("a client that waits until the one before has gone", [early, told], [[], [99]])
+
+
+class OneAtATime(ClientCases):
+    """What examples/one_at_a_time.py outlives. The program is `cat`."""
+
+    def outlives(self, name, act, under=()):
+        """Whether a client is answered as the next one, once `act` has done its worst at the port."""
+        with socket.socket() as free:
+            free.bind(("127.0.0.1", 0))
+            place = free.getsockname()
+        words = [*under, sys.executable, ONE_AT_A_TIME, "--listen", "%s:%s" % place, "cat"]
+        with tempfile.TemporaryFile() as said, subprocess.Popen(words, stdin=subprocess.DEVNULL, stderr=said) as child:
+            try:
+                until, got, kept = time.monotonic() + 60, b"", []
+                while child.poll() is None and time.monotonic() < until:
+                    try:
+                        socket.create_connection(place, 60).close()
+                        break
+                    except ConnectionRefusedError:
+                        time.sleep(0.02)
+                try:
+                    kept = act(lambda: socket.create_connection(place, 60)) or []
+                    got = answered(socket.create_connection(place, 60))
+                except OSError as error:
+                    got = error
+                said.seek(0)
+                self.tell(name, (got, child.poll()) == (b"hello", None), (got, child.poll(), said.read()[-600:]))
+                for it in kept:
+                    it.close()
+            finally:
+                child.terminate()
+        self.same(f"{name}, and it ends when it is told to", child.returncode, 0)
+
+    def test_clients_that_end_badly(self):
+        def resets(dial):
+            with dial() as first:
+                first.sendall(b"a")
+                first.recv(1)
+                for _ in range(CLIENTS):
+                    with dial() as sock:
+                        sock.setsockopt(socket.SOL_SOCKET, socket.SO_LINGER, struct.pack("ii", 1, 0))
+
+        def turns(dial):
+            for _ in range(2 * CLIENTS):
+                try:
+                    answered(dial())
+                except OSError:  # (reset as it sends, or gone before it says that it has sent all)
+                    pass
+
+        self.outlives("clients that are reset while they wait", resets)
+        self.outlives("clients that say nothing keep nobody waiting", lambda dial: [dial() for _ in range(CLIENTS)])
+        if STRACE is None:
+            print("strace is not there: no call of examples/one_at_a_time.py is made to fail")
+            return
+        under = [STRACE, "-D", "-f", "-o", "/dev/null", "-e", "trace=accept4,recvfrom", "-e"]
+        # (a thread's calls are counted by themselves: one looks whether a client has sent something, one serves it)
+        self.outlives("clients whose connection times out", turns, [*under, f"inject=recvfrom:error=ETIMEDOUT:when=1..{CLIENTS}"])
+        self.outlives("clients whose host cannot be reached", lambda dial: None, [*under, f"inject=accept4:error=EHOSTUNREACH:when=2..{CLIENTS + 1}"])
+
+    def test_places(self):
+        with tempfile.TemporaryDirectory() as room:
+            path = f"{room}/queue"
+            for left in ("nothing", "the socket of one that was killed"):
+                words = [sys.executable, ONE_AT_A_TIME, "--listen", path, PROGRAM, "play", FULL]
+                with subprocess.Popen(words, stdin=subprocess.DEVNULL, stderr=subprocess.PIPE) as child:
+                    self.same(f"a path with {left}", counted(path), 1)
+                    self.same("the socket is its user's alone", os.stat(path).st_mode & 0o777, 0o600)
+                    second = subprocess.run(words, capture_output=True, text=True, timeout=60)
+                    self.tell("a path where one listens", second.returncode == 2 and "Address already in use" in second.stderr, second.stderr)
+                    child.send_signal(signal.SIGKILL if left == "nothing" else signal.SIGTERM)
+            self.tell("its socket is gone once it was told to end", not os.path.exists(path))
+        for words in ([], ["cat"], ["--listen", "here", "no-such-program"], ["--listen", "localhost:x", "cat"], ["--idle", "0", "--listen", "here", "cat"]):
+            done = subprocess.run([sys.executable, ONE_AT_A_TIME, *words], stdin=subprocess.DEVNULL, capture_output=True, text=True, timeout=60)
+            self.tell(f"refused: {words}", done.returncode == 2 and "Traceback" not in done.stderr, done.stderr)
+
+
+def answered(sock):
+    """What a connection is answered, which says hello and ends."""
+    with sock:
+        sock.sendall(b"hello")
+        sock.shutdown(socket.SHUT_WR)
+        return b"".join(iter(lambda: sock.recv(100), b""))

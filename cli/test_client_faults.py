@@ -8,6 +8,7 @@ from clients import DONE, LIBRARY, SEVEN, ClientCases, answer, hexed, item_of, o
 from oaut import I2, Array
 
 MISMATCH, NOT_FOUND, OVERFLOW, FULL_UP = 0x8002_0005, 0x8002_0003, 0x8002_000A, 0x8003_0070
+FULL_SAYS = "the objects are at most the size of a store's bank less 5,242,880 bytes, in memory 15,728,640: release some, or restore a dump of the store with a larger --bank"
 GRID = Array(I2, [(2, -1), (3, 5)], range(1, 7))
 ARRAY = oaut.variant_field(GRID.spelled()).hex()
 LONG = "DISP_E_TYPEMISMATCH (0x80020005)"
@@ -24,19 +25,19 @@ TOLD = [
     (lambda it: it.Grid[0, 7], 0x8002_000B, None, "get Item.Grid[0, 7]: DISP_E_BADINDEX (0x8002000b)"),
     (lambda it: it.Grid.__setitem__((0, 7), 40_000), OVERFLOW, None, "put Item.Grid[0, 7] = 40000: DISP_E_OVERFLOW (0x8002000a)"),
     (lambda it: it.Grid.redim(3, 10), 0x8002_000D, None, "redim Item.Grid to 3 from 10: DISP_E_ARRAYISLOCKED (0x8002000d)"),
-    (lambda it: it.Grid.lock(), 0x8000_FFFF, None, "lock Item.Grid: E_UNEXPECTED (0x8000ffff)"),
+    (lambda it: it.Grid.lock(), 0x8000_FFFF, None, "lock Item.Grid: E_UNEXPECTED (0x8000ffff): it was never put, or has 65,535 locks, which is the limit: put an array, or unlock it"),
     (lambda it: it.Clear(), 0x8000_4001, None, "call Item.Clear(): E_NOTIMPL (0x80004001)"),
     (lambda it: it.release(), 0x8001_0108, None, "release <Item 1>: RPC_E_DISCONNECTED (0x80010108)"),
     (lambda it: it.dispids("Cell", "none"), 0x8002_0006, None, "look up Cell, none of Item: DISP_E_UNKNOWNNAME (0x80020006)"),
-    (lambda it: setattr(it, "Name", "a" * 70), FULL_UP, None, f"put Item.Name = '{'a' * 30}'.. (70): STG_E_MEDIUMFULL (0x80030070)"),
+    (lambda it: setattr(it, "Name", "a" * 70), FULL_UP, None, f"put Item.Name = '{'a' * 30}'.. (70): STG_E_MEDIUMFULL (0x80030070): {FULL_SAYS}"),
     (lambda it: setattr(it, "Any", range(100)), MISMATCH, 0, f"put Item.Any = range of 100: {LONG}, argument 0 (the new value)"),
 ]
 # of each act that sends nothing, the exception and what it says
 UNSENT = [
-    (lambda it: setattr(it, "Count", 0.5), TypeError, "put Item.Count = 0.5: there are no floating-point numbers: give a Decimal, a Currency or a whole number"),
+    (lambda it: setattr(it, "Count", 0.5), TypeError, "put Item.Count = 0.5: there are no floating-point numbers: give oaut.real(0.5), a Currency or a whole number"),
     (lambda it: setattr(it, "Grid", [40_000]), OverflowError, "put Item.Grid = [40000]: a cell is out of the range of I2"),
-    (lambda it: it.Cell(0.5, "k"), TypeError, "get Item.Cell(0.5, 'k'): there are no floating-point numbers: give a Decimal, a Currency or a whole number"),
-    (lambda it: it.Cell(Rwo=1), TypeError, "get Item.Cell(Rwo=1): Cell has no parameter Rwo"),
+    (lambda it: it.Cell(0.5, "k"), TypeError, "get Item.Cell(0.5, 'k'): there are no floating-point numbers: give oaut.real(0.5), a Currency or a whole number"),
+    (lambda it: it.Cell(Rwo=1), TypeError, "get Item.Cell(Rwo=1): Cell has no parameter Rwo: did you mean Row?"),
     (lambda it: it.Grid["a"], TypeError, "an index is a whole number, not 'a'"),
     (lambda it: it.Grid[2**31], IndexError, "2147483648 is no index: an index has 32 bits"),
     (lambda it: it.Grid[0, 1:2], TypeError, "a slice stands alone, and is read only"),
@@ -73,7 +74,7 @@ class Faults(ClientCases):
         for act, kind, says in UNSENT:
             server = scripted()
             self.raises(says, kind, lambda: act(item_of(server)), says)
-            self.same(f"{says}: nothing was sent", server._writer.getvalue(), b"")
+            self.same(f"{says}: nothing was sent", server._connection.writer.getvalue(), b"")
         says = "put Item.Any = list of 16: a request has at most "
         error = self.raises("a body too long", ValueError, lambda: setattr(item_of(scripted()), "Any", ["a" * (oaut.TEXT_LIMIT // 2)] * 16))
         self.same("a body too long", str(error)[: len(says)], says)
@@ -120,7 +121,7 @@ class Replacing(ClientCases):
             self.same("a member of the old library", "Cell" in dir(item), True)
             server.replace_library(path)
             sent = hexed("01000000 0c00 0000 0d000000 00000000") + b"a new library\0\0\0"
-            self.same("what is sent", server._writer.getvalue().splitlines()[0], sent.hex().encode())
+            self.same("what is sent", server._connection.writer.getvalue().splitlines()[0], sent.hex().encode())
             self.raises("a member that the new library has not", AttributeError, lambda: item.Cell)
             item.count = 7
             self.same("the library now", [it.name for it in server.library.interfaces[0].forms], ["Count"])
@@ -145,8 +146,3 @@ class Replacing(ClientCases):
             with server.batch():
                 self.raises("in a batch", RuntimeError, lambda: server.replace_library(file.name))
         self.raises("a file that is not there", FileNotFoundError, lambda: scripted().replace_library("/none.idl"))
-
-    def test_a_group_of_its_own(self):
-        server = scripted(group=4)
-        put, replace = (struct.pack("<I", 1) + it for it in (oaut.ask_invoke(1, 1, 4, (-3,), (oaut.spell(7),)), oaut.ask_replace(b"x")))
-        self.same("behind a library that is replaced a group begins", [server._filled(it) for it in ([replace], [put], [put, replace], [put, replace, put])], [0, 3, 0, 3])

@@ -56,7 +56,10 @@ class Package(ClientCases):
     def test_what_it_gives(self):
         self.same("names that scripts use", [it for it in GIVEN if not hasattr(oaut, it)], [])
         self.same("names of __all__ that are none", [it for it in oaut.__all__ if not hasattr(oaut, it)], [])
-        self.same("names that __all__ lacks", [it for it in GIVEN if it not in oaut.__all__], [])
+        self.same("names of the codec stand in the submodules", [it for it in ("ask_create", "Raw", "read_reply", "INVOKE") if it in oaut.__all__], [])
+        self.tell("what users need is few", len(oaut.__all__) <= 90, len(oaut.__all__))
+        long = [f"{path}:{at}" for path in glob.glob(f"{PACKAGE}/**/*.py", recursive=True) for at, line in enumerate(open(path, encoding="utf-8"), 1) if len(line) > 101]
+        self.same("lines of more than 100 columns", long, [])
         self.tell("the package has a type of its own for checkers", os.path.exists(f"{os.path.dirname(oaut.__file__)}/py.typed"))
 
     def test_limits_are_those_of_the_server(self):

@@ -164,6 +164,26 @@ class Program(ClientCases):
             item.Count
             self.same("the trace", traced, [(">", 64), ("<", 48)])
 
+    def test_rows(self):
+        with play(FULL) as server:
+            for number in range(3):
+                item = server.create("Item")
+                item.Count = number
+                item.Grid = [[1, 2], [3, 4]]
+            rows = server.to_rows("item", "count", "Name", "Grid", "Any")
+            self.same("rows", rows[2], {"number": 3, "Count": 2, "Name": None, "Grid": [[1, 2], [3, 4]], "Any": None})
+            self.same("plain numbers", [type(it["Count"]) for it in rows], [int] * 3)
+            self.same("all columns", list(server.to_rows("Item")[0]), "number Count Name Price Exact Flag Version Any Grid".split())
+            self.raises("no such column", AttributeError, lambda: server.to_rows("Item", "Cuont"), "Item has no member Cuont: did you mean Count?")
+            shown = item._repr_html_()
+            self.tell("an object in a notebook", "<caption>&lt;Item 3&gt;</caption>" in shown and "<td>Version</td><td>long readonly</td>" in shown, shown)
+            try:
+                import pandas
+            except ImportError:
+                print("pandas is not there: no table of it")
+            else:
+                self.same("a table of pandas", [int(it) for it in pandas.DataFrame(rows)["Count"]], [0, 1, 2])
+
     def test_many_interfaces(self):
         with tempfile.NamedTemporaryFile("w", suffix=".idl") as file:
             file.write("[uuid(11223344-5566-7788-99AA-BBCCDDEEFF00)] library Many {")
@@ -187,8 +207,8 @@ class Program(ClientCases):
                     for _ in range(65_537):
                         server.create("Item")
                 self.tell("65,537 objects", False, "no exception")
-            except oaut.Unexpected:
-                self.tell("65,537 objects", True)
+            except oaut.Unexpected as refusal:
+                self.same("65,537 objects", refusal.hint, "65,536 objects are live, which is the limit, or all numbers are used up: release some")
 
     def test_conversion_parameters_elements_locks(self):
         with play(FULL) as server:

@@ -11,20 +11,10 @@ DISP_E_BADPARAMCOUNT 8002000E DISP_E_PARAMNOTOPTIONAL 8002000F E_NOTIMPL 8000400
 E_OUTOFMEMORY 8007000E E_INVALIDARG 80070057 RPC_E_DISCONNECTED 80010108 REGDB_E_CLASSNOTREG 80040154 STG_E_WRITEFAULT 8003001D
 STG_E_READFAULT 8003001E STG_E_MEDIUMFULL 80030070""".split()
 NAMED = {int(code, 16): name for name, code in zip(STANDARD[::2], STANDARD[1::2])}
-PUT_, FILL_ = b"04000000", b"0a000000"
-
-
-def sent_in_groups(size, *exchanges):
-    """Opcodes of what is sent to a server with groups of a size, in some exchanges of puts, or of what else is to be sent."""
-    sent = Kept()
-    server = oaut.Server(io.BytesIO(), sent, "lines", size)
-    server._library = LIBRARY
-    server._read = lambda: b"\0\0\0\0" + DONE
-    server._skip = lambda count: None
-    server._wrong_tag = lambda body: None
-    for exchange in exchanges:
-        server._exchange(exchange if isinstance(exchange, list) else [oaut.ask_invoke(1, 1, 4, (-3,), (oaut.spell(I4(7)),))] * exchange)
-    return [line[8:16] for line in sent.getvalue().splitlines()]
+PUT, GET = oaut.ask_invoke(1, 1, 4, (-3,), (oaut.spell(I4(7)),)), oaut.ask_invoke(1, 7, 2, (), ())
+# what ends a group, and what it is answered (docs/records.md)
+END = hexed("ffffffff 0c00 0000")
+ENDED = hexed("ffffffff f7060780 ffffffff 00000000")
 
 
 class Records(ClientCases):
@@ -35,7 +25,7 @@ class Records(ClientCases):
                 got = act(server)
                 server.close()
                 self.same(f"{name} over {framing}: its answer", got, wanted)
-                self.same(f"{name} over {framing}: its bytes", server._writer.content, oaut.FRAMINGS[framing].pack([b"\1\0\0\0" + hexed(sent)]))
+                self.same(f"{name} over {framing}: its bytes", server._connection.writer.content, oaut.FRAMINGS[framing].pack([b"\1\0\0\0" + hexed(sent)]))
 
     def test_codes(self):
         self.same("the codes and their names", {**NAMED, 0x8007_06F7: "bad stub data"}, {code: of.name for code, of in oaut.CODES.items()})
@@ -47,12 +37,12 @@ class Records(ClientCases):
         self.tell("a mismatch is a TypeError", issubclass(oaut.TypeMismatch, TypeError) and issubclass(oaut.BadIndex, IndexError))
 
     def test_streams_that_are_none(self):
-        other = oaut.connect(io.BytesIO(oaut.Lines.pack([b"\7\0\0\0" + DONE, b"\7\0\0\0" + DONE])), Kept(), "lines")
-        other._library = LIBRARY
+        other = oaut.connect(io.BytesIO(oaut.Lines.pack([b"\7\0\0\0" + DONE, b"\7\0\0\0" + DONE])), Kept(), "lines", 1)
+        other.described = LIBRARY
         self.raises("a reply of another tag", oaut.Malformed, lambda: item_of(other).release())
         self.raises("a session after it", oaut.Stopped, lambda: item_of(other).release())
-        ended = oaut.connect(io.BytesIO(oaut.Lines.pack([bytes(4) + answer(code=0x8007_06F7)])), Kept(), "lines")
-        ended._library = LIBRARY
+        ended = oaut.connect(io.BytesIO(oaut.Lines.pack([bytes(4) + answer(code=0x8007_06F7)])), Kept(), "lines", 1)
+        ended.described = LIBRARY
         self.raises("a stream that is refused", oaut.Stopped, lambda: item_of(ended).release(), status=None, fault=None)
         self.raises("a stream that ends", oaut.Stopped, lambda: item_of(scripted()).release())
         self.raises("fields too many", oaut.Malformed, lambda: item_of(scripted(answer(SEVEN))).release())
@@ -62,11 +52,11 @@ class Records(ClientCases):
         self.raises("fields too few", oaut.Malformed, lambda: item_of(scripted(DONE)).Count)
         for cut in range(1, 20):
             whole = oaut.Raw.pack([b"\1\0\0\0" + DONE])
-            short = oaut.connect(io.BytesIO(whole[:cut]), Kept(), "raw")
-            short._library = LIBRARY
+            short = oaut.connect(io.BytesIO(whole[:cut]), Kept(), "raw", 1)
+            short.described = LIBRARY
             self.raises(f"a raw stream that ends after {cut} bytes", oaut.Malformed, lambda: item_of(short).release())
-        not_hex = oaut.connect(io.BytesIO(b"0g\n"), Kept(), "lines")
-        not_hex._library = LIBRARY
+        not_hex = oaut.connect(io.BytesIO(b"0g\n"), Kept(), "lines", 1)
+        not_hex.described = LIBRARY
         self.raises("a line that is no digits", oaut.Malformed, lambda: item_of(not_hex).release())
         self.raises("a body too long", ValueError, lambda: setattr(item_of(scripted()), "Any", ["a" * (oaut.TEXT_LIMIT // 2)] * 16))
 
@@ -76,30 +66,28 @@ class Records(ClientCases):
             item_of(rising).Count = 6
             item_of(rising).Count = 7
         self.same("tags go on behind a batch", item_of(rising).Any, I4(7))
-        last = oaut.connect(io.BytesIO(oaut.Lines.pack([b"\xff" * 4 + DONE, bytes(4) + answer(SEVEN)])), Kept(), "lines")
-        last._library, last._tag = LIBRARY, 0xFFFF_FFFF
+        last = oaut.connect(io.BytesIO(oaut.Lines.pack([b"\xff" * 4 + DONE, bytes(4) + answer(SEVEN)])), Kept(), "lines", 1)
+        last.described, last._tag = LIBRARY, 0xFFFF_FFFF
         item_of(last).Count = 7
         self.same("tags begin again from 0", item_of(last).Any, I4(7))
 
     def test_groups(self):
-        # a server that commits three requests together holds replies back until it has three: the client fills its group
-        fill = struct.pack("<III", oaut.BadIndex.code, oaut.NO_INDEX, 0)
-        told = [b"\1\0\0\0" + DONE, oaut.session._FILL[:4] + fill, oaut.session._FILL[:4] + fill, b"\2\0\0\0" + answer(SEVEN)]
-        grouped = oaut.connect(io.BytesIO(oaut.Lines.pack(told)), Kept(), "lines", group=3)
-        grouped._library = LIBRARY
-        item_of(grouped).Count = 7
-        self.same("a get behind a filled group", item_of(grouped).Any, I4(7))
-        grouped.close()
-        lines = grouped._writer.content.splitlines()
-        self.same("a group is filled by requests that change nothing", [line[8:16] for line in lines], [PUT_, FILL_, FILL_] * 2)
-
-    def test_groups_are_filled(self):
-        self.same("a batch as long as a group needs none", sent_in_groups(3, 3), [PUT_] * 3)
-        self.same("the last of several groups is filled", sent_in_groups(3, 4, 5), [PUT_] * 4 + [FILL_] * 2 + [PUT_] * 5 + [FILL_])
-        long_put = [oaut.ask_invoke(1, 2, 4, (-3,), (oaut.spell("a" * 131_072),))]
-        self.same("where a group may have ended by its bytes, it is filled wherever it began", [len(sent_in_groups(3, *([long_put] * 3))), len(sent_in_groups(3, long_put * 3))], [9, 5])
-        redim = [oaut.ask_call(oaut.REDIM, 1, 3, 2, (), ()) + struct.pack("<Ii", 65_536, 0)]
-        self.same("a REDIM may make more", [len(sent_in_groups(3, redim)), len(sent_in_groups(3, redim, 3))], [3, 8])
+        """Behind each exchange stands what ends a group, whose reply is read with the next exchange."""
+        for group in (None, 3, 1_024):
+            told = [b"\1\0\0\0" + DONE, ENDED, b"\2\0\0\0" + DONE, b"\3\0\0\0" + answer(SEVEN), ENDED, b"\4\0\0\0" + answer(SEVEN)]
+            server = oaut.connect(io.BytesIO(oaut.Raw.pack(told)), Kept(), group=group)
+            server.described = LIBRARY
+            item_of(server).Count = 7
+            with server.batch():
+                item_of(server).Count = 7
+                later = item_of(server).Any
+            self.same(f"a get behind ended groups of {group}", [later.value, item_of(server).Any], [I4(7), I4(7)])
+            server.close()
+            tagged = [struct.pack("<I", tag) + body for tag, body in ((1, PUT), (2, PUT), (3, GET), (4, GET))]
+            self.same(f"what is sent in groups of {group}", server._connection.writer.content, oaut.Raw.pack([tagged[0], END, *tagged[1:3], END, tagged[3], END]))
+        alone = scripted(DONE, framing="raw", group=1)
+        item_of(alone).Count = 7
+        self.same("groups of one are not ended", alone._connection.writer.getvalue(), oaut.Raw.pack([b"\1\0\0\0" + PUT]))
 
     def test_libraries(self):
         self.same("names fold A to Z alone", [oaut.fold(it) for it in ("aZ_9", "\u0131\u00df\u00e9a")], ["AZ_9", "\u0131\u00df\u00e9A"])

@@ -8,7 +8,7 @@ import tempfile
 import unittest
 
 from clients import ARRAYS, FULL, PROGRAM, ROOT, ClientCases, oaut, play, wrapped
-from oaut import EMPTY, I2, I4, Array, backup
+from oaut import EMPTY, I2, I4, Array, dumps, files
 from oaut import store as stores
 
 TEXT = "a" * 131_072
@@ -85,14 +85,14 @@ class Stores(ClientCases):
             server = serve(group=taken[-1])
             item = server.object(1, "Item")
             item.Count = 8
-            os.kill(server._child.pid, signal.SIGKILL)
-            server._child.wait()
+            os.kill(server._connection.child.pid, signal.SIGKILL)
+            server._connection.child.wait()
             self.raises("a server that was killed", oaut.Stopped, lambda: item.Count, status=-signal.SIGKILL)
             with serve() as server:
                 self.same("what was put before a kill", server.object(1, "Item").Count, I4(8))
                 server.object(1, "Item").release()
                 self.same("a number is not used again after a stop", server.create("Item").number, 2)
-            self.raises("another library", oaut.Stopped, lambda: oaut.serve(STORE, f"{ROOT}/examples/small.idl", program=PROGRAM), status=3, fault="oaut: library differs")
+            self.raises("another library", oaut.LibraryDiffers, lambda: oaut.serve(STORE, f"{ROOT}/examples/small.idl", program=PROGRAM), status=3, fault="oaut: library differs")
             with open(STORE, "r+b") as file:
                 # the bank in use: the texts above have filled one, and perhaps several
                 file.seek(4_096)
@@ -178,16 +178,16 @@ class Renewed(ClientCases):
                 item.Count = 7
                 in_use = raised_by(lambda: oaut.serve(path, small, program=PROGRAM))
                 self.same("a store that is served", (type(in_use), in_use.fault, in_use.status), (oaut.StoreInUse, f"oaut: cannot read {path}", 1))
-                self.raises("its dump", oaut.StoreInUse, lambda: backup.info(path))
+                self.raises("its dump", oaut.StoreInUse, lambda: files.info(path))
                 server.replace_library(FULL)
                 item.Name = "x"
                 self.same("attributes follow the new library", [item.Name, item.Count], ["x", I4(7)])
                 lost = raised_by(lambda: server.replace_library(small))
                 self.same("what is not kept", (type(lost), lost.lost, lost.dispid), (oaut.NotKept, "Item.Name of DItem, DISPID 2", 2))
-                self.raises("no library", oaut.BadStub, lambda: server.replace_library(f"{ROOT}/README.md"))
+                self.raises("no library", oaut.faults.LibraryNotTaken, lambda: server.replace_library(f"{ROOT}/README.md"))
                 item.Count = 8
-            told = backup.dump(path)
-            backup.restore(told, f"{room}/restored")
+            told = dumps.dump(path)
+            dumps.restore(told, f"{room}/restored")
             with oaut.serve(f"{room}/restored", FULL, program=PROGRAM) as server:
                 (item,) = server.objects()
                 self.same("what is restored of a dump", [item.number, item.Count, item.Name, server.create("Item").number], [1, I4(8), "x", 2])
@@ -195,10 +195,10 @@ class Renewed(ClientCases):
                 text = file.read().replace("void Clear();", "void Clear(); [id(11), propget] long More();")
             with open(f"{room}/more.idl", "w") as file:
                 file.write(text)
-            backup.restore(told, f"{room}/under", f"{room}/more.idl", program=PROGRAM)
+            dumps.restore(told, f"{room}/under", f"{room}/more.idl", program=PROGRAM)
             with oaut.serve(f"{room}/under", f"{room}/more.idl", program=PROGRAM) as server:
                 self.same("what is restored under another library", [server.object(1, "Item").More, server.object(1, "Item").Count], [I4(0), I4(8)])
-            self.raises("under one that does not keep it", oaut.NotKept, lambda: backup.restore(told, f"{room}/lost", small, program=PROGRAM))
+            self.raises("under one that does not keep it", oaut.NotKept, lambda: dumps.restore(told, f"{room}/lost", small, program=PROGRAM))
             self.same("no store is left of it", os.path.exists(f"{room}/lost"), False)
 
     def test_upgrades_and_banks(self):
@@ -211,13 +211,13 @@ class Renewed(ClientCases):
                 file.write(old)
             self.same("a store of format 1", raised_by(lambda: oaut.serve(path, small, program=PROGRAM)).fault, "oaut: old format")
             oaut.upgrade_store(path, program=PROGRAM)
-            self.same("it is upgraded", backup.info(path)["format"], 2)
+            self.same("it is upgraded", files.info(path)["format"], 2)
             again = raised_by(lambda: oaut.upgrade_store(path, program=PROGRAM))
             self.same("a second time", (again.fault, again.status), ("oaut: already format 2", 3))
             self.raises("a file that is there", FileExistsError, lambda: oaut.make_store(path, small, program=PROGRAM))
             oaut.make_store(path, small, program=PROGRAM, replace=True)
             oaut.make_store(f"{room}/large", small, program=PROGRAM, bank=25_000_000)
-            self.same("banks of a size", backup.info(f"{room}/large")["bank_size"], 25_000_000)
+            self.same("banks of a size", files.info(f"{room}/large")["bank_size"], 25_000_000)
 
 
 def raised_by(act):

@@ -1,8 +1,9 @@
 """The client's values, their bytes and their words."""
+import random
 import struct
 from decimal import Decimal
 
-from clients import CLI, GRID, HI, NULL_TEXT, VARIANTS, ClientCases, hexed, oaut
+from clients import CLI, GRID, HI, LIBRARY, NULL_TEXT, VARIANTS, ClientCases, hexed, oaut
 from oaut import EMPTY, I1, I2, I4, I8, INT, NULL_BSTR, UI1, UI2, UI4, UI8, UINT, VT, Array, Currency, Error
 
 SPELLED = [
@@ -87,6 +88,26 @@ class Values(ClientCases):
     def test_numbers_in_texts(self):
         for value, told, said in ((I4(-7), "I4(-7)", "-7"), (UI8(5), "UI8(5)", "5"), (Error(0x8000_4005), "Error(0x80004005)", "2147500037"), (Currency("2.5"), "Currency('2.5000')", "2.5000")):
             self.same(f"{told} in texts", (repr(value), str(value), f"{value}"), (told, said, said))
+
+    def test_floating_point_numbers(self):
+        """The DECIMAL of one is the same number bit for bit once it has come back, or it is refused."""
+        draw, bits = random.Random(3), lambda it: struct.pack("<d", it)
+        numbers = [0.0, -0.0, 0.1, 1e22, 1e-12, 1.2345678901234567e-12, 2.0**96 - 2.0**44, 1e-20, 1.5e-27]
+        numbers += [draw.choice((-1, 1)) * (1 + draw.random()) * 10.0 ** draw.randrange(-12, 28) for _ in range(2_000)]
+        wrong = [it for it in numbers if bits(float(oaut.read_field(oaut.spell(oaut.real(it))))) != bits(it)]
+        self.same("numbers that come back as others", wrong, [])
+        for name, number, kind in (("NaN", float("nan"), ValueError), ("an infinity", float("inf"), ValueError), ("too large", 2.0**96, OverflowError), ("too small", 1.5e-28, ValueError), ("no float", 5, TypeError)):
+            self.raises(name, kind, lambda: oaut.real(number))
+
+    def test_what_a_notebook_shows(self):
+        text = Array(str, [(2, -1), (2, 0)], ["<b>", "x", "y", None])._repr_html_()
+        for part in ("<caption>BSTR[-1..0, 0..1]</caption>", "<td>-1</td><td>&#x27;&lt;b&gt;&#x27;</td>", "<td>null</td>"):
+            self.tell(f"of an array: {part}", part in text, text)
+        text = Array(I4, [(65_536, 0)])._repr_html_()
+        self.tell("of a large array its beginning", len(text) < 2_000 and "the first of 65536 cells" in text, len(text))
+        text = LIBRARY._repr_html_()
+        self.tell("of a library its members", "<td>Cell</td><td>BSTR(long Row, BSTR Key, short Page)</td><td>9</td>" in text, text)
+        self.same("a library in words", repr(LIBRARY), "<oaut.Library: 1 interfaces, coclasses Item>")
 
     def test_what_is_no_value(self):
         self.raises("a float", TypeError, lambda: oaut.spell(0.5))

@@ -1,14 +1,21 @@
-"""Builds the package's wheel and its source archive for pip (PEP 517), with the standard library alone: what stands in pyproject.toml
-and in oaut/__version__ is their metadata."""
+"""Builds the package's wheel and its source archive for pip (PEP 517), with the standard library
+alone: what stands in pyproject.toml and in oaut/__version__ is their metadata.
+
+    python3 wheels.py PROGRAM FOLDER    a wheel for this machine, with the built program in it
+
+As a backend it takes the same by `pip wheel --config-settings program=PROGRAM`.
+"""
 import base64
 import hashlib
 import io
 import os
 import re
+import sys
 import tarfile
 import zipfile
 
 HERE = os.path.dirname(os.path.abspath(__file__))
+KINDS = (".py", "/py.typed", ".html", ".css", ".js")
 # of each archive the moment of its files, so that two builds are the same bytes
 MOMENT = (1980, 1, 1, 0, 0, 0)
 
@@ -29,33 +36,65 @@ Name: {_word("name")}
 Version: {VERSION}
 Summary: {_word("description")}
 Requires-Python: {_word("requires-python")}
+Provides-Extra: view
+Requires-Dist: aiohttp (>=3.8) ; extra == 'view'
 Description-Content-Type: text/markdown
 
 {_read("README.md")}"""
-WHEEL = "Wheel-Version: 1.0\nGenerator: wheels\nRoot-Is-Purelib: true\nTag: py3-none-any\n"
+WHEEL = "Wheel-Version: 1.0\nGenerator: wheels\nRoot-Is-Purelib: {pure}\nTag: {tag}\n"
+PURE = "py3-none-any"
 
 
 def _modules():
-    return sorted(f"oaut/{it}" for it in os.listdir(f"{HERE}/oaut") if it.endswith(".py") or it == "py.typed")
+    """The package's files, by their names from here."""
+    found = (f"{at}/{it}" for at, _, names in os.walk(f"{HERE}/oaut") for it in names)
+    return sorted(it[len(HERE) + 1 :] for it in found if it.endswith(KINDS))
 
 
-def _archive(folder, files):
-    """A wheel of these files by name, and its list of them."""
-    name, record = f"{STEM}-py3-none-any.whl", f"{STEM}.dist-info/RECORD"
-    files = {**files, f"{STEM}.dist-info/METADATA": METADATA, f"{STEM}.dist-info/WHEEL": WHEEL}
+def _tag(program):
+    """The platform of a program: this machine's, with the newest C library that it names."""
+    if sys.platform != "linux":
+        raise SystemExit("a wheel with the program is built on Linux")
+    named = [int(it) for it in re.findall(rb"GLIBC_2\.(\d+)", program)]
+    machine = os.uname().machine
+    return f"py3-none-manylinux_2_{max(named)}_{machine}" if named else f"py3-none-linux_{machine}"
+
+
+def _archive(folder, files, program=None):
+    """A wheel of these files by name, and its list of them. The program stands among the scripts,
+    so that pip puts it beside Python's own commands."""
+    tag = PURE if program is None else _tag(program)
+    name, record = f"{STEM}-{tag}.whl", f"{STEM}.dist-info/RECORD"
+    wheel = WHEEL.format(pure="true" if program is None else "false", tag=tag)
+    files = {path: text.encode() for path, text in files.items()}
+    files[f"{STEM}.dist-info/METADATA"] = METADATA.encode()
+    files[f"{STEM}.dist-info/WHEEL"] = wheel.encode()
+    if program is not None:
+        files[f"{STEM}.data/scripts/oaut"] = program
     told = []
     with zipfile.ZipFile(os.path.join(folder, name), "w", zipfile.ZIP_DEFLATED) as archive:
-        for path, text in files.items():
-            content = text.encode()
-            digest = base64.urlsafe_b64encode(hashlib.sha256(content).digest()).rstrip(b"=").decode()
-            told.append(f"{path},sha256={digest},{len(content)}\n")
-            archive.writestr(zipfile.ZipInfo(path, MOMENT), content)
-        archive.writestr(zipfile.ZipInfo(record, MOMENT), "".join(told) + f"{record},,\n")
+
+        def add(path, content):
+            entry = zipfile.ZipInfo(path, MOMENT)
+            mode = 0o755 if path.endswith("/scripts/oaut") else 0o644
+            entry.external_attr = (0o100000 | mode) << 16
+            entry.create_system = 3
+            archive.writestr(entry, content, zipfile.ZIP_DEFLATED, 9)
+
+        for path, content in files.items():
+            digest = base64.urlsafe_b64encode(hashlib.sha256(content).digest()).rstrip(b"=")
+            told.append(f"{path},sha256={digest.decode()},{len(content)}\n")
+            add(path, content)
+        add(record, ("".join(told) + f"{record},,\n").encode())
     return name
 
 
 def build_wheel(wheel_directory, config_settings=None, metadata_directory=None):
-    return _archive(wheel_directory, {it: _read(it) for it in _modules()})
+    path, program = (config_settings or {}).get("program"), None
+    if path is not None:
+        with open(path, "rb") as file:
+            program = file.read()
+    return _archive(wheel_directory, {it: _read(it) for it in _modules()}, program)
 
 
 def build_editable(wheel_directory, config_settings=None, metadata_directory=None):
@@ -72,3 +111,9 @@ def build_sdist(sdist_directory, config_settings=None):
         entry.size = len(content)
         archive.addfile(entry, io.BytesIO(content))
     return name
+
+
+if __name__ == "__main__":
+    if len(sys.argv) != 3:
+        raise SystemExit(__doc__)
+    print(build_wheel(sys.argv[2], {"program": sys.argv[1]}))

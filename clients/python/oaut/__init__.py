@@ -7,8 +7,9 @@
         item.Count = 7
         print(item.Count)
 
-docs/client.md is the page to read first; docs/records.md and docs/wire.md say what goes over the wire. A package without
-dependencies, for Python 3.9 or later. A session belongs to one thread at a time.
+docs/client.md is the page to read first; docs/records.md and docs/wire.md say what goes over the
+wire. A package without dependencies, for Python 3.9 or later. A session belongs to one thread at a
+time.
 
     python3 -m oaut talk LIB        a prompt over a session
     python3 -m oaut decode FILE     records in words
@@ -17,6 +18,7 @@ dependencies, for Python 3.9 or later. A session belongs to one thread at a time
 """
 import typing as _typing
 
+from .copies import backup
 from .decode import decode, description_words, reply_words, request_words
 from .faults import (
     CODES,
@@ -30,12 +32,15 @@ from .faults import (
     Failed,
     Fault,
     InvalidArg,
+    LibraryDiffers,
     Malformed,
     MediumFull,
     MemberNotFound,
     NoInterface,
+    NotALibrary,
     NotImplementedHere,
     NotKept,
+    OldFormat,
     OutOfMemory,
     Overflow,
     ParamNotFound,
@@ -43,6 +48,7 @@ from .faults import (
     ProgramNotFound,
     ReadFault,
     Refused,
+    SessionInUse,
     Stopped,
     StoreInUse,
     TimedOut,
@@ -53,6 +59,7 @@ from .faults import (
     WriteFault,
     refused,
 )
+from .files import Unusable
 from .framing import FRAMING, FRAMINGS, Lines, Raw
 from .library import (
     DEFAULT_INTERFACE,
@@ -73,6 +80,7 @@ from .library import (
     type_word,
 )
 from .objects import ArrayProperty, Method, Object, Property
+from .opening import open
 from .programs import connect, make_store, play, serve, upgrade_store
 from .records import (
     BODY_LIMIT,
@@ -106,7 +114,6 @@ from .records import (
     ask_replace,
     ask_type_info,
     indices_field,
-    padded,
     read_ids,
     read_lost,
     read_nothing,
@@ -116,9 +123,9 @@ from .records import (
     read_text_value,
     read_value,
     string_field,
-    variant_field,
 )
-from .session import BATCH, GROUP_BYTES, Batch, Later, Server
+from .protocol import GROUP_BYTES, Later
+from .session import BATCH, Atomic, Batch, Server
 from .values import (
     ARRAY,
     CELL_LIMIT,
@@ -151,14 +158,24 @@ from .values import (
     NumberLike,
     TextLike,
     cell_type,
+    real,
     text_bytes,
     text_of,
     typed,
 )
-from .wire import NULL_LENGTH, REFERENT, array_field, read_field, scalar_field, spell
+from .wire import (
+    NULL_LENGTH,
+    REFERENT,
+    array_field,
+    padded,
+    read_field,
+    scalar_field,
+    spell,
+    variant_field,
+)
 from .words import value_of, words_of
 
-__version__ = "0.1.0"
+__version__ = "0.2.0"
 
 
 def main(words: _typing.Optional[_typing.Sequence[str]] = None) -> int:
@@ -168,104 +185,61 @@ def main(words: _typing.Optional[_typing.Sequence[str]] = None) -> int:
     return run(words)
 
 
+# what users need; what else stands here stays for scripts of before, and has its place in the
+# submodules: records, wire, values, library, framing, decode, words
 __all__ = [
-    "ARRAY",
     "Array",
     "ArrayIsLocked",
     "ArrayLike",
     "ArrayProperty",
-    "BATCH",
-    "BODY_LIMIT",
+    "Atomic",
     "BadIndex",
     "BadParamCount",
     "BadStub",
     "BadVarType",
     "Batch",
-    "CELLS",
-    "CELL_LIMIT",
-    "CODES",
-    "CREATE",
     "ClassNotRegistered",
-    "Coclass",
     "Currency",
-    "DEFAULT",
-    "DEFAULT_INTERFACE",
     "Disconnected",
     "EMPTY",
     "Error",
-    "FRAMING",
-    "FRAMINGS",
     "Failed",
     "Fault",
     "Field",
-    "Form",
-    "GETELEM",
-    "GETIDS",
-    "GROUP_BYTES",
-    "HAS_DEFAULT",
     "I1",
     "I2",
     "I4",
     "I8",
-    "IN",
     "INT",
-    "INTEGERS",
-    "INVOKE",
-    "Integer",
-    "Interface",
     "InvalidArg",
-    "KIND_COCLASS",
-    "KIND_INTERFACE",
-    "LIST",
-    "LOCK",
     "Later",
     "Library",
-    "Lines",
-    "METHOD",
+    "LibraryDiffers",
     "MISSING",
     "Malformed",
     "MediumFull",
-    "Member",
     "MemberNotFound",
     "Method",
-    "NEW_VALUE",
-    "NO_INDEX",
     "NULL_BSTR",
-    "NULL_LENGTH",
-    "NUMBERS",
     "NoInterface",
+    "NotALibrary",
     "NotImplementedHere",
     "NotKept",
     "NumberLike",
-    "OPCODES",
-    "OPTIONAL",
     "Object",
+    "OldFormat",
     "OutOfMemory",
     "Overflow",
-    "PROPERTYGET",
-    "PROPERTYPUT",
-    "PROPERTYPUTREF",
-    "PUTELEM",
     "ParamNotFound",
     "ParamNotOptional",
-    "Parameter",
     "ProgramNotFound",
     "Property",
-    "READ_ONLY",
-    "REDIM",
-    "REFERENT",
-    "RELEASE",
-    "REPLACE",
-    "Raw",
     "ReadFault",
     "Refused",
-    "Reply",
-    "SCALARS",
     "Server",
+    "SessionInUse",
     "Stopped",
     "StoreInUse",
-    "TEXT_LIMIT",
-    "TYPEINFO",
     "TextLike",
     "TimedOut",
     "TypeMismatch",
@@ -274,56 +248,23 @@ __all__ = [
     "UI4",
     "UI8",
     "UINT",
-    "UNLOCK",
     "Unexpected",
     "UnknownInterface",
     "UnknownName",
-    "VOID",
+    "Unusable",
     "VT",
     "WriteFault",
     "__version__",
-    "array_field",
-    "ask_call",
-    "ask_create",
-    "ask_ids",
-    "ask_invoke",
-    "ask_list",
-    "ask_release",
-    "ask_replace",
-    "ask_type_info",
-    "cell_type",
+    "backup",
     "connect",
-    "decode",
-    "description_words",
-    "fold",
-    "indices_field",
-    "main",
     "make_store",
-    "padded",
+    "open",
     "play",
-    "read_description",
     "read_field",
-    "read_ids",
-    "read_lost",
-    "read_nothing",
-    "read_number",
-    "read_objects",
-    "read_reply",
-    "read_text_value",
-    "read_value",
-    "refused",
-    "reply_words",
-    "request_words",
-    "scalar_field",
+    "real",
     "serve",
     "spell",
-    "string_field",
-    "text_bytes",
-    "text_of",
-    "type_word",
-    "typed",
     "upgrade_store",
     "value_of",
-    "variant_field",
     "words_of",
 ]

@@ -1,39 +1,72 @@
-"""`python3 -m oaut`: a prompt over a session, records in words, a library's stubs, and what a store's file holds."""
+"""`python3 -m oaut`: a prompt over a session, records in words, a library's stubs and one to start
+from, and what a store's file holds."""
 from __future__ import annotations
 
 import argparse
+import os
 import sys
 import typing
 
-from . import __version__, backup
+from . import __version__, commands, importing, view
 from .faults import Fault
 from .framing import FRAMING, FRAMINGS
 
 
 def parser() -> argparse.ArgumentParser:
     """The words of the command line."""
-    made = argparse.ArgumentParser(prog="python3 -m oaut", description="Talk to a server of automation objects, or read what it keeps.")
+    made = argparse.ArgumentParser(
+        prog="python3 -m oaut",
+        description="Talk to a server of automation objects, or read what it keeps.",
+    )
     made.add_argument("--version", action="version", version=f"oaut {__version__}")
-    commands = made.add_subparsers(dest="command", required=True, metavar="COMMAND")
+    words = made.add_subparsers(dest="command", required=True, metavar="COMMAND")
 
-    talk = commands.add_parser("talk", help="a prompt over a session of `oaut play LIB`")
+    talk = words.add_parser("talk", help="a prompt over a session of `oaut play LIB`")
     talk.add_argument("library", metavar="LIB")
-    talk.add_argument("--store", metavar="STORE", help="a store that keeps the objects, by `oaut serve`")
-    talk.add_argument("--batch", metavar="FILE", help="take the commands of a file (- is standard input), stop at the first that fails")
+    talk.add_argument(
+        "--store", metavar="STORE", help="a store that keeps the objects, by `oaut serve`"
+    )
+    talk.add_argument(
+        "--batch",
+        metavar="FILE",
+        help="take the commands of a file (- is standard input), stop at the first that fails",
+    )
     talk.add_argument("-v", "--verbose", action="store_true", help="print each record's bytes")
     talk.add_argument("--framing", choices=sorted(FRAMINGS), default=FRAMING)
 
-    told = commands.add_parser("decode", help="records in words, replies by their requests where these stand before")
-    told.add_argument("files", metavar="FILE", nargs="*", help="files of records; standard input where none is named")
+    told = words.add_parser(
+        "decode", help="records in words, replies by their requests where these stand before"
+    )
+    told.add_argument(
+        "files",
+        metavar="FILE",
+        nargs="*",
+        help="files of records; standard input where none is named",
+    )
     told.add_argument("--framing", choices=sorted(FRAMINGS), default="lines")
 
-    stubs = commands.add_parser("stubs", help="a library's coclasses and members as a .pyi, for editors and type checkers")
+    stubs = words.add_parser(
+        "stubs", help="a library's coclasses and members as a .pyi, for editors and type checkers"
+    )
     stubs.add_argument("library", metavar="LIB")
-    stubs.add_argument("-o", "--output", metavar="FILE", help="the file to write; standard output where none is named")
-    store = commands.add_parser("store", help="what a store's file holds, its dumps and its copies")
-    backup.add_words(store)
+    stubs.add_argument(
+        "-o",
+        "--output",
+        metavar="FILE",
+        help="the file to write; standard output where none is named",
+    )
+    new = words.add_parser("new", help="the text of a library to start from, with GUIDs of its own")
+    new.add_argument("name", metavar="NAME", help="the coclass's name")
+    text = words.add_parser("import", help="the library of MIDL text, as `oaut check` takes it")
+    importing.add_words(text)
+    store = words.add_parser("store", help="what a store's file holds, its dumps and its copies")
+    commands.add_words(store)
+    page = words.add_parser("view", help="a page that shows what a store holds, in a browser")
+    view.add_words(page)
     for it in (talk, stubs):
-        it.add_argument("--program", default="oaut", help="the program, where it is not `oaut` on the path")
+        it.add_argument(
+            "--program", default="oaut", help="the program, where it is not `oaut` on the path"
+        )
     return made
 
 
@@ -44,19 +77,43 @@ def main(words: typing.Optional[typing.Sequence[str]] = None) -> int:
         if given.command == "talk":
             from . import talk
 
-            return talk.run(given.library, given.store, given.program, given.framing, given.batch, given.verbose)
+            return talk.run(
+                given.library, given.store, given.program, given.framing, given.batch, given.verbose
+            )
         if given.command == "stubs":
             from . import stubs
 
             return stubs.run(given.library, given.output, given.program)
+        if given.command == "new":
+            from .starting import library_text
+
+            print(library_text(given.name), end="")
+            return 0
+        if given.command == "import":
+            return importing.run(given)
         if given.command == "store":
-            return backup.run(given)
+            return commands.run(given)
+        if given.command == "view":
+            return view.run(given)
         from .decode import run
 
         return run(given.files, given.framing)
+    except BrokenPipeError:
+        # who read what was written has gone: this ends as other tools do by the signal
+        _no_output()
+        return 141
     except (Fault, OSError, ValueError) as error:
         print(f"python3 -m oaut: {error}", file=sys.stderr)
+        try:
+            sys.stdout.flush()
+        except OSError:
+            _no_output()
         return 1
+
+
+def _no_output() -> None:
+    """Has the end of the process write nothing more to standard output."""
+    os.dup2(os.open(os.devnull, os.O_WRONLY), 1)
 
 
 if __name__ == "__main__":

@@ -8,9 +8,21 @@ import uuid
 
 from .faults import CODES, Fault, Malformed
 from .framing import Raw
-from .library import DEFAULT_INTERFACE, HAS_DEFAULT, IN, OPTIONAL, READ_ONLY, Coclass, Description, Interface, Parameter, read_description, type_word
+from .library import (
+    DEFAULT_INTERFACE,
+    HAS_DEFAULT,
+    IN,
+    OPTIONAL,
+    READ_ONLY,
+    Coclass,
+    Description,
+    Interface,
+    Parameter,
+    read_description,
+    type_word,
+)
 from .records import (
-    _TWO,
+    TWO,
     CREATE,
     GETELEM,
     GETIDS,
@@ -39,7 +51,12 @@ from .records import (
 from .wire import read_field
 from .words import words_of
 
-_FLAG_WORDS = ((METHOD, "METHOD"), (PROPERTYGET, "PROPERTYGET"), (PROPERTYPUT, "PROPERTYPUT"), (PROPERTYPUTREF, "PROPERTYPUTREF"))
+_FLAG_WORDS = (
+    (METHOD, "METHOD"),
+    (PROPERTYGET, "PROPERTYGET"),
+    (PROPERTYPUT, "PROPERTYPUT"),
+    (PROPERTYPUTREF, "PROPERTYPUTREF"),
+)
 
 
 def request_words(body: bytes) -> str:
@@ -56,7 +73,8 @@ def request_words(body: bytes) -> str:
     elif opcode == GETIDS:
         number, _ = at.take("II")
         interface, riid, (_, count) = at.guid(), at.guid(), at.take("II")
-        told += f" object {number}{_other('interface', interface)}{_other('riid', riid)} {' '.join(at.string() for _ in range(count))}"
+        told += f" object {number}{_other('interface', interface)}{_other('riid', riid)} "
+        told += " ".join(at.string() for _ in range(count))
     elif opcode == REPLACE:
         count, _ = at.take("II")
         told += f" the library by {len(at.padded_bytes(count))} bytes of text"
@@ -78,7 +96,9 @@ def _call_words(at: Fields, opcode: int) -> str:
     at.pad()
     told = f" object {number} dispid {dispid}{_other('interface', interface)}{_other('riid', riid)}"
     if opcode == INVOKE:
-        told += " " + ("|".join(word for bit, word in _FLAG_WORDS if flags & bit) or f"flags {flags}")
+        told += " " + (
+            "|".join(word for bit, word in _FLAG_WORDS if flags & bit) or f"flags {flags}"
+        )
     arguments = [_field_words(at.variant()) for _ in range(count)]
     names = ["new value" if it == NEW_VALUE else f"parameter {it}" for it in dispids]
     names += [f"place {count - 1 - place}" for place in range(named, count)]
@@ -100,7 +120,9 @@ def _field_words(field: bytes) -> str:
         return f"no value ({error}) {field.hex()}"
 
 
-def description_words(found: Description, interfaces: typing.Sequence[Interface] = ()) -> typing.List[str]:
+def description_words(
+    found: Description, interfaces: typing.Sequence[Interface] = ()
+) -> typing.List[str]:
     """A description in lines of words, much as a library's text."""
     if isinstance(found, Coclass):
         lines = [f"coclass {found.name} {found.guid}"]
@@ -111,10 +133,14 @@ def description_words(found: Description, interfaces: typing.Sequence[Interface]
     kinds = {0: "", METHOD: "method ", PROPERTYGET: "get ", PROPERTYPUT: "put "}
     lines = [f"dispinterface {found.name} {found.guid}"]
     for form in found.forms:
-        parameters = f"({', '.join(_parameter_words(it) for it in form.parameters)})" if form.kind else ""
+        parameters = (
+            f"({', '.join(_parameter_words(it) for it in form.parameters)})" if form.kind else ""
+        )
         readonly = " readonly" if form.flags & READ_ONLY else ""
         kind = kinds.get(form.kind, f"kind {form.kind} ")
-        lines.append(f"  {form.dispid}: {kind}{type_word(form.vt)} {form.name}{parameters}{readonly}")
+        lines.append(
+            f"  {form.dispid}: {kind}{type_word(form.vt)} {form.name}{parameters}{readonly}"
+        )
     return lines
 
 
@@ -132,12 +158,14 @@ _REPLY_WORDS: typing.Dict[int, typing.Callable[[bytes], str]] = {
     LOCK: lambda it: f"{read_number(it)} locks",
     UNLOCK: lambda it: f"{read_number(it)} locks",
     TYPEINFO: lambda it: "\n    ".join(description_words(read_description(it))),
-    LIST: lambda it: "objects " + (", ".join(f"{number} {guid}" for number, guid in read_objects(it)) or "none"),
+    LIST: lambda it: "objects "
+    + (", ".join(f"{number} {guid}" for number, guid in read_objects(it)) or "none"),
 }
 
 
 def reply_words(body: bytes, opcode: typing.Optional[int] = None) -> str:
-    """A reply in words. Where the request's opcode is not known, its fields are taken for what they look like."""
+    """A reply in words. Where the request's opcode is not known, its fields are taken for what they
+    look like."""
     tag, code, index, fields = read_reply(body)
     name = "S_OK" if code == 0 else CODES[code].name if code in CODES else f"0x{code:08x}"
     told = f"reply {tag}: {name}" + ("" if index is None else f", argument {index}")
@@ -153,13 +181,14 @@ def reply_words(body: bytes, opcode: typing.Optional[int] = None) -> str:
 
 
 def decode(bodies: typing.Iterable[bytes]) -> typing.Iterator[str]:
-    """Records in words, one after another. A reply of a tag is told by the last request that had it."""
+    """Records in words, one after another. A reply of a tag is told by the last request that had
+    it."""
     asked: typing.Dict[int, int] = {}
     for body in bodies:
         try:
             if len(body) < 8:
                 raise Malformed("a record has at least 8 bytes")
-            tag, what = _TWO.unpack_from(body)
+            tag, what = TWO.unpack_from(body)
             if 0 < what < 0x8000_0000:
                 asked[tag] = what & 0xFFFF
                 yield request_words(body)
@@ -170,7 +199,8 @@ def decode(bodies: typing.Iterable[bytes]) -> typing.Iterator[str]:
 
 
 def bodies_of(stream: typing.BinaryIO, framing: str) -> typing.Iterator[bytes]:
-    """The bodies of a file; a line may begin with > or <, as `-v` of `talk` prints them. What is no line of digits is told."""
+    """The bodies of a file; a line may begin with > or <, as `-v` of `talk` prints them. What is no
+    line of digits is told."""
     if framing == "raw":
         while True:
             body = Raw.read(stream)

@@ -1,17 +1,28 @@
-"""What a session may raise: a refusal (Refused, a class for each code), its end (Stopped), or bytes that are none of the
-protocol's (Malformed). All of them are a Fault."""
+"""What a session may raise: a refusal (Refused, a class for each code), its end (Stopped), or bytes
+that are none of the protocol's (Malformed). All of them are a Fault."""
 from __future__ import annotations
 
 import typing
 import uuid
 
 
+# the name of a file, line and column, and the line as it is shown
+Place = typing.Tuple[str, int, int, str]
+
+
 class Fault(Exception):
-    """What a session may raise: a refusal (Refused), its end (Stopped), or bytes that are none of the protocol's (Malformed)."""
+    """What a session may raise: a refusal (Refused), its end (Stopped), or bytes that are none of
+    the protocol's (Malformed)."""
+
+
+class SessionInUse(Fault, RuntimeError):
+    """Another thread uses the session, or a request of it is under way: one at a time may. Nothing
+    was sent."""
 
 
 class Malformed(Fault, ValueError):
-    """Bytes that spell no value, or no reply. `unknown_type` tells that it is the value's type which is outside the profile."""
+    """Bytes that spell no value, or no reply. `unknown_type` tells that it is the value's type
+    which is outside the profile."""
 
     def __init__(self, what: str, unknown_type: bool = False) -> None:
         super().__init__(what)
@@ -19,23 +30,69 @@ class Malformed(Fault, ValueError):
 
 
 class Stopped(Fault):
-    """The session has ended. `fault` is the line that the program left on standard error, `status` its exit status (negative for
-    a signal). Both are None where no program was started here, and `fault` where it wrote none."""
+    """The session has ended. `fault` is the line that the program left on standard error, `cause`
+    what the system said of a file that cannot be read or written, `status` the program's exit
+    status (negative for a signal). All are None where no program was started here, `fault` where
+    it wrote none, and `cause` where it told of no file."""
 
-    def __init__(self, what: str, fault: typing.Optional[str] = None, status: typing.Optional[int] = None) -> None:
-        told = [it for it in (fault, None if status is None else f"status {status}") if it]
+    def __init__(
+        self,
+        what: str,
+        fault: typing.Optional[str] = None,
+        status: typing.Optional[int] = None,
+        cause: typing.Optional[str] = None,
+    ) -> None:
+        said = f"{fault}: {cause}" if cause else fault
+        told = [it for it in (said, None if status is None else f"status {status}") if it]
         super().__init__(f"{what} ({', '.join(told)})" if told else what)
         self.fault = fault
         self.status = status
+        self.cause = cause
 
 
 class StoreInUse(Stopped):
     """Another process has the store open."""
 
 
+class LibraryDiffers(Stopped):
+    """The store is that of another library than the one that was named, or that was there
+    before."""
+
+
+class OldFormat(Stopped):
+    """The store is of a format that is upgraded before it is served."""
+
+
+class NotALibrary(Fault, ValueError):
+    """A text that is no library. `fault` is what is wrong, in the program's words, `line` and
+    `column` are its place in the text, both from 1 on, and `shown` is that line with a caret under
+    the place: None, None and an empty text where the fault has no place."""
+
+    fault: typing.Optional[str]
+    line: typing.Optional[int] = None
+    column: typing.Optional[int] = None
+    shown: str = ""
+
+
+class LibraryRefused(NotALibrary, Stopped):
+    """A text that is no library, so that no session began with it, and no store was made."""
+
+    def __init__(
+        self,
+        fault: typing.Optional[str],
+        status: typing.Optional[int],
+        place: typing.Optional[Place] = None,
+    ) -> None:
+        Stopped.__init__(self, f"no library{_where(place)}", fault, status)
+        self.fault, self.status = fault, status
+        if place is not None:
+            _, self.line, self.column, self.shown = place
+
+
 class TimedOut(Stopped, TimeoutError):
-    """The server did not answer, or did not read, within the time that was given. The session is over: a program that was
-    started for it is killed, and a later session sees what was acknowledged."""
+    """The server did not answer, or did not read, within the time that was given. The session is
+    over: a program that was started for it is killed, and a later session sees what was
+    acknowledged."""
 
 
 class ProgramNotFound(Stopped, FileNotFoundError):
@@ -43,14 +100,17 @@ class ProgramNotFound(Stopped, FileNotFoundError):
 
 
 class Refused(Fault):
-    """A reply with another code than S_OK. `name` and `code` are those of the HRESULT (MS-ERREF section 2.1), `index` is the
-    place in rgvarg of the argument at fault or None, `argument` what stands there in words, `fields` the reply's fields, `act`
-    what was refused in words, `hint` what the library says of it."""
+    """A reply with another code than S_OK. `name` and `code` are those of the HRESULT (MS-ERREF
+    section 2.1), `index` is the place in rgvarg of the argument at fault or None, `argument` what
+    stands there in words, `fields` the reply's fields, `act` what was refused in words, `hint` what
+    the library says of it."""
 
     code: int = 0
     name: str = "a code without a name"
 
-    def __init_subclass__(cls, code: typing.Optional[int] = None, hresult: typing.Optional[str] = None) -> None:
+    def __init_subclass__(
+        cls, code: typing.Optional[int] = None, hresult: typing.Optional[str] = None
+    ) -> None:
         if code is not None and hresult is not None:
             cls.code, cls.name = code, hresult
             CODES[code] = cls
@@ -71,8 +131,14 @@ class Refused(Fault):
         self.fields = fields
         self.act = act
         self.hint = hint
-        where = "" if index is None else f", argument {index}" + (f" ({argument})" if argument else "")
-        super().__init__((f"{act}: " if act else "") + f"{self.name} (0x{self.code:08x}){where}" + (f": {hint}" if hint else ""))
+        where = (
+            "" if index is None else f", argument {index}" + (f" ({argument})" if argument else "")
+        )
+        super().__init__(
+            (f"{act}: " if act else "")
+            + f"{self.name} (0x{self.code:08x}){where}"
+            + (f": {hint}" if hint else "")
+        )
 
 
 # of each code its exception
@@ -84,7 +150,8 @@ class UnknownInterface(Refused, code=0x8002_0001, hresult="DISP_E_UNKNOWNINTERFA
 
 
 class MemberNotFound(Refused, code=0x8002_0003, hresult="DISP_E_MEMBERNOTFOUND"):
-    """DISP_E_MEMBERNOTFOUND: the interface has no such member, or not in this form: a put of a read-only property."""
+    """DISP_E_MEMBERNOTFOUND: the interface has no such member, or not in this form: a put of a
+    read-only property."""
 
 
 class ParamNotFound(Refused, code=0x8002_0004, hresult="DISP_E_PARAMNOTFOUND"):
@@ -92,7 +159,8 @@ class ParamNotFound(Refused, code=0x8002_0004, hresult="DISP_E_PARAMNOTFOUND"):
 
 
 class TypeMismatch(Refused, TypeError, code=0x8002_0005, hresult="DISP_E_TYPEMISMATCH"):
-    """DISP_E_TYPEMISMATCH: a value does not become one of the declared type, or there is no array."""
+    """DISP_E_TYPEMISMATCH: a value does not become one of the declared type, or there is no array.
+    """
 
 
 class UnknownName(Refused, code=0x8002_0006, hresult="DISP_E_UNKNOWNNAME"):
@@ -160,7 +228,8 @@ class ClassNotRegistered(Refused, code=0x8004_0154, hresult="REGDB_E_CLASSNOTREG
 
 
 class WriteFault(Refused, code=0x8003_001D, hresult="STG_E_WRITEFAULT"):
-    """STG_E_WRITEFAULT: the store's device failed. What its group changed is there wholly, or not at all."""
+    """STG_E_WRITEFAULT: the store's device failed. What its group changed is there wholly, or not
+    at all."""
 
 
 class ReadFault(Refused, code=0x8003_001E, hresult="STG_E_READFAULT"):
@@ -172,18 +241,45 @@ class MediumFull(Refused, code=0x8003_0070, hresult="STG_E_MEDIUMFULL"):
 
 
 class NotKept(InvalidArg):
-    """The new library does not keep what the old one has. `guid` is that of the interface or the coclass which is lost or
-    changed, `dispid` the member's, or None where it is the whole interface or coclass, `lost` says it in words."""
+    """The new library does not keep what the old one has. `guid` is that of the interface or the
+    coclass which is lost or changed, `dispid` the member's, or None where it is the whole interface
+    or coclass, `lost` says it in words."""
 
-    def __init__(self, refusal: Refused, guid: uuid.UUID, dispid: typing.Optional[int], lost: str) -> None:
-        super().__init__(None, None, refusal.fields, None, refusal.act, f"the new library does not keep {lost}")
+    def __init__(
+        self, refusal: Refused, guid: uuid.UUID, dispid: typing.Optional[int], lost: str
+    ) -> None:
+        super().__init__(
+            None, None, refusal.fields, None, refusal.act, f"the new library does not keep {lost}"
+        )
         self.guid = guid
         self.dispid = dispid
         self.lost = lost
 
 
+class LibraryNotTaken(NotALibrary, BadStub):
+    """A text that is no library, so that it took no other one's place."""
+
+    def __init__(
+        self, refusal: Refused, fault: typing.Optional[str], place: typing.Optional[Place]
+    ) -> None:
+        hint = f"no library{_where(place)}: {(fault or '').removeprefix('oaut: ')}"
+        BadStub.__init__(self, None, None, b"", None, refusal.act, hint)
+        self.fault = fault
+        if place is not None:
+            _, self.line, self.column, self.shown = place
+
+
+def _where(place: typing.Optional[Place]) -> str:
+    return "" if place is None else f" at {place[0]}:{place[1]}:{place[2]}"
+
+
 def refused(
-    code: int, index: typing.Optional[int] = None, argument: typing.Optional[str] = None, fields: bytes = b"", act: str = "", hint: str = ""
+    code: int,
+    index: typing.Optional[int] = None,
+    argument: typing.Optional[str] = None,
+    fields: bytes = b"",
+    act: str = "",
+    hint: str = "",
 ) -> Refused:
     """The exception of a code."""
     if code in CODES:

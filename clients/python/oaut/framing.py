@@ -2,9 +2,12 @@
 from __future__ import annotations
 
 import binascii
+import struct
 import typing
 
 from .faults import Malformed
+
+Bodies = typing.List[bytes]
 
 
 class Framing(typing.Protocol):
@@ -17,12 +20,16 @@ class Framing(typing.Protocol):
         """The bytes of some bodies."""
 
     @staticmethod
-    def length(count: int) -> int:
-        """How many bytes a body of so many takes."""
+    def split(data: bytes, at: int, count: int) -> typing.Tuple[Bodies, int]:
+        """At most `count` whole bodies from the place `at` on, and the place behind them."""
+
+    @staticmethod
+    def missing(data: bytes, at: int) -> int:
+        """How many bytes the body that begins there lacks at least, 1 where that is not known."""
 
     @staticmethod
     def read(reader: typing.BinaryIO) -> typing.Optional[bytes]:
-        """The next body, or None at the stream's end. Raises Malformed for what is none."""
+        """The next body of a file, None at its end. Raises Malformed for what is none."""
 
 
 class Lines:
@@ -36,20 +43,35 @@ class Lines:
         return ("\n".join([body.hex() for body in bodies]) + "\n").encode()
 
     @staticmethod
-    def length(count: int) -> int:
-        """How many bytes a body of so many takes."""
-        return 2 * count + 1
+    def split(data: bytes, at: int, count: int) -> typing.Tuple[Bodies, int]:
+        """At most `count` whole bodies from the place `at` on, and the place behind them. Raises
+        Malformed for what is no line of digits."""
+        bodies: Bodies = []
+        while len(bodies) < count:
+            end = data.find(b"\n", at)
+            if end < 0:
+                break
+            try:
+                bodies.append(binascii.unhexlify(data[at:end].rstrip(b"\r")))
+            except binascii.Error as error:
+                raise Malformed("a reply is no line of hexadecimal digits") from error
+            at = end + 1
+        return bodies, at
+
+    @staticmethod
+    def missing(data: bytes, at: int) -> int:
+        """How many bytes the line that begins there lacks at least."""
+        return 1
 
     @staticmethod
     def read(reader: typing.BinaryIO) -> typing.Optional[bytes]:
-        """The next body, or None at the stream's end. Raises Malformed for what is no line of digits."""
+        """The next body of a file, None at its end. Raises Malformed for what is no line of
+        digits."""
         line = reader.readline()
-        if not line:
-            return None
-        try:
-            return binascii.unhexlify(line.rstrip(b"\r\n"))
-        except binascii.Error as error:
-            raise Malformed("a reply is no line of hexadecimal digits") from error
+        return Lines.split(line.rstrip(b"\n") + b"\n", 0, 1)[0][0] if line else None
+
+
+_LENGTH = struct.Struct("<I")
 
 
 class Raw:
@@ -60,16 +82,32 @@ class Raw:
     @staticmethod
     def pack(bodies: typing.Iterable[bytes]) -> bytes:
         """The records of some bodies."""
-        return b"".join([part for body in bodies for part in (len(body).to_bytes(4, "little"), body)])
+        return b"".join([part for body in bodies for part in (_LENGTH.pack(len(body)), body)])
 
     @staticmethod
-    def length(count: int) -> int:
-        """How many bytes a body of so many takes."""
-        return 4 + count
+    def split(data: bytes, at: int, count: int) -> typing.Tuple[Bodies, int]:
+        """At most `count` whole bodies from the place `at` on, and the place behind them."""
+        bodies: Bodies = []
+        last = len(data) - 4
+        while at <= last and len(bodies) < count:
+            end = at + 4 + _LENGTH.unpack_from(data, at)[0]
+            if end > last + 4:
+                break
+            bodies.append(data[at + 4 : end])
+            at = end
+        return bodies, at
+
+    @staticmethod
+    def missing(data: bytes, at: int) -> int:
+        """How many bytes the record that begins there lacks at least."""
+        there = len(data) - at
+        if there < 4:
+            return 4 - there
+        return max(1, 4 + int(_LENGTH.unpack_from(data, at)[0]) - there)
 
     @staticmethod
     def read(reader: typing.BinaryIO) -> typing.Optional[bytes]:
-        """The next body, or None at the stream's end. Raises Malformed where it ends within one."""
+        """The next body of a file, None at its end. Raises Malformed where it ends within one."""
         head = _all(reader, 4)
         if not head:
             return None

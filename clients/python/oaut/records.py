@@ -1,4 +1,5 @@
-"""Records (docs/records.md): a request is its bytes behind the tag, as a session picks the tags; a reply is read in parts."""
+"""Records (docs/records.md): a request is its bytes behind the tag, as a session picks the tags; a
+reply is read in parts."""
 from __future__ import annotations
 
 import struct
@@ -7,38 +8,44 @@ import uuid
 
 from .faults import Malformed
 from .values import NULL_BSTR
-from .wire import read_field
+from .wire import padded, read_field, variant_field
 
 BODY_LIMIT = 4_194_304
 NO_INDEX = 0xFFFF_FFFF
-CREATE, RELEASE, GETIDS, INVOKE, GETELEM, PUTELEM, REDIM, LOCK, UNLOCK, TYPEINFO, LIST, REPLACE = range(1, 13)
-_WORDS = "CREATE RELEASE GETIDS INVOKE GETELEM PUTELEM REDIM LOCK UNLOCK TYPEINFO LIST REPLACE".split()
+(
+    CREATE,
+    RELEASE,
+    GETIDS,
+    INVOKE,
+    GETELEM,
+    PUTELEM,
+    REDIM,
+    LOCK,
+    UNLOCK,
+    TYPEINFO,
+    LIST,
+    REPLACE,
+) = range(1, 13)
+_WORDS = (
+    "CREATE RELEASE GETIDS INVOKE GETELEM PUTELEM REDIM LOCK UNLOCK TYPEINFO LIST REPLACE".split()
+)
 OPCODES: typing.Dict[int, str] = dict(enumerate(_WORDS, 1))
 METHOD, PROPERTYGET, PROPERTYPUT, PROPERTYPUTREF = 1, 2, 4, 8
 NEW_VALUE = -3
 # an interface of zeros stands for the coclass's default one
 DEFAULT = bytes(16)
-_TWO = struct.Struct("<II")
-_CALL = struct.Struct("<HHIi16s16xIHHII")
-_REPLY = struct.Struct("<IIII")
+TWO = struct.Struct("<II")
+CALL = struct.Struct("<HHIi16s16xIHHII")
+REPLY_HEAD = struct.Struct("<IIII")
 # a reply with S_OK and no fields, behind its tag
-_DONE = _REPLY.pack(0, 0, NO_INDEX, 0)[4:]
-
-
-def padded(out: bytes) -> bytes:
-    """The bytes with zeros up to the next multiple of 8."""
-    return out + bytes(-len(out) % 8)
-
-
-def variant_field(field: bytes) -> bytes:
-    """A variant field of a record: the count of the value's bytes, a reserved number, the bytes, padding."""
-    return _TWO.pack(len(field), 0) + padded(field)
+DONE = REPLY_HEAD.pack(0, 0, NO_INDEX, 0)[4:]
 
 
 def string_field(text: str) -> bytes:
-    """A string of a record: the count of its UTF-16 units, a reserved number, the units, padding."""
+    """A string of a record: the count of its UTF-16 units, a reserved number, the units, padding.
+    """
     units = text.encode("utf-16-le", "surrogatepass")
-    return _TWO.pack(len(units) // 2, 0) + padded(units)
+    return TWO.pack(len(units) // 2, 0) + padded(units)
 
 
 def indices_field(indices: typing.Sequence[int]) -> bytes:
@@ -56,8 +63,11 @@ def ask_release(number: int) -> bytes:
     return struct.pack("<HHII", RELEASE, 0, number, 0)
 
 
-def ask_ids(number: int, names: typing.Sequence[str], interface: bytes = DEFAULT, locale: int = 0) -> bytes:
-    """The DISPIDs of a member's name and of names of its parameters. `interface` is a GUID as it stands on the wire."""
+def ask_ids(
+    number: int, names: typing.Sequence[str], interface: bytes = DEFAULT, locale: int = 0
+) -> bytes:
+    """The DISPIDs of a member's name and of names of its parameters. `interface` is a GUID as it
+    stands on the wire."""
     head = struct.pack("<HHII16s16xII", GETIDS, 0, number, 0, interface, locale, len(names))
     return head + b"".join(string_field(name) for name in names)
 
@@ -72,10 +82,14 @@ def ask_call(
     interface: bytes = DEFAULT,
     locale: int = 0,
 ) -> bytes:
-    """What an INVOKE, and each request on an array, begins with: the head and the arguments in the order of rgvarg. `named` are the
-    DISPIDs of the first of them, `fields` the bytes of each value."""
-    head = _CALL.pack(opcode, 0, number, dispid, interface, locale, flags, 0, len(fields), len(named))
-    return head + padded(struct.pack(f"<{len(named)}i", *named)) + b"".join([variant_field(it) for it in fields])
+    """What an INVOKE, and each request on an array, begins with: the head and the arguments in the
+    order of rgvarg. `named` are the DISPIDs of the first of them, `fields` the bytes of each
+    value."""
+    variants = [variant_field(it) for it in fields]
+    head = CALL.pack(
+        opcode, 0, number, dispid, interface, locale, flags, 0, len(fields), len(named)
+    )
+    return head + padded(struct.pack(f"<{len(named)}i", *named)) + b"".join(variants)
 
 
 def ask_invoke(
@@ -120,7 +134,7 @@ def read_reply(body: bytes) -> Reply:
     """The reply of a body. Raises Malformed where it is none."""
     if len(body) < 16:
         raise Malformed(f"a reply has at least 16 bytes, this has {len(body)}")
-    tag, code, index, _ = _REPLY.unpack_from(body)
+    tag, code, index, _ = REPLY_HEAD.unpack_from(body)
     return Reply(tag, code, None if index == NO_INDEX else index, body[16:])
 
 
@@ -195,7 +209,7 @@ def read_number(fields: bytes) -> int:
 
 def read_value(fields: bytes) -> typing.Any:
     """The value of a reply to a get."""
-    count, _ = _TWO.unpack_from(fields) if len(fields) >= 8 else (-1, 0)
+    count, _ = TWO.unpack_from(fields) if len(fields) >= 8 else (-1, 0)
     if count < 0 or len(fields) != 8 + count + -count % 8:
         raise Malformed("a variant field does not fill its reply")
     return read_field(fields[8 : 8 + count])
@@ -225,7 +239,8 @@ def read_objects(fields: bytes) -> typing.List[typing.Tuple[int, uuid.UUID]]:
 
 
 def read_lost(fields: bytes) -> typing.Tuple[uuid.UUID, typing.Optional[int]]:
-    """What a new library does not keep: the GUID of an interface or coclass, and a member's DISPID or None for the whole of it."""
+    """What a new library does not keep: the GUID of an interface or coclass, and a member's DISPID
+    or None for the whole of it."""
     at = Fields(fields)
     guid = at.guid()
     dispid, _ = at.take("iI")

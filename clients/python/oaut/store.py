@@ -1,8 +1,9 @@
-"""What a store's file holds, in either format, read by docs/store.md and docs/images.md alone: it shares no code with the crates.
-What a test makes of a store stands here too: new ones, groups that are added, checkpoints and upgrades.
+"""What a store's file holds, in either format, read by docs/store.md and docs/images.md alone: it
+shares no code with the crates. What a test makes of a store stands here too: new ones, groups that
+are added, checkpoints and upgrades.
 
-`read` answers a `Store`, or raises `NotAStore` or `Damaged`, whose text is that of the program's fault. `python3 -m oaut store` has
-commands over it (backup.py).
+`read` answers a `Store`, or raises `NotAStore` or `Damaged`, whose text is that of the program's
+fault. It holds all of it in memory; files.py looks at a file piece by piece.
 """
 from __future__ import annotations
 
@@ -16,14 +17,29 @@ SELECTOR, HEADS = 4_096, (8_192, 16_785_408)
 LEAST = 33_562_624
 # how many bytes a bank's body has: in format 1, and in format 2 where nothing is said, and at most
 OLD_BANK, BANK, MOST_BANK = 16_777_184, 20_971_520, 1_073_741_824
-# magic, format, length of the library, length of the snapshot, the size of a bank and zeros: in format 1 all of these last are 0
+# magic, format, length of the library, length of the snapshot, the size of a bank and zeros: in
+# format 1 all of these last are 0
 HEAD = struct.Struct("<8sIIII8s")
 EMPTY, NULL, I2, I4, CY, BSTR, ERROR, BOOL, VARIANT, DECIMAL = 0, 1, 2, 3, 6, 8, 10, 11, 12, 14
 I1, UI1, UI2, UI4, I8, UI8, INT, UINT = 16, 17, 18, 19, 20, 21, 22, 23
 ARRAY = 0x2000
 # numbers of a type, as struct names them
-NUMBERS = {I1: "b", UI1: "B", I2: "h", UI2: "H", I4: "i", UI4: "I", INT: "i", UINT: "I", I8: "q", UI8: "Q", CY: "q", ERROR: "I"}
-SIZES = {EMPTY: 0, NULL: 0, BOOL: 1, DECIMAL: 14, **{vt: struct.calcsize(form) for vt, form in NUMBERS.items()}}
+NUMBERS = {
+    I1: "b",
+    UI1: "B",
+    I2: "h",
+    UI2: "H",
+    I4: "i",
+    UI4: "I",
+    INT: "i",
+    UINT: "I",
+    I8: "q",
+    UI8: "Q",
+    CY: "q",
+    ERROR: "I",
+}
+SIZES = {EMPTY: 0, NULL: 0, BOOL: 1, DECIMAL: 14}
+SIZES.update({vt: struct.calcsize(form) for vt, form in NUMBERS.items()})
 OF_ARRAYS = {I1, UI1, I2, UI2, I4, UI4, INT, UINT, I8, UI8, CY, BOOL, BSTR, VARIANT}
 NO_TEXT, TEXT_LIMIT, CELL_LIMIT, USED_UP = 0xFFFF_FFFF, 1_048_576, 65_536, 0xFFFF_FFFF
 
@@ -79,7 +95,8 @@ class Group(typing.NamedTuple):
 
 
 class Store(typing.NamedTuple):
-    """What a store holds, and where: the bank in use, the place of its closed gate, its groups, its format, where its body ends."""
+    """What a store holds, and where: the bank in use, the place of its closed gate, its groups, its
+    format, where its body ends."""
 
     library: bytes
     next: int
@@ -155,7 +172,9 @@ def value(source: Bytes) -> Value:
     bounds: typing.List[typing.Any] = [source.numbers("Ii") for _ in range(count)]
     cells = cells_of(bounds)
     need(cells <= CELL_LIMIT)
-    return Array(of, bounds, [scalar(source) if of == VARIANT else content(source, of) for _ in range(cells)])
+    if of == VARIANT:
+        return Array(of, bounds, [scalar(source) for _ in range(cells)])
+    return Array(of, bounds, [content(source, of) for _ in range(cells)])
 
 
 def cells_of(bounds: typing.Iterable[Bound]) -> int:
@@ -175,7 +194,8 @@ def value_image(it: Value) -> bytes:
     """The image of a value."""
     if not isinstance(it, Array):
         return scalar_image(it)
-    head = struct.pack("<HH", ARRAY + it.vt, len(it.bounds)) + b"".join(struct.pack("<Ii", *bound) for bound in it.bounds)
+    head = struct.pack("<HH", ARRAY + it.vt, len(it.bounds))
+    head += b"".join(struct.pack("<Ii", *bound) for bound in it.bounds)
     return head + b"".join(scalar_image(cell) if it.vt == VARIANT else cell for cell in it.cells)
 
 
@@ -275,23 +295,29 @@ def apply(source: Bytes, next_number: int, objects: Objects) -> int:
     found = cells.get(where)
     if not isinstance(found, Array):
         raise NoImage
-    if kind == 4:
-        indices = source.numbers(f"{source.number('H')}i")
-        new = scalar(source)
-        need(len(indices) == len(found.bounds))
-        position = 0
-        for index, (size, lowest) in zip(indices, found.bounds):
-            need(lowest <= index < lowest + size)
-            position = position * size + index - lowest
-        need(found.vt in (VARIANT, new[0]))
-        found.cells[position] = new if found.vt == VARIANT else new[1]
-    else:
+    cells[where] = changed_array(found, kind, source)
+    return next_number
+
+
+def changed_array(found: Array, kind: int, source: Bytes) -> Array:
+    """An array behind the rest of an event that puts an element (kind 4) or gives it other bounds
+    (5). Its own cells may be those of the answer."""
+    if kind == 5:
         bounds: typing.List[typing.Any] = [source.numbers("Ii"), *found.bounds[1:]]
         count = cells_of(bounds)
         need(count <= CELL_LIMIT)
         kept = found.cells[:count]
-        cells[where] = Array(found.vt, bounds, kept + [zero(found.vt)] * (count - len(kept)))
-    return next_number
+        return Array(found.vt, bounds, kept + [zero(found.vt)] * (count - len(kept)))
+    indices = source.numbers(f"{source.number('H')}i")
+    new = scalar(source)
+    need(len(indices) == len(found.bounds))
+    position = 0
+    for index, (size, lowest) in zip(indices, found.bounds):
+        need(lowest <= index < lowest + size)
+        position = position * size + index - lowest
+    need(found.vt in (VARIANT, new[0]))
+    found.cells[position] = new if found.vt == VARIANT else new[1]
+    return found
 
 
 def table_image(next_number: int, objects: Objects) -> bytes:
@@ -319,19 +345,35 @@ def body_of(form: int, chosen: int, bank: int) -> int:
 
 def head_of(form: int, library: bytes, snapshot: bytes, bank: int) -> bytes:
     """The bytes of a bank's head."""
-    return HEAD.pack(b"OAUTBK0%d" % form, form, len(library), len(snapshot), 0 if form == 1 else bank, bytes(8))
+    return head_image(form, len(library), len(snapshot), bank)
 
 
-def told(data: Data, at: int) -> typing.Tuple[int, int, int, int]:
-    """The format of the bank whose head stands there, the lengths of its library and of its snapshot, and its size."""
-    magic, form, library, snapshot, bank, zeros = HEAD.unpack_from(data, at)
+def head_image(form: int, library: int, snapshot: int, bank: int) -> bytes:
+    """The same of the lengths of its library and of its snapshot, and of its size."""
+    magic = b"OAUTBK0%d" % form
+    return HEAD.pack(magic, form, library, snapshot, 0 if form == 1 else bank, bytes(8))
+
+
+def head_told(head: Data, at: int, length: int) -> typing.Tuple[int, int, int, int]:
+    """The format of the bank that has this head, the lengths of its library and of its snapshot,
+    and its size. The head stands at that place of a disk of that length."""
+    if len(head) < HEAD.size:
+        raise NotAStore
+    magic, form, library, snapshot, bank, zeros = HEAD.unpack(head)
     if (magic, form, bank) == (b"OAUTBK01", 1, 0):
         bank = OLD_BANK
-    elif (magic, form) != (b"OAUTBK02", 2) or not BANK <= bank <= MOST_BANK or len(data) < length_of(bank):
+    elif (magic, form) != (b"OAUTBK02", 2) or not BANK <= bank <= MOST_BANK:
+        raise Damaged(at)
+    elif length < length_of(bank):
         raise Damaged(at)
     if zeros != bytes(8) or library + snapshot >= bank:
         raise Damaged(at)
     return form, library, snapshot, bank
+
+
+def told(data: Data, at: int) -> typing.Tuple[int, int, int, int]:
+    """The same of the head that stands at a place of a disk's bytes."""
+    return head_told(bytes(data[at : at + HEAD.size]), at, len(data))
 
 
 def read(data: Data) -> Store:
@@ -377,7 +419,8 @@ def lines(store: Store) -> typing.Iterator[str]:
         yield f"object {number} {guid_text(guid)}\n"
         for where in sorted(cells, key=place_order):
             key = "".join(scalar_image(it).hex() for it in where[2])
-            yield f"cell {guid_text(where[0])} {where[1]} {key or '-'} {value_image(cells[where]).hex()}\n"
+            told = value_image(cells[where]).hex()
+            yield f"cell {guid_text(where[0])} {where[1]} {key or '-'} {told}\n"
 
 
 def dump(data: Data) -> str:
@@ -391,7 +434,9 @@ def dump(data: Data) -> str:
 NO_OBJECTS = struct.pack("<II", 1, 0)
 
 
-def laid(disk: bytearray, form: int, chosen: int, library: bytes, snapshot: bytes, bank: int) -> bytearray:
+def laid(
+    disk: bytearray, form: int, chosen: int, library: bytes, snapshot: bytes, bank: int
+) -> bytearray:
     """The same disk with a bank that has no groups, and that is the one in use."""
     at, body = HEADS[chosen], body_of(form, chosen, bank)
     disk[at : at + HEAD.size] = head_of(form, library, snapshot, bank)
@@ -405,7 +450,9 @@ def filled(before: bytes, size: int) -> bytearray:
     return bytearray(size) if before == b"\0" else bytearray(before * size)
 
 
-def formatted(library: bytes, bank: int = BANK, size: typing.Optional[int] = None, before: bytes = b"\0") -> bytearray:
+def formatted(
+    library: bytes, bank: int = BANK, size: typing.Optional[int] = None, before: bytes = b"\0"
+) -> bytearray:
     """A disk that was filled with a byte and then formatted for the canonical text of a library."""
     disk = filled(before, size or length_of(bank))
     disk[0] = 1
@@ -423,20 +470,24 @@ def settled(disk: Data, library: typing.Optional[bytes] = None) -> bytearray:
     """A store behind a checkpoint, with another library where one is given."""
     found = read(disk)
     bank = told(disk, HEADS[found.chosen])[3]
-    return laid(bytearray(disk), found.format, 1 - found.chosen, library or found.library, table_image(found.next, found.objects), bank)
+    snapshot = table_image(found.next, found.objects)
+    text = library or found.library
+    return laid(bytearray(disk), found.format, 1 - found.chosen, text, snapshot, bank)
 
 
 def upgraded(disk: Data, bank: int = BANK) -> bytearray:
     """A store of format 1 behind its upgrade."""
     found = read(disk)
     longer = bytearray(disk) + bytes(max(0, length_of(bank) - len(disk)))
-    return laid(longer, 2, 1 - found.chosen, found.library, table_image(found.next, found.objects), bank)
+    snapshot = table_image(found.next, found.objects)
+    return laid(longer, 2, 1 - found.chosen, found.library, snapshot, bank)
 
 
 def add(disk: bytearray, *groups: bytes) -> bytearray:
     """Adds groups to a store's bytes, each the images of its events."""
     gate = read(disk).gate
     for events in groups:
-        disk[gate : gate + 6 + len(events)] = b"\1" + struct.pack("<I", len(events)) + events + b"\0"
+        group = b"\1" + struct.pack("<I", len(events)) + events
+        disk[gate : gate + len(group) + 1] = group + b"\0"
         gate += 5 + len(events)
     return disk

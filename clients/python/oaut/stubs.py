@@ -1,4 +1,5 @@
-"""A library's coclasses and members as a .pyi, for editors and type checkers: `python3 -m oaut stubs LIB`."""
+"""A library's coclasses and members as a .pyi, for editors and type checkers: `python3 -m oaut
+stubs LIB`."""
 from __future__ import annotations
 
 import keyword
@@ -7,9 +8,9 @@ import sys
 import typing
 
 from .library import HAS_DEFAULT, OPTIONAL, Coclass, Interface, Library, Member, Parameter, fold
-from .objects import _OWN
+from .objects import OWN_WORDS
 from .programs import Program, play
-from .values import _BSTR, _CY, _VARIANT, ARRAY, INTEGERS, VOID, VT
+from .values import VT_BSTR, VT_CY, VT_VARIANT, ARRAY, INTEGERS, VOID, VT
 
 _HEAD = '''\
 """The members of the library {source}, as `python3 -m oaut stubs` wrote them.
@@ -39,18 +40,22 @@ class _Property(_typing.Generic[_Got, _Put]):
 _GOT = {
     **{vt: f"_oaut.{of.__name__}" for vt, of in INTEGERS.items()},
     int(VT.ERROR): "_oaut.Error",
-    _CY: "_oaut.Currency",
+    VT_CY: "_oaut.Currency",
     int(VT.DECIMAL): "_decimal.Decimal",
     int(VT.BOOL): "bool",
-    _BSTR: "_Text",
-    _VARIANT: "_typing.Any",
+    VT_BSTR: "_Text",
+    VT_VARIANT: "_typing.Any",
     VOID: "None",
 }
-# what a put takes: what is not of the declared type is converted by the server, where there is a rule
+# what a put takes: what is not of the declared type is converted by the server, where there is a
+# rule
 _PUT = {
-    **{vt: "_oaut.NumberLike" for vt in (*INTEGERS, int(VT.ERROR), _CY, int(VT.DECIMAL), int(VT.BOOL))},
-    _BSTR: "_oaut.TextLike",
-    _VARIANT: "_typing.Any",
+    **{
+        vt: "_oaut.NumberLike"
+        for vt in (*INTEGERS, int(VT.ERROR), VT_CY, int(VT.DECIMAL), int(VT.BOOL))
+    },
+    VT_BSTR: "_oaut.TextLike",
+    VT_VARIANT: "_typing.Any",
 }
 
 
@@ -65,7 +70,7 @@ def _put(vt: int) -> str:
 def _spelled(name: str) -> str:
     """A name as an attribute: another case of one that Python, or the client, has for itself."""
     for it in (name, name.capitalize(), name.upper()):
-        if not keyword.iskeyword(it) and it not in _OWN:
+        if not keyword.iskeyword(it) and it not in OWN_WORDS:
             return it
     return f"{name}_"
 
@@ -82,27 +87,41 @@ def _keyed(member: Member, name: str) -> typing.List[str]:
     """The class of a property with parameters."""
     types = [_put(it.vt) for it in member.parameters]
     required = sum(not it.flags & (OPTIONAL | HAS_DEFAULT) for it in member.parameters)
-    keys = [types[0] if count == 1 else f"_typing.Tuple[{', '.join(types[:count])}]" for count in range(max(required, 1), len(types) + 1)]
+    keys = [
+        types[0] if count == 1 else f"_typing.Tuple[{', '.join(types[:count])}]"
+        for count in range(max(required, 1), len(types) + 1)
+    ]
     key = keys[0] if len(keys) == 1 else f"_typing.Union[{', '.join(keys)}]"
     lines = [f"class {name}:"]
     if member.can_get:
         arguments = _parameters(member.parameters)
-        lines += [f"    def get({arguments}) -> {_got(member.vt)}: ...", f"    def __call__({arguments}) -> {_got(member.vt)}: ..."]
+        lines += [
+            f"    def get({arguments}) -> {_got(member.vt)}: ...",
+            f"    def __call__({arguments}) -> {_got(member.vt)}: ...",
+        ]
         lines += [f"    def __getitem__(self, key: {key}) -> {_got(member.vt)}: ..."]
     if member.can_put:
-        arguments = _parameters(member.parameters).replace("self", f"self, value: {_put(member.vt)}", 1)
-        lines += [f"    def put({arguments}) -> None: ...", f"    def __setitem__(self, key: {key}, value: {_put(member.vt)}) -> None: ..."]
+        arguments = _parameters(member.parameters).replace(
+            "self", f"self, value: {_put(member.vt)}", 1
+        )
+        lines += [
+            f"    def put({arguments}) -> None: ...",
+            f"    def __setitem__(self, key: {key}, value: {_put(member.vt)}) -> None: ...",
+        ]
     return lines
 
 
 def _interface(library: Library, interface: Interface, name: str) -> typing.List[str]:
-    """The class of an object by one interface, and those of its properties with parameters before it."""
+    """The class of an object by one interface, and those of its properties with parameters before
+    it."""
     before: typing.List[str] = []
     lines = [f"class {name}(_oaut.Object):", f'    """{interface.name}, {{{interface.guid}}}."""']
     for member in library.members(interface).values():
         attribute = _spelled(member.name)
         if member.is_method:
-            lines.append(f"    def {attribute}({_parameters(member.parameters)}) -> {_got(member.vt)}: ...")
+            lines.append(
+                f"    def {attribute}({_parameters(member.parameters)}) -> {_got(member.vt)}: ..."
+            )
         elif member.parameters:
             keyed = f"_{name}_{attribute}"
             before += ["", *_keyed(member, keyed)]
@@ -128,8 +147,14 @@ def _coclass(library: Library, coclass: Coclass) -> typing.List[str]:
     lines += _interface(library, default, coclass.name)
     if len(names) > 1:
         for of, name in names.items():
-            lines += ["    @_typing.overload", f'    def interface(self, which: _typing.Literal["{of}"]) -> {name}: ...']
-        lines += ["    @_typing.overload", "    def interface(self, which: _Which) -> _oaut.Object: ..."]
+            lines += [
+                "    @_typing.overload",
+                f'    def interface(self, which: _typing.Literal["{of}"]) -> {name}: ...',
+            ]
+        lines += [
+            "    @_typing.overload",
+            "    def interface(self, which: _Which) -> _oaut.Object: ...",
+        ]
     return lines
 
 
@@ -141,8 +166,15 @@ def text_of(library: Library, name: str, source: str) -> str:
     lines += ["", "class Server(_oaut.Server):"]
     for call, before in (("create", ""), ("object", "number: int, ")):
         for coclass in library.coclasses:
-            lines += ["    @_typing.overload", f'    def {call}(self, {before}coclass: _typing.Literal["{coclass.name}"]) -> {coclass.name}: ...']
-        lines += ["    @_typing.overload", f"    def {call}(self, {before}coclass: _Which) -> _oaut.Object: ..."]
+            lines += [
+                "    @_typing.overload",
+                f'    def {call}(self, {before}coclass: _typing.Literal["{coclass.name}"])'
+                f" -> {coclass.name}: ...",
+            ]
+        lines += [
+            "    @_typing.overload",
+            f"    def {call}(self, {before}coclass: _Which) -> _oaut.Object: ...",
+        ]
     return "\n".join(lines) + "\n"
 
 

@@ -12,23 +12,26 @@ import typing
 from .decode import description_words
 from .faults import BadStub, Fault, Stopped, UnknownName
 from .library import Description, fold
-from .objects import ArrayProperty, Method, Object, Property
+from .objects import ArrayProperty, Method, Object, Property, member_of
 from .programs import Program, play, serve
 from .records import read_ids
 from .session import Server
 from .values import ARRAY
 from .words import value_of, words_of
 
-Parts = typing.List[typing.Tuple[typing.Tuple[typing.Any, ...], typing.Optional[typing.Dict[str, typing.Any]]]]
+Parts = typing.List[
+    typing.Tuple[typing.Tuple[typing.Any, ...], typing.Optional[typing.Dict[str, typing.Any]]]
+]
 # what a command may raise, and a prompt goes on behind
 ERRORS = (Fault, LookupError, ValueError, TypeError, AttributeError, ArithmeticError, SyntaxError)
 
 HELP = """\
 create CLASS               a new object
-get OBJECT MEMBER          get 1 Count, get 1 Cell[5, "k"], get 1 Cell(5, Key="k"), get 1 Grid[0, 7], get 1 Grid[0:2]
+get OBJECT MEMBER          get 1 Count, get 1 Cell[5, "k"], get 1 Cell(5, Key="k"),
+                           get 1 Grid[0, 7], get 1 Grid[0:2]
 put OBJECT MEMBER VALUE    put 1 Count 7, put 1 Cell[5, "k"] "x", put 1 Grid [[1, 2], [3, 4]]
-                           values: 7, 2.50, "text", b"abc", true, null, empty, I2(5), Currency("2.5"), Error(0x80004005),
-                           Array(I2, [(2, -1)], [1, 2])
+                           values: 7, 2.50, "text", b"abc", true, null, empty, I2(5),
+                           Currency("2.5"), Error(0x80004005), Array(I2, [(2, -1)], [1, 2])
 call OBJECT METHOD         call 1 Clear()
 redim OBJECT MEMBER COUNT [LOWEST]
 lock OBJECT MEMBER, unlock OBJECT MEMBER
@@ -96,7 +99,9 @@ class Talk(cmd.Cmd):
 
     def completedefault(self, *words: typing.Any) -> typing.List[str]:
         library = self.server.library
-        names = {it.name for it in library.coclasses} | {form.name for it in library.interfaces for form in it.forms}
+        names = {it.name for it in library.coclasses} | {
+            form.name for it in library.interfaces for form in it.forms
+        }
         return sorted(it for it in names if fold(it).startswith(fold(words[0])))
 
     # --- commands
@@ -124,7 +129,7 @@ class Talk(cmd.Cmd):
         if len(parts) > 1:
             place = self._walk(item, name, parts[:-1])
         else:
-            place = item.property(name) if item._member(name).parameters else item.array(name)
+            place = item.property(name) if member_of(item, name).parameters else item.array(name)
         key, named = parts[-1]
         if named is None:
             place[key] = value
@@ -234,7 +239,7 @@ class Talk(cmd.Cmd):
 
     def _walk(self, item: Object, name: str, parts: Parts) -> typing.Any:
         """What a member with its parts is: a property, an array, a method or a value's place."""
-        member = item._member(name)
+        member = member_of(item, name)
         if member.is_method:
             return Method(item, member)
         place: typing.Any
@@ -267,7 +272,12 @@ def _key(node: ast.expr) -> typing.Any:
     """What stands in brackets: values, or a slice of whole numbers."""
     if not isinstance(node, ast.Slice):
         return value_of(ast.unparse(node))
-    return slice(*(None if it is None else value_of(ast.unparse(it)) for it in (node.lower, node.upper, node.step)))
+    return slice(
+        *(
+            None if it is None else value_of(ast.unparse(it))
+            for it in (node.lower, node.upper, node.step)
+        )
+    )
 
 
 def _closing(text: str, start: int) -> int:
@@ -289,10 +299,18 @@ def _closing(text: str, start: int) -> int:
 
 
 def run(
-    library: str, store: typing.Optional[str], program: Program, framing: str, batch: typing.Optional[str], verbose: bool
+    library: str,
+    store: typing.Optional[str],
+    program: Program,
+    framing: str,
+    batch: typing.Optional[str],
+    verbose: bool,
 ) -> int:
-    """The prompt. Gives the program's exit status: 1 where a command of a file fails, which ends it."""
-    with play(library, program, framing) if store is None else serve(store, library, None, program, framing) as server:
+    """The prompt. Gives the program's exit status: 1 where a command of a file fails, which ends
+    it."""
+    with play(library, program, framing) if store is None else serve(
+        store, library, None, program, framing
+    ) as server:
         talk = Talk(server)
         if verbose:
             server.trace = lambda side, body: print(side, body.hex())

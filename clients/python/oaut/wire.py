@@ -1,18 +1,21 @@
-"""The wire forms of values (docs/wire.md): `spell` gives the bytes of a value's field, `read_field` the value of a field's bytes."""
+"""The wire forms of values (docs/wire.md): `spell` gives the bytes of a value's field, `read_field`
+the value of a field's bytes."""
 from __future__ import annotations
 
+import functools
 import math
 import struct
 import typing
 
 from .faults import Malformed
 from .values import (
-    _BSTR,
-    _DECIMAL,
-    _VARIANT,
+    VT_BSTR,
+    VT_DECIMAL,
+    VT_VARIANT,
     ARRAY,
     CELL_LIMIT,
     CELLS,
+    INTEGERS,
     NUMBERS,
     SCALARS,
     TEXT_LIMIT,
@@ -20,14 +23,21 @@ from .values import (
     Bounds,
     Fetched,
     Field,
+    Integer,
     scalar_of,
+    text_bytes,
     typed,
 )
 
 NULL_LENGTH = 0xFFFF_FFFF
-REFERENT = struct.pack("<I", 0x0002_0000)
+_REFERENT = 0x0002_0000
+REFERENT = struct.pack("<I", _REFERENT)
 _HEAD = struct.Struct("<IIHHHHI")
 _COUNTS = struct.Struct("<III")
+_FIELD_HEAD = struct.Struct("<II")
+# a text's variant field up to its units
+_TEXT_HEAD = struct.Struct("<IIIIHHHHIIIII")
+_SHORT = 32
 
 
 def _add_blob(out: bytearray, text: bytes) -> None:
@@ -43,16 +53,18 @@ def _add_scalar(out: bytearray, vt: int, raw: typing.Any = None) -> None:
     out += bytes(-len(out) % 8)
     start = len(out)
     out += _HEAD.pack(0, 0, vt, 0, 0, 0, vt)
-    if vt == _BSTR:
+    if vt == VT_BSTR:
         if raw is None:
             out += bytes(4)
         else:
             out += REFERENT
             _add_blob(out, raw)
-    elif vt == _DECIMAL:
+    elif vt == VT_DECIMAL:
         scale, sign, magnitude = raw
         out += bytes(-len(out) % 8)
-        out += struct.pack("<HBBIQ", 0, scale, sign, magnitude >> 64, magnitude & 0xFFFF_FFFF_FFFF_FFFF)
+        out += struct.pack(
+            "<HBBIQ", 0, scale, sign, magnitude >> 64, magnitude & 0xFFFF_FFFF_FFFF_FFFF
+        )
     elif vt in NUMBERS:
         packed = struct.pack("<" + NUMBERS[vt], raw)
         out += bytes(-len(out) % len(packed))
@@ -65,32 +77,45 @@ def _set_size(out: bytearray, start: int) -> None:
     struct.pack_into("<I", out, start, (len(out) - start + 7) // 8 & 0xFFFF_FFFF)
 
 
+def padded(out: bytes) -> bytes:
+    """The bytes with zeros up to the next multiple of 8."""
+    return out + bytes(-len(out) % 8)
+
+
+def variant_field(field: bytes) -> bytes:
+    """A variant field of a record: the count of the value's bytes, a reserved number, the bytes,
+    padding."""
+    return _FIELD_HEAD.pack(len(field), 0) + padded(field)
+
+
 def scalar_field(vt: int, raw: typing.Any = None) -> bytes:
-    """The field of a scalar. `raw` is its number (BOOL: 0xFFFF or 0, CY: ten-thousandths), the bytes of a text or None, or the
-    scale, sign and magnitude of a DECIMAL."""
+    """The field of a scalar. `raw` is its number (BOOL: 0xFFFF or 0, CY: ten-thousandths), the
+    bytes of a text or None, or the scale, sign and magnitude of a DECIMAL."""
     out = bytearray()
     _add_scalar(out, vt, raw)
     return bytes(out)
 
 
 def array_field(vt: int, bounds: Bounds, cells: typing.Sequence[typing.Any]) -> bytes:
-    """The field of an array. Its cells are as in `scalar_field`, those of VARIANT tuples of a type and its content, or None for a
-    null referent."""
+    """The field of an array. Its cells are as in `scalar_field`, those of VARIANT tuples of a type
+    and its content, or None for a null referent."""
     sf_type, size = CELLS[vt]
-    features = {_BSTR: 0x180, _VARIANT: 0x880}.get(vt, 0x80)
+    features = {VT_BSTR: 0x180, VT_VARIANT: 0x880}.get(vt, 0x80)
     out = bytearray(_HEAD.pack(0, 0, ARRAY + vt, 0, 0, 0, ARRAY))
     out += REFERENT + REFERENT
-    out += struct.pack("<IHHIIII", len(bounds), len(bounds), features, size, vt << 16, sf_type, len(cells))
+    out += struct.pack(
+        "<IHHIIII", len(bounds), len(bounds), features, size, vt << 16, sf_type, len(cells)
+    )
     out += REFERENT
     for count, lower in bounds:
         out += struct.pack("<Ii", count, lower)
     out += struct.pack("<I", len(cells))
-    if vt in (_BSTR, _VARIANT):
+    if vt in (VT_BSTR, VT_VARIANT):
         out += b"".join([bytes(4) if cell is None else REFERENT for cell in cells])
         for cell in cells:
             if cell is None:
                 continue
-            if vt == _BSTR:
+            if vt == VT_BSTR:
                 out += bytes(-len(out) % 4)
                 _add_blob(out, cell)
             else:
@@ -102,17 +127,63 @@ def array_field(vt: int, bounds: Bounds, cells: typing.Sequence[typing.Any]) -> 
     return bytes(out)
 
 
-def spell(value: typing.Any, declared: int = _VARIANT) -> bytes:
-    """The bytes of a value's field, where a property or parameter of the type `declared` takes it (a vt, with ARRAY for arrays)."""
+def spell(value: typing.Any, declared: int = VT_VARIANT) -> bytes:
+    """The bytes of a value's field, where a property or parameter of the type `declared` takes it
+    (a vt, with ARRAY for arrays)."""
     if isinstance(value, Field):
         return bytes(value)
     if isinstance(value, Fetched):
         value = value.value
     if isinstance(value, (list, tuple, range)):
-        value = Array.of(value, declared - ARRAY if declared & ARRAY else _VARIANT)
+        value = Array.of(value, declared - ARRAY if declared & ARRAY else VT_VARIANT)
     if isinstance(value, Array):
         return value.spelled()
     return scalar_field(*typed(value, declared))
+
+
+def variant_of(value: typing.Any, declared: int = VT_VARIANT) -> bytes:
+    """The variant field of a value, where a property or parameter of the type `declared` takes it:
+    the same as `variant_field(spell(value, declared))`."""
+    kind = type(value)
+    if kind is int:
+        quick = _QUICK.get(declared)
+        if quick is not None and quick[2] <= value <= quick[3]:
+            return quick[0](quick[1], value)
+    elif kind is str:
+        return _short_text(value) if len(value) <= _SHORT else _text_variant(value)
+    return variant_field(spell(value, declared))
+
+
+def _text_variant(text: str) -> bytes:
+    content = text_bytes(text)
+    size, units = 36 + len(content), len(content) // 2
+    head = _TEXT_HEAD.pack(
+        size, 0, (size + 7) // 8, 0, VT_BSTR, 0, 0, 0, VT_BSTR, _REFERENT, units, 2 * units, units
+    )
+    return head + content + bytes(-size % 8)
+
+
+# the keys of a batch come again and again
+_short_text = functools.lru_cache(maxsize=1_024)(_text_variant)
+
+
+def number_layout(vt: int) -> typing.Tuple[str, bytes]:
+    """How a variant field of a number is packed: the words of struct, of which the first are the
+    bytes before the number, and these."""
+    field = scalar_field(vt, 0)
+    width = struct.calcsize("<" + NUMBERS[vt])
+    before = variant_field(field)[: 8 + len(field) - width]
+    return f"{len(before)}s{NUMBERS[vt]}{-len(field) % 8}x", before
+
+
+def _quick(
+    vt: int, of: typing.Type[Integer]
+) -> typing.Tuple[typing.Callable[..., bytes], bytes, int, int]:
+    form, before = number_layout(vt)
+    return struct.Struct("<" + form).pack, before, of.low, of.high
+
+
+_QUICK = {vt: _quick(vt, of) for vt, of in INTEGERS.items()}
 
 
 class _Places:
@@ -160,15 +231,17 @@ class _Places:
         _, _, vt, _, _, _, discriminant = _HEAD.unpack_from(self.data, self.place)
         self.place += _HEAD.size
         if vt not in SCALARS or discriminant != vt:
-            raise Malformed(f"no scalar has the type 0x{vt:x} and the discriminant 0x{discriminant:x}")
+            raise Malformed(
+                f"no scalar has the type 0x{vt:x} and the discriminant 0x{discriminant:x}"
+            )
         return vt, self.arm(vt)
 
     def arm(self, vt: int) -> typing.Any:
         if vt in NUMBERS:
             return self.number(NUMBERS[vt])
-        if vt == _BSTR:
+        if vt == VT_BSTR:
             return self.text() if self.number("I") else None
-        if vt == _DECIMAL:
+        if vt == VT_DECIMAL:
             self.place = -(-self.place // 8) * 8
             _, scale, sign, high, low = struct.unpack_from("<HBBIQ", self.data, self.place)
             self.place += 16
@@ -186,12 +259,16 @@ class _Places:
             raise Malformed("the number of bounds or the sfType of an array is wrong")
         flat = [self.number(code) for _ in range(dimensions) for code in "Ii"]
         bounds = list(zip(flat[::2], flat[1::2]))
-        if size != math.prod(count for count, _ in bounds) or size > CELL_LIMIT or self.number("I") != size:
+        if (
+            size != math.prod(count for count, _ in bounds)
+            or size > CELL_LIMIT
+            or self.number("I") != size
+        ):
             raise Malformed("the number of cells of an array is wrong, or too large")
-        if vt not in (_BSTR, _VARIANT):
+        if vt not in (VT_BSTR, VT_VARIANT):
             return bounds, self.numbers(NUMBERS[vt], size)
         referents = self.numbers("I", size)
-        if vt == _BSTR:
+        if vt == VT_BSTR:
             return bounds, [self.text() if it else None for it in referents]
         return bounds, [self.scalar() if it else None for it in referents]
 
@@ -203,7 +280,8 @@ class _Places:
 
 
 def _number_arm(code: str) -> typing.Tuple[int, typing.Callable[[bytes], typing.Tuple[int, ...]]]:
-    """The length of a field of one number, and what reads the number: it stands at the first multiple of its width from 20 on."""
+    """The length of a field of one number, and what reads the number: it stands at the first
+    multiple of its width from 20 on."""
     width = struct.calcsize("<" + code)
     at = -(-20 // width) * width
     return at + width, struct.Struct(f"<{at}x{code}").unpack

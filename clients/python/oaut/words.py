@@ -3,6 +3,7 @@ from __future__ import annotations
 
 import ast
 import decimal
+import html
 import typing
 
 from .values import CELLS, EMPTY, INTEGERS, MISSING, NULL_BSTR, VT, Array, Currency, Error
@@ -31,7 +32,32 @@ def short_words(value: object) -> str:
     return told if len(told) <= 2 * _SHORT else f"{told[:_SHORT]}.."
 
 
-_NAMES = {"true": True, "false": False, "null": None, "empty": EMPTY, "null_bstr": NULL_BSTR, "missing": MISSING}
+def html_table(
+    title: str,
+    heads: typing.Sequence[str],
+    rows: typing.Iterable[typing.Sequence[typing.Any]],
+    left_out: str = "",
+) -> str:
+    """A table as a notebook shows it. Texts of a server stand in it as texts."""
+
+    def cells(word: str, row: typing.Sequence[typing.Any]) -> str:
+        return "".join(f"<{word}>{html.escape(str(it))}</{word}>" for it in row)
+
+    head = f"<thead><tr>{cells('th', heads)}</tr></thead>" if heads else ""
+    body = "".join(f"<tr>{cells('td', row)}</tr>" for row in rows)
+    behind = f"<p>{html.escape(left_out)}</p>" if left_out else ""
+    caption = f"<caption>{html.escape(title)}</caption>"
+    return f"<table>{caption}{head}<tbody>{body}</tbody></table>{behind}"
+
+
+_NAMES = {
+    "true": True,
+    "false": False,
+    "null": None,
+    "empty": EMPTY,
+    "null_bstr": NULL_BSTR,
+    "missing": MISSING,
+}
 _CALLS: typing.Dict[str, typing.Callable[..., typing.Any]] = {
     it.__name__: it for it in (*INTEGERS.values(), Error, Currency, Array, decimal.Decimal)
 }
@@ -42,9 +68,9 @@ _TYPES: typing.Dict[str, typing.Any] = {
 
 
 def value_of(text: str) -> typing.Any:
-    """The value of words: a Python literal, `2.50` (a Decimal), true, false, null, empty, null_bstr, missing, `I2(5)`,
-    `Currency("2.5")`, `Error(0x80004005)`, `[[1, 2], [3, 4]]`, `Array(I2, [(2, -1)], [1, 2])`. Raises ValueError for anything
-    else."""
+    """The value of words: a Python literal, `2.50` (a Decimal), true, false, null, empty,
+    null_bstr, missing, `I2(5)`, `Currency("2.5")`, `Error(0x80004005)`, `[[1, 2], [3, 4]]`,
+    `Array(I2, [(2, -1)], [1, 2])`. Raises ValueError for anything else."""
 
     def read(node: ast.AST) -> typing.Any:
         if isinstance(node, ast.Constant) and isinstance(node.value, (int, str, bytes, type(None))):
@@ -58,16 +84,32 @@ def value_of(text: str) -> typing.Any:
             if type(value) is int:
                 return -value
         if isinstance(node, (ast.List, ast.Tuple)):
-            return [read(it) for it in node.elts] if isinstance(node, ast.List) else tuple(read(it) for it in node.elts)
+            return (
+                [read(it) for it in node.elts]
+                if isinstance(node, ast.List)
+                else tuple(read(it) for it in node.elts)
+            )
         if isinstance(node, ast.Name) and node.id.lower() in _NAMES:
             return _NAMES[node.id.lower()]
         if isinstance(node, ast.Name) and node.id in _TYPES:
             return _TYPES[node.id]
-        if isinstance(node, ast.Call) and isinstance(node.func, ast.Name) and node.func.id in _CALLS and not node.keywords:
+        if (
+            isinstance(node, ast.Call)
+            and isinstance(node.func, ast.Name)
+            and node.func.id in _CALLS
+            and not node.keywords
+        ):
             return _CALLS[node.func.id](*[read(it) for it in node.args])
         raise ValueError(f"no value: {text}")
 
     try:
         return read(ast.parse(text.strip(), mode="eval").body)
-    except (SyntaxError, ArithmeticError, TypeError, LookupError, MemoryError, RecursionError) as error:
+    except (
+        SyntaxError,
+        ArithmeticError,
+        TypeError,
+        LookupError,
+        MemoryError,
+        RecursionError,
+    ) as error:
         raise ValueError(f"no value: {text}") from error

@@ -1,0 +1,89 @@
+/* What is told: on standard error, to systemd, and in Prometheus' text. */
+#include "gateway.h"
+
+#include <stdarg.h>
+
+void say(const char *format, ...) {
+    va_list words;
+    va_start(words, format);
+    fputs("oaut-gateway: ", stderr);
+    vfprintf(stderr, format, words);
+    fputc('\n', stderr);
+    va_end(words);
+}
+void fail(int status, const char *format, ...) {
+    char text[600];
+    va_list words;
+    va_start(words, format);
+    vsnprintf(text, sizeof text, format, words);
+    va_end(words);
+    say("%s", text);
+    unlink_sockets();
+    exit(status);
+}
+/* Tells systemd, where it has started the gateway. */
+void notify(const char *format, ...) {
+    char text[300];
+    struct sockaddr_un to = {.sun_family = AF_UNIX};
+    const char *path = getenv("NOTIFY_SOCKET");
+    va_list words;
+    if (!path || strlen(path) >= sizeof to.sun_path) return;
+    va_start(words, format);
+    vsnprintf(text, sizeof text, format, words);
+    va_end(words);
+    memcpy(to.sun_path, path, strlen(path));
+    if (*path == '@') to.sun_path[0] = 0;
+    int fd = socket(AF_UNIX, SOCK_DGRAM | SOCK_CLOEXEC, 0);
+    sendto(fd, text, strlen(text), MSG_NOSIGNAL, (struct sockaddr *)&to, (socklen_t)(offsetof(struct sockaddr_un, sun_path) + strlen(path)));
+    close(fd);
+}
+
+void observe(Histogram *it, double value) {
+    unsigned bucket = 0;
+    for (double most = it->least; value > most && bucket < BUCKETS; most *= 2) bucket++;
+    it->buckets[bucket]++;
+    it->sum += value;
+}
+static void tell_one(FILE *to, const char *kind, const char *name, const char *help, double value) {
+    fprintf(to, "# HELP oaut_gateway_%s %s\n# TYPE oaut_gateway_%s %s\noaut_gateway_%s %.15g\n", name, help, name, kind, name, value);
+}
+static void tell_all(FILE *to, const char *name, const char *help, const Histogram *it) {
+    uint64_t count = 0;
+    double most = it->least;
+    fprintf(to, "# HELP oaut_gateway_%s %s\n# TYPE oaut_gateway_%s histogram\n", name, help, name);
+    for (unsigned i = 0; i < BUCKETS; i++, most *= 2) fprintf(to, "oaut_gateway_%s_bucket{le=\"%.6g\"} %lu\n", name, most, count += it->buckets[i]);
+    count += it->buckets[BUCKETS];
+    fprintf(to, "oaut_gateway_%s_bucket{le=\"+Inf\"} %lu\noaut_gateway_%s_sum %.9g\noaut_gateway_%s_count %lu\n", name, count, name, it->sum, name,
+            count);
+}
+void tell(FILE *to) {
+    const struct {
+        const char *kind, *name, *help;
+        double value;
+    } all[] = {
+        {"gauge", "clients", "Clients that are connected.", (double)counts.live},
+        {"gauge", "clients_waiting", "Clients with requests that are not with the server yet.", (double)counts.waiting},
+        {"gauge", "locks", "Locks that clients hold or ask for.", (double)counts.locks},
+        {"gauge", "buffer_bytes", "Bytes of the clients' buffers.", (double)(in_bytes + out_bytes)},
+        {"gauge", "faulted", "Whether the store's device has failed.", counts.faulted},
+        {"counter", "connections_total", "Clients that have connected.", (double)counts.clients},
+        {"counter", "turned_away_total", "Connections beyond the limit, or of users that are not allowed.", (double)counts.turned_away},
+        {"counter", "stalled_total", "Clients let go: replies were left, or a request was.", (double)counts.stalled},
+        {"counter", "silent_total", "Clients let go since they were silent.", (double)counts.silent},
+        {"counter", "requests_total", "Requests that went to the server.", (double)counts.requests},
+        {"counter", "batches_total", "Batches that went to the server.", (double)counts.batches},
+        {"counter", "received_bytes_total", "Bytes of requests.", (double)counts.in},
+        {"counter", "sent_bytes_total", "Bytes of replies.", (double)counts.out},
+        {"counter", "locks_given_back_total", "Locks of clients that had gone.", (double)counts.given_back},
+        {"counter", "server_starts_total", "How often the server was started.", (double)counts.starts},
+        {"counter", "backups_total", "Backups.", (double)counts.holds},
+        {"counter", "held_seconds_total", "Seconds that backups kept the server waiting.", counts.held},
+    };
+    for (unsigned i = 0; i < sizeof all / sizeof *all; i++) tell_one(to, all[i].kind, all[i].name, all[i].help, all[i].value);
+    fputs("# HELP oaut_gateway_refused_total Requests that were refused, by code.\n# TYPE oaut_gateway_refused_total counter\n", to);
+    for (unsigned i = 0; i < CODES && counts.codes[i].count; i++)
+        fprintf(to, "oaut_gateway_refused_total{code=\"0x%08x\"} %lu\n", counts.codes[i].code, counts.codes[i].count);
+    tell_all(to, "batch_requests", "Requests of a batch.", &counts.batch);
+    tell_all(to, "commit_seconds", "From a batch's sending to its last reply.", &counts.commit);
+    tell_all(to, "wait_seconds", "From the coming of a client's requests to their replies.", &counts.wait);
+}

@@ -6,9 +6,12 @@ import shutil
 import tempfile
 
 import store
+from preloaded import StoreFile
 from running import fill, run_in
 
 STRACE = shutil.which("strace")
+# what a device and a file system answer to a call that fails; behind the last of these the call is made again
+ERRORS = ("EIO", "ENOSPC", "EDQUOT", "EFBIG", "EROFS", "ENODEV", "EINTR")
 CALL = re.compile(r"^\d+ +(\w+)\((.*)\) += -?\d")
 TRACED = "trace=pread64,pwrite64,fsync,fdatasync,flock,ftruncate,write"
 OUT = ("out",)
@@ -45,16 +48,27 @@ class Calls:
         return [what for _, _, what in self.made]
 
 
-def each_fails(words, files, judge, how="error=EIO", **given):
-    """Makes each call that a command makes on its store fail in turn, or kills the program there, and hands the call, the answer and the folder to a judge."""
+def each_fails(cases, words, files, judge, how=None, **given):
+    """Makes each call that a command makes on its store fail in turn, and hands the call, the answer and the folder to a judge. The errors come in turn too: a commit
+    has four calls, and there are seven errors, so that each of the four meets each of these within seven commits. `how` is what strace does to a call in the place of that,
+    such as to kill the program there."""
     with tempfile.TemporaryDirectory() as room:
         fill(room, files)
-        made = [it for it in Calls(room, words, **given).made if it[2] != OUT]
+        whole = Calls(room, words, **given)
+        left = StoreFile(f"{room}/it.store", b"").now()
+    made = [it for it in whole.made if it[2] != OUT]
+    does = [what for _, _, what in made]
     for place, (name, count, what) in enumerate(made):
+        error = None if how else ERRORS[place % len(ERRORS)]
         with tempfile.TemporaryDirectory() as room:
             fill(room, files)
-            got = Calls(room, words, f"{name}:{how}:when={count}", **given).answer
-            judge(place, what, got, room)
+            calls = Calls(room, words, f"{name}:{how or f'error={error}'}:when={count}", **given)
+            if error == "EINTR":
+                again = [it for it in calls.does() if it != OUT] == [*does[: place + 1], *does[place:]]
+                same = StoreFile(f"{room}/it.store", b"").now() == left
+                cases.tell(f"{words[0]}: {what} is interrupted, call {place}, and made again", (calls.answer, again, same) == (whole.answer, True, True), (calls.answer, again, same))
+            else:
+                judge(place, (*what, error) if error else what, calls.answer, room)
 
 
 def held(room):

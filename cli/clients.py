@@ -80,8 +80,8 @@ class Kept(io.BytesIO):
 def scripted(*bodies, framing="lines", **how):
     """A session whose replies are given: bodies behind their tags, which count from 1."""
     told = [struct.pack("<I", tag) + body for tag, body in enumerate(bodies, 1)]
-    server = oaut.connect(io.BytesIO(oaut.FRAMINGS[framing].pack(told) if told else b""), Kept(), framing, **how)
-    server._library = LIBRARY
+    server = oaut.connect(io.BytesIO(oaut.FRAMINGS[framing].pack(told) if told else b""), Kept(), framing, **{"group": 1, **how})
+    server.described = LIBRARY
     return server
 
 

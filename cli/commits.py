@@ -7,7 +7,7 @@ import wire
 from calls import text_held
 from codes import E_FAIL, WRITE_FAULT
 from oaut import REDIM, ask_call, ask_create
-from running import FULL_TEXT, fault
+from running import FULL_TEXT, cannot, fault
 from stores import CLASS, CREATED_1, FACE, get, got, put, put_of
 
 COMMIT = ["write", "sync", "write", "sync"]
@@ -65,9 +65,11 @@ def judged(cases, size, opening, killed):
         name = f"serve: {'killed at' if killed else 'failed is'} call {place}, {what}, groups of {size}"
         now = text_held(room)
         if place < opening:
-            text = "cannot read it.store" if place < len(OPENED) else f"device fault 0x8003001{'d' if what[0] == 'sync' else 'e'}"
-            wanted = answer[1] == b"" if killed else answer == (1, b"", fault(text))
-            cases.tell(name, wanted and now == table_after(0), (answer, now))
+            if killed:
+                well = answer[1] == b""
+            else:
+                well = answer == (1, b"", cannot("read", "it.store", what[-1]) if place < len(OPENED) else fault(f"device fault 0x8003001{'d' if what[0] == 'sync' else 'e'}"))
+            cases.tell(name, well and now == table_after(0), (answer, now))
             return
         number, call = divmod(place - opening, len(COMMIT))
         group = groups[number]

@@ -3,6 +3,9 @@
    REFUSE, REFUSE_FROM   memory is refused at one call of the allocator, counted from 1 where `main` begins, and at each from one on; what the
                          system takes before `main` and behind it is neither counted nor refused
    SHORT                 a read or a write brings so many bytes at most
+   RISING                the first of them brings a byte at most, the next one two, and so on
+   LACKING               the first of them brings all but one byte, the next one all but two, and so on, and none brings nothing
+   CUT                   a file gets this length, as whoever had it locked may have left it, before it is locked
    INTERRUPTED           each read of standard input is interrupted (1), or each write to standard output (2)
    TIMES                 behind so many interruptions such a call is made, and then they begin anew; where nothing is said, none is made
    BLOCKED               the same calls would block
@@ -17,6 +20,7 @@
 #include <stddef.h>
 #include <stdio.h>
 #include <stdlib.h>
+#include <sys/syscall.h>
 #include <sys/types.h>
 #include <unistd.h>
 
@@ -31,7 +35,7 @@ ssize_t __pread64(int file, void *into, size_t size, off64_t at);
 ssize_t __pwrite64(int file, const void *from, size_t size, off64_t at);
 
 static int counts;
-static long calls, blocks, reads, writes, larges, refused, refused_from, interrupted, times, in_a_row, blocked, after;
+static long calls, blocks, reads, writes, larges, refused, refused_from, interrupted, times, in_a_row, blocked, after, rising, lacking, cut, moved;
 static size_t most = (size_t)-1, large = (size_t)-1;
 
 static long number(const char *name) {
@@ -39,7 +43,13 @@ static long number(const char *name) {
     return text ? atol(text) : 0;
 }
 
-static size_t brought(size_t size) { return counts && size > most ? most : size; }
+static size_t brought(size_t size) {
+    if (!counts || size == 0) return size;
+    moved++;
+    if (rising && size > (size_t)moved) return moved;
+    if (lacking) return size - moved % size;
+    return size > most ? most : size;
+}
 
 /* memory */
 
@@ -123,6 +133,15 @@ ssize_t pwrite64(int file, const void *from, size_t size, off64_t at) { return _
 
 ssize_t pwrite(int file, const void *from, size_t size, off_t at) { return __pwrite64(file, from, brought(size), at); }
 
+int flock(int file, int how) {
+    if (counts && cut > 0) { /* by its name, since it may be open for reading alone */
+        char name[32];
+        snprintf(name, sizeof name, "/proc/self/fd/%d", file);
+        if (truncate(name, cut) != 0) return -1;
+    }
+    return syscall(SYS_flock, file, how);
+}
+
 /* from `main` on */
 
 static int (*program)(int, char **, char **);
@@ -143,6 +162,9 @@ static int counted(int count, char **words, char **variables) {
     times = number("TIMES");
     blocked = number("BLOCKED");
     after = number("AFTER");
+    rising = number("RISING");
+    lacking = number("LACKING");
+    cut = number("CUT");
     if (number("SHORT") > 0) most = number("SHORT");
     if (number("LARGE") > 0) large = number("LARGE");
     atexit(told);

@@ -3,9 +3,12 @@
 The program is the one that the environment variable OAUT_PROGRAM names, as `cli/run.py --program PATH` sets it; where there is none,
 crates/oaut/out/oaut, as `rt ci` leaves it.
 """
+import ctypes
+import errno
 import os
 import resource
 import select
+import signal
 import subprocess
 import tempfile
 import time
@@ -101,6 +104,25 @@ def within(bytes):
     return lambda: resource.setrlimit(resource.RLIMIT_AS, (bytes, bytes))
 
 
+LIBC = ctypes.CDLL(None)
+
+
+def like_others():
+    """Takes from the superuser, as a call in the program's process, what lets it open files that their rights do not allow."""
+    for capability in (1, 2):  # CAP_DAC_OVERRIDE, CAP_DAC_READ_SEARCH
+        LIBC.prctl(24, capability, 0, 0, 0)  # PR_CAPBSET_DROP
+
+
+def files_of(length):
+    """What limits the length of the program's files, as a call in its process."""
+
+    def limit():
+        resource.setrlimit(resource.RLIMIT_FSIZE, (length, length))
+        signal.signal(signal.SIGXFSZ, signal.SIG_DFL)  # (Python ignores it, and so would the program)
+
+    return limit
+
+
 class Talk:
     """A session over pipes, in a new folder where none is given: what is sent is sent at once, and what is waited for is waited for no longer than
     the time."""
@@ -162,6 +184,11 @@ class Talk:
 def fault(text):
     """The line of a fault."""
     return b"oaut: %s\n" % text.encode()
+
+
+def cannot(act, name, why):
+    """The lines of a file that cannot be read or written: the second one has the system's words for its error, such as ENOENT, or those that are given."""
+    return fault(f"cannot {act} {name}\n{name}: {os.strerror(getattr(errno, why)) if hasattr(errno, why) else why}")
 
 
 def short(it):

@@ -73,8 +73,8 @@ class CheckpointCalls(Served):
             if place >= opening:
                 self.tell(f"serve: killed at call {place - opening} of a checkpoint and a group, {what}", answer[1] in (b"", got(2, 0)) and text_held(room) == (after if place == opening + settles + 3 else before), answer)
 
-        each_fails(words("--hex", "--group", "3"), files, checkpoint_fails, given=asked)
-        each_fails(words("--hex", "--group", "3"), files, checkpoint_killed, "signal=KILL", given=asked)
+        each_fails(self, words("--hex", "--group", "3"), files, checkpoint_fails, given=asked)
+        each_fails(self, words("--hex", "--group", "3"), files, checkpoint_killed, "signal=KILL", given=asked)
 
     def test_the_largest_checkpoint(self):
         # a table of 15,728,640 bytes in a bank whose library has 279: 15 cells of texts, each of 28 bytes and a text, in one object

@@ -7,7 +7,7 @@ import wire
 from calls import OUT, STRACE, Calls, each_fails, text_held
 from codes import WRITE_FAULT
 from commits import ANSWERS, COMMIT, LINES, SESSION, START, groups_with_events, judged, opens, table_after
-from running import FULL, FULL_TEXT, REQUESTS, SMALL, fill
+from running import CREATE, FULL, FULL_TEXT, REQUESTS, SMALL, fill
 from stores import CREATED_1, GROUPS, NEW, WITH_ITEM, Served, get, put, table, text_put, words
 
 
@@ -31,7 +31,7 @@ class Commits(Served):
                 gate = store.LEAST + len(FULL_TEXT) + 8
                 self.tell("serve: a frame behind the gate, and then the gate", [it[1:] for it in rest if it[0] == "write"][:2] == [(gate + 1, 4 + 21 + 1), (gate, 1)], rest)
             for killed in (False, True):
-                each_fails(words("--hex", "--group", str(size)), files, judged(self, size, opening, killed), "signal=KILL" if killed else "error=EIO", given=LINES)
+                each_fails(self, words("--hex", "--group", str(size)), files, judged(self, size, opening, killed), "signal=KILL" if killed else None, given=LINES)
 
     def test_the_calls_of_a_create_and_a_put(self):
         with tempfile.TemporaryDirectory() as room:
@@ -64,6 +64,14 @@ class Commits(Served):
             well = calls.answer[0] == 0 and opens(made[:opening]) and [it[0] for it in rest] == COMMIT * len(lengths)
             self.tell(f"serve: the calls of {what}, groups of {size}", well and frames == [4 + sum(it) + 1 for it in lengths], (calls.answer[0], rest))
 
+    def test_a_group_of_the_most_requests(self):
+        for name, framing in wire.oaut.FRAMINGS.items():
+            with tempfile.TemporaryDirectory() as room:
+                fill(room, {"lib.idl": FULL, "it.store": START})
+                calls = Calls(room, words("--group", "1024", *framing.words), given=framing.pack([bytes.fromhex(CREATE.decode())] * 1_025))
+            frames = [it[2] for it in calls.does() if it[0] == "write"][::2]
+            self.tell(f"serve: 1,025 creates in groups of 1,024, {name}", (calls.answer[0], frames) == (0, [4 + 1_024 * 21 + 1, 4 + 21 + 1]), (calls.answer[0], frames))
+
     def test_the_gate_of_a_group_of_three(self):
         # a put, a get and a put, stopped before the gate's write and where it fails
         given, files = put(1, 7) + get(2) + put(3, 8), {"lib.idl": SMALL, "it.store": bytes(store.add(bytearray(NEW), CREATED_1))}
@@ -82,5 +90,5 @@ class Commits(Served):
             fill(room, files)
             made = [it for it in Calls(room, words("--hex", "--group", "3"), given=given).does() if it != OUT]
         opening_of_three = next(place for place, it in enumerate(made) if it[0] == "write")
-        each_fails(words("--hex", "--group", "3"), files, gate_fails, given=given)
-        each_fails(words("--hex", "--group", "3"), files, gate_stops, "signal=KILL", given=given)
+        each_fails(self, words("--hex", "--group", "3"), files, gate_fails, given=given)
+        each_fails(self, words("--hex", "--group", "3"), files, gate_stops, "signal=KILL", given=given)

@@ -8,7 +8,7 @@ import unittest
 import store
 from calls import OUT, STRACE, Calls, each_fails
 from commits import OPENED, OPENING
-from running import FULL_TEXT, ROOT, SMALL, SMALL_TEXT, Cases, fault, fill, has_bytes, rows_of, run, run_in, short, within
+from running import FULL_TEXT, ROOT, SMALL, SMALL_TEXT, Cases, cannot, fault, fill, has_bytes, like_others, rows_of, run, run_in, short, within
 from stores import BODIES, BODY_1, CLASS, CREATED_1, FACE, NEW, OLD, ONE, PUT_7, TWO, changed
 
 DUMP = ["dump", "it.store"]
@@ -201,14 +201,22 @@ class Dump(Dumped):
             self.read_by_the_reader(f"{what} {digits}", disk, f"damaged at {place}")
 
     def test_files_that_cannot_be_read(self):
-        self.case("dump: a file that is not there", DUMP, 1, b"", fault("cannot read it.store"))
-        self.case("dump: a folder", ["dump", "."], 1, b"", fault("cannot read ."))
-        self.case("dump: a device", ["dump", "/dev/zero"], 1, b"", fault("cannot read /dev/zero"))
+        self.case("dump: a file that is not there", DUMP, 1, b"", cannot("read", "it.store", "ENOENT"))
+        self.case("dump: a folder", ["dump", "."], 1, b"", cannot("read", ".", "EISDIR"))
+        self.case("dump: a device", ["dump", "/dev/zero"], 1, b"", cannot("read", "/dev/zero", "not a regular file"))
+        self.case("dump: a file in place of a folder", ["dump", "it.store/it"], 1, b"", cannot("read", "it.store/it", "ENOTDIR"), files={"it.store": TWO})
+        self.case("dump: a name that is too long", ["dump", "x" * 256], 1, b"", cannot("read", "x" * 256, "ENAMETOOLONG"))
         with tempfile.TemporaryDirectory() as room:
             fill(room, {"it.store": TWO})
+            os.mkfifo(f"{room}/pipe")
+            got = run_in(room, ["dump", "pipe"])
+            self.tell("dump: a pipe that nobody writes is not waited for", got == (1, b"", cannot("read", "pipe", "not a regular file")), got)
             os.chmod(f"{room}/it.store", 0o444)
-            got = run_in(room, DUMP)
-            self.tell("dump: a file that is only to be read, which one who may do anything opens all the same", got in ((0, ONE.encode(), b""), (1, b"", fault("cannot read it.store"))), got)
+            got = run_in(room, DUMP, before=like_others)
+            self.tell("dump: a file that is only to be read", got == (0, ONE.encode(), b""), got)
+            os.chmod(f"{room}/it.store", 0o200)
+            got = run_in(room, DUMP, before=like_others)
+            self.tell("dump: a file that is not to be read", got == (1, b"", cannot("read", "it.store", "EACCES")), got)
 
     def test_standard_output_takes_nothing(self):
         with open("/dev/full", "wb") as full:
@@ -250,10 +258,13 @@ class DumpCalls(Cases):
             self.tell("dump: the calls", made[: len(OPENING)] == OPENING and not reads and made[-1] == OUT, made)
             read = sum(it[2] for it in made if it[0] == "read")
             self.tell("dump: of a bank that holds little, little is read", read < 70_000, read)
+            fill(room, {"it.store": bytes(len(TWO))})
+            calls = Calls(room, DUMP)
+            self.tell("dump: of what was never formatted the first byte alone is read", (calls.answer, calls.does()) == ((3, b"", fault("not a store")), OPENING[:4]), calls.made)
 
     def test_each_call_fails(self):
         def dump_fails(place, what, got, room):
-            wanted = fault("cannot read it.store" if place < len(OPENED) else f"device fault 0x8003001{'d' if what[0] == 'sync' else 'e'}")
+            wanted = cannot("read", "it.store", what[-1]) if place < len(OPENED) else fault(f"device fault 0x8003001{'d' if what[0] == 'sync' else 'e'}")
             self.tell(f"dump: {what} fails, call {place}", (got, has_bytes(f"{room}/it.store", TWO)) == ((1, b"", wanted), True), got)
 
-        each_fails(DUMP, {"it.store": TWO}, dump_fails)
+        each_fails(self, DUMP, {"it.store": TWO}, dump_fails)

@@ -6,7 +6,7 @@ import unittest
 import store
 from calls import OUT, STRACE, Calls, each_fails, text_held
 from commits import OPENED
-from running import FULL, FULL_TEXT, SMALL, SMALL_TEXT, Cases, fault, fill, run, run_in
+from running import FULL, FULL_TEXT, SMALL, SMALL_TEXT, Cases, cannot, fault, files_of, fill, run, run_in
 from stores import BODIES, NEW, OLD, ONE, TWO
 
 FORMATTED = b"formatted\n"
@@ -68,7 +68,7 @@ class Format(Cases):
 
     def test_libraries_that_are_refused(self):
         for what, library, status, text in (
-            ("that is not there", None, 1, "cannot read lib.idl"),
+            ("that is not there", None, 1, "cannot read lib.idl\nlib.idl: No such file or directory"),
             ("that is not UTF-8", b"\xff", 2, "library is not UTF-8"),
             ("that is none", b"library", 2, "syntax at byte 0"),
             ("too long", SMALL + b" " * 262_145, 2, "limit text"),
@@ -79,10 +79,20 @@ class Format(Cases):
             self.leaves(f"format: a library {what} changes no store", FORMAT, status, b"", fault(text), {"it.store": b"\xab" * 100, **files}, {"it.store": b"\xab" * 100})
 
     def test_files_that_cannot_be_written(self):
-        self.case("format: a folder for a store", ["format", ".", "lib.idl"], 1, b"", fault("cannot read ."), files={"lib.idl": SMALL})
-        self.case("format: a device for a store", ["format", "/dev/null", "lib.idl"], 1, b"", fault("cannot read /dev/null"), files={"lib.idl": SMALL})
-        self.case("format: a folder that is not there", ["format", "none/it.store", "lib.idl"], 1, b"", fault("cannot write none/it.store"), files={"lib.idl": SMALL})
-        self.case("format: a file's name with a control character", ["format", "none/it\n", "lib.idl"], 1, b"", fault("cannot write none/it\\u{a}"), files={"lib.idl": SMALL})
+        self.case("format: a folder for a store", ["format", ".", "lib.idl"], 1, b"", cannot("read", ".", "EISDIR"), files={"lib.idl": SMALL})
+        self.case("format: a device for a store", ["format", "/dev/null", "lib.idl"], 1, b"", cannot("read", "/dev/null", "not a regular file"), files={"lib.idl": SMALL})
+        self.case("format: a folder that is not there", ["format", "none/it.store", "lib.idl"], 1, b"", cannot("write", "none/it.store", "ENOENT"), files={"lib.idl": SMALL})
+        self.case("format: a file's name with a control character", ["format", "none/it\n", "lib.idl"], 1, b"", cannot("write", "none/it\\u{a}", "ENOENT"), files={"lib.idl": SMALL})
+
+    def test_limits_of_files(self):
+        """A process that may not write files so long is told so, and no signal ends it. What it may write to the last byte is written."""
+        for what, files, left in (("no file", {}, None), ("a store", {"it.store": TWO}, TWO)):
+            for length in (0, 1_000_000, SIZE - 1):
+                self.leaves(f"format: {what}, and files of {length} bytes at most", FORMAT, 1, b"", cannot("write", "it.store", "EFBIG"), {"lib.idl": SMALL, **files}, {"it.store": left}, before=files_of(length))
+        self.leaves("format: files of the store's length at most", FORMAT, 0, b"formatted\n", b"", {"lib.idl": SMALL}, {"it.store": NEW}, before=files_of(SIZE))
+        for length, wanted in ((SIZE - 1, (1, b"", cannot("write", "it.store", "EFBIG"))), (SIZE, (0, b"", b""))):
+            self.leaves(f"serve: files of {length} bytes at most", ["serve", "it.store", "lib.idl"], *wanted, {"lib.idl": SMALL, "it.store": NEW}, {"it.store": NEW}, before=files_of(length))
+        self.leaves("dump: files of no byte at most", ["dump", "it.store"], 0, b"next 1\n", b"", {"it.store": NEW}, {"it.store": NEW}, before=files_of(0))
 
     def test_standard_output_takes_nothing(self):
         with open("/dev/full", "wb") as full:
@@ -110,11 +120,11 @@ class FormatCalls(Cases):
             self.tell("format: a new file is locked before it is written", made[:2] == [("lock",), ("length", SIZE)], made[:3])
 
     def test_a_new_file_that_cannot_be_made(self):
-        for inject in ("pwrite64:error=ENOSPC:when=100", "ftruncate:error=EFBIG:when=1", "flock:error=ENOLCK:when=1", "fsync:error=EIO:when=1", "fsync:error=EIO:when=2"):
+        for inject in ("pwrite64:error=ENOSPC:when=100", "pwrite64:error=EDQUOT:when=1", "ftruncate:error=EFBIG:when=1", "flock:error=EOPNOTSUPP:when=1", "fsync:error=ENOSPC:when=1", "fsync:error=EIO:when=2"):
             with tempfile.TemporaryDirectory() as room:
                 fill(room, {"lib.idl": SMALL})
                 got = Calls(room, FORMAT, inject).answer
-                self.tell(f"format: a file that cannot be made is removed, {inject}", (got, os.path.exists(f"{room}/it.store")) == ((1, b"", fault("cannot write it.store")), False), got)
+                self.tell(f"format: a file that cannot be made is removed, {inject}", (got, os.path.exists(f"{room}/it.store")) == ((1, b"", cannot("write", "it.store", inject.split("=")[1].split(":")[0])), False), got)
 
     def test_a_file_that_is_there(self):
         with tempfile.TemporaryDirectory() as room:
@@ -124,17 +134,17 @@ class FormatCalls(Cases):
 
     def test_each_call_fails(self):
         def format_fails(place, what, got, room):
-            wanted = fault("cannot read it.store") if place < len(OPENED) else fault("device fault 0x8003001d")
+            wanted = cannot("read", "it.store", what[-1]) if place < len(OPENED) else fault("device fault 0x8003001d")
             now = text_held(room)
             # from the write on that makes it a store again, it may be one
             left = [ONE] if place < 3 else ["not a store", "next 1\n"] if place > 7 else ["not a store"]
             self.tell(f"format: {what} fails, call {place}", got == (1, b"", wanted) and now in left, (got, now))
 
-        each_fails(FORMAT, {"lib.idl": SMALL, "it.store": TWO}, format_fails)
+        each_fails(self, FORMAT, {"lib.idl": SMALL, "it.store": TWO}, format_fails)
 
     def test_killed_at_each_call(self):
         def format_killed(place, what, got, room):
             now = text_held(room)
             self.tell(f"format: killed at {what}, call {place}", got[1] == b"" and now == (ONE if place < 3 else "not a store" if place < 9 else "next 1\n"), (got, now))
 
-        each_fails(FORMAT, {"lib.idl": SMALL, "it.store": TWO}, format_killed, "signal=KILL")
+        each_fails(self, FORMAT, {"lib.idl": SMALL, "it.store": TWO}, format_killed, "signal=KILL")

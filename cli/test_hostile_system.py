@@ -12,7 +12,7 @@ import store
 import worked
 from asked import Answering
 from calls import STRACE, each_fails
-from codes import WRITE_FAULT
+from codes import E_FAIL, WRITE_FAULT
 from fuzz import known_stores
 from model import BSTR, LIBRARY
 from preloaded import COMPILER, Preloaded, StoreFile
@@ -136,7 +136,7 @@ class Bytewise(Cases):
             self.tell("replies of 100,000 bytes, a byte a write", (got[:3], got.writes >= len(due)) == ((0, due, b""), True), (got[0], len(got[1]), got[2], got.writes))
 
     def test_files_a_byte_at_a_time(self):
-        """Each call of the store's file brings a byte, or a few: the file is the same as where they bring all."""
+        """Each call of the store's file brings a byte, or a few, or one more or one fewer than the call before: the file is the same as where they bring all."""
         bodies = tagged([*worked.CREATED, *worked.SCALAR_PROPERTIES, worked.put(worked.NAME, wire.scalar(BSTR, bytes(range(256)) * 40)), *worked.ARRAYS])
         answering = Answering()
         due = oaut.Raw.pack(map(answering.reply, bodies))
@@ -145,7 +145,8 @@ class Bytewise(Cases):
             preloaded.fill("given", oaut.Raw.pack(bodies))
             path, lib = preloaded.path("it.store"), preloaded.path("lib.idl")
             left = {}
-            for most in (0, 1, 3, 4_095):
+            for how in ({"short": 0}, {"short": 1}, {"short": 3}, {"short": 4_095}, {"rising": 1}, {"lacking": 1}):
+                most = " ".join(f"{name} {count}" for name, count in how.items())
                 with open(path, "wb") as file:
                     file.truncate(store.length_of(store.BANK))
                 for words, given, wanted in (
@@ -153,16 +154,50 @@ class Bytewise(Cases):
                     (["serve", "--group", "3", path, lib], "given", due),
                     (["serve", path, lib], "nothing", b""),
                 ):
-                    got = preloaded.run(words, given, short=most)
-                    self.tell(f"{words[0]}: at most {most} bytes a call", (got[:3], got.left) == ((0, wanted, b""), 0), (got[0], got[1][:80], got[2], got.left))
+                    got = preloaded.run(words, given, **how)
+                    self.tell(f"{words[0]}: calls are {most}", (got[:3], got.left) == ((0, wanted, b""), 0), (got[0], got[1][:80], got[2], got.left))
                 now = StoreFile(path)
                 left[most] = now.now()
-                got = preloaded.run(["dump", path], short=most)
-                self.tell(f"dump: at most {most} bytes a call", got[:3] == (0, now.dump().encode(), b""), (got[0], got[2]))
-                self.tell(f"what at most {most} bytes a call leave", left[most] == left[0])
+                got = preloaded.run(["dump", path], **how)
+                self.tell(f"dump: calls are {most}", got[:3] == (0, now.dump().encode(), b""), (got[0], got[2]))
+                self.tell(f"what calls leave that are {most}", left[most] == left["short 0"])
 
 
 FORMAT = ["format", "it.store", "lib.idl"]
+# runs a script with the program, with a file system of one MiB in the folder `full`
+MOUNTED = ["unshare", "--mount", "--map-root-user", "sh", "-ec", 'mount -t tmpfs -o size=1m none full; cd full; eval "$2"', "sh", PROGRAM]
+
+
+def can_mount():
+    with tempfile.TemporaryDirectory() as room:
+        os.mkdir(f"{room}/full")
+        try:
+            return subprocess.run([*MOUNTED, "true"], cwd=room, stderr=subprocess.DEVNULL).returncode == 0
+        except FileNotFoundError:
+            return False
+
+
+@unittest.skipUnless(can_mount(), "unshare is not there, or no file system can be mounted: none gets full")
+class Full(Cases):
+    def test_a_file_system_that_gets_full(self):
+        """A store's file of holes finds room for some groups: what was acknowledged is kept, and the group that found none is told so."""
+        texts = [bytes([it]) * 100_000 for it in range(1, 21)]
+        bodies = tagged([oaut.ask_create(worked.ITEM), *(worked.put(worked.NAME, wire.scalar(BSTR, it)) for it in texts)])
+        with tempfile.TemporaryDirectory() as room:
+            os.mkdir(f"{room}/full")
+            fill(room, {"lib.idl": LIBRARY, "given": oaut.Raw.pack(bodies)})
+            script = f'truncate -s {store.length_of(store.BANK)} it.store; "$1" format it.store ../lib.idl; "$1" serve it.store ../lib.idl < ../given > ../out; cp --sparse=always it.store ../it.store; "$1" dump it.store > ../dump'
+            ended = subprocess.run([*MOUNTED, script], cwd=room, capture_output=True)
+            self.tell("full: each command ends well", (ended.returncode, ended.stderr) == (0, b""), ended)
+            with open(f"{room}/out", "rb") as file:
+                codes = [struct.unpack_from("<I", it, 4)[0] for it in oaut.Raw.split(file.read(), 0, len(bodies))[0]]
+            done = codes.count(0) - 1
+            self.tell("full: some are done, one is in doubt, and no other is begun", 0 < done < 15 and codes == [0] * (done + 1) + [WRITE_FAULT] + [E_FAIL] * (len(texts) - done - 1), codes)
+            now = StoreFile(f"{room}/it.store", b"").dump()
+            with open(f"{room}/dump") as file:
+                told = file.read()
+            held = [count for count in (done, done + 1) if now.endswith(f"0800{struct.pack('<I', 100_000).hex()}{texts[count - 1].hex()}\n")]
+            self.tell("full: what was acknowledged is there, and dump says the same", (len(held), told == now) == (1, True), (done, held, now[:200]))
 
 
 @unittest.skipUnless(STRACE, "strace is not there: no call of the system is made to fail")
@@ -226,4 +261,4 @@ class Injected(Cases):
             elif what[0] == "write":
                 self.tell(f"serve: the call {place}, {what}, writes nothing", answer == (0, oaut.Raw.pack([asked[4:8] + failed]), b""), answer)
 
-        each_fails(["serve", "it.store", "lib.idl"], {"lib.idl": LIBRARY, "it.store": held}, judge, "retval=0", given=asked)
+        each_fails(self, ["serve", "it.store", "lib.idl"], {"lib.idl": LIBRARY, "it.store": held}, judge, "retval=0", given=asked)

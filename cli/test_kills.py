@@ -43,7 +43,7 @@ class Put:
     """The put of a number: of itself into a Count, or now and then of a text that names it."""
 
     def __init__(self, number, long):
-        self.object = number % OBJECTS + 1
+        self.number, self.object = number, number % OBJECTS + 1
         draw = random.Random(number) if long else None
         if draw and draw.random() < 0.5:
             text = b"%d:" % number + b"x" * draw.randrange(200_000)

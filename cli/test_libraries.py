@@ -1,9 +1,10 @@
 """Libraries: what `check` prints of them, and why what is none is refused."""
 import os
+import re
 import tempfile
 
 from playing import Played
-from running import CREATE, CREATED, FULL, FULL_TEXT, SMALL, SMALL_TEXT, rows_of, run, within
+from running import CREATE, CREATED, FULL, FULL_TEXT, ROOT, SMALL, SMALL_TEXT, cannot, rows_of, run, within
 from texts import coclass, interface, library_with
 
 HUGE = 300_000_000
@@ -39,14 +40,33 @@ class Libraries(Played):
         self.checked("a canonical text", FULL_TEXT, 0, FULL_TEXT, b"")
 
     def test_files_that_cannot_be_read(self):
-        self.case("check: a library that is not there", ["check", "none.idl"], 1, b"", b"oaut: cannot read none.idl\n")
-        self.case("check: a folder for a library", ["check", "."], 1, b"", b"oaut: cannot read .\n")
-        self.case("check: a file's name with control characters", ["check", "a\nb\x1b[2J\x7f\u009b\té"], 1, b"", "oaut: cannot read a\\u{a}b\\u{1b}[2J\\u{7f}\\u{9b}\\u{9}é\n".encode())
-        self.case("play: a file's name with a control character", ["play", "none\r.idl", "--hex"], 1, b"", b"oaut: cannot read none\\u{d}.idl\n")
+        self.case("check: a library that is not there", ["check", "none.idl"], 1, b"", cannot("read", "none.idl", "ENOENT"))
+        self.case("check: a folder for a library", ["check", "."], 1, b"", cannot("read", ".", "EISDIR"))
+        self.case("check: a file's name with control characters", ["check", "a\nb\x1b[2J\x7f\u009b\té"], 1, b"", cannot("read", "a\\u{a}b\\u{1b}[2J\\u{7f}\\u{9b}\\u{9}é", "ENOENT"))
+        self.case("play: a file's name with a control character", ["play", "none\r.idl", "--hex"], 1, b"", cannot("read", "none\\u{d}.idl", "ENOENT"))
         with open("/dev/full", "wb") as full:
             self.checked("standard output that takes nothing", FULL, 1, None, b"oaut: write fault\n", stdout=full)
-        self.case("a library that is not there", ["play", "none.idl", "--hex"], 1, b"", b"oaut: cannot read none.idl\n")
-        self.case("a folder for a library", ["play", ".", "--hex"], 1, b"", b"oaut: cannot read .\n")
+        self.case("a library that is not there", ["play", "none.idl", "--hex"], 1, b"", cannot("read", "none.idl", "ENOENT"))
+        self.case("a folder for a library", ["play", ".", "--hex"], 1, b"", cannot("read", ".", "EISDIR"))
+
+    def test_words_of_other_idl(self):
+        """Each word of the page's table gets a line behind the place, and the first lines are as they were."""
+        with open(f"{ROOT}/docs/idl.md", encoding="utf-8") as file:
+            section = file.read().split("## Words that are left out\n")[1].split("\n## ")[0]
+        words = [word for row in re.findall(r"^\| (`.*?) \|", section, re.MULTILINE) for word in re.findall(r"`(\w+)`", row)]
+        self.tell("the page has the words", {"double", "DATE", "interface", "enum", "import", "dual", "out"} < {*words} and len(words) == len({*words}) > 60, words)
+        places = [("double", b"long", b"double"), ("DATE", b"long", b"DATE"), ("interface", b"dispinterface DItem {", b"interface DItem {"), ("enum", b"[uuid(11223344-5566-7788-99AA-BBCCDDEEFF02)]", b"enum E { A };")]
+        places += [("import", b"[", b'import "oaidl.idl"; ['), ("dual", b"version(1.0)]", b"version(1.0), dual]"), ("out", b"[id(1)] long Count;", b"methods: [id(1)] void Go([out] long At);")]
+        places += [(word, SMALL, word.encode() + end) for word in words for end in (b" ",)] + [("double", SMALL, b"double")]
+        others = [(None, b"long", b"doubles"), (None, b"long", b"Double"), (None, b"long", b"double_"), (None, SMALL, b"library"), (None, b"Count;", b"Count"), (None, SMALL, b"\"double")]
+        for word, old, new in places + others:
+            text = SMALL.replace(old, new, 1)
+            status, out, err = run(["check", "--where", "lib.idl"], files={"lib.idl": text})
+            lines = err.decode().splitlines()
+            alone = run(["check", "lib.idl"], files={"lib.idl": text})
+            told = [f'note: automation IDL has {word}, which is left out here: docs/idl.md, "Words that are left out"'] if word else []
+            well = (status, out, alone) == (2, b"", (2, b"", err[: err.find(b"\n") + 1])) and lines[0].startswith("oaut: syntax at byte ") and lines[3:] == told
+            self.tell(f"check --where: {new.decode()[:40]}", well, err)
 
     def test_texts_and_their_limits(self):
         self.refused("not UTF-8", b"\xff", "library is not UTF-8")
@@ -99,7 +119,7 @@ class Libraries(Played):
         self.case("play: standard input cannot hold library and requests", ["play", "-", "--hex"], 2, b"", b"oaut: standard input holds the requests, so LIB cannot be -\n", given=SMALL)
         with tempfile.TemporaryDirectory() as folder:
             fault = os.open(folder, os.O_RDONLY)
-            self.case("check: standard input that cannot be read", ["check", "-"], 1, b"", b"oaut: cannot read -\n", stdin=fault)
+            self.case("check: standard input that cannot be read", ["check", "-"], 1, b"", cannot("read", "-", "EISDIR"), stdin=fault)
             os.close(fault)
 
     def test_texts_far_above_the_limit(self):

@@ -9,7 +9,8 @@ import store
 import wire
 from calls import STRACE, Calls, text_held
 from codes import WRITE_FAULT
-from running import SMALL, Cases, Talk, fault, fill, run_in
+from preloaded import COMPILER, Preloaded
+from running import SMALL, Cases, Talk, cannot, fault, fill, run_in
 from stores import NEW, OLD, ONE, TWO, get, got, put, table, words
 
 SERVE = ("serve", "it.store")
@@ -61,7 +62,7 @@ class Lock(Cases):
                     got_ = run_in(room, command)
                     self.tell(f"lock: {' '.join(command)} beside another program with a lock", got_ == in_use(), got_)
             got_ = run_in(room, ["serve", "it.store", "none.idl"])
-            self.tell("lock: a library that is not there goes before a store that is in use", got_ == (1, b"", fault("cannot read none.idl")), got_)
+            self.tell("lock: a library that is not there goes before a store that is in use", got_ == (1, b"", cannot("read", "none.idl", "ENOENT")), got_)
             fcntl.flock(file, fcntl.LOCK_UN)
             self.tell("lock: the store is as it was", (text_held(room), os.stat(f"{room}/it.store").st_size, run_in(room, ["dump", "it.store"])) == (ONE, len(OLD), (0, ONE.encode(), b"")))
         with open(f"{room}/lib.idl", "rb") as file:
@@ -99,6 +100,23 @@ class Lock(Cases):
             self.tell("lock: another file of the name", got_ == (0, b"next 1\n", b""), got_)
 
 
+@unittest.skipUnless(COMPILER, "cc is not there: no file changes as it is locked")
+class Changed(Cases):
+    def test_the_length_is_read_under_the_lock(self):
+        """Whoever had the file locked has made it shorter since it was opened."""
+        with Preloaded() as preloaded:
+            path, lib = preloaded.path("it.store"), preloaded.path("lib.idl")
+            for command, length, text in (
+                (["dump", path], 100, "not a store"),
+                (["serve", path, lib], len(TWO) - 1, "damaged at 8192"),
+                (["format", path, lib], len(TWO) - 1, "disk too small"),
+                (["upgrade", path], 100, "not a store"),
+            ):
+                fill(preloaded.room, {"lib.idl": SMALL, "it.store": TWO})
+                got_ = preloaded.run(command, cut=length)
+                self.tell(f"lock: {command[0]}: of {length} bytes by then", (got_[:3], os.path.getsize(path)) == ((3, b"", fault(text)), length), got_[:3])
+
+
 @unittest.skipIf(STRACE is None, "strace is not there: the calls of the system are not looked at, and no call is made to fail")
 class LockCalls(Cases):
     def test_the_lock_comes_first_and_on_the_descriptor_that_is_written_by(self):
@@ -115,11 +133,19 @@ class LockCalls(Cases):
     def test_the_lock_cannot_be_had(self):
         with tempfile.TemporaryDirectory() as room:
             fill(room, {"lib.idl": SMALL, "it.store": TWO})
-            for error, wanted in (("EAGAIN", in_use()), ("ENOLCK", (1, b"", fault("cannot read it.store"))), ("EIO", (1, b"", fault("cannot read it.store")))):
+            # (EWOULDBLOCK is EAGAIN)
+            for error, wanted in (("EAGAIN", in_use()), *((it, (1, b"", cannot("read", "it.store", it))) for it in ("ENOLCK", "EOPNOTSUPP", "ENOSYS"))):
                 for command in (words("--hex"), ["dump", "it.store"], ["format", "it.store", "lib.idl"], ["upgrade", "it.store"]):
                     calls = Calls(room, command, f"flock:error={error}:when=1")
                     others = [it for it in calls.does() if it != ("lock",)]
                     self.tell(f"lock: {error}, {command[0]}", (calls.answer, others, text_held(room)) == (wanted, [], ONE), (calls.answer, others))
+
+    def test_the_lock_is_interrupted(self):
+        for command, wanted in ((words("--hex"), (0, got(1, 7), b"")), (["dump", "it.store"], (0, ONE.encode(), b"")), (["upgrade", "it.store"], (3, b"", fault("already format 2")))):
+            with tempfile.TemporaryDirectory() as room:
+                fill(room, {"lib.idl": SMALL, "it.store": TWO})
+                calls = Calls(room, command, "flock:error=EINTR:when=1", given=get(1))
+                self.tell(f"lock: it is interrupted, {command[0]}", (calls.answer, calls.does()[:3]) == (wanted, [("lock",), ("lock",), ("sync",)]), (calls.answer, calls.does()[:3]))
 
     def test_a_device_that_has_failed(self):
         with tempfile.TemporaryDirectory() as room:

@@ -1,4 +1,6 @@
-"""The memory of the program: an opening takes what the store holds, a checkpoint takes none, and a request is answered in as much as it and its reply are long."""
+"""The memory of the program: an opening takes what the store holds, a checkpoint takes none, and a request is answered in as much as it and its reply are long. And its
+stack, which no input makes deeper."""
+import resource
 import struct
 import tempfile
 import unittest
@@ -10,13 +12,15 @@ import worked
 from model import LIBRARY, first_library
 from preloaded import COMPILER, Preloaded, fast_folder
 from refused_growths import LONG, Over, Session
-from running import Cases, fill, run_in, within
+from running import CREATE, SMALL, Cases, fill, run_in, within
+from stores import DUE_ASKED, OLD, nearly_full
 from wire import oaut
 
 MEBIBYTE = 1_024  # KiB
 PAGES = 256  # KiB that may come and go without a growth of the program
 LARGE = 65_536
 LITTLE = 32 * 2**20  # for a session that begins: a line has 8 MiB, a body 4
+STACK = 160 * 2**10
 # growths of TYPEINFO of each interface of the library, whose parts are made once
 DESCRIBED = (34, 24, 8)
 
@@ -57,6 +61,34 @@ class Memory(Cases):
         self.tell("a checkpoint takes no memory", max(with_checkpoint) <= max(put) + PAGES, found)
         self.tell("nor does what goes on behind it", max(found["a put behind it"]) <= max(put) + PAGES, found)
         self.tell("REPLACE LIBRARY takes its library's, and gives it back", max(found["REPLACE LIBRARY"]) <= max(put) + MEBIBYTE and max(found["a put behind that"]) <= max(put) + MEBIBYTE, found)
+
+
+class Stack(Cases):
+    def test_the_largest_inputs_in_a_small_stack(self):
+        """Nothing in it is as deep as an input is long or nested."""
+        interface = b"[uuid(11223344-5566-7788-99aa-bbccddeeff02)] dispinterface F { properties: [id(1)] SAFEARRAY(VARIANT) A; [id(2)] BSTR B; %s methods: }"
+        library = lambda more: b"[uuid(11223344-5566-7788-99aa-bbccddeeff01)] library D { %s [uuid(11223344-5566-7788-99aa-bbccddeeff03)] coclass C { [default] dispinterface F; } }" % (interface % more)
+        long = library(b"".join(b"[id(%d)] VARIANT T%d; " % (it, it) for it in range(3, 500)))
+        values = [wire.array(wire.VARIANT, [(65_536, 0)], [(wire.I4, 5)] * 65_536), wire.array(wire.VARIANT, [(1, 0)] * 16, [(wire.I4, 5)])]
+        puts = b"".join(wire.put(2, 1, 1, it) + wire.get(3, 1, 1) for it in values) + wire.put(4, 1, 2, wire.scalar(wire.BSTR, bytes(2**20))) + wire.get(5, 1, 2)
+        objects = (CREATE + b"\n") * 1_000 + wire.live_objects(1)
+        due = oaut.Raw.pack([struct.pack("<I", tag) + it for tag, it in enumerate(DUE_ASKED + worked.REPLACED)])
+        for name, words, given, files, status in (
+            ("a library of 262,144 bytes", ["check", "lib.idl"], b"", {"lib.idl": long + b" " * (262_144 - len(long))}, 0),
+            ("262,144 brackets", ["check", "--where", "lib.idl"], b"", {"lib.idl": b"[" * 262_144}, 2),
+            ("brackets in a method", ["check", "--where", "lib.idl"], b"", {"lib.idl": library(b"[id(3)] void M(" + b"[" * 200_000)}, 2),
+            ("the largest values", ["play", "--hex", "lib.idl"], CREATE + b"\n" + puts, {"lib.idl": library(b"")}, 0),
+            ("the longest line", ["play", "--hex", "lib.idl"], b"0" * 2**23 + b"\n", {"lib.idl": library(b"")}, 0),
+            ("objects", ["play", "--hex", "lib.idl"], objects, {"lib.idl": SMALL}, 0),
+            ("a checkpoint, and REPLACE LIBRARY", ["serve", "--group", "1024", "it.store", "lib.idl"], due, {"lib.idl": LIBRARY, "it.store": nearly_full()}, 0),
+            ("dump", ["dump", "it.store"], b"", {"it.store": nearly_full()}, 0),
+            ("a new store", ["format", "it.store", "lib.idl"], b"", {"lib.idl": SMALL}, 0),
+            ("upgrade", ["upgrade", "it.store"], b"", {"it.store": OLD}, 0),
+        ):
+            with tempfile.TemporaryDirectory(dir=fast_folder()) as room:
+                fill(room, files)
+                got = run_in(room, words, given, before=lambda: resource.setrlimit(resource.RLIMIT_STACK, (STACK, STACK)), under=("env", "-i"))
+            self.tell(f"{name}, in a stack of {STACK >> 10} KiB", got[0] == status, (got[0], got[1][:80], got[2][:200]))
 
 
 @unittest.skipUnless(COMPILER, "cc is not there: no call of the allocator is looked at")
@@ -108,6 +140,14 @@ class Asked(Cases):
             for name, one, other in pairs:
                 found = asks(one), asks(other)
                 self.tell(f"{name}: one growth more", found[0] - found[1] == 1, found)
+
+    def test_what_a_dump_asks_for(self):
+        """Of a store of a short library, no block as long as the longest library is."""
+        with Preloaded() as preloaded:
+            preloaded.fill("lib.idl", SMALL)
+            preloaded.ample(["format", preloaded.path("it.store"), preloaded.path("lib.idl")])
+            found = preloaded.run(["dump", preloaded.path("it.store")], large=262_144)
+            self.tell("dump of a short library: no block of 262,144 bytes", (found.status, found.larges) == (0, 0), found)
 
     def larges(self, over):
         return over.run(large=LARGE).larges - over.run("nothing", large=LARGE).larges

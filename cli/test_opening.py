@@ -3,7 +3,7 @@ import struct
 
 import store
 import wire
-from running import CREATE, FULL_TEXT, REQUESTS, SMALL, SMALL_TEXT, fault, rows_of, run
+from running import CREATE, FULL_TEXT, REQUESTS, SMALL, SMALL_TEXT, cannot, fault, rows_of, run
 from stores import BODIES, CLASS, CREATED_1, NEW, OLD, TWO, Served, changed, words
 from tables import guid_of
 
@@ -37,14 +37,14 @@ IMAGES = {"i": struct.pack("<Hi", 3, 7), "s": struct.pack("<Hh", 2, 7), "a": str
 
 class Opening(Served):
     def test_sizes_of_groups_that_are_refused(self):
-        for refusal in ("0", "1025", "-1", "x", ""):
+        for refusal in ("0", "1025", "-1", "+1", "x", ""):
             status, out, err = run(words("--group", refusal), files={"lib.idl": SMALL, "it.store": NEW})
             self.tell(f"serve: a group of {refusal!r} is refused", (status, out, err.startswith(b"error: ")) == (2, b"", True), (status, out, err))
 
     def test_files_that_are_refused(self):
         self.case("serve: a library that is refused goes before a store that is not there", words(), 2, b"", fault("syntax at byte 0"), files={"lib.idl": b"library"})
-        self.case("serve: a library that is not there", words(), 1, b"", fault("cannot read lib.idl"), files={"it.store": NEW})
-        self.case("serve: a store that is not there", words(), 1, b"", fault("cannot read it.store"), files={"lib.idl": SMALL})
+        self.case("serve: a library that is not there", words(), 1, b"", cannot("read", "lib.idl", "ENOENT"), files={"it.store": NEW})
+        self.case("serve: a store that is not there", words(), 1, b"", cannot("read", "it.store", "ENOENT"), files={"lib.idl": SMALL})
         self.case("serve: standard input cannot hold library and requests", ["serve", "it.store", "-"], 2, b"", fault("standard input holds the requests, so LIB cannot be -"), files={"it.store": NEW}, given=SMALL)
 
     def test_stores_that_are_refused(self):

@@ -252,7 +252,7 @@ class ReplacementCalls(Cases):
             now = self.there(room)
             self.tell(name, answer == (0, wanted, b"") and now in left, (answer, now))
 
-        each_fails(self.WORDS, self.FILES, fails, given=self.ASKED)
+        each_fails(self, self.WORDS, self.FILES, fails, given=self.ASKED)
 
     def test_killed_at_each_call(self):
         made = [it for it in self.made() if it != OUT]
@@ -268,4 +268,4 @@ class ReplacementCalls(Cases):
             now, replies = self.there(room), b"".join(self.REPLIES)
             self.tell(f"replace: killed at {what}, call {call}", replies.startswith(answer[1]) and len(answer[1]) >= (0 if call < 4 else len(self.REPLIES[0] + self.REPLIES[1])) and now == left, (answer, now))
 
-        each_fails(self.WORDS, self.FILES, killed, "signal=KILL", given=self.ASKED)
+        each_fails(self, self.WORDS, self.FILES, killed, "signal=KILL", given=self.ASKED)

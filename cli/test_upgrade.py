@@ -10,7 +10,7 @@ import unittest
 import store
 from calls import OUT, STRACE, Calls, each_fails, held, text_held
 from commits import OPENED, OPENING
-from running import FULL_TEXT, PROGRAM, SMALL, SMALL_TEXT, Cases, fault, fill, run, run_in
+from running import FULL_TEXT, PROGRAM, SMALL, SMALL_TEXT, Cases, cannot, fault, files_of, fill, run, run_in
 from stores import BODIES, BODY_1, CLASS, CREATED_1, FACE, NEW, OLD, ONE, PUT_7, TWO, changed, get, got, put, words
 
 UPGRADE, UPGRADED = ["upgrade", "it.store"], b"upgraded\n"
@@ -79,10 +79,13 @@ class Upgrade(Cases):
         self.refuses("a damaged snapshot", changed(OLD, 8503, 0, 0, 0, 0), 3, "damaged at 8503")
         self.refuses("a damaged group", changed(OLD, 8516, 9), 3, "damaged at 8511")
         self.refuses("a store of format 2 that lacks its last byte", TWO[:-1], 3, "damaged at 8192")
-        self.case("upgrade: a file that is not there", UPGRADE, 1, b"", fault("cannot read it.store"))
-        self.case("upgrade: a folder", ["upgrade", "."], 1, b"", fault("cannot read ."))
-        self.case("upgrade: a device", ["upgrade", "/dev/zero"], 1, b"", fault("cannot read /dev/zero"))
-        for bank in ("20971519", "1073741825", "x", ""):
+        self.case("upgrade: a file that is not there", UPGRADE, 1, b"", cannot("read", "it.store", "ENOENT"))
+        self.case("upgrade: a folder", ["upgrade", "."], 1, b"", cannot("read", ".", "EISDIR"))
+        self.case("upgrade: a device", ["upgrade", "/dev/zero"], 1, b"", cannot("read", "/dev/zero", "not a regular file"))
+        for length in (1_000_000, SIZE - 1):
+            self.leaves(f"upgrade: files of {length} bytes at most", UPGRADE, 1, b"", cannot("write", "it.store", "EFBIG"), {"it.store": OLD}, {"it.store": OLD}, before=files_of(length))
+        self.leaves("upgrade: files of the store's length at most", UPGRADE, 0, UPGRADED, b"", {"it.store": OLD}, {"it.store": bytes(store.upgraded(OLD))}, before=files_of(SIZE))
+        for bank in ("20971519", "1073741825", "+20971520", "x", ""):
             status, out, err = run([*UPGRADE, f"--bank={bank}"], files={"it.store": OLD})
             self.tell(f"upgrade: banks of {bank!r} bytes are refused", (status, out, err.startswith(b"error: ")) == (2, b"", True), (status, out, err))
         with open("/dev/full", "wb") as full:
@@ -101,9 +104,9 @@ def is_told(place, parts, what):
     """What is told where a call fails, whose parts begin at these places: the first look, the longer file, and the upgrade."""
     begun = max(it for it in parts if it <= place)
     if place < begun + len(OPENED) - (begun == parts[1]):
-        return fault("cannot read it.store")
+        return cannot("read", "it.store", what[-1])
     if begun == parts[1]:
-        return fault("cannot write it.store")
+        return cannot("write", "it.store", what[-1])
     return fault(f"device fault 0x8003001{'e' if what[0] == 'read' else 'd'}")
 
 
@@ -146,14 +149,14 @@ class UpgradeCalls(Cases):
             self.tell(name, (answer, size) == ((1, b"", is_told(place, parts, what)), length), (answer, size))
             self.goes_on(name, room)
 
-        each_fails(UPGRADE, {"it.store": SHORT}, upgrade_fails)
+        each_fails(self, UPGRADE, {"it.store": SHORT}, upgrade_fails)
 
     def test_killed_at_each_call(self):
         def upgrade_killed(place, what, answer, room):
             self.tell(f"upgrade: killed at {what}, call {place}", answer[1] == b"", answer)
             self.goes_on(f"upgrade: killed at {what}, call {place}", room)
 
-        each_fails(UPGRADE, {"it.store": SHORT}, upgrade_killed, "signal=KILL")
+        each_fails(self, UPGRADE, {"it.store": SHORT}, upgrade_killed, "signal=KILL")
 
 
 class Kills(Cases):

@@ -34,7 +34,7 @@ ROWS = [
     (
         "BSTR",
         wire.scalar(wire.BSTR),
-        [HI, wire.scalar(wire.BSTR, b""), wire.scalar(wire.BSTR, b"abc"), wire.scalar(wire.BSTR, LONGEST), wire.scalar(wire.BSTR)],
+        [HI, wire.scalar(wire.BSTR, b""), wire.scalar(wire.BSTR, b"abc"), *(wire.scalar(wire.BSTR, LONGEST[:count]) for count in (393_216, 786_432, 1_048_576)), wire.scalar(wire.BSTR)],
     ),
     ("VARIANT", wire.scalar(wire.EMPTY), [wire.scalar(wire.NULL), wire.scalar(wire.EMPTY), wire.scalar(wire.UINT, 1), HI, LARGEST_DECIMAL]),
 ]

@@ -100,6 +100,6 @@ pub record IsTold {D : Type 0} (g : Ghosts D) (disk back : D) (library : TreeVal
 pub record IsNotOpened {D : Type 0} (g : Ghosts D) (disk back : D) (library : TreeValue) (fault : OpenFault) : Type 0 where
   pub size : g.size_of back ≡ g.size_of disk
   pub cause : IsCaused (g.failures_of disk) (g.failures_of back) fault
-  -- at most twelve calls, and one for two bytes of the disk; three where it is no store, four for its format, six for its library
+  -- at most twelve calls, and one for two bytes of the disk; two where it is no store, four for its format, six for its library
   pub calls : IsTrue (g.is_honest back) → g.moment back ≤ g.moment disk + moments_until (24 + g.size_of disk) fault
   pub told : IsTrue (g.is_honest back) → IsTold g disk back library fault

@@ -14,7 +14,7 @@ import tempfile
 from command_line import words
 
 ROOT = os.path.dirname(os.path.dirname(os.path.abspath(__file__)))
-sys.path.insert(0, f"{ROOT}/cli")  # before this folder, which has a script of that name
+sys.path.insert(0, f"{ROOT}/tests/support")  # before this folder, which has a script of that name
 (os.environ["OAUT_PROGRAM"],) = words(__doc__)
 import instructions
 from model import LIBRARY

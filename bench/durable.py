@@ -27,7 +27,7 @@ import time
 import uuid
 
 ROOT = os.path.dirname(os.path.dirname(os.path.abspath(__file__)))
-sys.path.append(f"{ROOT}/cli")
+sys.path.append(f"{ROOT}/tests/support")
 import store
 import wire
 from oaut import PROPERTYPUT, ask_create, ask_invoke

@@ -29,7 +29,7 @@ import threading
 import time
 
 ROOT = os.path.dirname(os.path.dirname(os.path.abspath(__file__)))
-sys.path.append(f"{ROOT}/cli")
+sys.path.append(f"{ROOT}/tests/support")
 from command_line import words
 from wire import oaut
 

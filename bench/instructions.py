@@ -4,7 +4,7 @@
     python3 bench/instructions.py [PROGRAM]      PROGRAM is crates/oaut/out/oaut where none is given
 
 First requests in tables of 10, 1,000 and 60,000 objects. Then what all of the program does for a put or a get of a long, over lines and as
-records, and for a put in groups of 1,024 over a store: in the form of cli/instructions.txt, with which the gate compares it.
+records, and for a put in groups of 1,024 over a store: in the form of tests/tables/instructions.txt, with which the gate compares it.
 """
 import os
 import sys
@@ -12,7 +12,7 @@ import sys
 from command_line import words
 
 ROOT = os.path.dirname(os.path.dirname(os.path.abspath(__file__)))
-sys.path.insert(0, f"{ROOT}/cli")  # before this folder, which has a script of that name
+sys.path.insert(0, f"{ROOT}/tests/support")  # before this folder, which has a script of that name
 (os.environ["OAUT_PROGRAM"],) = words(__doc__)
 import instructions
 

@@ -17,7 +17,7 @@ import time
 import uuid
 
 ROOT = os.path.dirname(os.path.dirname(os.path.abspath(__file__)))
-sys.path.append(f"{ROOT}/cli")
+sys.path.append(f"{ROOT}/tests/support")
 import wire
 from command_line import words
 from memory import peak_of

@@ -13,7 +13,7 @@ import tempfile
 import time
 
 ROOT = os.path.dirname(os.path.dirname(os.path.abspath(__file__)))
-sys.path.append(f"{ROOT}/cli")
+sys.path.append(f"{ROOT}/tests/support")
 from memory import peak_of
 from command_line import words
 

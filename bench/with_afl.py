@@ -5,8 +5,8 @@
 
 By hand, with afl-fuzz, cc and objdump. FOLDER keeps the queue: a second run goes on with it. An input of `records` is what `play` reads, of `libraries` a text for `check -`, of `stores` what
 bench/coverage.c makes a store's file of, for `dump`. The last lines say how many inputs were tried, what was kept, what crashed or hung, and what differs: of each input that was kept the
-replies are compared with the model's, the text is checked as in cli/fuzz.py, and the store is opened by `dump` and `serve` and by cli/store.py. FOLDER/rows has then, as rows of
-cli/fuzzed.txt, short inputs that between them reach what the seeds do not.
+replies are compared with the model's, the text is checked as in tests/support/fuzz.py, and the store is opened by `dump` and `serve` and by tests/support/store.py. FOLDER/rows has then, as rows of
+tests/tables/fuzzed.txt, short inputs that between them reach what the seeds do not.
 """
 import glob
 import os
@@ -18,7 +18,7 @@ import sys
 import tempfile
 
 ROOT = os.path.dirname(os.path.dirname(os.path.abspath(__file__)))
-sys.path.append(f"{ROOT}/cli")
+sys.path.append(f"{ROOT}/tests/support")
 PART, SECONDS, FOLDER = sys.argv[1], sys.argv[2], os.path.abspath(sys.argv[3])
 PROGRAM = os.environ["OAUT_PROGRAM"] = os.path.abspath(sys.argv[4]) if len(sys.argv) > 4 else f"{ROOT}/crates/oaut/out/oaut"
 import fuzz

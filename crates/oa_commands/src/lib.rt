@@ -3,7 +3,7 @@
 //! Its contract: `format_store` answers a disk of which each image is the new store (`IsNewlyFormatted`), `upgrade_store` one that is
 //! brought to format 2 (`IsUpgraded`), `write_dump` writes the lines of what a disk was read as (`dump`), and `write_text` the canonical
 //! text of a library. Each tells no fault but its own (`IsOfFormat`, `IsOfUpgrade`, `IsOfDump`, `IsOfCheck`), and each fault has the status
-//! of one table (`status_of`), never that of success. Which file a path names, its lock, and what makes it longer are tested (`cli/`).
+//! of one table (`status_of`), never that of success. Which file a path names, its lock, and what makes it longer are tested (`tests/`).
 //!
 //! What stands on it: the program.
 #![tactic(auto)]

@@ -1,4 +1,4 @@
-//! A format answers wherever it is stopped. What its stop leaves is shown of the program (`cli/test_crashes.py`).
+//! A format answers wherever it is stopped. What its stop leaves is shown of the program (`tests/program/test_crashes.py`).
 use crate::script::{library, new_disk};
 use oa_disk::Tear;
 use oa_history::formatted;

@@ -57,7 +57,7 @@ fn is_written<D: Disk>(store: &mut Store<D>, table: &Table) -> bool
     is_begun && settle(store, table) && put(store)
 }
 
-/// The same of a new store, once it is open; None where it is not made. Memory is taken before that alone: `cli/test_raw_memory.py` refuses all
+/// The same of a new store, once it is open; None where it is not made. Memory is taken before that alone: `tests/program/test_raw_memory.py` refuses all
 /// from each call of the allocator on.
 fn written(alloc: Global) -> Option<bool> {
     let mut disk = MemoryDisk::new(alloc, 75_505_664, 100, 2000).ok()?;

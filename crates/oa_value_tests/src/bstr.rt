@@ -1,7 +1,7 @@
 //! What no clause says: that memory is found; and each public function once.
 //!
 //! A call that takes memory is sent again where it was refused. So these tests also pass where one call of the allocator
-//! is refused, whichever it is: `cli/test_raw_memory.py` refuses each in turn.
+//! is refused, whichever it is: `tests/program/test_raw_memory.py` refuses each in turn.
 use crate::asserts::{assert_none, expect};
 use crate::shown::is_shown;
 use oa_bstr::{Bstr, BstrError};

@@ -1,7 +1,7 @@
 //! What no clause says: that each value is dropped once, and that memory is found.
 //!
 //! A call that takes memory is sent again where it was refused, after a look at what it left. So these tests also pass
-//! where one call of the allocator is refused, whichever it is: `cli/test_raw_memory.py` refuses each in turn.
+//! where one call of the allocator is refused, whichever it is: `tests/program/test_raw_memory.py` refuses each in turn.
 use crate::asserts::{assert_none, expect};
 use oa_cells::{Cells, Row};
 use std::alloc::{AllocError, Global};

@@ -1,5 +1,5 @@
 //! Calls that take no memory, one behind another, over values that are made first. With ample memory each is answered so;
-//! `cli/test_raw_memory.py` refuses all memory from each call of the allocator on, and then the values are not made.
+//! `tests/program/test_raw_memory.py` refuses all memory from each call of the allocator on, and then the values are not made.
 use crate::arrays::array;
 use crate::asserts::expect;
 use crate::bstr::{ODD, is_told};

@@ -1,6 +1,6 @@
 //! The program: a command line over the server.
 //!
-//! Its contract: it is safe and total. What it prints, its statuses and its calls of the system are tested (`cli/`).
+//! Its contract: it is safe and total. What it prints, its statuses and its calls of the system are tested (`tests/`).
 //!
 //! What stands on it: no crate; the clients of `clients/` start it or reach it over a socket.
 #![tactic(auto)]

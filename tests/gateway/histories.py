@@ -1,0 +1,465 @@
+"""Histories of many clients behind the gateway, and whether they are those of one table of objects.
+
+    OAUT_PROGRAM=PATH python3 tests/gateway/histories.py [--seed S] [--rounds N]
+
+In a round 16 clients ask over all opcodes at once, some in pieces, some by lines, some alone, and hang up in several ways; meanwhile the server, the gateway or
+both are killed, the device fails, or nothing happens. Between gateway and server stands a program that writes down what goes by in either direction: the order
+in which the server was asked. Behind each round this is looked at:
+
+- each reply of the server is the model's (tests/support/model.py), request by request in that order;
+- each client's requests stand there in its own order, none twice, none that it did not send, and each reply that it got is the one of its own request;
+- a request that was sent behind the reply to another one stands behind it;
+- an UNLOCK is refused by the gateway only where its client holds no such lock, and none that goes through is of what its client does not hold; the locks of who
+  has gone are given back;
+- nobody comes between two requests of who has the server alone;
+- the store opens to the model's objects behind some first of the requests, all that were answered among them.
+"""
+import argparse
+import collections
+import copy
+import os
+import random
+import signal
+import socket
+import struct
+import sys
+import tempfile
+import time
+
+sys.path.append(f"{os.path.dirname(os.path.abspath(__file__))}/../support")
+from asked import REPLACE, Answering, Bytes
+from codes import E_UNEXPECTED, WRITE_FAULT
+from drawn import Session
+from due import dump_of
+from gateways import FAILS, Gateway, library, record
+from kept import changed
+from model import LIBRARY, Refusal
+from running import PROGRAM, run_in
+from wire import oaut
+
+CLIENTS = 16
+END = struct.pack("<IHH", 0xFFFF_FFFF, 12, 0)
+E_FAIL = 0x8000_4005
+KILLS = ("nothing", "server", "gateway", "both", "device", "end")
+LIBRARIES = {}
+
+RECORDER = r'''#!%s -SE
+import os, signal, subprocess, sys, threading, time
+if sys.argv[1] != "serve":
+    os.execv(%r, [%r, *sys.argv[1:]])
+log = os.open("%s/log.%%020d" %% time.monotonic_ns(), os.O_WRONLY | os.O_CREAT | os.O_APPEND)
+environment = dict(os.environ)
+if "SYNCS" in environment:
+    environment["LD_PRELOAD"] = %r
+child = subprocess.Popen([%r, *sys.argv[1:]], stdin=subprocess.PIPE, stdout=subprocess.PIPE, bufsize=0, env=environment, pass_fds=[int(sys.argv[-1].rsplit("/", 1)[1])])
+def written(to, data):
+    while data:
+        data = data[os.write(to, data):]
+def goes(source, to, sign):
+    try:
+        while True:
+            data = os.read(source, 1 << 16)
+            if not data:
+                break
+            os.write(log, sign + len(data).to_bytes(4, "little") + data)
+            written(to, data)
+    except OSError:
+        pass
+    if sign == b"C":
+        child.stdin.close()
+threading.Thread(target=goes, args=(0, child.stdin.fileno(), b"C"), daemon=True).start()
+goes(child.stdout.fileno(), 1, b"S")
+status = child.wait()
+os.kill(os.getpid(), signal.SIGKILL) if status < 0 else os._exit(status)
+'''
+
+
+class Wrong(Exception):
+    pass
+
+
+class Guide(Session):
+    """Makes requests up, as if they were done in the order in which they are made."""
+
+    def replacement(self):
+        new = changed(self.model.library, self.dice)
+        text = new.text()
+        LIBRARIES[text] = new
+        return struct.pack("<HHII", 12, 0, len(text), 0) + text + bytes(-len(text) % 8), lambda: self.model.replace(new)
+
+    def body(self, tag):
+        request, act = self.request()
+        body = struct.pack("<I", tag) + request
+        if self.dice.random() < 0.02:
+            return body + bytes(8)
+        try:
+            act()
+        except Refusal:
+            pass
+        return body
+
+
+class Replay(Answering):
+    """The model, which knows the libraries that were made up."""
+
+    def act(self, opcode, body):
+        if opcode != REPLACE:
+            return super().act(opcode, body)
+        at = Bytes(body)
+        at.take(8)
+        count, _ = at.numbers("II")
+        new = at.take(count)
+        at.align(8)
+        at.ends()
+        return self.model.replace(LIBRARIES.get(bytes(new)))
+
+
+def words_of(body):
+    """What tells one lock from another: object, DISPID, interface and arguments."""
+    return body[8:32] + body[56:]
+
+
+def is_lock(body, opcode):
+    return len(body) >= 64 and struct.unpack_from("<H", body, 4)[0] == opcode
+
+
+class Visit:
+    """One connection of a client."""
+
+    def __init__(self, number, kind, sock, dice, slow):
+        self.number, self.kind, self.sock, self.dice, self.slow = number, kind, sock, dice, slow
+        self.bodies, self.sent_at, self.replies, self.heard_at = [], [], [], []
+        self.out, self.got, self.planned, self.most = b"", b"", dice.randrange(4, 40), dice.choice([1, 1, 4, 32])
+        self.ended = self.half = False
+        sock.setblocking(False)
+
+    def ask(self, guide):
+        while self.planned and len(self.bodies) - len(self.replies) < self.most and len(self.out) < 1 << 16:
+            body = guide.body(self.number << 12 | len(self.bodies))
+            self.bodies.append(body)
+            self.sent_at.append(time.monotonic())
+            self.out += body.hex().encode() + b"\n" if self.kind == "listen-hex" else record(body)
+            self.planned -= 1
+
+    def step(self, guide):
+        """Sends and hears what it can; false once it has ended."""
+        self.ask(guide)
+        try:
+            if self.out:
+                self.out = self.out[self.sock.send(self.out[: self.dice.randrange(1, 200)] if self.slow else self.out) :]
+        except BlockingIOError:
+            pass
+        except OSError:
+            self.out, self.planned = b"", 0
+        try:
+            some = self.sock.recv(50 if self.slow else 1 << 16)
+            self.got += some
+            self.ended = not some
+        except BlockingIOError:
+            pass
+        except OSError:
+            self.ended = True
+        self.hear()
+        done = not self.planned and not self.out and len(self.replies) == len(self.bodies)
+        if self.half and not self.ended and not self.planned and not self.out and self.half != "shut":
+            self.sock.shutdown(socket.SHUT_WR)
+            self.half = "shut"
+        if done and not self.half:
+            self.ended = True
+        if self.ended:
+            if self.dice.random() < 0.2:
+                self.sock.setsockopt(socket.SOL_SOCKET, socket.SO_LINGER, struct.pack("ii", 1, 0))
+            self.sock.close()
+        return not self.ended
+
+    def hear(self):
+        now = time.monotonic()
+        while True:
+            if self.kind == "listen-hex":
+                line, end, left = self.got.partition(b"\n")
+                if not end:
+                    return
+                body, self.got = bytes.fromhex(line.decode()), left
+            else:
+                if len(self.got) < 4 or len(self.got) < 4 + struct.unpack_from("<I", self.got)[0]:
+                    return
+                size = struct.unpack_from("<I", self.got)[0]
+                body, self.got = self.got[4 : 4 + size], self.got[4 + size :]
+            self.replies.append(body)
+            self.heard_at.append(now)
+
+
+class Round:
+    def __init__(self, gateway, seed, model):
+        self.gateway, self.dice, self.visits = gateway, random.Random(seed), []
+        self.kind = KILLS[seed % len(KILLS)]
+        self.guide = Guide(seed)
+        self.guide.model = copy.deepcopy(model)
+        first = Replay()
+        first.model = model
+        self.states = [first]
+
+    def dial(self):
+        kind = self.dice.choice(["listen"] * 6 + ["listen-hex", "alone"])
+        try:
+            sock = self.gateway.dial(kind)
+        except OSError:
+            return None
+        visit = Visit(len(self.visits) + 1, kind, sock, self.dice, self.dice.random() < 0.25)
+        visit.half = self.dice.random() < 0.5
+        self.visits.append(visit)
+        return visit
+
+    def play(self):
+        """All clients to their ends, and what happens meanwhile."""
+        for it in os.listdir(self.gateway.room):
+            if it.startswith("log."):
+                os.unlink(f"{self.gateway.room}/{it}")
+        self.gateway.variables.pop("SYNCS", None)
+        if self.kind == "device":
+            self.gateway.variables["SYNCS"] = self.dice.randrange(4, 60)
+        self.gateway.start()
+        begun, live, left = time.monotonic(), [], CLIENTS + self.dice.randrange(8)
+        strikes = begun + self.dice.uniform(0.02, 0.5)
+        struck = self.kind in ("nothing", "device")
+        while True:
+            while left and len(live) < CLIENTS:
+                visit = self.dial()
+                left -= 1
+                if visit:
+                    live.append(visit)
+            live = [it for it in live if it.step(self.guide)]
+            now = time.monotonic()
+            if not struck and now > strikes:
+                struck = True
+                self.strike()
+            if not live and (not left or self.gateway.process.poll() is not None):
+                break
+            if now > begun + 120:
+                raise Wrong(f"clients that wait: {[(it.kind, len(it.bodies), len(it.replies)) for it in live]}")
+            time.sleep(0.0005)
+        if self.gateway.process.poll() is None:
+            if not struck or self.kind == "nothing":
+                Gateway.wait_for(lambda: self.gateway.counters().get("oaut_gateway_locks") == 0, "locks are left")
+            self.gateway.process.terminate()
+        status = self.gateway.process.wait(60)
+        with open(f"{self.gateway.room}/said") as file:
+            said = file.read()
+        if "Sanitizer" in said or "runtime error" in said:
+            raise Wrong(said[-3000:])
+        faulted = any(struct.unpack_from("<I", it, 4)[0] == WRITE_FAULT for visit in self.visits for it in visit.replies)
+        due = {"gateway": (-9,), "both": (-9,), "device": (0, 3)}.get(self.kind, (0,))
+        if struck and status not in due and not (self.kind in ("gateway", "both") and status == 0) or (faulted and status != 3):
+            raise Wrong(f"the gateway's status is {status}: {said[-1000:]}")
+
+    def strike(self):
+        """Ends who is to be ended."""
+        process, server = self.gateway.process, self.gateway.server()
+        if self.kind == "end":
+            process.terminate()
+        if self.kind in ("server", "both") and server:
+            try:
+                with open(f"/proc/{server}/task/{server}/children") as file:
+                    for it in file.read().split():
+                        os.kill(int(it), signal.SIGKILL)
+            except OSError:
+                pass
+        if self.kind in ("gateway", "both"):
+            process.kill()
+
+    # --- what is looked at
+
+    def sessions(self):
+        """Of each server in turn what it was asked, and what it answered."""
+        found = []
+        for name in sorted(it for it in os.listdir(self.gateway.room) if it.startswith("log.")):
+            with open(f"{self.gateway.room}/{name}", "rb") as file:
+                data = file.read()
+            streams, at = {b"C": bytearray(), b"S": bytearray()}, 0
+            while at + 5 <= len(data):
+                size = int.from_bytes(data[at + 1 : at + 5], "little")
+                streams[data[at : at + 1]] += data[at + 5 : at + 5 + size]
+                at += 5 + size
+            found.append(tuple(whole(bytes(streams[it])) for it in (b"C", b"S")))
+        return found
+
+    def judge(self):
+        visits = {it.number: it for it in self.visits}
+        position, order = {}, []
+        replies = {}
+        for asked, answered in self.sessions():
+            self.states = self.followed(asked, answered)
+            if len(answered) > len(asked):
+                raise Wrong("the server answers what was not asked")
+            for place, body in enumerate(asked):
+                tag = struct.unpack_from("<I", body)[0]
+                if body == END:
+                    continue
+                visit = visits.get(tag >> 12)
+                if visit is None or (tag & 4095) >= len(visit.bodies):
+                    raise Wrong(f"nobody sent {body.hex()}")
+                own = visit.bodies[tag & 4095]
+                if body != own:
+                    if is_lock(own, oaut.LOCK) and body == own[:4] + bytes([oaut.UNLOCK]) + own[5:]:
+                        continue  # a lock that is given back
+                    raise Wrong(f"{own.hex()} became {body.hex()}")
+                if tag in position:
+                    raise Wrong(f"{body.hex()} was asked twice")
+                position[tag] = len(order)
+                order.append(tag)
+                if place < len(answered):
+                    replies[tag] = answered[place]
+        for visit in self.visits:
+            self.judge_visit(visit, position, replies)
+        self.judge_time(visits, order)
+        self.judge_alone(visits, order)
+
+    def followed(self, asked, answered):
+        """From each state that the server may have begun with: those that it may have left."""
+        found, faults = [], []
+        for it in self.states:
+            try:
+                found += self.follow(it, asked, answered)
+            except Wrong as fault:
+                faults.append(fault)
+        if not found:
+            raise faults[0]
+        return found
+
+    def judge_visit(self, visit, position, replies):
+        last, held = -1, collections.Counter()
+        for serial, body in enumerate(visit.bodies):
+            tag = visit.number << 12 | serial
+            got = visit.replies[serial] if serial < len(visit.replies) else None
+            if tag in position:
+                if position[tag] < last:
+                    raise Wrong("a client's requests change their order")
+                last = position[tag]
+                if got is not None and got != replies.get(tag):
+                    raise Wrong(f"the reply to {body.hex()} is {got.hex()}, not {replies.get(tag, b'').hex()}")
+                done = got is not None and struct.unpack_from("<I", got, 4)[0] == 0
+                if is_lock(body, oaut.UNLOCK):
+                    if not held[words_of(body)]:
+                        raise Wrong("a lock is given up that its client does not hold")
+                    held[words_of(body)] -= done
+                elif is_lock(body, oaut.LOCK):
+                    held[words_of(body)] += done
+            elif got is not None:
+                if got != struct.pack("<IIII", tag, E_UNEXPECTED, oaut.NO_INDEX, 0) or not is_lock(body, oaut.UNLOCK) or held[words_of(body)]:
+                    raise Wrong(f"{body.hex()} is answered by the gateway: {got.hex()}")
+        if self.kind == "nothing" and len(visit.replies) != len(visit.bodies) and visit.half:
+            raise Wrong(f"{len(visit.bodies)} requests have {len(visit.replies)} replies")
+
+    def judge_time(self, visits, order):
+        earliest = float("inf")
+        for tag in reversed(order):
+            visit, serial = visits[tag >> 12], tag & 4095
+            if visit.sent_at[serial] > earliest:
+                raise Wrong("a request that was sent behind a reply is done before it")
+            if serial < len(visit.heard_at):
+                earliest = min(earliest, visit.heard_at[serial])
+
+    @staticmethod
+    def judge_alone(visits, order):
+        places = collections.defaultdict(list)
+        for place, tag in enumerate(order):
+            if visits[tag >> 12].kind == "alone":
+                places[tag >> 12].append(place)
+        for number, those in places.items():
+            if those[-1] - those[0] + 1 != len(those):
+                raise Wrong(f"somebody comes between two requests of the visit {number}, which is alone")
+
+    def follow(self, answering, asked, answered):
+        """The model through one server's requests. Gives the states that it may have left: groups that were not answered are kept or not."""
+        answering.forget_locks()
+        open_requests, place = asked[len(answered) :], len(answered)
+        for place, got in enumerate(answered):
+            body = asked[place]
+            if struct.unpack_from("<I", got, 4)[0] in (WRITE_FAULT, E_FAIL):
+                codes = [struct.unpack_from("<I", it, 4)[0] for it in answered[place:]]
+                faults = codes.count(WRITE_FAULT)
+                if codes != [WRITE_FAULT] * faults + [E_FAIL] * (len(codes) - faults) or not faults:
+                    raise Wrong(f"behind a device's fault the codes are {codes}")
+                open_requests = asked[place : place + faults]
+                break
+            due = answering.reply(body)
+            if got != due:
+                raise Wrong(f"{body.hex()} is answered by {got.hex()}, not {due.hex()}")
+        left = [copy.deepcopy(answering)] if open_requests else [answering]
+        for place, body in enumerate(open_requests, 1):
+            apart = struct.unpack_from("<H", body, 4)[0] == REPLACE
+            if apart and place > 1:
+                left.append(copy.deepcopy(answering))
+            answering.reply(body)
+            if apart or place == len(open_requests):
+                left.append(copy.deepcopy(answering))
+        return left
+
+    def check_store(self):
+        """What the store holds now is one of the states that may be left."""
+        room = self.gateway.room
+        Gateway.wait_for(lambda: b"in use" not in run_in(room, ["dump", "it.store"])[2], "the store stays in use")
+        status, out, err = run_in(room, ["dump", "it.store"])
+        text = run_in(room, ["dump", "it.store", "--library"])[1]
+        if status:
+            raise Wrong(f"the store does not open: {err}")
+        for it in self.states:
+            if dump_of(it.model) == out.decode() and it.model.library.text() == text:
+                return it.model
+        raise Wrong(f"the store holds none of the {len(self.states)} states that it may hold")
+
+
+def whole(stream):
+    """The records of a stream, as far as they are whole."""
+    found, at = [], 0
+    while at + 4 <= len(stream):
+        size = struct.unpack_from("<I", stream, at)[0]
+        if at + 4 + size > len(stream):
+            break
+        found.append(stream[at + 4 : at + 4 + size])
+        at += 4 + size
+    return found
+
+
+def rounds(first, count, tells=lambda *_: None):
+    """Plays rounds from a seed on, each ten over one store. Gives what was counted; raises Wrong."""
+    seen = collections.Counter()
+    for begin in range(first, first + count, 10):
+        with tempfile.TemporaryDirectory() as room:
+            with open(f"{room}/lib.idl", "wb") as file:
+                file.write(LIBRARY)
+            with open(f"{room}/recorder", "w") as file:
+                file.write(RECORDER % (sys.executable, PROGRAM, PROGRAM, "ROOM", library("fails", FAILS)[0], PROGRAM))
+            os.chmod(f"{room}/recorder", 0o755)
+            model = Replay().model
+            LIBRARIES[LIBRARY] = model.library
+            LIBRARIES[model.library.text()] = model.library
+            with Gateway("--report", "0", starts=False, library=f"{room}/lib.idl", program=f"{room}/recorder") as gateway:
+                with open(f"{room}/recorder") as file:
+                    text = file.read().replace("ROOM", gateway.room)
+                with open(f"{room}/recorder", "w") as file:
+                    file.write(text)
+                for seed in range(begin, min(begin + 10, first + count)):
+                    it = Round(gateway, seed, model)
+                    try:
+                        it.play()
+                        it.judge()
+                        model = it.check_store()
+                    except (Wrong, AssertionError) as fault:
+                        raise Wrong(f"round {seed}, {it.kind}: {fault}") from fault
+                    seen["rounds"] += 1
+                    seen[it.kind] += 1
+                    seen["connections"] += len(it.visits)
+                    seen["requests"] += sum(len(visit.bodies) for visit in it.visits)
+                    seen["replies"] += sum(len(visit.replies) for visit in it.visits)
+                    seen["unanswered"] += sum(len(visit.bodies) - len(visit.replies) for visit in it.visits)
+                    tells(seed, it.kind, seen)
+    return seen
+
+
+if __name__ == "__main__":
+    parser = argparse.ArgumentParser(description=__doc__, formatter_class=argparse.RawDescriptionHelpFormatter)
+    parser.add_argument("--seed", type=int, default=0, help="the first round's seed (0)")
+    parser.add_argument("--rounds", type=int, default=20, help="how many (20)")
+    given = parser.parse_args()
+    print(dict(rounds(given.seed, given.rounds, lambda seed, kind, seen: print(seed, kind, dict(seen), flush=True))))

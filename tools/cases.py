@@ -1,0 +1,134 @@
+#!/usr/bin/env python3
+"""Runs the cases of the built program: the tests of each file tests/*/test_PART.py.
+
+    python3 tools/cases.py [--program PATH] [-k NAME].. [PART ..]
+
+PATH is crates/oaut/out/oaut, as `rt ci` leaves it, where none is given. `-k NAME` runs the tests whose names have NAME in them, `PART` those of one
+file; `--list` prints the names. A test whose tools are not installed is left out, with a line that names it and them. Each part gets a line with its
+seconds; the last line counts all cases, and the status is 1 where one failed.
+"""
+import argparse
+import ctypes
+import glob
+import os
+import sys
+import time
+import unittest
+
+ROOT = os.path.dirname(os.path.dirname(os.path.abspath(__file__)))
+FOLDERS = sorted(glob.glob(f"{ROOT}/tests/*/"))
+
+
+class Counts(unittest.TestResult):
+    """Counts the cases: each sub-test, and each test that has none. What failed is told at once."""
+
+    def __init__(self):
+        super().__init__()
+        self.passed = self.failed = 0
+        self.within = False
+
+    def startTest(self, test):
+        super().startTest(test)
+        self.within = False
+
+    def addSubTest(self, test, subtest, err):
+        super().addSubTest(test, subtest, err)
+        self.within = True
+        if err is None:
+            self.passed += 1
+        else:
+            self.tell(subtest, err, test.failureException)
+
+    def addSuccess(self, test):
+        super().addSuccess(test)
+        self.passed += not self.within
+
+    def addFailure(self, test, err):
+        super().addFailure(test, err)
+        self.tell(test, err, test.failureException)
+
+    def addError(self, test, err):
+        super().addError(test, err)
+        self.tell(test, err, ())
+
+    def addSkip(self, test, reason):
+        super().addSkip(test, reason)
+        print(f"left out {named(test)}: {reason}", flush=True)
+
+    def tell(self, test, err, failure):
+        self.failed += 1
+        kind, what, _ = err
+        said = str(what) if failure and issubclass(kind, failure) else self._exc_info_to_string(err, test)
+        print(f"FAILED {named(test)}: {said}", flush=True)
+
+
+def named(test):
+    """The name of a test, and of the case in it."""
+    case = getattr(test, "test_case", None)
+    if case is None:
+        return test.id()
+    return f"{case.id()}: {test._message if isinstance(test._message, str) else test._subDescription()}"
+
+
+def parts_of(words):
+    """The parts that are named, or all."""
+    found = sorted(os.path.basename(it)[len("test_") : -len(".py")] for it in glob.glob(f"{ROOT}/tests/*/test_*.py"))
+    unknown = {*words} - {*found}
+    if unknown:
+        raise SystemExit(f"run.py: no part is named {', '.join(sorted(unknown))}; there are {', '.join(found)}")
+    return [it for it in found if it in (words or found)]
+
+
+def tests_of(suite):
+    for it in suite:
+        if isinstance(it, unittest.TestSuite):
+            yield from tests_of(it)
+        else:
+            yield it
+
+
+def keep_freed_memory():
+    """Has the C library keep what is freed. A store has 75 MB, and else the system would hand out the pages of each that is made, one by one."""
+    mallopt = getattr(ctypes.CDLL(None), "mallopt", None)
+    if mallopt:
+        M_TRIM_THRESHOLD, M_MMAP_MAX = -1, -4
+        mallopt(M_TRIM_THRESHOLD, 2**31 - 1)
+        mallopt(M_MMAP_MAX, 0)
+
+
+def main():
+    parser = argparse.ArgumentParser(description=__doc__, formatter_class=argparse.RawDescriptionHelpFormatter)
+    parser.add_argument("--program", metavar="PATH", help="the program")
+    parser.add_argument("-k", metavar="NAME", action="append", dest="names", help="tests with this in their names")
+    parser.add_argument("--list", action="store_true", help="print the names of the tests")
+    parser.add_argument("--sessions", nargs=2, metavar=("FIRST", "COUNT"), help="the seeds of the part `random`")
+    parser.add_argument("--kills", metavar="N", help="how often the part `kills` kills")
+    parser.add_argument("--seed", metavar="S", help="from which seed")
+    parser.add_argument("parts", nargs="*", metavar="PART")
+    given = parser.parse_args()
+    told = {"OAUT_PROGRAM": given.program and os.path.abspath(given.program), "OAUT_SESSIONS": given.sessions and " ".join(given.sessions), "OAUT_KILLS": given.kills, "OAUT_SEED": given.seed}
+    os.environ.update({name: it for name, it in told.items() if it})
+    sys.path[:0] = FOLDERS
+    keep_freed_memory()
+    loader = unittest.TestLoader()
+    loader.testNamePatterns = [it if "*" in it else f"*{it}*" for it in given.names or []] or None
+    passed = failed = left = 0
+    for part in parts_of(given.parts):
+        suite = loader.loadTestsFromName(f"test_{part}")
+        if not suite.countTestCases():
+            continue
+        if given.list:
+            print("\n".join(it.id() for it in tests_of(suite)))
+            continue
+        counts, begun = Counts(), time.monotonic()
+        suite.run(counts)
+        print(f"{part}: {counts.passed} passed, {counts.failed} failed, {len(counts.skipped)} tests left out, {time.monotonic() - begun:.1f} s", flush=True)
+        passed, failed, left = passed + counts.passed, failed + counts.failed, left + len(counts.skipped)
+    if given.list:
+        return 0
+    print(f"{passed} passed, {failed} failed, {left} tests left out")
+    return 1 if failed or not passed else 0
+
+
+if __name__ == "__main__":
+    sys.exit(main())

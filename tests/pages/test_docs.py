@@ -48,3 +48,7 @@ class Docs(Cases):
         self.tell("crates of docs/proved.md", sorted(told) == sorted(it for it in names if not it.endswith("_tests")), told)
         done = subprocess.run([sys.executable, f"{ROOT}/tools/draw.py", "--check"], capture_output=True, text=True)
         self.tell("the pictures", done.returncode == 0, done.stdout)
+
+    def test_how_much_there_is_to_read(self):
+        done = subprocess.run([sys.executable, f"{ROOT}/tools/spec.py", "--check"], capture_output=True, text=True)
+        self.tell("the definitions below each promise", done.returncode == 0, done.stdout + done.stderr)

@@ -1,0 +1,161 @@
+#!/usr/bin/env python3
+"""The book of the promise: what a reader of one of README's nine sentences has to read, and how much that is.
+
+    python3 tools/spec.py FOLDER      writes a page for each word below: its definition, and each that it names, down to lists and numbers
+    python3 tools/spec.py --write     writes the table of docs/reading-the-proofs.md anew
+    python3 tools/spec.py --check     compares that table, and holds the counts to the limits below
+
+A page begins with the word itself. Behind it stands what it names, in the order in which it names them, each followed by what it names in turn, once. With
+each stands the file that it is copied from, whose comments tell its source: a section of a standard, or this project's choice. What the prover's library
+defines, and structs and enums of the code, are named and not copied.
+"""
+import collections
+import os
+import re
+import sys
+
+ROOT = os.path.dirname(os.path.dirname(os.path.abspath(__file__)))
+PAGE = f"{ROOT}/docs/reading-the-proofs.md"
+
+# of each sentence the words to read, each with its module
+SENTENCES = {
+    1: ["oa_turn.specs.Turns.Turn"],
+    2: ["oa_frame.specs.Sessions.Session"],
+    3: ["oa_wire_variant.specs.Variants.Spells"],
+    4: ["oa_idl.specs.IsTree.IsTree"],
+    5: ["oa_checks.specs.IsLibrary.IsLibrary"],
+    6: ["oa_disk.specs.Disk." + it for it in ("WritesUnsynced", "Syncs", "TakesTime", "FailsAs")],
+    7: ["oa_store.specs.Stores.IsStore"],
+    8: ["oa_history.specs.Lived.IsLived", "oa_history.specs.Survived.IsSurvived"],
+    9: ["oa_keeps.specs.Keeps.KeepsLibrary", "oa_server.specs.Answers.RenewsStore", "oa_store.specs.Changes.IsUpgrade", "oa_store.specs.Faults.IsBrought"],
+}
+# more than this nobody should have to read
+LIMITS = {"Turn": 970, "IsLived": 1_200}
+
+COLUMNS = "| Sentence | Word | Definitions | Lines | Files | Crates |"
+TABLE = re.compile(rf"^{re.escape(COLUMNS)}\n(?:\|.*\n)*", re.MULTILINE)
+
+NAME = r"[A-Za-z_][\w'\-]*"
+HEAD = re.compile(rf"(?:(?:abbrev|unfoldable|pub|record|data|syntax) )*({NAME})")
+USE = re.compile(r"^(?:pub )?use\s+([\w.+]+)\.\{([^}]*)\}", re.MULTILINE | re.DOTALL)
+
+Definition = collections.namedtuple("Definition", "path lines")
+
+
+class Book:
+    """The definitions of all specs/, each by its module and its name."""
+
+    def __init__(self):
+        self.definitions, self.imports, self.order = {}, {}, {}
+        for crate in sorted(os.listdir(f"{ROOT}/crates")):
+            for folder, _, names in os.walk(f"{ROOT}/crates/{crate}/specs"):
+                for name in sorted(it for it in names if it.endswith(".antt")):
+                    self.read(os.path.relpath(f"{folder}/{name}", f"{ROOT}/crates"))
+
+    def read(self, path):
+        module = path[: -len(".antt")].replace("/", ".")
+        with open(f"{ROOT}/crates/{path}", encoding="utf-8") as file:
+            text = file.read()
+        self.imports[module] = {}
+        for of, names in USE.findall(text):
+            for name in filter(None, map(str.strip, names.split(","))):
+                there, _, here = name.partition(" as ")
+                self.imports[module][(here or there).strip()] = (of.removeprefix("Rattle."), there.strip())
+        current, above = None, []
+        for line in USE.sub("", text).split("\n"):
+            if line.startswith("--"):
+                current, above = None, [*above, line]
+            elif not line.strip():
+                above = []
+            elif line[0].isspace():
+                if current:
+                    self.definitions[current].lines.append(line)
+            else:
+                head = HEAD.match(line)
+                if head and head[1] not in ("module", "infixl", "infixr", "infix", "unfolding"):
+                    current = (module, head[1])
+                    self.definitions.setdefault(current, Definition(path, list(above))).lines.append(line)
+                above = []
+
+    def named_by(self, key):
+        """What a definition names, in the order in which it does: other definitions, and what is not to be read on."""
+        module, own = key
+        text = "\n".join(line for line in self.definitions[key].lines if not line.startswith("--"))
+        found = {}
+        for name in re.findall(NAME, re.sub(r"--.*", "", text)):
+            if name != own:
+                found.setdefault((module, name) if (module, name) in self.definitions else self.imports[module].get(name))
+        return [it for it in found if it]
+
+    def closure(self, roots):
+        """The definitions below these, each once, in the order of reading."""
+        found, waiting = {}, list(reversed(roots))
+        while waiting:
+            key = waiting.pop()
+            if key in self.definitions and key not in found:
+                found[key] = None
+                waiting += reversed(self.named_by(key))
+        return list(found)
+
+    def lines(self, keys):
+        return sum(not line.startswith("--") for it in keys for line in self.definitions[it].lines)
+
+
+def root_of(word):
+    module, _, name = word.rpartition(".")
+    return module, name
+
+
+def counts(book):
+    rows = []
+    for number, words in SENTENCES.items():
+        for word in words if number in (8, 9) else [words[0] if len(words) == 1 else words]:
+            roots = [root_of(it) for it in ([word] if isinstance(word, str) else word)]
+            keys = book.closure(roots)
+            name = "what `Disk` says" if number == 6 else f"`{roots[0][1]}`"
+            rows.append((number, name, len(keys), book.lines(keys), len({it[0] for it in keys}), len({it[0].split(".")[0] for it in keys})))
+    return rows
+
+
+def table(rows):
+    return "\n".join([COLUMNS, "|---|---|---|---|---|---|"] + [f"| {it[0]} | {it[1]} | {it[2]:,} | {it[3]:,} | {it[4]} | {it[5]} |" for it in rows]) + "\n"
+
+
+def write(book, folder):
+    os.makedirs(folder, exist_ok=True)
+    for number, words in SENTENCES.items():
+        keys = book.closure([root_of(it) for it in words])
+        with open(f"{folder}/sentence-{number}.antt", "w", encoding="utf-8") as file:
+            for key in keys:
+                definition = book.definitions[key]
+                file.write(f"-- crates/{definition.path}\n" + "\n".join(definition.lines) + "\n\n")
+        print(f"{folder}/sentence-{number}.antt: {len(keys)} definitions")
+
+
+def main(words):
+    book = Book()
+    unknown = [it for some in SENTENCES.values() for it in some if root_of(it) not in book.definitions]
+    if unknown:
+        sys.exit(f"no definition is named {', '.join(unknown)}")
+    rows = counts(book)
+    with open(PAGE, encoding="utf-8") as file:
+        page = file.read()
+    if words == ["--write"]:
+        with open(PAGE, "w", encoding="utf-8") as file:
+            file.write(TABLE.sub(table(rows), page, count=1))
+    elif words == ["--check"]:
+        is_told = table(rows) in page
+        if not is_told:
+            print("docs/reading-the-proofs.md has another table: python3 tools/spec.py --write")
+        long = [f"{name}: {many} definitions, for {LIMITS[name.strip('`')]}" for _, name, many, *_ in rows if many > LIMITS.get(name.strip("`"), many)]
+        print("\n".join(long), end="\n" if long else "")
+        return 0 if is_told and not long else 1
+    elif len(words) == 1 and not words[0].startswith("-"):
+        write(book, words[0])
+    else:
+        sys.exit(__doc__)
+    return 0
+
+
+if __name__ == "__main__":
+    sys.exit(main(sys.argv[1:]))
